@@ -1,0 +1,27 @@
+//! `parse-and-typecheck <input.proto> <include>`: see `protobuf_parse::program`.
+#![tactic(auto)]
+
+use protobuf_parse::program;
+use std::alloc::Global;
+use std::env;
+use std::io;
+use std::process::ExitCode;
+use std::rt::Env;
+
+/// The arguments after the program's own name.
+fn arguments<R: Env + AllocGlobal>(rt: &R) -> io::Result<Vec<String>> {
+    let mut args = Vec::new(rt.alloc());
+    for arg in env::args(rt)?.skip(1) {
+        args.push(arg)?;
+    }
+    Ok(args)
+}
+
+fn main(rt: HostRuntime) -> ExitCode {
+    let alloc: Global = rt.alloc();
+    let args = match arguments(&rt) {
+        Ok(args) => args,
+        Err(_) => Vec::new(alloc),
+    };
+    ExitCode::from(program(&rt, &args, &mut rt.stdout(), &mut rt.stderr()))
+}

@@ -1,0 +1,37 @@
+//! How deep brackets nest.
+
+use crate::lexer::token::{Place, Token, TokenKind};
+
+/// The deepest nesting that a text may have.
+const MAX_DEPTH: usize = 100;
+
+/// The place of the opening bracket with which more are open than may be, where there is one.
+pub fn too_deep(tokens: &[Token]) -> Option<Place> {
+    let mut opened: usize = 0;
+    let mut closed: usize = 0;
+    for token in tokens {
+        if is_opening(token.kind) {
+            opened += 1;
+        } else if is_closing(token.kind) {
+            closed += 1;
+        }
+        if opened.saturating_sub(closed) > MAX_DEPTH {
+            return Some(token.place);
+        }
+    }
+    None
+}
+
+fn is_opening(kind: TokenKind) -> bool {
+    match kind {
+        TokenKind::Symbol(symbol) => symbol == '{' || symbol == '[' || symbol == '<',
+        _ => false,
+    }
+}
+
+fn is_closing(kind: TokenKind) -> bool {
+    match kind {
+        TokenKind::Symbol(symbol) => symbol == '}' || symbol == ']' || symbol == '>',
+        _ => false,
+    }
+}

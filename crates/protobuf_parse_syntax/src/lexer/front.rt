@@ -1,0 +1,100 @@
+//! What stands at the front of a text.
+
+use crate::error::ParserError;
+use crate::lexer::bytes::{Class, byte_at, is_in, run_end};
+use crate::lexer::number::number_piece;
+use crate::lexer::token::TokenKind;
+
+/// What stands at the front of a text, and how many bytes it has.
+#[derive(Clone, Copy, Debug)]
+pub enum Piece {
+    End,
+    Blank(usize),
+    Token(usize, TokenKind),
+    Fault(ParserError),
+}
+
+/// The end of a comment that begins with `/*`.
+fn block_end(text: &[u8]) -> Option<usize> {
+    let mut at = 2;
+    while at + 1 < text.len() {
+        if text[at] == b'*' && text[at + 1] == b'/' {
+            return Some(at + 2);
+        }
+        at += 1;
+    }
+    None
+}
+
+/// The end of a string, whose bytes from 1 on are these.
+fn closing(quote: u8, mut text: &[u8]) -> Option<usize> {
+    let mut is_escaped = false;
+    let mut at = 1;
+    while let [byte, rest @ ..] = text {
+        if *byte == b'\n' || *byte == 0 {
+            return None;
+        }
+        if !is_escaped && *byte == quote {
+            return Some(at + 1);
+        }
+        is_escaped = !is_escaped && *byte == b'\\';
+        at += 1;
+        text = rest;
+    }
+    None
+}
+
+/// The end of the string at the front.
+fn string_end(text: &[u8]) -> Option<usize> {
+    closing(text[0], &text[1..])
+}
+
+/// The end of the identifier at the front.
+fn ident_end(text: &[u8]) -> usize {
+    run_end(Class::Ident, text, 0)
+}
+
+/// What stands at the front, where it is no blank and no comment.
+fn token_piece(text: &[u8]) -> Piece {
+    let first = text[0];
+    if is_in(Class::Digit, first)
+        || (first == b'.' && is_in(Class::Digit, byte_at(text, 1)))
+    {
+        return number_piece(text);
+    }
+    if is_in(Class::Ident, first) {
+        return Piece::Token(ident_end(text), TokenKind::Ident);
+    }
+    if first == b'"' || first == b'\'' {
+        return match string_end(text) {
+            Some(len) => Piece::Token(len, TokenKind::Str),
+            None => Piece::Fault(ParserError::UnterminatedString),
+        };
+    }
+    if 33 <= first && first <= 126 {
+        Piece::Token(1, TokenKind::Symbol(char::from(first)))
+    } else {
+        Piece::Fault(ParserError::UnexpectedCharacter)
+    }
+}
+
+/// What stands at the front of a text.
+pub fn front_piece(text: &[u8]) -> Piece {
+    if text.is_empty() {
+        return Piece::End;
+    }
+    let first = text[0];
+    if is_in(Class::Blank, first) {
+        return Piece::Blank(run_end(Class::Blank, text, 1));
+    }
+    if first == b'/' && byte_at(text, 1) == b'/' {
+        return Piece::Blank(run_end(Class::Line, text, 2));
+    }
+    if first == b'/' && byte_at(text, 1) == b'*' {
+        return match block_end(text) {
+            Some(len) => Piece::Blank(len),
+            None => Piece::Fault(ParserError::UnterminatedComment),
+        };
+    }
+    token_piece(text)
+}

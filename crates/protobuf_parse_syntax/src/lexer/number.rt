@@ -1,0 +1,135 @@
+//! The number at the front of a text.
+
+use crate::error::ParserError;
+use crate::lexer::bytes::{Class, byte_at, is_in, run_end};
+use crate::lexer::front::Piece;
+use crate::lexer::token::TokenKind;
+
+fn hex_end(text: &[u8]) -> Option<usize> {
+    let letter = byte_at(text, 1);
+    if byte_at(text, 0) == b'0'
+        && (letter == b'x' || letter == b'X')
+        && is_in(Class::Hex, byte_at(text, 2))
+    {
+        Some(run_end(Class::Hex, text, 2))
+    } else {
+        None
+    }
+}
+
+fn octal_end(text: &[u8]) -> Option<usize> {
+    if byte_at(text, 0) == b'0' && is_in(Class::Octal, byte_at(text, 1)) {
+        Some(run_end(Class::Octal, text, 1))
+    } else {
+        None
+    }
+}
+
+/// The end of an exponent that begins at `at`.
+fn exponent_end(text: &[u8], at: usize) -> Option<usize> {
+    let letter = byte_at(text, at);
+    if letter != b'e' && letter != b'E' {
+        return None;
+    }
+    let sign = byte_at(text, at + 1);
+    let from = if sign == b'+' || sign == b'-' {
+        at + 2
+    } else {
+        at + 1
+    };
+    if is_in(Class::Digit, byte_at(text, from)) {
+        Some(run_end(Class::Digit, text, from))
+    } else {
+        None
+    }
+}
+
+/// The end of the fraction after the digits up to `whole`.
+fn fraction_end(text: &[u8], whole: usize) -> usize {
+    if byte_at(text, whole) == b'.' {
+        run_end(Class::Digit, text, whole + 1)
+    } else {
+        whole
+    }
+}
+
+fn float_end(text: &[u8]) -> Option<usize> {
+    let whole = run_end(Class::Digit, text, 0);
+    let point = fraction_end(text, whole);
+    if whole == 0 && point <= 1 {
+        return None;
+    }
+    match exponent_end(text, point) {
+        Some(end) => Some(end),
+        None if whole < point => Some(point),
+        None => None,
+    }
+}
+
+fn decimal_end(text: &[u8]) -> usize {
+    if text[0] == b'0' {
+        1
+    } else {
+        run_end(Class::Digit, text, 0)
+    }
+}
+
+/// What a digit counts, up to 15.
+#[inline]
+pub fn digit_value(digit: u8) -> u64 {
+    u64::from(match digit {
+        b'0'..=b'9' => digit - b'0',
+        b'A'..=b'F' => digit - b'A' + 10,
+        b'a'..=b'f' => digit - b'a' + 10,
+        _ => 0,
+    })
+}
+
+/// The number that digits spell, where it fits.
+pub fn digits_value(radix: u64, digits: &[u8]) -> Option<u64> {
+    let mut number: u64 = 0;
+    for digit in digits {
+        let Some(shifted) = number.checked_mul(radix) else {
+            return None;
+        };
+        let Some(next) = shifted.checked_add(digit_value(*digit)) else {
+            return None;
+        };
+        number = next;
+    }
+    Some(number)
+}
+
+/// The integer at the front, of the digits from `from` to `end`.
+fn integer_piece(text: &[u8], radix: u64, from: usize, end: usize) -> Piece {
+    if end < text.len() && is_in(Class::Ident, text[end]) {
+        return Piece::Fault(ParserError::BadNumber);
+    }
+    match digits_value(radix, &text[from..end]) {
+        Some(number) => Piece::Token(end, TokenKind::Integer(number)),
+        None => Piece::Fault(ParserError::IntegerOverflow),
+    }
+}
+
+/// The float at the front.
+fn float_piece(text: &[u8], end: usize) -> Piece {
+    if end < text.len() && is_in(Class::Ident, text[end]) {
+        Piece::Fault(ParserError::BadNumber)
+    } else {
+        Piece::Token(end, TokenKind::Float)
+    }
+}
+
+/// The number at the front.
+pub fn number_piece(text: &[u8]) -> Piece {
+    if let Some(end) = float_end(text) {
+        return float_piece(text, end);
+    }
+    if let Some(end) = hex_end(text) {
+        return integer_piece(text, 16, 2, end);
+    }
+    if let Some(end) = octal_end(text) {
+        return integer_piece(text, 8, 1, end);
+    }
+    integer_piece(text, 10, 0, decimal_end(text))
+}

@@ -1,0 +1,16 @@
+//! The syntax of `.proto` files: from a text to its tokens, and from them to its tree.
+#![tactic(auto)]
+
+mod error;
+mod lexer;
+mod parser;
+mod tree;
+
+pub use error::{ParserError, ParserErrorWithLocation};
+pub use lexer::str_lit::{StrLit, StrLitDecodeError};
+pub use lexer::token::{Place, Token, TokenKind, TokenStream};
+pub use lexer::tokenize;
+pub use parser::parse_file;
+pub use tree::{
+    Field, FileStatement, FileTree, Label, Message, MessageStatement, Scalar, Syntax, Type,
+};

@@ -1,0 +1,143 @@
+//! `describe_file` on texts: the listing of what it gives, or the line of its fault.
+
+use protobuf_parse::{FieldType, Label, describe_file, listing};
+use std::alloc::{AllocError, Global};
+use std::test::Fail;
+
+/// The listing of the file `f.proto` with this content, or the line of its fault.
+fn told(alloc: Global, content: &[u8]) -> Result<String, AllocError> {
+    match describe_file(alloc, "f.proto", content) {
+        Ok(descriptor) => listing(alloc, &[descriptor]),
+        Err(fault) => format!(in alloc; "{fault}"),
+    }
+}
+
+#[test]
+fn lists_files(rt: HostRuntime) -> Result<(), Fail> {
+    for (text, want) in [
+        ("", "file f.proto\n  syntax proto2\n"),
+        (";; syntax = 1;", "error in `f.proto`: at 1:4: S8 IncorrectInput"),
+        ("syntax = 'proto2';", "file f.proto\n  syntax proto2\n"),
+        ("\u{feff}syntax = \"pro\" 'to3';;", "file f.proto\n  syntax proto3\n"),
+        (
+            "syntax = \"proto3\"; message Foo { int32 a = 1; }",
+            "file f.proto\n  syntax proto3\n  message Foo\n    field optional int32 a = 1 json \"a\"\n",
+        ),
+        (
+            "message A { optional string foo_bar_1 = 2147483647; ; required bytes _b = 0;\n\
+             repeated sfixed64 message = 0x1F; } /* c */ message message {} // end",
+            "file f.proto\n  syntax proto2\n  message A\n    \
+             field optional string foo_bar_1 = 2147483647 json \"fooBar1\"\n    \
+             field required bytes _b = 0 json \"B\"\n    \
+             field repeated sfixed64 message = 31 json \"message\"\n  message message\n",
+        ),
+    ] {
+        assert_eq!(rt; told(rt.alloc(), text.as_bytes())?.as_str(), want, "{text}");
+    }
+    Ok(())
+}
+
+#[test]
+fn has_a_type_for_each_scalar_word(rt: HostRuntime) -> Result<(), Fail> {
+    for (word, type_) in [
+        ("int32", FieldType::Int32),
+        ("int64", FieldType::Int64),
+        ("uint32", FieldType::Uint32),
+        ("uint64", FieldType::Uint64),
+        ("sint32", FieldType::Sint32),
+        ("sint64", FieldType::Sint64),
+        ("fixed32", FieldType::Fixed32),
+        ("sfixed32", FieldType::Sfixed32),
+        ("fixed64", FieldType::Fixed64),
+        ("sfixed64", FieldType::Sfixed64),
+        ("bool", FieldType::Bool),
+        ("string", FieldType::String),
+        ("bytes", FieldType::Bytes),
+        ("float", FieldType::Float),
+        ("double", FieldType::Double),
+    ] {
+        let text = format!(in rt.alloc(); "message M {{ repeated {word} x = 7; }}")?;
+        let file = describe_file(rt.alloc(), "f.proto", text.as_bytes())?;
+        let want = format!(in rt.alloc(); "field repeated {word} x = 7 json \"x\"")?;
+        let field = &file.message_type.first().ok_or("no message")?.field;
+        assert_eq!(rt; field.len(), 1);
+        assert_eq!(rt; field[0].type_, type_, "{word}");
+        assert_eq!(rt; field[0].label, Label::Repeated);
+        assert_eq!(rt; field[0].number, 7);
+        assert!(rt; listing(rt.alloc(), &[file])?.contains(want.as_str()), "{word}");
+    }
+    Ok(())
+}
+
+#[test]
+fn tells_faults_with_their_places(rt: HostRuntime) -> Result<(), Fail> {
+    for (text, want) in [
+        // Text and tokens.
+        ("message A { int32 x = 0x; }", "1:23: S4 BadNumber"),
+        ("message A {} /* open", "1:14: S2 UnterminatedComment"),
+        ("syntax = 'proto3;\n';", "1:10: S3 UnterminatedString"),
+        ("syntax = \"\u{e9}\"; \u{e9}", "1:15: S1 UnexpectedCharacter"),
+        ("message A { optional int32 x = 18446744073709551616; }", "1:32: S5 IntegerOverflow"),
+        // The grammar.
+        ("\n            message Foo {}\n\n            dfgdg", "4:13: S8 IncorrectInput"),
+        ("message Foo {", "1:14: S8 IncorrectInput"),
+        ("message A { int32 x = 1; }", "1:13: S12 LabelRequired"),
+        ("\u{feff}\tdfgdg", "1:2: S8 IncorrectInput"),
+        ("syntax = 'proto4';", "1:10: S10 UnknownSyntax"),
+        ("syntax = '\\400';", "1:10: S15 StrLitDecode"),
+        ("message A {} syntax = 'proto3';", "1:14: S8 IncorrectInput"),
+        ("syntax = 'proto3'; message A { optional int32 x = 1; }", "1:32: S11 LabelNotAllowed"),
+        ("syntax = 'proto3'; message A { required int32 x = 1; }", "1:32: S11 LabelNotAllowed"),
+        ("message A { optional int32 x = 2147483648; }", "1:32: S5 IntegerOverflow"),
+        ("message A { optional int32 x = -1; }", "1:32: S8 IncorrectInput"),
+        ("message A { optional Foo x = 1; }", "1:22: S8 IncorrectInput"),
+        ("message A { option foo = 1; }", "1:13: S8 IncorrectInput"),
+        ("syntax = 'proto3'; message A { option foo = 1; }", "1:32: S8 IncorrectInput"),
+        ("message A { optional int32 x = 1.5; }", "1:32: S8 IncorrectInput"),
+        ("message A { optional int32 x = 1 }", "1:34: S8 IncorrectInput"),
+    ] {
+        let want = format!(in rt.alloc(); "error in `f.proto`: at {want}")?;
+        assert_eq!(rt; told(rt.alloc(), text.as_bytes())?, want, "{text}");
+    }
+    Ok(())
+}
+
+#[test]
+fn tells_the_depth_before_the_grammar(rt: HostRuntime) -> Result<(), Fail> {
+    let mut braces = String::new(rt.alloc());
+    for _ in 0..100 {
+        braces.push('{')?;
+    }
+    let at_limit = "error in `f.proto`: at 1:1: S8 IncorrectInput";
+    assert_eq!(rt; told(rt.alloc(), braces.as_bytes())?.as_str(), at_limit);
+    braces.push('{')?;
+    let too_deep = "error in `f.proto`: at 1:101: S6 NestingTooDeep";
+    assert_eq!(rt; told(rt.alloc(), braces.as_bytes())?.as_str(), too_deep);
+    braces.push_str("/*")?;
+    let open_comment = "error in `f.proto`: at 1:102: S2 UnterminatedComment";
+    assert_eq!(rt; told(rt.alloc(), braces.as_bytes())?.as_str(), open_comment);
+    Ok(())
+}
+
+#[test]
+fn refuses_equal_names_and_bytes_that_are_no_text(rt: HostRuntime) -> Result<(), Fail> {
+    let contents: [(&[u8], &str); 5] = [
+        (b"message A {} message B {} message A {}", "error in `f.proto`: E1 DuplicateName: A"),
+        (
+            b"message A { optional int32 x = 1; repeated bool x = 2; }",
+            "error in `f.proto`: E1 DuplicateName: x",
+        ),
+        (
+            b"message A {} message B { optional int32 A = 1; } message C { optional int32 A = 1; }",
+            "file f.proto\n  syntax proto2\n  message A\n  message B\n    \
+             field optional int32 A = 1 json \"A\"\n  message C\n    \
+             field optional int32 A = 1 json \"A\"\n",
+        ),
+        (b"\xff", "file `f.proto` content is not UTF-8"),
+        (b"message A {} // \xc3", "file `f.proto` content is not UTF-8"),
+    ];
+    for (content, want) in contents {
+        assert_eq!(rt; told(rt.alloc(), content)?.as_str(), want);
+    }
+    Ok(())
+}

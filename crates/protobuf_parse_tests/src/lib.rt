@@ -1,0 +1,8 @@
+//! Tests that cross crates: worked examples of the language, faults with their places, and the program
+//! on files. Nothing but tests stands here.
+#![tactic(auto)]
+
+#[cfg(test)]
+mod describe;
+#[cfg(test)]
+mod program;

@@ -1,0 +1,138 @@
+//! The program over two writers in memory, on files of a folder of its own.
+
+use protobuf_parse::program;
+use std::alloc::{AllocError, Global};
+use std::env;
+use std::fs;
+use std::io;
+use std::io::{ErrorKind, Write};
+use std::process;
+use std::process::Abort;
+use std::rt::Files;
+use std::test::Fail;
+
+/// What a run of the program wrote, and its status.
+#[derive(Drop)]
+struct Outcome {
+    out: Vec<u8>,
+    err: Vec<u8>,
+    status: u8,
+}
+
+fn words(alloc: Global, args: &[&str]) -> Result<Vec<String>, AllocError> {
+    let mut words = Vec::new(alloc);
+    for arg in args {
+        words.push(String::from_str(alloc, arg)?)?;
+    }
+    Ok(words)
+}
+
+fn run<R: Files + AllocGlobal>(rt: &R, args: &[&str]) -> Result<Outcome, AllocError> {
+    let mut out = Vec::new(rt.alloc());
+    let mut err = Vec::new(rt.alloc());
+    let status = program(rt, &words(rt.alloc(), args)?, &mut out, &mut err);
+    Ok(Outcome { out, err, status })
+}
+
+/// A path for a file of this process alone.
+fn own_path(rt: &HostRuntime, name: &str) -> io::Result<String> {
+    let folder = env::temp_dir(rt)?;
+    let folder = folder.as_path().to_str().unwrap_or("");
+    let own = process::id(rt.process());
+    Ok(format!(in rt.alloc(); "{folder}/protobuf_parse_{own}_{name}")?)
+}
+
+/// A run on a file of this content, which is there for this run alone.
+fn run_on<R: Files + AllocGlobal>(rt: &R, path: &str, content: &[u8]) -> io::Result<Outcome> {
+    fs::write(rt, path, content)?;
+    let outcome = run(rt, &[path, "."]);
+    fs::remove_file(rt, path)?;
+    Ok(outcome?)
+}
+
+fn expect_failure<R: Abort>(rt: &R, outcome: &Outcome, line: &str) {
+    assert_eq!(rt; outcome.status, 1, "{line}");
+    assert_eq!(rt; outcome.out.as_slice(), b"".as_slice(), "{line}");
+    assert_eq!(rt; outcome.err.as_slice(), line.as_bytes());
+}
+
+#[test]
+fn lists_a_file(rt: HostRuntime) -> Result<(), Fail> {
+    let path = own_path(&rt, "good.proto")?;
+    let outcome = run_on(&rt, &path, b"syntax = \"proto3\"; message Foo { int32 a = 1; }")?;
+    let message = "message Foo\n    field optional int32 a = 1 json \"a\"";
+    let want = format!(in rt.alloc(); "file {path}\n  syntax proto3\n  {message}\n")?;
+    assert_eq!(rt; outcome.status, 0);
+    assert_eq!(rt; outcome.out.as_slice(), want.as_bytes());
+    assert_eq!(rt; outcome.err.as_slice(), b"".as_slice());
+    Ok(())
+}
+
+#[test]
+fn tells_its_usage(rt: HostRuntime) -> Result<(), Fail> {
+    let usage = "usage: parse-and-typecheck <input.proto> <include>\n";
+    expect_failure(&rt, &run(&rt, &[])?, usage);
+    expect_failure(&rt, &run(&rt, &["x.proto"])?, usage);
+    expect_failure(&rt, &run(&rt, &["x.proto", ".", "."])?, usage);
+    Ok(())
+}
+
+#[test]
+fn tells_what_it_cannot_read(rt: HostRuntime) -> Result<(), Fail> {
+    // Nothing is read where the include is another: the file is missing too.
+    let line = "file `/no/x.proto` must reside in include path [\"d\"]\n";
+    expect_failure(&rt, &run(&rt, &["/no/x.proto", "d"])?, line);
+    let line = "could not read file `/no/x.proto`: not found\n";
+    expect_failure(&rt, &run(&rt, &["/no/x.proto", "."])?, line);
+    let line = "could not read file `/`: read failed\n";
+    expect_failure(&rt, &run(&rt, &["/", "."])?, line);
+    Ok(())
+}
+
+#[test]
+fn tells_the_fault_of_a_file(rt: HostRuntime) -> Result<(), Fail> {
+    let path = own_path(&rt, "bad.proto")?;
+    let outcome = run_on(&rt, &path, b"message A { int32 x = 1; }")?;
+    let line = format!(in rt.alloc(); "error in `{path}`: at 1:13: S12 LabelRequired\n")?;
+    expect_failure(&rt, &outcome, &line);
+    let outcome = run_on(&rt, &path, b"\xff")?;
+    let line = format!(in rt.alloc(); "file `{path}` content is not UTF-8\n")?;
+    expect_failure(&rt, &outcome, &line);
+    Ok(())
+}
+
+/// A writer that takes so many bytes and then fails.
+#[derive(Drop)]
+struct Full {
+    room: usize,
+}
+
+impl Write for Full {
+    fn write(&mut self, bytes: &[u8]) -> io::Result<usize> {
+        let taken = bytes.len().min(self.room);
+        if taken == 0 {
+            return Err(io::Error::from(ErrorKind::StorageFull));
+        }
+        self.room -= taken;
+        Ok(taken)
+    }
+
+    fn flush(&mut self) -> io::Result<()> {
+        Ok(())
+    }
+}
+
+#[test]
+fn tells_that_it_could_not_write(rt: HostRuntime) -> Result<(), Fail> {
+    let path = own_path(&rt, "unwritten.proto")?;
+    fs::write(&rt, &path, "")?;
+    let args = words(rt.alloc(), &[path.as_str(), "."])?;
+    for room in [0, 5] {
+        let mut err = Vec::new(rt.alloc());
+        let status = program(&rt, &args, &mut Full { room }, &mut err);
+        assert_eq!(rt; status, 1);
+        assert_eq!(rt; err.as_slice(), b"could not write the listing\n".as_slice());
+    }
+    fs::remove_file(&rt, &path)?;
+    Ok(())
+}
