@@ -3,6 +3,9 @@
 mod cursor;
 mod message;
 
+ghost use Rattle.std.specs.Prelude.{◌<◌, OnOk};
+ghost use Rattle.protobuf_parse_syntax.specs.Cursors.{left};
+
 use crate::error::{ParserError, ParserErrorWithLocation};
 use crate::lexer::place::located;
 use crate::lexer::str_lit::StrLitDecodeError;
@@ -17,19 +20,20 @@ use std::alloc::{AllocError, Global};
 /// column in characters. Want of memory is [`ParserError::Memory`] at 0:0.
 pub fn parse_file(alloc: Global, text: &str) -> Result<FileTree, ParserErrorWithLocation> {
     let stream = tokenize(alloc, text)?;
-    let mut tokens = Cursor::new(&stream);
+    let mut tokens = Cursor::new(stream.tokens.as_slice(), stream.end);
     file(alloc, &mut tokens)
 }
 
 /// `file = [ syntax ] { message | ";" }`
-fn file(alloc: Global, tokens: &mut Cursor<'_>) -> Result<FileTree, ParserErrorWithLocation> {
+fn file(alloc: Global, tokens: &mut Cursor<'_, '_>) -> Result<FileTree, ParserErrorWithLocation> {
     let syntax = syntax(alloc, tokens)?;
     let statements = file_statements(alloc, tokens, syntax)?;
     Ok(FileTree { syntax, statements })
 }
 
 /// `syntax = "syntax" "=" str ";"`, or proto2 where it is absent.
-fn syntax(alloc: Global, tokens: &mut Cursor<'_>) -> Result<Syntax, ParserErrorWithLocation> {
+fn syntax(alloc: Global, tokens: &mut Cursor<'_, '_>) -> Result<Syntax, ParserErrorWithLocation>
+{
     if !tokens.sees_word("syntax") {
         return Ok(Syntax::Proto2);
     }
@@ -43,7 +47,7 @@ fn syntax(alloc: Global, tokens: &mut Cursor<'_>) -> Result<Syntax, ParserErrorW
 /// A string that says `proto2` or `proto3`: S15 at one that doesn't decode, S10 at any other.
 fn syntax_version(
     alloc: Global,
-    tokens: &mut Cursor<'_>,
+    tokens: &mut Cursor<'_, '_>,
 ) -> Result<Syntax, ParserErrorWithLocation> {
     let place = tokens.place();
     let literal = tokens.str_lit(alloc)?;
@@ -60,11 +64,11 @@ fn syntax_version(
 
 fn file_statements(
     alloc: Global,
-    tokens: &mut Cursor<'_>,
+    tokens: &mut Cursor<'_, '_>,
     syntax: Syntax,
 ) -> Result<Vec<FileStatement>, ParserErrorWithLocation> {
     let mut statements = Vec::new(alloc);
-    while !tokens.is_empty() {
+    'statements: while !tokens.is_empty() {
         match file_statement(alloc, tokens, syntax)? {
             Some(statement) => statements.push(statement)?,
             None => {}
@@ -76,9 +80,11 @@ fn file_statements(
 /// A statement of a file, or nothing at a semicolon.
 fn file_statement(
     alloc: Global,
-    tokens: &mut Cursor<'_>,
+    tokens: &mut Cursor<'_, '_>,
     syntax: Syntax,
-) -> Result<Option<FileStatement>, ParserErrorWithLocation> {
+) -> Result<Option<FileStatement>, ParserErrorWithLocation>
+    ensures { OnOk result (left tokens.new < left tokens.old) }
+{
     if tokens.sees_symbol(';') {
         tokens.symbol(';')?;
         return Ok(None);

@@ -1,35 +1,34 @@
 //! A cursor over the tokens of a file.
 
+ghost use Rattle.std.specs.Prelude.{◌≡◌, ◌<◌, ◌≤◌, ◌-◌, ◌↔◌, OnOk, OnSome, IsTrue, length};
+ghost use Rattle.protobuf_parse_syntax.specs.Cursors.{left};
+
 use crate::error::{ParserError, ParserErrorWithLocation};
 use crate::lexer::place::located;
 use crate::lexer::str_lit::StrLit;
-use crate::lexer::token::{Place, Token, TokenKind, TokenStream};
+use crate::lexer::token::{Place, Token, TokenKind};
 use crate::tree::{Label, Scalar};
 use std::alloc::Global;
 
 /// The tokens that are not read yet. A call that refuses a token leaves the cursor before it.
 #[derive(Drop)]
-pub struct Cursor<'a> {
-    rest: &'a [Token<'a>],
+pub struct Cursor<'t, 'text> {
+    rest: &'t [Token<'text>],
     end: Place,
 }
 
-impl<'a> Cursor<'a> {
+impl<'t, 'text> Cursor<'t, 'text> {
     /// A cursor before the first token.
-    pub fn new(stream: &'a TokenStream<'a>) -> Cursor<'a> {
-        Cursor {
-            rest: stream.tokens.as_slice(),
-            end: stream.end,
-        }
-    }
-
-    /// How many tokens are left.
-    pub fn len(&self) -> usize {
-        self.rest.len()
+    pub fn new(rest: &'t [Token<'text>], end: Place) -> Cursor<'t, 'text>
+        ensures { left result ≡ length rest.now }
+    {
+        Cursor { rest, end }
     }
 
     /// Whether no token is left.
-    pub fn is_empty(&self) -> bool {
+    pub fn is_empty(&self) -> bool
+        ensures { IsTrue result ↔ (left self.now ≡ 0) }
+    {
         self.rest.is_empty()
     }
 
@@ -47,7 +46,9 @@ impl<'a> Cursor<'a> {
     }
 
     /// Whether this symbol comes next.
-    pub fn sees_symbol(&self, symbol: char) -> bool {
+    pub fn sees_symbol(&self, symbol: char) -> bool
+        ensures { IsTrue result → 0 < left self.now }
+    {
         match self.rest {
             [token, ..] => token.kind == TokenKind::Symbol(symbol),
             [] => false,
@@ -55,7 +56,9 @@ impl<'a> Cursor<'a> {
     }
 
     /// The identifier that comes next.
-    pub fn peek_ident(&self) -> Option<&'a str> {
+    pub fn peek_ident(&self) -> Option<&'text str>
+        ensures { OnSome result (0 < left self.now) }
+    {
         match self.rest {
             [token, ..] if token.kind == TokenKind::Ident => Some(token.text),
             _ => None,
@@ -63,7 +66,9 @@ impl<'a> Cursor<'a> {
     }
 
     /// Whether this identifier comes next.
-    pub fn sees_word(&self, word: &str) -> bool {
+    pub fn sees_word(&self, word: &str) -> bool
+        ensures { IsTrue result → 0 < left self.now }
+    {
         match self.peek_ident() {
             Some(ident) => ident == word,
             None => false,
@@ -71,7 +76,9 @@ impl<'a> Cursor<'a> {
     }
 
     /// The label whose word comes next.
-    pub fn peek_label(&self) -> Option<Label> {
+    pub fn peek_label(&self) -> Option<Label>
+        ensures { OnSome result (0 < left self.now) }
+    {
         match self.peek_ident()? {
             "optional" => Some(Label::Optional),
             "required" => Some(Label::Required),
@@ -81,14 +88,18 @@ impl<'a> Cursor<'a> {
     }
 
     /// Goes past the next token, if one is left.
-    pub fn advance(&mut self) {
+    pub fn advance(&mut self)
+        ensures { left self.new ≡ left self.old - 1 }
+    {
         if let [_, rest @ ..] = self.rest {
             self.rest = rest;
         }
     }
 
     /// Reads this symbol. S8 at any other token.
-    pub fn symbol(&mut self, symbol: char) -> Result<(), ParserErrorWithLocation> {
+    pub fn symbol(&mut self, symbol: char) -> Result<(), ParserErrorWithLocation>
+        ensures { OnOk result (left self.new < left self.old) }
+    {
         if !self.sees_symbol(symbol) {
             return Err(self.fault(ParserError::IncorrectInput));
         }
@@ -97,7 +108,9 @@ impl<'a> Cursor<'a> {
     }
 
     /// Reads this identifier. S8 at any other token.
-    pub fn word(&mut self, word: &str) -> Result<(), ParserErrorWithLocation> {
+    pub fn word(&mut self, word: &str) -> Result<(), ParserErrorWithLocation>
+        ensures { OnOk result (left self.new < left self.old) }
+    {
         if !self.sees_word(word) {
             return Err(self.fault(ParserError::IncorrectInput));
         }
@@ -106,7 +119,9 @@ impl<'a> Cursor<'a> {
     }
 
     /// Reads an identifier. S8 at any other token.
-    pub fn ident(&mut self, alloc: Global) -> Result<String, ParserErrorWithLocation> {
+    pub fn ident(&mut self, alloc: Global) -> Result<String, ParserErrorWithLocation>
+        ensures { OnOk result (left self.new < left self.old) }
+    {
         let Some(ident) = self.peek_ident() else {
             return Err(self.fault(ParserError::IncorrectInput));
         };
@@ -116,7 +131,9 @@ impl<'a> Cursor<'a> {
     }
 
     /// Reads a field's number, from 0 to 2147483647. S5 at a larger integer, S8 at any other token.
-    pub fn field_number(&mut self) -> Result<i32, ParserErrorWithLocation> {
+    pub fn field_number(&mut self) -> Result<i32, ParserErrorWithLocation>
+        ensures { OnOk result (left self.new < left self.old) }
+    {
         let Some(number) = self.peek_integer() else {
             return Err(self.fault(ParserError::IncorrectInput));
         };
@@ -127,7 +144,9 @@ impl<'a> Cursor<'a> {
         Ok(number)
     }
 
-    fn peek_integer(&self) -> Option<u64> {
+    fn peek_integer(&self) -> Option<u64>
+        ensures { OnSome result (0 < left self.now) }
+    {
         match self.rest {
             [token, ..] => match token.kind {
                 TokenKind::Integer(number) => Some(number),
@@ -138,7 +157,9 @@ impl<'a> Cursor<'a> {
     }
 
     /// Reads the type that has the next word. S8 at any other token.
-    pub fn scalar(&mut self) -> Result<Scalar, ParserErrorWithLocation> {
+    pub fn scalar(&mut self) -> Result<Scalar, ParserErrorWithLocation>
+        ensures { OnOk result (left self.new < left self.old) }
+    {
         let scalar = match self.peek_ident() {
             Some("int32") => Scalar::Int32,
             Some("int64") => Scalar::Int64,
@@ -162,24 +183,25 @@ impl<'a> Cursor<'a> {
     }
 
     /// Reads one or more neighbouring strings. S8 at any other token.
-    pub fn str_lit(&mut self, alloc: Global) -> Result<StrLit, ParserErrorWithLocation> {
+    pub fn str_lit(&mut self, alloc: Global) -> Result<StrLit, ParserErrorWithLocation>
+        ensures { OnOk result (left self.new < left self.old) }
+    {
         let mut pieces = Vec::new(alloc);
         let Some(first) = self.peek_str() else {
             return Err(self.fault(ParserError::IncorrectInput));
         };
         pieces.push(String::from_str(alloc, first)?)?;
         self.advance();
-        for _ in 0..self.len() {
-            let Some(piece) = self.peek_str() else {
-                break;
-            };
+        'pieces: while let Some(piece) = self.peek_str() {
             pieces.push(String::from_str(alloc, piece)?)?;
             self.advance();
         }
         Ok(StrLit { pieces })
     }
 
-    fn peek_str(&self) -> Option<&'a str> {
+    fn peek_str(&self) -> Option<&'text str>
+        ensures { OnSome result (0 < left self.now) }
+    {
         match self.rest {
             [token, ..] if token.kind == TokenKind::Str => Some(unquoted(token.text)),
             _ => None,

@@ -1,5 +1,8 @@
 //! Messages and their fields.
 
+ghost use Rattle.std.specs.Prelude.{◌<◌, ◌≤◌, OnOk};
+ghost use Rattle.protobuf_parse_syntax.specs.Cursors.{left};
+
 use crate::error::{ParserError, ParserErrorWithLocation};
 use crate::parser::cursor::Cursor;
 use crate::tree::{Field, Label, Message, MessageStatement, Syntax, Type};
@@ -8,9 +11,11 @@ use std::alloc::Global;
 /// `message = "message" ident "{" { ";" | field } "}"`
 pub fn message(
     alloc: Global,
-    tokens: &mut Cursor<'_>,
+    tokens: &mut Cursor<'_, '_>,
     syntax: Syntax,
-) -> Result<Message, ParserErrorWithLocation> {
+) -> Result<Message, ParserErrorWithLocation>
+    ensures { OnOk result (left tokens.new < left tokens.old) }
+{
     let place = tokens.place();
     tokens.word("message")?;
     let name = tokens.ident(alloc)?;
@@ -22,11 +27,13 @@ pub fn message(
 
 fn message_body(
     alloc: Global,
-    tokens: &mut Cursor<'_>,
+    tokens: &mut Cursor<'_, '_>,
     syntax: Syntax,
-) -> Result<Vec<MessageStatement>, ParserErrorWithLocation> {
+) -> Result<Vec<MessageStatement>, ParserErrorWithLocation>
+    ensures { OnOk result (left tokens.new ≤ left tokens.old) }
+{
     let mut body = Vec::new(alloc);
-    while !tokens.sees_symbol('}') {
+    'body: while !tokens.sees_symbol('}') {
         match message_statement(alloc, tokens, syntax)? {
             Some(statement) => body.push(statement)?,
             None => {}
@@ -38,9 +45,11 @@ fn message_body(
 /// A statement of a message, or nothing at a semicolon.
 fn message_statement(
     alloc: Global,
-    tokens: &mut Cursor<'_>,
+    tokens: &mut Cursor<'_, '_>,
     syntax: Syntax,
-) -> Result<Option<MessageStatement>, ParserErrorWithLocation> {
+) -> Result<Option<MessageStatement>, ParserErrorWithLocation>
+    ensures { OnOk result (left tokens.new < left tokens.old) }
+{
     if tokens.sees_symbol(';') {
         tokens.symbol(';')?;
         return Ok(None);
@@ -51,9 +60,11 @@ fn message_statement(
 /// `field = [ label ] scalar ident "=" int ";"`
 fn field(
     alloc: Global,
-    tokens: &mut Cursor<'_>,
+    tokens: &mut Cursor<'_, '_>,
     syntax: Syntax,
-) -> Result<Field, ParserErrorWithLocation> {
+) -> Result<Field, ParserErrorWithLocation>
+    ensures { OnOk result (left tokens.new < left tokens.old) }
+{
     let place = tokens.place();
     let label = label(tokens, syntax)?;
     let type_ = Type::Scalar(tokens.scalar()?);
@@ -73,9 +84,11 @@ fn field(
 /// The label of a field. In proto2 each field has one (S12 where it is missing). In proto3 a field may be
 /// `repeated`, and any other label is S11.
 fn label(
-    tokens: &mut Cursor<'_>,
+    tokens: &mut Cursor<'_, '_>,
     syntax: Syntax,
-) -> Result<Option<Label>, ParserErrorWithLocation> {
+) -> Result<Option<Label>, ParserErrorWithLocation>
+    ensures { OnOk result (left tokens.new ≤ left tokens.old) }
+{
     match tokens.peek_label() {
         Some(label) => {
             if syntax == Syntax::Proto3 && label != Label::Repeated {
@@ -94,7 +107,7 @@ fn label(
 
 /// Whether an identifier comes next with which a field may begin: none of the words that begin another
 /// statement of a body.
-fn begins_field(tokens: &Cursor<'_>) -> bool {
+fn begins_field(tokens: &Cursor<'_, '_>) -> bool {
     match tokens.peek_ident() {
         None => false,
         Some(word) => !matches!(
