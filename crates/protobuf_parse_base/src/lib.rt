@@ -1,6 +1,11 @@
-//! Names, file paths and cases of the Protocol Buffers language.
+//! What every layer of the schema parser stands on: dotted names, the paths of `.proto` files, and
+//! the spellings of names and bytes.
 #![tactic(auto)]
 
-mod text;
+mod joins;
+pub mod names;
+pub mod proto_path;
+pub mod text;
 
-pub use text::{escape_bytes, json_name};
+#[cfg(test)]
+mod tests;

@@ -1,42 +1,130 @@
-//! Cases of names, and bytes as printable text.
+//! Spellings of names, and bytes as the inside of a string literal.
+ghost use Rattle.std.specs.Prelude.{◌≡◌, ◌==◌, ◌&&◌, ◌<◌, ◌+◌, [], ◌∷◌, ◌++◌, false, IfOk, OnOk, encode_utf8_all, if◌then◌else◌};
+ghost use Rattle.std.specs.Char.{is_ascii_uppercase, to_ascii_lowercase, to_ascii_uppercase};
+ghost use Rattle.std.specs.String.{string_bytes};
+ghost use Rattle.std.specs.Str.{chars};
+ghost use Rattle.protobuf_parse_base.specs.Cases.{camel_case_text, json_name_text, snake_case_text, joined_words, has_underscore};
+ghost use Rattle.protobuf_parse_base.specs.Escapes.{escaped_byte, escaped_bytes, said_bytes};
 
 use std::alloc::{AllocError, Global};
+use unicode::properties::is_lowercase;
 
-/// The JSON name of a field: its name without underscores, in which each character that directly
-/// followed an underscore stands in ASCII upper case.
-pub fn json_name(alloc: Global, name: &str) -> Result<String, AllocError> {
-    let mut json = String::new(alloc);
-    let mut follows_underscore = false;
-    for c in name.chars() {
-        if c == '_' {
-            follows_underscore = true;
+/// The name in camel case: without underscores, and with its first character and each that directly
+/// followed an underscore in ASCII upper case. The one error is that memory is short.
+pub fn camel_case(alloc: Global, name: &str) -> Result<String, AllocError>
+    ensures text { IfOk result (λ camel. string_bytes camel ≡ camel_case_text name.now) }
+    ensures no_underscore { IfOk result (λ camel. has_underscore (chars (string_bytes camel)) ≡ false) }
+    ensures idempotent { IfOk result (λ camel. camel_case_text (string_bytes camel) ≡ string_bytes camel) }
+{
+    join_words(alloc, name, true)
+}
+
+/// The name that a field has in JSON by default: without underscores, each character that directly
+/// followed one in ASCII upper case. The one error is that memory is short.
+///
+/// See the Protocol Buffers Language Guide, "ProtoJSON Format" (<https://protobuf.dev>).
+pub fn json_name(alloc: Global, name: &str) -> Result<String, AllocError>
+    ensures { IfOk result (λ json. string_bytes json ≡ json_name_text name.now) }
+{
+    join_words(alloc, name, false)
+}
+
+/// The name without underscores, each character that directly followed one in ASCII upper case, and
+/// the first that remains too if `raise` is set.
+fn join_words(alloc: Global, name: &str, raise: bool) -> Result<String, AllocError>
+    ensures { IfOk result (λ joined. string_bytes joined ≡ encode_utf8_all (joined_words raise (chars name.now))) }
+{
+    let mut joined = String::with_capacity(alloc, name.len())?;
+    let mut raise_next = raise;
+    for character in name.chars() {
+        if character == '_' {
+            raise_next = true;
         } else {
-            json.push(if follows_underscore { c.to_ascii_uppercase() } else { c })?;
-            follows_underscore = false;
+            joined.push(raised(character, raise_next))?;
+            raise_next = false;
         }
     }
-    Ok(json)
+    Ok(joined)
 }
 
-/// The bytes as printable ASCII text: `\n`, `\r`, `\t`, `\"`, `\'` and `\\` for these six, 0x20 to 0x7E
-/// as they are, and a backslash with three octal digits for any other.
-pub fn escape_bytes(alloc: Global, bytes: &[u8]) -> Result<String, AllocError> {
-    let mut text = String::new(alloc);
+/// The character, in ASCII upper case if `raise` is set.
+fn raised(character: char, raise: bool) -> char
+    ensures { result ≡ (if raise then to_ascii_uppercase character else character) }
+{
+    if raise {
+        character.to_ascii_uppercase()
+    } else {
+        character
+    }
+}
+
+/// The name in snake case: each character in ASCII lower case, with an underscore before an ASCII
+/// capital whose preceding character has the Unicode property Lowercase. The one error is that
+/// memory is short.
+pub fn snake_case(alloc: Global, name: &str) -> Result<String, AllocError>
+    ensures text { IfOk result (λ snake. string_bytes snake ≡ snake_case_text name.now) }
+    ensures idempotent { IfOk result (λ snake. snake_case_text (string_bytes snake) ≡ string_bytes snake) }
+{
+    let mut split = String::with_capacity(alloc, name.len())?;
+    let mut after_lower = false;
+    for character in name.chars() {
+        push_lowered(&mut split, after_lower, character)?;
+        after_lower = is_lowercase(character);
+    }
+    Ok(split)
+}
+
+/// Adds a character in ASCII lower case, after an underscore if it is a capital that follows a
+/// character with the property Lowercase.
+fn push_lowered(split: &mut String, after_lower: bool, character: char) -> Result<(), AllocError>
+    ensures { OnOk result (string_bytes split.new ≡ string_bytes split.old ++ encode_utf8_all
+        ((if after_lower && is_ascii_uppercase character then 95 ∷ [] else []) ++ to_ascii_lowercase character ∷ [])) }
+{
+    if after_lower && character.is_ascii_uppercase() {
+        split.push('_')?;
+    }
+    split.push(character.to_ascii_lowercase())
+}
+
+/// The bytes as the inside of a string literal. The one error is that memory is short.
+///
+/// See the Protocol Buffers Language Specification, "String literals" (<https://protobuf.dev>).
+pub fn escape_bytes(alloc: Global, bytes: &[u8]) -> Result<String, AllocError>
+    ensures text { IfOk result (λ escaped. string_bytes escaped ≡ escaped_bytes bytes.now) }
+    ensures said { IfOk result (λ escaped. said_bytes (string_bytes escaped) ≡ bytes.now) }
+{
+    let mut escaped = String::with_capacity(alloc, bytes.len())?;
     for byte in bytes {
-        escape_byte(&mut text, *byte)?;
+        escape_byte(&mut escaped, *byte)?;
     }
-    Ok(text)
+    Ok(escaped)
 }
 
-fn escape_byte(text: &mut String, byte: u8) -> Result<(), AllocError> {
+/// Adds one byte of a string literal's inside.
+fn escape_byte(escaped: &mut String, byte: u8) -> Result<(), AllocError>
+    ensures { OnOk result (string_bytes escaped.new ≡ string_bytes escaped.old ++ escaped_byte byte) }
+{
     match byte {
-        b'\n' => text.push_str("\\n"),
-        b'\r' => text.push_str("\\r"),
-        b'\t' => text.push_str("\\t"),
-        b'"' => text.push_str("\\\""),
-        b'\'' => text.push_str("\\'"),
-        b'\\' => text.push_str("\\\\"),
-        0x20..=0x7e => text.push(char::from(byte)),
-        _ => write!(text, "\\{byte:03o}"),
+        b'\n' => escaped.push_str("\\n"),
+        b'\r' => escaped.push_str("\\r"),
+        b'\t' => escaped.push_str("\\t"),
+        b'"' => escaped.push_str("\\\""),
+        b'\'' => escaped.push_str("\\'"),
+        b'\\' => escaped.push_str("\\\\"),
+        0x20..=0x7e => escaped.push(char::from(byte)),
+        _ => {
+            escaped.push('\\')?;
+            escaped.push(octal_digit(byte / 64))?;
+            escaped.push(octal_digit(byte / 8 % 8))?;
+            escaped.push(octal_digit(byte % 8))
+        }
     }
+}
+
+/// The character of an octal digit.
+fn octal_digit(digit: u8) -> char
+    requires { digit < 8 }
+    ensures { result ≡ 48 + digit }
+{
+    char::from(b'0' + digit)
 }

@@ -1,0 +1,4 @@
+pub mod Options
+pub mod Descriptors
+pub mod Faults
+pub mod Elaboration

@@ -1,30 +1,76 @@
-//! Descriptors of files, messages and fields: plain values, with the names of the messages of
-//! `google/protobuf/descriptor.proto`.
+//! Descriptors of files and of what they declare: plain values, with the names of the messages of
+//! `google/protobuf/descriptor.proto`. Every list is in source order.
 
+mod options;
+
+ghost use Rattle.std.specs.Prelude.{◌≡◌};
+
+pub use options::{
+    CType, EnumOptions, EnumValueOptions, FieldOptions, FileOptions, IdempotencyLevel, JSType,
+    MessageOptions, MethodOptions, OneofOptions, OptimizeMode, ServiceOptions,
+};
 pub use protobuf_parse_syntax::Label;
 
 use protobuf_parse_syntax::Scalar;
+
+/// Files.
+#[derive(Debug, PartialEq, Eq, Drop)]
+pub struct FileDescriptorSet {
+    pub file: Vec<FileDescriptorProto>,
+}
 
 /// A file.
 #[derive(Debug, PartialEq, Eq, Drop)]
 pub struct FileDescriptorProto {
     /// The path by which the file is known.
     pub name: Option<String>,
+    /// The package, without a first dot.
+    pub package: Option<String>,
     /// `proto2` or `proto3`.
     pub syntax: Option<String>,
-    /// The messages of the file, in source order.
+    /// The paths that the file imports.
+    pub dependency: Vec<String>,
+    /// The positions in `dependency` of the public imports, ascending.
+    pub public_dependency: Vec<i32>,
+    /// The positions in `dependency` of the weak imports, ascending.
+    pub weak_dependency: Vec<i32>,
     pub message_type: Vec<DescriptorProto>,
+    pub enum_type: Vec<EnumDescriptorProto>,
+    pub service: Vec<ServiceDescriptorProto>,
+    pub extension: Vec<FieldDescriptorProto>,
+    pub options: Option<FileOptions>,
 }
 
 /// A message.
 #[derive(Debug, PartialEq, Eq, Drop)]
 pub struct DescriptorProto {
     pub name: String,
-    /// The fields of the message, in source order.
     pub field: Vec<FieldDescriptorProto>,
+    pub oneof_decl: Vec<OneofDescriptorProto>,
+    pub nested_type: Vec<DescriptorProto>,
+    pub enum_type: Vec<EnumDescriptorProto>,
+    pub extension: Vec<FieldDescriptorProto>,
+    pub extension_range: Vec<ExtensionRange>,
+    pub reserved_range: Vec<ReservedRange>,
+    pub reserved_name: Vec<String>,
+    pub options: Option<MessageOptions>,
 }
 
-/// A field of a message.
+/// Field numbers kept for extensions: from `start` to before `end`.
+#[derive(Clone, Copy, Debug, PartialEq, Eq)]
+pub struct ExtensionRange {
+    pub start: i32,
+    pub end: i32,
+}
+
+/// Field numbers that no field may have: from `start` to before `end`.
+#[derive(Clone, Copy, Debug, PartialEq, Eq)]
+pub struct ReservedRange {
+    pub start: i32,
+    pub end: i32,
+}
+
+/// A field of a message, or an extension.
 #[derive(Debug, PartialEq, Eq, Drop)]
 pub struct FieldDescriptorProto {
     pub name: String,
@@ -32,11 +78,22 @@ pub struct FieldDescriptorProto {
     pub number: i32,
     pub label: Label,
     pub type_: FieldType,
+    /// The full name of the message, enum or group that the field holds, with its first dot.
+    pub type_name: Option<String>,
+    /// The full name of the message that an extension extends, with its first dot.
+    pub extendee: Option<String>,
+    /// The default as text; of a bytes field with its bytes escaped.
+    pub default_value: Option<String>,
+    /// The position in `oneof_decl` of the oneof that the field is in.
+    pub oneof_index: Option<i32>,
     /// The name in the JSON mapping.
     pub json_name: String,
+    /// Whether the field has the label `optional` in proto3.
+    pub proto3_optional: bool,
+    pub options: Option<FieldOptions>,
 }
 
-/// The type of a field's values: the scalar types, and three kinds that are declared elsewhere.
+/// The type of a field's values: the scalar types, and three that are declared elsewhere.
 #[derive(Clone, Copy, Debug, PartialEq, Eq)]
 pub enum FieldType {
     Int32,
@@ -54,9 +111,69 @@ pub enum FieldType {
     Bytes,
     Float,
     Double,
+    Message,
+    Enum,
+    Group,
+}
+
+/// A oneof of a message.
+#[derive(Debug, PartialEq, Eq, Drop)]
+pub struct OneofDescriptorProto {
+    pub name: String,
+    pub options: Option<OneofOptions>,
+}
+
+/// An enum.
+#[derive(Debug, PartialEq, Eq, Drop)]
+pub struct EnumDescriptorProto {
+    pub name: String,
+    pub value: Vec<EnumValueDescriptorProto>,
+    pub reserved_range: Vec<EnumReservedRange>,
+    pub reserved_name: Vec<String>,
+    pub options: Option<EnumOptions>,
+}
+
+/// Numbers that no value may have: from `start` to `end`, both among them.
+#[derive(Clone, Copy, Debug, PartialEq, Eq)]
+pub struct EnumReservedRange {
+    pub start: i32,
+    pub end: i32,
+}
+
+/// A value of an enum.
+#[derive(Debug, PartialEq, Eq, Drop)]
+pub struct EnumValueDescriptorProto {
+    pub name: String,
+    pub number: i32,
+    pub options: Option<EnumValueOptions>,
+}
+
+/// A service.
+#[derive(Debug, PartialEq, Eq, Drop)]
+pub struct ServiceDescriptorProto {
+    pub name: String,
+    pub method: Vec<MethodDescriptorProto>,
+    pub options: Option<ServiceOptions>,
+}
+
+/// A method of a service.
+#[derive(Debug, PartialEq, Eq, Drop)]
+pub struct MethodDescriptorProto {
+    pub name: String,
+    /// The full name of the message that is sent, with its first dot.
+    pub input_type: String,
+    /// The full name of the message that comes back, with its first dot.
+    pub output_type: String,
+    pub client_streaming: bool,
+    pub server_streaming: bool,
+    pub options: Option<MethodOptions>,
 }
 
 impl From<Scalar> for FieldType {
+    ghost use Rattle.protobuf_parse_model.specs.Elaboration.{kind_of_scalar};
+
+    ghost from_gives = { λ scalar kind. kind ≡ kind_of_scalar scalar };
+
     fn from(scalar: Scalar) -> FieldType {
         match scalar {
             Scalar::Int32 => FieldType::Int32,

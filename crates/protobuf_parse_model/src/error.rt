@@ -1,5 +1,8 @@
 //! Why a tree has no descriptor.
 
+ghost use Rattle.std.specs.Prelude.{◌≡◌};
+ghost use Rattle.protobuf_parse_model.specs.declared.error.ElabFailure.TheVariants.{Memory};
+
 use std::alloc::{AllocError, AllocFailed};
 use thiserror::Error;
 
@@ -30,12 +33,16 @@ pub enum ElabFailure {
 }
 
 impl From<AllocError> for ElabFailure {
+    ghost from_gives = { λ _ e. e ≡ Memory };
+
     fn from(_error: AllocError) -> ElabFailure {
         ElabFailure::Memory
     }
 }
 
 impl<T: Drop> From<AllocFailed<T>> for ElabFailure {
+    ghost from_gives = { λ _ e. e ≡ Memory };
+
     fn from(_error: AllocFailed<T>) -> ElabFailure {
         ElabFailure::Memory
     }

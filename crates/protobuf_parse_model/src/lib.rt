@@ -6,5 +6,11 @@ mod descriptor;
 mod error;
 
 pub use convert::elaborate;
-pub use descriptor::{DescriptorProto, FieldDescriptorProto, FieldType, FileDescriptorProto, Label};
+pub use descriptor::{
+    CType, DescriptorProto, EnumDescriptorProto, EnumOptions, EnumReservedRange,
+    EnumValueDescriptorProto, EnumValueOptions, ExtensionRange, FieldDescriptorProto, FieldOptions,
+    FieldType, FileDescriptorProto, FileDescriptorSet, FileOptions, IdempotencyLevel, JSType, Label,
+    MessageOptions, MethodDescriptorProto, MethodOptions, OneofDescriptorProto, OneofOptions,
+    OptimizeMode, ReservedRange, ServiceDescriptorProto, ServiceOptions,
+};
 pub use error::{ElabError, ElabErrorKind, ElabFailure};

@@ -1,1 +1,10 @@
+pub mod Text
+pub mod Scan
+pub mod Place
+pub mod Tokens
+pub mod Decoding
+pub mod Cut
+pub mod Escaped
+pub mod Laws
 pub mod Cursors
+pub mod Trees

@@ -1,15 +1,20 @@
 //! The tokens of a text.
 
+ghost use Rattle.std.specs.Prelude.{◌≡◌, ◌⊎◌, ◌+◌, [], length, drop, IfOk, IfErr, MatchResult};
+ghost use Rattle.protobuf_parse_syntax.specs.Text.{IsFault};
+ghost use Rattle.protobuf_parse_syntax.specs.Cut as cut;
+ghost use Rattle.protobuf_parse_syntax.specs.Cut.{mark_len, IsShort, stream, HasTokens, IsRefused, Answers, Reads, Refuses, place_of, out_of_memory};
+
 mod bytes;
 mod depth;
 mod front;
+pub mod laws;
 mod number;
 pub mod place;
 pub mod str_lit;
-pub mod token;
-
 #[cfg(test)]
 mod tests;
+pub mod token;
 
 use crate::error::{ParserError, ParserErrorWithLocation};
 use crate::lexer::depth::too_deep;
@@ -22,7 +27,10 @@ use std::alloc::Global;
 const MAX_TEXT_LEN: usize = 2147483647;
 
 /// The text without a byte order mark at its front.
-fn past_mark(text: &str) -> &str {
+fn past_mark(text: &str) -> &str
+    ensures rest { result.now ≡ drop (mark_len text.now) text.now }
+    ensures len { length result.now + mark_len text.now ≡ length text.now }
+{
     let bytes = text.as_bytes();
     if 3 <= bytes.len() && bytes[0] == 0xef && bytes[1] == 0xbb && bytes[2] == 0xbf {
         &text[3..]
@@ -32,7 +40,10 @@ fn past_mark(text: &str) -> &str {
 }
 
 /// Cuts a text into its tokens. Its nesting is not looked at.
-fn cut<'a>(alloc: Global, text: &'a str) -> Result<TokenStream<'a>, ParserErrorWithLocation> {
+fn cut<'a>(alloc: Global, text: &'a str) -> Result<TokenStream<'a>, ParserErrorWithLocation>
+    requires { IsShort text.now }
+    ensures { Answers text.now result }
+{
     let mut tokens = Vec::new(alloc);
     let mut place = Place { line: 1, col: 1 };
     let mut rest = past_mark(text);
@@ -59,12 +70,11 @@ fn cut<'a>(alloc: Global, text: &'a str) -> Result<TokenStream<'a>, ParserErrorW
     }
 }
 
-/// The tokens of a text and the place of its end, or what is wrong with it first:
-/// its length, then a character, comment, string or number, then its nesting.
-pub fn tokenize<'a>(
-    alloc: Global,
-    text: &'a str,
-) -> Result<TokenStream<'a>, ParserErrorWithLocation> {
+/// The tokens of a text, of which nothing is wrong.
+fn checked<'a>(alloc: Global, text: &'a str) -> Result<TokenStream<'a>, ParserErrorWithLocation>
+    ensures read { IfOk result (λ s. HasTokens text.now (stream s)) }
+    ensures refused { IfErr result (λ e. (e ≡ out_of_memory) ⊎ IsRefused text.now e.error (place_of e)) }
+{
     if text.len() > MAX_TEXT_LEN {
         return Err(located(ParserError::TextTooLong, Place { line: 1, col: 1 }));
     }
@@ -73,4 +83,21 @@ pub fn tokenize<'a>(
         Some(place) => Err(located(ParserError::NestingTooDeep, place)),
         None => Ok(stream),
     }
+}
+
+/// The tokens of a text and the place of its end, or what is wrong with it first:
+/// its length, then a character, comment, string or number, then its nesting.
+pub fn tokenize<'a>(
+    alloc: Global,
+    text: &'a str,
+) -> Result<TokenStream<'a>, ParserErrorWithLocation>
+    // What is read are the text's tokens, and what is refused has that fault there.
+    ensures read { IfOk result (λ s. HasTokens text.now (stream s)) }
+    ensures refused { IfErr result (λ e. (e ≡ out_of_memory) ⊎ IsRefused text.now e.error (place_of e)) }
+
+    // A text with tokens is read, and one with a fault is refused.
+    ensures reads { Reads text.now result }
+    ensures refuses { Refuses text.now result }
+{
+    checked(alloc, text)
 }

@@ -7,6 +7,9 @@ mod parser;
 mod tree;
 
 pub use error::{ParserError, ParserErrorWithLocation};
+pub use lexer::laws::{
+    cuts_are_unique, decoding_is_unique, escaped_bytes_decode, places_count_characters,
+};
 pub use lexer::str_lit::{StrLit, StrLitDecodeError};
 pub use lexer::token::{Place, Token, TokenKind, TokenStream};
 pub use lexer::tokenize;

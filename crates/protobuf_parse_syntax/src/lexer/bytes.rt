@@ -1,5 +1,8 @@
 //! Bytes and runs of them.
 
+ghost use Rattle.std.specs.Prelude.{◌≡◌, ◌≢◌, ℕ, ◌<◌, ◌≤◌, length, slice_index, true, false};
+ghost use Rattle.protobuf_parse_syntax.specs.Text as text;
+
 /// A class of bytes.
 #[derive(Clone, Copy, Debug)]
 pub enum Class {
@@ -12,7 +15,9 @@ pub enum Class {
 }
 
 #[inline]
-pub fn is_in(class: Class, byte: u8) -> bool {
+pub fn is_in(class: Class, byte: u8) -> bool
+    ensures { result ≡ text.is_in class byte }
+{
     match class {
         Class::Blank => byte == b' ' || (9 <= byte && byte <= 13),
         Class::Line => byte != b'\n',
@@ -25,15 +30,24 @@ pub fn is_in(class: Class, byte: u8) -> bool {
 
 /// The byte at `at`, or 0 past the end.
 #[inline]
-pub fn byte_at(text: &[u8], at: usize) -> u8 {
-    if at < text.len() { text[at] } else { 0 }
+pub fn byte_at(bytes: &[u8], at: usize) -> u8
+    ensures value { result ≡ slice_index bytes.now at }
+    ensures within { result ≢ 0 → at < length bytes.now }
+{
+    if at < bytes.len() { bytes[at] } else { 0 }
 }
 
 /// The end of the bytes of the class from `at` on.
 #[inline]
-pub fn run_end(class: Class, text: &[u8], at: usize) -> usize {
+pub fn run_end(class: Class, bytes: &[u8], at: usize) -> usize
+    requires { at ≤ length bytes.now }
+    ensures after { at ≤ result }
+    ensures within { result ≤ length bytes.now }
+    ensures passes { (k : ℕ) → at ≤ k → k < result → text.is_in class (slice_index bytes.now k) ≡ true }
+    ensures stops { result < length bytes.now → text.is_in class (slice_index bytes.now result) ≡ false }
+{
     let mut end = at;
-    while end < text.len() && is_in(class, text[end]) {
+    while end < bytes.len() && is_in(class, bytes[end]) {
         end += 1;
     }
     end

@@ -1,5 +1,10 @@
 //! What stands at the front of a text.
 
+ghost use Rattle.std.specs.Prelude.{◌≡◌, ◌≢◌, ℕ, ◌<◌, ◌≤◌, length, slice_index, true, false, MatchOption};
+ghost use Rattle.protobuf_parse_syntax.specs.Text.{is_in, IsBlock, IsQuote, IsString, IsIdent, HasNoComment, Longest, NoFront};
+ghost use Rattle.protobuf_parse_syntax.specs.Scan as scan;
+ghost use Rattle.protobuf_parse_syntax.specs.Scan.{Stands};
+
 use crate::error::ParserError;
 use crate::lexer::bytes::{Class, byte_at, is_in, run_end};
 use crate::lexer::number::number_piece;
@@ -15,7 +20,12 @@ pub enum Piece {
 }
 
 /// The end of a comment that begins with `/*`.
-fn block_end(text: &[u8]) -> Option<usize> {
+fn block_end(text: &[u8]) -> Option<usize>
+    requires first { slice_index text.now 0 ≡ 47 }
+    requires second { slice_index text.now 1 ≡ 42 }
+    requires within { 2 ≤ length text.now }
+    ensures { MatchOption result (NoFront IsBlock text.now) (λ n. IsBlock text.now n) }
+{
     let mut at = 2;
     while at + 1 < text.len() {
         if text[at] == b'*' && text[at + 1] == b'/' {
@@ -27,7 +37,9 @@ fn block_end(text: &[u8]) -> Option<usize> {
 }
 
 /// The end of a string, whose bytes from 1 on are these.
-fn closing(quote: u8, mut text: &[u8]) -> Option<usize> {
+fn closing(quote: u8, mut text: &[u8]) -> Option<usize>
+    ensures { result ≡ scan.closing quote false 1 text.entry.now }
+{
     let mut is_escaped = false;
     let mut at = 1;
     while let [byte, rest @ ..] = text {
@@ -45,21 +57,33 @@ fn closing(quote: u8, mut text: &[u8]) -> Option<usize> {
 }
 
 /// The end of the string at the front.
-fn string_end(text: &[u8]) -> Option<usize> {
+fn string_end(text: &[u8]) -> Option<usize>
+    requires some { 0 < length text.now }
+    requires quote { IsQuote (slice_index text.now 0) }
+    ensures { MatchOption result (NoFront IsString text.now) (Longest IsString text.now) }
+{
     closing(text[0], &text[1..])
 }
 
 /// The end of the identifier at the front.
-fn ident_end(text: &[u8]) -> usize {
+fn ident_end(text: &[u8]) -> usize
+    requires some { 0 < length text.now }
+    requires ident { is_in Class.Ident (slice_index text.now 0) ≡ true }
+    requires no_digit { is_in Class.Digit (slice_index text.now 0) ≡ false }
+    ensures { Longest IsIdent text.now result }
+{
     run_end(Class::Ident, text, 0)
 }
 
 /// What stands at the front, where it is no blank and no comment.
-fn token_piece(text: &[u8]) -> Piece {
+fn token_piece(text: &[u8]) -> Piece
+    requires some { 0 < length text.now }
+    requires no_blank { is_in Class.Blank (slice_index text.now 0) ≡ false }
+    requires no_comment { HasNoComment text.now }
+    ensures { Stands text.now result }
+{
     let first = text[0];
-    if is_in(Class::Digit, first)
-        || (first == b'.' && is_in(Class::Digit, byte_at(text, 1)))
-    {
+    if is_in(Class::Digit, first) || (first == b'.' && is_in(Class::Digit, byte_at(text, 1))) {
         return number_piece(text);
     }
     if is_in(Class::Ident, first) {
@@ -79,7 +103,9 @@ fn token_piece(text: &[u8]) -> Piece {
 }
 
 /// What stands at the front of a text.
-pub fn front_piece(text: &[u8]) -> Piece {
+pub fn front_piece(text: &[u8]) -> Piece
+    ensures { Stands text.now result }
+{
     if text.is_empty() {
         return Piece::End;
     }

@@ -1,11 +1,19 @@
 //! The number at the front of a text.
 
+ghost use Rattle.std.specs.Prelude.{◌≡◌, ℕ, ◌<◌, ◌≤◌, ◌^◌, length, slice_index, slice_range, true, MatchOption, SomeIff};
+ghost use Rattle.std.specs.Str.Parse as parse;
+ghost use Rattle.std.specs.Char as char;
+ghost use Rattle.protobuf_parse_syntax.specs.Text.{is_in, AllIn, IsHex, IsOctal, IsDecimal, IsExponent, IsFloat, IsInteger, IsLongest, Longest, NoFront};
+ghost use Rattle.protobuf_parse_syntax.specs.Scan.{EndsFraction, BeginsNumber, Stands};
+
 use crate::error::ParserError;
 use crate::lexer::bytes::{Class, byte_at, is_in, run_end};
 use crate::lexer::front::Piece;
 use crate::lexer::token::TokenKind;
 
-fn hex_end(text: &[u8]) -> Option<usize> {
+fn hex_end(text: &[u8]) -> Option<usize>
+    ensures { MatchOption result (NoFront IsHex text.now) (Longest IsHex text.now) }
+{
     let letter = byte_at(text, 1);
     if byte_at(text, 0) == b'0'
         && (letter == b'x' || letter == b'X')
@@ -17,7 +25,9 @@ fn hex_end(text: &[u8]) -> Option<usize> {
     }
 }
 
-fn octal_end(text: &[u8]) -> Option<usize> {
+fn octal_end(text: &[u8]) -> Option<usize>
+    ensures { MatchOption result (NoFront IsOctal text.now) (Longest IsOctal text.now) }
+{
     if byte_at(text, 0) == b'0' && is_in(Class::Octal, byte_at(text, 1)) {
         Some(run_end(Class::Octal, text, 1))
     } else {
@@ -26,7 +36,10 @@ fn octal_end(text: &[u8]) -> Option<usize> {
 }
 
 /// The end of an exponent that begins at `at`.
-fn exponent_end(text: &[u8], at: usize) -> Option<usize> {
+fn exponent_end(text: &[u8], at: usize) -> Option<usize>
+    requires { at ≤ length text.now }
+    ensures { MatchOption result (NoFront (IsExponent at) text.now) (Longest (IsExponent at) text.now) }
+{
     let letter = byte_at(text, at);
     if letter != b'e' && letter != b'E' {
         return None;
@@ -45,7 +58,10 @@ fn exponent_end(text: &[u8], at: usize) -> Option<usize> {
 }
 
 /// The end of the fraction after the digits up to `whole`.
-fn fraction_end(text: &[u8], whole: usize) -> usize {
+fn fraction_end(text: &[u8], whole: usize) -> usize
+    requires { whole ≤ length text.now }
+    ensures { EndsFraction text.now whole result }
+{
     if byte_at(text, whole) == b'.' {
         run_end(Class::Digit, text, whole + 1)
     } else {
@@ -53,7 +69,9 @@ fn fraction_end(text: &[u8], whole: usize) -> usize {
     }
 }
 
-fn float_end(text: &[u8]) -> Option<usize> {
+fn float_end(text: &[u8]) -> Option<usize>
+    ensures { MatchOption result (NoFront IsFloat text.now) (Longest IsFloat text.now) }
+{
     let whole = run_end(Class::Digit, text, 0);
     let point = fraction_end(text, whole);
     if whole == 0 && point <= 1 {
@@ -66,7 +84,11 @@ fn float_end(text: &[u8]) -> Option<usize> {
     }
 }
 
-fn decimal_end(text: &[u8]) -> usize {
+fn decimal_end(text: &[u8]) -> usize
+    requires some { 0 < length text.now }
+    requires digit { is_in Class.Digit (slice_index text.now 0) ≡ true }
+    ensures { Longest IsDecimal text.now result }
+{
     if text[0] == b'0' {
         1
     } else {
@@ -76,7 +98,10 @@ fn decimal_end(text: &[u8]) -> usize {
 
 /// What a digit counts, up to 15.
 #[inline]
-pub fn digit_value(digit: u8) -> u64 {
+pub fn digit_value(digit: u8) -> u64
+    requires { is_in Class.Hex digit ≡ true }
+    ensures { result ≡ char.digit_value digit }
+{
     u64::from(match digit {
         b'0'..=b'9' => digit - b'0',
         b'A'..=b'F' => digit - b'A' + 10,
@@ -86,7 +111,11 @@ pub fn digit_value(digit: u8) -> u64 {
 }
 
 /// The number that digits spell, where it fits.
-pub fn digits_value(radix: u64, digits: &[u8]) -> Option<u64> {
+pub fn digits_value(radix: u64, digits: &[u8]) -> Option<u64>
+    requires low { 2 ≤ radix }
+    requires each { (k : ℕ) → k < length digits.now → is_in Class.Hex (slice_index digits.now k) ≡ true }
+    ensures { SomeIff result (parse.digits_value radix digits.now < 2 ^ 64) (parse.digits_value radix digits.now) }
+{
     let mut number: u64 = 0;
     for digit in digits {
         let Some(shifted) = number.checked_mul(radix) else {
@@ -101,7 +130,15 @@ pub fn digits_value(radix: u64, digits: &[u8]) -> Option<u64> {
 }
 
 /// The integer at the front, of the digits from `from` to `end`.
-fn integer_piece(text: &[u8], radix: u64, from: usize, end: usize) -> Piece {
+fn integer_piece(text: &[u8], radix: u64, from: usize, end: usize) -> Piece
+    requires radix { 2 ≤ radix }
+    requires order { from ≤ end }
+    requires within { end ≤ length text.now }
+    requires each { AllIn Class.Hex text.now from end }
+    requires spells { (v : ℕ) → v ≡ parse.digits_value radix (slice_range text.now from end) → IsInteger text.now end v }
+    requires longest { IsLongest text.now end }
+    ensures { Stands text.now result }
+{
     if end < text.len() && is_in(Class::Ident, text[end]) {
         return Piece::Fault(ParserError::BadNumber);
     }
@@ -112,7 +149,10 @@ fn integer_piece(text: &[u8], radix: u64, from: usize, end: usize) -> Piece {
 }
 
 /// The float at the front.
-fn float_piece(text: &[u8], end: usize) -> Piece {
+fn float_piece(text: &[u8], end: usize) -> Piece
+    requires { Longest IsFloat text.now end }
+    ensures { Stands text.now result }
+{
     if end < text.len() && is_in(Class::Ident, text[end]) {
         Piece::Fault(ParserError::BadNumber)
     } else {
@@ -121,7 +161,11 @@ fn float_piece(text: &[u8], end: usize) -> Piece {
 }
 
 /// The number at the front.
-pub fn number_piece(text: &[u8]) -> Piece {
+pub fn number_piece(text: &[u8]) -> Piece
+    requires some { 0 < length text.now }
+    requires begins { BeginsNumber text.now }
+    ensures { Stands text.now result }
+{
     if let Some(end) = float_end(text) {
         return float_piece(text, end);
     }

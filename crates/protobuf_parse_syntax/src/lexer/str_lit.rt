@@ -1,6 +1,10 @@
 //! What strings say.
 
-ghost use Rattle.std.specs.Prelude.{◌≡◌};
+ghost use Rattle.std.specs.Prelude.{◌≡◌, ◌<◌, ◌≤◌, ℕ, ◌++◌, true, length, map, MatchOption, OnOk, IfOk, IfErr, string_bytes};
+ghost use Rattle.protobuf_parse_syntax.specs.Text.{is_in};
+ghost use Rattle.protobuf_parse_syntax.specs.Tokens as tokens;
+ghost use Rattle.protobuf_parse_syntax.specs.Tokens.{IsDigits, DecodesAll};
+ghost use Rattle.protobuf_parse_syntax.specs.Decoding.{NamesByte, NamesNoByte, NamesChar, NamesNoChar, HasEscape, HasNoEscape, HasPart, HasNoPart, meaning_bytes, PushesPiece, RefusesBytes, RefusesText};
 ghost use Rattle.protobuf_parse_syntax.specs.declared.lexer.str_lit.StrLitDecodeError.TheVariants.{Memory};
 
 use crate::lexer::bytes::{Class, byte_at, is_in, run_end};
@@ -42,15 +46,24 @@ impl<T: Drop> From<AllocFailed<T>> for StrLitDecodeError {
     }
 }
 
-/// What an escape at the front of a text stands for, with how many bytes the escape has.
+/// What a part of a string stands for.
 #[derive(Clone, Copy, Debug)]
-enum Escape {
-    Byte(usize, u8),
-    Char(usize, char),
+enum Meaning {
+    Byte(u8),
+    Char(char),
+}
+
+/// A part at the front of a string, a byte or an escape: how many bytes it has, and what it stands for.
+#[derive(Clone, Copy, Debug)]
+struct Part {
+    len: usize,
+    meaning: Meaning,
 }
 
 /// The byte that a backslash and this letter stand for.
-fn letter_byte(letter: u8) -> Option<u8> {
+fn letter_byte(letter: u8) -> Option<u8>
+    ensures { result ≡ tokens.letter_byte letter }
+{
     match letter {
         b'a' => Some(7),
         b'b' => Some(8),
@@ -64,40 +77,65 @@ fn letter_byte(letter: u8) -> Option<u8> {
     }
 }
 
-/// The escape of the digits from `from` on, at most up to `limit`.
-fn byte_escape(class: Class, radix: u64, text: &[u8], from: usize, limit: usize) -> Option<Escape> {
+/// The end of the digits from `from` on, as many as stand there, at most up to `limit`.
+fn digits_end(class: Class, text: &[u8], from: usize, limit: usize) -> Option<usize>
+    ensures { MatchOption result ((n : ℕ) → IsDigits class text.now from limit n → ⊥) (IsDigits class text.now from limit) }
+{
     let within = text.len().min(limit);
     if within <= from {
         return None;
     }
     let end = run_end(class, &text[..within], from);
-    if end == from {
-        return None;
-    }
+    if end == from { None } else { Some(end) }
+}
+
+/// The escape of at most `4 - from` digits from `from` on, which name a byte.
+fn byte_escape(class: Class, radix: u64, text: &[u8], from: usize) -> Option<Part>
+    requires radix { 2 ≤ radix }
+    requires digits { (b : ℕ) → is_in class b ≡ true → is_in Class.Hex b ≡ true }
+    ensures { MatchOption result (NamesNoByte class radix from text.now) (NamesByte class radix from text.now) }
+{
+    let end = digits_end(class, text, from, 4)?;
     let value = digits_value(radix, &text[from..end])?;
-    let byte = u8::try_from(value).ok()?;
-    Some(Escape::Byte(end, byte))
+    if value <= 255 {
+        Some(Part {
+            len: end,
+            meaning: Meaning::Byte(value as u8),
+        })
+    } else {
+        None
+    }
 }
 
 /// The escape of just the hexadecimal digits from 2 up to `end`, which name a character.
-fn char_escape(text: &[u8], end: usize) -> Option<Escape> {
+fn char_escape(text: &[u8], end: usize) -> Option<Part>
+    requires { 2 ≤ end }
+    ensures { MatchOption result (NamesNoChar end text.now) (NamesChar end text.now) }
+{
     if text.len() < end || run_end(Class::Hex, &text[..end], 2) < end {
         return None;
     }
     let value = digits_value(16, &text[2..end])?;
-    let code = u32::try_from(value).ok()?;
-    let character = char::from_u32(code)?;
-    Some(Escape::Char(end, character))
+    if value > 0x10FFFF {
+        return None;
+    }
+    let character = char::from_u32(value as u32)?;
+    Some(Part {
+        len: end,
+        meaning: Meaning::Char(character),
+    })
 }
 
 /// The escape at the front, which is a backslash.
-fn front_escape(text: &[u8]) -> Option<Escape> {
+fn front_escape(text: &[u8]) -> Option<Part>
+    ensures { MatchOption result (HasNoEscape text.now) (HasEscape text.now) }
+{
     let letter = byte_at(text, 1);
     if is_in(Class::Octal, letter) {
-        return byte_escape(Class::Octal, 8, text, 1, 4);
+        return byte_escape(Class::Octal, 8, text, 1);
     }
     if letter == b'x' || letter == b'X' {
-        return byte_escape(Class::Hex, 16, text, 2, 4);
+        return byte_escape(Class::Hex, 16, text, 2);
     }
     if letter == b'u' {
         return char_escape(text, 6);
@@ -105,37 +143,64 @@ fn front_escape(text: &[u8]) -> Option<Escape> {
     if letter == b'U' {
         return char_escape(text, 10);
     }
-    letter_byte(letter).map(|byte| Escape::Byte(2, byte))
+    let byte = letter_byte(letter)?;
+    Some(Part {
+        len: 2,
+        meaning: Meaning::Byte(byte),
+    })
 }
 
-/// Puts what a piece says behind the bytes.
-fn push_piece(bytes: &mut Vec<u8>, piece: &[u8]) -> Result<(), StrLitDecodeError> {
+/// The part at the front, where one stands there.
+fn front_part(text: &[u8]) -> Option<Part>
+    requires { 0 < length text.now }
+    ensures { MatchOption result (HasNoPart text.now) (HasPart text.now) }
+{
+    let first = text[0];
+    if first == b'\\' {
+        front_escape(text)
+    } else {
+        Some(Part {
+            len: 1,
+            meaning: Meaning::Byte(first),
+        })
+    }
+}
+
+/// Puts what a part stands for behind the bytes.
+fn push_meaning(bytes: &mut Vec<u8>, meaning: Meaning) -> Result<(), AllocError>
+    ensures { OnOk result (bytes.new.items ≡ bytes.old.items ++ meaning_bytes meaning) }
+{
+    match meaning {
+        Meaning::Byte(byte) => bytes.push(byte)?,
+        Meaning::Char(character) => {
+            let mut buffer = [0; 4];
+            bytes.extend_from_slice(character.encode_utf8(&mut buffer).as_bytes())?;
+        }
+    }
+    Ok(())
+}
+
+/// Puts what a piece stands for behind the bytes.
+fn push_piece(bytes: &mut Vec<u8>, piece: &[u8]) -> Result<(), StrLitDecodeError>
+    ensures { PushesPiece piece.now bytes.old.items bytes.new.items result }
+{
     let mut rest = piece;
-    while let [first, others @ ..] = rest {
-        if *first != b'\\' {
-            bytes.push(*first)?;
-            rest = others;
-            continue;
-        }
-        match front_escape(rest) {
-            None => return Err(StrLitDecodeError::BadEscape),
-            Some(Escape::Byte(len, byte)) => {
-                bytes.push(byte)?;
-                rest = &rest[len..];
-            }
-            Some(Escape::Char(len, character)) => {
-                let mut buffer = [0; 4];
-                bytes.extend_from_slice(character.encode_utf8(&mut buffer).as_bytes())?;
-                rest = &rest[len..];
-            }
-        }
+    while !rest.is_empty() {
+        let Some(part) = front_part(rest) else {
+            return Err(StrLitDecodeError::BadEscape);
+        };
+        push_meaning(bytes, part.meaning)?;
+        rest = &rest[part.len..];
     }
     Ok(())
 }
 
 impl StrLit {
     /// The bytes that the string stands for.
-    pub fn decode_bytes(&self, alloc: Global) -> Result<Vec<u8>, StrLitDecodeError> {
+    pub fn decode_bytes(&self, alloc: Global) -> Result<Vec<u8>, StrLitDecodeError>
+        ensures bytes { IfOk result (λ v. DecodesAll (map string_bytes self.now.pieces.items) v.items) }
+        ensures refused { IfErr result (RefusesBytes (map string_bytes self.now.pieces.items)) }
+    {
         let mut bytes = Vec::new(alloc);
         for piece in &self.pieces {
             push_piece(&mut bytes, piece.as_bytes())?;
@@ -144,7 +209,10 @@ impl StrLit {
     }
 
     /// The text that the string stands for.
-    pub fn decode_utf8(&self, alloc: Global) -> Result<String, StrLitDecodeError> {
+    pub fn decode_utf8(&self, alloc: Global) -> Result<String, StrLitDecodeError>
+        ensures text { IfOk result (λ t. DecodesAll (map string_bytes self.now.pieces.items) (string_bytes t)) }
+        ensures refused { IfErr result (RefusesText (map string_bytes self.now.pieces.items)) }
+    {
         match String::from_utf8(self.decode_bytes(alloc)?) {
             Ok(text) => Ok(text),
             Err(_) => Err(StrLitDecodeError::NotUtf8),

@@ -1,0 +1,12 @@
+use Rattle.std.proofs.Common.{◌∙◌, ap, sym, List, ℕ, ◌++◌, string_bytes}
+use Rattle.protobuf_parse.proofs.Appending.{appended_five, on_ok_then}
+use Rattle.protobuf_parse.specs.Parts.{message_lines_is}
+use Rattle.protobuf_parse.proofs.front.lines.declarations.+message_lines.Goals as goal
+
+pub put_message-returns : goal.put_message-returns
+put_message-returns t c =
+    let name = rw c.deref.ensures at c.in_ok-put_line.ensures in
+    let inside = rw c.deref-2.ensures.value at c.in_ok-put_messages.ensures in
+    on_ok_then c.put_message_back.result
+    (λ back. back ∙ appended_five _ _ _ _ _ _ _ _ _ _ name c.in_ok-put_message_front.ensures inside c.in_ok-put_message_middle.ensures ∙ ap (λ (x : List ℕ). string_bytes c.args.text.now ++ x) (sym (message_lines_is c.args.level c.args.message.now)))
+    c.put_message_back.ensures

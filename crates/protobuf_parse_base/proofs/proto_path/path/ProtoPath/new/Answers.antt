@@ -1,0 +1,16 @@
+-- A text has no fault exactly if it is a proto path.
+use Rattle.std.proofs.Common.{◌≡◌, None, Some, Option, refl, sym, ap, ◌∙◌, rules}
+use Rattle.protobuf_parse_base.specs.declared.proto_path.error.PathError.{PathError}
+use Rattle.protobuf_parse_base.specs.Paths.{path_fault}
+use Rattle.protobuf_parse_base.proofs.PathTexts.{IsProtoPath-from_fault, path_fault-proto_path}
+use Rattle.protobuf_parse_base.proofs.proto_path.path.ProtoPath.new.Goals as goal
+
+pub returns-in-Some-clause-accepted : goal.returns-in-Some-clause-accepted
+returns-in-Some-clause-accepted c =
+    let found : path_fault c.args.text.now ≡ Some c.in-Some.fault = search rules in
+    (λ ok. cc ok, λ fact. let none = path_fault-proto_path c.args.text.now fact in cc (found, none))
+
+pub returns-in-None-clause-accepted : goal.returns-in-None-clause-accepted
+returns-in-None-clause-accepted c =
+    let none : path_fault c.args.text.now ≡ None = search rules in
+    (λ ok. IsProtoPath-from_fault c.args.text.now none, λ fact. refl)

@@ -1,0 +1,11 @@
+-- What a clause reads of a proto path: its text.
+use Rattle.std.specs.Prelude.{ℕ, List}
+use Rattle.std.specs.String.{string_bytes}
+use Rattle.protobuf_parse_base.specs.declared.proto_path.path.ProtoPath.{ProtoPath}
+use Rattle.protobuf_parse_base.specs.declared.proto_path.path.ProtoPathBuf.{ProtoPathBuf}
+
+abbrev pub path_text : ProtoPath → List ℕ
+path_text path = path.text.now
+
+abbrev pub path_buf_text : ProtoPathBuf → List ℕ
+path_buf_text path = string_bytes path.text

@@ -1,0 +1,7 @@
+//! The paths by which `.proto` files import one another.
+mod check;
+mod error;
+mod path;
+
+pub use error::PathError;
+pub use path::{ProtoPath, ProtoPathBuf};

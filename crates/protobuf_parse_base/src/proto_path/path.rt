@@ -1,0 +1,205 @@
+//! Proto paths.
+ghost use Rattle.std.specs.Prelude.{◌≡◌, ◌↔◌, IsOk, ◌≢◌, IfOk, IfErr, None, Some, nat_eq};
+ghost use Rattle.std.specs.String.{string_bytes};
+ghost use Rattle.std.specs.Cmp.Lexicographic.{pointwise, nat_list_eq_equiv};
+ghost use Rattle.std.specs.Cmp.{partial_equiv_from_equiv, on_per, on_equiv};
+ghost use Rattle.std.specs.Cmp.Rules.{hashing};
+ghost use Rattle.std.specs.Hash as fed;
+ghost use Rattle.std.proofs.Common.{rules};
+ghost use Rattle.protobuf_parse_base.specs.Paths.{path_fault, host_path_fault, kept_parts, joined, IsProtoPath};
+
+use super::check;
+use super::error::PathError;
+use std::alloc::{AllocError, Global};
+use std::fmt;
+use std::hash::{Hash, Hasher};
+
+/// A proto path, lent: one or more parts with slashes between them, each nonempty, without
+/// backslashes, and neither `.` nor `..`.
+///
+/// See the Protocol Buffers Language Specification, "Import Statement" (<https://protobuf.dev>).
+#[derive(Clone, Copy, Debug)]
+pub struct ProtoPath<'a> {
+    text: &'a str,
+    ghost well_formed: { path_fault text.now ≡ None },
+}
+
+impl<'a> ProtoPath<'a> {
+    ghost use Rattle.protobuf_parse_base.specs.PathViews.{path_text, path_buf_text};
+
+    /// The proto path with this text. In this order, the error is [`PathError::Empty`],
+    /// [`PathError::Backslashes`], or the fault of the first part that has one:
+    /// [`PathError::EmptyComponent`], [`PathError::Dot`] or [`PathError::DotDot`]. It takes no
+    /// memory, so it is never [`PathError::Memory`].
+    pub fn new(text: &'a str) -> Result<Self, PathError>
+        ensures accepted { IsOk result ↔ IsProtoPath text.now }
+        ensures text { IfOk result (λ path. path_text path ≡ text.now) }
+        ensures fault { IfErr result (λ fault. path_fault text.now ≡ Some fault) }
+    {
+        match check::fault_of(text) {
+            Some(fault) => Err(fault),
+            None => Ok(ProtoPath { text }),
+        }
+    }
+
+    /// The text, for as long as it was lent.
+    pub fn to_str(self) -> &'a str
+        ensures text { result.now ≡ path_text self.entry }
+        ensures proto_path { IsProtoPath result.now }
+    {
+        self.text
+    }
+
+    /// The same text, as a path of the host.
+    pub fn to_path(self) -> &'a str
+        ensures { result.now ≡ path_text self.entry }
+    {
+        self.text
+    }
+
+    /// A copy that owns its text. The one error is that memory is short.
+    pub fn to_proto_path_buf(self, alloc: Global) -> Result<ProtoPathBuf, AllocError>
+        ensures { IfOk result (λ path. path_buf_text path ≡ path_text self.entry) }
+    {
+        let text = String::from_str(alloc, self.text)?;
+        Ok(ProtoPathBuf { text })
+    }
+}
+
+/// A proto path that owns its text.
+#[derive(Debug, Drop)]
+pub struct ProtoPathBuf {
+    text: String,
+    ghost well_formed: { path_fault (string_bytes text) ≡ None },
+}
+
+impl ProtoPathBuf {
+    ghost use Rattle.protobuf_parse_base.specs.PathViews.{path_text, path_buf_text};
+
+    /// The proto path with this text, without a copy, or the errors of [`ProtoPath::new`].
+    pub fn new(text: String) -> Result<Self, PathError>
+        ensures accepted { IsOk result ↔ IsProtoPath (string_bytes text) }
+        ensures text { IfOk result (λ path. path_buf_text path ≡ string_bytes text) }
+        ensures fault { IfErr result (λ fault. path_fault (string_bytes text) ≡ Some fault) }
+    {
+        match check::fault_of(text.as_str()) {
+            Some(fault) => Err(fault),
+            None => Ok(ProtoPathBuf { text }),
+        }
+    }
+
+    /// The proto path that a path of the host names: its parts between slashes without the empty
+    /// ones and `.`. In this order, the error is [`PathError::Absolute`] for a first slash,
+    /// [`PathError::Backslashes`], [`PathError::DotDot`] for a part `..`, [`PathError::Empty`] if no
+    /// part is left, or [`PathError::Memory`].
+    pub fn from_path(alloc: Global, text: &str) -> Result<Self, PathError>
+        ensures ok { IfOk result (λ path. (path_buf_text path ≡ joined (kept_parts text.now)) × (host_path_fault text.now ≡ None)) }
+        ensures fault { IfErr result (λ fault. fault ≢ PathError.Memory → host_path_fault text.now ≡ Some fault) }
+    {
+        if text.starts_with('/') {
+            return Err(PathError::Absolute);
+        }
+        if check::holds_backslash(text) {
+            return Err(PathError::Backslashes);
+        }
+        if check::leads_up(text) {
+            return Err(PathError::DotDot);
+        }
+        let Ok(kept) = check::join_kept(alloc, text) else {
+            return Err(PathError::Memory);
+        };
+        if kept.is_empty() {
+            return Err(PathError::Empty);
+        }
+        Ok(ProtoPathBuf { text: kept })
+    }
+
+    /// The path, lent.
+    pub fn as_path(&self) -> ProtoPath<'_>
+        ensures { path_text result ≡ path_buf_text self.now }
+    {
+        ProtoPath {
+            text: self.text.as_str(),
+        }
+    }
+}
+
+impl<'a> PartialEq for ProtoPath<'a> {
+    ghost use Rattle.protobuf_parse_base.specs.PathViews.{path_text};
+
+    ghost eq = { λ a b. pointwise nat_eq (path_text a) (path_text b) };
+
+    ghost laws = { on_per path_text (partial_equiv_from_equiv nat_list_eq_equiv) };
+
+    fn eq(&self, other: &Self) -> bool {
+        self.text == other.text
+    }
+}
+
+impl<'a> Eq for ProtoPath<'a> {
+    ghost use Rattle.protobuf_parse_base.specs.PathViews.{path_text};
+
+    ghost laws = { on_equiv path_text nat_list_eq_equiv };
+}
+
+impl<'a> Hash for ProtoPath<'a> {
+    ghost use Rattle.protobuf_parse_base.specs.PathViews.{path_text};
+
+    ghost hash_input = { λ path. fed.str (path_text path) };
+
+    ghost respects_eq = { Prim.search (hashing, rules) };
+
+    fn hash<H: Hasher>(&self, state: &mut H) {
+        self.text.hash(state);
+    }
+}
+
+impl<'a> fmt::Display for ProtoPath<'a> {
+    ghost use Rattle.protobuf_parse_base.specs.PathViews.{path_text};
+
+    ghost output = { λ path. Some (path_text path) };
+
+    fn fmt<W: fmt::Write>(&self, f: &mut fmt::Formatter<W>) -> fmt::Result {
+        f.write_str(self.text)
+    }
+}
+
+impl PartialEq for ProtoPathBuf {
+    ghost use Rattle.protobuf_parse_base.specs.PathViews.{path_buf_text};
+
+    ghost eq = { λ a b. pointwise nat_eq (path_buf_text a) (path_buf_text b) };
+
+    ghost laws = { on_per path_buf_text (partial_equiv_from_equiv nat_list_eq_equiv) };
+
+    fn eq(&self, other: &Self) -> bool {
+        self.text.as_str() == other.text.as_str()
+    }
+}
+
+impl Eq for ProtoPathBuf {
+    ghost use Rattle.protobuf_parse_base.specs.PathViews.{path_buf_text};
+
+    ghost laws = { on_equiv path_buf_text nat_list_eq_equiv };
+}
+
+impl Hash for ProtoPathBuf {
+    ghost use Rattle.protobuf_parse_base.specs.PathViews.{path_buf_text};
+
+    ghost hash_input = { λ path. fed.str (path_buf_text path) };
+
+    ghost respects_eq = { Prim.search (hashing, rules) };
+
+    fn hash<H: Hasher>(&self, state: &mut H) {
+        self.text.as_str().hash(state);
+    }
+}
+
+impl fmt::Display for ProtoPathBuf {
+    ghost use Rattle.protobuf_parse_base.specs.PathViews.{path_buf_text};
+
+    ghost output = { λ path. Some (path_buf_text path) };
+
+    fn fmt<W: fmt::Write>(&self, f: &mut fmt::Formatter<W>) -> fmt::Result {
+        f.write_str(self.text.as_str())
+    }
+}

@@ -1,0 +1,32 @@
+-- What tells a fault of a part tells one of the whole.
+use Rattle.std.proofs.Common.{◌≡◌, ℕ, zero, suc, ◌<◌, List, [], ◌∷◌, ◌++◌, map, flat_map, length, Bool, true, cond, arith}
+use Rattle.std.specs.Prelude.{slice_index_or}
+use Rattle.protobuf_parse_model.specs.declared.error.ElabFailure.{ElabFailure}
+use Rattle.protobuf_parse_model.specs.declared.error.ElabFailure.TheVariants as failure
+use Rattle.protobuf_parse_model.specs.Faults.{Among, here, there, Blames, Fault}
+
+pub among_left : {A : Type 0} {x : A} {xs : List A} (ys : List A) → Among xs x → Among (xs ++ ys) x
+among_left ys here = here
+among_left ys (there h) = there (among_left ys h)
+
+pub among_right : {A : Type 0} {x : A} (xs : List A) {ys : List A} → Among ys x → Among (xs ++ ys) x
+among_right [] h = h
+among_right (y ∷ xs) h = there (among_right xs h)
+
+-- the first of a list stands in it
+pub among_when : {A : Type 0} (b : Bool) (x y : A) (ys : List A) → b ≡ true → x ≡ y → Among (cond b (x ∷ []) [] ++ ys) y
+among_when b x y ys e h = rw (e, h) here
+
+pub blames_left : (e : ElabFailure) (xs ys : List Fault) → Blames e xs → Blames e (xs ++ ys)
+blames_left failure.Memory xs ys h = tt
+blames_left (failure.Fault f) xs ys h = among_left ys h
+
+pub blames_right : (e : ElabFailure) (xs ys : List Fault) → Blames e ys → Blames e (xs ++ ys)
+blames_right failure.Memory xs ys h = tt
+blames_right (failure.Fault f) xs ys h = among_right xs h
+
+-- what tells a fault of one element tells one of the list
+pub blames_at : {S X : Type 0} (faults : X → List Fault) (view : S → X) (xs : List S) (i : ℕ) (s : S) (e : ElabFailure) → i < length xs → s ≡ slice_index_or xs i s → Blames e (faults (view s)) → Blames e (flat_map faults (map view xs))
+blames_at faults view [] i s e lt is h = absurd (omega arith)
+blames_at faults view (x ∷ xs) zero s e lt is h = blames_left e (faults (view x)) _ (rw is at h)
+blames_at faults view (x ∷ xs) (suc i) s e lt is h = blames_right e (faults (view x)) _ (blames_at faults view xs i s e (omega arith) is h)

@@ -1,0 +1,212 @@
+-- What descriptors say, without where they lie in memory: the messages of google/protobuf/descriptor.proto
+-- (Protocol Buffers, "Descriptors"). Names and texts are bytes; an absent text or list of options is None.
+use Rattle.std.specs.Prelude.{◌≡◌, ℕ, ℤ, Bool, List, [], ◌∷◌, Option, map, option_map, refl, string_bytes}
+use Rattle.protobuf_parse_syntax.specs.declared.tree.Label.{Label}
+use Rattle.protobuf_parse_model.specs.Options.{FileOptionsSet, MessageOptionsSet, FieldOptionsSet, OneofOptionsSet, EnumOptionsSet, EnumValueOptionsSet, ServiceOptionsSet, MethodOptionsSet, file_options_view, message_options_view, field_options_view, oneof_options_view, enum_options_view, enum_value_options_view, service_options_view, method_options_view}
+use Rattle.protobuf_parse_model.specs.declared.descriptor.FieldType.{FieldType}
+use Rattle.protobuf_parse_model.specs.declared.descriptor.FieldDescriptorProto.{FieldDescriptorProto}
+use Rattle.protobuf_parse_model.specs.declared.descriptor.OneofDescriptorProto.{OneofDescriptorProto}
+use Rattle.protobuf_parse_model.specs.declared.descriptor.EnumDescriptorProto.{EnumDescriptorProto}
+use Rattle.protobuf_parse_model.specs.declared.descriptor.EnumReservedRange.{EnumReservedRange}
+use Rattle.protobuf_parse_model.specs.declared.descriptor.EnumValueDescriptorProto.{EnumValueDescriptorProto}
+use Rattle.protobuf_parse_model.specs.declared.descriptor.ExtensionRange.{ExtensionRange}
+use Rattle.protobuf_parse_model.specs.declared.descriptor.ReservedRange.{ReservedRange}
+use Rattle.protobuf_parse_model.specs.declared.descriptor.ServiceDescriptorProto.{ServiceDescriptorProto}
+use Rattle.protobuf_parse_model.specs.declared.descriptor.MethodDescriptorProto.{MethodDescriptorProto}
+use Rattle.protobuf_parse_model.specs.declared.descriptor.DescriptorProto.{DescriptorProto, fold-DescriptorProto, out-DescriptorProto}
+use Rattle.protobuf_parse_model.specs.declared.descriptor.DescriptorProto.TheFolds.{fold_out-DescriptorProto}
+use Rattle.protobuf_parse_model.specs.declared.descriptor.DescriptorProto.TheOpen.{DescriptorProto-F}
+use Rattle.protobuf_parse_model.specs.declared.descriptor.FileDescriptorProto.{FileDescriptorProto}
+
+abbrev pub Text : Type 0
+Text = List ℕ
+
+-- numbers from start to end; whether end is among them is said where the range stands
+pub record Range : Type 0 where
+  pub start : ℤ
+  pub end : ℤ
+
+pub record FieldDescriptor : Type 0 where
+  pub name : Text
+  pub number : ℤ
+  pub label : Label
+  pub type_ : FieldType
+  pub type_name : Option Text
+  pub extendee : Option Text
+  pub default_value : Option Text
+  pub oneof_index : Option ℤ
+  pub json_name : Text
+  pub proto3_optional : Bool
+  pub options : Option FieldOptionsSet
+
+pub record OneofDescriptor : Type 0 where
+  pub name : Text
+  pub options : Option OneofOptionsSet
+
+pub record EnumValueDescriptor : Type 0 where
+  pub name : Text
+  pub number : ℤ
+  pub options : Option EnumValueOptionsSet
+
+pub record EnumDescriptor : Type 0 where
+  pub name : Text
+  pub value : List EnumValueDescriptor
+  pub reserved_range : List Range
+  pub reserved_name : List Text
+  pub options : Option EnumOptionsSet
+
+-- all of a message but the messages inside it
+pub record MessageParts : Type 0 where
+  pub name : Text
+  pub field : List FieldDescriptor
+  pub oneof_decl : List OneofDescriptor
+  pub enum_type : List EnumDescriptor
+  pub extension : List FieldDescriptor
+  pub extension_range : List Range
+  pub reserved_range : List Range
+  pub reserved_name : List Text
+  pub options : Option MessageOptionsSet
+
+-- a message, with the messages inside it
+mutual
+  pub data MessageDescriptor : Type 0 where
+    a_message : MessageParts → MessageDescriptors → MessageDescriptor
+
+  pub data MessageDescriptors : Type 0 where
+    no_messages : MessageDescriptors
+    messages : MessageDescriptor → MessageDescriptors → MessageDescriptors
+
+-- such messages as a list, and back
+abbrev pub list_of : MessageDescriptors → List MessageDescriptor
+list_of no_messages = []
+list_of (messages m ms) = m ∷ list_of ms
+
+abbrev pub messages_of_list : List MessageDescriptor → MessageDescriptors
+messages_of_list [] = no_messages
+messages_of_list (m ∷ ms) = messages m (messages_of_list ms)
+
+pub record MethodDescriptor : Type 0 where
+  pub name : Text
+  pub input_type : Text
+  pub output_type : Text
+  pub client_streaming : Bool
+  pub server_streaming : Bool
+  pub options : Option MethodOptionsSet
+
+pub record ServiceDescriptor : Type 0 where
+  pub name : Text
+  pub method : List MethodDescriptor
+  pub options : Option ServiceOptionsSet
+
+pub record FileDescriptor : Type 0 where
+  pub name : Option Text
+  pub «package» : Option Text
+  pub syntax : Option Text
+  pub dependency : List Text
+  pub public_dependency : List ℤ
+  pub weak_dependency : List ℤ
+  pub message_type : List MessageDescriptor
+  pub enum_type : List EnumDescriptor
+  pub service : List ServiceDescriptor
+  pub extension : List FieldDescriptor
+  pub options : Option FileOptionsSet
+
+-- ---- what the Rust values say
+
+abbrev pub field_view : FieldDescriptorProto → FieldDescriptor
+field_view f = record {
+  name = string_bytes f.name;
+  number = f.number;
+  label = f.label;
+  type_ = f.type_;
+  type_name = option_map string_bytes f.type_name;
+  extendee = option_map string_bytes f.extendee;
+  default_value = option_map string_bytes f.default_value;
+  oneof_index = f.oneof_index;
+  json_name = string_bytes f.json_name;
+  proto3_optional = f.proto3_optional;
+  options = option_map field_options_view f.options;
+}
+
+abbrev pub oneof_view : OneofDescriptorProto → OneofDescriptor
+oneof_view o = record { name = string_bytes o.name; options = option_map oneof_options_view o.options }
+
+abbrev pub enum_value_view : EnumValueDescriptorProto → EnumValueDescriptor
+enum_value_view v = record { name = string_bytes v.name; number = v.number; options = option_map enum_value_options_view v.options }
+
+abbrev pub enum_range_view : EnumReservedRange → Range
+enum_range_view r = record { start = r.start; end = r.end }
+
+abbrev pub extension_range_view : ExtensionRange → Range
+extension_range_view r = record { start = r.start; end = r.end }
+
+abbrev pub reserved_range_view : ReservedRange → Range
+reserved_range_view r = record { start = r.start; end = r.end }
+
+abbrev pub enum_view : EnumDescriptorProto → EnumDescriptor
+enum_view e = record {
+  name = string_bytes e.name;
+  value = map enum_value_view e.value.items;
+  reserved_range = map enum_range_view e.reserved_range.items;
+  reserved_name = map string_bytes e.reserved_name.items;
+  options = option_map enum_options_view e.options;
+}
+
+-- all of a message but the messages inside it
+abbrev pub parts_of : {X : Type 0} → DescriptorProto-F X → MessageParts
+parts_of m = record {
+  name = string_bytes m.name;
+  field = map field_view m.field.items;
+  oneof_decl = map oneof_view m.oneof_decl.items;
+  enum_type = map enum_view m.enum_type.items;
+  extension = map field_view m.extension.items;
+  extension_range = map extension_range_view m.extension_range.items;
+  reserved_range = map reserved_range_view m.reserved_range.items;
+  reserved_name = map string_bytes m.reserved_name.items;
+  options = option_map message_options_view m.options;
+}
+
+abbrev pub message_step : DescriptorProto-F MessageDescriptor → MessageDescriptor
+message_step m = a_message (parts_of m) (messages_of_list m.nested_type.items)
+
+abbrev pub message_view : DescriptorProto → MessageDescriptor
+message_view = fold-DescriptorProto MessageDescriptor message_step
+
+abbrev pub message_parts : DescriptorProto → MessageParts
+message_parts m = parts_of (out-DescriptorProto m)
+
+-- a message seen one level deep
+pub message_view_is : (m : DescriptorProto) → message_view m ≡ a_message (message_parts m) (messages_of_list (map message_view (out-DescriptorProto m).nested_type.items))
+message_view_is m = fold_out-DescriptorProto MessageDescriptor message_step m
+
+abbrev pub method_view : MethodDescriptorProto → MethodDescriptor
+method_view m = record {
+  name = string_bytes m.name;
+  input_type = string_bytes m.input_type;
+  output_type = string_bytes m.output_type;
+  client_streaming = m.client_streaming;
+  server_streaming = m.server_streaming;
+  options = option_map method_options_view m.options;
+}
+
+abbrev pub service_view : ServiceDescriptorProto → ServiceDescriptor
+service_view s = record { name = string_bytes s.name; method = map method_view s.method.items; options = option_map service_options_view s.options }
+
+abbrev pub file_view : FileDescriptorProto → FileDescriptor
+file_view f = record {
+  name = option_map string_bytes f.name;
+  «package» = option_map string_bytes f.package;
+  syntax = option_map string_bytes f.syntax;
+  dependency = map string_bytes f.dependency.items;
+  public_dependency = f.public_dependency.items;
+  weak_dependency = f.weak_dependency.items;
+  message_type = map message_view f.message_type.items;
+  enum_type = map enum_view f.enum_type.items;
+  service = map service_view f.service.items;
+  extension = map field_view f.extension.items;
+  options = option_map file_options_view f.options;
+}
+
+pub list_of_is : (ms : List MessageDescriptor) → list_of (messages_of_list ms) ≡ ms
+list_of_is [] = refl
+list_of_is (m ∷ ms) = rw (list_of_is ms) refl

@@ -1,0 +1,93 @@
+-- Tokens: how deep their brackets nest, and what their strings say.
+use Rattle.std.specs.Prelude.{◌≡◌, ◌≤◌, ◌<◌, ◌⊎◌, ℕ, ◌+◌, Bool, false, ◌||◌, ◌==◌, if◌then◌else◌, List, [], ◌∷◌, ◌++◌, length, slice_index, slice_range, slice_get, take, drop, count_by, encode_utf8, Option, Some, None}
+use Rattle.std.specs.Char.{IsScalar}
+use Rattle.std.specs.Str.Parse.{digits_value}
+use Rattle.protobuf_parse_syntax.specs.Text.{Bytes, AllIn, StopsAt}
+use Rattle.protobuf_parse_syntax.specs.declared.lexer.bytes.Class.{Class}
+use Rattle.protobuf_parse_syntax.specs.declared.lexer.bytes.Class.TheVariants as class
+use Rattle.protobuf_parse_syntax.specs.declared.lexer.token.TokenKind.{TokenKind}
+use Rattle.protobuf_parse_syntax.specs.declared.lexer.token.TokenKind.TheVariants as kind
+use Rattle.protobuf_parse_syntax.specs.declared.lexer.token.Place.{Place}
+use Rattle.protobuf_parse_syntax.specs.declared.lexer.token.Token.{Token}
+
+-- a token without where it lies in memory
+pub record Lexeme : Type 0 where
+  pub kind : TokenKind
+  pub text : Bytes
+  pub place : Place
+
+abbrev pub lexeme : Token → Lexeme
+lexeme t = record { kind = t.kind; text = t.text.now; place = t.place }
+
+-- ---- depth
+
+-- `{`, `[` or `<`
+abbrev pub is_opening : TokenKind → Bool
+is_opening (kind.Symbol c) = c == 123 || c == 91 || c == 60
+is_opening _ = false
+
+-- `}`, `]` or `>`
+abbrev pub is_closing : TokenKind → Bool
+is_closing (kind.Symbol c) = c == 125 || c == 93 || c == 62
+is_closing _ = false
+
+abbrev pub opened : List Lexeme → ℕ
+opened ts = count_by (λ t. is_opening t.kind) ts
+
+abbrev pub closed : List Lexeme → ℕ
+closed ts = count_by (λ t. is_closing t.kind) ts
+
+-- behind these tokens over 100 brackets are open
+abbrev pub IsDeep : List Lexeme → Type 0
+IsDeep ts = closed ts + 100 < opened ts
+
+-- The depth of the tokens is the greatest number, over their fronts, of opened less closed brackets.
+-- It is at most 100.
+abbrev pub IsShallow : List Lexeme → Type 0
+IsShallow ts = (n : ℕ) → IsDeep (take n ts) → ⊥
+
+-- The token at this place makes the depth 101: behind it the tokens are deep, and no earlier.
+pub record DeepensAt (ts : List Lexeme) (at : Place) : Type 0 where
+  pub count : ℕ
+  pub token : Lexeme
+  pub stands : slice_get ts count ≡ Some token
+  pub place : at ≡ token.place
+  pub deep : IsDeep (take (count + 1) ts)
+  pub earlier : (n : ℕ) → n ≤ count → IsDeep (take n ts) → ⊥
+
+-- ---- strings
+
+-- what a backslash and this byte stand for: \a \b \f \n \r \t \v \\ \' \" \?
+abbrev pub letter_byte : ℕ → Option ℕ
+letter_byte c =
+    if c == 97 then Some 7 else (if c == 98 then Some 8 else (if c == 102 then Some 12 else (if c == 110 then Some 10 else (if c == 114 then Some 13
+    else (if c == 116 then Some 9 else (if c == 118 then Some 11 else (if c == 92 || c == 39 || c == 34 || c == 63 then Some c else None)))))))
+
+-- digits of the class from `from` up to n, as many as stand there, at most up to `limit`
+pub record IsDigits (c : Class) (z : Bytes) (from limit n : ℕ) : Type 0 where
+  pub some : from < n
+  pub within : n ≤ length z
+  pub short : n ≤ limit
+  pub each : AllIn c z from n
+  pub stops : n < limit → StopsAt c z n
+
+-- The n bytes at the front of z, of which the first is a backslash, are an escape and stand for these
+-- bytes: of a letter; of one to three octal digits, up to 377; of \x and one or two hexadecimal digits;
+-- of \u and four or \U and eight, which name a character.
+pub data IsEscape : Bytes → ℕ → Bytes → Type 0 where
+  letter : {z : Bytes} (b : ℕ) → letter_byte (slice_index z 1) ≡ Some b → IsEscape z 2 (b ∷ [])
+  octal : {z : Bytes} (n : ℕ) → IsDigits class.Octal z 1 4 n → digits_value 8 (slice_range z 1 n) ≤ 255 → IsEscape z n (digits_value 8 (slice_range z 1 n) ∷ [])
+  hex : {z : Bytes} (n : ℕ) → (slice_index z 1 ≡ 120) ⊎ (slice_index z 1 ≡ 88) → IsDigits class.Hex z 2 4 n → IsEscape z n (digits_value 16 (slice_range z 2 n) ∷ [])
+  short : {z : Bytes} → slice_index z 1 ≡ 117 → 6 ≤ length z → AllIn class.Hex z 2 6 → IsScalar (digits_value 16 (slice_range z 2 6)) → IsEscape z 6 (encode_utf8 (digits_value 16 (slice_range z 2 6)))
+  long : {z : Bytes} → slice_index z 1 ≡ 85 → 10 ≤ length z → AllIn class.Hex z 2 10 → IsScalar (digits_value 16 (slice_range z 2 10)) → IsEscape z 10 (encode_utf8 (digits_value 16 (slice_range z 2 10)))
+
+-- the text between a string's quotes stands for these bytes
+pub data Decodes : Bytes → Bytes → Type 0 where
+  done : Decodes [] []
+  plain : {z v : Bytes} (b : ℕ) → (b ≡ 92 → ⊥) → Decodes z v → Decodes (b ∷ z) (b ∷ v)
+  escape : {z v : Bytes} (n : ℕ) (w : Bytes) → slice_index z 0 ≡ 92 → IsEscape z n w → Decodes (drop n z) v → Decodes z (w ++ v)
+
+-- several pieces, one after the other
+pub data DecodesAll : List Bytes → Bytes → Type 0 where
+  none : DecodesAll [] []
+  piece : {zs : List Bytes} {v : Bytes} (z w : Bytes) → Decodes z w → DecodesAll zs v → DecodesAll (z ∷ zs) (w ++ v)

@@ -1,0 +1,25 @@
+//! Laws of the definitions that the lexer's contracts cite. The functions do nothing.
+
+ghost use Rattle.protobuf_parse_syntax.specs.Laws.{IsOneCut, IsOneFault, IsOneDecoding, PlacesCountCharacters, TokensStandInTheText, EscapedBytesDecode};
+
+/// A text is cut in one way, and one fault ends it.
+pub fn cuts_are_unique()
+    ensures cut { IsOneCut }
+    ensures fault { IsOneFault }
+{}
+
+/// The pieces of a string stand for one list of bytes.
+pub fn decoding_is_unique()
+    ensures { IsOneDecoding }
+{}
+
+/// A place counts line feeds and the characters after the last one, and a token has that of what stands before it.
+pub fn places_count_characters()
+    ensures count { PlacesCountCharacters }
+    ensures stand { TokensStandInTheText }
+{}
+
+/// Escaped bytes in double quotes are a string token, which stands for just those bytes.
+pub fn escaped_bytes_decode()
+    ensures { EscapedBytesDecode }
+{}
