@@ -5,9 +5,19 @@ mod front;
 mod run;
 
 pub use front::{listing, program};
+pub use protobuf_parse_base::names::{
+    Components, ProtobufAbsPath, ProtobufAbsPathRef, ProtobufIdent, ProtobufIdentRef,
+    ProtobufRelPath, ProtobufRelPathRef,
+};
+pub use protobuf_parse_base::proto_path::{PathError, ProtoPath, ProtoPathBuf};
+pub use protobuf_parse_base::text::{camel_case, snake_case};
 pub use protobuf_parse_model::{
-    DescriptorProto, ElabError, ElabErrorKind, FieldDescriptorProto, FieldType,
-    FileDescriptorProto, Label,
+    CType, DescriptorProto, ElabError, ElabErrorKind, EnumDescriptorProto, EnumOptions,
+    EnumReservedRange, EnumValueDescriptorProto, EnumValueOptions, ExtensionRange,
+    FieldDescriptorProto, FieldOptions, FieldType, FileDescriptorProto, FileDescriptorSet,
+    FileOptions, IdempotencyLevel, JSType, Label, MessageOptions, MethodDescriptorProto,
+    MethodOptions, OneofDescriptorProto, OneofOptions, OptimizeMode, ReservedRange,
+    ServiceDescriptorProto, ServiceOptions,
 };
 pub use protobuf_parse_syntax::{ParserError, ParserErrorWithLocation};
 pub use run::{ReadInputFault, RunFault, describe_file};

@@ -5,4 +5,6 @@
 #[cfg(test)]
 mod describe;
 #[cfg(test)]
+mod listed;
+#[cfg(test)]
 mod program;

@@ -1,0 +1,260 @@
+//! The listing of descriptors made by hand: each construct once, with what may stand below it.
+
+use protobuf_parse::{
+    CType, DescriptorProto, EnumDescriptorProto, EnumOptions, EnumReservedRange,
+    EnumValueDescriptorProto, EnumValueOptions, ExtensionRange, FieldDescriptorProto, FieldOptions,
+    FieldType, FileDescriptorProto, FileOptions, IdempotencyLevel, JSType, Label, MessageOptions,
+    MethodDescriptorProto, MethodOptions, OneofDescriptorProto, OneofOptions, OptimizeMode,
+    ReservedRange, ServiceDescriptorProto, ServiceOptions, listing,
+};
+use std::alloc::{AllocError, Global};
+use std::test::Fail;
+
+fn text(alloc: Global, words: &str) -> Result<String, AllocError> {
+    String::from_str(alloc, words)
+}
+
+fn no_file(alloc: Global) -> FileDescriptorProto {
+    FileDescriptorProto {
+        name: None,
+        package: None,
+        syntax: None,
+        dependency: Vec::new(alloc),
+        public_dependency: Vec::new(alloc),
+        weak_dependency: Vec::new(alloc),
+        message_type: Vec::new(alloc),
+        enum_type: Vec::new(alloc),
+        service: Vec::new(alloc),
+        extension: Vec::new(alloc),
+        options: None,
+    }
+}
+
+fn no_message(alloc: Global, name: &str) -> Result<DescriptorProto, AllocError> {
+    Ok(DescriptorProto {
+        name: text(alloc, name)?,
+        field: Vec::new(alloc),
+        oneof_decl: Vec::new(alloc),
+        nested_type: Vec::new(alloc),
+        enum_type: Vec::new(alloc),
+        extension: Vec::new(alloc),
+        extension_range: Vec::new(alloc),
+        reserved_range: Vec::new(alloc),
+        reserved_name: Vec::new(alloc),
+        options: None,
+    })
+}
+
+fn plain_field(alloc: Global, name: &str) -> Result<FieldDescriptorProto, AllocError> {
+    Ok(FieldDescriptorProto {
+        name: text(alloc, name)?,
+        number: 1,
+        label: Label::Optional,
+        type_: FieldType::Bool,
+        type_name: None,
+        extendee: None,
+        default_value: None,
+        oneof_index: None,
+        json_name: text(alloc, name)?,
+        proto3_optional: false,
+        options: None,
+    })
+}
+
+fn full_field(alloc: Global) -> Result<FieldDescriptorProto, AllocError> {
+    let mut field = plain_field(alloc, "f")?;
+    field.number = 2147483647;
+    field.label = Label::Required;
+    field.type_ = FieldType::Group;
+    field.type_name = Some(text(alloc, ".M.F")?);
+    field.extendee = Some(text(alloc, ".Q")?);
+    field.default_value = Some(text(alloc, "a\"\u{e9}")?);
+    field.oneof_index = Some(0);
+    field.proto3_optional = true;
+    field.options = Some(FieldOptions {
+        ctype: Some(CType::StringPiece),
+        packed: Some(true),
+        deprecated: None,
+        lazy: None,
+        jstype: Some(JSType::JsNumber),
+        weak: None,
+        unverified_lazy: None,
+        debug_redact: Some(false),
+        custom: vec![in alloc; 0x0a, 0xff]?,
+    });
+    Ok(field)
+}
+
+fn full_enum(alloc: Global) -> Result<EnumDescriptorProto, AllocError> {
+    let value = EnumValueDescriptorProto {
+        name: text(alloc, "V")?,
+        number: -1,
+        options: Some(EnumValueOptions {
+            deprecated: Some(true),
+            custom: Vec::new(alloc),
+        }),
+    };
+    Ok(EnumDescriptorProto {
+        name: text(alloc, "E")?,
+        value: vec![in alloc; value]?,
+        reserved_range: vec![in alloc; EnumReservedRange { start: -4, end: 4 }]?,
+        reserved_name: vec![in alloc; text(alloc, "x")?]?,
+        options: Some(EnumOptions {
+            allow_alias: Some(true),
+            deprecated: Some(false),
+            custom: Vec::new(alloc),
+        }),
+    })
+}
+
+fn full_message(alloc: Global) -> Result<DescriptorProto, AllocError> {
+    let mut message = no_message(alloc, "M")?;
+    message.field.push(full_field(alloc)?)?;
+    message.oneof_decl.push(OneofDescriptorProto {
+        name: text(alloc, "o")?,
+        options: Some(OneofOptions {
+            custom: vec![in alloc; 1]?,
+        }),
+    })?;
+    message.nested_type.push(no_message(alloc, "N")?)?;
+    message.enum_type.push(full_enum(alloc)?)?;
+    message.extension.push(plain_field(alloc, "y")?)?;
+    message.extension_range.push(ExtensionRange { start: 100, end: 536870912 })?;
+    message.reserved_range.push(ReservedRange { start: 4, end: 5 })?;
+    message.reserved_name.push(text(alloc, "foo")?)?;
+    message.options = Some(MessageOptions {
+        message_set_wire_format: None,
+        no_standard_descriptor_accessor: None,
+        deprecated: None,
+        map_entry: Some(true),
+        custom: Vec::new(alloc),
+    });
+    Ok(message)
+}
+
+fn full_service(alloc: Global) -> Result<ServiceDescriptorProto, AllocError> {
+    let method = MethodDescriptorProto {
+        name: text(alloc, "G")?,
+        input_type: text(alloc, ".A")?,
+        output_type: text(alloc, ".B")?,
+        client_streaming: true,
+        server_streaming: true,
+        options: Some(MethodOptions {
+            deprecated: None,
+            idempotency_level: Some(IdempotencyLevel::NoSideEffects),
+            custom: Vec::new(alloc),
+        }),
+    };
+    Ok(ServiceDescriptorProto {
+        name: text(alloc, "S")?,
+        method: vec![in alloc; method]?,
+        options: Some(ServiceOptions {
+            deprecated: Some(true),
+            custom: Vec::new(alloc),
+        }),
+    })
+}
+
+fn file_options(alloc: Global) -> Result<FileOptions, AllocError> {
+    Ok(FileOptions {
+        java_package: Some(text(alloc, "a.b")?),
+        java_outer_classname: None,
+        optimize_for: Some(OptimizeMode::LiteRuntime),
+        java_multiple_files: Some(true),
+        go_package: None,
+        cc_generic_services: None,
+        java_generic_services: None,
+        py_generic_services: None,
+        java_generate_equals_and_hash: None,
+        deprecated: Some(false),
+        java_string_check_utf8: None,
+        cc_enable_arenas: None,
+        objc_class_prefix: None,
+        csharp_namespace: None,
+        swift_prefix: None,
+        php_class_prefix: None,
+        php_namespace: None,
+        php_metadata_namespace: None,
+        ruby_package: Some(text(alloc, "r")?),
+        custom: vec![in alloc; 0x88, 0xb5, 0x18, 0x01]?,
+    })
+}
+
+const FULL: &str = "file f.proto
+  syntax proto2
+  package p.q
+  import a.proto
+  import public b.proto
+  import weak c.proto
+  import public d.proto
+  option java_package = \"a.b\"
+  option optimize_for = LITE_RUNTIME
+  option java_multiple_files = true
+  option deprecated = false
+  option ruby_package = \"r\"
+  custom 88b51801
+  message M
+    option map_entry = true
+    field required group .M.F f = 2147483647 json \"f\" default \"a\\\"\\303\\251\" oneof 0 proto3_optional
+      option ctype = STRING_PIECE
+      option packed = true
+      option jstype = JS_NUMBER
+      option debug_redact = false
+      custom 0aff
+    oneof o
+      custom 01
+    message N
+    enum E
+      option allow_alias = true
+      option deprecated = false
+      value V = -1
+        option deprecated = true
+      reserved_range -4 4
+      reserved_name \"x\"
+    extension  optional bool y = 1 json \"y\"
+    extension_range 100 536870912
+    reserved_range 4 5
+    reserved_name \"foo\"
+  enum E
+    option allow_alias = true
+    option deprecated = false
+    value V = -1
+      option deprecated = true
+    reserved_range -4 4
+    reserved_name \"x\"
+  service S
+    option deprecated = true
+    method G .A .B client_streaming server_streaming
+      option idempotency_level = NO_SIDE_EFFECTS
+  extension .Q required group .M.F f = 2147483647 json \"f\" default \"a\\\"\\303\\251\" oneof 0 proto3_optional
+    option ctype = STRING_PIECE
+    option packed = true
+    option jstype = JS_NUMBER
+    option debug_redact = false
+    custom 0aff
+file 
+  syntax 
+";
+
+#[test]
+fn lists_each_construct(rt: HostRuntime) -> Result<(), Fail> {
+    let alloc = rt.alloc();
+    let mut file = no_file(alloc);
+    file.name = Some(text(alloc, "f.proto")?);
+    file.syntax = Some(text(alloc, "proto2")?);
+    file.package = Some(text(alloc, "p.q")?);
+    for path in ["a.proto", "b.proto", "c.proto", "d.proto"] {
+        file.dependency.push(text(alloc, path)?)?;
+    }
+    // The fourth is both, and positions that no import has are passed over.
+    file.public_dependency = vec![in alloc; 3, 1, -1, 9]?;
+    file.weak_dependency = vec![in alloc; 2, 3]?;
+    file.options = Some(file_options(alloc)?);
+    file.message_type.push(full_message(alloc)?)?;
+    file.enum_type.push(full_enum(alloc)?)?;
+    file.service.push(full_service(alloc)?)?;
+    file.extension.push(full_field(alloc)?)?;
+    let listed = listing(alloc, &[file, no_file(alloc)])?;
+    assert_eq!(rt; listed.as_str(), FULL);
+    Ok(())
+}
