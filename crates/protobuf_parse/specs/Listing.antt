@@ -114,55 +114,55 @@ setting_lines level settings = flat_map (setting_line level) settings
 abbrev pub first_file_settings : FileOptionsSet → List Setting
 first_file_settings o =
     text_setting (codes "java_package") o.java_package
-  ∷ text_setting (codes "java_outer_classname") o.java_outer_classname
-  ∷ optimize_for_setting o.optimize_for
-  ∷ truth_setting (codes "java_multiple_files") o.java_multiple_files
-  ∷ text_setting (codes "go_package") o.go_package
-  ∷ []
+    ∷ text_setting (codes "java_outer_classname") o.java_outer_classname
+    ∷ optimize_for_setting o.optimize_for
+    ∷ truth_setting (codes "java_multiple_files") o.java_multiple_files
+    ∷ text_setting (codes "go_package") o.go_package
+    ∷ []
 
 -- numbers 16 to 31
 abbrev pub middle_file_settings : FileOptionsSet → List Setting
 middle_file_settings o =
     truth_setting (codes "cc_generic_services") o.cc_generic_services
-  ∷ truth_setting (codes "java_generic_services") o.java_generic_services
-  ∷ truth_setting (codes "py_generic_services") o.py_generic_services
-  ∷ truth_setting (codes "java_generate_equals_and_hash") o.java_generate_equals_and_hash
-  ∷ truth_setting (codes "deprecated") o.deprecated
-  ∷ truth_setting (codes "java_string_check_utf8") o.java_string_check_utf8
-  ∷ truth_setting (codes "cc_enable_arenas") o.cc_enable_arenas
-  ∷ []
+    ∷ truth_setting (codes "java_generic_services") o.java_generic_services
+    ∷ truth_setting (codes "py_generic_services") o.py_generic_services
+    ∷ truth_setting (codes "java_generate_equals_and_hash") o.java_generate_equals_and_hash
+    ∷ truth_setting (codes "deprecated") o.deprecated
+    ∷ truth_setting (codes "java_string_check_utf8") o.java_string_check_utf8
+    ∷ truth_setting (codes "cc_enable_arenas") o.cc_enable_arenas
+    ∷ []
 
 -- numbers 36 to 45
 abbrev pub last_file_settings : FileOptionsSet → List Setting
 last_file_settings o =
     text_setting (codes "objc_class_prefix") o.objc_class_prefix
-  ∷ text_setting (codes "csharp_namespace") o.csharp_namespace
-  ∷ text_setting (codes "swift_prefix") o.swift_prefix
-  ∷ text_setting (codes "php_class_prefix") o.php_class_prefix
-  ∷ text_setting (codes "php_namespace") o.php_namespace
-  ∷ text_setting (codes "php_metadata_namespace") o.php_metadata_namespace
-  ∷ text_setting (codes "ruby_package") o.ruby_package
-  ∷ []
+    ∷ text_setting (codes "csharp_namespace") o.csharp_namespace
+    ∷ text_setting (codes "swift_prefix") o.swift_prefix
+    ∷ text_setting (codes "php_class_prefix") o.php_class_prefix
+    ∷ text_setting (codes "php_namespace") o.php_namespace
+    ∷ text_setting (codes "php_metadata_namespace") o.php_metadata_namespace
+    ∷ text_setting (codes "ruby_package") o.ruby_package
+    ∷ []
 
 abbrev pub message_settings : MessageOptionsSet → List Setting
 message_settings o =
     truth_setting (codes "message_set_wire_format") o.message_set_wire_format
-  ∷ truth_setting (codes "no_standard_descriptor_accessor") o.no_standard_descriptor_accessor
-  ∷ truth_setting (codes "deprecated") o.deprecated
-  ∷ truth_setting (codes "map_entry") o.map_entry
-  ∷ []
+    ∷ truth_setting (codes "no_standard_descriptor_accessor") o.no_standard_descriptor_accessor
+    ∷ truth_setting (codes "deprecated") o.deprecated
+    ∷ truth_setting (codes "map_entry") o.map_entry
+    ∷ []
 
 abbrev pub field_settings : FieldOptionsSet → List Setting
 field_settings o =
     ctype_setting o.ctype
-  ∷ truth_setting (codes "packed") o.packed
-  ∷ truth_setting (codes "deprecated") o.deprecated
-  ∷ truth_setting (codes "lazy") o.lazy
-  ∷ jstype_setting o.jstype
-  ∷ truth_setting (codes "weak") o.weak
-  ∷ truth_setting (codes "unverified_lazy") o.unverified_lazy
-  ∷ truth_setting (codes "debug_redact") o.debug_redact
-  ∷ []
+    ∷ truth_setting (codes "packed") o.packed
+    ∷ truth_setting (codes "deprecated") o.deprecated
+    ∷ truth_setting (codes "lazy") o.lazy
+    ∷ jstype_setting o.jstype
+    ∷ truth_setting (codes "weak") o.weak
+    ∷ truth_setting (codes "unverified_lazy") o.unverified_lazy
+    ∷ truth_setting (codes "debug_redact") o.debug_redact
+    ∷ []
 
 abbrev pub enum_settings : EnumOptionsSet → List Setting
 enum_settings o = truth_setting (codes "allow_alias") o.allow_alias ∷ truth_setting (codes "deprecated") o.deprecated ∷ []

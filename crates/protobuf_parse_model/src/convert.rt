@@ -7,7 +7,9 @@ ghost use Rattle.protobuf_parse_model.specs.Descriptors as described;
 ghost use Rattle.protobuf_parse_model.specs.Elaboration.{duplicates, field_names, field_of, fields_of, file_faults, file_of, message_faults, message_names, message_of, messages_of, statement_faults, syntax_text};
 ghost use Rattle.protobuf_parse_model.specs.Faults.{Elaborates};
 
-use crate::descriptor::{DescriptorProto, FieldDescriptorProto, FieldType, FileDescriptorProto, Label};
+use crate::descriptor::{
+    DescriptorProto, FieldDescriptorProto, FieldType, FileDescriptorProto, Label,
+};
 use crate::error::{ElabError, ElabErrorKind, ElabFailure};
 use protobuf_parse_base::text::json_name;
 use protobuf_parse_syntax::{
@@ -138,10 +140,7 @@ fn descriptor(alloc: Global, message: &Message) -> Result<DescriptorProto, ElabF
 }
 
 /// The descriptors of the fields of a message, in source order.
-fn fields(
-    alloc: Global,
-    body: &[MessageStatement],
-) -> Result<Vec<FieldDescriptorProto>, AllocError>
+fn fields(alloc: Global, body: &[MessageStatement]) -> Result<Vec<FieldDescriptorProto>, AllocError>
     ensures { IfOk result (λ v. map described.field_view v.items ≡ flat_map fields_of (map body_view body.now)) }
 {
     let mut descriptors = Vec::new(alloc);

@@ -10,7 +10,6 @@ pub use options::{
     MessageOptions, MethodOptions, OneofOptions, OptimizeMode, ServiceOptions,
 };
 pub use protobuf_parse_syntax::Label;
-
 use protobuf_parse_syntax::Scalar;
 
 /// Files.

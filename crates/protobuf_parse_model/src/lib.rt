@@ -9,8 +9,8 @@ pub use convert::elaborate;
 pub use descriptor::{
     CType, DescriptorProto, EnumDescriptorProto, EnumOptions, EnumReservedRange,
     EnumValueDescriptorProto, EnumValueOptions, ExtensionRange, FieldDescriptorProto, FieldOptions,
-    FieldType, FileDescriptorProto, FileDescriptorSet, FileOptions, IdempotencyLevel, JSType, Label,
-    MessageOptions, MethodDescriptorProto, MethodOptions, OneofDescriptorProto, OneofOptions,
-    OptimizeMode, ReservedRange, ServiceDescriptorProto, ServiceOptions,
+    FieldType, FileDescriptorProto, FileDescriptorSet, FileOptions, IdempotencyLevel, JSType,
+    Label, MessageOptions, MethodDescriptorProto, MethodOptions, OneofDescriptorProto,
+    OneofOptions, OptimizeMode, ReservedRange, ServiceDescriptorProto, ServiceOptions,
 };
 pub use error::{ElabError, ElabErrorKind, ElabFailure};

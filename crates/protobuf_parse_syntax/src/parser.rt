@@ -32,8 +32,7 @@ fn file(alloc: Global, tokens: &mut Cursor<'_, '_>) -> Result<FileTree, ParserEr
 }
 
 /// `syntax = "syntax" "=" str ";"`, or proto2 where it is absent.
-fn syntax(alloc: Global, tokens: &mut Cursor<'_, '_>) -> Result<Syntax, ParserErrorWithLocation>
-{
+fn syntax(alloc: Global, tokens: &mut Cursor<'_, '_>) -> Result<Syntax, ParserErrorWithLocation> {
     if !tokens.sees_word("syntax") {
         return Ok(Syntax::Proto2);
     }

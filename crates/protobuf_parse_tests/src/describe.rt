@@ -16,9 +16,15 @@ fn told(alloc: Global, content: &[u8]) -> Result<String, AllocError> {
 fn lists_files(rt: HostRuntime) -> Result<(), Fail> {
     for (text, want) in [
         ("", "file f.proto\n  syntax proto2\n"),
-        (";; syntax = 1;", "error in `f.proto`: at 1:4: S8 IncorrectInput"),
+        (
+            ";; syntax = 1;",
+            "error in `f.proto`: at 1:4: S8 IncorrectInput",
+        ),
         ("syntax = 'proto2';", "file f.proto\n  syntax proto2\n"),
-        ("\u{feff}syntax = \"pro\" 'to3';;", "file f.proto\n  syntax proto3\n"),
+        (
+            "\u{feff}syntax = \"pro\" 'to3';;",
+            "file f.proto\n  syntax proto3\n",
+        ),
         (
             "syntax = \"proto3\"; message Foo { int32 a = 1; }",
             "file f.proto\n  syntax proto3\n  message Foo\n    field optional int32 a = 1 json \"a\"\n",
@@ -64,7 +70,10 @@ fn has_a_type_for_each_scalar_word(rt: HostRuntime) -> Result<(), Fail> {
         assert_eq!(rt; field[0].type_, type_, "{word}");
         assert_eq!(rt; field[0].label, Label::Repeated);
         assert_eq!(rt; field[0].number, 7);
-        assert!(rt; listing(rt.alloc(), &[file])?.contains(want.as_str()), "{word}");
+        assert!(rt;
+            listing(rt.alloc(), &[file])?.contains(want.as_str()),
+            "{word}"
+        );
     }
     Ok(())
 }
@@ -76,25 +85,58 @@ fn tells_faults_with_their_places(rt: HostRuntime) -> Result<(), Fail> {
         ("message A { int32 x = 0x; }", "1:23: S4 BadNumber"),
         ("message A {} /* open", "1:14: S2 UnterminatedComment"),
         ("syntax = 'proto3;\n';", "1:10: S3 UnterminatedString"),
-        ("syntax = \"\u{e9}\"; \u{e9}", "1:15: S1 UnexpectedCharacter"),
-        ("message A { optional int32 x = 18446744073709551616; }", "1:32: S5 IntegerOverflow"),
+        (
+            "syntax = \"\u{e9}\"; \u{e9}",
+            "1:15: S1 UnexpectedCharacter",
+        ),
+        (
+            "message A { optional int32 x = 18446744073709551616; }",
+            "1:32: S5 IntegerOverflow",
+        ),
         // The grammar.
-        ("\n            message Foo {}\n\n            dfgdg", "4:13: S8 IncorrectInput"),
+        (
+            "\n            message Foo {}\n\n            dfgdg",
+            "4:13: S8 IncorrectInput",
+        ),
         ("message Foo {", "1:14: S8 IncorrectInput"),
         ("message A { int32 x = 1; }", "1:13: S12 LabelRequired"),
         ("\u{feff}\tdfgdg", "1:2: S8 IncorrectInput"),
         ("syntax = 'proto4';", "1:10: S10 UnknownSyntax"),
         ("syntax = '\\400';", "1:10: S15 StrLitDecode"),
         ("message A {} syntax = 'proto3';", "1:14: S8 IncorrectInput"),
-        ("syntax = 'proto3'; message A { optional int32 x = 1; }", "1:32: S11 LabelNotAllowed"),
-        ("syntax = 'proto3'; message A { required int32 x = 1; }", "1:32: S11 LabelNotAllowed"),
-        ("message A { optional int32 x = 2147483648; }", "1:32: S5 IntegerOverflow"),
-        ("message A { optional int32 x = -1; }", "1:32: S8 IncorrectInput"),
-        ("message A { optional Foo x = 1; }", "1:22: S8 IncorrectInput"),
+        (
+            "syntax = 'proto3'; message A { optional int32 x = 1; }",
+            "1:32: S11 LabelNotAllowed",
+        ),
+        (
+            "syntax = 'proto3'; message A { required int32 x = 1; }",
+            "1:32: S11 LabelNotAllowed",
+        ),
+        (
+            "message A { optional int32 x = 2147483648; }",
+            "1:32: S5 IntegerOverflow",
+        ),
+        (
+            "message A { optional int32 x = -1; }",
+            "1:32: S8 IncorrectInput",
+        ),
+        (
+            "message A { optional Foo x = 1; }",
+            "1:22: S8 IncorrectInput",
+        ),
         ("message A { option foo = 1; }", "1:13: S8 IncorrectInput"),
-        ("syntax = 'proto3'; message A { option foo = 1; }", "1:32: S8 IncorrectInput"),
-        ("message A { optional int32 x = 1.5; }", "1:32: S8 IncorrectInput"),
-        ("message A { optional int32 x = 1 }", "1:34: S8 IncorrectInput"),
+        (
+            "syntax = 'proto3'; message A { option foo = 1; }",
+            "1:32: S8 IncorrectInput",
+        ),
+        (
+            "message A { optional int32 x = 1.5; }",
+            "1:32: S8 IncorrectInput",
+        ),
+        (
+            "message A { optional int32 x = 1 }",
+            "1:34: S8 IncorrectInput",
+        ),
     ] {
         let want = format!(in rt.alloc(); "error in `f.proto`: at {want}")?;
         assert_eq!(rt; told(rt.alloc(), text.as_bytes())?, want, "{text}");
@@ -122,7 +164,10 @@ fn tells_the_depth_before_the_grammar(rt: HostRuntime) -> Result<(), Fail> {
 #[test]
 fn refuses_equal_names_and_bytes_that_are_no_text(rt: HostRuntime) -> Result<(), Fail> {
     let contents: [(&[u8], &str); 5] = [
-        (b"message A {} message B {} message A {}", "error in `f.proto`: E1 DuplicateName: A"),
+        (
+            b"message A {} message B {} message A {}",
+            "error in `f.proto`: E1 DuplicateName: A",
+        ),
         (
             b"message A { optional int32 x = 1; repeated bool x = 2; }",
             "error in `f.proto`: E1 DuplicateName: x",
@@ -134,7 +179,10 @@ fn refuses_equal_names_and_bytes_that_are_no_text(rt: HostRuntime) -> Result<(),
              field optional int32 A = 1 json \"A\"\n",
         ),
         (b"\xff", "file `f.proto` content is not UTF-8"),
-        (b"message A {} // \xc3", "file `f.proto` content is not UTF-8"),
+        (
+            b"message A {} // \xc3",
+            "file `f.proto` content is not UTF-8",
+        ),
     ];
     for (content, want) in contents {
         assert_eq!(rt; told(rt.alloc(), content)?.as_str(), want);

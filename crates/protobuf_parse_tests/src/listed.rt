@@ -119,8 +119,13 @@ fn full_message(alloc: Global) -> Result<DescriptorProto, AllocError> {
     message.nested_type.push(no_message(alloc, "N")?)?;
     message.enum_type.push(full_enum(alloc)?)?;
     message.extension.push(plain_field(alloc, "y")?)?;
-    message.extension_range.push(ExtensionRange { start: 100, end: 536870912 })?;
-    message.reserved_range.push(ReservedRange { start: 4, end: 5 })?;
+    message.extension_range.push(ExtensionRange {
+        start: 100,
+        end: 536870912,
+    })?;
+    message
+        .reserved_range
+        .push(ReservedRange { start: 4, end: 5 })?;
     message.reserved_name.push(text(alloc, "foo")?)?;
     message.options = Some(MessageOptions {
         message_set_wire_format: None,

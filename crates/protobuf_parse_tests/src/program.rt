@@ -2,14 +2,11 @@
 
 use protobuf_parse::program;
 use std::alloc::{AllocError, Global};
-use std::env;
-use std::fs;
-use std::io;
 use std::io::{ErrorKind, Write};
-use std::process;
 use std::process::Abort;
 use std::rt::Files;
 use std::test::Fail;
+use std::{env, fs, io, process};
 
 /// What a run of the program wrote, and its status.
 #[derive(Drop)]
@@ -59,7 +56,11 @@ fn expect_failure<R: Abort>(rt: &R, outcome: &Outcome, line: &str) {
 #[test]
 fn lists_a_file(rt: HostRuntime) -> Result<(), Fail> {
     let path = own_path(&rt, "good.proto")?;
-    let outcome = run_on(&rt, &path, b"syntax = \"proto3\"; message Foo { int32 a = 1; }")?;
+    let outcome = run_on(
+        &rt,
+        &path,
+        b"syntax = \"proto3\"; message Foo { int32 a = 1; }",
+    )?;
     let message = "message Foo\n    field optional int32 a = 1 json \"a\"";
     let want = format!(in rt.alloc(); "file {path}\n  syntax proto3\n  {message}\n")?;
     assert_eq!(rt; outcome.status, 0);

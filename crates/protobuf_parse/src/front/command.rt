@@ -3,10 +3,9 @@
 use crate::front::lines::listing;
 use crate::run::{ReadInputFault, RunFault, describe_file};
 use std::alloc::{AllocError, Global};
-use std::fs;
-use std::io;
 use std::io::{ErrorKind, Write};
 use std::rt::Files;
+use std::{fs, io};
 use thiserror::Error;
 
 /// Why the program ends with status 1.

@@ -46,7 +46,13 @@ fn put_file_front(
     put_optional_line(text, 0, "file ", &file.name)?;
     put_optional_line(text, 1, "syntax ", &file.syntax)?;
     put_line_if_some(text, 1, "package ", &file.package)?;
-    put_imports(alloc, text, &file.dependency, &file.public_dependency, &file.weak_dependency)
+    put_imports(
+        alloc,
+        text,
+        &file.dependency,
+        &file.public_dependency,
+        &file.weak_dependency,
+    )
 }
 
 fn put_imports(
@@ -220,7 +226,14 @@ fn put_extension_range(
 ) -> Result<(), AllocError>
     ensures { OnOk result (string_bytes text.new ≡ string_bytes text.old ++ spec.range_line level (codes "extension_range ") (extension_range_view range.now)) }
 {
-    put_range_line(alloc, text, level, "extension_range ", &range.start, &range.end)
+    put_range_line(
+        alloc,
+        text,
+        level,
+        "extension_range ",
+        &range.start,
+        &range.end,
+    )
 }
 
 fn put_reserved_ranges(
@@ -245,7 +258,14 @@ fn put_reserved_range(
 ) -> Result<(), AllocError>
     ensures { OnOk result (string_bytes text.new ≡ string_bytes text.old ++ spec.range_line level (codes "reserved_range ") (reserved_range_view range.now)) }
 {
-    put_range_line(alloc, text, level, "reserved_range ", &range.start, &range.end)
+    put_range_line(
+        alloc,
+        text,
+        level,
+        "reserved_range ",
+        &range.start,
+        &range.end,
+    )
 }
 
 fn put_oneofs(
@@ -354,7 +374,14 @@ fn put_enum_range(
 ) -> Result<(), AllocError>
     ensures { OnOk result (string_bytes text.new ≡ string_bytes text.old ++ spec.range_line level (codes "reserved_range ") (enum_range_view range.now)) }
 {
-    put_range_line(alloc, text, level, "reserved_range ", &range.start, &range.end)
+    put_range_line(
+        alloc,
+        text,
+        level,
+        "reserved_range ",
+        &range.start,
+        &range.end,
+    )
 }
 
 fn put_services(

@@ -134,11 +134,7 @@ fn put_field_back(
     put_words_if(text, field.proto3_optional, " proto3_optional")
 }
 
-fn put_default(
-    alloc: Global,
-    text: &mut String,
-    value: &Option<String>,
-) -> Result<(), AllocError>
+fn put_default(alloc: Global, text: &mut String, value: &Option<String>) -> Result<(), AllocError>
     ensures { OnOk result (string_bytes text.new ≡ string_bytes text.old ++ spec.default_words (option_map string_bytes value.now)) }
 {
     match value {
@@ -168,7 +164,10 @@ pub fn put_words_if(text: &mut String, is_so: bool, words: &str) -> Result<(), A
 fn is_named(type_: FieldType) -> bool
     ensures { result ≡ spec.is_named type_ }
 {
-    matches!(type_, FieldType::Message | FieldType::Enum | FieldType::Group)
+    matches!(
+        type_,
+        FieldType::Message | FieldType::Enum | FieldType::Group
+    )
 }
 
 fn label_word(label: Label) -> &'static str

@@ -129,7 +129,10 @@ fn middle_file_settings(options: &FileOptions) -> [Setting<'static>; 7]
         truth_setting("cc_generic_services", options.cc_generic_services),
         truth_setting("java_generic_services", options.java_generic_services),
         truth_setting("py_generic_services", options.py_generic_services),
-        truth_setting("java_generate_equals_and_hash", options.java_generate_equals_and_hash),
+        truth_setting(
+            "java_generate_equals_and_hash",
+            options.java_generate_equals_and_hash,
+        ),
         truth_setting("deprecated", options.deprecated),
         truth_setting("java_string_check_utf8", options.java_string_check_utf8),
         truth_setting("cc_enable_arenas", options.cc_enable_arenas),
@@ -156,7 +159,10 @@ fn message_settings(options: &MessageOptions) -> [Setting<'static>; 4]
 {
     [
         truth_setting("message_set_wire_format", options.message_set_wire_format),
-        truth_setting("no_standard_descriptor_accessor", options.no_standard_descriptor_accessor),
+        truth_setting(
+            "no_standard_descriptor_accessor",
+            options.no_standard_descriptor_accessor,
+        ),
         truth_setting("deprecated", options.deprecated),
         truth_setting("map_entry", options.map_entry),
     ]
@@ -327,9 +333,7 @@ pub fn put_oneof_options(
 {
     match options {
         None => Ok(()),
-        Some(options) => {
-            put_custom(alloc, text, level, &options.custom)
-        }
+        Some(options) => { put_custom(alloc, text, level, &options.custom) }
     }
 }
 
@@ -365,7 +369,12 @@ pub fn put_enum_value_options(
     match options {
         None => Ok(()),
         Some(options) => {
-            put_setting(alloc, text, level, &truth_setting("deprecated", options.deprecated))?;
+            put_setting(
+                alloc,
+                text,
+                level,
+                &truth_setting("deprecated", options.deprecated),
+            )?;
             put_custom(alloc, text, level, &options.custom)
         }
     }
@@ -384,7 +393,12 @@ pub fn put_service_options(
     match options {
         None => Ok(()),
         Some(options) => {
-            put_setting(alloc, text, level, &truth_setting("deprecated", options.deprecated))?;
+            put_setting(
+                alloc,
+                text,
+                level,
+                &truth_setting("deprecated", options.deprecated),
+            )?;
             put_custom(alloc, text, level, &options.custom)
         }
     }

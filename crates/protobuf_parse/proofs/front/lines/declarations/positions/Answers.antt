@@ -31,7 +31,7 @@ loop-position-preserved c = λ i.
     let before = is_position i (take k c.args.listed.now) in
     let more = sym (is_position-more i c.args.listed.now k c.loop-position-test.true) in
     elim c.match-position_of.branch [
-      in-Some+in_ok-insert-in-Some w ↦
+      | in-Some+in_ok-insert-in-Some w ↦
           rw w.positions-is (w.in_ok-insert-in-Some.ensures.updates.0 i ∙ or_is (w.in-Some.position == i) (contains nat_eq c.loop-position.positions i) ∙ ap (λ b. (w.in-Some.position == i) || b) (c.loop-position.invariant i) ∙ ap (λ o. is_at i o || before) w.in-Some.ensures ∙ more)
-    | in-None w ↦ rw w.positions-is (c.loop-position.invariant i ∙ ap (λ o. is_at i o || before) w.in-None.ensures ∙ more)
+      | in-None w ↦ rw w.positions-is (c.loop-position.invariant i ∙ ap (λ o. is_at i o || before) w.in-None.ensures ∙ more)
     ]
