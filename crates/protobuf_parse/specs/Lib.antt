@@ -1,3 +1,4 @@
 pub mod Listing
 pub mod Settings
 pub mod Parts
+pub mod Description

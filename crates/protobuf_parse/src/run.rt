@@ -1,7 +1,11 @@
 //! From the bytes of a file to its descriptor, and the faults of a run.
 
+ghost use Rattle.std.specs.Prelude.{◌≡◌};
+ghost use Rattle.protobuf_parse.specs.Description.{Describes, Parses};
+ghost use Rattle.protobuf_parse.specs.declared.run.RunFault.TheVariants.{Memory};
+
 use protobuf_parse_model::{ElabError, ElabFailure, FileDescriptorProto, elaborate};
-use protobuf_parse_syntax::{ParserError, ParserErrorWithLocation, parse_file};
+use protobuf_parse_syntax::{FileTree, ParserError, ParserErrorWithLocation, parse_file};
 use std::alloc::{AllocError, Global};
 use std::str;
 use thiserror::Error;
@@ -40,6 +44,8 @@ pub enum ReadInputFault {
 }
 
 impl From<AllocError> for RunFault {
+    ghost from_gives = { λ _ e. e ≡ Memory };
+
     fn from(_error: AllocError) -> RunFault {
         RunFault::Memory
     }
@@ -53,14 +59,13 @@ pub fn describe_file(
     alloc: Global,
     name: &str,
     content: &[u8],
-) -> Result<FileDescriptorProto, RunFault> {
+) -> Result<FileDescriptorProto, RunFault>
+    ensures { Describes name.now content.now result }
+{
     let Ok(text) = str::from_utf8(content) else {
         return Err(RunFault::ContentIsNotUtf8(String::from_str(alloc, name)?));
     };
-    let tree = match parse_file(alloc, text) {
-        Ok(tree) => tree,
-        Err(error) => return Err(parse_fault(alloc, name, error)?),
-    };
+    let tree = tree_of_text(alloc, name, text)?;
     match elaborate(alloc, name, &tree) {
         Ok(descriptor) => Ok(descriptor),
         Err(ElabFailure::Memory) => Err(RunFault::Memory),
@@ -70,13 +75,15 @@ pub fn describe_file(
     }
 }
 
-fn parse_fault(
-    alloc: Global,
-    name: &str,
-    error: ParserErrorWithLocation,
-) -> Result<RunFault, AllocError> {
-    match error.error {
-        ParserError::Memory => Ok(RunFault::Memory),
-        _ => Ok(RunFault::Parse(String::from_str(alloc, name)?, error)),
+/// The tree of a text, or L9 with `name`.
+fn tree_of_text(alloc: Global, name: &str, text: &str) -> Result<FileTree, RunFault>
+    ensures { Parses name.now text.now result }
+{
+    match parse_file(alloc, text) {
+        Ok(tree) => Ok(tree),
+        Err(error) => match error.error {
+            ParserError::Memory => Err(RunFault::Memory),
+            _ => Err(RunFault::Parse(String::from_str(alloc, name)?, error)),
+        },
     }
 }

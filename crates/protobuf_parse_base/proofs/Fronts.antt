@@ -1,6 +1,6 @@
 -- The fronts of a list.
-use Rattle.std.proofs.Common.{◌≡◌, ℕ, ◌+◌, ◌<◌, ◌++◌, suc, List, [], ◌∷◌, Option, None, Some, MatchOption, length, map, refl, sym, ap, ◌∙◌, arith, length-append, append_assoc, append-nil}
-use Rattle.std.proofs.lemmas.List.{map-append, map_push}
+use Rattle.std.proofs.Common.{◌≡◌, ℕ, ◌++◌, suc, List, [], ◌∷◌, Option, None, Some, MatchOption, length, map, refl, sym, ap, ◌∙◌, append_assoc}
+use Rattle.std.proofs.lemmas.List.{map_push}
 use Rattle.protobuf_parse_base.specs.Names.{fronts}
 
 -- the fronts of what is left to list, if anything is
@@ -24,7 +24,7 @@ pub fronts_more : {X Y : Type 0} (view : X → List Y) (done : List X) (path : X
     → map view (done ++ path ∷ []) ++ fronts_of view next ≡ all
 fronts_more view done path next all before step =
     ap (λ front. front ++ fronts_of view next) (map_push view done path)
-      ∙ (append_assoc (map view done) (view path ∷ []) (fronts_of view next) ∙ (ap (λ rest. map view done ++ rest) (sym step) ∙ before))
+    ∙ (append_assoc (map view done) (view path ∷ []) (fronts_of view next) ∙ (ap (λ rest. map view done ++ rest) (sym step) ∙ before))
 
 -- the fronts of a path, by the path without its last element
 pub fronts-step : {X Y : Type 0} (view : X → List Y) (path : X) (next : Option X)

@@ -20,6 +20,6 @@ relative_text-more xs i x text next part inside at part_is before step =
     let ids : List (List ℕ) = map ident_ref_text (take i xs) in
     let longer : take (i + 1) xs ≡ take i xs ++ x ∷ [] = take_more xs i x inside ∙ ap (λ y. take i xs ++ y ∷ []) (sym at) in
     step ∙ (ap (λ p. if length text == 0 then p else text ++ (46 ∷ p)) part_is
-      ∙ (ap (λ t. if length t == 0 then ident_ref_text x else t ++ (46 ∷ ident_ref_text x)) before
-        ∙ (relative_text-push ids (ident_ref_text x) (are_idents-map (take i xs))
-          ∙ ap relative_text (sym (map_push ident_ref_text (take i xs) x) ∙ ap (λ ys. map ident_ref_text ys) (sym longer)))))
+    ∙ (ap (λ t. if length t == 0 then ident_ref_text x else t ++ (46 ∷ ident_ref_text x)) before
+    ∙ (relative_text-push ids (ident_ref_text x) (are_idents-map (take i xs))
+    ∙ ap relative_text (sym (map_push ident_ref_text (take i xs) x) ∙ ap (λ ys. map ident_ref_text ys) (sym longer)))))

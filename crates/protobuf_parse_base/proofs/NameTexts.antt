@@ -1,11 +1,11 @@
 -- The text of a list of identifiers, and the identifiers of a text.
 use Rattle.std.specs.Prelude.{if◌then◌else◌}
-use Rattle.std.proofs.Common.{◌≡◌, ℕ, ◌==◌, ◌++◌, ◌&&◌, ◌<◌, List, [], ◌∷◌, Bool, true, false, not, length, ltb, refl, sym, ap, ◌∙◌, append_assoc, append-nil, arith}
+use Rattle.std.proofs.Common.{◌≡◌, ℕ, ◌==◌, ◌++◌, ◌&&◌, ◌<◌, List, [], ◌∷◌, true, false, length, ltb, refl, sym, ap, ◌∙◌, append_assoc, append-nil, arith}
 use Rattle.std.proofs.lemmas.List.{append_cancel_left, append_cancel_right}
 use Rattle.std.proofs.lemmas.Bool.{and_parts, and_from, and_left, cond-false, eqb-true, ne_eqb}
 use Rattle.std.proofs.lemmas.List.Folds.{list_all-append}
 use Rattle.std.proofs.lemmas.List.Splits.{slice_split-cons_yes, slice_split-cons_no, join_with_byte-slice_split}
-use Rattle.std.specs.List.{list_all, onto_first, slice_split, join_with_byte}
+use Rattle.std.specs.List.{list_all, join_with_byte}
 use Rattle.protobuf_parse_base.specs.Names.{is_ident_byte, is_ident, are_idents, absolute_text, relative_text, dotted_parts, relative_idents, absolute_idents, is_relative, is_absolute, IsAbsolute, IsRelative}
 use Rattle.protobuf_parse_base.proofs.Splits.{HasFirst, slice_split-HasFirst, slice_split-append}
 
@@ -33,7 +33,7 @@ dotted_parts-text id [] h hs = rw (append-nil id) (dotted_parts-one id (ident-by
 dotted_parts-text id (next ∷ ids) h hs =
     let both = and_parts (is_ident next) (are_idents ids) hs in
     slice_split-append (λ c. c == 46) id 46 (next ++ absolute_text ids) refl
-      ∙ rw (dotted_parts-one id (ident-bytes id h), dotted_parts-text next ids both.0 both.1) refl
+    ∙ rw (dotted_parts-one id (ident-bytes id h), dotted_parts-text next ids both.0 both.1) refl
 
 -- parts with dots between them
 join_dots : (parts : List (List ℕ)) → join_with_byte 46 parts ≡ relative_text parts
@@ -135,7 +135,7 @@ IsCutAbsolute-from_dot (b ∷ bs) rest text e h =
     let parts : dotted_parts (bs ++ (46 ∷ rest)) ≡ dotted_parts bs ++ dotted_parts rest = slice_split-append (λ c. c == 46) bs 46 rest refl in
     let both = and_parts (b == 46) (are_idents (dotted_parts (bs ++ (46 ∷ rest)))) cut in
     let all : (are_idents (dotted_parts bs) && are_idents (dotted_parts rest)) ≡ true =
-      sym (are_idents-append (dotted_parts bs) (dotted_parts rest)) ∙ (ap are_idents (sym parts) ∙ both.1) in
+    sym (are_idents-append (dotted_parts bs) (dotted_parts rest)) ∙ (ap are_idents (sym parts) ∙ both.1) in
     let sides = and_parts (are_idents (dotted_parts bs)) (are_idents (dotted_parts rest)) all in
     let after = parts-relative rest sides.1 in
     record {
@@ -158,7 +158,7 @@ IsJoined-from_dot (b ∷ bs) (r ∷ rs) h hs n =
     let parts : dotted_parts (bs ++ (46 ∷ r ∷ rs)) ≡ dotted_parts bs ++ dotted_parts (r ∷ rs) = slice_split-append (λ c. c == 46) bs 46 (r ∷ rs) refl in
     let both = and_parts (b == 46) (are_idents (dotted_parts bs)) h in
     let all : are_idents (dotted_parts (bs ++ (46 ∷ r ∷ rs))) ≡ true =
-      ap are_idents parts ∙ (are_idents-append (dotted_parts bs) (dotted_parts (r ∷ rs)) ∙ and_from (are_idents (dotted_parts bs)) (are_idents (dotted_parts (r ∷ rs))) both.1 hs) in
+    ap are_idents parts ∙ (are_idents-append (dotted_parts bs) (dotted_parts (r ∷ rs)) ∙ and_from (are_idents (dotted_parts bs)) (are_idents (dotted_parts (r ∷ rs))) both.1 hs) in
     record { well_formed = and_from (b == 46) (are_idents (dotted_parts (bs ++ (46 ∷ r ∷ rs)))) both.0 all; idents = parts }
 
 -- ---- paths with no identifier
@@ -202,7 +202,7 @@ pub IsCutRelative-from_dot : (front rest text : List ℕ) → text ≡ front ++ 
 IsCutRelative-from_dot front rest text e h =
     let parts : relative_idents text ≡ dotted_parts front ++ dotted_parts rest = ap relative_idents e ∙ relative_idents-parts front rest in
     let all : (are_idents (dotted_parts front) && are_idents (dotted_parts rest)) ≡ true =
-      sym (are_idents-append (dotted_parts front) (dotted_parts rest)) ∙ (ap are_idents (sym parts) ∙ h) in
+    sym (are_idents-append (dotted_parts front) (dotted_parts rest)) ∙ (ap are_idents (sym parts) ∙ h) in
     let sides = and_parts (are_idents (dotted_parts front)) (are_idents (dotted_parts rest)) all in
     let before = parts-relative front sides.0 in
     let after = parts-relative rest sides.1 in
@@ -226,7 +226,7 @@ pub IsJoinedRelative-from_dot : (front rest : List ℕ) → is_relative front �
     → IsJoinedRelative (front ++ (46 ∷ rest)) (relative_idents front ++ relative_idents rest)
 IsJoinedRelative-from_dot front rest h hs n m =
     let parts : relative_idents (front ++ (46 ∷ rest)) ≡ relative_idents front ++ relative_idents rest =
-      relative_idents-parts front rest ∙ (ap (λ xs. xs ++ dotted_parts rest) (sym (relative-parts front n)) ∙ ap (λ ys. relative_idents front ++ ys) (sym (relative-parts rest m))) in
+    relative_idents-parts front rest ∙ (ap (λ xs. xs ++ dotted_parts rest) (sym (relative-parts front n)) ∙ ap (λ ys. relative_idents front ++ ys) (sym (relative-parts rest m))) in
     record {
       well_formed = ap are_idents parts ∙ (are_idents-append (relative_idents front) (relative_idents rest) ∙ and_from (is_relative front) (is_relative rest) h hs);
       idents = parts;
@@ -238,7 +238,7 @@ pub absolute-front : (text front : List ℕ) (ids : List (List ℕ)) → is_abso
     → absolute_idents text ≡ absolute_idents front ++ ids → text ≡ front ++ absolute_text ids
 absolute-front text front ids h hf e =
     sym (absolute_text-idents text h) ∙ (ap absolute_text e ∙ (absolute_text-append (absolute_idents front) ids
-      ∙ ap (λ t. t ++ absolute_text ids) (absolute_text-idents front hf)))
+    ∙ ap (λ t. t ++ absolute_text ids) (absolute_text-idents front hf)))
 
 absolute_text-relative : (text : List ℕ) → 0 < length text → absolute_text (relative_idents text) ≡ 46 ∷ text
 absolute_text-relative [] n = absurd (omega arith)
@@ -248,7 +248,7 @@ pub absolute-back : (text back : List ℕ) (ids : List (List ℕ)) → is_absolu
     → absolute_idents text ≡ ids ++ relative_idents back → text ≡ absolute_text ids ++ (46 ∷ back)
 absolute-back text back ids h n e =
     sym (absolute_text-idents text h) ∙ (ap absolute_text e ∙ (absolute_text-append ids (relative_idents back)
-      ∙ ap (λ t. absolute_text ids ++ t) (absolute_text-relative back n)))
+    ∙ ap (λ t. absolute_text ids ++ t) (absolute_text-relative back n)))
 
 -- where a text does not begin with another, nor do the identifiers
 pub front-none : (text front : List ℕ) (ids : List (List ℕ)) → is_absolute text ≡ true → is_absolute front ≡ true
@@ -275,7 +275,7 @@ pub back-no_dot : (text front back : List ℕ) (ids : List (List ℕ)) → is_ab
     → text ≡ front ++ back → ((more : List ℕ) → front ≡ more ++ (46 ∷ []) → ⊥) → absolute_idents text ≡ ids ++ relative_idents back → ⊥
 back-no_dot text front back ids h n cut none e =
     none (absolute_text ids) (append_cancel_right front (absolute_text ids ++ (46 ∷ [])) back
-      (sym cut ∙ (absolute-back text back ids h n e ∙ sym (append_assoc (absolute_text ids) (46 ∷ []) back))))
+    (sym cut ∙ (absolute-back text back ids h n e ∙ sym (append_assoc (absolute_text ids) (46 ∷ []) back))))
 
 -- an absolute path without a dot is the root
 pub absolute-one_part : (text : List ℕ) → is_absolute text ≡ true → dotted_parts text ≡ text ∷ [] → absolute_idents text ≡ []
@@ -313,4 +313,4 @@ relative_text-push ([] ∷ ids) id h = cc h
 relative_text-push ((b ∷ bs) ∷ ids) id h =
     let full : (length ((b ∷ bs) ++ absolute_text ids) == 0) ≡ false = ne_eqb (length ((b ∷ bs) ++ absolute_text ids)) 0 (λ same. absurd (omega arith)) in
     cond-false _ _ _ full ∙ (append_assoc (b ∷ bs) (absolute_text ids) (46 ∷ id)
-      ∙ ap (λ rest. (b ∷ bs) ++ rest) (ap (λ last. absolute_text ids ++ (46 ∷ last)) (sym (append-nil id)) ∙ sym (absolute_text-append ids (id ∷ []))))
+    ∙ ap (λ rest. (b ∷ bs) ++ rest) (ap (λ last. absolute_text ids ++ (46 ∷ last)) (sym (append-nil id)) ∙ sym (absolute_text-append ids (id ∷ []))))

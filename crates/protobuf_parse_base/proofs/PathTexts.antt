@@ -1,12 +1,12 @@
 -- Proto paths as lists of parts.
 use Rattle.std.specs.Prelude.{if◌then◌else◌}
-use Rattle.std.proofs.Common.{◌≡◌, ℕ, ◌==◌, ◌<◌, ◌+◌, ◌++◌, ◌&&◌, ◌||◌, List, [], ◌∷◌, Bool, true, false, not, cond, Option, None, Some, length, get_or, drop, refl, sym, ap, ◌∙◌, append_assoc, append-nil, arith, inl, inr, map, Bor}
-use Rattle.std.proofs.lemmas.Bool.{cases_Bool, and_parts, and_from, cond-true, cond-false, eqb-true, ne_eqb, not-true, not_from_false, or_parts, or_from}
+use Rattle.std.proofs.Common.{◌≡◌, ℕ, ◌==◌, ◌<◌, ◌+◌, ◌++◌, ◌&&◌, ◌||◌, List, [], ◌∷◌, Bool, true, false, not, Option, None, Some, length, get_or, drop, refl, sym, ap, ◌∙◌, append_assoc, append-nil, arith, inl, inr, map, Bor}
+use Rattle.std.proofs.lemmas.Bool.{cases_Bool, and_parts, and_from, cond-true, cond-false, ne_eqb, not-true, not_from_false, or_parts, or_from}
 use Rattle.std.proofs.lemmas.List.{at_drop_more, map_push}
-use Rattle.std.proofs.lemmas.List.Folds.{list_all-append, list_any-append}
+use Rattle.std.proofs.lemmas.List.Folds.{list_any-append}
 use Rattle.std.proofs.lemmas.List.Elements.{filter-append}
 use Rattle.std.proofs.lemmas.List.Splits.{slice_split-cons_yes, slice_split-cons_no, join_with_byte-slice_split}
-use Rattle.std.specs.List.{list_all, list_any, onto_first, slice_split, join_with_byte, filter}
+use Rattle.std.specs.List.{list_all, list_any, onto_first}
 use Rattle.std.specs.Option.{is_some}
 use Rattle.protobuf_parse_base.specs.declared.proto_path.error.PathError.{PathError}
 use Rattle.protobuf_parse_base.specs.declared.proto_path.error.PathError.TheVariants as fault
@@ -111,7 +111,7 @@ slash_parts-joined part [] h = slash_parts-one part (part-clean part (and_parts 
 slash_parts-joined part (next ∷ parts) h =
     let both = and_parts (is_part part) (list_all is_part (next ∷ parts)) h in
     slice_split-append (λ c. c == 47) part 47 (joined (next ∷ parts)) refl
-      ∙ rw (slash_parts-one part (part-clean part both.0), slash_parts-joined next parts both.1) refl
+    ∙ rw (slash_parts-one part (part-clean part both.0), slash_parts-joined next parts both.1) refl
 
 clean-no_backslash : (part : List ℕ) → is_clean part ≡ true → has_backslash part ≡ false
 clean-no_backslash [] h = refl
@@ -126,7 +126,7 @@ joined-no_backslash (part ∷ []) h = clean-no_backslash part (part-clean part (
 joined-no_backslash (part ∷ next ∷ parts) h =
     let both = and_parts (is_part part) (list_all is_part (next ∷ parts)) h in
     list_any-append (λ b. b == 92) part (47 ∷ joined (next ∷ parts))
-      ∙ or_from (has_backslash part) (has_backslash (47 ∷ joined (next ∷ parts))) (clean-no_backslash part (part-clean part both.0)) (joined-no_backslash (next ∷ parts) both.1)
+    ∙ or_from (has_backslash part) (has_backslash (47 ∷ joined (next ∷ parts))) (clean-no_backslash part (part-clean part both.0)) (joined-no_backslash (next ∷ parts) both.1)
 
 joined-nonempty : (part : List ℕ) (parts : List (List ℕ)) → is_empty part ≡ false → is_empty (joined (part ∷ parts)) ≡ false
 joined-nonempty part [] h = h
@@ -147,11 +147,12 @@ HasFirst-nonempty (part ∷ parts) h = not_from_false (length (part ∷ parts) =
 
 pub IsProtoPath-from_fault : (text : List ℕ) → path_fault text ≡ None → IsProtoPath text
 IsProtoPath-from_fault text h =
-    let cases = path_fault-cases (is_empty text) (has_backslash text) fault.Empty fault.Backslashes (first_fault (slash_parts text)) h in
-    (slash_parts text,
+    let cases = path_fault-cases (is_empty text) (has_backslash text) fault.Empty fault.Backslashes (first_fault (slash_parts text)) h in (
+      slash_parts text,
       HasFirst-nonempty (slash_parts text) (slice_split-HasFirst (λ c. c == 47) text),
       are_parts-from_faults (slash_parts text) (slash_parts-clean text cases.1) cases.2,
-      sym (join_with_byte-slice_split 47 text))
+      sym (join_with_byte-slice_split 47 text),
+    )
 
 pub path_fault-joined : (parts : List (List ℕ)) → not (length parts == 0) ≡ true → list_all is_part parts ≡ true → path_fault (joined parts) ≡ None
 path_fault-joined [] h hs = cc h
@@ -187,8 +188,8 @@ kept_of-nonempty [] = refl
 kept_of-nonempty (part ∷ parts) =
     elim (cases_Bool (is_kept part)) [
       | inl kept ↦
-        let full : not (is_empty part) ≡ true = not_from_false (is_empty part) (or_parts (is_empty part) (is_dot part) (not-true (is_empty part || is_dot part) kept)).0 in
-        ap (list_all (λ p. not (is_empty p))) (cond-true (is_kept part) _ _ kept)
+          let full : not (is_empty part) ≡ true = not_from_false (is_empty part) (or_parts (is_empty part) (is_dot part) (not-true (is_empty part || is_dot part) kept)).0 in
+          ap (list_all (λ p. not (is_empty p))) (cond-true (is_kept part) _ _ kept)
           ∙ and_from (not (is_empty part)) (list_all (λ p. not (is_empty p)) (kept_of parts)) full (kept_of-nonempty parts)
       | inr dropped ↦ ap (list_all (λ p. not (is_empty p))) (cond-false (is_kept part) _ _ dropped) ∙ kept_of-nonempty parts
     ]
@@ -208,8 +209,8 @@ joined-turn_kept seen part text next full no_dot before step =
     let parts : List (List ℕ) = map (λ p. p.now) seen in
     let kept : is_kept part.now ≡ true = not_from_false (is_empty part.now || is_dot part.now) (or_from (is_empty part.now) (is_dot part.now) full no_dot) in
     step ∙ (ap (λ t. if length t == 0 then part.now else t ++ (47 ∷ part.now)) before
-      ∙ (joined-push (kept_of parts) part.now (kept_of-nonempty parts)
-        ∙ ap joined (sym (kept_of-push_kept parts part.now kept) ∙ ap kept_of (sym (map_push (λ (p : Bor (List ℕ)). p.now) seen part)))))
+    ∙ (joined-push (kept_of parts) part.now (kept_of-nonempty parts)
+    ∙ ap joined (sym (kept_of-push_kept parts part.now kept) ∙ ap kept_of (sym (map_push (λ (p : Bor (List ℕ)). p.now) seen part)))))
 
 pub joined-turn_dropped : (seen : List (Bor (List ℕ))) (part : Bor (List ℕ)) (text : List ℕ) → is_kept part.now ≡ false
     → text ≡ joined (kept_of (map (λ p. p.now) seen)) → text ≡ joined (kept_of (map (λ p. p.now) (seen ++ part ∷ [])))
@@ -231,7 +232,7 @@ kept_of-are_parts (part ∷ parts) h hs =
     let rest : list_all is_part (kept_of parts) ≡ true = kept_of-are_parts parts clean.1 down.1 in
     elim (cases_Bool (is_kept part)) [
       | inl kept ↦ ap (list_all is_part) (cond-true (is_kept part) _ _ kept)
-        ∙ and_from (is_part part) (list_all is_part (kept_of parts)) (kept-part (is_empty part) (is_dot part) (is_dot_dot part) (is_clean part) kept down.0 clean.0) rest
+          ∙ and_from (is_part part) (list_all is_part (kept_of parts)) (kept-part (is_empty part) (is_dot part) (is_dot_dot part) (is_clean part) kept down.0 clean.0) rest
       | inr dropped ↦ ap (list_all is_part) (cond-false (is_kept part) _ _ dropped) ∙ rest
     ]
 
@@ -242,8 +243,8 @@ kept-empty text = go (kept_parts text) (kept_of-nonempty (slash_parts text))
     go : (parts : List (List ℕ)) → list_all (λ p. not (is_empty p)) parts ≡ true → is_empty (joined parts) ≡ (length parts == 0)
     go [] h = refl
     go (part ∷ parts) h =
-      let full : is_empty part ≡ false = not-true (is_empty part) (and_parts (not (is_empty part)) (list_all (λ p. not (is_empty p)) parts) h).0 in
-      joined-nonempty part parts full ∙ sym (ne_eqb (length (part ∷ parts)) 0 (λ same. absurd (omega arith)))
+        let full : is_empty part ≡ false = not-true (is_empty part) (and_parts (not (is_empty part)) (list_all (λ p. not (is_empty p)) parts) h).0 in
+        joined-nonempty part parts full ∙ sym (ne_eqb (length (part ∷ parts)) 0 (λ same. absurd (omega arith)))
 
 -- and else it is a proto path
 pub path_fault-kept : (text : List ℕ) → has_backslash text ≡ false → list_any is_dot_dot (slash_parts text) ≡ false → (length (kept_parts text) == 0) ≡ false

@@ -20,8 +20,8 @@ slice_split-HasFirst p (x ∷ xs) =
     elim (cases_Bool (p x)) [
       | inl cut ↦ record { first = []; others = slice_split p xs; is = slice_split-cons_yes p x xs cut }
       | inr kept ↦
-        let parts = onto_first-HasFirst x (slice_split p xs) in
-        record { first = parts.first; others = parts.others; is = slice_split-cons_no p x xs kept ∙ parts.is }
+          let parts = onto_first-HasFirst x (slice_split p xs) in
+          record { first = parts.first; others = parts.others; is = slice_split-cons_no p x xs kept ∙ parts.is }
     ]
 
 -- an element more in the first part of two lists of parts
@@ -38,5 +38,5 @@ slice_split-append p (x ∷ xs) y ys h =
     elim (cases_Bool (p x)) [
       | inl cut ↦ rw (slice_split-cons_yes p x (xs ++ y ∷ ys) cut, slice_split-cons_yes p x xs cut, rest) refl
       | inr kept ↦ rw (slice_split-cons_no p x (xs ++ y ∷ ys) kept, slice_split-cons_no p x xs kept, rest)
-        (onto_first-append x (slice_split p xs) (slice_split p ys) (slice_split-HasFirst p xs))
+          (onto_first-append x (slice_split p xs) (slice_split p ys) (slice_split-HasFirst p xs))
     ]

@@ -4,3 +4,9 @@ pub mod Paths
 pub mod PathViews
 pub mod Cases
 pub mod Escapes
+pub mod Relations
+pub mod Readers
+pub mod Conditions
+pub mod Depth
+pub mod Whole
+pub mod Loops

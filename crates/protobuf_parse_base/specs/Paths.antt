@@ -1,5 +1,5 @@
 -- Proto paths, by which `.proto` files import one another: nonempty parts with slashes between them.
-use Rattle.std.specs.Prelude.{ℕ, ◌==◌, ◌&&◌, ◌||◌, ◌≡◌, not, Bool, false, List, [], ◌∷◌, ◌++◌, length, IsTrue, Option, Some, None, if◌then◌else◌, filter}
+use Rattle.std.specs.Prelude.{ℕ, ◌==◌, ◌&&◌, ◌||◌, ◌≡◌, not, Bool, false, List, [], ◌∷◌, length, IsTrue, Option, Some, None, if◌then◌else◌, filter}
 use Rattle.std.specs.List.{list_all, list_any, slice_split, join_with_byte}
 use Rattle.std.specs.Str.{bytes_eq}
 use Rattle.protobuf_parse_base.specs.declared.proto_path.error.PathError.{PathError}

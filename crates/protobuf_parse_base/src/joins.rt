@@ -1,8 +1,8 @@
 //! Texts that are joined from parts.
-ghost use Rattle.std.specs.Prelude.{◌≡◌, ◌==◌, ◌<◌, ◌∷◌, ◌++◌, OnOk, length, if◌then◌else◌};
+ghost use Rattle.std.specs.Prelude.{◌≡◌, ◌==◌, ◌<◌, ◌∷◌, ◌++◌, IfOk, OnOk, length, if◌then◌else◌};
 ghost use Rattle.std.specs.String.{string_bytes};
 
-use std::alloc::AllocError;
+use std::alloc::{AllocError, Global};
 
 /// Adds a part to a text, after a separator unless the text is empty.
 pub(crate) fn push_part(text: &mut String, separator: char, part: &str) -> Result<(), AllocError>
@@ -13,4 +13,15 @@ pub(crate) fn push_part(text: &mut String, separator: char, part: &str) -> Resul
         text.push(separator)?;
     }
     text.push_str(part)
+}
+
+/// The text of `front`, a dot and `back`, in one allocation.
+pub(crate) fn join_at_dot(alloc: Global, front: &str, back: &str) -> Result<String, AllocError>
+    ensures { IfOk result (λ joined. string_bytes joined ≡ front.now ++ 46 ∷ back.now) }
+{
+    let mut joined = String::with_capacity(alloc, front.len() + back.len() + 1)?;
+    joined.push_str(front)?;
+    joined.push('.')?;
+    joined.push_str(back)?;
+    Ok(joined)
 }

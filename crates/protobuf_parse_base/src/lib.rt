@@ -5,7 +5,6 @@
 mod joins;
 pub mod names;
 pub mod proto_path;
-pub mod text;
-
 #[cfg(test)]
 mod tests;
+pub mod text;

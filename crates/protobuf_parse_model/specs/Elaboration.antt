@@ -1,7 +1,6 @@
 -- What a file becomes, construct by construct, and the faults that stand in it.
-use Rattle.std.specs.Prelude.{ℕ, Bool, false, ◌||◌, if◌then◌else◌, List, [], ◌∷◌, ◌++◌, map, flat_map, bytes_eq, codes, Option, Some, None, unwrap_or, encode_utf8_all}
-use Rattle.std.specs.Str.{chars}
-use Rattle.protobuf_parse_base.specs.Cases.{json_name_of}
+use Rattle.std.specs.Prelude.{ℕ, Bool, false, ◌||◌, if◌then◌else◌, List, [], ◌∷◌, ◌++◌, map, flat_map, bytes_eq, codes, Option, Some, None, unwrap_or}
+use Rattle.protobuf_parse_base.specs.Cases.{json_name_text}
 use Rattle.protobuf_parse_syntax.specs.Trees.{FieldSyntax, BodySyntax, field, MessageSyntax, StatementSyntax, message, FileSyntax}
 use Rattle.protobuf_parse_syntax.specs.declared.tree.Syntax.{Syntax}
 use Rattle.protobuf_parse_syntax.specs.declared.tree.Syntax.TheVariants.{Proto2, Proto3}
@@ -71,10 +70,6 @@ kind_of_scalar word.Double = kind.Double
 
 abbrev pub kind_of : tree_type.«Type» → FieldType
 kind_of (declared_type.Scalar s) = kind_of_scalar s
-
--- the name in the JSON mapping
-abbrev pub json_name_text : List ℕ → List ℕ
-json_name_text name = encode_utf8_all (json_name_of (chars name))
 
 -- a field without a label is optional
 abbrev pub field_of : FieldSyntax → FieldDescriptor

@@ -8,9 +8,10 @@ use Rattle.std.proofs.lemmas.Str.{digit_value_digit}
 use Rattle.protobuf_parse_syntax.specs.Text.{Bytes, is_in, AllIn}
 use Rattle.protobuf_parse_syntax.specs.Scan.{closing}
 use Rattle.protobuf_parse_syntax.specs.Tokens.{IsEscape, letter, octal, Decodes, done, plain, escape}
-use Rattle.protobuf_parse_syntax.specs.Escaped.{escaped_byte, escaped_bytes}
+use Rattle.protobuf_parse_base.specs.Escapes.{escaped_byte, escaped_bytes}
 use Rattle.protobuf_parse_syntax.specs.Laws.{EscapedBytesDecode}
 use Rattle.protobuf_parse_syntax.specs.declared.lexer.bytes.Class.TheVariants as class
+use Rattle.protobuf_parse_syntax.proofs.Quotes.{unquoted-quoted}
 use Rattle.protobuf_parse_syntax.proofs.Front.{string_answer, long_string}
 
 -- the ways in which one byte is written
@@ -143,4 +144,4 @@ escaped_decode bytes rest all =
     let z = 34 ∷ (es ++ 34 ∷ rest) in
     let n : 1 + length es + 1 ≡ length es + 2 = omega arith in
     let string = string_answer z (Some (length es + 2)) (omega arith) (inl refl) (ap (λ k. Some k) (sym n) ∙ sym (closes 1 bytes rest all)) in
-    ((string.0, long_string z (length es + 2) (inl refl) string), decodes bytes all)
+    ((string.0, long_string z (length es + 2) (inl refl) string), unquoted-quoted 34 es (inl refl), decodes bytes all)

@@ -5,4 +5,8 @@ pub mod Refusals
 pub mod Depth
 pub mod Escapes
 pub mod Places
+pub mod Quotes
 pub mod Escaping
+pub mod Left
+pub mod Loops
+pub mod File

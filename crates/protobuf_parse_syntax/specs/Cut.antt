@@ -1,4 +1,4 @@
--- A text cut into blanks and tokens.
+-- A text cut into blanks and tokens, of which the longest is taken each time.
 use Rattle.std.specs.Prelude.{◌≡◌, ◌≤◌, ◌<◌, ◌⊎◌, ℕ, ◌&&◌, ◌==◌, List, [], ◌∷◌, length, map, slice_index, take, drop, if◌then◌else◌, Result, MatchResult}
 use Rattle.protobuf_parse_syntax.specs.Text.{Bytes, IsBlank, IsToken, IsFault}
 use Rattle.protobuf_parse_syntax.specs.Place.{start, after}

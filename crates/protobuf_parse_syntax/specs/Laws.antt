@@ -1,11 +1,11 @@
 -- Laws of the definitions.
-use Rattle.std.specs.Prelude.{◌≡◌, ◌⊎◌, ℕ, ◌+◌, ◌==◌, ◌<◌, not, All, List, ◌∷◌, ◌++◌, length, reverse, count_by, take_while, drop}
+use Rattle.std.specs.Prelude.{◌≡◌, ◌⊎◌, ℕ, ◌+◌, ◌==◌, ◌<◌, not, All, List, [], ◌∷◌, ◌++◌, length, reverse, count_by, take_while, take, drop, slice_index}
 use Rattle.std.specs.Str.{IsUtf8, chars}
 use Rattle.protobuf_parse_syntax.specs.Text.{Bytes, IsToken, IsFault}
 use Rattle.protobuf_parse_syntax.specs.Place.{start, after}
-use Rattle.protobuf_parse_syntax.specs.Tokens.{Lexeme, Decodes, DecodesAll}
+use Rattle.protobuf_parse_syntax.specs.Tokens.{Lexeme, unquoted, Decodes, DecodesAll}
 use Rattle.protobuf_parse_syntax.specs.Cut.{Cuts, mark_len}
-use Rattle.protobuf_parse_syntax.specs.Escaped.{escaped_bytes}
+use Rattle.protobuf_parse_base.specs.Escapes.{escaped_bytes}
 use Rattle.protobuf_parse_syntax.specs.declared.error.ParserError.{ParserError}
 use Rattle.protobuf_parse_syntax.specs.declared.lexer.token.Place.{Place}
 use Rattle.protobuf_parse_syntax.specs.declared.lexer.token.TokenKind.TheVariants as kind
@@ -46,8 +46,16 @@ TokensStandInTheText =
     (text : Bytes) (front back : List Lexeme) (t : Lexeme) (q : Place) (rest : Bytes) → Cuts text (front ++ t ∷ back) q rest →
     (before : Bytes) × (behind : Bytes) × (drop (mark_len text) text ≡ before ++ t.text ++ behind) × (t.place ≡ after start before)
 
--- Escaped bytes in double quotes are a string token, whatever follows, and stand for just those bytes.
+-- a string token is what stands between its quotes, with the same quote before and behind it
+abbrev pub StringsAreQuoted : Type 0
+StringsAreQuoted =
+    (z : Bytes) (n : ℕ) → IsToken z n kind.Str → take n z ≡ slice_index z 0 ∷ (unquoted (take n z) ++ slice_index z 0 ∷ [])
+
+-- Escaped bytes in double quotes are a string token, whatever follows. They are what stands between its
+-- quotes, and stand for just those bytes.
 abbrev pub EscapedBytesDecode : Type 0
 EscapedBytesDecode =
     (bytes rest : Bytes) → All (λ b. b < 256) bytes →
-    IsToken (34 ∷ (escaped_bytes bytes ++ 34 ∷ rest)) (length (escaped_bytes bytes) + 2) kind.Str × Decodes (escaped_bytes bytes) bytes
+    IsToken (34 ∷ (escaped_bytes bytes ++ 34 ∷ rest)) (length (escaped_bytes bytes) + 2) kind.Str
+    × (unquoted (34 ∷ (escaped_bytes bytes ++ 34 ∷ [])) ≡ escaped_bytes bytes)
+    × Decodes (escaped_bytes bytes) bytes

@@ -4,7 +4,10 @@ pub mod Place
 pub mod Tokens
 pub mod Decoding
 pub mod Cut
-pub mod Escaped
 pub mod Laws
-pub mod Cursors
 pub mod Trees
+pub mod Classes
+pub mod Grammar
+pub mod Productions
+pub mod Parsing
+pub mod Code

@@ -1,5 +1,7 @@
--- Tokens: how deep their brackets nest, and what their strings say.
-use Rattle.std.specs.Prelude.{◌≡◌, ◌≤◌, ◌<◌, ◌⊎◌, ℕ, ◌+◌, Bool, false, ◌||◌, ◌==◌, if◌then◌else◌, List, [], ◌∷◌, ◌++◌, length, slice_index, slice_range, slice_get, take, drop, count_by, encode_utf8, Option, Some, None}
+-- Tokens: how deep their brackets nest, and what their strings say: strLit, charValue and its escapes in
+-- the "Lexical elements" of the Protocol Buffers Language Specification
+-- (https://protobuf.dev/reference/protobuf/proto3-spec/).
+use Rattle.std.specs.Prelude.{◌≡◌, ◌≤◌, ◌<◌, ◌⊎◌, ℕ, ◌+◌, ◌-◌, ◌&&◌, nat_le, Bool, false, ◌||◌, ◌==◌, if◌then◌else◌, List, [], ◌∷◌, ◌++◌, length, slice_index, slice_range, slice_get, take, drop, count_by, encode_utf8, Option, Some, None}
 use Rattle.std.specs.Char.{IsScalar}
 use Rattle.std.specs.Str.Parse.{digits_value}
 use Rattle.protobuf_parse_syntax.specs.Text.{Bytes, AllIn, StopsAt}
@@ -56,6 +58,13 @@ pub record DeepensAt (ts : List Lexeme) (at : Place) : Type 0 where
   pub earlier : (n : ℕ) → n ≤ count → IsDeep (take n ts) → ⊥
 
 -- ---- strings
+
+abbrev pub is_quote : ℕ → Bool
+is_quote b = b == 34 || b == 39
+
+-- what stands between the quotes at the ends of a text
+abbrev pub unquoted : Bytes → Bytes
+unquoted z = if nat_le 2 (length z) && is_quote (slice_index z 0) && is_quote (slice_index z (length z - 1)) then slice_range z 1 (length z - 1) else []
 
 -- what a backslash and this byte stand for: \a \b \f \n \r \t \v \\ \' \" \?
 abbrev pub letter_byte : ℕ → Option ℕ

@@ -12,6 +12,7 @@ ghost use Rattle.protobuf_parse_base.specs.Names.{is_absolute, is_relative, look
 use super::dots;
 use super::ident::{ProtobufIdent, ProtobufIdentRef};
 use super::relative::{ProtobufRelPath, ProtobufRelPathRef};
+use crate::joins::join_at_dot;
 use std::alloc::{AllocError, Global};
 use std::fmt;
 use std::hash::{Hash, Hasher};
@@ -22,7 +23,7 @@ use std::hash::{Hash, Hasher};
 #[derive(Clone, Copy, Debug)]
 pub struct ProtobufAbsPathRef<'a> {
     text: &'a str,
-    ghost well_formed: { IsTrue (is_absolute text.now) },
+    pub ghost well_formed: { IsTrue (is_absolute text.now) },
 }
 
 /// Whether the text is that of an absolute path.
@@ -100,7 +101,8 @@ impl<'a> ProtobufAbsPathRef<'a> {
         if rest.is_empty() {
             return Some(ProtobufRelPathRef::empty());
         }
-        Some(ProtobufRelPathRef::new(rest.strip_prefix('.')?))
+        let after_dot = rest.strip_prefix('.')?;
+        Some(ProtobufRelPathRef::new(after_dot))
     }
 
     /// Whether the path begins with `prefix`.
@@ -138,7 +140,7 @@ impl<'a> ProtobufAbsPathRef<'a> {
 #[derive(Debug, Drop)]
 pub struct ProtobufAbsPath {
     text: String,
-    ghost well_formed: { IsTrue (is_absolute (string_bytes text)) },
+    pub ghost well_formed: { IsTrue (is_absolute (string_bytes text)) },
 }
 
 impl ProtobufAbsPath {
@@ -181,7 +183,7 @@ impl ProtobufAbsPath {
         if text.is_empty() {
             return Ok(ProtobufAbsPath::root(alloc));
         }
-        let text = format!(in alloc; ".{text}")?;
+        let text = join_at_dot(alloc, "", text)?;
         Ok(ProtobufAbsPath { text })
     }
 
@@ -206,9 +208,11 @@ impl ProtobufAbsPath {
     pub fn concat(&self, alloc: Global, path: ProtobufRelPathRef<'_>) -> Result<Self, AllocError>
         ensures { IfOk result (λ joined. abs_idents joined ≡ abs_idents self.now ++ rel_ref_idents path.entry) }
     {
-        let mut joined = self.as_ref().to_owned(alloc)?;
-        joined.push_relative(path)?;
-        Ok(joined)
+        if path.is_empty() {
+            return self.as_ref().to_owned(alloc);
+        }
+        let text = join_at_dot(alloc, self.text.as_str(), path.as_str())?;
+        Ok(ProtobufAbsPath { text })
     }
 
     /// The path with the identifiers of this text, which begins with no dot. The one error is that
@@ -238,10 +242,7 @@ impl ProtobufAbsPath {
 
     /// The path of a file's package, the root where the file has none. The one error is that memory
     /// is short.
-    pub fn package_from_file_proto(
-        alloc: Global,
-        package: Option<&str>,
-    ) -> Result<Self, AllocError>
+    pub fn package_from_file_proto(alloc: Global, package: Option<&str>) -> Result<Self, AllocError>
         requires { ForSome «package» (λ text. IsTrue (is_relative text.now)) }
         ensures { IfOk result (λ path. MatchOption «package».entry (abs_idents path ≡ [])
             (λ text. abs_idents path ≡ relative_idents text.now)) }
@@ -287,7 +288,8 @@ impl ProtobufAbsPath {
             return Some(self.as_ref());
         }
         let front = self.text.as_str().strip_suffix(suffix.as_str())?;
-        Some(ProtobufAbsPathRef::new(front.strip_suffix('.')?))
+        let before_dot = front.strip_suffix('.')?;
+        Some(ProtobufAbsPathRef::new(before_dot))
     }
 
     /// Whether the path ends with `suffix`.

@@ -20,7 +20,7 @@ use std::hash::{Hash, Hasher};
 #[derive(Clone, Copy, Debug)]
 pub struct ProtobufIdentRef<'a> {
     text: &'a str,
-    ghost well_formed: { IsTrue (is_ident text.now) },
+    pub ghost well_formed: { IsTrue (is_ident text.now) },
 }
 
 impl<'a> ProtobufIdentRef<'a> {
@@ -61,7 +61,7 @@ impl<'a> ProtobufIdentRef<'a> {
 #[derive(Debug, Drop)]
 pub struct ProtobufIdent {
     text: String,
-    ghost well_formed: { IsTrue (is_ident (string_bytes text)) },
+    pub ghost well_formed: { IsTrue (is_ident (string_bytes text)) },
 }
 
 impl ProtobufIdent {

@@ -12,7 +12,7 @@ use super::absolute::ProtobufAbsPath;
 use super::components::Components;
 use super::dots;
 use super::ident::{ProtobufIdent, ProtobufIdentRef};
-use crate::joins::push_part;
+use crate::joins::{join_at_dot, push_part};
 use std::alloc::{AllocError, Global};
 use std::fmt;
 use std::hash::{Hash, Hasher};
@@ -23,7 +23,7 @@ use std::hash::{Hash, Hasher};
 #[derive(Clone, Copy, Debug)]
 pub struct ProtobufRelPathRef<'a> {
     text: &'a str,
-    ghost well_formed: { IsTrue (is_relative text.now) },
+    pub ghost well_formed: { IsTrue (is_relative text.now) },
 }
 
 impl<'a> ProtobufRelPathRef<'a> {
@@ -81,7 +81,10 @@ impl<'a> ProtobufRelPathRef<'a> {
             Some((first, rest)) => {
                 Some((ProtobufIdentRef::new(first), ProtobufRelPathRef::new(rest)))
             }
-            None => Some((ProtobufIdentRef::new(self.text), ProtobufRelPathRef::empty())),
+            None => Some((
+                ProtobufIdentRef::new(self.text),
+                ProtobufRelPathRef::empty(),
+            )),
         }
     }
 
@@ -134,7 +137,7 @@ impl<'a> ProtobufRelPathRef<'a> {
         if path.text.is_empty() {
             return self.to_owned(alloc);
         }
-        let text = format!(in alloc; "{}.{}", self.text, path.text)?;
+        let text = join_at_dot(alloc, self.text, path.text)?;
         Ok(ProtobufRelPath { text })
     }
 
@@ -168,7 +171,7 @@ impl<'a> ProtobufRelPathRef<'a> {
 #[derive(Debug, Drop)]
 pub struct ProtobufRelPath {
     text: String,
-    ghost well_formed: { IsTrue (is_relative (string_bytes text)) },
+    pub ghost well_formed: { IsTrue (is_relative (string_bytes text)) },
 }
 
 impl ProtobufRelPath {
@@ -207,7 +210,10 @@ impl ProtobufRelPath {
     ) -> Result<Self, AllocError>
         ensures { IfOk result (λ path. rel_idents path ≡ map ident_ref_text components.now) }
     {
-        let mut text = String::new(alloc);
+        let room = components.iter().fold(0usize, |room, component| {
+            room.saturating_add(component.as_str().len() + 1)
+        });
+        let mut text = String::with_capacity(alloc, room)?;
         for component in components {
             push_part(&mut text, '.', component.as_str())?;
         }

@@ -21,7 +21,7 @@ use std::hash::{Hash, Hasher};
 #[derive(Clone, Copy, Debug)]
 pub struct ProtoPath<'a> {
     text: &'a str,
-    ghost well_formed: { path_fault text.now ≡ None },
+    pub ghost well_formed: { path_fault text.now ≡ None },
 }
 
 impl<'a> ProtoPath<'a> {
@@ -70,7 +70,7 @@ impl<'a> ProtoPath<'a> {
 #[derive(Debug, Drop)]
 pub struct ProtoPathBuf {
     text: String,
-    ghost well_formed: { path_fault (string_bytes text) ≡ None },
+    pub ghost well_formed: { path_fault (string_bytes text) ≡ None },
 }
 
 impl ProtoPathBuf {

@@ -11,7 +11,10 @@ fn accepted_texts(rt: HostRuntime) -> Result<(), Fail> {
     let owned = path.to_proto_path_buf(rt.alloc())?;
     assert!(rt; owned.as_path() == path);
     assert_eq!(rt; hash_of(&owned), hash_of(&path));
-    assert_eq!(rt; format!(in rt.alloc(); "{path} {owned}")?.as_str(), "a/b.proto a/b.proto");
+    assert_eq!(rt;
+        format!(in rt.alloc(); "{path} {owned}")?.as_str(),
+        "a/b.proto a/b.proto"
+    );
     let text = String::from_str(rt.alloc(), "x")?;
     assert_eq!(rt; ProtoPathBuf::new(text)?.as_path().to_str(), "x");
     Ok(())
@@ -46,7 +49,10 @@ fn paths_of_the_host(rt: HostRuntime) -> Result<(), Fail> {
         ("a\\b", PathError::Backslashes),
     ];
     for (text, fault) in rows {
-        assert_eq!(rt; ProtoPathBuf::from_path(rt.alloc(), text).err(), Some(fault));
+        assert_eq!(rt;
+            ProtoPathBuf::from_path(rt.alloc(), text).err(),
+            Some(fault)
+        );
     }
     Ok(())
 }

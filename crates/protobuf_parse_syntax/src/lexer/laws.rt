@@ -1,6 +1,6 @@
 //! Laws of the definitions that the lexer's contracts cite. The functions do nothing.
 
-ghost use Rattle.protobuf_parse_syntax.specs.Laws.{IsOneCut, IsOneFault, IsOneDecoding, PlacesCountCharacters, TokensStandInTheText, EscapedBytesDecode};
+ghost use Rattle.protobuf_parse_syntax.specs.Laws.{IsOneCut, IsOneFault, IsOneDecoding, PlacesCountCharacters, TokensStandInTheText, StringsAreQuoted, EscapedBytesDecode};
 
 /// A text is cut in one way, and one fault ends it.
 pub fn cuts_are_unique()
@@ -17,6 +17,11 @@ pub fn decoding_is_unique()
 pub fn places_count_characters()
     ensures count { PlacesCountCharacters }
     ensures stand { TokensStandInTheText }
+{}
+
+/// A string token is what `unquoted` gives, between two equal quotes.
+pub fn strings_are_quoted()
+    ensures { StringsAreQuoted }
 {}
 
 /// Escaped bytes in double quotes are a string token, which stands for just those bytes.

@@ -46,6 +46,26 @@ impl<T: Drop> From<AllocFailed<T>> for StrLitDecodeError {
     }
 }
 
+/// Whether the byte is a quote.
+fn is_quote(byte: u8) -> bool
+    ensures { result ≡ tokens.is_quote byte }
+{
+    byte == b'"' || byte == b'\''
+}
+
+/// What stands between the quotes of a string token's text. Of any other text it is empty.
+pub fn unquoted(text: &str) -> &str
+    ensures { result.now ≡ tokens.unquoted text.now }
+{
+    let bytes = text.as_bytes();
+    let len = bytes.len();
+    if 2 <= len && is_quote(bytes[0]) && is_quote(bytes[len - 1]) {
+        &text[1..len - 1]
+    } else {
+        ""
+    }
+}
+
 /// What a part of a string stands for.
 #[derive(Clone, Copy, Debug)]
 enum Meaning {

@@ -1,6 +1,6 @@
 //! Tokens, faults and strings of small texts.
 
-use crate::lexer::str_lit::{StrLit, StrLitDecodeError};
+use crate::lexer::str_lit::{StrLit, StrLitDecodeError, unquoted};
 use crate::lexer::tokenize;
 use std::alloc::{AllocError, Global};
 use std::test::Fail;
@@ -179,6 +179,8 @@ fn strings(rt: HostRuntime) -> Result<(), Fail> {
             "at {escape:?}"
         );
     }
+    assert_eq!(rt; unquoted("'a\"'"), "a\"");
+    assert_eq!(rt; unquoted("\"\""), "");
     let bytes = two_pieces(rt.alloc(), "\\xFF", "\\377")?;
     let found = bytes.decode_bytes(rt.alloc())?;
     assert_eq!(rt; found.as_slice(), [255, 255].as_slice());

@@ -1,12 +1,21 @@
 //! A cursor over the tokens of a file.
 
-ghost use Rattle.std.specs.Prelude.{◌≡◌, ◌<◌, ◌≤◌, ◌-◌, ◌↔◌, OnOk, OnSome, IsTrue, length};
-ghost use Rattle.protobuf_parse_syntax.specs.Cursors.{left};
+ghost use Rattle.std.specs.Prelude.{◌≡◌, ◌∷◌, [], map, string_bytes, option_copied, OnOk};
+ghost use Rattle.protobuf_parse_base.specs.Readers.{starts};
+ghost use Rattle.protobuf_parse_base.specs.Conditions.{mark_of};
+ghost use Rattle.protobuf_parse_syntax.specs.Tokens.{lexeme};
+ghost use Rattle.protobuf_parse_syntax.specs.Classes as class;
+ghost use Rattle.protobuf_parse_syntax.specs.Classes.{lexicon};
+ghost use Rattle.protobuf_parse_syntax.specs.Grammar.{place_of, labels, labels3, scalars, between_quotes};
+ghost use Rattle.protobuf_parse_syntax.specs.Grammar as grammar;
+ghost use Rattle.protobuf_parse_syntax.specs.Productions as read;
+ghost use Rattle.protobuf_parse_syntax.specs.Trees.{pieces_of};
+ghost use Rattle.protobuf_parse_syntax.specs.Code.{left, ahead, Gives, is_end};
 
-use crate::error::{ParserError, ParserErrorWithLocation};
-use crate::lexer::place::located;
+use crate::error::ParserError;
 use crate::lexer::str_lit::StrLit;
 use crate::lexer::token::{Place, Token, TokenKind};
+use crate::parser::refusal::Refusal;
 use crate::tree::{Label, Scalar};
 use std::alloc::Global;
 
@@ -20,199 +29,302 @@ pub struct Cursor<'t, 'text> {
 impl<'t, 'text> Cursor<'t, 'text> {
     /// A cursor before the first token.
     pub fn new(rest: &'t [Token<'text>], end: Place) -> Cursor<'t, 'text>
-        ensures { left result ≡ length rest.now }
+        ensures tokens { ahead result ≡ map lexeme rest.now }
+        ensures end { result.end ≡ end }
     {
         Cursor { rest, end }
     }
 
     /// Whether no token is left.
+    #[tactic(auto, using(crate::proofs::Left::ends_empty))]
     pub fn is_empty(&self) -> bool
-        ensures { IsTrue result ↔ (left self.now ≡ 0) }
+        ensures { result ≡ is_end (left self.now) }
     {
         self.rest.is_empty()
     }
 
     /// The place of the next token, or of the end of the text.
-    pub fn place(&self) -> Place {
+    pub fn place(&self) -> Place
+        ensures { result ≡ mark_of place_of (left self.now) }
+    {
         match self.rest {
             [token, ..] => token.place,
             [] => self.end,
         }
     }
 
-    /// This fault at the next token, or at the end of the text.
-    pub fn fault(&self, error: ParserError) -> ParserErrorWithLocation {
-        located(error, self.place())
-    }
-
     /// Whether this symbol comes next.
+    #[tactic(auto, unfolding(protobuf_parse_base::specs::Readers::starts))]
     pub fn sees_symbol(&self, symbol: char) -> bool
-        ensures { IsTrue result → 0 < left self.now }
+        ensures { result ≡ starts lexicon (class.symbol symbol ∷ []) (left self.now) }
     {
         match self.rest {
-            [token, ..] => token.kind == TokenKind::Symbol(symbol),
+            [token, ..] => match token.kind {
+                TokenKind::Symbol(other) => other == symbol,
+                _ => false,
+            },
             [] => false,
         }
     }
 
-    /// The identifier that comes next.
-    pub fn peek_ident(&self) -> Option<&'text str>
-        ensures { OnSome result (0 < left self.now) }
+    /// Reads this symbol. S8 at any other token.
+    pub fn symbol(&mut self, symbol: char) -> Result<(), Refusal>
+        ensures { Gives (λ u. tt) result (left self.new) ((read.symbol symbol).run (left self.old)) }
     {
         match self.rest {
-            [token, ..] if token.kind == TokenKind::Ident => Some(token.text),
-            _ => None,
+            [token, rest @ ..] => match token.kind {
+                TokenKind::Symbol(other) if other == symbol => {
+                    self.rest = rest;
+                    Ok(())
+                }
+                _ => Err(Refusal::Next(ParserError::IncorrectInput)),
+            },
+            [] => Err(Refusal::Next(ParserError::IncorrectInput)),
+        }
+    }
+
+    /// Whether a statement of a body may begin here: at a semicolon or an identifier.
+    #[tactic(auto, unfolding(protobuf_parse_base::specs::Readers::starts))]
+    pub fn begins_statement(&self) -> bool
+        ensures { result ≡ starts lexicon (class.symbol 59 ∷ class.ident [] ∷ []) (left self.now) }
+    {
+        match self.rest {
+            [token, ..] => match token.kind {
+                TokenKind::Symbol(symbol) => symbol == ';',
+                TokenKind::Ident => true,
+                _ => false,
+            },
+            [] => false,
+        }
+    }
+
+    /// Whether a statement of a file begins here: at a semicolon or one of its words.
+    #[tactic(auto, unfolding(protobuf_parse_base::specs::Readers::starts))]
+    pub fn begins_file_statement(&self) -> bool
+        ensures { result ≡ starts lexicon read.file_firsts (left self.now) }
+    {
+        match self.rest {
+            [token, ..] => match token.kind {
+                TokenKind::Symbol(symbol) => symbol == ';',
+                TokenKind::Ident => token.text == "message",
+                _ => false,
+            },
+            [] => false,
         }
     }
 
     /// Whether this identifier comes next.
+    #[tactic(auto, unfolding(protobuf_parse_base::specs::Readers::starts))]
     pub fn sees_word(&self, word: &str) -> bool
-        ensures { IsTrue result → 0 < left self.now }
-    {
-        match self.peek_ident() {
-            Some(ident) => ident == word,
-            None => false,
-        }
-    }
-
-    /// The label whose word comes next.
-    pub fn peek_label(&self) -> Option<Label>
-        ensures { OnSome result (0 < left self.now) }
-    {
-        match self.peek_ident()? {
-            "optional" => Some(Label::Optional),
-            "required" => Some(Label::Required),
-            "repeated" => Some(Label::Repeated),
-            _ => None,
-        }
-    }
-
-    /// Goes past the next token, if one is left.
-    pub fn advance(&mut self)
-        ensures { left self.new ≡ left self.old - 1 }
-    {
-        if let [_, rest @ ..] = self.rest {
-            self.rest = rest;
-        }
-    }
-
-    /// Reads this symbol. S8 at any other token.
-    pub fn symbol(&mut self, symbol: char) -> Result<(), ParserErrorWithLocation>
-        ensures { OnOk result (left self.new < left self.old) }
-    {
-        if !self.sees_symbol(symbol) {
-            return Err(self.fault(ParserError::IncorrectInput));
-        }
-        self.advance();
-        Ok(())
-    }
-
-    /// Reads this identifier. S8 at any other token.
-    pub fn word(&mut self, word: &str) -> Result<(), ParserErrorWithLocation>
-        ensures { OnOk result (left self.new < left self.old) }
-    {
-        if !self.sees_word(word) {
-            return Err(self.fault(ParserError::IncorrectInput));
-        }
-        self.advance();
-        Ok(())
-    }
-
-    /// Reads an identifier. S8 at any other token.
-    pub fn ident(&mut self, alloc: Global) -> Result<String, ParserErrorWithLocation>
-        ensures { OnOk result (left self.new < left self.old) }
-    {
-        let Some(ident) = self.peek_ident() else {
-            return Err(self.fault(ParserError::IncorrectInput));
-        };
-        let ident = String::from_str(alloc, ident)?;
-        self.advance();
-        Ok(ident)
-    }
-
-    /// Reads a field's number, from 0 to 2147483647. S5 at a larger integer, S8 at any other token.
-    pub fn field_number(&mut self) -> Result<i32, ParserErrorWithLocation>
-        ensures { OnOk result (left self.new < left self.old) }
-    {
-        let Some(number) = self.peek_integer() else {
-            return Err(self.fault(ParserError::IncorrectInput));
-        };
-        let Ok(number) = i32::try_from(number) else {
-            return Err(self.fault(ParserError::IntegerOverflow));
-        };
-        self.advance();
-        Ok(number)
-    }
-
-    fn peek_integer(&self) -> Option<u64>
-        ensures { OnSome result (0 < left self.now) }
+        ensures { result ≡ starts lexicon (class.word word.now ∷ []) (left self.now) }
     {
         match self.rest {
             [token, ..] => match token.kind {
-                TokenKind::Integer(number) => Some(number),
-                _ => None,
+                TokenKind::Ident => token.text == word,
+                _ => false,
             },
-            [] => None,
+            [] => false,
+        }
+    }
+
+    /// Reads this identifier. S8 at any other token.
+    pub fn word(&mut self, word: &str) -> Result<(), Refusal>
+        ensures { Gives (λ u. tt) result (left self.new) ((read.word word.now).run (left self.old)) }
+    {
+        match self.rest {
+            [token, rest @ ..] => match token.kind {
+                TokenKind::Ident if token.text == word => {
+                    self.rest = rest;
+                    Ok(())
+                }
+                _ => Err(Refusal::Next(ParserError::IncorrectInput)),
+            },
+            [] => Err(Refusal::Next(ParserError::IncorrectInput)),
+        }
+    }
+
+    /// Reads an identifier. S8 at any other token.
+    pub fn ident(&mut self, alloc: Global) -> Result<String, Refusal>
+        ensures { Gives string_bytes result (left self.new) (read.ident.run (left self.old)) }
+    {
+        match self.rest {
+            [token, rest @ ..] => match token.kind {
+                TokenKind::Ident => {
+                    let ident = String::from_str(alloc, token.text)?;
+                    self.rest = rest;
+                    Ok(ident)
+                }
+                _ => Err(Refusal::Next(ParserError::IncorrectInput)),
+            },
+            [] => Err(Refusal::Next(ParserError::IncorrectInput)),
+        }
+    }
+
+    /// Reads a field's number, from 0 to 2147483647. S5 at a larger integer, S8 at any other token.
+    pub fn field_number(&mut self) -> Result<i32, Refusal>
+        ensures { Gives (λ n. n) result (left self.new) (read.number.run (left self.old)) }
+    {
+        match self.rest {
+            [token, rest @ ..] => match token.kind {
+                TokenKind::Integer(number) => {
+                    if number > 2147483647 {
+                        return Err(Refusal::Next(ParserError::IntegerOverflow));
+                    }
+                    self.rest = rest;
+                    Ok(number as i32)
+                }
+                _ => Err(Refusal::Next(ParserError::IncorrectInput)),
+            },
+            [] => Err(Refusal::Next(ParserError::IncorrectInput)),
+        }
+    }
+
+    /// Whether a label comes next.
+    pub fn sees_label(&self) -> bool
+        ensures { result ≡ starts lexicon (read.words labels) (left self.now) }
+    {
+        if self.sees_word("optional") {
+            return true;
+        }
+        if self.sees_word("required") {
+            return true;
+        }
+        self.sees_word("repeated")
+    }
+
+    /// Reads a label. Elsewhere a field lacks one, S12, or none begins, S8.
+    pub fn label(&mut self) -> Result<Label, Refusal>
+        ensures { Gives (λ l. l) result (left self.new) ((read.one_of labels).run (left self.old)) }
+    {
+        match self.rest {
+            [token, rest @ ..] => match token.kind {
+                TokenKind::Ident => {
+                    let label = match token.text {
+                        "optional" => Label::Optional,
+                        "required" => Label::Required,
+                        "repeated" => Label::Repeated,
+                        "reserved"
+                        | "oneof"
+                        | "extend"
+                        | "message"
+                        | "enum"
+                        | "extensions"
+                        | "option" => {
+                            return Err(Refusal::Next(ParserError::IncorrectInput));
+                        }
+                        _ => return Err(Refusal::Next(ParserError::LabelRequired)),
+                    };
+                    self.rest = rest;
+                    Ok(label)
+                }
+                _ => Err(Refusal::Next(ParserError::IncorrectInput)),
+            },
+            [] => Err(Refusal::Next(ParserError::IncorrectInput)),
+        }
+    }
+
+    /// Reads a label that is allowed in proto3. S11 at any other token.
+    pub fn label3(&mut self) -> Result<Label, Refusal>
+        ensures { Gives (λ l. l) result (left self.new) ((read.one_of labels3).run (left self.old)) }
+    {
+        match self.rest {
+            [token, rest @ ..] => match token.kind {
+                TokenKind::Ident if token.text == "repeated" => {
+                    self.rest = rest;
+                    Ok(Label::Repeated)
+                }
+                _ => Err(Refusal::Next(ParserError::LabelNotAllowed)),
+            },
+            [] => Err(Refusal::Next(ParserError::LabelNotAllowed)),
         }
     }
 
     /// Reads the type that has the next word. S8 at any other token.
-    pub fn scalar(&mut self) -> Result<Scalar, ParserErrorWithLocation>
-        ensures { OnOk result (left self.new < left self.old) }
-    {
-        let scalar = match self.peek_ident() {
-            Some("int32") => Scalar::Int32,
-            Some("int64") => Scalar::Int64,
-            Some("uint32") => Scalar::Uint32,
-            Some("uint64") => Scalar::Uint64,
-            Some("sint32") => Scalar::Sint32,
-            Some("sint64") => Scalar::Sint64,
-            Some("fixed32") => Scalar::Fixed32,
-            Some("sfixed32") => Scalar::Sfixed32,
-            Some("fixed64") => Scalar::Fixed64,
-            Some("sfixed64") => Scalar::Sfixed64,
-            Some("bool") => Scalar::Bool,
-            Some("string") => Scalar::String,
-            Some("bytes") => Scalar::Bytes,
-            Some("float") => Scalar::Float,
-            Some("double") => Scalar::Double,
-            _ => return Err(self.fault(ParserError::IncorrectInput)),
-        };
-        self.advance();
-        Ok(scalar)
-    }
-
-    /// Reads one or more neighbouring strings. S8 at any other token.
-    pub fn str_lit(&mut self, alloc: Global) -> Result<StrLit, ParserErrorWithLocation>
-        ensures { OnOk result (left self.new < left self.old) }
-    {
-        let mut pieces = Vec::new(alloc);
-        let Some(first) = self.peek_str() else {
-            return Err(self.fault(ParserError::IncorrectInput));
-        };
-        pieces.push(String::from_str(alloc, first)?)?;
-        self.advance();
-        'pieces: while let Some(piece) = self.peek_str() {
-            pieces.push(String::from_str(alloc, piece)?)?;
-            self.advance();
-        }
-        Ok(StrLit { pieces })
-    }
-
-    fn peek_str(&self) -> Option<&'text str>
-        ensures { OnSome result (0 < left self.now) }
+    pub fn scalar(&mut self) -> Result<Scalar, Refusal>
+        ensures { Gives (λ s. s) result (left self.new) ((read.one_of scalars).run (left self.old)) }
     {
         match self.rest {
-            [token, ..] if token.kind == TokenKind::Str => Some(unquoted(token.text)),
-            _ => None,
+            [token, rest @ ..] => match token.kind {
+                TokenKind::Ident => {
+                    let scalar = match token.text {
+                        "int32" => Scalar::Int32,
+                        "int64" => Scalar::Int64,
+                        "uint32" => Scalar::Uint32,
+                        "uint64" => Scalar::Uint64,
+                        "sint32" => Scalar::Sint32,
+                        "sint64" => Scalar::Sint64,
+                        "fixed32" => Scalar::Fixed32,
+                        "sfixed32" => Scalar::Sfixed32,
+                        "fixed64" => Scalar::Fixed64,
+                        "sfixed64" => Scalar::Sfixed64,
+                        "bool" => Scalar::Bool,
+                        "string" => Scalar::String,
+                        "bytes" => Scalar::Bytes,
+                        "float" => Scalar::Float,
+                        "double" => Scalar::Double,
+                        _ => return Err(Refusal::Next(ParserError::IncorrectInput)),
+                    };
+                    self.rest = rest;
+                    Ok(scalar)
+                }
+                _ => Err(Refusal::Next(ParserError::IncorrectInput)),
+            },
+            [] => Err(Refusal::Next(ParserError::IncorrectInput)),
+        }
+    }
+
+    /// Whether a string comes next.
+    #[tactic(auto, unfolding(protobuf_parse_base::specs::Readers::starts))]
+    pub fn sees_str(&self) -> bool
+        ensures { result ≡ starts lexicon (class.text ∷ []) (left self.now) }
+    {
+        match self.rest {
+            [token, ..] => match token.kind {
+                TokenKind::Str => true,
+                _ => false,
+            },
+            [] => false,
+        }
+    }
+
+    /// Reads a string token, of which this is the text between the quotes. S8 at any other token.
+    pub fn piece(&mut self, alloc: Global) -> Result<String, Refusal>
+        ensures { Gives string_bytes result (left self.new) (read.piece.run (left self.old)) }
+    {
+        match self.rest {
+            [token, rest @ ..] => match token.kind {
+                TokenKind::Str => {
+                    let Some(inner) = unquoted(token.text) else {
+                        return Err(Refusal::Next(ParserError::IncorrectInput));
+                    };
+                    let piece = String::from_str(alloc, inner)?;
+                    self.rest = rest;
+                    Ok(piece)
+                }
+                _ => Err(Refusal::Next(ParserError::IncorrectInput)),
+            },
+            [] => Err(Refusal::Next(ParserError::IncorrectInput)),
         }
     }
 }
 
 /// The text between the first and the last character of a string token, its quotes.
-fn unquoted(text: &str) -> &str {
-    match text.get(1..text.len().saturating_sub(1)) {
-        Some(inner) => inner,
-        None => text,
+fn unquoted(text: &str) -> Option<&str>
+    ensures { option_copied result ≡ between_quotes text.now }
+{
+    let bytes = text.as_bytes();
+    if bytes.len() < 2 {
+        return None;
     }
+    let last = bytes.len() - 1;
+    if !is_quote(bytes[0]) || !is_quote(bytes[last]) {
+        return None;
+    }
+    Some(&text[1..last])
+}
+
+fn is_quote(byte: u8) -> bool
+    ensures { result ≡ grammar.is_quote byte }
+{
+    byte == b'"' || byte == b'\''
 }

@@ -1,20 +1,25 @@
 //! Messages and their fields.
 
-ghost use Rattle.std.specs.Prelude.{◌<◌, ◌≤◌, OnOk};
-ghost use Rattle.protobuf_parse_syntax.specs.Cursors.{left};
+ghost use Rattle.std.specs.Prelude.{◌≡◌, ◌++◌, map, OnOk};
+ghost use Rattle.std.specs.Option.{option_to_list};
+ghost use Rattle.protobuf_parse_syntax.specs.Productions as read;
+ghost use Rattle.protobuf_parse_syntax.specs.Trees.{field_view, body_view, message_view};
+ghost use Rattle.protobuf_parse_syntax.specs.Code.{left, Gives, seen_by};
 
-use crate::error::{ParserError, ParserErrorWithLocation};
 use crate::parser::cursor::Cursor;
+use crate::parser::list::push_some;
+use crate::parser::refusal::Refusal;
 use crate::tree::{Field, Label, Message, MessageStatement, Syntax, Type};
 use std::alloc::Global;
 
 /// `message = "message" ident "{" { ";" | field } "}"`
+#[tactic(auto, unfolding(crate::specs::Productions::message))]
 pub fn message(
     alloc: Global,
     tokens: &mut Cursor<'_, '_>,
     syntax: Syntax,
-) -> Result<Message, ParserErrorWithLocation>
-    ensures { OnOk result (left tokens.new < left tokens.old) }
+) -> Result<Message, Refusal>
+    ensures { Gives message_view result (left tokens.new) ((read.message syntax).run (left tokens.old)) }
 {
     let place = tokens.place();
     tokens.word("message")?;
@@ -25,45 +30,43 @@ pub fn message(
     Ok(Message { place, name, body })
 }
 
+#[tactic(auto, unfolding(crate::specs::Productions::body))]
 fn message_body(
     alloc: Global,
     tokens: &mut Cursor<'_, '_>,
     syntax: Syntax,
-) -> Result<Vec<MessageStatement>, ParserErrorWithLocation>
-    ensures { OnOk result (left tokens.new ≤ left tokens.old) }
+) -> Result<Vec<MessageStatement>, Refusal>
+    ensures { Gives (λ v. map body_view v.items) result (left tokens.new) ((read.body syntax).run (left tokens.old)) }
 {
     let mut body = Vec::new(alloc);
-    'body: while !tokens.sees_symbol('}') {
-        match message_statement(alloc, tokens, syntax)? {
-            Some(statement) => body.push(statement)?,
-            None => {}
-        }
+    'items: while tokens.begins_statement() {
+        let item = message_statement(alloc, tokens, syntax)?;
+        push_some(&mut body, item)?;
     }
     Ok(body)
 }
 
 /// A statement of a message, or nothing at a semicolon.
+#[tactic(auto, unfolding(crate::specs::Productions::body_item))]
 fn message_statement(
     alloc: Global,
     tokens: &mut Cursor<'_, '_>,
     syntax: Syntax,
-) -> Result<Option<MessageStatement>, ParserErrorWithLocation>
-    ensures { OnOk result (left tokens.new < left tokens.old) }
+) -> Result<Option<MessageStatement>, Refusal>
+    ensures { Gives (seen_by body_view) result (left tokens.new) ((read.body_item syntax).run (left tokens.old)) }
 {
     if tokens.sees_symbol(';') {
         tokens.symbol(';')?;
-        return Ok(None);
+        Ok(None)
+    } else {
+        Ok(Some(MessageStatement::Field(field(alloc, tokens, syntax)?)))
     }
-    Ok(Some(MessageStatement::Field(field(alloc, tokens, syntax)?)))
 }
 
 /// `field = [ label ] scalar ident "=" int ";"`
-fn field(
-    alloc: Global,
-    tokens: &mut Cursor<'_, '_>,
-    syntax: Syntax,
-) -> Result<Field, ParserErrorWithLocation>
-    ensures { OnOk result (left tokens.new < left tokens.old) }
+#[tactic(auto, unfolding(crate::specs::Productions::field))]
+fn field(alloc: Global, tokens: &mut Cursor<'_, '_>, syntax: Syntax) -> Result<Field, Refusal>
+    ensures { Gives field_view result (left tokens.new) ((read.field syntax).run (left tokens.old)) }
 {
     let place = tokens.place();
     let label = label(tokens, syntax)?;
@@ -81,38 +84,20 @@ fn field(
     })
 }
 
-/// The label of a field. In proto2 each field has one (S12 where it is missing). In proto3 a field may be
-/// `repeated`, and any other label is S11.
-fn label(
-    tokens: &mut Cursor<'_, '_>,
-    syntax: Syntax,
-) -> Result<Option<Label>, ParserErrorWithLocation>
-    ensures { OnOk result (left tokens.new ≤ left tokens.old) }
+/// The label of a field. In proto2 each field has one. In proto3 a field may be `repeated`, and has no
+/// other label.
+#[tactic(auto, using(crate::specs::Productions::label_in_proto2, crate::specs::Productions::label_in_proto3))]
+fn label(tokens: &mut Cursor<'_, '_>, syntax: Syntax) -> Result<Option<Label>, Refusal>
+    ensures { Gives (λ l. l) result (left tokens.new) ((read.label syntax).run (left tokens.old)) }
 {
-    match tokens.peek_label() {
-        Some(label) => {
-            if syntax == Syntax::Proto3 && label != Label::Repeated {
-                return Err(tokens.fault(ParserError::LabelNotAllowed));
+    match syntax {
+        Syntax::Proto2 => Ok(Some(tokens.label()?)),
+        Syntax::Proto3 => {
+            if tokens.sees_label() {
+                Ok(Some(tokens.label3()?))
+            } else {
+                Ok(None)
             }
-            tokens.advance();
-            Ok(Some(label))
         }
-        None if syntax == Syntax::Proto2 && begins_field(tokens) => {
-            Err(tokens.fault(ParserError::LabelRequired))
-        }
-        None if syntax == Syntax::Proto2 => Err(tokens.fault(ParserError::IncorrectInput)),
-        None => Ok(None),
-    }
-}
-
-/// Whether an identifier comes next with which a field may begin: none of the words that begin another
-/// statement of a body.
-fn begins_field(tokens: &Cursor<'_, '_>) -> bool {
-    match tokens.peek_ident() {
-        None => false,
-        Some(word) => !matches!(
-            word,
-            "reserved" | "oneof" | "extend" | "message" | "enum" | "extensions" | "option"
-        ),
     }
 }

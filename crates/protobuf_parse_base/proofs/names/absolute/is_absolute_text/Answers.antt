@@ -1,5 +1,5 @@
 -- A path that is not empty begins with a dot.
-use Rattle.std.proofs.Common.{◌≡◌, ◌∷◌, None, Some, sym, ap, ◌∙◌, lit<, length, ◌==◌, true}
+use Rattle.std.proofs.Common.{◌≡◌, None, Some, sym, ap, ◌∙◌, lit<}
 use Rattle.std.proofs.lemmas.Str.Pattern.{strip_prefix_char}
 use Rattle.protobuf_parse_base.specs.Names.{is_absolute}
 use Rattle.protobuf_parse_base.proofs.NameTexts.{IsAbsolute-from_test, is_absolute-from_fact, is_absolute-no_dot}
@@ -19,7 +19,7 @@ returns-in-Some-clause-meaning c =
 pub returns-in-None-clause-test : goal.returns-in-None-clause-test
 returns-in-None-clause-test c =
     c.is_empty.ensures
-      ∙ is_absolute-no_dot c.args.text.now (strip_prefix_char 46 c.args.text.now None c.in-None.ensures.cases (lit< tt))
+    ∙ is_absolute-no_dot c.args.text.now (strip_prefix_char 46 c.args.text.now None c.in-None.ensures.cases (lit< tt))
 
 pub returns-in-None-clause-meaning : goal.returns-in-None-clause-meaning
 returns-in-None-clause-meaning c =

@@ -1,5 +1,5 @@
 -- A part that is kept is added.
-use Rattle.std.proofs.Common.{◌≡◌, map, ap, ◌∙◌, lit<, rules, false}
+use Rattle.std.proofs.Common.{◌≡◌, ap, ◌∙◌, lit<, rules, false}
 use Rattle.std.specs.String.{string_bytes}
 use Rattle.std.proofs.lemmas.Iterator.Consumers.{YieldsList-end}
 use Rattle.std.proofs.lemmas.Iterator.Splits.{YieldsList-from_str_split}

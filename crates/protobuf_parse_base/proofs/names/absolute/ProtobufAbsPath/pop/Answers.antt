@@ -9,7 +9,7 @@ use Rattle.protobuf_parse_base.proofs.names.absolute.ProtobufAbsPath.pop.Goals a
 pub returns-in_default-clause-root : goal.returns-in_default-clause-root
 returns-in_default-clause-root c =
     let one : dotted_parts (string_bytes c.args.self.now.text) ≡ string_bytes c.args.self.now.text ∷ [] =
-      rw c.as_str.ensures.value at c.in_default.ensures in
+    rw c.as_str.ensures.value at c.in_default.ensures in
     absolute-one_part _ c.args.self.now.well_formed one
 
 pub new-requires : goal.new-requires
@@ -22,7 +22,7 @@ invariant_of-self c =
     let whole : string_bytes c.args.self.now.text ≡ c.in-Some.front.now ++ (46 ∷ c.in-Some.last.now) = sym c.as_str.ensures.value ∙ c.in-Some.ensures.0 in
     let cut = IsCutAbsolute-from_dot c.in-Some.front.now c.in-Some.last.now _ whole c.args.self.now.well_formed in
     let left : string_bytes c.truncate.new.self ≡ c.in-Some.front.now =
-      c.truncate.ensures.bytes ∙ (ap (λ text. take (length c.in-Some.front.now) text) whole ∙ take_at c.in-Some.front.now (46 ∷ c.in-Some.last.now) _ refl) in
+    c.truncate.ensures.bytes ∙ (ap (λ text. take (length c.in-Some.front.now) text) whole ∙ take_at c.in-Some.front.now (46 ∷ c.in-Some.last.now) _ refl) in
     record { well_formed = ap is_absolute left ∙ cut.front_is }
 
 pub returns-clause-popped : goal.returns-clause-popped
@@ -30,8 +30,8 @@ returns-clause-popped c =
     let whole : string_bytes c.args.self.now.text ≡ c.in-Some.front.now ++ (46 ∷ c.in-Some.last.now) = sym c.as_str.ensures.value ∙ c.in-Some.ensures.0 in
     let cut = IsCutAbsolute-from_dot c.in-Some.front.now c.in-Some.last.now _ whole c.args.self.now.well_formed in
     let left : string_bytes c.truncate.new.self ≡ c.in-Some.front.now =
-      c.truncate.ensures.bytes ∙ (ap (λ text. take (length c.in-Some.front.now) text) whole ∙ take_at c.in-Some.front.now (46 ∷ c.in-Some.last.now) _ refl) in
+    c.truncate.ensures.bytes ∙ (ap (λ text. take (length c.in-Some.front.now) text) whole ∙ take_at c.in-Some.front.now (46 ∷ c.in-Some.last.now) _ refl) in
     let one = relative-one c.in-Some.last.now cut.rest_is cut.nonempty c.in-Some.ensures.1 in
     cut.idents ∙ (ap (λ ids. absolute_idents c.in-Some.front.now ++ ids) one.1
-      ∙ (ap (λ text. absolute_idents text ++ (c.in-Some.last.now ∷ [])) (sym left)
-        ∙ ap (λ last. absolute_idents (string_bytes c.truncate.new.self) ++ (last ∷ [])) (sym c.in_ok-last.ensures)))
+    ∙ (ap (λ text. absolute_idents text ++ (c.in-Some.last.now ∷ [])) (sym left)
+    ∙ ap (λ last. absolute_idents (string_bytes c.truncate.new.self) ++ (last ∷ [])) (sym c.in_ok-last.ensures)))

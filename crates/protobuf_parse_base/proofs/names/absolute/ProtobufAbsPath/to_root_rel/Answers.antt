@@ -1,9 +1,6 @@
 -- Only the root begins with no dot.
-use Rattle.std.proofs.Common.{◌≡◌, None, ap, ◌∙◌, sym, lit<, length, ◌==◌}
-use Rattle.std.proofs.lemmas.Bool.{eqb-true}
-use Rattle.std.proofs.lemmas.List.{nil_from_length}
+use Rattle.std.proofs.Common.{None, ◌∙◌, sym, lit<}
 use Rattle.std.proofs.lemmas.Str.Pattern.{strip_prefix_char}
-use Rattle.protobuf_parse_base.specs.Names.{absolute_idents}
 use Rattle.protobuf_parse_base.proofs.NameTexts.{absolute-no_dot}
 use Rattle.protobuf_parse_base.proofs.names.absolute.ProtobufAbsPath.to_root_rel.Goals as goal
 

@@ -1,6 +1,5 @@
 -- An identifier is a path of one.
 use Rattle.std.proofs.Common.{◌∷◌, [], string_bytes, ap, ◌∙◌}
-use Rattle.protobuf_parse_base.specs.Names.{relative_idents}
 use Rattle.protobuf_parse_base.proofs.NameTexts.{ident-relative}
 use Rattle.protobuf_parse_base.proofs.names.relative.ProtobufRelPath.from_ident.Goals as goal
 

@@ -7,6 +7,7 @@ use Rattle.protobuf_parse_base.proofs.NameTexts.{relative-empty}
 use Rattle.protobuf_parse_base.proofs.names.relative.ProtobufRelPathRef.is_empty.Goals as goal
 
 pub returns : goal.returns
-returns c =
-    (λ empty. ap relative_idents (nil_from_length c.args.self.text.now (eqb-true _ 0 (sym c.is_empty.ensures ∙ empty))),
-      λ none. c.is_empty.ensures ∙ ap (λ text. length text == 0) (relative-empty c.args.self.text.now none))
+returns c = (
+  λ empty. ap relative_idents (nil_from_length c.args.self.text.now (eqb-true _ 0 (sym c.is_empty.ensures ∙ empty))),
+  λ none. c.is_empty.ensures ∙ ap (λ text. length text == 0) (relative-empty c.args.self.text.now none),
+)

@@ -10,10 +10,11 @@ new-requires c = (IsCutRelative-from_dot _ _ _ c.in-Some.ensures.0 c.args.self.w
 pub returns-in-Some : goal.returns-in-Some
 returns-in-Some c =
     let cut = IsCutRelative-from_dot _ _ _ c.in-Some.ensures.0 c.args.self.well_formed in
-    let one = relative-one _ cut.rest_is cut.rest_nonempty c.in-Some.ensures.1 in
-    (c.in-Some.field-0-1.now,
+    let one = relative-one _ cut.rest_is cut.rest_nonempty c.in-Some.ensures.1 in (
+      c.in-Some.field-0-1.now,
       cut.idents ∙ (ap (λ ids. relative_idents c.in-Some.front.now ++ ids) one.1
-        ∙ ap (λ text. relative_idents text ++ (c.in-Some.field-0-1.now ∷ [])) (sym c.new.ensures)))
+          ∙ ap (λ text. relative_idents text ++ (c.in-Some.field-0-1.now ∷ [])) (sym c.new.ensures)),
+    )
 
 pub returns-in-None : goal.returns-in-None
 returns-in-None c =

@@ -1,7 +1,7 @@
 -- A path is cut at its first dot.
 use Rattle.std.proofs.Common.{◌∷◌, ◌++◌, [], sym, ap, ◌∙◌}
 use Rattle.protobuf_parse_base.specs.Names.{relative_idents}
-use Rattle.protobuf_parse_base.specs.NameViews.{ident_ref_text, rel_ref_idents}
+use Rattle.protobuf_parse_base.specs.NameViews.{ident_ref_text}
 use Rattle.protobuf_parse_base.proofs.NameTexts.{IsCutRelative-from_dot, relative-one, nonempty-from_test}
 use Rattle.protobuf_parse_base.proofs.names.relative.ProtobufRelPathRef.split_first_rem.Goals as goal
 
@@ -21,8 +21,8 @@ returns-in-Some c =
     let cut = IsCutRelative-from_dot _ _ _ c.in-Some.ensures.0 c.args.self.well_formed in
     let one = relative-one _ cut.front_is cut.front_nonempty c.in-Some.ensures.1 in
     cut.idents ∙ (ap (λ ids. ids ++ relative_idents c.in-Some.rest.now) one.1
-      ∙ (ap (λ text. text ∷ relative_idents c.in-Some.rest.now) (sym c.new.ensures)
-        ∙ ap (λ text. ident_ref_text c.new.result ∷ relative_idents text) (sym c.new-in-Some.ensures)))
+    ∙ (ap (λ text. text ∷ relative_idents c.in-Some.rest.now) (sym c.new.ensures)
+    ∙ ap (λ text. ident_ref_text c.new.result ∷ relative_idents text) (sym c.new-in-Some.ensures)))
 
 pub returns-in-None : goal.returns-in-None
 returns-in-None c =

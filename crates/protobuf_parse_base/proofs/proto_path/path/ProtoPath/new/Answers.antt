@@ -1,6 +1,5 @@
 -- A text has no fault exactly if it is a proto path.
-use Rattle.std.proofs.Common.{◌≡◌, None, Some, Option, refl, sym, ap, ◌∙◌, rules}
-use Rattle.protobuf_parse_base.specs.declared.proto_path.error.PathError.{PathError}
+use Rattle.std.proofs.Common.{◌≡◌, None, Some, refl, rules}
 use Rattle.protobuf_parse_base.specs.Paths.{path_fault}
 use Rattle.protobuf_parse_base.proofs.PathTexts.{IsProtoPath-from_fault, path_fault-proto_path}
 use Rattle.protobuf_parse_base.proofs.proto_path.path.ProtoPath.new.Goals as goal

@@ -1,5 +1,5 @@
 -- What is kept is a proto path unless it is empty.
-use Rattle.std.proofs.Common.{◌≡◌, ◌==◌, length, true, false, None, Some, sym, ap, ◌∙◌, rules}
+use Rattle.std.proofs.Common.{◌≡◌, ◌==◌, length, true, false, sym, ap, ◌∙◌, rules}
 use Rattle.std.specs.List.{list_any}
 use Rattle.std.specs.String.{string_bytes}
 use Rattle.protobuf_parse_base.specs.Paths.{has_backslash, is_dot_dot, is_empty, joined, kept_parts, path_fault, slash_parts, starts_with_slash}

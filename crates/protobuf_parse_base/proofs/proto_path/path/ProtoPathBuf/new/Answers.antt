@@ -1,7 +1,6 @@
 -- A text has no fault exactly if it is a proto path.
-use Rattle.std.proofs.Common.{◌≡◌, None, Some, Option, refl, sym, ap, ◌∙◌, rules}
+use Rattle.std.proofs.Common.{◌≡◌, None, Some, refl, rules}
 use Rattle.std.specs.String.{string_bytes}
-use Rattle.protobuf_parse_base.specs.declared.proto_path.error.PathError.{PathError}
 use Rattle.protobuf_parse_base.specs.Paths.{path_fault}
 use Rattle.protobuf_parse_base.proofs.PathTexts.{IsProtoPath-from_fault, path_fault-proto_path}
 use Rattle.protobuf_parse_base.proofs.proto_path.path.ProtoPathBuf.new.Goals as goal

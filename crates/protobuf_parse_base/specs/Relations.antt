@@ -1,0 +1,92 @@
+-- Relations between a list of tokens and what it says, and how they are joined. A grammar is written with
+-- them as do-blocks, a line of which is a part of the production: what stands first, and then the rest.
+use Rattle.std.specs.Prelude.{◌≡◌, ℕ, zero, suc, List, [], ◌∷◌, ◌++◌, Option, Some, None, Bool, true, false, ◌⊎◌, unwrap_or}
+
+abbrev pub Rel : Type 0 → Type 0 → Type 1
+Rel Tok A = List Tok → A → Type 0
+
+-- no tokens, which say the value
+abbrev pub Nothing : {Tok A : Type 0} → A → Rel Tok A
+Nothing value ts a = (ts ≡ []) × (a ≡ value)
+
+-- no tokens, which say any value with the property
+abbrev pub Such : {Tok A : Type 0} → (A → Type 0) → Rel Tok A
+Such P ts a = (ts ≡ []) × P a
+
+-- no tokens at all
+abbrev pub Never : {Tok A : Type 0} → Rel Tok A
+Never ts a = ⊥
+
+-- one token that says the value
+abbrev pub One : {Tok A : Type 0} → (Tok → Option A) → Rel Tok A
+One {Tok = Tok} says ts a = (t : Tok) × (ts ≡ t ∷ []) × (says t ≡ Some a)
+
+-- tokens of the first relation and then tokens of the second, which may depend on what the first say
+pub record Then {Tok A B : Type 0} (R : List Tok → A → Type 0) (S : A → List Tok → B → Type 0) (ts : List Tok) (b : B) : Type 0 where
+  pub value : A
+  pub front : List Tok
+  pub back : List Tok
+  pub first : R front value
+  pub second : S value back b
+  pub parts : ts ≡ front ++ back
+
+infixl 10 ◌>>=◌
+abbrev pub ◌>>=◌ : {Tok A B : Type 0} → Rel Tok A → (A → Rel Tok B) → Rel Tok B
+R >>= S = Then R S
+
+infixl 10 ◌>>◌
+abbrev pub ◌>>◌ : {Tok A B : Type 0} → Rel Tok A → Rel Tok B → Rel Tok B
+R >> S = Then R (λ a. S)
+
+abbrev pub Either : {Tok A : Type 0} → Rel Tok A → Rel Tok A → Rel Tok A
+Either R S ts a = R ts a ⊎ S ts a
+
+-- such a part, or nothing
+abbrev pub Optional : {Tok A : Type 0} → Rel Tok A → Rel Tok (Option A)
+Optional R = Either (do a ← R; Nothing (Some a)) (Nothing None)
+
+-- any number of such parts, one after the other
+pub data Many {Tok A : Type 0} (R : List Tok → A → Type 0) : List Tok → List A → Type 0 where
+  none : Many R [] []
+  more : {ts us : List Tok} {a : A} {as' : List A} → R ts a → Many R us as' → Many R (ts ++ us) (a ∷ as')
+
+-- one or more such parts
+abbrev pub Some_of : {Tok A : Type 0} → Rel Tok A → Rel Tok (List A)
+Some_of R = do first ← R; others ← Many R; Nothing (first ∷ others)
+
+-- one or more such parts with a separator between each two
+abbrev pub Separated : {Tok A B : Type 0} → Rel Tok B → Rel Tok A → Rel Tok (List A)
+Separated S R = do first ← R; others ← Many (do S; R); Nothing (first ∷ others)
+
+-- what a part says means the value
+abbrev pub Meant : {Tok A B : Type 0} → Rel Tok A → (A → Option B) → Rel Tok B
+Meant {A = A} R means ts b = (a : A) × R ts a × (means a ≡ Some b)
+
+-- a part that may stand only where b is true
+abbrev pub Only : {Tok A : Type 0} → Bool → Rel Tok A → Rel Tok A
+Only b R ts a = (b ≡ true) × R ts a
+
+-- no first token, or one that fails the test
+abbrev pub BeginsOtherwise : {Tok : Type 0} → (Tok → Bool) → List Tok → Type 0
+BeginsOtherwise test [] = Unit {0}
+BeginsOtherwise test (t ∷ ts) = test t ≡ false
+
+-- a part that does not begin with such a token
+abbrev pub Unless : {Tok A : Type 0} → (Tok → Bool) → Rel Tok A → Rel Tok A
+Unless test R ts a = R ts a × BeginsOtherwise test ts
+
+-- a part with a first token, on whose mark it may depend
+abbrev pub At : {Tok Mark A : Type 0} → (Tok → Mark) → (Mark → Rel Tok A) → Rel Tok A
+At mark R [] a = ⊥
+At mark R (t ∷ ts) a = R (mark t) (t ∷ ts) a
+
+-- a part that contains itself, at most so many levels deep
+unfoldable pub Level : {Tok A : Type 0} → (Rel Tok A → Rel Tok A) → ℕ → Rel Tok A
+Level F zero = Never
+Level F (suc n) = F (Level F n)
+
+-- the values that are there
+abbrev pub somes : {A : Type 0} → List (Option A) → List A
+somes [] = []
+somes (None ∷ items) = somes items
+somes (Some a ∷ items) = a ∷ somes items

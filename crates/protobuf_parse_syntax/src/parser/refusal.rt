@@ -1,0 +1,54 @@
+//! Why a part of a text cannot be read.
+
+ghost use Rattle.std.specs.Prelude.{◌≡◌};
+ghost use Rattle.protobuf_parse_syntax.specs.declared.parser.refusal.Refusal.TheVariants.{Memory};
+
+use crate::error::{ParserError, ParserErrorWithLocation};
+use crate::lexer::token::Place;
+use std::alloc::{AllocError, AllocFailed};
+
+/// Why a part of a text cannot be read.
+#[derive(Clone, Copy, Debug, PartialEq, Eq)]
+pub enum Refusal {
+    Memory,
+    /// The next token, or the end of the text, cannot stand there.
+    Next(ParserError),
+    /// What was read at this place says nothing that may stand there.
+    At(Place, ParserError),
+}
+
+impl From<AllocError> for Refusal {
+    ghost from_gives = { λ _ e. e ≡ Memory };
+
+    fn from(_error: AllocError) -> Refusal {
+        Refusal::Memory
+    }
+}
+
+impl<T: Drop> From<AllocFailed<T>> for Refusal {
+    ghost from_gives = { λ _ e. e ≡ Memory };
+
+    fn from(_error: AllocFailed<T>) -> Refusal {
+        Refusal::Memory
+    }
+}
+
+impl Refusal {
+    ghost use Rattle.protobuf_parse_syntax.specs.Code.{error_at};
+
+    /// The error, where the next token, or the end of the text, stands at this place.
+    pub fn located(self, next: Place) -> ParserErrorWithLocation
+        ensures { result ≡ error_at self next }
+    {
+        let (place, error) = match self {
+            Refusal::Memory => return AllocError.into(),
+            Refusal::Next(error) => (next, error),
+            Refusal::At(place, error) => (place, error),
+        };
+        ParserErrorWithLocation {
+            error,
+            line: place.line,
+            col: place.col,
+        }
+    }
+}
