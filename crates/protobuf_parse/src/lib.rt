@@ -20,4 +20,5 @@ pub use protobuf_parse_model::{
     ServiceDescriptorProto, ServiceOptions,
 };
 pub use protobuf_parse_syntax::{ParserError, ParserErrorWithLocation};
+pub use protobuf_parse_wire::{ReadFault, ReadField, ReadValue, read_custom};
 pub use run::{ReadInputFault, RunFault, describe_file};

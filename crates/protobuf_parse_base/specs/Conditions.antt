@@ -1,7 +1,7 @@
 -- Readers of parts that stand under a condition, and of parts joined from them.
-use Rattle.std.proofs.Common.{◌≡◌, List, [], ◌∷◌, ◌++◌, Option, Some, None, Bool, true, false, not, ◌&&◌, ◌||◌, cond, refl, sym, ap, ◌∙◌}
-use Rattle.protobuf_parse_base.specs.Relations.{Rel, Nothing, Many, Optional, Some_of, Separated, Meant, Only, Unless, BeginsOtherwise, At}
-use Rattle.protobuf_parse_base.specs.Readers.{Rest, end, token, onto, next, Read, read, stuck, wrong, deep, bind, bind_read, read_parts, Lexicon, Shape, shape, LocalAt, Sound, seen, seen_by, starts, starts-next, starts-onto, Begins, Reader, local-same, bind-local, give, ◌>>=◌, ◌>>◌, then_shape, either_shape, choose, many, many_shape, pick, pick-local-at, seen_by-append, or_true, begins-starts, next-onto, false_by}
+use Rattle.std.proofs.Common.{◌≡◌, List, [], ◌∷◌, ◌++◌, Option, Some, None, Bool, true, false, ◌&&◌, ◌||◌, cond, refl, sym, ap, ◌∙◌}
+use Rattle.protobuf_parse_base.specs.Relations.{Optional, OneOrMore, Separated, Meant, Only, Unless, BeginsOtherwise, At}
+use Rattle.protobuf_parse_base.specs.Readers.{Rest, end, token, onto, next, Read, read, stuck, wrong, deep, bind, bind_read, bind_deep, read_parts, Lexicon, Shape, shape, LocalAt, Sound, seen_by, starts, starts-next, starts-onto, Begins, Reader, local-same, bind-local, give, ◌>>=◌, ◌>>◌, then_shape, either_shape, choose, many, many_shape, pick, pick-local-at, seen_by-append, or_true}
 
 stuck-local : {Tok Mark A : Type 0} (ts : Rest Tok Mark) → LocalAt {A = A} stuck ts (stuck ts)
 stuck-local ts = record { used = []; parts = refl; again = λ other e. refl }
@@ -23,8 +23,12 @@ module _ {Tok Mark Class A : Type 0} {L : Lexicon Tok Mark Class} {R : List Tok 
   pub only-complete : (b : Bool) (p : Reader L R s) → s.fine ≡ true → (used : List Tok) (a : A) (rest : Rest Tok Mark) → Only b R used a → starts L s.goes rest ≡ false → run_only b p (onto used rest) ≡ read a rest
   only-complete b p fine used a rest h e = rw h.0 (p.complete fine used a rest h.1 e)
 
+  pub only-shallow : (b : Bool) (p : Reader L R s) → s.nests ≡ false → (ts : Rest Tok Mark) → run_only b p ts ≡ deep → ⊥
+  only-shallow true p n ts e = p.shallow n ts e
+  only-shallow false p n ts e = cc
+
 abbrev pub only : {Tok Mark Class A : Type 0} {L : Lexicon Tok Mark Class} {R : List Tok → A → Type 0} {s : Shape Class} (b : Bool) → Reader L R s → Reader L (Only b R) s
-only b p = record { run = run_only b p; local = only-local b p; sound = only-sound b p; complete = only-complete b p; begins = λ used a h. p.begins used a h.1 }
+only b p = record { run = run_only b p; local = only-local b p; sound = only-sound b p; complete = only-complete b p; begins = λ used a h. p.begins used a h.1; shallow = λ n ts e. only-shallow b p n ts e }
 
 -- ---- with another first token
 
@@ -55,7 +59,7 @@ module _ {Tok Mark Class : Type 0} (L : Lexicon Tok Mark Class) where
       go false k i f = f k i
 
 abbrev pub unless_shape : {Tok Mark Class : Type 0} → Lexicon Tok Mark Class → List Class → Shape Class → Shape Class
-unless_shape L ds s = record { firsts = without L s.firsts ds; empty = false; goes = s.goes; fine = s.fine }
+unless_shape L ds s = record { firsts = without L s.firsts ds; empty = false; goes = s.goes; nests = s.nests; fine = s.fine }
 
 module _ {Tok Mark Class A : Type 0} {L : Lexicon Tok Mark Class} {R : List Tok → A → Type 0} {s : Shape Class} (ds : List Class) (p : Reader L R s) where
   abbrev pub run_unless : Rest Tok Mark → Read Tok Mark A
@@ -63,6 +67,13 @@ module _ {Tok Mark Class A : Type 0} {L : Lexicon Tok Mark Class} {R : List Tok 
 
   pub unless-local : (ts : Rest Tok Mark) → LocalAt run_unless ts (run_unless ts)
   unless-local ts = pick-local-at (starts L ds) (λ us vs h. starts-next L ds vs us h) stuck p.run ts (starts L ds ts) refl (stuck-local ts) (p.local ts)
+
+  unless-shallow-at : s.nests ≡ false → (ts : Rest Tok Mark) (b : Bool) → cond b (stuck ts) (p.run ts) ≡ deep → ⊥
+  unless-shallow-at n ts true e = cc
+  unless-shallow-at n ts false e = p.shallow n ts e
+
+  pub unless-shallow : s.nests ≡ false → (ts : Rest Tok Mark) → run_unless ts ≡ deep → ⊥
+  unless-shallow n ts e = unless-shallow-at n ts (starts L ds ts) e
 
   module _ (some : s.empty ≡ false) where
     otherwise : (used : List Tok) (rest : Rest Tok Mark) → Begins L s.firsts s.empty used → starts L ds (onto used rest) ≡ false → BeginsOtherwise (seen_by L ds) used
@@ -92,7 +103,7 @@ module _ {Tok Mark Class A : Type 0} {L : Lexicon Tok Mark Class} {R : List Tok 
 
 -- a part, which is not empty, that begins with a token of none of the classes
 abbrev pub unless : {Tok Mark Class A : Type 0} {L : Lexicon Tok Mark Class} {R : List Tok → A → Type 0} {s : Shape Class} (ds : List Class) (p : Reader L R s) → s.empty ≡ false → Reader L (Unless (seen_by L ds) R) (unless_shape L ds s)
-unless ds p some = record { run = run_unless ds p; local = unless-local ds p; sound = unless-sound ds p some; complete = unless-complete ds p some; begins = unless-begins ds p some }
+unless ds p some = record { run = run_unless ds p; local = unless-local ds p; sound = unless-sound ds p some; complete = unless-complete ds p some; begins = unless-begins ds p some; shallow = unless-shallow ds p }
 
 -- ---- with the mark of the first token
 
@@ -134,7 +145,7 @@ module _ {Tok Mark Class A : Type 0} {L : Lexicon Tok Mark Class} {R : Mark → 
 
 -- a part, which is not empty, that may depend on the mark of its first token
 abbrev pub at : {Tok Mark Class A : Type 0} {L : Lexicon Tok Mark Class} {R : Mark → List Tok → A → Type 0} {s : Shape Class} (f : (m : Mark) → Reader L (R m) s) → s.empty ≡ false → Reader L (At L.mark R) s
-at f some = record { run = run_at f; local = at-local f; sound = at-sound f some; complete = at-complete f; begins = at-begins f }
+at f some = record { run = run_at f; local = at-local f; sound = at-sound f some; complete = at-complete f; begins = at-begins f; shallow = λ n ts e. (f (mark_of _ ts)).shallow n ts e }
 
 -- ---- with a meaning
 
@@ -156,6 +167,13 @@ module _ {Tok Mark Class A B : Type 0} {L : Lexicon Tok Mark Class} {R : List To
       let l : LocalAt F ts (F ts) = bind-local p.run (λ a vs. meaning (mark_of L.mark ts) (means a) vs) ts (p.run ts) (p.local ts) (λ a us e. meaning-local (mark_of L.mark ts) (mark_of L.mark ts) (means a) us) in
       local-same F run_meant ts (F ts) (λ us h. ap (λ m. bind (p.run us) (λ a vs. meaning m (means a) vs)) (mark-next L.mark us ts h)) l
 
+  pub meaning-shallow : (m : Mark) (o : Option B) (us : Rest Tok Mark) → meaning m o us ≡ deep → ⊥
+  meaning-shallow m None us e = cc
+  meaning-shallow m (Some b) us e = cc
+
+  pub meant-shallow : s.nests ≡ false → (ts : Rest Tok Mark) → run_meant ts ≡ deep → ⊥
+  meant-shallow n ts e = bind_deep (p.run ts) (λ a us. meaning (mark_of L.mark ts) (means a) us) e (p.shallow n ts) (λ a us h i. meaning-shallow (mark_of L.mark ts) (means a) us i)
+
   meaning-read : (m : Mark) (o : Option B) (us : Rest Tok Mark) (b : B) (rest : Rest Tok Mark) → meaning m o us ≡ read b rest → (o ≡ Some b) × (us ≡ rest)
   meaning-read m None us b rest e = absurd cc
   meaning-read m (Some c) us b rest e = let h = read_parts c b us rest e in (ap (λ (x : B). Some x) h.0, h.1)
@@ -172,7 +190,7 @@ module _ {Tok Mark Class A B : Type 0} {L : Lexicon Tok Mark Class} {R : List To
 
 -- a part whose value means something, or else is wrong at its first token
 abbrev pub meant : {Tok Mark Class A B : Type 0} {L : Lexicon Tok Mark Class} {R : List Tok → A → Type 0} {s : Shape Class} (p : Reader L R s) (means : A → Option B) → Reader L (Meant R means) s
-meant p means = record { run = run_meant p means; local = meant-local p means; sound = meant-sound p means; complete = meant-complete p means; begins = λ used b h. p.begins used h.0 h.1 }
+meant p means = record { run = run_meant p means; local = meant-local p means; sound = meant-sound p means; complete = meant-complete p means; begins = λ used b h. p.begins used h.0 h.1; shallow = meant-shallow p means }
 
 -- ---- joined parts
 
@@ -186,11 +204,11 @@ both_empty a e = rw e refl
 abbrev pub optional : {Tok Mark Class A : Type 0} {L : Lexicon Tok Mark Class} {R : List Tok → A → Type 0} {s : Shape Class} (p : Reader L R s) → s.empty ≡ false → Reader L (Optional R) (optional_shape L s)
 optional {s = s} p some = choose (do a ← p; give (Some a)) (both_empty s.empty some) (give None)
 
-abbrev pub some_shape : {Tok Mark Class : Type 0} → Lexicon Tok Mark Class → Shape Class → Shape Class
-some_shape L s = then_shape L s (then_shape L (many_shape L s) (shape [] true []))
+abbrev pub one_or_more_shape : {Tok Mark Class : Type 0} → Lexicon Tok Mark Class → Shape Class → Shape Class
+one_or_more_shape L s = then_shape L s (then_shape L (many_shape L s) (shape [] true []))
 
-abbrev pub some_of : {Tok Mark Class A : Type 0} {L : Lexicon Tok Mark Class} {R : List Tok → A → Type 0} {s : Shape Class} (p : Reader L R s) → s.empty ≡ false → Reader L (Some_of R) (some_shape L s)
-some_of p some = do first ← p; others ← many p some; give (first ∷ others)
+abbrev pub one_or_more : {Tok Mark Class A : Type 0} {L : Lexicon Tok Mark Class} {R : List Tok → A → Type 0} {s : Shape Class} (p : Reader L R s) → s.empty ≡ false → Reader L (OneOrMore R) (one_or_more_shape L s)
+one_or_more p some = do first ← p; others ← many p some; give (first ∷ others)
 
 abbrev pub separated_shape : {Tok Mark Class : Type 0} → Lexicon Tok Mark Class → Shape Class → Shape Class → Shape Class
 separated_shape L s t = then_shape L t (then_shape L (many_shape L (then_shape L s t)) (shape [] true []))

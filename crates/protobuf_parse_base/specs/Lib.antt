@@ -8,5 +8,6 @@ pub mod Relations
 pub mod Readers
 pub mod Conditions
 pub mod Depth
+pub mod Pairs
 pub mod Whole
 pub mod Loops

@@ -1,6 +1,6 @@
 -- A reader of a relation looks one token ahead and never back, and its laws come with it.
-use Rattle.std.proofs.Common.{◌≡◌, ℕ, zero, suc, ◌+◌, ◌<◌, ◌≤◌, List, [], ◌∷◌, ◌++◌, length, Option, Some, None, Bool, true, false, not, ◌&&◌, ◌||◌, Result, Ok, Err, cond, refl, sym, ap, subst, ◌∙◌, append_assoc, inl, inr, ◌⊎◌, arith}
-use Rattle.protobuf_parse_base.specs.Relations.{Rel, Nothing, Never, One, Then, Either, Many, none, more}
+use Rattle.std.proofs.Common.{◌≡◌, ℕ, zero, suc, ◌<◌, ◌≤◌, List, [], ◌∷◌, ◌++◌, Option, Some, None, Bool, true, false, not, ◌&&◌, ◌||◌, Result, Ok, Err, cond, refl, sym, ap, subst, ◌∙◌, inl, inr, arith}
+use Rattle.protobuf_parse_base.specs.Relations.{Nothing, One, Then, Either, Many, none, more}
 
 -- ---- what is read
 
@@ -48,6 +48,12 @@ bind_read (stuck us) f b rest e = absurd cc
 bind_read (wrong m) f b rest e = absurd cc
 bind_read deep f b rest e = absurd cc
 
+pub bind_deep : {Tok Mark A B : Type 0} (r : Read Tok Mark A) (f : A → Rest Tok Mark → Read Tok Mark B) → bind r f ≡ deep → (r ≡ deep → ⊥) → ((a : A) (us : Rest Tok Mark) → r ≡ read a us → f a us ≡ deep → ⊥) → ⊥
+bind_deep (read a us) f e first second = second a us refl e
+bind_deep (stuck us) f e first second = cc
+bind_deep (wrong m) f e first second = cc
+bind_deep deep f e first second = first refl
+
 -- what was read is the same value and the same rest
 pub read_parts : {Tok Mark A : Type 0} (a b : A) (x y : Rest Tok Mark) → (let r : Read Tok Mark A = read a x in r ≡ read b y) → (a ≡ b) × (x ≡ y)
 read_parts a b x y e = (cc, cc)
@@ -73,15 +79,20 @@ pub record Lexicon (Tok Mark Class : Type 0) : Type 0 where
   pub but-law : (c d : Class) (t : Tok) → sees c t ≡ true → sees d t ≡ false → seen sees (but c d) t ≡ true
 
 -- With what classes a part begins, whether it may be empty, with what classes it would go on where it could
--- end; and whether the next token always tells how to go on.
+-- end; whether it has parts in it that nest; and whether the next token always tells how to go on.
 pub record Shape (Class : Type 0) : Type 0 where
   pub firsts : List Class
   pub empty : Bool
   pub goes : List Class
+  pub nests : Bool
   pub fine : Bool
 
 abbrev pub shape : {Class : Type 0} → List Class → Bool → List Class → Shape Class
-shape firsts empty goes = record { firsts = firsts; empty = empty; goes = goes; fine = true }
+shape firsts empty goes = record { firsts = firsts; empty = empty; goes = goes; nests = false; fine = true }
+
+-- of a part in which parts nest
+abbrev pub nested : {Class : Type 0} → List Class → Bool → List Class → Shape Class
+nested firsts empty goes = record { firsts = firsts; empty = empty; goes = goes; nests = true; fine = true }
 
 -- what was read does not depend on what comes after the next token
 pub record LocalRead {Tok Mark A : Type 0} (run : Rest Tok Mark → Read Tok Mark A) (ts : Rest Tok Mark) (a : A) (rest : Rest Tok Mark) : Type 0 where
@@ -142,6 +153,7 @@ module _ {Tok Mark Class : Type 0} (L : Lexicon Tok Mark Class) where
     pub sound : (ts : Rest Tok Mark) (a : A) (rest : Rest Tok Mark) → run ts ≡ read a rest → Sound R ts a rest
     pub complete : s.fine ≡ true → (used : List Tok) (a : A) (rest : Rest Tok Mark) → R used a → starts s.goes rest ≡ false → run (onto used rest) ≡ read a rest
     pub begins : (used : List Tok) (a : A) → R used a → Begins s.firsts s.empty used
+    pub shallow : s.nests ≡ false → (ts : Rest Tok Mark) → run ts ≡ deep → ⊥
 
 -- ---- truth values
 
@@ -272,6 +284,9 @@ module _ {Tok Mark A : Type 0} where
   pub give-sound : (value : A) (ts : Rest Tok Mark) (a : A) (rest : Rest Tok Mark) → (let r : Read Tok Mark A = read value ts in r ≡ read a rest) → Sound (Nothing value) ts a rest
   give-sound value ts a rest e = let h = read_parts value a ts rest e in record { used = []; parts = h.1; holds = (refl, sym h.0) }
 
+  pub give-shallow : (value : A) (ts : Rest Tok Mark) → (let r : Read Tok Mark A = read value ts in r ≡ deep) → ⊥
+  give-shallow value ts e = cc
+
   pub give-complete : (value : A) (used : List Tok) (a : A) (rest : Rest Tok Mark) → Nothing value used a → (let r : Read Tok Mark A = read value (onto used rest) in r ≡ read a rest)
   give-complete value used a rest h = rw (h.0, h.1) refl
 
@@ -308,6 +323,14 @@ module _ {Tok Mark A : Type 0} (says : Tok → Option A) where
   one-sound (end m) a rest e = absurd cc
   one-sound (token t ts) a rest e = taken-sound t ts (says t) a rest refl e
 
+  one-shallow-at : (ts rest : Rest Tok Mark) (o : Option A) → taken o ts rest ≡ deep → ⊥
+  one-shallow-at ts rest None e = cc
+  one-shallow-at ts rest (Some a) e = cc
+
+  pub one-shallow : (ts : Rest Tok Mark) → run_one says ts ≡ deep → ⊥
+  one-shallow (end m) e = cc
+  one-shallow (token t ts) e = one-shallow-at (token t ts) ts (says t) e
+
   pub one-complete : (used : List Tok) (a : A) (rest : Rest Tok Mark) → One says used a → run_one says (onto used rest) ≡ read a rest
   one-complete used a rest h = rw (h.1, h.2) refl
 
@@ -325,6 +348,7 @@ give {L = L} value = record {
   sound = give-sound value;
   complete = λ f used a rest h e. give-complete value used a rest h;
   begins = give-begins L value;
+  shallow = λ n ts e. give-shallow value ts e;
 }
 
 -- one token, which a class of the list sees if it says something
@@ -335,6 +359,7 @@ one {L = L} says cs law = record {
   sound = one-sound says;
   complete = λ f used a rest h e. one-complete says used a rest h;
   begins = one-begins L says cs law;
+  shallow = λ n ts e. one-shallow says ts e;
 }
 
 -- ---- one part and then another
@@ -344,6 +369,7 @@ then_shape L s t = record {
   firsts = s.firsts ++ cond s.empty t.firsts [];
   empty = s.empty && t.empty;
   goes = t.goes ++ cond t.empty s.goes [];
+  nests = s.nests || t.nests;
   fine = s.fine && t.fine && all_apart L t.firsts s.goes;
 }
 
@@ -406,9 +432,12 @@ module _ {Tok Mark Class A B : Type 0} {L : Lexicon Tok Mark Class} {R : List To
   pub then-begins : (used : List Tok) (b : B) → Then R S used b → Begins L ((then_shape L s t).firsts) ((then_shape L s t).empty) used
   then-begins used b h = rw h.parts (begins-both h.front h.back (p.begins h.front h.value h.first) ((f h.value).begins h.back b h.second))
 
+  pub then-shallow : (then_shape L s t).nests ≡ false → (ts : Rest Tok Mark) → run_then ts ≡ deep → ⊥
+  then-shallow n ts e = bind_deep (p.run ts) (λ a us. (f a).run us) e (p.shallow (or_left _ _ n) ts) (λ a us h i. (f a).shallow (or_right _ _ n) us i)
+
 infixl 10 ◌>>=◌
 abbrev pub ◌>>=◌ : {Tok Mark Class A B : Type 0} {L : Lexicon Tok Mark Class} {R : List Tok → A → Type 0} {S : A → List Tok → B → Type 0} {s t : Shape Class} → Reader L R s → ((a : A) → Reader L (S a) t) → Reader L (Then R S) (then_shape L s t)
-p >>= f = record { run = run_then p f; local = then-local p f; sound = then-sound p f; complete = then-complete p f; begins = then-begins p f }
+p >>= f = record { run = run_then p f; local = then-local p f; sound = then-sound p f; complete = then-complete p f; begins = then-begins p f; shallow = then-shallow p f }
 
 infixl 10 ◌>>◌
 abbrev pub ◌>>◌ : {Tok Mark Class A B : Type 0} {L : Lexicon Tok Mark Class} {R : List Tok → A → Type 0} {S : List Tok → B → Type 0} {s t : Shape Class} → Reader L R s → Reader L S t → Reader L (Then R (λ a. S)) (then_shape L s t)
@@ -421,6 +450,7 @@ either_shape L s t = record {
   firsts = s.firsts ++ t.firsts;
   empty = t.empty;
   goes = s.goes ++ t.goes ++ cond t.empty s.firsts [];
+  nests = s.nests || t.nests;
   fine = s.fine && t.fine && not s.empty && all_apart L t.firsts s.firsts;
 }
 
@@ -468,16 +498,33 @@ module _ {Tok Mark Class A : Type 0} {L : Lexicon Tok Mark Class} {R S : List To
   choose-begins n used a (inl h) = begins-left used n (p.begins used a h)
   choose-begins n used a (inr h) = begins-right used (q.begins used a h)
 
+  choose-shallow-at : (either_shape L s t).nests ≡ false → (ts : Rest Tok Mark) (b : Bool) → cond b (p.run ts) (q.run ts) ≡ deep → ⊥
+  choose-shallow-at n ts true e = p.shallow (or_left _ _ n) ts e
+  choose-shallow-at n ts false e = q.shallow (or_right _ _ n) ts e
+
+  pub choose-shallow : (either_shape L s t).nests ≡ false → (ts : Rest Tok Mark) → run_choose ts ≡ deep → ⊥
+  choose-shallow n ts e = choose-shallow-at n ts (starts L s.firsts ts) e
+
 -- the first part, which is not empty, where the next token begins it, and else the second
 abbrev pub choose : {Tok Mark Class A : Type 0} {L : Lexicon Tok Mark Class} {R S : List Tok → A → Type 0} {s t : Shape Class} (p : Reader L R s) → s.empty ≡ false → (q : Reader L S t) → Reader L (Either R S) (either_shape L s t)
-choose p some q = record { run = run_choose p q; local = choose-local p q; sound = choose-sound p q; complete = choose-complete p q; begins = choose-begins p q some }
+choose p some q = record { run = run_choose p q; local = choose-local p q; sound = choose-sound p q; complete = choose-complete p q; begins = choose-begins p q some; shallow = choose-shallow p q }
 
 -- ---- a shape written out
 
 abbrev pub covers : {Tok Mark Class : Type 0} → Lexicon Tok Mark Class → Shape Class → Shape Class → Bool
-covers L s t = s.fine && all_within L s.firsts t.firsts && (not s.empty || t.empty) && all_within L s.goes t.goes
+covers L s t = (not s.nests || t.nests) && (s.fine && all_within L s.firsts t.firsts && (not s.empty || t.empty) && all_within L s.goes t.goes)
 
-module _ {Tok Mark Class A : Type 0} {L : Lexicon Tok Mark Class} {R : List Tok → A → Type 0} {s : Shape Class} (t : Shape Class) (p : Reader L R s) (fits : covers L s t ≡ true) where
+module _ {Tok Mark Class A : Type 0} {L : Lexicon Tok Mark Class} {R : List Tok → A → Type 0} {s : Shape Class} (t : Shape Class) (p : Reader L R s) (all_fits : covers L s t ≡ true) where
+  fits : (s.fine && all_within L s.firsts t.firsts && (not s.empty || t.empty) && all_within L s.goes t.goes) ≡ true
+  fits = and_right (not s.nests || t.nests) _ all_fits
+
+  as-shallow-at : (a b : Bool) → (not a || b) ≡ true → b ≡ false → a ≡ false
+  as-shallow-at true b h e = cc
+  as-shallow-at false b h e = refl
+
+  pub as-shallow : t.nests ≡ false → (ts : Rest Tok Mark) → p.run ts ≡ deep → ⊥
+  as-shallow n ts e = p.shallow (as-shallow-at s.nests t.nests (and_left _ _ all_fits) n) ts e
+
   pub as-complete : (used : List Tok) (a : A) (rest : Rest Tok Mark) → R used a → starts L t.goes rest ≡ false → p.run (onto used rest) ≡ read a rest
   as-complete used a rest h e = p.complete (and_left _ _ (and_left _ _ (and_left _ _ fits))) used a rest h (starts-within L s.goes t.goes rest (and_right _ _ fits) e)
 
@@ -494,7 +541,7 @@ module _ {Tok Mark Class A : Type 0} {L : Lexicon Tok Mark Class} {R : List Tok 
 
 -- the reader, with a shape that covers its own: with this its production is checked
 abbrev pub shaped : {Tok Mark Class A : Type 0} {L : Lexicon Tok Mark Class} {R : List Tok → A → Type 0} {s : Shape Class} (t : Shape Class) (p : Reader L R s) → covers L s t ≡ true → Reader L R t
-shaped t p fits = record { run = p.run; local = p.local; sound = p.sound; complete = λ f. as-complete t p fits; begins = as-begins t p fits }
+shaped t p fits = record { run = p.run; local = p.local; sound = p.sound; complete = λ f. as-complete t p fits; begins = as-begins t p fits; shallow = as-shallow t p fits }
 
 -- ---- any number of such parts
 
@@ -503,7 +550,7 @@ abbrev pub with_first : {Tok Mark A : Type 0} → A → Read Tok Mark (List A) �
 with_first a r = bind r (λ others rest. read (a ∷ others) rest)
 
 abbrev pub many_shape : {Tok Mark Class : Type 0} → Lexicon Tok Mark Class → Shape Class → Shape Class
-many_shape L s = record { firsts = s.firsts; empty = true; goes = s.goes ++ s.firsts; fine = s.fine && all_apart L s.firsts s.goes }
+many_shape L s = record { firsts = s.firsts; empty = true; goes = s.goes ++ s.firsts; nests = s.nests; fine = s.fine && all_apart L s.firsts s.goes }
 
 pub bind-same : {Tok Mark A B : Type 0} (r : Read Tok Mark A) (f g : A → Rest Tok Mark → Read Tok Mark B) → ((a : A) (us : Rest Tok Mark) → r ≡ read a us → f a us ≡ g a us) → bind r f ≡ bind r g
 bind-same (read a us) f g h = h a us refl
@@ -597,6 +644,18 @@ module _ {Tok Mark Class A : Type 0} {L : Lexicon Tok Mark Class} {R : List Tok 
         let t : starts L s.firsts (onto ts (onto us rest)) ≡ true = begins-starts L s.firsts s.empty ts (onto us rest) some (item.begins ts a h) in
         ap run_many (onto-append ts us rest) ∙ many-law (onto ts (onto us rest)) ∙ rw (t, j, i) refl
 
+    many-shallow-at : s.nests ≡ false → (k : ℕ) (ts : Rest Tok Mark) → fueled k ts ≡ deep → ⊥
+    many-shallow-at n zero ts e = cc
+    many-shallow-at n (suc k) ts e = go (starts L s.firsts ts) e (many-shallow-at n k)
+      where
+        go : (b : Bool) → cond b (bind (item.run ts) (λ a vs. with_first a (fueled k vs))) (read [] ts) ≡ deep → ((us : Rest Tok Mark) → fueled k us ≡ deep → ⊥) → ⊥
+        go false e ih = cc
+        go true e ih = bind_deep (item.run ts) (λ a vs. with_first a (fueled k vs)) e (item.shallow n ts) (λ a us h i. bind_deep (fueled k us) (λ others ws. read (a ∷ others) ws) i (ih us) (λ others ws j l. give-shallow (a ∷ others) ws l))
+
+    pub many-shallow : s.nests ≡ false → (ts : Rest Tok Mark) → run_many ts ≡ deep → ⊥
+    unfolding run_many
+    many-shallow n ts e = many-shallow-at n (suc (size ts)) ts e
+
     many-begins-at : (ts us : List Tok) → Begins L s.firsts s.empty ts → Begins L s.firsts true (ts ++ us)
     many-begins-at [] us b = absurd cc
     many-begins-at (v ∷ vs) us b = b
@@ -607,4 +666,4 @@ module _ {Tok Mark Class A : Type 0} {L : Lexicon Tok Mark Class} {R : List Tok 
 
 -- such parts, which are not empty, as long as the next token begins one
 abbrev pub many : {Tok Mark Class A : Type 0} {L : Lexicon Tok Mark Class} {R : List Tok → A → Type 0} {s : Shape Class} (item : Reader L R s) → s.empty ≡ false → Reader L (Many R) (many_shape L s)
-many item some = record { run = run_many item; local = many-local item some; sound = many-sound item some; complete = many-complete item some; begins = many-begins item some }
+many item some = record { run = run_many item; local = many-local item some; sound = many-sound item some; complete = many-complete item some; begins = many-begins item some; shallow = many-shallow item some }

@@ -1,6 +1,6 @@
 -- Relations between a list of tokens and what it says, and how they are joined. A grammar is written with
 -- them as do-blocks, a line of which is a part of the production: what stands first, and then the rest.
-use Rattle.std.specs.Prelude.{◌≡◌, ℕ, zero, suc, List, [], ◌∷◌, ◌++◌, Option, Some, None, Bool, true, false, ◌⊎◌, unwrap_or}
+use Rattle.std.specs.Prelude.{◌≡◌, ℕ, zero, suc, List, [], ◌∷◌, ◌++◌, Option, Some, None, Bool, true, false, ◌⊎◌}
 
 abbrev pub Rel : Type 0 → Type 0 → Type 1
 Rel Tok A = List Tok → A → Type 0
@@ -51,8 +51,8 @@ pub data Many {Tok A : Type 0} (R : List Tok → A → Type 0) : List Tok → Li
   more : {ts us : List Tok} {a : A} {as' : List A} → R ts a → Many R us as' → Many R (ts ++ us) (a ∷ as')
 
 -- one or more such parts
-abbrev pub Some_of : {Tok A : Type 0} → Rel Tok A → Rel Tok (List A)
-Some_of R = do first ← R; others ← Many R; Nothing (first ∷ others)
+abbrev pub OneOrMore : {Tok A : Type 0} → Rel Tok A → Rel Tok (List A)
+OneOrMore R = do first ← R; others ← Many R; Nothing (first ∷ others)
 
 -- one or more such parts with a separator between each two
 abbrev pub Separated : {Tok A B : Type 0} → Rel Tok B → Rel Tok A → Rel Tok (List A)
@@ -80,10 +80,10 @@ abbrev pub At : {Tok Mark A : Type 0} → (Tok → Mark) → (Mark → Rel Tok A
 At mark R [] a = ⊥
 At mark R (t ∷ ts) a = R (mark t) (t ∷ ts) a
 
--- a part that contains itself, at most so many levels deep
-unfoldable pub Level : {Tok A : Type 0} → (Rel Tok A → Rel Tok A) → ℕ → Rel Tok A
+-- A part that contains itself, at most so many levels deep. What stands in it may nest too, a level less deep.
+unfoldable pub Level : {Tok A : Type 0} → (ℕ → Rel Tok A → Rel Tok A) → ℕ → Rel Tok A
 Level F zero = Never
-Level F (suc n) = F (Level F n)
+Level F (suc n) = F n (Level F n)
 
 -- the values that are there
 abbrev pub somes : {A : Type 0} → List (Option A) → List A

@@ -1,5 +1,5 @@
 -- What a reader of whole lists says of its relation: the one value, no other, and where none can be.
-use Rattle.std.proofs.Common.{◌≡◌, ℕ, zero, suc, ◌+◌, ◌-◌, ◌<◌, ◌≤◌, List, [], ◌∷◌, ◌++◌, length, Option, Some, None, Bool, true, false, Result, Ok, Err, refl, sym, ap, subst, ◌∙◌, inl, inr, ◌⊎◌, arith, append_assoc, add-zero, zero-add}
+use Rattle.std.proofs.Common.{◌≡◌, ℕ, zero, suc, ◌+◌, ◌<◌, List, [], ◌∷◌, ◌++◌, length, Option, Some, None, true, false, Result, Ok, refl, sym, ap, subst, ◌∙◌, inl, inr, ◌⊎◌, arith, add-zero, zero-add}
 use Rattle.std.proofs.Math.Nat.{add-suc}
 use Rattle.std.proofs.lemmas.List.{append_cancel_right}
 use Rattle.protobuf_parse_base.specs.Relations.{Rel, Then, Such}
@@ -252,7 +252,7 @@ AtSomeDepth R ts a = (n : ℕ) × R n ts a
 
 module _ {Tok Mark Class A : Type 0} {L : Lexicon Tok Mark Class} {R : ℕ → List Tok → A → Type 0} {s : Shape Class} (p : (n : ℕ) → Reader L (R n) s) (near : (n : ℕ) → Near n (p n).run (p (suc n)).run) (fine : s.fine ≡ true) where
   grown : (n : ℕ) (ts : Rest Tok Mark) (r : Read Tok Mark A) → (r ≡ deep → ⊥) → NearAt n ts r ((p (suc n)).run ts) → (p (suc n)).run ts ≡ r
-  grown n ts r not_deep (inl e) = sym e
+  grown n ts r not_deep (inl e) = sym e.0
   grown n ts r not_deep (inr e) = absurd (not_deep e.0)
 
   -- what is read at a depth is read at every greater one
@@ -263,7 +263,7 @@ module _ {Tok Mark Class A : Type 0} {L : Lexicon Tok Mark Class} {R : ℕ → L
       rw add-suc (grown (n + j) ts (read a rest) (λ h. cc) (subst (λ r. NearAt (n + j) ts r ((p (suc (n + j))).run ts)) i (near (n + j) ts)))
 
   settled : (n : ℕ) (ts : Rest Tok Mark) (r r' : Read Tok Mark A) → size ts < n → NearAt n ts r r' → r' ≡ r
-  settled n ts r r' h (inl e) = sym e
+  settled n ts r r' h (inl e) = sym e.0
   settled n ts r r' h (inr e) = absurd (omega (arith, h, e.1))
 
   -- at a depth above the count of tokens everything is read as at every greater one
@@ -272,6 +272,16 @@ module _ {Tok Mark Class A : Type 0} {L : Lexicon Tok Mark Class} {R : ℕ → L
   settles (suc j) n ts h =
       let k : size ts < n + j = omega (arith, h) in
       rw add-suc (settled (n + j) ts ((p (n + j)).run ts) ((p (suc (n + j))).run ts) k (near (n + j) ts) ∙ settles j n ts h)
+
+  -- and there they never nest too deep
+  never_too_deep : (n : ℕ) (ts : Rest Tok Mark) (r r' : Read Tok Mark A) → size ts < n → NearAt n ts r r' → r ≡ deep → ⊥
+  never_too_deep n ts r r' h (inl e) d = e.1 d
+  never_too_deep n ts r r' h (inr e) d = absurd (omega (arith, h, e.1))
+
+  pub deep_never : (n : ℕ) (ts : List Tok) (m : Mark) → length ts < n → (p n).run (whole ts m) ≡ deep → ⊥
+  deep_never n ts m h e =
+      let l : size (whole ts m) < n = rw (size-whole ts m) h in
+      never_too_deep n (whole ts m) ((p n).run (whole ts m)) ((p (suc n)).run (whole ts m)) l (near n (whole ts m)) e
 
   -- of two depths one is so much greater
   either_way : (n k : ℕ) → ((j : ℕ) × (k ≡ n + j)) ⊎ ((j : ℕ) × (n ≡ k + j))

@@ -1,19 +1,18 @@
 -- What the reader of a file gives, said of the grammar.
-use Rattle.std.proofs.Common.{◌≡◌, ℕ, ◌<◌, List, [], ◌∷◌, ◌++◌, get_or, Option, Some, None, Bool, true, false, Result, Ok, Err, refl, sym, ap, subst, ◌∙◌, inl, inr, ◌⊎◌, arith, codes, append_assoc, lit<}
+use Rattle.std.proofs.Common.{◌≡◌, ℕ, ◌<◌, List, [], ◌∷◌, ◌++◌, get_or, Option, Some, None, true, false, Err, refl, sym, ap, subst, ◌∙◌, inl, inr, ◌⊎◌, arith, codes, append_assoc, lit<}
 use Rattle.std.proofs.lemmas.List.{append-nil}
 use Rattle.std.proofs.lemmas.Str.{IsUtf8-from_ascii}
 use Rattle.std.proofs.lemmas.Str.Ascii.{IsAscii-cons, IsAscii-nil}
 use Rattle.std.specs.Str.{IsUtf8, IsAscii}
-use Rattle.protobuf_parse_base.specs.Relations.{Optional, Then, Such}
-use Rattle.protobuf_parse_base.specs.Readers.{Rest, end, token, onto, onto-append, next, Read, read, stuck, Reader}
+use Rattle.protobuf_parse_base.specs.Relations.{Optional}
+use Rattle.protobuf_parse_base.specs.Readers.{Rest, end, token, onto, onto-append, next, read, stuck}
 use Rattle.protobuf_parse_base.specs.Conditions.{mark_of}
 use Rattle.protobuf_parse_base.specs.Whole.{whole, StopsAt, left_whole, local_stuck, local_read, chosen_read, chosen_only, chosen_none, chosen_stops_early, chosen_stops, chosen_leaves}
 use Rattle.protobuf_parse_syntax.specs.Text.{Bytes}
 use Rattle.protobuf_parse_syntax.specs.Tokens.{Lexeme, DecodesAll}
 use Rattle.protobuf_parse_syntax.specs.Decoding.{RefusesText}
 use Rattle.protobuf_parse_syntax.specs.Trees.{PiecesTree, FileSyntax}
-use Rattle.protobuf_parse_syntax.specs.Classes.{lexicon}
-use Rattle.protobuf_parse_syntax.specs.Grammar.{IsSyntax, IsStr, IsFile, IsFileIn, Says, name_of, place_of}
+use Rattle.protobuf_parse_syntax.specs.Grammar.{IsSyntax, IsStr, IsFile, Says, name_of, place_of}
 use Rattle.protobuf_parse_syntax.specs.Productions as parse
 use Rattle.protobuf_parse_syntax.specs.Parsing.{NoTree, LargeAt, WrongAt, SaysNothing, IsFault, IsLarge}
 use Rattle.protobuf_parse_syntax.specs.Code.{Stands, Fails, IsLargeNext, is_end, GivesVersion, RefusesFile, error_at}

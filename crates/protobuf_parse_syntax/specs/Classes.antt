@@ -1,8 +1,8 @@
 -- How a parser tells tokens from one another by the next token alone.
-use Rattle.std.proofs.Common.{◌≡◌, ℕ, List, [], ◌∷◌, ◌++◌, Bool, true, false, not, ◌&&◌, ◌||◌, cond, eqb, bytes_eq, eq-eqb, refl, sym, ap, ◌∙◌, subst}
+use Rattle.std.proofs.Common.{◌≡◌, ℕ, List, [], ◌∷◌, Bool, true, false, not, ◌&&◌, ◌||◌, cond, eqb, bytes_eq, eq-eqb, refl, sym, ◌∙◌, subst}
 use Rattle.std.proofs.lemmas.Bool.{eqb-true}
 use Rattle.std.proofs.lemmas.Slice.Eq.{bytes_eq-Decides}
-use Rattle.protobuf_parse_base.specs.Readers.{Lexicon, seen, and_left, and_right, or_true, false_by, not_true}
+use Rattle.protobuf_parse_base.specs.Readers.{Lexicon, seen, and_left, and_right, false_by, not_true}
 use Rattle.protobuf_parse_syntax.specs.Text.{Bytes}
 use Rattle.protobuf_parse_syntax.specs.Tokens.{Lexeme}
 use Rattle.protobuf_parse_syntax.specs.declared.lexer.token.Place.{Place}

@@ -1,15 +1,12 @@
 -- What the parser's functions say of readers.
-use Rattle.std.specs.Prelude.{◌≡◌, ◌<◌, ℕ, Bool, true, false, cond, Option, Some, None, List, map, Result, Ok, Err}
-use Rattle.protobuf_parse_base.specs.Readers.{Rest, end, token, Read, read, stuck, wrong, onto}
+use Rattle.std.specs.Prelude.{◌≡◌, Bool, true, false, Option, Some, None, List, map, Result, Ok, Err}
+use Rattle.protobuf_parse_base.specs.Readers.{Rest, end, token, Read, read, stuck}
 use Rattle.protobuf_parse_base.specs.Whole.{whole}
-use Rattle.protobuf_parse_syntax.specs.Text.{Bytes}
 use Rattle.protobuf_parse_syntax.specs.Tokens.{Lexeme, lexeme, DecodesAll}
-use Rattle.protobuf_parse_syntax.specs.Classes.{is_ident}
 use Rattle.protobuf_parse_syntax.specs.declared.lexer.token.Place.{Place}
 use Rattle.protobuf_parse_syntax.specs.Parsing.{IsLarge, SaysNothing, IsFault}
-use Rattle.protobuf_parse_syntax.specs.Grammar.{Says, name_of, place_of}
+use Rattle.protobuf_parse_syntax.specs.Grammar.{Says, name_of}
 use Rattle.protobuf_parse_syntax.specs.declared.tree.Syntax.{Syntax}
-use Rattle.protobuf_parse_base.specs.Conditions.{mark_of}
 use Rattle.protobuf_parse_syntax.specs.Cut.{out_of_memory, located as located_at}
 use Rattle.protobuf_parse_syntax.specs.declared.error.ParserErrorWithLocation.{ParserErrorWithLocation}
 use Rattle.protobuf_parse_syntax.specs.declared.error.ParserError.{ParserError}

@@ -1,12 +1,12 @@
 -- The grammar of the Protocol Buffers Language Specifications (https://protobuf.dev/reference/protobuf/proto2-spec/
 -- and https://protobuf.dev/reference/protobuf/proto3-spec/): which tokens say which tree. Each production
 -- is one relation, whose lines are its line of EBNF; the rules beside the EBNF are conditions in it.
-use Rattle.std.specs.Prelude.{◌≡◌, ℕ, ℤ, pos, nat_le, ◌-◌, ◌&&◌, ◌||◌, ◌==◌, List, [], ◌∷◌, length, slice_index, slice_range, Option, Some, None, Bool, true, false, cond, bytes_eq, codes}
-use Rattle.protobuf_parse_base.specs.Relations.{Rel, Nothing, Such, One, Either, Optional, Many, Some_of, At, somes, ◌>>=◌, ◌>>◌}
+use Rattle.std.specs.Prelude.{◌≡◌, ℕ, ℤ, pos, nat_le, ◌-◌, ◌&&◌, ◌||◌, ◌==◌, List, [], ◌∷◌, length, slice_index, slice_range, Option, Some, None, Bool, cond, bytes_eq, codes}
+use Rattle.protobuf_parse_base.specs.Relations.{Rel, Nothing, Such, One, Either, Optional, Many, OneOrMore, At, somes, ◌>>=◌, ◌>>◌}
 use Rattle.protobuf_parse_syntax.specs.Text.{Bytes}
 use Rattle.protobuf_parse_syntax.specs.Tokens.{Lexeme, DecodesAll}
 use Rattle.protobuf_parse_syntax.specs.Trees.{PiecesTree, FieldSyntax, BodySyntax, field, MessageSyntax, StatementSyntax, message, FileSyntax}
-use Rattle.protobuf_parse_syntax.specs.Classes.{Class, sees, symbol, word, ident, is_ident}
+use Rattle.protobuf_parse_syntax.specs.Classes.{sees, symbol, word, ident, is_ident}
 use Rattle.protobuf_parse_syntax.specs.declared.lexer.token.Place.{Place}
 use Rattle.protobuf_parse_syntax.specs.declared.lexer.token.TokenKind.{TokenKind}
 use Rattle.protobuf_parse_syntax.specs.declared.lexer.token.TokenKind.TheVariants as kind
@@ -85,7 +85,7 @@ place_of t = t.place
 
 unfoldable pub IsStr : Rel Lexeme PiecesTree
 IsStr = At place_of λ place. do
-  pieces ← Some_of (One string_piece)
+  pieces ← OneOrMore (One string_piece)
   Nothing (record { place = place; pieces = pieces })
 
 -- ---- syntax = "syntax" "=" str ";"
@@ -112,13 +112,13 @@ Says (Some text) syntax = DecodesAll text.pieces (name_of syntax)
 abbrev pub labels : List (Bytes × Label)
 labels = (codes "optional", label.Optional) ∷ (codes "required", label.Required) ∷ (codes "repeated", label.Repeated) ∷ []
 
-abbrev pub labels3 : List (Bytes × Label)
-labels3 = (codes "repeated", label.Repeated) ∷ []
+abbrev pub proto3_labels : List (Bytes × Label)
+proto3_labels = (codes "repeated", label.Repeated) ∷ []
 
 -- In proto2 each field has a label, in proto3 it may have `repeated` and no other.
 unfoldable pub IsLabel : Syntax → Rel Lexeme (Option Label)
 IsLabel Proto2 = do l ← IsWordOf labels; Nothing (Some l)
-IsLabel Proto3 = Optional (IsWordOf labels3)
+IsLabel Proto3 = Optional (IsWordOf proto3_labels)
 
 abbrev pub scalars : List (Bytes × Scalar)
 scalars =

@@ -1,13 +1,13 @@
 -- A reader for each production of the grammar.
-use Rattle.std.proofs.Common.{◌≡◌, ℕ, ℤ, List, [], ◌∷◌, ◌++◌, map, Option, Some, None, Bool, true, false, ◌||◌, cond, bytes_eq, codes, refl, sym, ap, ◌∙◌}
-use Rattle.protobuf_parse_base.specs.Relations.{One, Many, Optional, Some_of, somes}
-use Rattle.protobuf_parse_base.specs.Readers.{Rest, read, bind, run_one, starts, Reader, Lexicon, Shape, shape, seen, give, one, choose, many, shaped, ◌>>=◌, ◌>>◌, or_true}
-use Rattle.protobuf_parse_base.specs.Conditions.{at, optional, some_of}
+use Rattle.std.proofs.Common.{◌≡◌, ℕ, ℤ, List, [], ◌∷◌, Some, None, Bool, true, false, ◌||◌, cond, bytes_eq, codes, refl, ap}
+use Rattle.protobuf_parse_base.specs.Relations.{One, Optional, OneOrMore, somes}
+use Rattle.protobuf_parse_base.specs.Readers.{Rest, read, bind, run_one, starts, Reader, Shape, shape, seen, give, one, choose, many, shaped, ◌>>=◌, ◌>>◌, or_true}
+use Rattle.protobuf_parse_base.specs.Conditions.{at, optional, one_or_more}
 use Rattle.protobuf_parse_syntax.specs.Text.{Bytes}
 use Rattle.protobuf_parse_syntax.specs.Tokens.{Lexeme}
-use Rattle.protobuf_parse_syntax.specs.Trees.{PiecesTree, FieldSyntax, BodySyntax, field as body_field, MessageSyntax, StatementSyntax, message as file_message, FileSyntax}
+use Rattle.protobuf_parse_syntax.specs.Trees.{field as body_field, message as file_message}
 use Rattle.protobuf_parse_syntax.specs.Classes.{Class, sees, symbol as symbol_class, word as word_class, ident as ident_class, integer, text, is_ident, lexicon}
-use Rattle.protobuf_parse_syntax.specs.Grammar.{if_so, IsSymbol, IsWord, any_ident, IsIdent, lookup, word_of, IsWordOf, number_at, field_number, IsFieldNumber, piece_at, string_piece, IsStr, IsSyntax, labels, labels3, IsLabel, scalars, IsField, IsBodyItem, IsBody, IsMessage, IsFileItem, AreStatements, IsFileIn}
+use Rattle.protobuf_parse_syntax.specs.Grammar.{if_so, IsSymbol, IsWord, any_ident, IsIdent, lookup, word_of, IsWordOf, number_at, field_number, IsFieldNumber, piece_at, string_piece, IsStr, IsSyntax, labels, proto3_labels, IsLabel, scalars, IsField, IsBodyItem, IsBody, IsMessage, IsFileItem, AreStatements, IsFileIn}
 use Rattle.protobuf_parse_syntax.specs.declared.lexer.token.Place.{Place}
 use Rattle.protobuf_parse_syntax.specs.declared.lexer.token.TokenKind.{TokenKind}
 use Rattle.protobuf_parse_syntax.specs.declared.lexer.token.TokenKind.TheVariants as kind
@@ -96,8 +96,8 @@ piece = one string_piece (text ∷ []) piece-law
 abbrev pub Parses : {A : Type 0} → (List Lexeme → A → Type 0) → Shape Class → Type 0
 Parses = Reader lexicon
 
-unfoldable pub pieces : Parses (Some_of (One string_piece)) (shape (text ∷ []) false (text ∷ []))
-pieces = shaped (shape (text ∷ []) false (text ∷ [])) (some_of piece refl) refl
+unfoldable pub pieces : Parses (OneOrMore (One string_piece)) (shape (text ∷ []) false (text ∷ []))
+pieces = shaped (shape (text ∷ []) false (text ∷ [])) (one_or_more piece refl) refl
 
 unfoldable pub str : Parses IsStr (shape (text ∷ []) false (text ∷ []))
 unfolding IsStr
@@ -120,14 +120,14 @@ label_shape = shape (words labels) true (words labels)
 unfoldable pub label : (s : Syntax) → Parses (IsLabel s) label_shape
 unfolding IsLabel
 label Proto2 = shaped label_shape (do l ← one_of labels; give (Some l)) refl
-label Proto3 = shaped label_shape (optional (shaped (shape (words labels) false []) (one_of labels3) refl) refl) refl
+label Proto3 = shaped label_shape (optional (shaped (shape (words labels) false []) (one_of proto3_labels) refl) refl) refl
 
 -- what the reader of a label does in each version
 pub label_in_proto2 : (s : Syntax) (ts : Rest Lexeme Place) → s ≡ Proto2 → (label s).run ts ≡ bind (run_one (word_of labels) ts) (λ l rest. read (Some l) rest)
 unfolding label
 label_in_proto2 s ts e = ap (λ v. (label v).run ts) e
 
-pub label_in_proto3 : (s : Syntax) (ts : Rest Lexeme Place) → s ≡ Proto3 → (label s).run ts ≡ cond (starts lexicon (words labels) ts) (bind (run_one (word_of labels3) ts) (λ l rest. read (Some l) rest)) (read None ts)
+pub label_in_proto3 : (s : Syntax) (ts : Rest Lexeme Place) → s ≡ Proto3 → (label s).run ts ≡ cond (starts lexicon (words labels) ts) (bind (run_one (word_of proto3_labels) ts) (λ l rest. read (Some l) rest)) (read None ts)
 unfolding label
 label_in_proto3 s ts e = ap (λ v. (label v).run ts) e
 

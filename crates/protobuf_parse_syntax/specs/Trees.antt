@@ -1,5 +1,5 @@
 -- What a text says, without where it lies in memory: a record or a data type for each type of the tree.
-use Rattle.std.specs.Prelude.{ℕ, ℤ, List, [], ◌∷◌, map, Option, String, string_bytes}
+use Rattle.std.specs.Prelude.{ℤ, List, map, Option, string_bytes}
 use Rattle.protobuf_parse_syntax.specs.Text.{Bytes}
 use Rattle.protobuf_parse_syntax.specs.declared.lexer.token.Place.{Place}
 use Rattle.protobuf_parse_syntax.specs.declared.tree.Syntax.{Syntax}

@@ -36,8 +36,10 @@ pub fn parse_file(alloc: Global, text: &str) -> Result<FileTree, ParserErrorWith
     ensures only { IfOk result (λ t. (u : FileSyntax) → HasTree text.now u → u ≡ file_view t) }
 
     // What is refused has no tree, and that fault stands there.
-    ensures none { IfErr result (λ e. (e ≡ out_of_memory) ⊎ ((u : FileSyntax) → HasTree text.now u → ⊥)) }
-    ensures refused { IfErr result (λ e. (e ≡ out_of_memory) ⊎ IsFaultOf text.now e.error (place_at e)) }
+    ensures none { IfErr result (λ e. (e ≡ out_of_memory)
+        ⊎ ((u : FileSyntax) → HasTree text.now u → ⊥)) }
+    ensures refused { IfErr result (λ e. (e ≡ out_of_memory)
+        ⊎ IsFaultOf text.now e.error (place_at e)) }
 
     // A text that has no tokens is refused with its fault.
     ensures tells { TellsFaults text.now result }
@@ -50,10 +52,12 @@ pub fn parse_file(alloc: Global, text: &str) -> Result<FileTree, ParserErrorWith
 pub fn tree_of(alloc: Global, stream: &TokenStream<'_>) -> Result<FileTree, ParserErrorWithLocation>
     // What is read is the one tree that the tokens say.
     ensures found { IfOk result (λ t. IsFile (tokens_of stream.now).tokens (file_view t)) }
-    ensures only { IfOk result (λ t. (u : FileSyntax) → IsFile (tokens_of stream.now).tokens u → u ≡ file_view t) }
+    ensures only { IfOk result (λ t. (u : FileSyntax) → IsFile (tokens_of stream.now).tokens u
+        → u ≡ file_view t) }
 
     // What is refused has that fault there.
-    ensures refused { IfErr result (λ e. (e ≡ out_of_memory) ⊎ IsFault (tokens_of stream.now).tokens stream.now.end e.error (place_at e)) }
+    ensures refused { IfErr result (λ e. (e ≡ out_of_memory)
+        ⊎ IsFault (tokens_of stream.now).tokens stream.now.end e.error (place_at e)) }
 {
     let mut tokens = Cursor::new(stream.tokens.as_slice(), stream.end);
     match file(alloc, &mut tokens) {
@@ -65,8 +69,10 @@ pub fn tree_of(alloc: Global, stream: &TokenStream<'_>) -> Result<FileTree, Pars
 /// `file = [ syntax ] { message | ";" }`
 fn file(alloc: Global, tokens: &mut Cursor<'_, '_>) -> Result<FileTree, Refusal>
     ensures found { IfOk result (λ t. IsFile (ahead tokens.old) (file_view t)) }
-    ensures only { IfOk result (λ t. (u : FileSyntax) → IsFile (ahead tokens.old) u → u ≡ file_view t) }
-    ensures refused { IfErr result (λ e. RefusesFile (ahead tokens.old) tokens.old.end e (mark_of place_of (left tokens.new))) }
+    ensures only { IfOk result (λ t. (u : FileSyntax) → IsFile (ahead tokens.old) u
+        → u ≡ file_view t) }
+    ensures refused { IfErr result (λ e. RefusesFile (ahead tokens.old) tokens.old.end e
+        (mark_of place_of (left tokens.new))) }
 {
     let syntax = version(alloc, tokens)?;
     let statements = file_statements(alloc, tokens, syntax)?;
@@ -82,7 +88,8 @@ fn file_statements(
     tokens: &mut Cursor<'_, '_>,
     syntax: Syntax,
 ) -> Result<Vec<FileStatement>, Refusal>
-    ensures { Gives (λ v. map statement_view v.items) result (left tokens.new) ((read.statements syntax).run (left tokens.old)) }
+    ensures { Gives (λ v. map statement_view v.items) result (left tokens.new)
+        ((read.statements syntax).run (left tokens.old)) }
 {
     let mut statements = Vec::new(alloc);
     'items: while tokens.begins_file_statement() {
@@ -99,7 +106,8 @@ fn file_statement(
     tokens: &mut Cursor<'_, '_>,
     syntax: Syntax,
 ) -> Result<Option<FileStatement>, Refusal>
-    ensures { Gives (seen_by statement_view) result (left tokens.new) ((read.file_item syntax).run (left tokens.old)) }
+    ensures { Gives (seen_by statement_view) result (left tokens.new)
+        ((read.file_item syntax).run (left tokens.old)) }
 {
     if tokens.sees_symbol(';') {
         tokens.symbol(';')?;

@@ -6,7 +6,7 @@ ghost use Rattle.protobuf_parse_base.specs.Conditions.{mark_of};
 ghost use Rattle.protobuf_parse_syntax.specs.Tokens.{lexeme};
 ghost use Rattle.protobuf_parse_syntax.specs.Classes as class;
 ghost use Rattle.protobuf_parse_syntax.specs.Classes.{lexicon};
-ghost use Rattle.protobuf_parse_syntax.specs.Grammar.{place_of, labels, labels3, scalars, between_quotes};
+ghost use Rattle.protobuf_parse_syntax.specs.Grammar.{place_of, labels, proto3_labels, scalars, between_quotes};
 ghost use Rattle.protobuf_parse_syntax.specs.Grammar as grammar;
 ghost use Rattle.protobuf_parse_syntax.specs.Productions as read;
 ghost use Rattle.protobuf_parse_syntax.specs.Trees.{pieces_of};
@@ -69,7 +69,8 @@ impl<'t, 'text> Cursor<'t, 'text> {
 
     /// Reads this symbol. S8 at any other token.
     pub fn symbol(&mut self, symbol: char) -> Result<(), Refusal>
-        ensures { Gives (λ u. tt) result (left self.new) ((read.symbol symbol).run (left self.old)) }
+        ensures { Gives (λ u. tt) result (left self.new)
+            ((read.symbol symbol).run (left self.old)) }
     {
         match self.rest {
             [token, rest @ ..] => match token.kind {
@@ -129,7 +130,8 @@ impl<'t, 'text> Cursor<'t, 'text> {
 
     /// Reads this identifier. S8 at any other token.
     pub fn word(&mut self, word: &str) -> Result<(), Refusal>
-        ensures { Gives (λ u. tt) result (left self.new) ((read.word word.now).run (left self.old)) }
+        ensures { Gives (λ u. tt) result (left self.new)
+            ((read.word word.now).run (left self.old)) }
     {
         match self.rest {
             [token, rest @ ..] => match token.kind {
@@ -224,8 +226,9 @@ impl<'t, 'text> Cursor<'t, 'text> {
     }
 
     /// Reads a label that is allowed in proto3. S11 at any other token.
-    pub fn label3(&mut self) -> Result<Label, Refusal>
-        ensures { Gives (λ l. l) result (left self.new) ((read.one_of labels3).run (left self.old)) }
+    pub fn proto3_label(&mut self) -> Result<Label, Refusal>
+        ensures { Gives (λ l. l) result (left self.new)
+            ((read.one_of proto3_labels).run (left self.old)) }
     {
         match self.rest {
             [token, rest @ ..] => match token.kind {
@@ -241,7 +244,8 @@ impl<'t, 'text> Cursor<'t, 'text> {
 
     /// Reads the type that has the next word. S8 at any other token.
     pub fn scalar(&mut self) -> Result<Scalar, Refusal>
-        ensures { Gives (λ s. s) result (left self.new) ((read.one_of scalars).run (left self.old)) }
+        ensures { Gives (λ s. s) result (left self.new)
+            ((read.one_of scalars).run (left self.old)) }
     {
         match self.rest {
             [token, rest @ ..] => match token.kind {

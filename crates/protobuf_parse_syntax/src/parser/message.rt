@@ -19,7 +19,8 @@ pub fn message(
     tokens: &mut Cursor<'_, '_>,
     syntax: Syntax,
 ) -> Result<Message, Refusal>
-    ensures { Gives message_view result (left tokens.new) ((read.message syntax).run (left tokens.old)) }
+    ensures { Gives message_view result (left tokens.new)
+        ((read.message syntax).run (left tokens.old)) }
 {
     let place = tokens.place();
     tokens.word("message")?;
@@ -36,7 +37,8 @@ fn message_body(
     tokens: &mut Cursor<'_, '_>,
     syntax: Syntax,
 ) -> Result<Vec<MessageStatement>, Refusal>
-    ensures { Gives (λ v. map body_view v.items) result (left tokens.new) ((read.body syntax).run (left tokens.old)) }
+    ensures { Gives (λ v. map body_view v.items) result (left tokens.new)
+        ((read.body syntax).run (left tokens.old)) }
 {
     let mut body = Vec::new(alloc);
     'items: while tokens.begins_statement() {
@@ -53,7 +55,8 @@ fn message_statement(
     tokens: &mut Cursor<'_, '_>,
     syntax: Syntax,
 ) -> Result<Option<MessageStatement>, Refusal>
-    ensures { Gives (seen_by body_view) result (left tokens.new) ((read.body_item syntax).run (left tokens.old)) }
+    ensures { Gives (seen_by body_view) result (left tokens.new)
+        ((read.body_item syntax).run (left tokens.old)) }
 {
     if tokens.sees_symbol(';') {
         tokens.symbol(';')?;
@@ -66,7 +69,8 @@ fn message_statement(
 /// `field = [ label ] scalar ident "=" int ";"`
 #[tactic(auto, unfolding(crate::specs::Productions::field))]
 fn field(alloc: Global, tokens: &mut Cursor<'_, '_>, syntax: Syntax) -> Result<Field, Refusal>
-    ensures { Gives field_view result (left tokens.new) ((read.field syntax).run (left tokens.old)) }
+    ensures { Gives field_view result (left tokens.new)
+        ((read.field syntax).run (left tokens.old)) }
 {
     let place = tokens.place();
     let label = label(tokens, syntax)?;
@@ -94,7 +98,7 @@ fn label(tokens: &mut Cursor<'_, '_>, syntax: Syntax) -> Result<Option<Label>, R
         Syntax::Proto2 => Ok(Some(tokens.label()?)),
         Syntax::Proto3 => {
             if tokens.sees_label() {
-                Ok(Some(tokens.label3()?))
+                Ok(Some(tokens.proto3_label()?))
             } else {
                 Ok(None)
             }

@@ -37,7 +37,8 @@ fn syntax_statement(
     alloc: Global,
     tokens: &mut Cursor<'_, '_>,
 ) -> Result<Option<PlacedStr>, Refusal>
-    ensures { Gives (seen_by placed_view) result (left tokens.new) (read.version.run (left tokens.old)) }
+    ensures { Gives (seen_by placed_view) result (left tokens.new)
+        (read.version.run (left tokens.old)) }
 {
     if !tokens.sees_word("syntax") {
         return Ok(None);
@@ -64,7 +65,8 @@ fn placed_str(alloc: Global, tokens: &mut Cursor<'_, '_>) -> Result<PlacedStr, R
 
 #[tactic(auto, unfolding(crate::specs::Productions::pieces))]
 fn pieces(alloc: Global, tokens: &mut Cursor<'_, '_>) -> Result<Vec<String>, Refusal>
-    ensures { Gives (λ v. map string_bytes v.items) result (left tokens.new) (read.pieces.run (left tokens.old)) }
+    ensures { Gives (λ v. map string_bytes v.items) result (left tokens.new)
+        (read.pieces.run (left tokens.old)) }
 {
     let mut pieces = Vec::new(alloc);
     pieces.push(tokens.piece(alloc)?)?;

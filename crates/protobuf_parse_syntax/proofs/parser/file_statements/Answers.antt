@@ -1,4 +1,4 @@
-use Rattle.std.proofs.Common.{◌≡◌, List, map, refl, sym, ◌∙◌}
+use Rattle.std.proofs.Common.{List, map, refl, sym, ◌∙◌}
 use Rattle.std.proofs.lemmas.Result.{err_from_is_err_and}
 use Rattle.protobuf_parse_base.specs.Relations.{somes}
 use Rattle.protobuf_parse_base.specs.Readers.{shorter}

@@ -1,9 +1,8 @@
 use Rattle.std.proofs.Common.{◌≡◌, List, map, ap, subst, sym, ◌∙◌}
-use Rattle.protobuf_parse_base.specs.Conditions.{mark_of}
 use Rattle.protobuf_parse_syntax.specs.Tokens.{Lexeme, lexeme}
-use Rattle.protobuf_parse_syntax.specs.Trees.{FileSyntax, file_view}
-use Rattle.protobuf_parse_syntax.specs.Grammar.{IsFile, place_of}
-use Rattle.protobuf_parse_syntax.specs.Code.{left, ahead}
+use Rattle.protobuf_parse_syntax.specs.Trees.{file_view}
+use Rattle.protobuf_parse_syntax.specs.Grammar.{IsFile}
+use Rattle.protobuf_parse_syntax.specs.Code.{ahead}
 use Rattle.protobuf_parse_syntax.proofs.File.{told}
 use Rattle.protobuf_parse_syntax.proofs.parser.tree_of.Goals as goal
 

@@ -1,4 +1,4 @@
-use Rattle.std.proofs.Common.{◌≡◌, List, refl, sym, ◌∙◌, subst}
+use Rattle.std.proofs.Common.{refl, ◌∙◌, subst}
 use Rattle.std.specs.Prelude.{string_bytes}
 use Rattle.protobuf_parse_syntax.specs.Decoding.{RefusesText}
 use Rattle.protobuf_parse_syntax.specs.Trees.{pieces_of}

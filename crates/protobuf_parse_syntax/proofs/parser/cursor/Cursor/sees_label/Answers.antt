@@ -1,5 +1,4 @@
-use Rattle.std.proofs.Common.{◌∙◌, sym, codes}
-use Rattle.protobuf_parse_syntax.specs.Classes.{word}
+use Rattle.std.proofs.Common.{◌∙◌, sym}
 use Rattle.protobuf_parse_syntax.specs.Code.{left}
 use Rattle.protobuf_parse_syntax.proofs.Left.{first_starts, second_starts, third_starts}
 use Rattle.protobuf_parse_syntax.proofs.parser.cursor.Cursor.sees_label.Goals as goal

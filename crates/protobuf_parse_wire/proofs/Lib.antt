@@ -1,0 +1,9 @@
+pub mod Bits
+pub mod Adding
+pub mod Distinct
+pub mod Loop
+pub mod Levels
+pub mod Varint
+pub mod Back
+pub mod Again
+pub mod Appending

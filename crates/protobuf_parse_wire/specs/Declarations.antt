@@ -1,0 +1,62 @@
+-- The messages and the extensions that files declare, and what the numbers in a message's records name.
+-- Protocol Buffers Language Guide (proto2), "Nested Types", "Packages", "Extensions" (https://protobuf.dev).
+use Rattle.std.specs.Prelude.{ℕ, pos, Bool, true, false, ◌&&◌, List, [], ◌∷◌, ◌++◌, map, filter, find, Option, Some, None, not}
+use Rattle.std.specs.List.{flat_map, list_any}
+use Rattle.std.specs.Option.{option_map_or}
+use Rattle.std.specs.Ordering.{int_eq}
+use Rattle.std.specs.Str.{bytes_eq}
+use Rattle.protobuf_parse_model.specs.Descriptors.{Text, FileDescriptor, FieldDescriptor, MessageParts, MessageDescriptor, MessageDescriptors, a_message, no_messages, messages}
+
+-- a message by its full name
+pub record Declaration : Type 0 where
+  pub name : Text
+  pub parts : MessageParts
+
+-- the name inside the scope, after a dot
+abbrev pub within : Text → Text → Text
+within scope name = scope ++ (46 ∷ name)
+
+abbrev mutual
+  -- the message and those inside it
+  pub declared_message : Text → MessageDescriptor → List Declaration
+  declared_message scope (a_message parts nested) = record { name = within scope parts.name; parts = parts } ∷ declared_messages (within scope parts.name) nested
+
+  pub declared_messages : Text → MessageDescriptors → List Declaration
+  declared_messages scope no_messages = []
+  declared_messages scope (messages m ms) = declared_message scope m ++ declared_messages scope ms
+
+-- the package, if any, after a dot
+abbrev pub package_scope : Option Text → Text
+package_scope None = []
+package_scope (Some name) = within [] name
+
+abbrev pub declared_in : FileDescriptor → List Declaration
+declared_in file = flat_map (declared_message (package_scope file.«package»)) file.message_type
+
+-- the extensions inside messages, and those of the file
+abbrev pub extensions_in : FileDescriptor → List FieldDescriptor
+extensions_in file = flat_map (λ d. d.parts.extension) (declared_in file) ++ file.extension
+
+-- those of the declarations that have the name
+abbrev pub messages_named : Text → List Declaration → List MessageParts
+messages_named name ds = map (λ d. d.parts) (filter (λ d. bytes_eq name d.name) ds)
+
+-- whether the field is an extension of the message of that name
+abbrev pub extends : Text → FieldDescriptor → Bool
+extends name extension = option_map_or (bytes_eq name) extension.extendee false
+
+-- the messages that have the full name, and the extensions of it
+abbrev pub messages_of : List FileDescriptor → Text → List MessageParts
+messages_of files name = messages_named name (flat_map declared_in files)
+
+abbrev pub extensions_of : List FileDescriptor → Text → List FieldDescriptor
+extensions_of files name = filter (extends name) (flat_map extensions_in files)
+
+-- the first of the fields that has the number
+abbrev pub field_numbered : List FieldDescriptor → ℕ → Option FieldDescriptor
+field_numbered fields number = find (λ field. int_eq (pos number) field.number) fields
+
+-- whether no two of the fields have one number
+abbrev pub have_distinct_numbers : List FieldDescriptor → Bool
+have_distinct_numbers [] = true
+have_distinct_numbers (field ∷ fields) = not (list_any (λ other. int_eq field.number other.number) fields) && have_distinct_numbers fields

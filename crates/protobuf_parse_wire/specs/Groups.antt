@@ -1,0 +1,9 @@
+-- Values under names.
+use Rattle.std.specs.Prelude.{ℕ, List, [], String}
+use Rattle.std.specs.Option.{option_map_or}
+use Rattle.std.specs.Global.{Vec}
+use Rattle.std.specs.HashMap.{HashMap, get_by_text}
+
+-- what stands under the name, in the order in which it was put there
+abbrev pub group : {T S A : Type 0} → HashMap (String A) (Vec T) S → List ℕ → List T
+group groups name = option_map_or (λ items. items.items) (get_by_text groups name) []

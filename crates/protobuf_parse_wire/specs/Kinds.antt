@@ -1,0 +1,77 @@
+-- How each kind of value stands on the wire: the table of Protocol Buffers Encoding, "Message Structure",
+-- "More Integer Types" and "Condensed Reference Card" (https://protobuf.dev/programming-guides/encoding/).
+use Rattle.std.specs.Prelude.{ℕ, Option, Some, None}
+use Rattle.std.specs.Int.{w32, w64}
+use mir.Syntax.{Width}
+use Rattle.protobuf_parse_model.specs.declared.descriptor.FieldType.{FieldType}
+use Rattle.protobuf_parse_model.specs.declared.descriptor.FieldType.TheVariants as types
+use Rattle.protobuf_parse_wire.specs.declared.kind.Kind.{Kind}
+use Rattle.protobuf_parse_wire.specs.declared.kind.Kind.TheVariants as kinds
+
+-- where a whole number stands: in a varint, or in a fixed count of bytes
+pub data Word : Type 0 where
+  varint : Word
+  eight_bytes : Word
+  four_bytes : Word
+
+-- how a whole number is turned into one without a sign
+pub data Code : Type 0 where
+  unsigned : Code
+  twos_complement : Code
+  zigzag : Code
+
+-- the values of a kind: whole numbers of 32 or 64 bits, truth values, texts, bytes or messages
+pub data Shape : Type 0 where
+  whole : Word → Width → Code → Shape
+  truth : Shape
+  text : Shape
+  octets : Shape
+  message : Shape
+
+abbrev pub shape : Kind → Shape
+shape kinds.Int32 = whole varint w32 twos_complement
+shape kinds.Int64 = whole varint w64 twos_complement
+shape kinds.Uint32 = whole varint w32 unsigned
+shape kinds.Uint64 = whole varint w64 unsigned
+shape kinds.Sint32 = whole varint w32 zigzag
+shape kinds.Sint64 = whole varint w64 zigzag
+shape kinds.Fixed32 = whole four_bytes w32 unsigned
+shape kinds.Sfixed32 = whole four_bytes w32 twos_complement
+shape kinds.Fixed64 = whole eight_bytes w64 unsigned
+shape kinds.Sfixed64 = whole eight_bytes w64 twos_complement
+shape kinds.Bool = truth
+shape kinds.String = text
+shape kinds.Bytes = octets
+shape kinds.Enum = whole varint w32 twos_complement
+shape kinds.Message = message
+
+-- the wire type in the tag: VARINT, I64, LEN or I32
+abbrev pub wire_type : Shape → ℕ
+wire_type (whole varint w c) = 0
+wire_type (whole eight_bytes w c) = 1
+wire_type (whole four_bytes w c) = 5
+wire_type truth = 0
+wire_type text = 2
+wire_type octets = 2
+wire_type message = 2
+
+-- the kind of a field's type; floats and groups have none
+abbrev pub kind_of : FieldType → Option Kind
+kind_of types.Int32 = Some kinds.Int32
+kind_of types.Int64 = Some kinds.Int64
+kind_of types.Uint32 = Some kinds.Uint32
+kind_of types.Uint64 = Some kinds.Uint64
+kind_of types.Sint32 = Some kinds.Sint32
+kind_of types.Sint64 = Some kinds.Sint64
+kind_of types.Fixed32 = Some kinds.Fixed32
+kind_of types.Sfixed32 = Some kinds.Sfixed32
+kind_of types.Fixed64 = Some kinds.Fixed64
+kind_of types.Sfixed64 = Some kinds.Sfixed64
+kind_of types.Bool = Some kinds.Bool
+kind_of types.String = Some kinds.String
+kind_of types.Bytes = Some kinds.Bytes
+kind_of types.Enum = Some kinds.Enum
+kind_of types.Message = Some kinds.Message
+kind_of types.Float = None
+kind_of types.Double = None
+kind_of types.Group = None

@@ -1,0 +1,10 @@
+pub mod Groups
+pub mod Kinds
+pub mod Trees
+pub mod Wire
+pub mod Declarations
+pub mod Reading
+pub mod Law
+pub mod Writing
+pub mod Views
+pub mod Indexed

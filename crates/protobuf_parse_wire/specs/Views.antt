@@ -1,0 +1,79 @@
+-- The code's entries and fields without where they lie in memory.
+use Rattle.std.specs.Prelude.{◌≡◌, ℕ, ℤ, pos, List, [], ◌∷◌, ◌++◌, map}
+use Rattle.protobuf_parse_wire.specs.declared.kind.Kind.{Kind}
+use Rattle.protobuf_parse_wire.specs.declared.entry.Entry.{Entry, fold-Entry}
+use Rattle.protobuf_parse_wire.specs.declared.entry.EntryValue.{EntryValue, fold-EntryValue}
+use Rattle.protobuf_parse_wire.specs.declared.entry.EntryValue.TheOpen.{EntryValue-F, Entry-F}
+use Rattle.protobuf_parse_wire.specs.declared.field.ReadField.{ReadField, fold-ReadField}
+use Rattle.protobuf_parse_wire.specs.declared.field.ReadValue.{ReadValue, fold-ReadValue}
+use Rattle.protobuf_parse_wire.specs.declared.field.ReadValue.TheOpen.{ReadValue-F, ReadField-F}
+use Rattle.protobuf_parse_wire.specs.Kinds as kinds
+use Rattle.protobuf_parse_wire.specs.Kinds.{Shape}
+use Rattle.protobuf_parse_wire.specs.Reading.{decoded}
+use Rattle.protobuf_parse_wire.specs.Trees.{EntryTree, Entries, ValueTree, Field, fields_of_list, number, truth, bytes, message, no_entries, entry}
+
+-- one entry
+pub record Item : Type 0 where
+  pub number : ℕ
+  pub kind : Kind
+  pub value : EntryTree
+
+abbrev pub entries_of_list : List Item → Entries
+entries_of_list [] = no_entries
+entries_of_list (e ∷ es) = entry e.number e.kind e.value (entries_of_list es)
+
+-- one level, with each value inside already seen
+abbrev pub entry_value_step : EntryValue-F EntryTree Item → EntryTree
+entry_value_step (EntryValue-F.Number v) = number v
+entry_value_step (EntryValue-F.Bool b) = truth b
+entry_value_step (EntryValue-F.Bytes bs) = bytes bs.items
+entry_value_step (EntryValue-F.Message es) = message (entries_of_list es.items)
+
+abbrev pub entry_step : Entry-F EntryTree Item → Item
+entry_step e = record { number = e.number; kind = e.kind; value = e.value }
+
+abbrev pub entry_value_view : EntryValue → EntryTree
+entry_value_view = fold-EntryValue EntryTree Item entry_value_step entry_step
+
+abbrev pub entry_view : Entry → Item
+entry_view = fold-Entry EntryTree Item entry_value_step entry_step
+
+abbrev pub entries_view : List Entry → Entries
+entries_view es = entries_of_list (map entry_view es)
+
+abbrev pub value_step : ReadValue-F ValueTree Field → ValueTree
+value_step (ReadValue-F.Number v) = number v
+value_step (ReadValue-F.Bool b) = truth b
+value_step (ReadValue-F.Bytes bs) = bytes bs.items
+value_step (ReadValue-F.Message fs) = message (fields_of_list fs.items)
+
+abbrev pub field_step : ReadField-F ValueTree Field → Field
+field_step f = record { number = f.number; value = f.value }
+
+abbrev pub read_value_view : ReadValue → ValueTree
+read_value_view = fold-ReadValue ValueTree Field value_step field_step
+
+abbrev pub read_field_view : ReadField → Field
+read_field_view = fold-ReadField ValueTree Field value_step field_step
+
+-- Values of the kind are whole numbers.
+abbrev pub HasNumber : Shape → Type 0
+HasNumber (kinds.whole word w code) = Unit {0}
+HasNumber kinds.truth = ⊥
+HasNumber kinds.text = ⊥
+HasNumber kinds.octets = ⊥
+HasNumber kinds.message = ⊥
+
+-- what an unsigned number says of such a kind
+abbrev pub number_said : Shape → ℕ → ℤ
+number_said (kinds.whole word w code) u = decoded w code u
+number_said kinds.truth u = pos 0
+number_said kinds.text u = pos 0
+number_said kinds.octets u = pos 0
+number_said kinds.message u = pos 0
+
+-- Bytes of which this holds were added at the end.
+pub record Appends (P : List ℕ → Type 0) (old new : List ℕ) : Type 0 where
+  pub bytes : List ℕ
+  pub holds : P bytes
+  pub added : new ≡ old ++ bytes

@@ -1,0 +1,25 @@
+-- What can be written.
+use Rattle.protobuf_parse_wire.specs.Kinds.{Shape, whole, truth, text, octets, message, shape}
+use Rattle.protobuf_parse_wire.specs.Trees as trees
+use Rattle.protobuf_parse_wire.specs.Trees.{EntryTree, Entries, no_entries, entry}
+use Rattle.protobuf_parse_wire.specs.Wire.{HasBytes, HasMessages}
+use Rattle.protobuf_parse_wire.specs.Law.{InRange}
+
+abbrev pub HasTruth : Shape → Type 0
+HasTruth truth = Unit {0}
+HasTruth (whole word w code) = ⊥
+HasTruth text = ⊥
+HasTruth octets = ⊥
+HasTruth message = ⊥
+
+abbrev mutual
+  -- Each value is one of its kind.
+  pub AreWritable : Entries → Type 0
+  AreWritable no_entries = Unit {0}
+  AreWritable (entry n k v others) = IsWritable (shape k) v × AreWritable others
+
+  pub IsWritable : Shape → EntryTree → Type 0
+  IsWritable s (trees.number v) = InRange s v
+  IsWritable s (trees.truth b) = HasTruth s
+  IsWritable s (trees.bytes bs) = HasBytes s
+  IsWritable s (trees.message es) = HasMessages s × AreWritable es

@@ -1,0 +1,128 @@
+//! Writing entries at the end of bytes.
+
+ghost use Rattle.std.specs.Prelude.{◌≡◌, ℕ, OnOk, IfOk, map, if◌then◌else◌};
+ghost use Rattle.protobuf_parse_wire.specs.Kinds.{shape, wire_type};
+ghost use Rattle.protobuf_parse_wire.specs.Wire.{IsVarint, Says, SaysDelimited, SaysNumber, Spells, zigzag_of};
+ghost use Rattle.protobuf_parse_wire.specs.Law.{InRange};
+ghost use Rattle.protobuf_parse_wire.specs.Writing.{AreWritable, IsWritable};
+ghost use Rattle.protobuf_parse_wire.specs.Views.{Appends, entries_view, entry_value_view};
+
+use crate::entry::{Entry, EntryValue};
+use crate::kind::Kind;
+use std::alloc::{AllocError, Global};
+
+/// The bytes that spell the entries.
+pub fn encode(alloc: Global, entries: &[Entry]) -> Result<Vec<u8>, AllocError>
+    requires { AreWritable (entries_view entries.now) }
+    ensures { IfOk result (λ bytes. Spells (entries_view entries.now) bytes.items) }
+{
+    let mut out = Vec::new(alloc);
+    encode_into(alloc, &mut out, entries)?;
+    Ok(out)
+}
+
+/// Writes the bytes that spell the entries behind those that are there.
+///
+/// Where memory runs out, a part of them may have been written.
+#[cycle(entry)]
+pub fn encode_into(alloc: Global, out: &mut Vec<u8>, entries: &[Entry]) -> Result<(), AllocError>
+    requires { AreWritable (entries_view entries.now) }
+    ensures { OnOk result (Appends (Spells (entries_view entries.now)) out.old.items out.new.items) }
+{
+    'entries: for entry in entries {
+        put_varint(out, u64::from(entry.number) * 8 + wire_type_of(entry.kind))?;
+        put_value(alloc, out, entry.kind, &entry.value)?;
+    }
+    Ok(())
+}
+
+#[cycle(entry)]
+fn put_value(
+    alloc: Global,
+    out: &mut Vec<u8>,
+    kind: Kind,
+    value: &EntryValue,
+) -> Result<(), AllocError>
+    requires { IsWritable (shape kind) (entry_value_view value.now) }
+    ensures { OnOk result (Appends (Says (shape kind) (entry_value_view value.now)) out.old.items out.new.items) }
+{
+    match value {
+        EntryValue::Number(number) => put_number(out, kind, *number),
+        EntryValue::Bool(truth) => put_varint(out, u64::from(*truth)),
+        EntryValue::Bytes(bytes) => put_delimited(out, bytes),
+        EntryValue::Message(entries) => {
+            let mut inside = Vec::new(alloc);
+            encode_into(alloc, &mut inside, entries)?;
+            put_delimited(out, &inside)
+        }
+    }
+}
+
+/// The wire type of a tag: that of the payload.
+fn wire_type_of(kind: Kind) -> u64
+    ensures { result ≡ wire_type (shape kind) }
+{
+    match kind {
+        Kind::String | Kind::Bytes | Kind::Message => 2,
+        Kind::Fixed64 | Kind::Sfixed64 => 1,
+        Kind::Fixed32 | Kind::Sfixed32 => 5,
+        Kind::Int32
+        | Kind::Int64
+        | Kind::Uint32
+        | Kind::Uint64
+        | Kind::Sint32
+        | Kind::Sint64
+        | Kind::Bool
+        | Kind::Enum => 0,
+    }
+}
+
+fn put_number(out: &mut Vec<u8>, kind: Kind, number: i128) -> Result<(), AllocError>
+    requires { InRange (shape kind) number }
+    ensures { OnOk result (Appends (SaysNumber (shape kind) number) out.old.items out.new.items) }
+{
+    match kind {
+        Kind::Int32 | Kind::Int64 | Kind::Enum => {
+            put_varint(out, (number as i64).cast_unsigned())
+        }
+        Kind::Uint32 | Kind::Uint64 => put_varint(out, number as u64),
+        Kind::Sint32 | Kind::Sint64 => put_varint(out, zigzag_of(number as i64)),
+        Kind::Fixed32 => out.extend_from_slice(&(number as u32).to_le_bytes()),
+        Kind::Sfixed32 => out.extend_from_slice(&(number as i32).cast_unsigned().to_le_bytes()),
+        Kind::Fixed64 => out.extend_from_slice(&(number as u64).to_le_bytes()),
+        Kind::Sfixed64 => out.extend_from_slice(&(number as i64).cast_unsigned().to_le_bytes()),
+        Kind::Bool | Kind::String | Kind::Bytes | Kind::Message => unreachable!(),
+    }
+}
+
+/// 0, -1, 1, -2, 2 .. as 0, 1, 2, 3, 4 ..
+fn zigzag_of(number: i64) -> u64
+    ensures { result ≡ zigzag_of number }
+{
+    if number >= 0 {
+        2 * number as u64
+    } else {
+        2 * (-1 - number) as u64 + 1
+    }
+}
+
+/// Writes the length of the bytes, and them.
+fn put_delimited(out: &mut Vec<u8>, inside: &[u8]) -> Result<(), AllocError>
+    ensures { OnOk result (Appends (SaysDelimited inside.now) out.old.items out.new.items) }
+{
+    put_varint(out, inside.len() as u64)?;
+    out.extend_from_slice(inside)
+}
+
+/// Writes the shortest varint.
+fn put_varint(out: &mut Vec<u8>, number: u64) -> Result<(), AllocError>
+    ensures { OnOk result (Appends (λ bytes. IsVarint bytes number) out.old.items out.new.items) }
+{
+    let mut rest = number;
+    'groups: while rest >= 128 {
+        out.push((rest & 0x7f) as u8 | 0x80)?;
+        rest >>= 7;
+    }
+    out.push(rest as u8)?;
+    Ok(())
+}

@@ -1,0 +1,9 @@
+//! What is spelled is read.
+
+ghost use Rattle.protobuf_parse_wire.specs.Law.{SpelledIsRead};
+
+/// The law that joins the encoder to the reader, over the definitions of both: bytes that spell a list of
+/// entries which suits the descriptors are read as the list's numbers and values. It does nothing when called.
+pub fn spelled_is_read()
+    ensures { SpelledIsRead }
+{}

@@ -1,0 +1,21 @@
+//! Option bytes on the wire: an encoder of entries, and a reader that goes by descriptors.
+#![tactic(auto)]
+
+mod encoder;
+mod entry;
+mod fault;
+mod field;
+mod kind;
+mod law;
+mod reader;
+
+pub use encoder::{encode, encode_into};
+pub use entry::{Entry, EntryValue};
+pub use fault::ReadFault;
+pub use field::{ReadField, ReadValue};
+pub use kind::Kind;
+pub use law::spelled_is_read;
+pub use reader::read_custom;
+
+#[cfg(test)]
+mod tests;

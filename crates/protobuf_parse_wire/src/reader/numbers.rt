@@ -1,0 +1,79 @@
+//! The fields of a message by their numbers.
+
+ghost use Rattle.std.specs.Prelude.{◌≡◌, ◌≢◌, ℕ, ◌<◌, ◌^◌, List, [], ◌∷◌, ◌++◌, map, option_map, IsSome, MatchResult};
+ghost use Rattle.std.specs.Option.{option_copied};
+ghost use Rattle.std.specs.Borrow.{Bor};
+ghost use Rattle.protobuf_parse_model.specs.Descriptors.{FieldDescriptor, field_view};
+ghost use Rattle.protobuf_parse_model.specs.declared.descriptor.FieldDescriptorProto.{FieldDescriptorProto};
+ghost use Rattle.protobuf_parse_wire.specs.Reading.{Gives, by_number};
+ghost use Rattle.protobuf_parse_wire.specs.Indexed.{IsByNumber, entered_by, numbered};
+
+use super::groups;
+use super::index::Index;
+use crate::fault::ReadFault;
+use protobuf_parse_model::FieldDescriptorProto;
+use std::alloc::Global;
+use std::collections::HashMap;
+
+/// The fields and the extensions of the one message that has the name, by their numbers.
+pub fn enter<'a>(
+    alloc: Global,
+    index: &Index<'a>,
+    name: Option<&str>,
+) -> Result<HashMap<i32, &'a FieldDescriptorProto>, ReadFault>
+    ensures { Gives numbered result (entered_by index.now (option_copied name.entry)) }
+{
+    let Some(name) = name else {
+        return Err(ReadFault::UnknownMessage);
+    };
+    match groups::group(&index.messages, name) {
+        [message] => by_number(
+            alloc,
+            &message.field,
+            groups::group(&index.extensions, name),
+        ),
+        _ => Err(ReadFault::UnknownMessage),
+    }
+}
+
+fn by_number<'a>(
+    alloc: Global,
+    fields: &'a [FieldDescriptorProto],
+    extensions: &[&'a FieldDescriptorProto],
+) -> Result<HashMap<i32, &'a FieldDescriptorProto>, ReadFault>
+    ensures { Gives numbered result (by_number (map field_view fields.now ++ map (λ (f : Bor FieldDescriptorProto). field_view f.now) extensions.now)) }
+{
+    let mut numbers = HashMap::new(alloc);
+    'fields: for field in fields {
+        add_field(&mut numbers, field)?;
+    }
+    'extensions: for extension in extensions {
+        add_field(&mut numbers, extension)?;
+    }
+    Ok(numbers)
+}
+
+/// Puts the field behind those whose numbers differ from its number, or says that one has it already.
+fn add_field<'a>(
+    numbers: &mut HashMap<i32, &'a FieldDescriptorProto>,
+    field: &'a FieldDescriptorProto,
+) -> Result<(), ReadFault>
+    ensures { (fs : List FieldDescriptor) → IsByNumber numbers.old fs → MatchResult result (λ _. IsByNumber numbers.new (fs ++ field_view field.now ∷ [])) (λ e. e ≢ ReadFault.Memory → (more : List FieldDescriptor) → by_number (fs ++ field_view field.now ∷ more) ≡ Err e) }
+{
+    match numbers.insert(field.number, field)? {
+        None => Ok(()),
+        Some(_) => Err(ReadFault::AmbiguousNumber),
+    }
+}
+
+/// The field that the number names.
+pub fn field_numbered<'a>(
+    numbers: &HashMap<i32, &'a FieldDescriptorProto>,
+    number: u64,
+) -> Option<&'a FieldDescriptorProto>
+    ensures found { option_map (λ (f : Bor FieldDescriptorProto). field_view f.now) result ≡ numbered numbers.now number }
+    ensures small { IsSome result → number < 2 ^ 31 }
+{
+    let number = i32::try_from(number).ok()?;
+    numbers.get(&number).copied()
+}

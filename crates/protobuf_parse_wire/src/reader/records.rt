@@ -1,0 +1,198 @@
+//! Records of messages, from left to right.
+
+ghost use Rattle.std.specs.Prelude.{◌≡◌, ℕ, Option, ◌<◌, ◌≤◌, ◌/◌, ◌%◌, ◌^◌, length, map, IfOk};
+ghost use Rattle.std.specs.Option.{option_copied};
+ghost use Rattle.protobuf_parse_model.specs.Descriptors.{Text, field_view};
+ghost use Rattle.protobuf_parse_wire.specs.Kinds.{shape, wire_type};
+ghost use Rattle.protobuf_parse_wire.specs.Reading.{Gives, Inner, message_at, payload_at, record_at, records, value_at};
+ghost use Rattle.protobuf_parse_wire.specs.Indexed.{entered_by, numbered};
+ghost use Rattle.protobuf_parse_wire.specs.Views.{HasNumber, number_said, read_field_view, read_value_view};
+
+use super::index::Index;
+use super::{numbers, words};
+use crate::fault::ReadFault;
+use crate::field::{ReadField, ReadValue};
+use crate::kind::Kind;
+use protobuf_parse_model::FieldDescriptorProto;
+use std::alloc::Global;
+use std::collections::HashMap;
+
+/// The fields of the message of that name, if at most so many levels of messages are in it, itself one.
+#[cycle(message)]
+pub fn message_of(
+    alloc: Global,
+    index: &Index<'_>,
+    levels: u32,
+    name: Option<&str>,
+    bytes: &[u8],
+) -> Result<Vec<ReadField>, ReadFault>
+    ensures { Gives (λ v. map read_field_view v.items) result (message_at (entered_by index.now) levels (option_copied name.entry) bytes.now) }
+{
+    if levels == 0 {
+        return Err(ReadFault::TooDeep);
+    }
+    let numbers = numbers::enter(alloc, index, name)?;
+    records_of(alloc, index, levels - 1, &numbers, bytes)
+}
+
+#[cycle(message)]
+fn records_of(
+    alloc: Global,
+    index: &Index<'_>,
+    levels: u32,
+    numbers: &HashMap<i32, &FieldDescriptorProto>,
+    bytes: &[u8],
+) -> Result<Vec<ReadField>, ReadFault>
+    ensures { Gives (λ v. map read_field_view v.items) result (records (message_at (entered_by index.now) levels) (numbered numbers.now) (length bytes.now) bytes.now) }
+{
+    let mut fields = Vec::new(alloc);
+    let mut rest = bytes;
+    'records: while !rest.is_empty() {
+        let (field, after) = record_of(alloc, index, levels, numbers, rest)?;
+        fields.push(field)?;
+        rest = after;
+    }
+    Ok(fields)
+}
+
+#[cycle(message)]
+#[tactic(auto, unfolding(crate::specs::Reading::record_at))]
+fn record_of<'b>(
+    alloc: Global,
+    index: &Index<'_>,
+    levels: u32,
+    numbers: &HashMap<i32, &FieldDescriptorProto>,
+    bytes: &'b [u8],
+) -> Result<(ReadField, &'b [u8]), ReadFault>
+    ensures gives { Gives (λ x. (read_field_view x.0, x.1.now)) result (record_at (message_at (entered_by index.now) levels) (numbered numbers.now) bytes.now) }
+    ensures shorter { IfOk result (λ x. length x.1.now < length bytes.now) }
+{
+    let (tag, rest) = words::varint_of(bytes, 10)?;
+    let (value, rest) = value_of(alloc, index, levels, numbers, tag / 8, tag % 8, rest)?;
+    let number = (tag / 8) as u32;
+    Ok((ReadField { number, value }, rest))
+}
+
+#[cycle(message)]
+#[tactic(auto, unfolding(crate::specs::Reading::value_at, crate::specs::Reading::typed_at))]
+fn value_of<'b>(
+    alloc: Global,
+    index: &Index<'_>,
+    levels: u32,
+    numbers: &HashMap<i32, &FieldDescriptorProto>,
+    number: u64,
+    wire_type: u64,
+    bytes: &'b [u8],
+) -> Result<(ReadValue, &'b [u8]), ReadFault>
+    ensures gives { Gives (λ x. (read_value_view x.0, x.1.now)) result (value_at (message_at (entered_by index.now) levels) (numbered numbers.now number) wire_type bytes.now) }
+    ensures small { IfOk result (λ x. number < 2 ^ 31) }
+    ensures shorter { IfOk result (λ x. length x.1.now ≤ length bytes.now) }
+{
+    let Some(field) = numbers::field_numbered(numbers, number) else {
+        return Err(ReadFault::UnknownNumber);
+    };
+    let Some(kind) = Kind::of(field.type_) else {
+        return Err(ReadFault::FloatOrGroup);
+    };
+    if wire_type_of(kind) != wire_type {
+        return Err(ReadFault::WrongWireType);
+    }
+    payload_of(alloc, index, levels, type_name_of(field), kind, bytes)
+}
+
+/// The wire type that the payload of the kind has.
+fn wire_type_of(kind: Kind) -> u64
+    ensures { result ≡ wire_type (shape kind) }
+{
+    match kind {
+        Kind::Int32
+        | Kind::Int64
+        | Kind::Uint32
+        | Kind::Uint64
+        | Kind::Sint32
+        | Kind::Sint64
+        | Kind::Bool
+        | Kind::Enum => 0,
+        Kind::Fixed64 | Kind::Sfixed64 => 1,
+        Kind::String | Kind::Bytes | Kind::Message => 2,
+        Kind::Fixed32 | Kind::Sfixed32 => 5,
+    }
+}
+
+fn type_name_of(field: &FieldDescriptorProto) -> Option<&str>
+    ensures { option_copied result ≡ (field_view field.now).type_name }
+{
+    field.type_name.as_deref()
+}
+
+/// What the unsigned number of an integer kind or an enum says.
+fn number_of(kind: Kind, word: u64) -> i128
+    requires { HasNumber (shape kind) }
+    ensures { result ≡ number_said (shape kind) word }
+{
+    match kind {
+        Kind::Int32 | Kind::Sfixed32 | Kind::Enum => {
+            i128::from(words::low_half(word).cast_signed())
+        }
+        Kind::Int64 | Kind::Sfixed64 => i128::from(word.cast_signed()),
+        Kind::Uint32 | Kind::Fixed32 => i128::from(words::low_half(word)),
+        Kind::Uint64 | Kind::Fixed64 => i128::from(word),
+        Kind::Sint32 => words::unzigzag_of(u64::from(words::low_half(word))),
+        Kind::Sint64 => words::unzigzag_of(word),
+        Kind::Bool | Kind::String | Kind::Bytes | Kind::Message => unreachable!(),
+    }
+}
+
+/// The value of an integer kind or an enum, and the bytes after it.
+#[tactic(auto, unfolding(crate::specs::Reading::payload_at))]
+fn number_payload_of(kind: Kind, bytes: &[u8]) -> Result<(ReadValue, &[u8]), ReadFault>
+    requires { HasNumber (shape kind) }
+    ensures gives { (inner : Inner) (name : Option Text) → Gives (λ x. (read_value_view x.0, x.1.now)) result (payload_at inner name (shape kind) bytes.now) }
+    ensures shorter { IfOk result (λ x. length x.1.now ≤ length bytes.now) }
+{
+    let (word, rest) = match kind {
+        Kind::Fixed32 | Kind::Sfixed32 => words::four_of(bytes)?,
+        Kind::Fixed64 | Kind::Sfixed64 => words::eight_of(bytes)?,
+        _ => words::varint_of(bytes, 10)?,
+    };
+    Ok((ReadValue::Number(number_of(kind, word)), rest))
+}
+
+/// The value of the kind, and the bytes after it; a message's by its name.
+#[cycle(message)]
+#[tactic(auto, unfolding(crate::specs::Reading::payload_at))]
+fn payload_of<'b>(
+    alloc: Global,
+    index: &Index<'_>,
+    levels: u32,
+    name: Option<&str>,
+    kind: Kind,
+    bytes: &'b [u8],
+) -> Result<(ReadValue, &'b [u8]), ReadFault>
+    ensures gives { Gives (λ x. (read_value_view x.0, x.1.now)) result (payload_at (message_at (entered_by index.now) levels) (option_copied name.entry) (shape kind) bytes.now) }
+    ensures shorter { IfOk result (λ x. length x.1.now ≤ length bytes.now) }
+{
+    match kind {
+        Kind::Bool => {
+            let (word, rest) = words::varint_of(bytes, 10)?;
+            Ok((ReadValue::Bool(word > 0), rest))
+        }
+        Kind::String => {
+            let (text, rest) = words::delimited_of(bytes)?;
+            if !words::is_text(text) {
+                return Err(ReadFault::BadUtf8);
+            }
+            Ok((ReadValue::Bytes(Vec::from_slice(alloc, text)?), rest))
+        }
+        Kind::Bytes => {
+            let (inside, rest) = words::delimited_of(bytes)?;
+            Ok((ReadValue::Bytes(Vec::from_slice(alloc, inside)?), rest))
+        }
+        Kind::Message => {
+            let (inside, rest) = words::delimited_of(bytes)?;
+            let fields = message_of(alloc, index, levels, name, inside)?;
+            Ok((ReadValue::Message(fields), rest))
+        }
+        _ => number_payload_of(kind, bytes),
+    }
+}

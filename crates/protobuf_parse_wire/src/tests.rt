@@ -1,0 +1,5 @@
+//! Known bytes, read and written.
+
+mod encoding;
+mod files;
+mod reading;
