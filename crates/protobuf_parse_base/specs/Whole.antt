@@ -172,11 +172,9 @@ module _ {Tok Mark Class A B C : Type 0} {L : Lexicon Tok Mark Class} {H : List 
       let i : (q b).run us ≡ read d (end m) = subst (λ v. (q v).run us ≡ read d (end m)) z (subst (λ v. (q x.1).run v ≡ read d (end m)) y.1 x.5) in
       (read_parts d c (end m) (end n) (sym i ∙ f)).0
 
-  pub chosen_none : (ts : List Tok) (m : Mark) (a : A) (us : Rest Tok Mark) → p.run (whole ts m) ≡ read a us → ((b : B) → M a b → ⊥) → (c : C) → Chosen ts c → ⊥
-  chosen_none ts m a us e h c w =
-      let x = chosen_parts ts m c w in
-      let y = read_parts x.0 a (whole x.2 m) us (sym x.3 ∙ e) in
-      h x.1 (subst (λ v. M v x.1) y.0 x.4)
+  -- nothing that the first part can say has the property with a value
+  pub chosen_none : (ts : List Tok) (m : Mark) → ((a : A) (us : Rest Tok Mark) (b : B) → p.run (whole ts m) ≡ read a us → M a b → ⊥) → (c : C) → Chosen ts c → ⊥
+  chosen_none ts m h c w = let x = chosen_parts ts m c w in h x.0 (whole x.2 m) x.1 x.3 x.4
 
   pub chosen_stops_early : (ts : List Tok) (m : Mark) (rest : Rest Tok Mark) → p.run (whole ts m) ≡ stuck rest → StopsAt L.mark Chosen ts m (mark_of L.mark rest)
   chosen_stops_early ts m rest e =

@@ -1,18 +1,17 @@
 -- What the reader of a file gives, said of the grammar.
 use Rattle.std.proofs.Common.{◌≡◌, ℕ, ◌<◌, List, [], ◌∷◌, ◌++◌, get_or, Option, Some, None, true, false, Err, refl, sym, ap, subst, ◌∙◌, inl, inr, ◌⊎◌, arith, codes, append_assoc, lit<}
-use Rattle.std.proofs.lemmas.List.{append-nil}
 use Rattle.std.proofs.lemmas.Str.{IsUtf8-from_ascii}
 use Rattle.std.proofs.lemmas.Str.Ascii.{IsAscii-cons, IsAscii-nil}
 use Rattle.std.specs.Str.{IsUtf8, IsAscii}
-use Rattle.protobuf_parse_base.specs.Relations.{Optional}
-use Rattle.protobuf_parse_base.specs.Readers.{Rest, end, token, onto, onto-append, next, read, stuck}
+use Rattle.protobuf_parse_base.specs.Readers.{Rest, end, token, onto, onto-append, read, stuck, starts, begins-starts, bind, bind_read, read_parts}
 use Rattle.protobuf_parse_base.specs.Conditions.{mark_of}
 use Rattle.protobuf_parse_base.specs.Whole.{whole, StopsAt, left_whole, local_stuck, local_read, chosen_read, chosen_only, chosen_none, chosen_stops_early, chosen_stops, chosen_leaves}
 use Rattle.protobuf_parse_syntax.specs.Text.{Bytes}
 use Rattle.protobuf_parse_syntax.specs.Tokens.{Lexeme, DecodesAll}
 use Rattle.protobuf_parse_syntax.specs.Decoding.{RefusesText}
 use Rattle.protobuf_parse_syntax.specs.Trees.{PiecesTree, FileSyntax}
-use Rattle.protobuf_parse_syntax.specs.Grammar.{IsSyntax, IsStr, IsFile, Says, name_of, place_of}
+use Rattle.protobuf_parse_syntax.specs.Grammar.{IsFile, Says, name_of, place_of}
+use Rattle.protobuf_parse_syntax.specs.Classes.{word, lexicon}
 use Rattle.protobuf_parse_syntax.specs.Productions as parse
 use Rattle.protobuf_parse_syntax.specs.Parsing.{NoTree, LargeAt, WrongAt, SaysNothing, IsFault, IsLarge}
 use Rattle.protobuf_parse_syntax.specs.Code.{Stands, Fails, IsLargeNext, is_end, GivesVersion, RefusesFile, error_at}
@@ -128,46 +127,29 @@ no_version text error.UnknownSyntax n s d = n s d
 no_version text error.StrLitDecode n s d = n (name_of s) d (utf8_name s)
 no_version text e n s d = absurd n
 
--- the strings of a `syntax` statement
-record Strings (ts : List Lexeme) (text : PiecesTree) : Type 0 where
-  front : List Lexeme
-  strings : List Lexeme
-  back : List Lexeme
-  parts : ts ≡ front ++ strings ++ back
-  is : IsStr strings text
+-- what the front of the statement says is what the statement says
+its_text : (ts after us : Rest Lexeme Place) (text : PiecesTree) (said : Option PiecesTree) → parse.syntax_front.run ts ≡ read text after → parse.version.run ts ≡ read said us → said ≡ Some text
+unfolding parse.version parse.syntax parse.syntax_front
+its_text ts after us text said h e =
+    let l = parse.syntax_front.sound ts text after h in
+    let s : starts lexicon (word (codes "syntax") ∷ []) ts ≡ true = rw l.parts (begins-starts lexicon (word (codes "syntax") ∷ []) false l.used after refl (parse.syntax_front.begins l.used text l.holds)) in
+    let x = bind_read ((parse.word (codes "syntax")).run ts) (λ u us. bind ((parse.symbol 61).run us) (λ v vs. parse.str.run vs)) text after h in
+    let y = bind_read ((parse.symbol 61).run x.1) (λ v vs. parse.str.run vs) text after x.3 in
+    let f : bind (bind ((parse.symbol 59).run after) (λ u rest. read text rest)) (λ t rest. read (Some t) rest) ≡ read said us = rw (s, x.2, y.2, y.3) at e in
+    let z = bind_read (bind ((parse.symbol 59).run after) (λ u rest. read text rest)) (λ t rest. read (Some t) rest) said us f in
+    let w = bind_read ((parse.symbol 59).run after) (λ u rest. read text rest) z.0 z.1 z.2 in
+    sym (read_parts (Some z.0) said z.1 us z.3).0 ∙ ap (λ (v : PiecesTree). Some v) (sym (read_parts text z.0 w.1 z.1 w.3).0)
 
-strings_in : (ts : List Lexeme) (text : PiecesTree) → IsSyntax ts text → Strings ts text
-unfolding IsSyntax
-strings_in ts text w =
-    let x = w.second in
-    let y = x.second in
-    let z = y.second in
-    let same : text ≡ y.value = z.second.1 in
-    let e : x.back ≡ y.front ++ y.back = y.parts in
-    let f : w.back ≡ x.front ++ (y.front ++ y.back) = x.parts ∙ ap (λ (v : List Lexeme). x.front ++ v) e in
-    let g : ts ≡ w.front ++ (x.front ++ (y.front ++ y.back)) = w.parts ∙ ap (λ (v : List Lexeme). w.front ++ v) f in
-    let h : w.front ++ (x.front ++ (y.front ++ y.back)) ≡ (w.front ++ x.front) ++ y.front ++ y.back = sym (append_assoc w.front x.front (y.front ++ y.back)) ∙ sym (append_assoc (w.front ++ x.front) y.front y.back) in
-    record { front = w.front ++ x.front; strings = y.front; back = y.back; parts = g ∙ h; is = subst (IsStr y.front) (sym same) y.first }
-
-optional_strings : (used : List Lexeme) (text : PiecesTree) → Optional IsSyntax used (Some text) → Strings used text
-optional_strings used text (inl w) =
-    let same : text ≡ w.value = some_is text w.value w.second.1 in
-    let t : used ≡ w.front = w.parts ∙ ap (λ (v : List Lexeme). w.front ++ v) w.second.0 ∙ append-nil w.front in
-    strings_in used text (subst (λ (v : List Lexeme). IsSyntax v text) (sym t) (subst (IsSyntax w.front) (sym same) w.first))
-  where
-    some_is : (a b : PiecesTree) → (let o : Option PiecesTree = Some a in o ≡ Some b) → a ≡ b
-    some_is a b e = cc
-optional_strings used text (inr h) = let e = h.1 in absurd cc
-
-pub wrong_version : (ts : List Lexeme) (m : Place) (text : PiecesTree) (us : Rest Lexeme Place) (e : ParserError) (place : Place) → parse.version.run (whole ts m) ≡ read (Some text) us → place ≡ text.place → SaysNothing text e → IsFault ts m e place
+pub wrong_version : (ts : List Lexeme) (m : Place) (text : PiecesTree) (after : Rest Lexeme Place) (e : ParserError) (place : Place) → parse.syntax_front.run (whole ts m) ≡ read text after → place ≡ text.place → SaysNothing text e → IsFault ts m e place
 unfolding IsFile
-wrong_version ts m text us e place h at n =
-    let none : NoTree ts = chosen_none parse.version Says once parse.file_in refl refl refl ts m (Some text) us h (no_version text e n) in
-    let l = parse.version.sound (whole ts m) (Some text) us h in
-    let k = left_whole ts l.used m us l.parts in
-    let v = optional_strings l.used text l.holds in
-    let parts : ts ≡ v.front ++ v.strings ++ (v.back ++ k.0) = k.2 ∙ ap (λ (x : List Lexeme). x ++ k.0) v.parts ∙ append_assoc (v.front ++ v.strings) v.back k.0 in
-    go e none (record { front = v.front; strings = v.strings; back = v.back ++ k.0; text = text; parts = parts; is = v.is; at = at; says = n }) n
+wrong_version ts m text after e place h at n =
+    let none : NoTree ts = chosen_none parse.version Says once parse.file_in refl refl refl ts m (λ said us s r d. no_version text e n s (subst (λ v. Says v s) (its_text (whole ts m) after us text said h r) d)) in
+    let l = parse.syntax_front.sound (whole ts m) text after h in
+    let k = left_whole ts l.used m after l.parts in
+    let x = l.holds.second in
+    let f : l.used ≡ (l.holds.front ++ x.front) ++ x.back = l.holds.parts ∙ ap (λ (v : List Lexeme). l.holds.front ++ v) x.parts ∙ sym (append_assoc l.holds.front x.front x.back) in
+    let parts : ts ≡ (l.holds.front ++ x.front) ++ x.back ++ k.0 = k.2 ∙ ap (λ (v : List Lexeme). v ++ k.0) f in
+    go e none (record { front = l.holds.front ++ x.front; strings = x.back; back = k.0; text = text; parts = parts; is = x.second; at = at; says = n }) n
   where
     go : (e : ParserError) → NoTree ts → WrongAt ts place e → SaysNothing text e → IsFault ts m e place
     go error.UnknownSyntax none w n = (none, w)
@@ -176,7 +158,7 @@ wrong_version ts m text us e place h at n =
 
 -- ---- what a refusal says
 
-pub version_refused : (ts : List Lexeme) (m : Place) (e : Refusal) (after : Rest Lexeme Place) → GivesVersion (Err e) after (parse.version.run (whole ts m)) → RefusesFile ts m e (mark_of place_of after)
+pub version_refused : (ts : List Lexeme) (m : Place) (e : Refusal) (after : Rest Lexeme Place) → GivesVersion (Err e) after (parse.syntax_front.run (whole ts m)) (parse.version.run (whole ts m)) → RefusesFile ts m e (mark_of place_of after)
 version_refused ts m Memory after h = tt
 version_refused ts m (Next e) after h = version_fault ts m e after h.0 h.1
 version_refused ts m (At place e) after h = wrong_version ts m h.0 after e place h.1 h.2 h.3

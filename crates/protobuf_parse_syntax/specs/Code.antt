@@ -68,12 +68,13 @@ SaysOrFails text (Err Memory) = Unit {0}
 SaysOrFails text (Err (Next e)) = ⊥
 SaysOrFails text (Err (At place e)) = (place ≡ text.place) × SaysNothing text e
 
--- the statement was read, if there is one, and what it says was returned, or why it says nothing
-abbrev pub GivesVersion : Result Syntax Refusal → Rest Lexeme Place → Read Lexeme Place (Option PiecesTree) → Type 0
-GivesVersion (Ok syntax) after r = (text : Option PiecesTree) × (r ≡ read text after) × Says text syntax
-GivesVersion (Err Memory) after r = Unit {0}
-GivesVersion (Err (Next e)) after r = (r ≡ stuck after) × Stands e after
-GivesVersion (Err (At place e)) after r = (text : PiecesTree) × (r ≡ read (Some text) after) × (place ≡ text.place) × SaysNothing text e
+-- The statement was read, if there is one, and what it says was returned; or its front was read, up to the
+-- strings, and why they say nothing.
+abbrev pub GivesVersion : Result Syntax Refusal → Rest Lexeme Place → Read Lexeme Place PiecesTree → Read Lexeme Place (Option PiecesTree) → Type 0
+GivesVersion (Ok syntax) after front r = (text : Option PiecesTree) × (r ≡ read text after) × Says text syntax
+GivesVersion (Err Memory) after front r = Unit {0}
+GivesVersion (Err (Next e)) after front r = (r ≡ stuck after) × Stands e after
+GivesVersion (Err (At place e)) after front r = (text : PiecesTree) × (front ≡ read text after) × (place ≡ text.place) × SaysNothing text e
 
 -- ---- the file
 

@@ -1,11 +1,11 @@
 -- A reader for each production of the grammar.
 use Rattle.std.proofs.Common.{◌≡◌, ℕ, ℤ, List, [], ◌∷◌, Some, None, Bool, true, false, ◌||◌, cond, bytes_eq, codes, refl, ap}
-use Rattle.protobuf_parse_base.specs.Relations.{One, Optional, OneOrMore, somes}
+use Rattle.protobuf_parse_base.specs.Relations.{Rel, Then, One, Optional, OneOrMore, somes}
 use Rattle.protobuf_parse_base.specs.Readers.{Rest, read, bind, run_one, starts, Reader, Shape, shape, seen, give, one, choose, many, shaped, ◌>>=◌, ◌>>◌, or_true}
 use Rattle.protobuf_parse_base.specs.Conditions.{at, optional, one_or_more}
 use Rattle.protobuf_parse_syntax.specs.Text.{Bytes}
 use Rattle.protobuf_parse_syntax.specs.Tokens.{Lexeme}
-use Rattle.protobuf_parse_syntax.specs.Trees.{field as body_field, message as file_message}
+use Rattle.protobuf_parse_syntax.specs.Trees.{PiecesTree, field as body_field, message as file_message}
 use Rattle.protobuf_parse_syntax.specs.Classes.{Class, sees, symbol as symbol_class, word as word_class, ident as ident_class, integer, text, is_ident, lexicon}
 use Rattle.protobuf_parse_syntax.specs.Grammar.{if_so, IsSymbol, IsWord, any_ident, IsIdent, lookup, word_of, IsWordOf, number_at, field_number, IsFieldNumber, piece_at, string_piece, IsStr, IsSyntax, labels, proto3_labels, IsLabel, scalars, IsField, IsBodyItem, IsBody, IsMessage, IsFileItem, AreStatements, IsFileIn}
 use Rattle.protobuf_parse_syntax.specs.declared.lexer.token.Place.{Place}
@@ -104,6 +104,16 @@ unfolding IsStr
 str = shaped (shape (text ∷ []) false (text ∷ [])) (at (λ place. do
   pieces ← pieces
   give (record { place = place; pieces = pieces })) refl) refl
+
+-- the statement `syntax` up to its strings
+abbrev pub IsSyntaxFront : Rel Lexeme PiecesTree
+IsSyntaxFront = Then (IsWord (codes "syntax")) (λ u. Then (IsSymbol 61) (λ v. IsStr))
+
+unfoldable pub syntax_front : Parses IsSyntaxFront (shape (word_class (codes "syntax") ∷ []) false (text ∷ []))
+syntax_front = shaped (shape (word_class (codes "syntax") ∷ []) false (text ∷ [])) (do
+  word (codes "syntax")
+  symbol 61
+  str) refl
 
 unfoldable pub syntax : Parses IsSyntax (shape (word_class (codes "syntax") ∷ []) false [])
 unfolding IsSyntax

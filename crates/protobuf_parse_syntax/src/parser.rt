@@ -4,6 +4,8 @@ mod cursor;
 mod list;
 mod message;
 mod refusal;
+#[cfg(test)]
+mod tests;
 mod version;
 
 ghost use Rattle.std.specs.Prelude.{◌≡◌, ◌⊎◌, map, IfOk, IfErr};

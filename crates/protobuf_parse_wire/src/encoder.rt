@@ -1,6 +1,6 @@
 //! Writing entries at the end of bytes.
 
-ghost use Rattle.std.specs.Prelude.{◌≡◌, ℕ, OnOk, IfOk, map, if◌then◌else◌};
+ghost use Rattle.std.specs.Prelude.{◌≡◌, OnOk, IfOk};
 ghost use Rattle.protobuf_parse_wire.specs.Kinds.{shape, wire_type};
 ghost use Rattle.protobuf_parse_wire.specs.Wire.{IsVarint, Says, SaysDelimited, SaysNumber, Spells, zigzag_of};
 ghost use Rattle.protobuf_parse_wire.specs.Law.{InRange};

@@ -3,7 +3,7 @@
 ghost use Rattle.std.specs.Prelude.{◌≡◌, map, string_bytes};
 ghost use Rattle.protobuf_parse_syntax.specs.Productions as read;
 ghost use Rattle.protobuf_parse_syntax.specs.Trees.{pieces_of};
-ghost use Rattle.protobuf_parse_syntax.specs.Code.{left, Gives, seen_by, placed_view, GivesVersion, SaysOrFails};
+ghost use Rattle.protobuf_parse_syntax.specs.Code.{left, Gives, placed_view, GivesVersion, SaysOrFails};
 
 use crate::error::ParserError;
 use crate::lexer::str_lit::{StrLit, StrLitDecodeError};
@@ -21,33 +21,22 @@ pub struct PlacedStr {
 }
 
 /// The version that a file is written in: as its `syntax` statement says, or proto2 where it is absent.
-pub fn version(alloc: Global, tokens: &mut Cursor<'_, '_>) -> Result<Syntax, Refusal>
-    ensures { GivesVersion result (left tokens.new) (read.version.run (left tokens.old)) }
-{
-    let statement = syntax_statement(alloc, tokens)?;
-    match statement {
-        Some(text) => said(alloc, &text),
-        None => Ok(Syntax::Proto2),
-    }
-}
-
+///
 /// `[ "syntax" "=" str ";" ]`
-#[tactic(auto, unfolding(crate::specs::Productions::version, crate::specs::Productions::syntax))]
-fn syntax_statement(
-    alloc: Global,
-    tokens: &mut Cursor<'_, '_>,
-) -> Result<Option<PlacedStr>, Refusal>
-    ensures { Gives (seen_by placed_view) result (left tokens.new)
-        (read.version.run (left tokens.old)) }
+#[tactic(auto, unfolding(crate::specs::Productions::version, crate::specs::Productions::syntax, crate::specs::Productions::syntax_front))]
+pub fn version(alloc: Global, tokens: &mut Cursor<'_, '_>) -> Result<Syntax, Refusal>
+    ensures { GivesVersion result (left tokens.new)
+        (read.syntax_front.run (left tokens.old)) (read.version.run (left tokens.old)) }
 {
     if !tokens.sees_word("syntax") {
-        return Ok(None);
+        return Ok(Syntax::Proto2);
     }
     tokens.word("syntax")?;
     tokens.symbol('=')?;
     let text = placed_str(alloc, tokens)?;
+    let syntax = said(alloc, &text)?;
     tokens.symbol(';')?;
-    Ok(Some(text))
+    Ok(syntax)
 }
 
 /// `str = string token { string token }`

@@ -1,9 +1,9 @@
 //! The messages and the extensions of files by name, found in one pass.
 
-ghost use Rattle.std.specs.Prelude.{◌≡◌, ℕ, List, [], ◌∷◌, ◌++◌, map, OnOk, IfOk, string_bytes};
+ghost use Rattle.std.specs.Prelude.{◌≡◌, [], ◌∷◌, map, OnOk, IfOk, string_bytes};
 ghost use Rattle.std.specs.List.{flat_map};
-ghost use Rattle.protobuf_parse_model.specs.Descriptors.{Text, field_view, file_view, message_view};
-ghost use Rattle.protobuf_parse_wire.specs.Declarations.{within, declared_message, declared_in, extensions_in, package_scope};
+ghost use Rattle.protobuf_parse_model.specs.Descriptors.{field_view, file_view, message_view};
+ghost use Rattle.protobuf_parse_wire.specs.Declarations.{declared_message, declared_in, extensions_in, package_scope};
 ghost use Rattle.protobuf_parse_wire.specs.Indexed.{Adds, AddsMessages, Indexes};
 
 use super::groups;

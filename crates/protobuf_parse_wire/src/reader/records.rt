@@ -1,6 +1,6 @@
 //! Records of messages, from left to right.
 
-ghost use Rattle.std.specs.Prelude.{◌≡◌, ℕ, Option, ◌<◌, ◌≤◌, ◌/◌, ◌%◌, ◌^◌, length, map, IfOk};
+ghost use Rattle.std.specs.Prelude.{◌≡◌, Option, ◌<◌, ◌≤◌, ◌/◌, ◌%◌, ◌^◌, length, map, IfOk};
 ghost use Rattle.std.specs.Option.{option_copied};
 ghost use Rattle.protobuf_parse_model.specs.Descriptors.{Text, field_view};
 ghost use Rattle.protobuf_parse_wire.specs.Kinds.{shape, wire_type};

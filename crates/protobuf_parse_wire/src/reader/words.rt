@@ -1,9 +1,7 @@
 //! Numbers and lengths at the front of bytes.
 
-ghost use Rattle.std.specs.Prelude.{◌≡◌, ℕ, ◌+◌, ◌<◌, ◌≤◌, ◌^◌, ◌%◌, length, IfOk};
-ghost use Rattle.std.specs.Int.{w32, w64};
+ghost use Rattle.std.specs.Prelude.{◌≡◌, ◌<◌, ◌≤◌, ◌^◌, ◌%◌, length, IfOk};
 ghost use Rattle.std.specs.Str.{is_utf8};
-ghost use Rattle.protobuf_parse_wire.specs.Kinds.{Shape, shape, zigzag};
 ghost use Rattle.protobuf_parse_wire.specs.Reading.{Gives, varint_at, part_at, delimited_at, four_at, eight_at, unzigzag};
 
 use crate::fault::ReadFault;
