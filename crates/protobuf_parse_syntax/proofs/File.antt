@@ -3,7 +3,7 @@ use Rattle.std.proofs.Common.{◌≡◌, ℕ, ◌<◌, List, [], ◌∷◌, ◌+
 use Rattle.std.proofs.lemmas.Str.{IsUtf8-from_ascii}
 use Rattle.std.proofs.lemmas.Str.Ascii.{IsAscii-cons, IsAscii-nil}
 use Rattle.std.specs.Str.{IsUtf8, IsAscii}
-use Rattle.protobuf_parse_base.specs.Readers.{Rest, end, token, onto, onto-append, read, stuck, starts, begins-starts, bind, bind_read, read_parts}
+use Rattle.protobuf_parse_base.specs.Readers.{Rest, end, token, onto, onto-append, Read, read, stuck, wrong, deep, starts, begins-starts, bind, bind_read, read_parts}
 use Rattle.protobuf_parse_base.specs.Conditions.{mark_of}
 use Rattle.protobuf_parse_base.specs.Whole.{whole, StopsAt, left_whole, local_stuck, local_read, chosen_read, chosen_only, chosen_none, chosen_stops_early, chosen_stops, chosen_leaves}
 use Rattle.protobuf_parse_syntax.specs.Text.{Bytes}
@@ -127,7 +127,13 @@ no_version text error.UnknownSyntax n s d = n s d
 no_version text error.StrLitDecode n s d = n (name_of s) d (utf8_name s)
 no_version text e n s d = absurd n
 
--- what the front of the statement says is what the statement says
+-- what the front of the statement says is what the statement says, if it is read on
+closed : (r : Read Lexeme Place (Unit {0})) (text : PiecesTree) (said : Option PiecesTree) (us : Rest Lexeme Place) → bind (bind r (λ u rest. read text rest)) (λ t rest. read (Some t) rest) ≡ read said us → said ≡ Some text
+closed (read u rest) text said us e = sym (read_parts (Some text) said rest us e).0
+closed (stuck rest) text said us e = absurd cc
+closed (wrong m) text said us e = absurd cc
+closed deep text said us e = absurd cc
+
 its_text : (ts after us : Rest Lexeme Place) (text : PiecesTree) (said : Option PiecesTree) → parse.syntax_front.run ts ≡ read text after → parse.version.run ts ≡ read said us → said ≡ Some text
 unfolding parse.version parse.syntax parse.syntax_front
 its_text ts after us text said h e =
@@ -135,10 +141,7 @@ its_text ts after us text said h e =
     let s : starts lexicon (word (codes "syntax") ∷ []) ts ≡ true = rw l.parts (begins-starts lexicon (word (codes "syntax") ∷ []) false l.used after refl (parse.syntax_front.begins l.used text l.holds)) in
     let x = bind_read ((parse.word (codes "syntax")).run ts) (λ u us. bind ((parse.symbol 61).run us) (λ v vs. parse.str.run vs)) text after h in
     let y = bind_read ((parse.symbol 61).run x.1) (λ v vs. parse.str.run vs) text after x.3 in
-    let f : bind (bind ((parse.symbol 59).run after) (λ u rest. read text rest)) (λ t rest. read (Some t) rest) ≡ read said us = rw (s, x.2, y.2, y.3) at e in
-    let z = bind_read (bind ((parse.symbol 59).run after) (λ u rest. read text rest)) (λ t rest. read (Some t) rest) said us f in
-    let w = bind_read ((parse.symbol 59).run after) (λ u rest. read text rest) z.0 z.1 z.2 in
-    sym (read_parts (Some z.0) said z.1 us z.3).0 ∙ ap (λ (v : PiecesTree). Some v) (sym (read_parts text z.0 w.1 z.1 w.3).0)
+    closed ((parse.symbol 59).run after) text said us (rw (s, x.2, y.2, y.3) at e)
 
 pub wrong_version : (ts : List Lexeme) (m : Place) (text : PiecesTree) (after : Rest Lexeme Place) (e : ParserError) (place : Place) → parse.syntax_front.run (whole ts m) ≡ read text after → place ≡ text.place → SaysNothing text e → IsFault ts m e place
 unfolding IsFile

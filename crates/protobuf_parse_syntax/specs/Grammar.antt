@@ -1,10 +1,10 @@
 -- The grammar of the Protocol Buffers Language Specifications (https://protobuf.dev/reference/protobuf/proto2-spec/
 -- and https://protobuf.dev/reference/protobuf/proto3-spec/): which tokens say which tree. Each production
 -- is one relation, whose lines are its line of EBNF; the rules beside the EBNF are conditions in it.
-use Rattle.std.specs.Prelude.{◌≡◌, ℕ, ℤ, pos, nat_le, ◌-◌, ◌&&◌, ◌||◌, ◌==◌, List, [], ◌∷◌, length, slice_index, slice_range, Option, Some, None, Bool, cond, bytes_eq, codes}
+use Rattle.std.specs.Prelude.{◌≡◌, ℕ, ℤ, pos, nat_le, List, [], ◌∷◌, Option, Some, None, Bool, cond, bytes_eq, codes}
 use Rattle.protobuf_parse_base.specs.Relations.{Rel, Nothing, Such, One, Either, Optional, Many, OneOrMore, At, somes, ◌>>=◌, ◌>>◌}
 use Rattle.protobuf_parse_syntax.specs.Text.{Bytes}
-use Rattle.protobuf_parse_syntax.specs.Tokens.{Lexeme, DecodesAll}
+use Rattle.protobuf_parse_syntax.specs.Tokens.{Lexeme, unquoted, DecodesAll}
 use Rattle.protobuf_parse_syntax.specs.Trees.{PiecesTree, FieldSyntax, BodySyntax, field, MessageSyntax, StatementSyntax, message, FileSyntax}
 use Rattle.protobuf_parse_syntax.specs.Classes.{sees, symbol, word, ident, is_ident}
 use Rattle.protobuf_parse_syntax.specs.declared.lexer.token.Place.{Place}
@@ -62,18 +62,9 @@ IsFieldNumber = One field_number
 
 -- ---- str = string token { string token }
 
-abbrev pub is_quote : ℕ → Bool
-is_quote c = c == 34 || c == 39
-
-abbrev pub is_quoted : Bytes → Bool
-is_quoted z = nat_le 2 (length z) && is_quote (slice_index z 0) && is_quote (slice_index z (length z - 1))
-
-abbrev pub between_quotes : Bytes → Option Bytes
-between_quotes z = cond (is_quoted z) (Some (slice_range z 1 (length z - 1))) None
-
 -- the text between the quotes of a string token
 abbrev pub piece_at : TokenKind → Bytes → Option Bytes
-piece_at kind.Str z = between_quotes z
+piece_at kind.Str z = Some (unquoted z)
 piece_at _ z = None
 
 abbrev pub string_piece : Lexeme → Option Bytes

@@ -1,19 +1,18 @@
 //! A cursor over the tokens of a file.
 
-ghost use Rattle.std.specs.Prelude.{◌≡◌, ◌∷◌, [], map, string_bytes, option_copied, OnOk};
+ghost use Rattle.std.specs.Prelude.{◌≡◌, ◌∷◌, [], map, string_bytes, OnOk};
 ghost use Rattle.protobuf_parse_base.specs.Readers.{starts};
 ghost use Rattle.protobuf_parse_base.specs.Conditions.{mark_of};
 ghost use Rattle.protobuf_parse_syntax.specs.Tokens.{lexeme};
 ghost use Rattle.protobuf_parse_syntax.specs.Classes as class;
 ghost use Rattle.protobuf_parse_syntax.specs.Classes.{lexicon};
-ghost use Rattle.protobuf_parse_syntax.specs.Grammar.{place_of, labels, proto3_labels, scalars, between_quotes};
-ghost use Rattle.protobuf_parse_syntax.specs.Grammar as grammar;
+ghost use Rattle.protobuf_parse_syntax.specs.Grammar.{place_of, labels, proto3_labels, scalars};
 ghost use Rattle.protobuf_parse_syntax.specs.Productions as read;
 ghost use Rattle.protobuf_parse_syntax.specs.Trees.{pieces_of};
 ghost use Rattle.protobuf_parse_syntax.specs.Code.{left, ahead, Gives, is_end};
 
 use crate::error::ParserError;
-use crate::lexer::str_lit::StrLit;
+use crate::lexer::str_lit::unquoted;
 use crate::lexer::token::{Place, Token, TokenKind};
 use crate::parser::refusal::Refusal;
 use crate::tree::{Label, Scalar};
@@ -298,10 +297,7 @@ impl<'t, 'text> Cursor<'t, 'text> {
         match self.rest {
             [token, rest @ ..] => match token.kind {
                 TokenKind::Str => {
-                    let Some(inner) = unquoted(token.text) else {
-                        return Err(Refusal::Next(ParserError::IncorrectInput));
-                    };
-                    let piece = String::from_str(alloc, inner)?;
+                    let piece = String::from_str(alloc, unquoted(token.text))?;
                     self.rest = rest;
                     Ok(piece)
                 }
@@ -310,25 +306,4 @@ impl<'t, 'text> Cursor<'t, 'text> {
             [] => Err(Refusal::Next(ParserError::IncorrectInput)),
         }
     }
-}
-
-/// The text between the first and the last character of a string token, its quotes.
-fn unquoted(text: &str) -> Option<&str>
-    ensures { option_copied result ≡ between_quotes text.now }
-{
-    let bytes = text.as_bytes();
-    if bytes.len() < 2 {
-        return None;
-    }
-    let last = bytes.len() - 1;
-    if !is_quote(bytes[0]) || !is_quote(bytes[last]) {
-        return None;
-    }
-    Some(&text[1..last])
-}
-
-fn is_quote(byte: u8) -> bool
-    ensures { result ≡ grammar.is_quote byte }
-{
-    byte == b'"' || byte == b'\''
 }
