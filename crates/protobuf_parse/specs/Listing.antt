@@ -1,5 +1,5 @@
 -- The listing of descriptors: a line a construct, each part of it below it and two spaces further in.
-use Rattle.std.specs.Prelude.{◌≡◌, ℕ, ℤ, pos, negsuc, ◌+◌, ◌*◌, ◌==◌, ◌||◌, Bool, true, false, if◌then◌else◌, List, [], ◌∷◌, ◌++◌, flat_map, codes, replicate, Option, Some, None, option_map, refl}
+use Rattle.std.specs.Prelude.{ℕ, ℤ, pos, negsuc, ◌+◌, ◌*◌, ◌==◌, ◌||◌, Bool, true, false, List, [], ◌∷◌, ◌++◌, flat_map, codes, replicate, Option, Some, None, option_map}
 use Rattle.std.specs.Fmt.{signed_decimal}
 use Rattle.hex.specs.Hex.{encode_lower}
 use Rattle.protobuf_parse_base.specs.Escapes.{escaped_bytes}
@@ -15,9 +15,8 @@ use Rattle.protobuf_parse_model.specs.declared.descriptor.options.JSType.{JSType
 use Rattle.protobuf_parse_model.specs.declared.descriptor.options.JSType.TheVariants.{JsNormal, JsString, JsNumber}
 use Rattle.protobuf_parse_model.specs.declared.descriptor.options.IdempotencyLevel.{IdempotencyLevel}
 use Rattle.protobuf_parse_model.specs.declared.descriptor.options.IdempotencyLevel.TheVariants.{IdempotencyUnknown, NoSideEffects, Idempotent}
-use Rattle.protobuf_parse_model.specs.declared.descriptor.DescriptorProto.{DescriptorProto}
 use Rattle.protobuf_parse_model.specs.Options.{FileOptionsSet, MessageOptionsSet, FieldOptionsSet, OneofOptionsSet, EnumOptionsSet, EnumValueOptionsSet, ServiceOptionsSet, MethodOptionsSet}
-use Rattle.protobuf_parse_model.specs.Descriptors.{Text, Range, FieldDescriptor, OneofDescriptor, EnumValueDescriptor, EnumDescriptor, MessageParts, MessageDescriptor, a_message, MessageDescriptors, no_messages, messages, messages_of_list, MethodDescriptor, ServiceDescriptor, FileDescriptor}
+use Rattle.protobuf_parse_model.specs.Descriptors.{Text, Range, FieldDescriptor, OneofDescriptor, EnumValueDescriptor, EnumDescriptor, MessageParts, MessageDescriptor, a_message, MessageDescriptors, no_messages, messages, MethodDescriptor, ServiceDescriptor, FileDescriptor}
 
 -- ---- pieces
 

@@ -1,6 +1,6 @@
 //! From a file's tree to its descriptor.
 
-ghost use Rattle.std.specs.Prelude.{◌≡◌, ℕ, List, map, flat_map, string_bytes, IfOk};
+ghost use Rattle.std.specs.Prelude.{◌≡◌, ℕ, List, map, flat_map, IfOk};
 ghost use Rattle.std.specs.Borrow.{Bor};
 ghost use Rattle.protobuf_parse_syntax.specs.Trees.{field_view, statement_view, file_view, body_view, message_view};
 ghost use Rattle.protobuf_parse_model.specs.Descriptors as described;

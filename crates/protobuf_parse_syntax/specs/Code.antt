@@ -68,8 +68,8 @@ SaysOrFails text (Err Memory) = Unit {0}
 SaysOrFails text (Err (Next e)) = ⊥
 SaysOrFails text (Err (At place e)) = (place ≡ text.place) × SaysNothing text e
 
--- The statement was read, if there is one, and what it says was returned; or its front was read, up to the
--- strings, and why they say nothing.
+-- The statement was read, if there is one, and what it says was returned; or only its front was read, up to
+-- the strings, which say nothing.
 abbrev pub GivesVersion : Result Syntax Refusal → Rest Lexeme Place → Read Lexeme Place PiecesTree → Read Lexeme Place (Option PiecesTree) → Type 0
 GivesVersion (Ok syntax) after front r = (text : Option PiecesTree) × (r ≡ read text after) × Says text syntax
 GivesVersion (Err Memory) after front r = Unit {0}

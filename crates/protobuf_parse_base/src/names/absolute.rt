@@ -144,7 +144,7 @@ pub struct ProtobufAbsPath {
 }
 
 impl ProtobufAbsPath {
-    ghost use Rattle.protobuf_parse_base.specs.NameViews.{ident_ref_text, ident_text, rel_ref_text, rel_ref_idents, rel_idents, abs_ref_text, abs_ref_idents, abs_text, abs_idents};
+    ghost use Rattle.protobuf_parse_base.specs.NameViews.{ident_ref_text, ident_text, rel_ref_idents, rel_idents, abs_ref_text, abs_ref_idents, abs_text, abs_idents};
 
     /// The weak test: whether the text is empty, or begins with a dot and is not `.`.
     pub fn is_abs(text: &str) -> bool

@@ -1,5 +1,5 @@
 //! Identifiers.
-ghost use Rattle.std.specs.Prelude.{◌≡◌, ◌↔◌, IsTrue, IfOk, nat_eq, Some};
+ghost use Rattle.std.specs.Prelude.{◌≡◌, IsTrue, IfOk, nat_eq, Some};
 ghost use Rattle.std.specs.String.{string_bytes};
 ghost use Rattle.std.specs.Cmp.Lexicographic.{pointwise, nat_list_eq_equiv};
 ghost use Rattle.std.specs.Cmp.{partial_equiv_from_equiv, on_per, on_equiv};

@@ -1,12 +1,12 @@
 //! Relative paths: identifiers with dots between them.
-ghost use Rattle.std.specs.Prelude.{◌≡◌, ◌≢◌, ◌↔◌, ℕ, List, [], ◌∷◌, ◌++◌, map, IsTrue, IfOk, MatchOption, nat_eq, Some};
+ghost use Rattle.std.specs.Prelude.{◌≡◌, ◌↔◌, ℕ, List, [], ◌∷◌, ◌++◌, map, IsTrue, IfOk, MatchOption, nat_eq, Some};
 ghost use Rattle.std.specs.String.{string_bytes};
 ghost use Rattle.std.specs.Cmp.Lexicographic.{pointwise, nat_list_eq_equiv};
 ghost use Rattle.std.specs.Cmp.{partial_equiv_from_equiv, on_per, on_equiv};
 ghost use Rattle.std.specs.Cmp.Rules.{hashing};
 ghost use Rattle.std.specs.Hash as fed;
 ghost use Rattle.std.proofs.Common.{rules};
-ghost use Rattle.protobuf_parse_base.specs.Names.{is_relative, are_idents, relative_text, relative_idents, IsRelative, fronts};
+ghost use Rattle.protobuf_parse_base.specs.Names.{is_relative, are_idents, relative_text, IsRelative, fronts};
 
 use super::absolute::ProtobufAbsPath;
 use super::components::Components;

@@ -1,6 +1,6 @@
 //! A cursor over the tokens of a file.
 
-ghost use Rattle.std.specs.Prelude.{◌≡◌, ◌∷◌, [], map, string_bytes, OnOk};
+ghost use Rattle.std.specs.Prelude.{◌≡◌, ◌∷◌, [], map, string_bytes};
 ghost use Rattle.protobuf_parse_base.specs.Readers.{starts};
 ghost use Rattle.protobuf_parse_base.specs.Conditions.{mark_of};
 ghost use Rattle.protobuf_parse_syntax.specs.Tokens.{lexeme};
@@ -8,7 +8,6 @@ ghost use Rattle.protobuf_parse_syntax.specs.Classes as class;
 ghost use Rattle.protobuf_parse_syntax.specs.Classes.{lexicon};
 ghost use Rattle.protobuf_parse_syntax.specs.Grammar.{place_of, labels, proto3_labels, scalars};
 ghost use Rattle.protobuf_parse_syntax.specs.Productions as read;
-ghost use Rattle.protobuf_parse_syntax.specs.Trees.{pieces_of};
 ghost use Rattle.protobuf_parse_syntax.specs.Code.{left, ahead, Gives, is_end};
 
 use crate::error::ParserError;

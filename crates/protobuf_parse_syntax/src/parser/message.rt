@@ -1,7 +1,6 @@
 //! Messages and their fields.
 
-ghost use Rattle.std.specs.Prelude.{◌≡◌, ◌++◌, map, OnOk};
-ghost use Rattle.std.specs.Option.{option_to_list};
+ghost use Rattle.std.specs.Prelude.{map};
 ghost use Rattle.protobuf_parse_syntax.specs.Productions as read;
 ghost use Rattle.protobuf_parse_syntax.specs.Trees.{field_view, body_view, message_view};
 ghost use Rattle.protobuf_parse_syntax.specs.Code.{left, Gives, seen_by};

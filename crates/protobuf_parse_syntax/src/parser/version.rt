@@ -1,8 +1,7 @@
 //! The `syntax` statement.
 
-ghost use Rattle.std.specs.Prelude.{◌≡◌, map, string_bytes};
+ghost use Rattle.std.specs.Prelude.{map, string_bytes};
 ghost use Rattle.protobuf_parse_syntax.specs.Productions as read;
-ghost use Rattle.protobuf_parse_syntax.specs.Trees.{pieces_of};
 ghost use Rattle.protobuf_parse_syntax.specs.Code.{left, Gives, placed_view, GivesVersion, SaysOrFails};
 
 use crate::error::ParserError;

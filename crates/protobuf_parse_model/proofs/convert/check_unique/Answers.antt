@@ -1,6 +1,7 @@
-use Rattle.std.proofs.Common.{◌≡◌, ℕ, ◌+◌, ◌<◌, List, [], ◌∷◌, ◌++◌, length, map, take, drop, get_or, Bool, true, false, Bor, sym, refl, ◌∙◌, ap, add-one, drop-cons, string_bytes, cond}
+use Rattle.std.proofs.Common.{◌≡◌, ℕ, ◌+◌, ◌<◌, List, [], ◌∷◌, ◌++◌, length, map, take, drop, get_or, Bool, true, false, Bor, sym, refl, ◌∙◌, ap, add-one, drop-cons, cond}
 use Rattle.std.specs.Prelude.{not, ◌||◌, bytes_eq}
 use Rattle.std.proofs.lemmas.List.{map_more}
+use Rattle.protobuf_parse_model.proofs.OrTests.{cond-true_or, or_left_comm}
 use Rattle.protobuf_parse_model.specs.Faults.{Among, Fault}
 use Rattle.protobuf_parse_model.specs.declared.error.ElabErrorKind.TheVariants.{DuplicateName}
 use Rattle.protobuf_parse_model.specs.Elaboration.{stands_in, duplicates, duplicates_after}
@@ -29,19 +30,9 @@ goes_on : (names : List (Bor (List ℕ))) (i : ℕ) (d : Bor (List ℕ)) → i <
 goes_on names i d lt e inv =
     inv ∙ ap (λ r. duplicates_after (texts (take i names)) r) (rest_is names i d lt) ∙ new_name (texts (take i names)) (texts (drop (i + 1) names)) (get_or names i d).now e ∙ ap (λ s. duplicates_after s (texts (drop (i + 1) names))) (sym (map_more (λ (s : Bor (List ℕ)). s.now) names i d lt))
 
-or_is : (a b : Bool) → cond a true b ≡ (a || b)
-or_is true b = refl
-or_is false b = refl
-
-swap_tests : (a b c : Bool) → (a || (b || c)) ≡ (b || (a || c))
-swap_tests true true c = refl
-swap_tests true false c = refl
-swap_tests false true c = refl
-swap_tests false false c = refl
-
 stands_in-push : (n x : List ℕ) (xs : List (List ℕ)) → stands_in n (xs ++ x ∷ []) ≡ (bytes_eq x n || stands_in n xs)
 stands_in-push n x [] = refl
-stands_in-push n x (y ∷ xs) = ap (λ b. bytes_eq y n || b) (stands_in-push n x xs) ∙ swap_tests (bytes_eq y n) (bytes_eq x n) (stands_in n xs)
+stands_in-push n x (y ∷ xs) = ap (λ b. bytes_eq y n || b) (stands_in-push n x xs) ∙ or_left_comm (bytes_eq y n) (bytes_eq x n) (stands_in n xs)
 
 was_in : (b r : Bool) → r ≡ not b → r ≡ false → b ≡ true
 was_in true r e h = refl
@@ -63,5 +54,5 @@ loop-name-preserved c =
     let is_out = sym (c.loop-name.invariant.seen d) ∙ was_out _ _ c.in_ok-is_new.ensures.added c.if-not-is_new.false in
     record {
       none_yet = goes_on c.args.names.now c.loop-name.name-index _ c.loop-name-test.true is_out c.loop-name.invariant.none_yet;
-      seen = λ q. c.in_ok-is_new.ensures.updates.0 q ∙ ap (λ b. cond (bytes_eq d.now q.now) true b) (c.loop-name.invariant.seen q) ∙ or_is (bytes_eq d.now q.now) _ ∙ sym (ap (stands_in q.now) (map_more (λ (s : Bor (List ℕ)). s.now) c.args.names.now c.loop-name.name-index _ c.loop-name-test.true) ∙ stands_in-push q.now d.now _);
+      seen = λ q. c.in_ok-is_new.ensures.updates.0 q ∙ ap (λ b. cond (bytes_eq d.now q.now) true b) (c.loop-name.invariant.seen q) ∙ cond-true_or (bytes_eq d.now q.now) _ ∙ sym (ap (stands_in q.now) (map_more (λ (s : Bor (List ℕ)). s.now) c.args.names.now c.loop-name.name-index _ c.loop-name-test.true) ∙ stands_in-push q.now d.now _);
     }

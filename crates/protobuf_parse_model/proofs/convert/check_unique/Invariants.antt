@@ -1,4 +1,4 @@
-use Rattle.std.proofs.Common.{◌≡◌, ℕ, List, [], map, take, drop, Bor}
+use Rattle.std.proofs.Common.{◌≡◌, ℕ, List, map, take, drop, Bor}
 use Rattle.std.specs.Prelude.{bytes_eq}
 use Rattle.std.specs.HashSet.{contains}
 use Rattle.protobuf_parse_model.specs.Elaboration.{duplicates, duplicates_after, stands_in}
