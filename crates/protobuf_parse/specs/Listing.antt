@@ -3,8 +3,8 @@ use Rattle.std.specs.Prelude.{ℕ, ℤ, pos, negsuc, ◌+◌, ◌*◌, ◌==◌,
 use Rattle.std.specs.Fmt.{signed_decimal}
 use Rattle.hex.specs.Hex.{encode_lower}
 use Rattle.protobuf_parse_base.specs.Escapes.{escaped_bytes}
-use Rattle.protobuf_parse_syntax.specs.declared.tree.Label.{Label}
-use Rattle.protobuf_parse_syntax.specs.declared.tree.Label.TheVariants.{Optional, Required, Repeated}
+use Rattle.protobuf_parse_syntax.specs.declared.tree.field.Label.{Label}
+use Rattle.protobuf_parse_syntax.specs.declared.tree.field.Label.TheVariants.{Optional, Required, Repeated}
 use Rattle.protobuf_parse_model.specs.declared.descriptor.FieldType.{FieldType}
 use Rattle.protobuf_parse_model.specs.declared.descriptor.FieldType.TheVariants as kind
 use Rattle.protobuf_parse_model.specs.declared.descriptor.options.OptimizeMode.{OptimizeMode}

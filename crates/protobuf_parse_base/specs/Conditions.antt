@@ -1,7 +1,7 @@
 -- Readers of parts that stand under a condition, and of parts joined from them.
 use Rattle.std.proofs.Common.{◌≡◌, List, [], ◌∷◌, ◌++◌, Option, Some, None, Bool, true, false, ◌&&◌, ◌||◌, cond, refl, sym, ap, ◌∙◌}
 use Rattle.protobuf_parse_base.specs.Relations.{Optional, OneOrMore, Separated, Meant, Only, Unless, BeginsOtherwise, At}
-use Rattle.protobuf_parse_base.specs.Readers.{Rest, end, token, onto, next, Read, read, stuck, wrong, deep, bind, bind_read, bind_deep, read_parts, Lexicon, Shape, shape, LocalAt, Sound, seen_by, starts, starts-next, starts-onto, Begins, Reader, local-same, bind-local, give, ◌>>=◌, ◌>>◌, then_shape, either_shape, choose, many, many_shape, pick, pick-local-at, seen_by-append, or_true}
+use Rattle.protobuf_parse_base.specs.Readers.{Rest, end, token, onto, next, Read, read, stuck, wrong, deep, bind, bind_read, bind_deep, read_parts, Lexicon, Shape, shape, LocalAt, LocalRead, Sound, seen_by, starts, starts-next, starts-onto, Begins, Reader, local-same, give, ◌>>=◌, ◌>>◌, then_shape, either_shape, choose, many, many_shape, pick, pick-local-at, seen_by-append, or_true}
 
 stuck-local : {Tok Mark A : Type 0} (ts : Rest Tok Mark) → LocalAt {A = A} stuck ts (stuck ts)
 stuck-local ts = record { used = []; parts = refl; again = λ other e. refl }
@@ -150,38 +150,41 @@ at f some = record { run = run_at f; local = at-local f; sound = at-sound f some
 -- ---- with a meaning
 
 module _ {Tok Mark Class A B : Type 0} {L : Lexicon Tok Mark Class} {R : List Tok → A → Type 0} {s : Shape Class} (p : Reader L R s) (means : A → Option B) where
-  abbrev pub meaning : Mark → Option B → Rest Tok Mark → Read Tok Mark B
-  meaning m None rest = wrong m
-  meaning m (Some b) rest = read b rest
+  abbrev pub meaning : Rest Tok Mark → Option B → Rest Tok Mark → Read Tok Mark B
+  meaning ts None rest = wrong ts
+  meaning ts (Some b) rest = read b rest
 
   abbrev pub run_meant : Rest Tok Mark → Read Tok Mark B
-  run_meant ts = bind (p.run ts) (λ a us. meaning (mark_of L.mark ts) (means a) us)
+  run_meant ts = bind (p.run ts) (λ a us. meaning ts (means a) us)
 
-  meaning-local : (m n : Mark) (o : Option B) (rest : Rest Tok Mark) → LocalAt (λ us. meaning m o us) rest (meaning m o rest)
-  meaning-local m n None rest = tt
-  meaning-local m n (Some b) rest = record { used = []; parts = refl; again = λ other e. refl }
+  meaning-local : (ts : Rest Tok Mark) (a : A) (rest : Rest Tok Mark) → LocalRead p.run ts a rest → (o : Option B) → means a ≡ o → LocalAt run_meant ts (meaning ts o rest)
+  meaning-local ts a rest l None e = ([], refl)
+  meaning-local ts a rest l (Some b) e = record { used = l.used; parts = l.parts; again = λ other h. rw (l.again other h, e) refl }
+
+  meant-local-at : (ts : Rest Tok Mark) (r : Read Tok Mark A) → LocalAt p.run ts r → LocalAt run_meant ts (bind r (λ a us. meaning ts (means a) us))
+  meant-local-at ts (read a rest) l = meaning-local ts a rest l (means a) refl
+  meant-local-at ts (stuck rest) l = record { used = l.used; parts = l.parts; again = λ other h. rw (l.again other h) refl }
+  meant-local-at ts (wrong rest) l = l
+  meant-local-at ts deep l = tt
 
   pub meant-local : (ts : Rest Tok Mark) → LocalAt run_meant ts (run_meant ts)
-  meant-local ts =
-      let F : Rest Tok Mark → Read Tok Mark B = λ us. bind (p.run us) (λ a vs. meaning (mark_of L.mark ts) (means a) vs) in
-      let l : LocalAt F ts (F ts) = bind-local p.run (λ a vs. meaning (mark_of L.mark ts) (means a) vs) ts (p.run ts) (p.local ts) (λ a us e. meaning-local (mark_of L.mark ts) (mark_of L.mark ts) (means a) us) in
-      local-same F run_meant ts (F ts) (λ us h. ap (λ m. bind (p.run us) (λ a vs. meaning m (means a) vs)) (mark-next L.mark us ts h)) l
+  meant-local ts = meant-local-at ts (p.run ts) (p.local ts)
 
-  pub meaning-shallow : (m : Mark) (o : Option B) (us : Rest Tok Mark) → meaning m o us ≡ deep → ⊥
-  meaning-shallow m None us e = cc
-  meaning-shallow m (Some b) us e = cc
+  pub meaning-shallow : (ts : Rest Tok Mark) (o : Option B) (us : Rest Tok Mark) → meaning ts o us ≡ deep → ⊥
+  meaning-shallow ts None us e = cc
+  meaning-shallow ts (Some b) us e = cc
 
   pub meant-shallow : s.nests ≡ false → (ts : Rest Tok Mark) → run_meant ts ≡ deep → ⊥
-  meant-shallow n ts e = bind_deep (p.run ts) (λ a us. meaning (mark_of L.mark ts) (means a) us) e (p.shallow n ts) (λ a us h i. meaning-shallow (mark_of L.mark ts) (means a) us i)
+  meant-shallow n ts e = bind_deep (p.run ts) (λ a us. meaning ts (means a) us) e (p.shallow n ts) (λ a us h i. meaning-shallow ts (means a) us i)
 
-  meaning-read : (m : Mark) (o : Option B) (us : Rest Tok Mark) (b : B) (rest : Rest Tok Mark) → meaning m o us ≡ read b rest → (o ≡ Some b) × (us ≡ rest)
-  meaning-read m None us b rest e = absurd cc
-  meaning-read m (Some c) us b rest e = let h = read_parts c b us rest e in (ap (λ (x : B). Some x) h.0, h.1)
+  meaning-read : (ts : Rest Tok Mark) (o : Option B) (us : Rest Tok Mark) (b : B) (rest : Rest Tok Mark) → meaning ts o us ≡ read b rest → (o ≡ Some b) × (us ≡ rest)
+  meaning-read ts None us b rest e = absurd cc
+  meaning-read ts (Some c) us b rest e = let h = read_parts c b us rest e in (ap (λ (x : B). Some x) h.0, h.1)
 
   pub meant-sound : (ts : Rest Tok Mark) (b : B) (rest : Rest Tok Mark) → run_meant ts ≡ read b rest → Sound (Meant R means) ts b rest
   meant-sound ts b rest e =
-      let x = bind_read (p.run ts) (λ a us. meaning (mark_of L.mark ts) (means a) us) b rest e in
-      let y = meaning-read (mark_of L.mark ts) (means x.0) x.1 b rest x.3 in
+      let x = bind_read (p.run ts) (λ a us. meaning ts (means a) us) b rest e in
+      let y = meaning-read ts (means x.0) x.1 b rest x.3 in
       let l = p.sound ts x.0 x.1 x.2 in
       record { used = l.used; parts = l.parts ∙ ap (onto l.used) y.1; holds = (x.0, l.holds, y.0) }
 

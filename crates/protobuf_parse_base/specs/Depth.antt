@@ -98,12 +98,12 @@ module _ {Tok Mark Class A : Type 0} {L : Lexicon Tok Mark Class} {R R' : List T
   near-only false near ts = inl (refl, stuck-shallow ts)
 
   pub near-meant : {B : Type 0} (means : A → Option B) → Near k p.run p'.run → Near k (run_meant p means) (run_meant p' means)
-  near-meant means near ts = near-bind k k ts (λ a us. meaning p means (mark_of L.mark ts) (means a) us) (λ a us. meaning p' means (mark_of L.mark ts) (means a) us) (p.run ts) (p'.run ts) (near ts) (λ a us e h.
+  near-meant means near ts = near-bind k k ts (λ a us. meaning p means ts (means a) us) (λ a us. meaning p' means ts (means a) us) (p.run ts) (p'.run ts) (near ts) (λ a us e h.
       let l = p.sound ts a us e in let n : size us ≤ size ts = rw l.parts (size-onto l.used us) in omega (arith, n, h)) (λ a us e. go (means a) us)
     where
-      go : (o : Option _) (us : Rest Tok Mark) → NearAt k us (meaning p means (mark_of L.mark ts) o us) (meaning p' means (mark_of L.mark ts) o us)
-      go None us = inl (refl, meaning-shallow p means (mark_of L.mark ts) None us)
-      go (Some b) us = inl (refl, meaning-shallow p means (mark_of L.mark ts) (Some b) us)
+      go : (o : Option _) (us : Rest Tok Mark) → NearAt k us (meaning p means ts o us) (meaning p' means ts o us)
+      go None us = inl (refl, meaning-shallow p means ts None us)
+      go (Some b) us = inl (refl, meaning-shallow p means ts (Some b) us)
 
 -- ---- a reader for each depth
 

@@ -39,8 +39,8 @@ module _ {Tok Mark Class A B C : Type 0} {L : Lexicon Tok Mark Class} {R : List 
   pub ends_stuck : (front : List B) (ts rest : Rest Tok Mark) (total : Read Tok Mark C) → starts L s.firsts ts ≡ true → item.run ts ≡ stuck rest → total ≡ with_rest shown make front (run_many item ts) → total ≡ stuck rest
   ends_stuck front ts rest total t e so_far = so_far ∙ ap (with_rest shown make front) (many-law item some ts) ∙ rw (t, e) refl
 
-  pub ends_wrong : (front : List B) (ts : Rest Tok Mark) (m : Mark) (total : Read Tok Mark C) → starts L s.firsts ts ≡ true → item.run ts ≡ wrong m → total ≡ with_rest shown make front (run_many item ts) → total ≡ wrong m
-  ends_wrong front ts m total t e so_far = so_far ∙ ap (with_rest shown make front) (many-law item some ts) ∙ rw (t, e) refl
+  pub ends_wrong : (front : List B) (ts : Rest Tok Mark) (rest : Rest Tok Mark) (total : Read Tok Mark C) → starts L s.firsts ts ≡ true → item.run ts ≡ wrong rest → total ≡ with_rest shown make front (run_many item ts) → total ≡ wrong rest
+  ends_wrong front ts rest total t e so_far = so_far ∙ ap (with_rest shown make front) (many-law item some ts) ∙ rw (t, e) refl
 
   -- no item comes next
   pub stops_here : (front : List B) (ts : Rest Tok Mark) (total : Read Tok Mark C) → starts L s.firsts ts ≡ false → total ≡ with_rest shown make front (run_many item ts) → total ≡ read (make front) ts

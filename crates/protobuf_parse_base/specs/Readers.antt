@@ -28,18 +28,18 @@ abbrev pub next : {Tok Mark : Type 0} → Rest Tok Mark → Result Tok Mark
 next (end m) = Err m
 next (token t rest) = Ok t
 
--- A value and the tokens after it; or the tokens from the one on that cannot stand there; or the mark of a
--- part that says nothing; or parts that nest deeper than was looked at.
+-- A value and the tokens after it; or the tokens from the one on that cannot stand there; or the tokens from
+-- the first one on of a part that says nothing; or parts that nest deeper than was looked at.
 pub data Read (Tok Mark A : Type 0) : Type 0 where
   read : A → Rest Tok Mark → Read Tok Mark A
   stuck : Rest Tok Mark → Read Tok Mark A
-  wrong : Mark → Read Tok Mark A
+  wrong : Rest Tok Mark → Read Tok Mark A
   deep : Read Tok Mark A
 
 abbrev pub bind : {Tok Mark A B : Type 0} → Read Tok Mark A → (A → Rest Tok Mark → Read Tok Mark B) → Read Tok Mark B
 bind (read a rest) f = f a rest
 bind (stuck rest) f = stuck rest
-bind (wrong m) f = wrong m
+bind (wrong rest) f = wrong rest
 bind deep f = deep
 
 pub bind_read : {Tok Mark A B : Type 0} (r : Read Tok Mark A) (f : A → Rest Tok Mark → Read Tok Mark B) (b : B) (rest : Rest Tok Mark) → bind r f ≡ read b rest → (a : A) × (us : Rest Tok Mark) × (r ≡ read a us) × (f a us ≡ read b rest)
@@ -108,7 +108,7 @@ pub record LocalStuck {Tok Mark A : Type 0} (run : Rest Tok Mark → Read Tok Ma
 abbrev pub LocalAt : {Tok Mark A : Type 0} → (Rest Tok Mark → Read Tok Mark A) → Rest Tok Mark → Read Tok Mark A → Type 0
 LocalAt run ts (read a rest) = LocalRead run ts a rest
 LocalAt run ts (stuck rest) = LocalStuck run ts rest
-LocalAt run ts (wrong m) = Unit {0}
+LocalAt {Tok = Tok} run ts (wrong rest) = (used : List Tok) × (ts ≡ onto used rest)
 LocalAt run ts deep = Unit {0}
 
 pub record Sound {Tok Mark A : Type 0} (R : List Tok → A → Type 0) (ts : Rest Tok Mark) (a : A) (rest : Rest Tok Mark) : Type 0 where
@@ -275,7 +275,7 @@ module _ {Tok Mark Class : Type 0} (L : Lexicon Tok Mark Class) where
 pub local-same : {Tok Mark A : Type 0} (run run' : Rest Tok Mark → Read Tok Mark A) (ts : Rest Tok Mark) (r : Read Tok Mark A) → ((us : Rest Tok Mark) → next us ≡ next ts → run' us ≡ run us) → LocalAt run ts r → LocalAt run' ts r
 local-same run run' ts (read a rest) same l = record { used = l.used; parts = l.parts; again = λ other h. same (onto l.used other) (next-onto l.used rest other h ∙ ap next (sym l.parts)) ∙ l.again other h }
 local-same run run' ts (stuck rest) same l = record { used = l.used; parts = l.parts; again = λ other h. same (onto l.used other) (next-onto l.used rest other h ∙ ap next (sym l.parts)) ∙ l.again other h }
-local-same run run' ts (wrong m) same l = tt
+local-same run run' ts (wrong rest) same l = l
 local-same run run' ts deep same l = tt
 
 -- ---- nothing, and one token
@@ -385,13 +385,13 @@ module _ {Tok Mark A B : Type 0} where
     parts = l.parts ∙ ap (onto l.used) m.parts ∙ sym (onto-append l.used m.used rest);
     again = λ other h. let e : run (onto l.used (onto m.used other)) ≡ read a (onto m.used other) = l.again (onto m.used other) (next-onto m.used rest other h ∙ ap next (sym m.parts)) in rw (onto-append l.used m.used other, e) (m.again other h);
   }
-  second-local run f ts a us l (wrong k) m = tt
+  second-local run f ts a us l (wrong rest) m = (l.used ++ m.0, l.parts ∙ ap (onto l.used) m.1 ∙ sym (onto-append l.used m.0 rest))
   second-local run f ts a us l deep m = tt
 
   pub bind-local : (run : Rest Tok Mark → Read Tok Mark A) (f : A → Rest Tok Mark → Read Tok Mark B) (ts : Rest Tok Mark) (r : Read Tok Mark A) → LocalAt run ts r → ((a : A) (us : Rest Tok Mark) → r ≡ read a us → LocalAt (f a) us (f a us)) → LocalAt (λ vs. bind (run vs) f) ts (bind r f)
   bind-local run f ts (read a us) l g = second-local run f ts a us l (f a us) (g a us refl)
   bind-local run f ts (stuck rest) l g = record { used = l.used; parts = l.parts; again = λ other h. rw (l.again other h) refl }
-  bind-local run f ts (wrong m) l g = tt
+  bind-local run f ts (wrong rest) l g = l
   bind-local run f ts deep l g = tt
 
 module _ {Tok Mark Class A B : Type 0} {L : Lexicon Tok Mark Class} {R : List Tok → A → Type 0} {S : A → List Tok → B → Type 0} {s t : Shape Class} (p : Reader L R s) (f : (a : A) → Reader L (S a) t) where

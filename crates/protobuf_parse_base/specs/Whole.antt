@@ -2,8 +2,8 @@
 use Rattle.std.proofs.Common.{◌≡◌, ℕ, zero, suc, ◌+◌, ◌<◌, List, [], ◌∷◌, ◌++◌, length, Option, Some, None, true, false, Result, Ok, refl, sym, ap, subst, ◌∙◌, inl, inr, ◌⊎◌, arith, add-zero, zero-add}
 use Rattle.std.proofs.Math.Nat.{add-suc}
 use Rattle.std.proofs.lemmas.List.{append_cancel_right}
-use Rattle.protobuf_parse_base.specs.Relations.{Rel, Then, Such}
-use Rattle.protobuf_parse_base.specs.Readers.{Rest, end, token, onto, onto-append, size, next, Read, read, stuck, wrong, deep, read_parts, Lexicon, Shape, Reader, LocalAt, LocalRead, LocalStuck, starts, all_apart, begins-apart, next-onto}
+use Rattle.protobuf_parse_base.specs.Relations.{Rel}
+use Rattle.protobuf_parse_base.specs.Readers.{Rest, end, token, onto, onto-append, size, next, Read, read, stuck, wrong, deep, read_parts, Lexicon, Shape, Reader, LocalAt, LocalRead, LocalStuck, starts}
 use Rattle.protobuf_parse_base.specs.Conditions.{mark_of}
 use Rattle.protobuf_parse_base.specs.Depth.{Near, NearAt}
 
@@ -91,6 +91,16 @@ module _ {Tok Mark Class A : Type 0} {L : Lexicon Tok Mark Class} {R : List Tok 
   pub local_read : (ts : Rest Tok Mark) (a : A) (rest : Rest Tok Mark) → p.run ts ≡ read a rest → LocalRead p.run ts a rest
   local_read ts a rest e = local_read-at ts (p.run ts) a rest e (p.local ts)
 
+  local_wrong-at : (ts : Rest Tok Mark) (r : Read Tok Mark A) (rest : Rest Tok Mark) → r ≡ wrong rest → LocalAt p.run ts r → (used : List Tok) × (ts ≡ onto used rest)
+  local_wrong-at ts (read a us) rest e l = absurd cc
+  local_wrong-at ts (stuck us) rest e l = absurd cc
+  local_wrong-at ts (wrong us) rest e l = let q : us ≡ rest = cc in (l.0, l.1 ∙ ap (onto l.0) q)
+  local_wrong-at ts deep rest e l = absurd cc
+
+  -- a part that says nothing begins behind some tokens
+  pub local_wrong : (ts : Rest Tok Mark) (rest : Rest Tok Mark) → p.run ts ≡ wrong rest → (used : List Tok) × (ts ≡ onto used rest)
+  local_wrong ts rest e = local_wrong-at ts (p.run ts) rest e (p.local ts)
+
 module _ {Tok Mark Class A : Type 0} {L : Lexicon Tok Mark Class} {R : List Tok → A → Type 0} {s : Shape Class} (p : Reader L R s) (fine : s.fine ≡ true) where
   pub reads_whole : (ts : List Tok) (m : Mark) (a : A) → R ts a → p.run (whole ts m) ≡ read a (end m)
   reads_whole ts m a h = p.complete fine ts a (end m) h (starts-end L s.goes m)
@@ -110,14 +120,8 @@ module _ {Tok Mark Class A : Type 0} {L : Lexicon Tok Mark Class} {R : List Tok 
   pub local_stuck : (ts : Rest Tok Mark) (rest : Rest Tok Mark) → p.run ts ≡ stuck rest → LocalStuck p.run ts rest
   local_stuck ts rest e = stuck-local ts (p.run ts) rest e (p.local ts)
 
-  pub no_other : (ts : List Tok) (m n : Mark) (a b : A) → p.run (whole ts m) ≡ read a (end n) → R ts b → b ≡ a
-  no_other ts m n a b e h = (read_parts b a (end m) (end n) (sym (reads_whole ts m b h) ∙ e)).0
-
   never_read : (ts : List Tok) (m : Mark) (rest : Rest Tok Mark) (a : A) → p.run (whole ts m) ≡ stuck rest → R ts a → ⊥
   never_read ts m rest a e h = let k = reads_whole ts m a h in cc
-
-  pub never_wrong : (ts : List Tok) (m n : Mark) (a : A) → p.run (whole ts m) ≡ wrong n → R ts a → ⊥
-  never_wrong ts m n a e h = let k = reads_whole ts m a h in cc
 
   pub stops : (ts : List Tok) (m : Mark) (rest : Rest Tok Mark) → p.run (whole ts m) ≡ stuck rest → StopsAt L.mark R ts m (mark_of L.mark rest)
   stops ts m rest e =
@@ -132,114 +136,6 @@ module _ {Tok Mark Class A : Type 0} {L : Lexicon Tok Mark Class} {R : List Tok 
             let i : next (whole other m) ≡ next rest = next-whole other k.0 m h ∙ ap next (sym k.1) in
             let j : p.run (whole (l.used ++ other) m) ≡ stuck (whole other m) = ap p.run (onto-append l.used other (end m)) ∙ l.again (whole other m) i in
             never_read (l.used ++ other) m (whole other m) a j r;
-      }
-
--- ---- a part, then any value with a property of what the part says, then a part that depends on that value
-
-module _ {Tok Mark Class A B C : Type 0} {L : Lexicon Tok Mark Class} {H : List Tok → A → Type 0} {S : B → List Tok → C → Type 0} {s t : Shape Class} (p : Reader L H s) (M : A → B → Type 0) (once : (a : A) (b c : B) → M a b → M a c → b ≡ c) (q : (b : B) → Reader L (S b) t) (fine : s.fine ≡ true) (fine' : t.fine ≡ true) (apart : all_apart L t.firsts s.goes ≡ true) where
-  -- the whole of it
-  abbrev pub Chosen : List Tok → C → Type 0
-  Chosen = Then H (λ a. Then (Such (M a)) S)
-
-  chosen_parts : (ts : List Tok) (m : Mark) (c : C) → Chosen ts c → (a : A) × (b : B) × (us : List Tok) × (p.run (whole ts m) ≡ read a (whole us m)) × M a b × ((q b).run (whole us m) ≡ read c (end m))
-  chosen_parts ts m c w =
-      let v = w.second in
-      let back : w.back ≡ v.back = v.parts ∙ ap (λ (x : List Tok). x ++ v.back) v.first.0 in
-      let no : starts L s.goes (onto v.back (end m)) ≡ false = begins-apart L t.firsts s.goes t.empty v.back (end m) apart ((q v.value).begins v.back c v.second) (λ k. starts-end L s.goes m) in
-      let e : p.run (onto w.front (whole v.back m)) ≡ read w.value (whole v.back m) = p.complete fine w.front w.value (whole v.back m) w.first no in
-      let f : p.run (whole ts m) ≡ read w.value (whole v.back m) = ap (λ (x : List Tok). p.run (whole x m)) w.parts ∙ ap (λ (x : List Tok). p.run (whole (w.front ++ x) m)) back ∙ ap p.run (onto-append w.front v.back (end m)) ∙ e in
-      (w.value, v.value, v.back, f, v.first.1, reads_whole (q v.value) fine' v.back m c v.second)
-
-  pub chosen_read : (ts : List Tok) (m n : Mark) (a : A) (b : B) (c : C) (us : Rest Tok Mark) → p.run (whole ts m) ≡ read a us → M a b → (q b).run us ≡ read c (end n) → Chosen ts c
-  chosen_read ts m n a b c us e h f =
-      let l = p.sound (whole ts m) a us e in
-      let k = left_whole ts l.used m us l.parts in
-      let g : (q b).run (whole k.0 m) ≡ read c (end n) = ap (q b).run (sym k.1) ∙ f in
-      record {
-        value = a;
-        front = l.used;
-        back = k.0;
-        first = l.holds;
-        parts = k.2;
-        second = record { value = b; front = []; back = k.0; first = (refl, h); second = whole_read (q b) fine' k.0 m n c g; parts = refl };
-      }
-
-  pub chosen_only : (ts : List Tok) (m n : Mark) (a : A) (b : B) (c d : C) (us : Rest Tok Mark) → p.run (whole ts m) ≡ read a us → M a b → (q b).run us ≡ read c (end n) → Chosen ts d → d ≡ c
-  chosen_only ts m n a b c d us e h f w =
-      let x = chosen_parts ts m d w in
-      let y = read_parts x.0 a (whole x.2 m) us (sym x.3 ∙ e) in
-      let z : x.1 ≡ b = once a x.1 b (subst (λ v. M v x.1) y.0 x.4) h in
-      let i : (q b).run us ≡ read d (end m) = subst (λ v. (q v).run us ≡ read d (end m)) z (subst (λ v. (q x.1).run v ≡ read d (end m)) y.1 x.5) in
-      (read_parts d c (end m) (end n) (sym i ∙ f)).0
-
-  -- nothing that the first part can say has the property with a value
-  pub chosen_none : (ts : List Tok) (m : Mark) → ((a : A) (us : Rest Tok Mark) (b : B) → p.run (whole ts m) ≡ read a us → M a b → ⊥) → (c : C) → Chosen ts c → ⊥
-  chosen_none ts m h c w = let x = chosen_parts ts m c w in h x.0 (whole x.2 m) x.1 x.3 x.4
-
-  pub chosen_stops_early : (ts : List Tok) (m : Mark) (rest : Rest Tok Mark) → p.run (whole ts m) ≡ stuck rest → StopsAt L.mark Chosen ts m (mark_of L.mark rest)
-  chosen_stops_early ts m rest e =
-      let l = local_stuck p fine (whole ts m) rest e in
-      let k = left_whole ts l.used m rest l.parts in
-      record {
-        front = l.used;
-        rest = k.0;
-        parts = k.2;
-        place = ap (mark_of L.mark) k.1 ∙ mark-whole L.mark k.0 m;
-        never = λ other c h w.
-            let i : next (whole other m) ≡ next rest = next-whole other k.0 m h ∙ ap next (sym k.1) in
-            let j : p.run (whole (l.used ++ other) m) ≡ stuck (whole other m) = ap p.run (onto-append l.used other (end m)) ∙ l.again (whole other m) i in
-            let x = chosen_parts (l.used ++ other) m c w in
-            let y = x.3 in
-            no_read (p.run (whole (l.used ++ other) m)) x.0 (whole x.2 m) (whole other m) y j;
-      }
-
-  pub chosen_stops : (ts : List Tok) (m : Mark) (a : A) (b : B) (us rest : Rest Tok Mark) → p.run (whole ts m) ≡ read a us → M a b → (q b).run us ≡ stuck rest → StopsAt L.mark Chosen ts m (mark_of L.mark rest)
-  chosen_stops ts m a b us rest e h f =
-      let l = local_read p (whole ts m) a us e in
-      let n = local_stuck (q b) fine' us rest f in
-      let parts : whole ts m ≡ onto (l.used ++ n.used) rest = l.parts ∙ ap (onto l.used) n.parts ∙ sym (onto-append l.used n.used rest) in
-      let k = left_whole ts (l.used ++ n.used) m rest parts in
-      record {
-        front = l.used ++ n.used;
-        rest = k.0;
-        parts = k.2;
-        place = ap (mark_of L.mark) k.1 ∙ mark-whole L.mark k.0 m;
-        never = λ other c g w.
-            let i : next (whole other m) ≡ next rest = next-whole other k.0 m g ∙ ap next (sym k.1) in
-            let vs : Rest Tok Mark = onto n.used (whole other m) in
-            let split : whole ((l.used ++ n.used) ++ other) m ≡ onto l.used vs = onto-append (l.used ++ n.used) other (end m) ∙ onto-append l.used n.used (whole other m) in
-            let j : p.run (whole ((l.used ++ n.used) ++ other) m) ≡ read a vs = ap p.run split ∙ l.again vs (next-onto n.used rest (whole other m) i ∙ ap next (sym n.parts)) in
-            let o : (q b).run vs ≡ stuck (whole other m) = n.again (whole other m) i in
-            let x = chosen_parts ((l.used ++ n.used) ++ other) m c w in
-            let y = read_parts x.0 a (whole x.2 m) vs (sym x.3 ∙ j) in
-            let z : x.1 ≡ b = once a x.1 b (subst (λ v. M v x.1) y.0 x.4) h in
-            let r : (q b).run vs ≡ read c (end m) = subst (λ v. (q v).run vs ≡ read c (end m)) z (subst (λ v. (q x.1).run v ≡ read c (end m)) y.1 x.5) in
-            no_read ((q b).run vs) c (end m) (whole other m) r o;
-      }
-
-  -- a value was read before a token
-  pub chosen_leaves : (ts : List Tok) (m : Mark) (a : A) (b : B) (c : C) (us rest : Rest Tok Mark) (t : Tok) → p.run (whole ts m) ≡ read a us → M a b → (q b).run us ≡ read c rest → (let r : Result Tok Mark = Ok t in next rest ≡ r) → StopsAt L.mark Chosen ts m (mark_of L.mark rest)
-  chosen_leaves ts m a b c us rest t e h f left =
-      let l = local_read p (whole ts m) a us e in
-      let n = local_read (q b) us c rest f in
-      let parts : whole ts m ≡ onto (l.used ++ n.used) rest = l.parts ∙ ap (onto l.used) n.parts ∙ sym (onto-append l.used n.used rest) in
-      let k = left_whole ts (l.used ++ n.used) m rest parts in
-      record {
-        front = l.used ++ n.used;
-        rest = k.0;
-        parts = k.2;
-        place = ap (mark_of L.mark) k.1 ∙ mark-whole L.mark k.0 m;
-        never = λ other d g w.
-            let i : next (whole other m) ≡ next rest = next-whole other k.0 m g ∙ ap next (sym k.1) in
-            let vs : Rest Tok Mark = onto n.used (whole other m) in
-            let split : whole ((l.used ++ n.used) ++ other) m ≡ onto l.used vs = onto-append (l.used ++ n.used) other (end m) ∙ onto-append l.used n.used (whole other m) in
-            let j : p.run (whole ((l.used ++ n.used) ++ other) m) ≡ read a vs = ap p.run split ∙ l.again vs (next-onto n.used rest (whole other m) i ∙ ap next (sym n.parts)) in
-            let o : (q b).run vs ≡ read c (whole other m) = n.again (whole other m) i in
-            let x = chosen_parts ((l.used ++ n.used) ++ other) m d w in
-            let y = read_parts x.0 a (whole x.2 m) vs (sym x.3 ∙ j) in
-            let z : x.1 ≡ b = once a x.1 b (subst (λ v. M v x.1) y.0 x.4) h in
-            let r : (q b).run vs ≡ read d (end m) = subst (λ v. (q v).run vs ≡ read d (end m)) z (subst (λ v. (q x.1).run v ≡ read d (end m)) y.1 x.5) in
-            no_end t m (whole other m) (read_parts c d (whole other m) (end m) (sym o ∙ r)).1 (i ∙ left);
       }
 
 -- ---- a reader for each depth
@@ -308,8 +204,8 @@ module _ {Tok Mark Class A : Type 0} {L : Lexicon Tok Mark Class} {R : ℕ → L
       let i = read_at n r.0 (whole ts m) b (end m) l (reads_whole (p r.0) fine ts m b r.1) in
       (read_parts b a (end m) (end k) (sym i ∙ e)).0
 
-  pub deep_wrong : (n : ℕ) (ts : List Tok) (m k : Mark) (a : A) → length ts < n → (p n).run (whole ts m) ≡ wrong k → AtSomeDepth R ts a → ⊥
-  deep_wrong n ts m k a h e r =
+  pub deep_wrong : (n : ℕ) (ts : List Tok) (m : Mark) (rest : Rest Tok Mark) (a : A) → length ts < n → (p n).run (whole ts m) ≡ wrong rest → AtSomeDepth R ts a → ⊥
+  deep_wrong n ts m rest a h e r =
       let l : size (whole ts m) < n = rw (size-whole ts m) h in
       let i = read_at n r.0 (whole ts m) a (end m) l (reads_whole (p r.0) fine ts m a r.1) in cc
 
@@ -345,4 +241,28 @@ module _ {Tok Mark Class A : Type 0} {L : Lexicon Tok Mark Class} {R : ℕ → L
         parts = k.2;
         place = ap (mark_of L.mark) k.1 ∙ mark-whole L.mark k.0 m;
         never = λ other a g r. never_deep n r.0 ts other m rest a h e l (next-whole other k.0 m g ∙ ap next (sym k.1)) (reads_whole (p r.0) fine (l.used ++ other) m a r.1);
+      }
+
+  read_on : (n k : ℕ) (ts : Rest Tok Mark) (a c : A) (us vs : Rest Tok Mark) → (p n).run ts ≡ read c us → (p k).run ts ≡ read a vs → vs ≡ us
+  read_on n k ts a c us vs e f = go (either_way n k)
+    where
+      go : ((j : ℕ) × (k ≡ n + j)) ⊎ ((j : ℕ) × (n ≡ k + j)) → vs ≡ us
+      go (inl x) = (read_parts a c vs us (sym f ∙ subst (λ v. (p v).run ts ≡ read c us) (sym x.1) (grows x.0 n ts c us e))).1
+      go (inr x) = (read_parts a c vs us (sym (subst (λ v. (p v).run ts ≡ read a vs) (sym x.1) (grows x.0 k ts a vs f)) ∙ e)).1
+
+  -- a value was read before a token
+  pub deep_leaves : (n : ℕ) (ts : List Tok) (m : Mark) (c : A) (rest : Rest Tok Mark) (t : Tok) → (p n).run (whole ts m) ≡ read c rest → (let r : Result Tok Mark = Ok t in next rest ≡ r) → StopsAt L.mark (AtSomeDepth R) ts m (mark_of L.mark rest)
+  deep_leaves n ts m c rest t e left =
+      let l = local_read (p n) (whole ts m) c rest e in
+      let k = left_whole ts l.used m rest l.parts in
+      record {
+        front = l.used;
+        rest = k.0;
+        parts = k.2;
+        place = ap (mark_of L.mark) k.1 ∙ mark-whole L.mark k.0 m;
+        never = λ other a g r.
+            let i : next (whole other m) ≡ next rest = next-whole other k.0 m g ∙ ap next (sym k.1) in
+            let o : (p n).run (whole (l.used ++ other) m) ≡ read c (whole other m) = ap (p n).run (onto-append l.used other (end m)) ∙ l.again (whole other m) i in
+            let w : (p r.0).run (whole (l.used ++ other) m) ≡ read a (end m) = reads_whole (p r.0) fine (l.used ++ other) m a r.1 in
+            no_end t m (whole other m) (sym (read_on n r.0 (whole (l.used ++ other) m) a c (whole other m) (end m) o w)) (i ∙ left);
       }

@@ -1,12 +1,14 @@
-//! Lexes the file that its argument names, or a small text, and prints how many tokens it has.
+//! Lexes and parses the file that its argument names, and prints how many tokens and statements it has and
+//! how long both took; or does so with a small text, without the times.
 #![tactic(auto)]
 
 use anyhow::{Result, anyhow};
-use protobuf_parse_syntax::tokenize;
+use protobuf_parse_syntax::{parse_file, tokenize};
 use std::rt::Runtime;
+use std::time::Instant;
 use std::{env, fs};
 
-/// The text that is lexed where no file is named, and that larger ones are made of.
+/// The text that is read where no file is named, and that larger ones are made of.
 const MESSAGE: &str = "// A report of the market, with some words of comment in it.
 message TradeReport {
   /* the key, \u{e9} */
@@ -17,21 +19,46 @@ message TradeReport {
 
 ";
 
+/// How many tokens the text has.
+fn tokens<R: Runtime<A = std::alloc::Global>>(rt: &R, text: &str) -> Result<usize> {
+    match tokenize(rt.alloc(), text) {
+        Ok(stream) => Ok(stream.tokens.len()),
+        Err(error) => Err(anyhow!("{error}")),
+    }
+}
+
+/// How many statements the file has.
+fn statements<R: Runtime<A = std::alloc::Global>>(rt: &R, text: &str) -> Result<usize> {
+    match parse_file(rt.alloc(), text) {
+        Ok(tree) => Ok(tree.statements.len()),
+        Err(error) => Err(anyhow!("{error}")),
+    }
+}
+
+/// Prints how long lexing the text takes, and how long lexing and parsing it.
+fn measure<R: Runtime<A = std::alloc::Global>>(rt: &R, text: &str) -> Result<()> {
+    let start = Instant::now(rt)?;
+    let count = tokens(rt, text)?;
+    let lexing = start.elapsed(rt)?.as_micros();
+    println!(rt; "{count} tokens in {lexing} microseconds")?;
+    let start = Instant::now(rt)?;
+    let count = statements(rt, text)?;
+    let parsing = start.elapsed(rt)?.as_micros();
+    println!(rt; "{count} statements in {parsing} microseconds")?;
+    Ok(())
+}
+
 fn run<R: Runtime<A = std::alloc::Global>>(rt: &R) -> Result<()> {
     let mut args = env::args(rt)?;
     let _program = args.next();
-    let text = match args.next() {
-        Some(path) => fs::read_to_string(rt, path.as_str())?,
-        None => String::from_str(rt.alloc(), MESSAGE)?,
-    };
-    match tokenize(rt.alloc(), text.as_str()) {
-        Ok(stream) => {
-            let count = stream.tokens.len();
-            println!(rt; "{count} tokens")?;
-            Ok(())
-        }
-        Err(error) => Err(anyhow!("{error}")),
+    if let Some(path) = args.next() {
+        let text = fs::read_to_string(rt, path.as_str())?;
+        return measure(rt, text.as_str());
     }
+    let tokens = tokens(rt, MESSAGE)?;
+    let statements = statements(rt, MESSAGE)?;
+    println!(rt; "{tokens} tokens, {statements} statements")?;
+    Ok(())
 }
 
 fn main(rt: HostRuntime) -> Result<()> {

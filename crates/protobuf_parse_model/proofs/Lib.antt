@@ -1,2 +1,6 @@
 pub mod Blaming
 pub mod OrTests
+pub mod TreeViews
+pub mod Lookups
+mod Rows
+pub mod Levels

@@ -1,7 +1,7 @@
 -- What descriptors say, without where they lie in memory: the messages of google/protobuf/descriptor.proto
 -- (Protocol Buffers, "Descriptors"). Names and texts are bytes; an absent text or list of options is None.
 use Rattle.std.specs.Prelude.{◌≡◌, ℕ, ℤ, Bool, List, [], ◌∷◌, Option, map, option_map, refl, string_bytes}
-use Rattle.protobuf_parse_syntax.specs.declared.tree.Label.{Label}
+use Rattle.protobuf_parse_syntax.specs.declared.tree.field.Label.{Label}
 use Rattle.protobuf_parse_model.specs.Options.{FileOptionsSet, MessageOptionsSet, FieldOptionsSet, OneofOptionsSet, EnumOptionsSet, EnumValueOptionsSet, ServiceOptionsSet, MethodOptionsSet, file_options_view, message_options_view, field_options_view, oneof_options_view, enum_options_view, enum_value_options_view, service_options_view, method_options_view}
 use Rattle.protobuf_parse_model.specs.declared.descriptor.FieldType.{FieldType}
 use Rattle.protobuf_parse_model.specs.declared.descriptor.FieldDescriptorProto.{FieldDescriptorProto}

@@ -1,17 +1,16 @@
 -- What a file becomes, construct by construct, and the faults that stand in it.
-use Rattle.std.specs.Prelude.{ℕ, Bool, false, ◌||◌, if◌then◌else◌, List, [], ◌∷◌, ◌++◌, flat_map, bytes_eq, codes, Some, None, unwrap_or}
+use Rattle.std.specs.Prelude.{ℕ, Bool, false, ◌||◌, if◌then◌else◌, List, [], ◌∷◌, ◌++◌, map, flat_map, Option, bytes_eq, codes, Some, None, unwrap_or}
 use Rattle.protobuf_parse_base.specs.Cases.{json_name_text}
-use Rattle.protobuf_parse_syntax.specs.Trees.{FieldSyntax, BodySyntax, field, MessageSyntax, StatementSyntax, message, FileSyntax}
+use Rattle.protobuf_parse_syntax.specs.Trees.{OptionSyntax, TypeSyntax, scalar, map_of, named, FieldSyntax, FieldStatementSyntax, field, group, MessageStatementSyntax, message_reserved, message_oneof, message_extend, message_message, message_enum, message_extensions, message_option, message_field, MessageSyntax, StatementSyntax, file_import, file_package, file_option, file_message, file_enum, file_extend, file_service, FileSyntax, package_of}
 use Rattle.protobuf_parse_syntax.specs.declared.tree.Syntax.{Syntax}
 use Rattle.protobuf_parse_syntax.specs.declared.tree.Syntax.TheVariants.{Proto2, Proto3}
-use Rattle.protobuf_parse_syntax.specs.declared.tree.Label.TheVariants.{Optional}
-use Rattle.protobuf_parse_syntax.specs.declared.tree.Scalar.{Scalar}
-use Rattle.protobuf_parse_syntax.specs.declared.tree.Scalar.TheVariants as word
-use Rattle.protobuf_parse_syntax.specs.declared.tree.Type as tree_type
-use Rattle.protobuf_parse_syntax.specs.declared.tree.Type.TheVariants as declared_type
+use Rattle.protobuf_parse_syntax.specs.declared.tree.field.Label.{Label}
+use Rattle.protobuf_parse_syntax.specs.declared.tree.field.Label.TheVariants.{Optional}
+use Rattle.protobuf_parse_syntax.specs.declared.tree.field.Scalar.{Scalar}
+use Rattle.protobuf_parse_syntax.specs.declared.tree.field.Scalar.TheVariants as word
 use Rattle.protobuf_parse_model.specs.declared.descriptor.FieldType.{FieldType}
 use Rattle.protobuf_parse_model.specs.declared.descriptor.FieldType.TheVariants as kind
-use Rattle.protobuf_parse_model.specs.declared.error.ElabErrorKind.TheVariants.{DuplicateName}
+use Rattle.protobuf_parse_model.specs.declared.error.ElabErrorKind.TheVariants.{DuplicateName, Unsupported}
 use Rattle.protobuf_parse_model.specs.Descriptors.{FieldDescriptor, MessageDescriptor, a_message, no_messages, FileDescriptor}
 use Rattle.protobuf_parse_model.specs.Faults.{Fault}
 
@@ -32,22 +31,74 @@ duplicates_after before (x ∷ xs) =
 abbrev pub duplicates : List (List ℕ) → List Fault
 duplicates names = duplicates_after [] names
 
-abbrev pub field_names : BodySyntax → List (List ℕ)
-field_names (field f) = f.name ∷ []
+-- a construct that has no descriptor yet, by its word
+abbrev pub unsupported : List ℕ → List Fault
+unsupported word = record { kind = Unsupported; what = word } ∷ []
+
+abbrev pub type_faults : TypeSyntax → List Fault
+type_faults (scalar s) = []
+type_faults (map_of key value) = unsupported (codes "map")
+type_faults (named n) = unsupported (codes "type")
+
+-- a field of proto3 with the label `optional`, which stands in a oneof of its own
+abbrev pub label_faults : Syntax → Option Label → List Fault
+label_faults Proto3 (Some Optional) = unsupported (codes "optional")
+label_faults _ _ = []
+
+-- the options of a field
+abbrev pub option_faults : List OptionSyntax → List Fault
+option_faults [] = []
+option_faults (o ∷ os) = unsupported (codes "option")
+
+abbrev pub field_faults : Syntax → FieldSyntax → List Fault
+field_faults syntax f = label_faults syntax f.label ++ type_faults f.type_ ++ option_faults f.options
+
+abbrev pub field_statement_faults : Syntax → FieldStatementSyntax → List Fault
+field_statement_faults syntax (field f) = field_faults syntax f
+field_statement_faults syntax (group place label name number fields) = unsupported (codes "group")
+
+abbrev pub body_faults : Syntax → MessageStatementSyntax → List Fault
+body_faults syntax (message_field f) = field_statement_faults syntax f
+body_faults syntax (message_reserved r) = unsupported (codes "reserved")
+body_faults syntax (message_oneof o) = unsupported (codes "oneof")
+body_faults syntax (message_extend e) = unsupported (codes "extend")
+body_faults syntax (message_message place name body) = unsupported (codes "message")
+body_faults syntax (message_enum e) = unsupported (codes "enum")
+body_faults syntax (message_extensions e) = unsupported (codes "extensions")
+body_faults syntax (message_option o) = unsupported (codes "option")
+
+-- the field, where the statement declares one that is no group
+abbrev pub plain_field : FieldStatementSyntax → List FieldSyntax
+plain_field (field f) = f ∷ []
+plain_field (group place label name number fields) = []
+
+abbrev pub plain_fields : MessageStatementSyntax → List FieldSyntax
+plain_fields (message_field f) = plain_field f
+plain_fields _ = []
+
+abbrev pub field_names : MessageStatementSyntax → List (List ℕ)
+field_names s = map (λ (f : FieldSyntax). f.name) (plain_fields s)
 
 abbrev pub message_names : StatementSyntax → List (List ℕ)
-message_names (message m) = m.name ∷ []
+message_names (file_message m) = m.name ∷ []
+message_names _ = []
 
--- two fields of a message have one name
-abbrev pub message_faults : MessageSyntax → List Fault
-message_faults m = duplicates (flat_map field_names m.body)
+-- two fields of a message have one name, or a fault stands in a statement of it
+abbrev pub message_faults : Syntax → MessageSyntax → List Fault
+message_faults syntax m = duplicates (flat_map field_names m.body) ++ flat_map (body_faults syntax) m.body
 
-abbrev pub statement_faults : StatementSyntax → List Fault
-statement_faults (message m) = message_faults m
+abbrev pub statement_faults : Syntax → StatementSyntax → List Fault
+statement_faults syntax (file_message m) = message_faults syntax m
+statement_faults syntax (file_package p) = []
+statement_faults syntax (file_import i) = unsupported (codes "import")
+statement_faults syntax (file_option o) = unsupported (codes "option")
+statement_faults syntax (file_enum e) = unsupported (codes "enum")
+statement_faults syntax (file_extend e) = unsupported (codes "extend")
+statement_faults syntax (file_service s) = unsupported (codes "service")
 
--- two messages of a file have one name, or a fault stands in one of them
+-- two messages of a file have one name, or a fault stands in a statement of it
 abbrev pub file_faults : FileSyntax → List Fault
-file_faults t = duplicates (flat_map message_names t.statements) ++ flat_map statement_faults t.statements
+file_faults t = duplicates (flat_map message_names t.statements) ++ flat_map (statement_faults t.syntax) t.statements
 
 -- ---- what it becomes, where none stands
 
@@ -68,16 +119,13 @@ kind_of_scalar word.Bytes = kind.Bytes
 kind_of_scalar word.Float = kind.Float
 kind_of_scalar word.Double = kind.Double
 
-abbrev pub kind_of : tree_type.«Type» → FieldType
-kind_of (declared_type.Scalar s) = kind_of_scalar s
-
--- a field without a label is optional
-abbrev pub field_of : FieldSyntax → FieldDescriptor
-field_of f = record {
+-- a field of a scalar type; without a label it is optional
+abbrev pub field_of : FieldSyntax → Scalar → FieldDescriptor
+field_of f s = record {
   name = f.name;
   number = f.number;
   label = unwrap_or f.label Optional;
-  type_ = kind_of f.type_;
+  type_ = kind_of_scalar s;
   type_name = None;
   extendee = None;
   default_value = None;
@@ -87,8 +135,12 @@ field_of f = record {
   options = None;
 }
 
-abbrev pub fields_of : BodySyntax → List FieldDescriptor
-fields_of (field f) = field_of f ∷ []
+abbrev pub typed_field : FieldSyntax → TypeSyntax → List FieldDescriptor
+typed_field f (scalar s) = field_of f s ∷ []
+typed_field f _ = []
+
+abbrev pub fields_of : MessageStatementSyntax → List FieldDescriptor
+fields_of s = flat_map (λ (f : FieldSyntax). typed_field f f.type_) (plain_fields s)
 
 abbrev pub message_of : MessageSyntax → MessageDescriptor
 message_of m = a_message (record {
@@ -104,7 +156,8 @@ message_of m = a_message (record {
 }) no_messages
 
 abbrev pub messages_of : StatementSyntax → List MessageDescriptor
-messages_of (message m) = message_of m ∷ []
+messages_of (file_message m) = message_of m ∷ []
+messages_of _ = []
 
 abbrev pub syntax_text : Syntax → List ℕ
 syntax_text Proto2 = codes "proto2"
@@ -114,7 +167,7 @@ syntax_text Proto3 = codes "proto3"
 abbrev pub file_of : List ℕ → FileSyntax → FileDescriptor
 file_of path t = record {
   name = Some path;
-  «package» = None;
+  «package» = package_of t;
   syntax = Some (syntax_text t.syntax);
   dependency = [];
   public_dependency = [];

@@ -1,4 +1,17 @@
 pub mod Options
 pub mod Descriptors
 pub mod Faults
+pub mod Statements
+pub mod Declarations
+pub mod Lookup
+pub mod Duplicates
+pub mod Environment
+pub mod BuiltinOptions
+pub mod OptionsSet
+pub mod Fields
+pub mod Enums
+pub mod Services
+pub mod Messages
+pub mod FileDescriptor
+pub mod OptionSets
 pub mod Elaboration

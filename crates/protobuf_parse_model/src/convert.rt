@@ -1,27 +1,26 @@
 //! From a file's tree to its descriptor.
 
-ghost use Rattle.std.specs.Prelude.{◌≡◌, ℕ, List, map, flat_map, IfOk};
+mod message;
+mod refuse;
+
+ghost use Rattle.std.specs.Prelude.{◌≡◌, ℕ, List, map, flat_map, option_map, string_bytes, IfOk};
 ghost use Rattle.std.specs.Borrow.{Bor};
-ghost use Rattle.protobuf_parse_syntax.specs.Trees.{field_view, statement_view, file_view, body_view, message_view};
+ghost use Rattle.protobuf_parse_syntax.specs.Trees.{statement_view, file_view, package_of};
 ghost use Rattle.protobuf_parse_model.specs.Descriptors as described;
-ghost use Rattle.protobuf_parse_model.specs.Elaboration.{duplicates, field_names, field_of, fields_of, file_faults, file_of, message_faults, message_names, message_of, messages_of, statement_faults, syntax_text};
+ghost use Rattle.protobuf_parse_model.specs.Elaboration.{file_faults, file_of, message_names, messages_of, statement_faults, syntax_text};
 ghost use Rattle.protobuf_parse_model.specs.Faults.{Elaborates};
 
-use crate::descriptor::{
-    DescriptorProto, FieldDescriptorProto, FieldType, FileDescriptorProto, Label,
-};
-use crate::error::{ElabError, ElabErrorKind, ElabFailure};
-use protobuf_parse_base::text::json_name;
-use protobuf_parse_syntax::{
-    Field, FileStatement, FileTree, Message, MessageStatement, Syntax, Type,
-};
+use crate::convert::message::descriptor;
+use crate::convert::refuse::{check_unique, unsupported};
+use crate::descriptor::{DescriptorProto, FileDescriptorProto};
+use crate::error::ElabFailure;
+use protobuf_parse_syntax::{FileStatement, FileTree, Syntax};
 use std::alloc::{AllocError, Global};
-use std::collections::HashSet;
 
 /// The descriptor of a file that is known by the path `name`.
 ///
-/// E1 where two messages of the file, or two fields of a message, have one name; where several such pairs
-/// stand, any one of the names is told.
+/// E1 where two messages of the file, or two fields of a message, have one name; Unsupported where a
+/// construct stands that has no descriptor yet. Where several faults stand, any one of them is told.
 #[tactic(auto, using(crate::proofs::Blaming::blames_left, crate::proofs::Blaming::blames_right))]
 pub fn elaborate(
     alloc: Global,
@@ -33,10 +32,11 @@ pub fn elaborate(
     check_unique(alloc, &message_names(alloc, &tree.statements)?)?;
     let name = String::from_str(alloc, name)?;
     let syntax = String::from_str(alloc, syntax_text(tree.syntax))?;
-    let message_type = messages(alloc, &tree.statements)?;
+    let package = package_of(alloc, tree)?;
+    let message_type = messages(alloc, tree.syntax, &tree.statements)?;
     Ok(FileDescriptorProto {
         name: Some(name),
-        package: None,
+        package,
         syntax: Some(syntax),
         dependency: Vec::new(alloc),
         public_dependency: Vec::new(alloc),
@@ -64,110 +64,45 @@ fn message_names(alloc: Global, statements: &[FileStatement]) -> Result<Vec<&str
 {
     let mut names = Vec::new(alloc);
     for statement in statements {
-        match statement {
-            FileStatement::Message(message) => names.push(message.name.as_str())?,
+        if let FileStatement::Message(message) = statement {
+            names.push(message.name.as_str())?;
         }
     }
     Ok(names)
 }
 
-/// The names of the fields of a message.
-fn field_names(alloc: Global, body: &[MessageStatement]) -> Result<Vec<&str>, AllocError>
-    ensures { IfOk result (λ v. map (λ (s : Bor (List ℕ)). s.now) v.items ≡ flat_map field_names (map body_view body.now)) }
+/// The package of a file, in a text of its own.
+fn package_of(alloc: Global, tree: &FileTree) -> Result<Option<String>, AllocError>
+    ensures { IfOk result (λ p. option_map string_bytes p ≡ package_of (file_view tree.now)) }
 {
-    let mut names = Vec::new(alloc);
-    for statement in body {
-        match statement {
-            MessageStatement::Field(field) => names.push(field.name.as_str())?,
-        }
+    match tree.package() {
+        Some(name) => Ok(Some(String::from_str(alloc, name)?)),
+        None => Ok(None),
     }
-    Ok(names)
-}
-
-/// Refuses a name that stands among those before it: E1.
-fn check_unique(alloc: Global, names: &[&str]) -> Result<(), ElabFailure>
-    ensures { Elaborates (λ u. u) result (duplicates (map (λ (s : Bor (List ℕ)). s.now) names.now)) tt }
-{
-    let mut seen: HashSet<&str> = HashSet::new(alloc);
-    for name in names {
-        let is_new = seen.insert(*name)?;
-        if !is_new {
-            return Err(ElabFailure::Fault(ElabError {
-                kind: ElabErrorKind::DuplicateName,
-                what: String::from_str(alloc, name)?,
-            }));
-        }
-    }
-    Ok(())
 }
 
 /// The descriptors of the messages of a file, in source order.
 #[tactic(auto, using(crate::proofs::Blaming::blames_at))]
 fn messages(
     alloc: Global,
+    syntax: Syntax,
     statements: &[FileStatement],
 ) -> Result<Vec<DescriptorProto>, ElabFailure>
-    ensures { Elaborates (λ v. map described.message_view v.items) result (flat_map statement_faults (map statement_view statements.now)) (flat_map messages_of (map statement_view statements.now)) }
+    ensures { Elaborates (λ v. map described.message_view v.items) result (flat_map (statement_faults syntax) (map statement_view statements.now)) (flat_map messages_of (map statement_view statements.now)) }
 {
     let mut descriptors = Vec::new(alloc);
     for statement in statements {
         match statement {
-            FileStatement::Message(message) => descriptors.push(descriptor(alloc, message)?)?,
+            FileStatement::Message(message) => descriptors.push(descriptor(
+                alloc, syntax, message,
+            )?)?,
+            FileStatement::Package(_) => {}
+            FileStatement::Import(_) => return Err(unsupported(alloc, "import")),
+            FileStatement::Option(_) => return Err(unsupported(alloc, "option")),
+            FileStatement::Enumeration(_) => return Err(unsupported(alloc, "enum")),
+            FileStatement::Extend(_) => return Err(unsupported(alloc, "extend")),
+            FileStatement::Service(_) => return Err(unsupported(alloc, "service")),
         }
     }
     Ok(descriptors)
-}
-
-/// The descriptor of a message.
-fn descriptor(alloc: Global, message: &Message) -> Result<DescriptorProto, ElabFailure>
-    ensures { Elaborates described.message_view result (message_faults (message_view message.now)) (message_of (message_view message.now)) }
-{
-    check_unique(alloc, &field_names(alloc, &message.body)?)?;
-    let name = message.name.clone()?;
-    let field = fields(alloc, &message.body)?;
-    Ok(DescriptorProto {
-        name,
-        field,
-        oneof_decl: Vec::new(alloc),
-        nested_type: Vec::new(alloc),
-        enum_type: Vec::new(alloc),
-        extension: Vec::new(alloc),
-        extension_range: Vec::new(alloc),
-        reserved_range: Vec::new(alloc),
-        reserved_name: Vec::new(alloc),
-        options: None,
-    })
-}
-
-/// The descriptors of the fields of a message, in source order.
-fn fields(alloc: Global, body: &[MessageStatement]) -> Result<Vec<FieldDescriptorProto>, AllocError>
-    ensures { IfOk result (λ v. map described.field_view v.items ≡ flat_map fields_of (map body_view body.now)) }
-{
-    let mut descriptors = Vec::new(alloc);
-    for statement in body {
-        match statement {
-            MessageStatement::Field(field) => descriptors.push(field_descriptor(alloc, field)?)?,
-        }
-    }
-    Ok(descriptors)
-}
-
-/// The descriptor of a field. A field with no label is optional.
-fn field_descriptor(alloc: Global, field: &Field) -> Result<FieldDescriptorProto, AllocError>
-    ensures { IfOk result (λ d. described.field_view d ≡ field_of (field_view field.now)) }
-{
-    let Type::Scalar(scalar) = field.type_;
-    Ok(FieldDescriptorProto {
-        name: field.name.clone()?,
-        number: field.number,
-        label: field.label.unwrap_or(Label::Optional),
-        type_: FieldType::from(scalar),
-        type_name: None,
-        extendee: None,
-        default_value: None,
-        oneof_index: None,
-        json_name: json_name(alloc, &field.name)?,
-        proto3_optional: false,
-        options: None,
-    })
 }

@@ -4,6 +4,7 @@
 mod convert;
 mod descriptor;
 mod error;
+mod laws;
 
 pub use convert::elaborate;
 pub use descriptor::{
@@ -14,3 +15,4 @@ pub use descriptor::{
     OneofOptions, OptimizeMode, ReservedRange, ServiceDescriptorProto, ServiceOptions,
 };
 pub use error::{ElabError, ElabErrorKind, ElabFailure};
+pub use laws::types_are_looked_up;

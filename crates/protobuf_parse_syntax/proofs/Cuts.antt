@@ -16,7 +16,8 @@ use Rattle.std.proofs.lemmas.Bool.{cases_lt}
 use Rattle.protobuf_parse_syntax.specs.declared.lexer.bytes.Class.TheVariants as class
 use Rattle.protobuf_parse_syntax.specs.declared.lexer.token.TokenKind.{TokenKind}
 use Rattle.protobuf_parse_syntax.specs.declared.lexer.token.TokenKind.TheVariants as kind
-use Rattle.protobuf_parse_syntax.proofs.Front.{chosen, octal_hex}
+use Rattle.protobuf_parse_syntax.specs.Escapes.{chosen}
+use Rattle.protobuf_parse_syntax.proofs.Front.{octal_hex}
 use lib.Utf8.{encode}
 use Rattle.protobuf_parse_syntax.specs.Text.{Bytes, is_in, IsSpaces, IsLine, IsBlock, IsBlank, IsQuote, IsString, IsFloat, IsInteger, is_rest, is_empty, is_symbol, IsToken, IsFault}
 

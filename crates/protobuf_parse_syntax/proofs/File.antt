@@ -1,177 +1,234 @@
 -- What the reader of a file gives, said of the grammar.
-use Rattle.std.proofs.Common.{◌≡◌, ℕ, ◌<◌, List, [], ◌∷◌, ◌++◌, get_or, Option, Some, None, true, false, Err, refl, sym, ap, subst, ◌∙◌, inl, inr, ◌⊎◌, arith, codes, append_assoc, lit<}
-use Rattle.std.proofs.lemmas.Str.{IsUtf8-from_ascii}
-use Rattle.std.proofs.lemmas.Str.Ascii.{IsAscii-cons, IsAscii-nil}
-use Rattle.std.specs.Str.{IsUtf8, IsAscii}
-use Rattle.protobuf_parse_base.specs.Readers.{Rest, end, token, onto, onto-append, Read, read, stuck, wrong, deep, starts, begins-starts, bind, bind_read, read_parts}
+use Rattle.std.proofs.Common.{◌≡◌, ℕ, ◌<◌, List, [], ◌∷◌, ◌++◌, length, true, false, Result, Ok, Err, IfOk, IfErr, refl, sym, ap, subst, ◌∙◌, inl, inr, ◌⊎◌}
+use Rattle.protobuf_parse_base.specs.Readers.{Rest, end, token, onto, onto-append, read, stuck, wrong, Begins}
 use Rattle.protobuf_parse_base.specs.Conditions.{mark_of}
-use Rattle.protobuf_parse_base.specs.Whole.{whole, StopsAt, left_whole, local_stuck, local_read, chosen_read, chosen_only, chosen_none, chosen_stops_early, chosen_stops, chosen_leaves}
+use Rattle.protobuf_parse_base.specs.Whole.{whole, StopsAt, left_whole, local_stuck, local_wrong, deep_found, deep_only, deep_wrong, deep_never, deep_stops, deep_leaves}
 use Rattle.protobuf_parse_syntax.specs.Text.{Bytes}
-use Rattle.protobuf_parse_syntax.specs.Tokens.{Lexeme, DecodesAll}
-use Rattle.protobuf_parse_syntax.specs.Decoding.{RefusesText}
-use Rattle.protobuf_parse_syntax.specs.Trees.{PiecesTree, FileSyntax}
-use Rattle.protobuf_parse_syntax.specs.Grammar.{IsFile, Says, name_of, place_of}
-use Rattle.protobuf_parse_syntax.specs.Classes.{word, lexicon}
+use Rattle.protobuf_parse_syntax.specs.Tokens.{Lexeme}
+use Rattle.protobuf_parse_syntax.specs.Trees.{Pieces, FileSyntax, file_view}
+use Rattle.protobuf_parse_syntax.specs.Classes.{symbol, ident, sees, float, text, is_one_of, is_floating, lexicon}
+use Rattle.protobuf_parse_syntax.specs.Grammar.{IsFile, IsStr, place_of}
 use Rattle.protobuf_parse_syntax.specs.Productions as parse
-use Rattle.protobuf_parse_syntax.specs.Parsing.{NoTree, LargeAt, WrongAt, SaysNothing, IsFault, IsLarge}
-use Rattle.protobuf_parse_syntax.specs.Code.{Stands, Fails, IsLargeNext, is_end, GivesVersion, RefusesFile, error_at}
-use Rattle.protobuf_parse_syntax.specs.Cut.{out_of_memory, place_of as place_at}
+use Rattle.protobuf_parse_syntax.specs.Nested as nest
+use Rattle.protobuf_parse_syntax.specs.Readings.{steady-near}
+use Rattle.protobuf_parse_syntax.specs.Parsing.{HasTree, NoTree, StandsAt, LargeToken, NextPart, Floats, WrongStrings, SaysNothing, IsFault}
+use Rattle.protobuf_parse_syntax.specs.Code.{Stands, Tells, Fails, Failure, at, failed, SaysNot, SignedFloat, IsLargeNext, comes, is_end, RefusesFile, error_at}
+use Rattle.protobuf_parse_syntax.specs.Cut.{Stream, HasTokens, out_of_memory, place_of as place_at}
 use Rattle.protobuf_parse_syntax.specs.declared.error.ParserErrorWithLocation.{ParserErrorWithLocation}
 use Rattle.protobuf_parse_syntax.specs.declared.parser.refusal.Refusal.{Refusal}
-use Rattle.protobuf_parse_syntax.specs.declared.parser.refusal.Refusal.TheVariants.{Memory, Next, At}
+use Rattle.protobuf_parse_syntax.specs.declared.parser.refusal.Refusal.TheVariants.{Memory, Next, Here}
 use Rattle.protobuf_parse_syntax.specs.declared.lexer.token.Place.{Place}
+use Rattle.protobuf_parse_syntax.specs.declared.tree.FileTree.{FileTree}
 use Rattle.protobuf_parse_syntax.specs.declared.error.ParserError.{ParserError}
 use Rattle.protobuf_parse_syntax.specs.declared.error.ParserError.TheVariants as error
-use Rattle.protobuf_parse_syntax.specs.declared.lexer.str_lit.StrLitDecodeError.TheVariants as decode
-use Rattle.protobuf_parse_syntax.specs.declared.tree.Syntax.{Syntax}
-use Rattle.protobuf_parse_syntax.specs.declared.tree.Syntax.TheVariants.{Proto2, Proto3}
-use Rattle.protobuf_parse_syntax.proofs.Escapes.{one_decoding_of_all}
 
--- ---- what a string says
+-- ---- a token at a place
 
-pub unknown : (zs : List Bytes) (w : Bytes) → DecodesAll zs w → (w ≡ codes "proto2" → ⊥) → (w ≡ codes "proto3" → ⊥) → (s : Syntax) → DecodesAll zs (name_of s) → ⊥
-unknown zs w d no2 no3 Proto2 e = no2 (one_decoding_of_all d e)
-unknown zs w d no2 no3 Proto3 e = no3 (one_decoding_of_all d e)
-
-pub bad_escape : (zs : List Bytes) → RefusesText zs decode.BadEscape → (v : Bytes) → DecodesAll zs v → IsUtf8 v → ⊥
-bad_escape zs (inl (inl e)) v d u = absurd cc
-bad_escape zs (inl (inr h)) v d u = h.1 v d
-bad_escape zs (inr h) v d u = let e = h.0 in absurd cc
-
-pub not_utf8 : (zs : List Bytes) → RefusesText zs decode.NotUtf8 → (v : Bytes) → DecodesAll zs v → IsUtf8 v → ⊥
-not_utf8 zs (inl (inl e)) v d u = absurd cc
-not_utf8 zs (inl (inr h)) v d u = h.1 v d
-not_utf8 zs (inr h) v d u = let x = h.1 in x.2 (subst IsUtf8 (one_decoding_of_all d x.1) u)
-
-two_names : (a b : Syntax) → name_of a ≡ name_of b → a ≡ b
-two_names Proto2 Proto2 e = refl
-two_names Proto3 Proto3 e = refl
-two_names Proto2 Proto3 e = let h : 50 ≡ 51 = ap (λ (z : Bytes). get_or z 5 0) e in absurd (omega (arith, h))
-two_names Proto3 Proto2 e = let h : 51 ≡ 50 = ap (λ (z : Bytes). get_or z 5 0) e in absurd (omega (arith, h))
-
-pub once : (text : Option PiecesTree) (a b : Syntax) → Says text a → Says text b → a ≡ b
-once None a b d e = d ∙ sym e
-once (Some text) a b d e = two_names a b (one_decoding_of_all d e)
-
--- ---- where the tokens stop
-
-large_at : (ts used : List Lexeme) (m : Place) (after : Rest Lexeme Place) → whole ts m ≡ onto used after → IsLargeNext after → LargeAt ts (mark_of place_of after)
-large_at ts used m (end n) e large = absurd large
-large_at ts used m (token t rest) e large = let k = left_whole ts used m (token t rest) e in go k.0 k.1 k.2
+-- what is left begins with a token of the tokens
+stands_at : (P : List Lexeme → Lexeme → List Lexeme → Type 0) (ts used : List Lexeme) (m : Place) (t : Lexeme) (rest : Rest Lexeme Place) → whole ts m ≡ onto used (token t rest) → ((back : List Lexeme) → rest ≡ whole back m → P used t back) → StandsAt P ts t.place
+stands_at P ts used m t rest e p = let k = left_whole ts used m (token t rest) e in go k.0 k.1 k.2
   where
-    go : (back : List Lexeme) → token t rest ≡ whole back m → ts ≡ used ++ back → LargeAt ts t.place
+    go : (back : List Lexeme) → token t rest ≡ whole back m → ts ≡ used ++ back → StandsAt P ts t.place
     go [] f parts = absurd cc
-    go (u ∷ us) f parts = let p : t ≡ u = cc in record { front = used; token = u; back = us; parts = parts; at = ap place_of p; large = subst (λ (x : Lexeme). IsLarge x.kind) p large }
+    go (u ∷ us) f parts =
+        let q : t ≡ u = cc in
+        let r : rest ≡ whole us m = cc in
+        record { front = used; token = t; back = us; parts = parts ∙ ap (λ (x : Lexeme). used ++ x ∷ us) (sym q); at = refl; is = p us r }
 
-fault_stops : (e : ParserError) (ts used : List Lexeme) (m : Place) (after : Rest Lexeme Place) → whole ts m ≡ onto used after → StopsAt place_of IsFile ts m (mark_of place_of after) → Stands e after → IsFault ts m e (mark_of place_of after)
-fault_stops error.IncorrectInput ts used m after parts stop stands = stop
-fault_stops error.LabelNotAllowed ts used m after parts stop stands = stop
-fault_stops error.LabelRequired ts used m after parts stop stands = stop
-fault_stops error.IntegerOverflow ts used m after parts stop stands = (stop, large_at ts used m after parts stands)
-fault_stops error.Memory ts used m after parts stop stands = absurd stands
-fault_stops error.UnexpectedCharacter ts used m after parts stop stands = absurd stands
-fault_stops error.UnterminatedComment ts used m after parts stop stands = absurd stands
-fault_stops error.UnterminatedString ts used m after parts stop stands = absurd stands
-fault_stops error.BadNumber ts used m after parts stop stands = absurd stands
-fault_stops error.NestingTooDeep ts used m after parts stop stands = absurd stands
-fault_stops error.UnknownSyntax ts used m after parts stop stands = absurd stands
-fault_stops error.StrLitDecode ts used m after parts stop stands = absurd stands
-fault_stops error.TextTooLong ts used m after parts stop stands = absurd stands
+large_at : (ts used : List Lexeme) (m : Place) (after : Rest Lexeme Place) → whole ts m ≡ onto used after → IsLargeNext after → StandsAt LargeToken ts (mark_of place_of after)
+large_at ts used m (end n) e large = absurd large
+large_at ts used m (token t rest) e large = stands_at LargeToken ts used m t rest e (λ back f. large)
+
+float_next : (used back : List Lexeme) (t : Lexeme) → is_one_of (float ∷ []) t ≡ true → Floats used t back
+float_next used [] t h = h
+float_next used (u ∷ us) t h = inl h
+
+float_at : (ts used : List Lexeme) (m : Place) (after : Rest Lexeme Place) → whole ts m ≡ onto used after → comes (float ∷ []) after ≡ true → StandsAt Floats ts (mark_of place_of after)
+float_at ts used m (end n) e h = absurd cc
+float_at ts used m (token t rest) e h = stands_at Floats ts used m t rest e (λ back f. float_next used back t h)
+
+sign_next : (used back : List Lexeme) (m : Place) (t u : Lexeme) (rest : Rest Lexeme Place) → token u rest ≡ whole back m → is_one_of (symbol 43 ∷ symbol 45 ∷ []) t ≡ true → is_floating u ≡ true → Floats used t back
+sign_next used [] m t u rest e h i = absurd cc
+sign_next used (v ∷ vs) m t u rest e h i = let p : u ≡ v = cc in inr (h, subst (λ (x : Lexeme). is_floating x ≡ true) p i)
+
+sign_at : (ts used : List Lexeme) (m : Place) (after : Rest Lexeme Place) (f : Failure) → whole ts m ≡ onto used after → SignedFloat after f → StandsAt Floats ts (mark_of place_of after)
+sign_at ts used m (end n) f e h = absurd h
+sign_at ts used m (token t (end n)) f e h = absurd h
+sign_at ts used m (token t (token u rest)) f e h = stands_at Floats ts used m t (token u rest) e (λ back g. sign_next used back m t u rest g h.0 h.1)
+
+part_at : (ts used : List Lexeme) (m : Place) (dot : Lexeme) (after : Rest Lexeme Place) → whole ts m ≡ onto used (token dot after) → is_one_of (symbol 46 ∷ []) dot ≡ true → comes (ident [] ∷ symbol 40 ∷ []) after ≡ true → StandsAt NextPart ts (mark_of place_of after)
+part_at ts used m dot (end n) e d h = absurd cc
+part_at ts used m dot (token t rest) e d h =
+    let parts : whole ts m ≡ onto (used ++ dot ∷ []) (token t rest) = e ∙ sym (onto-append used (dot ∷ []) (token t rest)) in
+    stands_at NextPart ts (used ++ dot ∷ []) m t rest parts (λ back f. (used, dot, refl, d, h))
+
+strings_next : (used used' : List Lexeme) (m : Place) (e : ParserError) (t : Lexeme) (rest us : Rest Lexeme Place) (pieces : Pieces) → token t rest ≡ onto used' us → IsStr used' pieces → SaysNothing pieces e → (back : List Lexeme) → rest ≡ whole back m → WrongStrings e used t back
+strings_next used used' m e t rest us pieces f is says back g =
+    let k = left_whole (t ∷ back) used' m us (sym (ap (token t) g) ∙ f) in
+    record { strings = used'; others = k.0; pieces = pieces; parts = k.2; is = is; says = says }
+
+strings_at : (ts used : List Lexeme) (m : Place) (e : ParserError) (after rest : Rest Lexeme Place) (pieces : Pieces) → whole ts m ≡ onto used after → parse.str.run after ≡ read pieces rest → SaysNothing pieces e → StandsAt (WrongStrings e) ts (mark_of place_of after)
+strings_at ts used m e (end n) rest pieces parts h says =
+    let l = parse.str.sound (end n) pieces rest h in
+    no_strings l.used l.parts (parse.str.begins l.used pieces l.holds)
+  where
+    no_strings : (strings : List Lexeme) → (let r : Rest Lexeme Place = end n in r ≡ onto strings rest) → Begins lexicon (text ∷ []) false strings → StandsAt (WrongStrings e) ts n
+    no_strings [] f b = absurd cc
+    no_strings (u ∷ us) f b = absurd cc
+strings_at ts used m e (token t us) rest pieces parts h says =
+    let l = parse.str.sound (token t us) pieces rest h in
+    stands_at (WrongStrings e) ts used m t us parts (strings_next used l.used m e t us rest pieces l.parts l.holds says)
+
+dotted : (t : Lexeme) → sees (symbol 46) t ≡ true → is_one_of (symbol 46 ∷ []) t ≡ true
+dotted t h = rw h refl
 
 -- ---- a file
 
-module _ (ts : List Lexeme) (m : Place) where
-  pub version_fault : (e : ParserError) (after : Rest Lexeme Place) → parse.version.run (whole ts m) ≡ stuck after → Stands e after → IsFault ts m e (mark_of place_of after)
-  unfolding IsFile
-  version_fault e after h stands =
-      let l = local_stuck parse.version refl (whole ts m) after h in
-      fault_stops e ts l.used m after l.parts (chosen_stops_early parse.version Says once parse.file_in refl refl refl ts m after h) stands
+no_tree_behind : (ts : List Lexeme) (last place : Place) → StopsAt place_of IsFile ts last place → NoTree ts
+no_tree_behind ts last place s t w = s.never s.rest t refl (subst (λ (v : List Lexeme). IsFile v t) s.parts w)
 
-  module _ (text : Option PiecesTree) (s : Syntax) (us : Rest Lexeme Place) (read_text : parse.version.run (whole ts m) ≡ read text us) (says : Says text s) where
-    pub file_found : (st : List _) (after : Rest Lexeme Place) → (parse.statements s).run us ≡ read st after → is_end after ≡ true → IsFile ts (record { syntax = s; statements = st })
-    unfolding IsFile parse.file_in
-    file_found st (end n) h e = chosen_read parse.version Says once parse.file_in refl refl refl ts m n text s (record { syntax = s; statements = st }) us read_text says (rw h refl)
-    file_found st (token t rest) h e = absurd cc
+module _ (ts : List Lexeme) (m : Place) (n : ℕ) where
+  pub found : (a : FileSyntax) (after : Rest Lexeme Place) → (nest.files n).low.run (whole ts m) ≡ read a after → is_end after ≡ true → IsFile ts a
+  found a (end k) e h = deep_found (λ i. (nest.file i).low) (steady-near nest.file nest.file-same) refl n ts m k a e
+  found a (token t rest) e h = absurd cc
 
-    pub file_only : (st : List _) (after : Rest Lexeme Place) → (parse.statements s).run us ≡ read st after → is_end after ≡ true → (u : FileSyntax) → IsFile ts u → u ≡ record { syntax = s; statements = st }
-    unfolding IsFile parse.file_in
-    file_only st (end n) h e u w = chosen_only parse.version Says once parse.file_in refl refl refl ts m n text s (record { syntax = s; statements = st }) u us read_text says (rw h refl) w
-    file_only st (token t rest) h e u w = absurd cc
+  pub leftover : (a : FileSyntax) (after : Rest Lexeme Place) → (nest.files n).low.run (whole ts m) ≡ read a after → is_end after ≡ false → StopsAt place_of IsFile ts m (mark_of place_of after)
+  leftover a (end k) e h = absurd cc
+  leftover a (token t rest) e h = deep_leaves (λ i. (nest.file i).low) (steady-near nest.file nest.file-same) refl n ts m a (token t rest) t e refl
 
-    pub statements_fault : (e : ParserError) (after : Rest Lexeme Place) → (parse.statements s).run us ≡ stuck after → Stands e after → IsFault ts m e (mark_of place_of after)
-    unfolding IsFile parse.file_in
-    statements_fault e after h stands =
-        let l = local_read parse.version (whole ts m) text us read_text in
-        let n = local_stuck (parse.statements s) refl us after h in
-        let parts : whole ts m ≡ onto (l.used ++ n.used) after = l.parts ∙ ap (onto l.used) n.parts ∙ sym (onto-append l.used n.used after) in
-        fault_stops e ts (l.used ++ n.used) m after parts (chosen_stops parse.version Says once parse.file_in refl refl refl ts m text s us after read_text says (rw h refl)) stands
+  module _ (enough : length ts < n) where
+    pub only : (a b : FileSyntax) (after : Rest Lexeme Place) → (nest.files n).low.run (whole ts m) ≡ read a after → is_end after ≡ true → IsFile ts b → b ≡ a
+    only a b (end k) e h w = deep_only (λ i. (nest.file i).low) (steady-near nest.file nest.file-same) refl n ts m k a b enough e w
+    only a b (token t rest) e h w = absurd cc
 
-    pub leftover_fault : (st : List _) (after : Rest Lexeme Place) → (parse.statements s).run us ≡ read st after → is_end after ≡ false → StopsAt place_of IsFile ts m (mark_of place_of after)
-    unfolding IsFile parse.file_in
-    leftover_fault st (end n) h e = absurd cc
-    leftover_fault st (token t rest) h e = chosen_leaves parse.version Says once parse.file_in refl refl refl ts m text s (record { syntax = s; statements = st }) us (token t rest) t read_text says (rw h refl) refl
+    none_if_stuck : (rest : Rest Lexeme Place) → (nest.files n).low.run (whole ts m) ≡ stuck rest → NoTree ts
+    none_if_stuck rest e t w =
+        no_tree_behind ts m (mark_of place_of rest) (deep_stops (λ i. (nest.file i).low) (steady-near nest.file nest.file-same) refl n ts m rest enough e) t w
 
--- ---- strings that say no version
+    none_if_wrong : (rest : Rest Lexeme Place) → (nest.files n).low.run (whole ts m) ≡ wrong rest → NoTree ts
+    none_if_wrong rest e t w = deep_wrong (λ i. (nest.file i).low) (steady-near nest.file nest.file-same) refl n ts m rest t enough e w
 
-ascii_name : (b : ℕ) → b < 128 → IsAscii (112 ∷ 114 ∷ 111 ∷ 116 ∷ 111 ∷ b ∷ [])
-ascii_name b h =
-    IsAscii-cons 112 (114 ∷ 111 ∷ 116 ∷ 111 ∷ b ∷ []) (lit< tt) (IsAscii-cons 114 (111 ∷ 116 ∷ 111 ∷ b ∷ []) (lit< tt) (IsAscii-cons 111 (116 ∷ 111 ∷ b ∷ []) (lit< tt)
-    (IsAscii-cons 116 (111 ∷ b ∷ []) (lit< tt) (IsAscii-cons 111 (b ∷ []) (lit< tt) (IsAscii-cons b [] h IsAscii-nil)))))
+    -- the tokens cannot stand there
+    next_fault : (e : ParserError) (after : Rest Lexeme Place) → (nest.files n).low.run (whole ts m) ≡ stuck after → Stands e after → IsFault ts m e (mark_of place_of after)
+    next_fault e after h stands =
+        let stop = deep_stops (λ i. (nest.file i).low) (steady-near nest.file nest.file-same) refl n ts m after enough h in
+        let l = local_stuck (nest.file n).low refl (whole ts m) after h in
+        go e stop l.used l.parts stands
+      where
+        go : (e : ParserError) → StopsAt place_of IsFile ts m (mark_of place_of after) → (used : List Lexeme) → whole ts m ≡ onto used after → Stands e after → IsFault ts m e (mark_of place_of after)
+        go error.IncorrectInput stop used parts s = stop
+        go error.ExpectConstant stop used parts s = stop
+        go error.LabelNotAllowed stop used parts s = stop
+        go error.LabelRequired stop used parts s = stop
+        go error.GroupNameShouldStartWithUpperCase stop used parts s = stop
+        go error.MapFieldNotAllowed stop used parts s = stop
+        go error.OneOfInGroup stop used parts s = stop
+        go error.OnlyFieldsInGroup stop used parts s = stop
+        go error.IntegerOverflow stop used parts s = (stop, large_at ts used m after parts s)
+        go error.FloatConstant stop used parts s = (none_if_stuck after h, float_at ts used m after parts s)
+        go error.Memory stop used parts s = absurd s
+        go error.UnexpectedCharacter stop used parts s = absurd s
+        go error.UnterminatedComment stop used parts s = absurd s
+        go error.UnterminatedString stop used parts s = absurd s
+        go error.BadNumber stop used parts s = absurd s
+        go error.NestingTooDeep stop used parts s = absurd s
+        go error.OptionNameTooLong stop used parts s = absurd s
+        go error.UnknownSyntax stop used parts s = absurd s
+        go error.StrLitDecode stop used parts s = absurd s
+        go (error.BadImportPath f) stop used parts s = absurd s
+        go error.TextTooLong stop used parts s = absurd s
 
-utf8_name : (s : Syntax) → IsUtf8 (name_of s)
-utf8_name Proto2 = IsUtf8-from_ascii (codes "proto2") (ascii_name 50 (lit< tt))
-utf8_name Proto3 = IsUtf8-from_ascii (codes "proto3") (ascii_name 51 (lit< tt))
+    -- strings say nothing
+    strings_fault : (e : ParserError) (after : Rest Lexeme Place) (f : Failure) → (nest.files n).low.run (whole ts m) ≡ failed f → SaysNot e after f → NoTree ts × StandsAt (WrongStrings e) ts (mark_of place_of after)
+    strings_fault e after f h says =
+        let w : (nest.files n).low.run (whole ts m) ≡ wrong after = rw (says.4) at h in
+        let l = local_wrong (nest.file n).low (whole ts m) after w in
+        (none_if_wrong after w, strings_at ts l.0 m e after says.1 says.0 l.1 says.2 says.3)
 
-no_version : (text : PiecesTree) (e : ParserError) → SaysNothing text e → (s : Syntax) → Says (Some text) s → ⊥
-no_version text error.UnknownSyntax n s d = n s d
-no_version text error.StrLitDecode n s d = n (name_of s) d (utf8_name s)
-no_version text e n s d = absurd n
+    sign_fault : (after : Rest Lexeme Place) (f : Failure) → (nest.files n).low.run (whole ts m) ≡ failed f → SignedFloat after f → NoTree ts × StandsAt Floats ts (mark_of place_of after)
+    sign_fault (end k) f h tells = absurd tells
+    sign_fault (token t (end k)) f h tells = absurd tells
+    sign_fault (token t (token u rest)) f h tells =
+        let after : Rest Lexeme Place = token t (token u rest) in
+        let w : (nest.files n).low.run (whole ts m) ≡ wrong after = rw (tells.2) at h in
+        let l = local_wrong (nest.file n).low (whole ts m) after w in
+        (none_if_wrong after w, sign_at ts l.0 m after f l.1 tells)
 
--- what the front of the statement says is what the statement says, if it is read on
-closed : (r : Read Lexeme Place (Unit {0})) (text : PiecesTree) (said : Option PiecesTree) (us : Rest Lexeme Place) → bind (bind r (λ u rest. read text rest)) (λ t rest. read (Some t) rest) ≡ read said us → said ≡ Some text
-closed (read u rest) text said us e = sym (read_parts (Some text) said rest us e).0
-closed (stuck rest) text said us e = absurd cc
-closed (wrong m) text said us e = absurd cc
-closed deep text said us e = absurd cc
+    part_fault : (after : Rest Lexeme Place) (f : Failure) (dot : Lexeme) → (nest.files n).low.run (whole ts m) ≡ failed f → is_one_of (symbol 46 ∷ []) dot ≡ true → comes (ident [] ∷ symbol 40 ∷ []) after ≡ true → f ≡ at (token dot after) → NoTree ts × StandsAt NextPart ts (mark_of place_of after)
+    part_fault after f dot h d c e =
+        let w : (nest.files n).low.run (whole ts m) ≡ stuck (token dot after) = rw e at h in
+        let l = local_stuck (nest.file n).low refl (whole ts m) (token dot after) w in
+        (none_if_stuck (token dot after) w, part_at ts l.used m dot after l.parts d c)
 
-its_text : (ts after us : Rest Lexeme Place) (text : PiecesTree) (said : Option PiecesTree) → parse.syntax_front.run ts ≡ read text after → parse.version.run ts ≡ read said us → said ≡ Some text
-unfolding parse.version parse.syntax parse.syntax_front
-its_text ts after us text said h e =
-    let l = parse.syntax_front.sound ts text after h in
-    let s : starts lexicon (word (codes "syntax") ∷ []) ts ≡ true = rw l.parts (begins-starts lexicon (word (codes "syntax") ∷ []) false l.used after refl (parse.syntax_front.begins l.used text l.holds)) in
-    let x = bind_read ((parse.word (codes "syntax")).run ts) (λ u us. bind ((parse.symbol 61).run us) (λ v vs. parse.str.run vs)) text after h in
-    let y = bind_read ((parse.symbol 61).run x.1) (λ v vs. parse.str.run vs) text after x.3 in
-    closed ((parse.symbol 59).run after) text said us (rw (s, x.2, y.2, y.3) at e)
+    -- the part that begins there has the fault
+    here_fault : (e : ParserError) (after : Rest Lexeme Place) (f : Failure) → (nest.files n).low.run (whole ts m) ≡ failed f → Tells e after f → IsFault ts m e (mark_of place_of after)
+    here_fault error.FloatConstant after f h t = sign_fault after f h t
+    here_fault error.OptionNameTooLong after f h t = part_fault after f t.0 h (dotted t.0 t.1) t.2 t.3
+    here_fault error.UnknownSyntax after f h t = strings_fault error.UnknownSyntax after f h t
+    here_fault error.StrLitDecode after f h t = strings_fault error.StrLitDecode after f h t
+    here_fault (error.BadImportPath e) after f h t = strings_fault (error.BadImportPath e) after f h t
+    here_fault error.NestingTooDeep after f h t = absurd (deep_never (λ i. (nest.file i).low) (steady-near nest.file nest.file-same) refl n ts m enough (rw t at h))
+    here_fault error.Memory after f h t = absurd t
+    here_fault error.UnexpectedCharacter after f h t = absurd t
+    here_fault error.UnterminatedComment after f h t = absurd t
+    here_fault error.UnterminatedString after f h t = absurd t
+    here_fault error.BadNumber after f h t = absurd t
+    here_fault error.IntegerOverflow after f h t = absurd t
+    here_fault error.IncorrectInput after f h t = absurd t
+    here_fault error.ExpectConstant after f h t = absurd t
+    here_fault error.LabelNotAllowed after f h t = absurd t
+    here_fault error.LabelRequired after f h t = absurd t
+    here_fault error.GroupNameShouldStartWithUpperCase after f h t = absurd t
+    here_fault error.MapFieldNotAllowed after f h t = absurd t
+    here_fault error.OneOfInGroup after f h t = absurd t
+    here_fault error.OnlyFieldsInGroup after f h t = absurd t
+    here_fault error.TextTooLong after f h t = absurd t
 
-pub wrong_version : (ts : List Lexeme) (m : Place) (text : PiecesTree) (after : Rest Lexeme Place) (e : ParserError) (place : Place) → parse.syntax_front.run (whole ts m) ≡ read text after → place ≡ text.place → SaysNothing text e → IsFault ts m e place
-unfolding IsFile
-wrong_version ts m text after e place h at n =
-    let none : NoTree ts = chosen_none parse.version Says once parse.file_in refl refl refl ts m (λ said us s r d. no_version text e n s (subst (λ v. Says v s) (its_text (whole ts m) after us text said h r) d)) in
-    let l = parse.syntax_front.sound (whole ts m) text after h in
-    let k = left_whole ts l.used m after l.parts in
-    let x = l.holds.second in
-    let f : l.used ≡ (l.holds.front ++ x.front) ++ x.back = l.holds.parts ∙ ap (λ (v : List Lexeme). l.holds.front ++ v) x.parts ∙ sym (append_assoc l.holds.front x.front x.back) in
-    let parts : ts ≡ (l.holds.front ++ x.front) ++ x.back ++ k.0 = k.2 ∙ ap (λ (v : List Lexeme). v ++ k.0) f in
-    go e none (record { front = l.holds.front ++ x.front; strings = x.back; back = k.0; text = text; parts = parts; is = x.second; at = at; says = n }) n
-  where
-    go : (e : ParserError) → NoTree ts → WrongAt ts place e → SaysNothing text e → IsFault ts m e place
-    go error.UnknownSyntax none w n = (none, w)
-    go error.StrLitDecode none w n = (none, w)
-    go e none w n = absurd n
+    pub refused : (e : Refusal) (after : Rest Lexeme Place) → Fails e after ((nest.files n).low.run (whole ts m)) → RefusesFile ts m e (mark_of place_of after)
+    refused Memory after h = tt
+    refused (Next e) after h = next_fault e after h.0 h.1
+    refused (Here e) after h = here_fault e after h.0 h.1 h.2
 
--- ---- what a refusal says
+pub told : (ts : List Lexeme) (m : Place) (e : Refusal) (next : Place) (r : ParserErrorWithLocation) → RefusesFile ts m e next → r ≡ error_at e next → (r ≡ out_of_memory) ⊎ IsFault ts m r.error (place_at r)
+told ts m Memory next r h e = inl e
+told ts m (Next x) next r h e = inr (rw e h)
+told ts m (Here x) next r h e = inr (rw e h)
 
-pub version_refused : (ts : List Lexeme) (m : Place) (e : Refusal) (after : Rest Lexeme Place) → GivesVersion (Err e) after (parse.syntax_front.run (whole ts m)) (parse.version.run (whole ts m)) → RefusesFile ts m e (mark_of place_of after)
-version_refused ts m Memory after h = tt
-version_refused ts m (Next e) after h = version_fault ts m e after h.0 h.1
-version_refused ts m (At place e) after h = wrong_version ts m h.0 after e place h.1 h.2 h.3
+-- ---- a text
 
-pub statements_refused : (ts : List Lexeme) (m : Place) (text : Option PiecesTree) (s : Syntax) (us : Rest Lexeme Place) → parse.version.run (whole ts m) ≡ read text us → Says text s → (e : Refusal) (after : Rest Lexeme Place) → Fails e after ((parse.statements s).run us) → RefusesFile ts m e (mark_of place_of after)
-statements_refused ts m text s us r says Memory after h = tt
-statements_refused ts m text s us r says (Next e) after h = statements_fault ts m text s us r says e after h.0 h.1
-statements_refused ts m text s us r says (At place e) after h = absurd h
+-- where a fault stands there is no tree
+pub fault_none : (ts : List Lexeme) (last place : Place) (e : ParserError) → IsFault ts last e place → NoTree ts
+fault_none ts last place error.IncorrectInput h = no_tree_behind ts last place h
+fault_none ts last place error.ExpectConstant h = no_tree_behind ts last place h
+fault_none ts last place error.LabelNotAllowed h = no_tree_behind ts last place h
+fault_none ts last place error.LabelRequired h = no_tree_behind ts last place h
+fault_none ts last place error.GroupNameShouldStartWithUpperCase h = no_tree_behind ts last place h
+fault_none ts last place error.MapFieldNotAllowed h = no_tree_behind ts last place h
+fault_none ts last place error.OneOfInGroup h = no_tree_behind ts last place h
+fault_none ts last place error.OnlyFieldsInGroup h = no_tree_behind ts last place h
+fault_none ts last place error.IntegerOverflow h = no_tree_behind ts last place h.0
+fault_none ts last place error.OptionNameTooLong h = h.0
+fault_none ts last place error.FloatConstant h = h.0
+fault_none ts last place error.UnknownSyntax h = h.0
+fault_none ts last place error.StrLitDecode h = h.0
+fault_none ts last place (error.BadImportPath e) h = h.0
+fault_none ts last place error.Memory h = absurd h
+fault_none ts last place error.UnexpectedCharacter h = absurd h
+fault_none ts last place error.UnterminatedComment h = absurd h
+fault_none ts last place error.UnterminatedString h = absurd h
+fault_none ts last place error.BadNumber h = absurd h
+fault_none ts last place error.NestingTooDeep h = absurd h
+fault_none ts last place error.TextTooLong h = absurd h
 
-pub told : (ts us : List Lexeme) (m n : Place) (e : Refusal) (next : Place) (r : ParserErrorWithLocation) → ts ≡ us → m ≡ n → RefusesFile ts m e next → r ≡ error_at e next → (r ≡ out_of_memory) ⊎ IsFault us n r.error (place_at r)
-told ts us m n Memory next r p q h e = inl e
-told ts us m n (Next x) next r p q h e = inr (rw e (subst (λ v. IsFault us v x next) q (subst (λ v. IsFault v m x next) p h)))
-told ts us m n (At place x) next r p q h e = inr (rw e (subst (λ v. IsFault us v x place) q (subst (λ v. IsFault v m x place) p h)))
+module _ (text : Bytes) (s : Stream) (same : (v : Stream) → HasTokens text v → s ≡ v) where
+  its_tree : (u : FileSyntax) → HasTree text u → IsFile s.tokens u
+  its_tree u w = subst (λ (v : Stream). IsFile v.tokens u) (sym (same w.stream w.tokens)) w.file
+
+  pub only_of : (r : Result FileTree ParserErrorWithLocation) → IfOk r (λ t. (u : FileSyntax) → IsFile s.tokens u → u ≡ file_view t) → IfOk r (λ t. (u : FileSyntax) → HasTree text u → u ≡ file_view t)
+  only_of (Ok t) h = λ u w. h u (its_tree u w)
+  only_of (Err e) h = h
+
+  pub none_of : (r : Result FileTree ParserErrorWithLocation) → IfErr r (λ e. (e ≡ out_of_memory) ⊎ IsFault s.tokens s.end e.error (place_at e)) → IfErr r (λ e. (e ≡ out_of_memory) ⊎ ((u : FileSyntax) → HasTree text u → ⊥))
+  none_of (Ok t) h = h
+  none_of (Err e) (inl h) = inl h
+  none_of (Err e) (inr h) = inr (λ u w. fault_none s.tokens s.end (place_at e) e.error h u (its_tree u w))

@@ -1,5 +1,5 @@
 -- What the scanners' answers say of the front of a text.
-use Rattle.std.proofs.Common.{MatchOption, slice_range, length-drop, length-take, get_or-take, get_or-drop, ◌||◌, ◌≡◌, ℕ, zero, suc, ◌+◌, ◌-◌, ◌*◌, ◌<◌, ◌≤◌, Bool, true, false, cond, eqb, List, [], ◌∷◌, length, take, drop, get_or, slice_index, Option, Some, None, refl, sym, ap, ◌∙◌, subst, inl, inr, ⊎_elim, ◌⊎◌, arith}
+use Rattle.std.proofs.Common.{MatchOption, length-drop, ◌||◌, ◌≡◌, ℕ, zero, suc, ◌+◌, ◌-◌, ◌*◌, ◌<◌, ◌≤◌, Bool, true, false, eqb, List, [], ◌∷◌, length, take, drop, get_or, slice_index, Option, Some, None, refl, sym, ap, ◌∙◌, subst, inl, inr, ⊎_elim, ◌⊎◌, arith}
 use Rattle.std.specs.Char as char
 use Rattle.std.specs.Str.Parse.{digits_value, digits_value_after}
 use Rattle.std.proofs.Math.Nat.{mul-le-mul_left}
@@ -8,6 +8,7 @@ use Rattle.std.proofs.lemmas.Bool.{false≢true, cases_lt}
 use Rattle.std.proofs.lemmas.Bool.Decides.{nat_tests}
 use Rattle.protobuf_parse_syntax.specs.declared.lexer.bytes.Class.TheVariants as class
 use Rattle.protobuf_parse_syntax.specs.Scan.{closing, EndsFraction, BeginsNumber}
+use Rattle.protobuf_parse_syntax.specs.Escapes.{chosen}
 use Rattle.protobuf_parse_syntax.specs.Text.{Bytes, is_in, AllIn, StopsAt, IsQuote, IsIdent, IsString, IsDecimal, IsHex, IsOctal, IsLetterE, IsExponent, IsFloat, IsNumber, IsInteger, IsLiteral, IsLongest, Longest, NoFront, is_rest, is_empty}
 
 -- more digits spell no less
@@ -148,15 +149,6 @@ hex_no_float z m n f h =
       ]
     ]
 
-pub digits_are_hex : (z : Bytes) (i n : ℕ) → AllIn class.Digit z i n → AllIn class.Hex z i n
-digits_are_hex z i n each k after before = digit_is_hex (slice_index z k) (each k after before)
-
-pub in_range : (z : Bytes) (i n : ℕ) → AllIn class.Hex z i n → i ≤ n → n ≤ length z → (k : ℕ) → k < length (slice_range z i n) → is_in class.Hex (slice_index (slice_range z i n) k) ≡ true
-in_range z i n each order within k small =
-    let len : length (slice_range z i n) ≡ n - i = simp (length-take, length-drop) (omega arith) in
-    let below : k < n - i = omega arith in
-    rw (get_or-take, get_or-drop) (each (i + k) (omega arith) (omega arith))
-
 -- ---- the longest of one kind is the longest of all
 
 pub long_number : (z : Bytes) (n : ℕ) → BeginsNumber z → ((m : ℕ) → IsNumber z m → m ≤ n) → IsLongest z n
@@ -197,10 +189,6 @@ empty_front : (m : ℕ) (z : Bytes) → m ≤ length z → is_empty (take m z) �
 empty_front zero z within e = refl
 empty_front (suc m) [] within e = absurd (omega arith)
 empty_front (suc m) (b ∷ z) within e = absurd (false≢true e)
-
-pub chosen : {X : Type 0} (t : Bool) (x y z : X) → cond t x y ≡ z → ((t ≡ true) × (x ≡ z)) ⊎ ((t ≡ false) × (y ≡ z))
-chosen true x y z e = inl (refl, e)
-chosen false x y z e = inr (refl, e)
 
 -- where `closing` says that a string ends, one does
 abbrev EndsThere : ℕ → Bool → ℕ → ℕ → Bytes → Type 0

@@ -1,12 +1,25 @@
+mod File
 pub mod Front
 pub mod Cuts
 pub mod Unique
 pub mod Refusals
 pub mod Depth
+pub mod Sizes
+pub mod Imports
+pub mod Formats
 pub mod Escapes
 pub mod Places
+pub mod Words
+pub mod Fields
+pub mod FieldViews
 pub mod Quotes
 pub mod Escaping
 pub mod Left
 pub mod Loops
-pub mod File
+pub mod Views
+pub mod Failures
+pub mod Constants
+pub mod Versions
+pub mod Messages
+pub mod Strings
+pub mod Parts

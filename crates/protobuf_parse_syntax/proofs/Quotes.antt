@@ -7,7 +7,7 @@ use Rattle.std.proofs.lemmas.Str.{IsCharBoundary-after_ascii}
 use Rattle.protobuf_parse_syntax.specs.Text.{Bytes, IsQuote, IsString, is_rest, is_empty}
 use Rattle.protobuf_parse_syntax.specs.Tokens.{is_quote, unquoted}
 use Rattle.protobuf_parse_syntax.specs.Laws.{StringsAreQuoted}
-use Rattle.protobuf_parse_syntax.proofs.Front.{chosen}
+use Rattle.protobuf_parse_syntax.specs.Escapes.{chosen}
 
 quote_test : (q : ℕ) → IsQuote q → is_quote q ≡ true
 quote_test q (inl e) = subst (λ b. is_quote b ≡ true) (sym e) refl

@@ -1,5 +1,5 @@
 -- How a parser tells tokens from one another by the next token alone.
-use Rattle.std.proofs.Common.{◌≡◌, ℕ, List, [], ◌∷◌, Bool, true, false, not, ◌&&◌, ◌||◌, cond, eqb, bytes_eq, eq-eqb, refl, sym, ◌∙◌, subst}
+use Rattle.std.proofs.Common.{◌≡◌, ℕ, List, [], ◌∷◌, Bool, true, false, not, ◌&&◌, ◌||◌, cond, eqb, bytes_eq, eq-eqb, codes, refl, sym, ◌∙◌, subst}
 use Rattle.std.proofs.lemmas.Bool.{eqb-true}
 use Rattle.std.proofs.lemmas.Slice.Eq.{bytes_eq-Decides}
 use Rattle.protobuf_parse_base.specs.Readers.{Lexicon, seen, and_left, and_right, false_by, not_true}
@@ -194,3 +194,19 @@ but-law text d t h e = but-rest text d t h e
 
 abbrev pub lexicon : Lexicon Lexeme Place Class
 lexicon = record { mark = λ t. t.place; sees = sees; apart = apart; within = within; but = but; apart-law = apart-law; within-law = within-law; but-law = but-law }
+
+-- one of the classes sees the token
+abbrev pub is_one_of : List Class → Lexeme → Bool
+is_one_of cs t = seen sees cs t
+
+-- these words
+abbrev pub words : List Bytes → List Class
+words [] = []
+words (w ∷ ws) = word w ∷ words ws
+
+-- a float, `inf` or `nan`
+abbrev pub floatings : List Class
+floatings = float ∷ word (codes "inf") ∷ word (codes "nan") ∷ []
+
+abbrev pub is_floating : Lexeme → Bool
+is_floating t = is_one_of floatings t

@@ -1,21 +1,25 @@
 -- What the parser's functions say of readers.
-use Rattle.std.specs.Prelude.{◌≡◌, Bool, true, false, Option, Some, None, List, map, Result, Ok, Err}
-use Rattle.protobuf_parse_base.specs.Readers.{Rest, end, token, Read, read, stuck}
+use Rattle.std.specs.Prelude.{◌≡◌, Bool, true, false, Option, Some, None, List, [], ◌∷◌, map, Result, Ok, Err}
+use Rattle.std.proofs.Common.{ap, ◌∙◌, refl}
+use Rattle.protobuf_parse_base.specs.Readers.{Rest, end, token, Read, read, stuck, wrong, deep, bind}
 use Rattle.protobuf_parse_base.specs.Whole.{whole}
-use Rattle.protobuf_parse_syntax.specs.Tokens.{Lexeme, lexeme, DecodesAll}
-use Rattle.protobuf_parse_syntax.specs.declared.lexer.token.Place.{Place}
+use Rattle.protobuf_parse_syntax.specs.Text.{Bytes}
+use Rattle.protobuf_parse_syntax.specs.Tokens.{Lexeme, lexeme}
+use Rattle.protobuf_parse_syntax.specs.Trees.{Pieces}
+use Rattle.protobuf_parse_syntax.specs.Classes.{Class, sees, symbol, ident, is_one_of, float, is_floating}
+use Rattle.protobuf_parse_syntax.specs.Grammar.{any_ident}
 use Rattle.protobuf_parse_syntax.specs.Parsing.{IsLarge, SaysNothing, IsFault}
-use Rattle.protobuf_parse_syntax.specs.Grammar.{Says, name_of}
-use Rattle.protobuf_parse_syntax.specs.declared.tree.Syntax.{Syntax}
 use Rattle.protobuf_parse_syntax.specs.Cut.{out_of_memory, located as located_at}
-use Rattle.protobuf_parse_syntax.specs.declared.error.ParserErrorWithLocation.{ParserErrorWithLocation}
+use Rattle.protobuf_parse_syntax.specs.Productions as parse
+use Rattle.protobuf_parse_syntax.specs.declared.lexer.token.Place.{Place}
 use Rattle.protobuf_parse_syntax.specs.declared.error.ParserError.{ParserError}
+use Rattle.protobuf_parse_syntax.specs.declared.error.ParserErrorWithLocation.{ParserErrorWithLocation}
 use Rattle.protobuf_parse_syntax.specs.declared.error.ParserError.TheVariants as error
+use Rattle.protobuf_parse_syntax.specs.declared.lexer.str_lit.StrLitDecodeError.{StrLitDecodeError}
+use Rattle.protobuf_parse_syntax.specs.declared.lexer.str_lit.StrLitDecodeError.TheVariants as decoding
 use Rattle.protobuf_parse_syntax.specs.declared.parser.refusal.Refusal.{Refusal}
-use Rattle.protobuf_parse_syntax.specs.declared.parser.refusal.Refusal.TheVariants.{Memory, Next, At}
+use Rattle.protobuf_parse_syntax.specs.declared.parser.refusal.Refusal.TheVariants.{Memory, Next, Here}
 use Rattle.protobuf_parse_syntax.specs.declared.parser.cursor.Cursor.{Cursor}
-use Rattle.protobuf_parse_syntax.specs.declared.parser.version.PlacedStr.{PlacedStr}
-use Rattle.protobuf_parse_syntax.specs.Trees.{PiecesTree, pieces_of}
 
 -- the tokens that are left, and the place of the end
 abbrev pub left : Cursor → Rest Lexeme Place
@@ -26,24 +30,91 @@ abbrev pub is_end : Rest Lexeme Place → Bool
 is_end (end m) = true
 is_end (token t rest) = false
 
+-- ---- why nothing is read
+
+-- Tokens from one on that cannot stand there; tokens from the first one on of a part that says nothing; or parts
+-- that nest deeper than was looked at.
+pub data Failure : Type 0 where
+  at : Rest Lexeme Place → Failure
+  off : Rest Lexeme Place → Failure
+  too_deep : Failure
+
+abbrev pub failed : {Y : Type 0} → Failure → Read Lexeme Place Y
+failed (at rest) = stuck rest
+failed (off rest) = wrong rest
+failed too_deep = deep
+
+-- the next token is one of these
+abbrev pub comes : List Class → Rest Lexeme Place → Bool
+comes cs (end m) = false
+comes cs (token t rest) = is_one_of cs t
+
 -- an integer of over 2147483647 comes next
 abbrev pub IsLargeNext : Rest Lexeme Place → Type 0
 IsLargeNext (end m) = ⊥
 IsLargeNext (token t rest) = IsLarge t.kind
 
+-- a float, `inf` or `nan` comes second
+abbrev pub floats_second : Rest Lexeme Place → Bool
+floats_second (token t (token u rest)) = is_floating u
+floats_second _ = false
+
+-- the identifier that comes next
+abbrev pub next_ident : Rest Lexeme Place → Option Bytes
+next_ident (end m) = None
+next_ident (token t rest) = any_ident t
+
+-- a sign comes next, and a float, `inf` or `nan` second, so that they say nothing
+abbrev pub SignedFloat : Rest Lexeme Place → Failure → Type 0
+SignedFloat (token t (token u rest)) f = (is_one_of (symbol 43 ∷ symbol 45 ∷ []) t ≡ true) × (is_floating u ≡ true) × (f ≡ off (token t (token u rest)))
+SignedFloat _ f = ⊥
+
+-- strings come next that say nothing
+abbrev pub SaysNot : ParserError → Rest Lexeme Place → Failure → Type 0
+SaysNot e after f = (pieces : Pieces) × (rest : Rest Lexeme Place) × (parse.str.run after ≡ read pieces rest) × SaysNothing pieces e × (f ≡ off after)
+
 -- what a fault at the next token says of it
 abbrev pub Stands : ParserError → Rest Lexeme Place → Type 0
 Stands error.IncorrectInput after = Unit {0}
+Stands error.ExpectConstant after = Unit {0}
 Stands error.LabelNotAllowed after = Unit {0}
 Stands error.LabelRequired after = Unit {0}
+Stands error.GroupNameShouldStartWithUpperCase after = Unit {0}
+Stands error.MapFieldNotAllowed after = Unit {0}
+Stands error.OneOfInGroup after = Unit {0}
+Stands error.OnlyFieldsInGroup after = Unit {0}
 Stands error.IntegerOverflow after = IsLargeNext after
+Stands error.FloatConstant after = comes (float ∷ []) after ≡ true
 Stands _ after = ⊥
 
--- Memory ran out, or the tokens from the next one on cannot stand there.
+-- faults that are told at a token alone, whatever it is
+abbrev pub AtOneToken : ParserError → Type 0
+AtOneToken error.IncorrectInput = Unit {0}
+AtOneToken error.ExpectConstant = Unit {0}
+AtOneToken error.LabelNotAllowed = Unit {0}
+AtOneToken error.LabelRequired = Unit {0}
+AtOneToken error.GroupNameShouldStartWithUpperCase = Unit {0}
+AtOneToken error.MapFieldNotAllowed = Unit {0}
+AtOneToken error.OneOfInGroup = Unit {0}
+AtOneToken error.OnlyFieldsInGroup = Unit {0}
+AtOneToken _ = ⊥
+
+-- what a fault of the part that begins next says of it, and of why nothing is read
+abbrev pub Tells : ParserError → Rest Lexeme Place → Failure → Type 0
+Tells error.FloatConstant after f = SignedFloat after f
+Tells error.OptionNameTooLong after f = (dot : Lexeme) × (sees (symbol 46) dot ≡ true) × (comes (ident [] ∷ symbol 40 ∷ []) after ≡ true) × (f ≡ at (token dot after))
+Tells error.UnknownSyntax after f = SaysNot error.UnknownSyntax after f
+Tells error.StrLitDecode after f = SaysNot error.StrLitDecode after f
+Tells (error.BadImportPath e) after f = SaysNot (error.BadImportPath e) after f
+Tells error.NestingTooDeep after f = f ≡ too_deep
+Tells _ after f = ⊥
+
+-- Memory ran out; or the tokens from the next one on cannot stand there; or nothing is read of the part that
+-- begins there, and why.
 abbrev pub Fails : {Y : Type 0} → Refusal → Rest Lexeme Place → Read Lexeme Place Y → Type 0
 Fails Memory after r = Unit {0}
 Fails (Next e) after r = (r ≡ stuck after) × Stands e after
-Fails (At place e) after r = ⊥
+Fails (Here e) after r = (f : Failure) × (r ≡ failed f) × Tells e after f
 
 -- What a function returned, seen by view, is what was read, and the cursor stands behind it or at the fault,
 -- unless memory ran out.
@@ -51,45 +122,39 @@ abbrev pub Gives : {X Y : Type 0} → (X → Y) → Result X Refusal → Rest Le
 Gives view (Ok x) after r = r ≡ read (view x) after
 Gives view (Err e) after r = Fails e after r
 
+-- what a string's error is to the parser
+abbrev pub refusal_of : StrLitDecodeError → Refusal
+refusal_of decoding.Memory = Memory
+refusal_of decoding.BadEscape = Here error.StrLitDecode
+refusal_of decoding.NotUtf8 = Here error.StrLitDecode
+
 -- an item, if there is one, seen by view
 abbrev pub seen_by : {X Y : Type 0} → (X → Y) → Option X → Option Y
 seen_by view None = None
 seen_by view (Some x) = Some (view x)
 
-abbrev pub placed_view : PlacedStr → PiecesTree
-placed_view p = record { place = p.place; pieces = pieces_of p.literal }
+-- ---- what fails first fails
 
--- ---- the version
+failed_bind : {Y Z : Type 0} (f : Failure) (g : Y → Rest Lexeme Place → Read Lexeme Place Z) → bind (failed f) g ≡ failed f
+failed_bind (at rest) g = refl
+failed_bind (off rest) g = refl
+failed_bind too_deep g = refl
 
--- what a string says, or why not
-abbrev pub SaysOrFails : PiecesTree → Result Syntax Refusal → Type 0
-SaysOrFails text (Ok syntax) = DecodesAll text.pieces (name_of syntax)
-SaysOrFails text (Err Memory) = Unit {0}
-SaysOrFails text (Err (Next e)) = ⊥
-SaysOrFails text (Err (At place e)) = (place ≡ text.place) × SaysNothing text e
-
--- The statement was read, if there is one, and what it says was returned; or only its front was read, up to
--- the strings, which say nothing.
-abbrev pub GivesVersion : Result Syntax Refusal → Rest Lexeme Place → Read Lexeme Place PiecesTree → Read Lexeme Place (Option PiecesTree) → Type 0
-GivesVersion (Ok syntax) after front r = (text : Option PiecesTree) × (r ≡ read text after) × Says text syntax
-GivesVersion (Err Memory) after front r = Unit {0}
-GivesVersion (Err (Next e)) after front r = (r ≡ stuck after) × Stands e after
-GivesVersion (Err (At place e)) after front r = (text : PiecesTree) × (front ≡ read text after) × (place ≡ text.place) × SaysNothing text e
+pub fails_first : {Y Z : Type 0} (e : Refusal) (after : Rest Lexeme Place) (r : Read Lexeme Place Y) (g : Y → Rest Lexeme Place → Read Lexeme Place Z) → Fails e after r → Fails e after (bind r g)
+fails_first Memory after r g h = tt
+fails_first {Y = Y} (Next e) after r g h = (ap (λ (x : Read Lexeme Place Y). bind x g) h.0, h.1)
+fails_first {Y = Y} (Here e) after r g h = (h.0, ap (λ (x : Read Lexeme Place Y). bind x g) h.1 ∙ failed_bind h.0 g, h.2)
 
 -- ---- the file
-
--- the tokens of a cursor
-abbrev pub ahead : Cursor → List Lexeme
-ahead c = map lexeme c.rest.now
 
 -- what a refusal says of the tokens, where the next one, or the end, stands at `next`
 abbrev pub RefusesFile : List Lexeme → Place → Refusal → Place → Type 0
 RefusesFile ts last Memory next = Unit {0}
 RefusesFile ts last (Next e) next = IsFault ts last e next
-RefusesFile ts last (At place e) next = IsFault ts last e place
+RefusesFile ts last (Here e) next = IsFault ts last e next
 
 -- the error of a refusal, where the next token stands at this place
 abbrev pub error_at : Refusal → Place → ParserErrorWithLocation
 error_at Memory next = out_of_memory
 error_at (Next e) next = located_at e next
-error_at (At place e) next = located_at e place
+error_at (Here e) next = located_at e next

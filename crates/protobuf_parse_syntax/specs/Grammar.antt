@@ -1,22 +1,28 @@
 -- The grammar of the Protocol Buffers Language Specifications (https://protobuf.dev/reference/protobuf/proto2-spec/
 -- and https://protobuf.dev/reference/protobuf/proto3-spec/): which tokens say which tree. Each production
--- is one relation, whose lines are its line of EBNF; the rules beside the EBNF are conditions in it.
-use Rattle.std.specs.Prelude.{◌≡◌, ℕ, ℤ, pos, nat_le, List, [], ◌∷◌, Option, Some, None, Bool, cond, bytes_eq, codes}
-use Rattle.protobuf_parse_base.specs.Relations.{Rel, Nothing, Such, One, Either, Optional, Many, OneOrMore, At, somes, ◌>>=◌, ◌>>◌}
+-- is one relation, whose lines are its line of EBNF; the rules beside the EBNF are conditions in it. A
+-- production that contains itself is counted by levels, and the language has every number of them.
+use Rattle.std.specs.Prelude.{◌≤◌, ℕ, zero, suc, ℤ, pos, negsuc, nat_le, ◌&&◌, List, [], ◌∷◌, ◌++◌, length, slice_index, Option, Some, None, Bool, true, false, cond, bytes_eq, codes}
+use Rattle.std.specs.Str.{IsUtf8}
+use Rattle.protobuf_parse_base.specs.Relations.{Rel, Nothing, Such, Never, Level, One, Either, Many, OneOrMore, Separated, Unless, At, somes, ◌>>=◌, ◌>>◌}
+use Rattle.protobuf_parse_base.specs.Whole.{AtSomeDepth}
+use Rattle.protobuf_parse_base.specs.Paths.{IsProtoPath}
 use Rattle.protobuf_parse_syntax.specs.Text.{Bytes}
-use Rattle.protobuf_parse_syntax.specs.Tokens.{Lexeme, unquoted, DecodesAll}
-use Rattle.protobuf_parse_syntax.specs.Trees.{PiecesTree, FieldSyntax, BodySyntax, field, MessageSyntax, StatementSyntax, message, FileSyntax}
-use Rattle.protobuf_parse_syntax.specs.Classes.{sees, symbol, word, ident, is_ident}
+use Rattle.protobuf_parse_syntax.specs.Tokens.{Lexeme, DecodesAll, unquoted}
+use Rattle.protobuf_parse_syntax.specs.Trees as tree
+use Rattle.protobuf_parse_syntax.specs.Trees.{Pieces, ConstantNameSyntax, ConstantSyntax, ConstantFieldSyntax, OptionPartSyntax, OptionNameSyntax, OptionSyntax, OptionStatementSyntax, TypeSyntax, FieldStatementSyntax, RangeSyntax, ReservedSyntax, ReservedStatementSyntax, ExtensionsSyntax, OneofStatementSyntax, OneofSyntax, ExtendSyntax, EnumValueSyntax, EnumStatementSyntax, EnumSyntax, MessageStatementSyntax, MessageSyntax, MethodSyntax, ServiceStatementSyntax, ServiceSyntax, ImportSyntax, PackageSyntax, StatementSyntax, FileSyntax}
+use Rattle.protobuf_parse_syntax.specs.Classes.{Class, sees, symbol, word, ident, integer, text as string_token, is_ident, is_one_of, words}
 use Rattle.protobuf_parse_syntax.specs.declared.lexer.token.Place.{Place}
 use Rattle.protobuf_parse_syntax.specs.declared.lexer.token.TokenKind.{TokenKind}
 use Rattle.protobuf_parse_syntax.specs.declared.lexer.token.TokenKind.TheVariants as kind
 use Rattle.protobuf_parse_syntax.specs.declared.tree.Syntax.{Syntax}
 use Rattle.protobuf_parse_syntax.specs.declared.tree.Syntax.TheVariants.{Proto2, Proto3}
-use Rattle.protobuf_parse_syntax.specs.declared.tree.Label.{Label}
-use Rattle.protobuf_parse_syntax.specs.declared.tree.Label.TheVariants as label
-use Rattle.protobuf_parse_syntax.specs.declared.tree.Type.TheVariants as type
-use Rattle.protobuf_parse_syntax.specs.declared.tree.Scalar.{Scalar}
-use Rattle.protobuf_parse_syntax.specs.declared.tree.Scalar.TheVariants as scalar
+use Rattle.protobuf_parse_syntax.specs.declared.tree.ImportVis.{ImportVis}
+use Rattle.protobuf_parse_syntax.specs.declared.tree.ImportVis.TheVariants as vis
+use Rattle.protobuf_parse_syntax.specs.declared.tree.field.Label.{Label}
+use Rattle.protobuf_parse_syntax.specs.declared.tree.field.Label.TheVariants as label
+use Rattle.protobuf_parse_syntax.specs.declared.tree.field.Scalar.{Scalar}
+use Rattle.protobuf_parse_syntax.specs.declared.tree.field.Scalar.TheVariants as scalar
 
 -- ---- tokens
 
@@ -49,20 +55,39 @@ word_of table t = cond (is_ident t.kind) (lookup table t.text) None
 abbrev pub IsWordOf : {A : Type 0} → List (Bytes × A) → Rel Lexeme A
 IsWordOf table = One (word_of table)
 
--- an integer of at most 2147483647, as field numbers are
-abbrev pub number_at : TokenKind → Option ℤ
-number_at (kind.Integer n) = cond (nat_le n 2147483647) (Some (pos n)) None
+-- the words of a table
+abbrev pub table_words : {A : Type 0} → List (Bytes × A) → List Bytes
+table_words [] = []
+table_words (e ∷ es) = e.0 ∷ table_words es
+
+-- an integer
+abbrev pub number_at : TokenKind → Option ℕ
+number_at (kind.Integer n) = Some n
 number_at _ = None
 
-abbrev pub field_number : Lexeme → Option ℤ
-field_number t = number_at t.kind
+abbrev pub number : Lexeme → Option ℕ
+number t = number_at t.kind
 
-abbrev pub IsFieldNumber : Rel Lexeme ℤ
-IsFieldNumber = One field_number
+-- an integer of at most so much
+abbrev pub small_at : ℕ → TokenKind → Option ℕ
+small_at limit (kind.Integer n) = cond (nat_le n limit) (Some n) None
+small_at limit _ = None
 
--- ---- str = string token { string token }
+abbrev pub small_number : ℕ → Lexeme → Option ℕ
+small_number limit t = small_at limit t.kind
 
--- the text between the quotes of a string token
+abbrev pub IsNumber : Rel Lexeme ℕ
+IsNumber = One number
+
+abbrev pub IsNumberUpTo : ℕ → Rel Lexeme ℕ
+IsNumberUpTo limit = One (small_number limit)
+
+-- the number with a minus sign
+abbrev pub negative : ℕ → ℤ
+negative zero = pos 0
+negative (suc n) = negsuc n
+
+-- a string token, of which this is the text between the quotes
 abbrev pub piece_at : TokenKind → Bytes → Option Bytes
 piece_at kind.Str z = Some (unquoted z)
 piece_at _ z = None
@@ -74,42 +99,179 @@ string_piece t = piece_at t.kind t.text
 abbrev pub place_of : Lexeme → Place
 place_of t = t.place
 
-unfoldable pub IsStr : Rel Lexeme PiecesTree
-IsStr = At place_of λ place. do
-  pieces ← OneOrMore (One string_piece)
-  Nothing (record { place = place; pieces = pieces })
+-- ---- parts of productions
 
--- ---- syntax = "syntax" "=" str ";"
+-- a separator ","
+abbrev pub IsComma : Rel Lexeme (Unit {0})
+IsComma = IsSymbol 44
 
-unfoldable pub IsSyntax : Rel Lexeme PiecesTree
-IsSyntax = do
-  IsWord (codes "syntax")
+-- at most so many such parts
+abbrev pub AtMost : {A : Type 0} → ℕ → Rel Lexeme A → Rel Lexeme (List A)
+AtMost limit R ts items = Many R ts items × (length items ≤ limit)
+
+-- a statement, or nothing at a semicolon
+abbrev pub Item : {A : Type 0} → Rel Lexeme A → Rel Lexeme (Option A)
+Item R = Either (do IsSymbol 59; Nothing None) (do statement ← R; Nothing (Some statement))
+
+-- { ";" | statement }
+abbrev pub Statements : {A : Type 0} → Rel Lexeme A → Rel Lexeme (List A)
+Statements R = do
+  items ← Many (Item R)
+  Nothing (somes items)
+
+-- "{" { ";" | statement } "}"
+abbrev pub Braced : {A : Type 0} → Rel Lexeme A → Rel Lexeme (List A)
+Braced R = do
+  IsSymbol 123
+  statements ← Statements R
+  IsSymbol 125
+  Nothing statements
+
+-- ---- str = string token { string token }
+
+unfoldable pub IsStr : Rel Lexeme Pieces
+IsStr = OneOrMore (One string_piece)
+
+-- the text that a string stands for
+abbrev pub StandsFor : Pieces → Bytes → Type 0
+StandsFor pieces text = DecodesAll pieces text × IsUtf8 text
+
+-- ---- ident { "." ident }, and name = [ "." ] ident { "." ident }
+
+abbrev pub dots : List Bytes → Bytes
+dots [] = []
+dots (part ∷ parts) = 46 ∷ part ++ dots parts
+
+unfoldable pub IsDotted : Rel Lexeme Bytes
+IsDotted = do
+  first ← IsIdent
+  others ← Many (do IsSymbol 46; IsIdent)
+  Nothing (first ++ dots others)
+
+unfoldable pub IsRoot : Rel Lexeme Bytes
+IsRoot = Either (do IsSymbol 46; Nothing (46 ∷ [])) (Nothing [])
+
+unfoldable pub IsName : Rel Lexeme Bytes
+IsName = do
+  root ← IsRoot
+  dotted ← IsDotted
+  Nothing (root ++ dotted)
+
+-- ---- constant = msgconst | list | "true" | "false" | [ "+" | "-" ] int | str | ident { "." ident }
+
+abbrev pub truth_words : List Bytes
+truth_words = codes "true" ∷ codes "false" ∷ []
+
+-- `-u` is an integer for u up to 9223372036854775808.
+unfoldable pub IsInteger : Rel Lexeme ℤ
+IsInteger = Either (do n ← IsNumber; Nothing (pos n)) (Either (do IsSymbol 43; n ← IsNumber; Nothing (pos n)) (do IsSymbol 45; n ← IsNumberUpTo 9223372036854775808; Nothing (negative n)))
+
+-- cname = ident | "[" name "]" | "[" name "/" name "]"
+unfoldable pub AfterSlash : Bytes → Rel Lexeme ConstantNameSyntax
+AfterSlash name = Either (do IsSymbol 47; rest ← IsName; Nothing (tree.url_name (name ++ 47 ∷ rest))) (Nothing (tree.extension_name name))
+
+unfoldable pub IsBracketedName : Rel Lexeme ConstantNameSyntax
+IsBracketedName = do
+  IsSymbol 91
+  first ← IsName
+  name ← AfterSlash first
+  IsSymbol 93
+  Nothing name
+
+unfoldable pub IsConstantName : Rel Lexeme ConstantNameSyntax
+IsConstantName = Either (do name ← IsIdent; Nothing (tree.regular_name name)) IsBracketedName
+
+-- no more, or "," or ";"
+unfoldable pub IsFieldEnd : Rel Lexeme (Unit {0})
+IsFieldEnd = Either (IsSymbol 44) (Either (IsSymbol 59) (Nothing tt))
+
+-- with what a constant begins, if it is no message constant
+abbrev pub other_constants : List Class
+other_constants = symbol 91 ∷ ident [] ∷ integer ∷ symbol 43 ∷ symbol 45 ∷ string_token ∷ []
+
+-- cname ( ":" constant | msgconst ) [ "," | ";" ], with the constants inside by C
+unfoldable pub ConstantFieldOf : Rel Lexeme ConstantSyntax → Rel Lexeme ConstantFieldSyntax
+ConstantFieldOf C = do
+  name ← IsConstantName
+  value ← Either (do IsSymbol 58; C) (Unless (is_one_of other_constants) C)
+  IsFieldEnd
+  Nothing (record { name = name; value = value })
+
+-- msgconst = "{" { cname ( ":" constant | msgconst ) [ "," | ";" ] } "}"
+unfoldable pub MessageConstantOf : Rel Lexeme ConstantSyntax → Rel Lexeme ConstantSyntax
+MessageConstantOf C = do
+  IsSymbol 123
+  fields ← Many (ConstantFieldOf C)
+  IsSymbol 125
+  Nothing (tree.fields (tree.constant_fields fields))
+
+-- list = "[" "]" | "[" constant { "," constant } "]"
+unfoldable pub ListOf : Rel Lexeme ConstantSyntax → Rel Lexeme ConstantSyntax
+ListOf C = do
+  IsSymbol 91
+  items ← Either (Separated IsComma C) (Nothing [])
+  IsSymbol 93
+  Nothing (tree.list (tree.constants items))
+
+-- A constant that begins with `true` or `false` is that truth value.
+unfoldable pub IsWordConstant : Rel Lexeme ConstantSyntax
+IsWordConstant =
+    Either (do IsWord (codes "true"); Nothing (tree.truth true))
+    (Either (do IsWord (codes "false"); Nothing (tree.truth false))
+    (do name ← Unless (is_one_of (words truth_words)) IsDotted; Nothing (tree.dotted name)))
+
+unfoldable pub ConstantOf : Rel Lexeme ConstantSyntax → Rel Lexeme ConstantSyntax
+ConstantOf C =
+    Either (MessageConstantOf C)
+    (Either (ListOf C)
+    (Either IsWordConstant
+    (Either (do n ← IsInteger; Nothing (tree.integer n))
+    (do s ← IsStr; Nothing (tree.string s)))))
+
+-- of at most so many levels
+abbrev pub IsConstant : ℕ → Rel Lexeme ConstantSyntax
+IsConstant = Level (λ n. ConstantOf)
+
+-- ---- option = "option" optname "=" constant ";"
+
+-- optpart = ident | "(" name ")"
+unfoldable pub IsOptionPart : Rel Lexeme OptionPartSyntax
+IsOptionPart = Either (do name ← IsIdent; Nothing (tree.direct name)) (do IsSymbol 40; name ← IsName; IsSymbol 41; Nothing (tree.extension name))
+
+-- An option name of one plain part is built in, any other is custom.
+abbrev pub option_name : OptionPartSyntax → List OptionPartSyntax → OptionNameSyntax
+option_name (tree.direct name) [] = tree.builtin name
+option_name part parts = tree.custom (part ∷ parts)
+
+unfoldable pub IsNextPart : Rel Lexeme OptionPartSyntax
+IsNextPart = do IsSymbol 46; IsOptionPart
+
+-- optname = optpart { "." optpart }, of at most 100 parts
+unfoldable pub IsOptionName : Rel Lexeme OptionNameSyntax
+IsOptionName = do
+  first ← IsOptionPart
+  others ← AtMost 99 IsNextPart
+  Nothing (option_name first others)
+
+unfoldable pub IsAssignment : ℕ → Rel Lexeme OptionSyntax
+IsAssignment n = do
+  name ← IsOptionName
   IsSymbol 61
-  text ← IsStr
+  value ← IsConstant n
+  Nothing (record { name = name; value = value })
+
+unfoldable pub IsOption : ℕ → Rel Lexeme OptionStatementSyntax
+IsOption n = At place_of λ place. do
+  IsWord (codes "option")
+  option ← IsAssignment n
   IsSymbol 59
-  Nothing text
+  Nothing (record { place = place; option = option })
 
-abbrev pub name_of : Syntax → Bytes
-name_of Proto2 = codes "proto2"
-name_of Proto3 = codes "proto3"
+-- [ options ], options = "[" optname "=" constant { "," optname "=" constant } "]"
+unfoldable pub AreOptions : ℕ → Rel Lexeme (List OptionSyntax)
+AreOptions n = Either (do IsSymbol 91; options ← Separated IsComma (IsAssignment n); IsSymbol 93; Nothing options) (Nothing [])
 
--- The decoded text of `syntax` is `proto2` or `proto3`. Without the statement the file is proto2.
-abbrev pub Says : Option PiecesTree → Syntax → Type 0
-Says None syntax = syntax ≡ Proto2
-Says (Some text) syntax = DecodesAll text.pieces (name_of syntax)
-
--- ---- field = [ label ] scalar ident "=" int ";"
-
-abbrev pub labels : List (Bytes × Label)
-labels = (codes "optional", label.Optional) ∷ (codes "required", label.Required) ∷ (codes "repeated", label.Repeated) ∷ []
-
-abbrev pub proto3_labels : List (Bytes × Label)
-proto3_labels = (codes "repeated", label.Repeated) ∷ []
-
--- In proto2 each field has a label, in proto3 it may have `repeated` and no other.
-unfoldable pub IsLabel : Syntax → Rel Lexeme (Option Label)
-IsLabel Proto2 = do l ← IsWordOf labels; Nothing (Some l)
-IsLabel Proto3 = Optional (IsWordOf proto3_labels)
+-- ---- type = scalar | "map" "<" type "," type ">" | name
 
 abbrev pub scalars : List (Bytes × Scalar)
 scalars =
@@ -117,46 +279,346 @@ scalars =
     ∷ (codes "sint64", scalar.Sint64) ∷ (codes "fixed32", scalar.Fixed32) ∷ (codes "sfixed32", scalar.Sfixed32) ∷ (codes "fixed64", scalar.Fixed64) ∷ (codes "sfixed64", scalar.Sfixed64)
     ∷ (codes "bool", scalar.Bool) ∷ (codes "string", scalar.String) ∷ (codes "bytes", scalar.Bytes) ∷ (codes "float", scalar.Float) ∷ (codes "double", scalar.Double) ∷ []
 
-unfoldable pub IsField : Syntax → Rel Lexeme FieldSyntax
-IsField syntax = At place_of λ place. do
-  label ← IsLabel syntax
-  scalar ← IsWordOf scalars
+unfoldable pub MapOf : Rel Lexeme TypeSyntax → Rel Lexeme TypeSyntax
+MapOf T = do
+  IsWord (codes "map")
+  IsSymbol 60
+  key ← T
+  IsComma
+  value ← T
+  IsSymbol 62
+  Nothing (tree.map_of key value)
+
+-- A type that begins with a scalar word or `map` is that scalar or a map. With the types inside by T.
+unfoldable pub TypeOf : Rel Lexeme TypeSyntax → Rel Lexeme TypeSyntax
+TypeOf T =
+    Either (do s ← IsWordOf scalars; Nothing (tree.scalar s))
+    (Either (MapOf T)
+    (do name ← Unless (is_one_of (words (codes "map" ∷ table_words scalars))) IsName; Nothing (tree.named name)))
+
+-- of at most so many levels
+abbrev pub IsType : ℕ → Rel Lexeme TypeSyntax
+IsType = Level (λ n. TypeOf)
+
+-- ---- field = [ label ] type ident "=" int [ options ] ";"
+-- ----       | [ label ] "group" ident "=" int "{" { ";" | field } "}"
+
+abbrev pub labels : List (Bytes × Label)
+labels = (codes "optional", label.Optional) ∷ (codes "required", label.Required) ∷ (codes "repeated", label.Repeated) ∷ []
+
+-- In proto3 the label `required` is refused.
+abbrev pub labels3 : List (Bytes × Label)
+labels3 = (codes "optional", label.Optional) ∷ (codes "repeated", label.Repeated) ∷ []
+
+-- with these words no field begins
+abbrev pub statement_words : List Bytes
+statement_words = codes "reserved" ∷ codes "oneof" ∷ codes "extend" ∷ codes "message" ∷ codes "enum" ∷ codes "extensions" ∷ codes "option" ∷ []
+
+-- a number of at most 2147483647
+unfoldable pub IsFieldNumber : Rel Lexeme ℤ
+IsFieldNumber = do n ← IsNumberUpTo 2147483647; Nothing (pos n)
+
+-- a group's name begins with an ASCII capital
+abbrev pub is_capital : ℕ → Bool
+is_capital c = nat_le 65 c && nat_le c 90
+
+abbrev pub capital_ident : Lexeme → Option Bytes
+capital_ident t = cond (is_capital (slice_index t.text 0)) (any_ident t) None
+
+-- a field of such a type
+unfoldable pub PlainFieldOf : ℕ → Rel Lexeme TypeSyntax → Place → Option Label → Rel Lexeme FieldStatementSyntax
+PlainFieldOf n T place label = do
+  type_ ← T
   name ← IsIdent
   IsSymbol 61
   number ← IsFieldNumber
+  options ← AreOptions n
   IsSymbol 59
-  Nothing (record { place = place; label = label; type_ = type.Scalar scalar; name = name; number = number })
+  Nothing (tree.field (record { place = place; label = label; type_ = type_; name = name; number = number; options = options }))
 
--- ---- message = "message" ident "{" { ";" | field } "}"
+-- a group, with the fields inside by F
+unfoldable pub GroupOf : Rel Lexeme FieldStatementSyntax → Place → Option Label → Rel Lexeme FieldStatementSyntax
+GroupOf F place label = do
+  IsWord (codes "group")
+  name ← One capital_ident
+  IsSymbol 61
+  number ← IsFieldNumber
+  fields ← Braced F
+  Nothing (tree.group_of (record { place = place; label = label; name = name; number = number; fields = fields }))
 
-unfoldable pub IsBodyItem : Syntax → Rel Lexeme (Option BodySyntax)
-IsBodyItem syntax = Either (do IsSymbol 59; Nothing None) (do f ← IsField syntax; Nothing (Some (field f)))
+-- After the optional label the word `group` begins a group.
+unfoldable pub AfterLabel : ℕ → Rel Lexeme FieldStatementSyntax → Place → Option Label → Rel Lexeme FieldStatementSyntax
+AfterLabel n F place label = Either (GroupOf F place label) (PlainFieldOf n (Unless (is_one_of (words (codes "group" ∷ []))) (IsType n)) place label)
 
-unfoldable pub IsBody : Syntax → Rel Lexeme (List BodySyntax)
-IsBody syntax = do items ← Many (IsBodyItem syntax); Nothing (somes items)
+-- A field of a message, a group or an `extend`. A label word that begins a field is its label. In proto2
+-- every field has a label, unless it begins with `map`.
+unfoldable pub FieldOf : Syntax → ℕ → Rel Lexeme FieldStatementSyntax → Rel Lexeme FieldStatementSyntax
+FieldOf Proto2 n F = At place_of λ place.
+    Either (do l ← IsWordOf labels; AfterLabel (suc n) F place (Some l))
+    (PlainFieldOf (suc n) (MapOf (IsType n)) place None)
+FieldOf Proto3 n F = At place_of λ place.
+    Either (do l ← IsWordOf labels3; AfterLabel (suc n) F place (Some l))
+    (Unless (is_one_of (words (table_words labels ++ statement_words))) (AfterLabel (suc n) F place None))
 
-unfoldable pub IsMessage : Syntax → Rel Lexeme MessageSyntax
-IsMessage syntax = At place_of λ place. do
-  IsWord (codes "message")
+-- of at most so many levels
+abbrev pub IsField : Syntax → ℕ → Rel Lexeme FieldStatementSyntax
+IsField syntax = Level (FieldOf syntax)
+
+-- ---- oneof = "oneof" ident "{" { ";" | option | field } "}"
+
+-- Directly in a oneof no label stands, and no field begins with `map`. The body of a group is that of any other.
+unfoldable pub IsOneofField : Syntax → ℕ → Rel Lexeme FieldStatementSyntax
+IsOneofField syntax n = At place_of λ place.
+    Unless (is_one_of (words (codes "map" ∷ table_words labels ++ statement_words))) (AfterLabel n (IsField syntax n) place None)
+
+unfoldable pub IsOneofStatement : Syntax → ℕ → Rel Lexeme OneofStatementSyntax
+IsOneofStatement syntax n = Either (do o ← IsOption n; Nothing (tree.oneof_option o)) (do f ← IsOneofField syntax n; Nothing (tree.oneof_field f))
+
+unfoldable pub IsOneof : Syntax → ℕ → Rel Lexeme OneofSyntax
+IsOneof syntax n = At place_of λ place. do
+  IsWord (codes "oneof")
   name ← IsIdent
-  IsSymbol 123
-  body ← IsBody syntax
-  IsSymbol 125
+  body ← Braced (IsOneofStatement syntax n)
   Nothing (record { place = place; name = name; body = body })
 
--- ---- file = [ syntax ] { message | ";" }
+-- ---- extend = "extend" name "{" { ";" | field } "}"
 
-unfoldable pub IsFileItem : Syntax → Rel Lexeme (Option StatementSyntax)
-IsFileItem syntax = Either (do IsSymbol 59; Nothing None) (do m ← IsMessage syntax; Nothing (Some (message m)))
+unfoldable pub IsExtend : Syntax → ℕ → Rel Lexeme ExtendSyntax
+IsExtend syntax n = At place_of λ place. do
+  IsWord (codes "extend")
+  extendee ← IsName
+  fields ← Braced (IsField syntax n)
+  Nothing (record { place = place; extendee = extendee; fields = fields })
 
-unfoldable pub AreStatements : Syntax → Rel Lexeme (List StatementSyntax)
-AreStatements syntax = do items ← Many (IsFileItem syntax); Nothing (somes items)
+-- ---- range = int [ "to" ( int | "max" ) ]
 
-unfoldable pub IsFileIn : Syntax → Rel Lexeme FileSyntax
-IsFileIn syntax = do statements ← AreStatements syntax; Nothing (record { syntax = syntax; statements = statements })
+-- Range ends are at most 2147483647; `max` is 536870911; the first may be above the last.
+unfoldable pub IsRangeEnd : ℤ → Rel Lexeme ℤ
+IsRangeEnd from = Either (do IsWord (codes "to"); Either IsFieldNumber (do IsWord (codes "max"); Nothing (pos 536870911))) (Nothing from)
 
-unfoldable pub IsFile : Rel Lexeme FileSyntax
-IsFile = do
-  text ← Optional IsSyntax
-  syntax ← Such (Says text)
-  IsFileIn syntax
+unfoldable pub IsRange : Rel Lexeme RangeSyntax
+IsRange = do
+  from ← IsFieldNumber
+  to ← IsRangeEnd from
+  Nothing (record { from = from; to = to })
+
+-- ---- reserved = "reserved" ( str { "," str } | range { "," range } ) ";"
+
+-- Each reserved name decodes to a text.
+unfoldable pub IsReservedName : Rel Lexeme Bytes
+IsReservedName = do
+  pieces ← IsStr
+  text ← Such (StandsFor pieces)
+  Nothing text
+
+unfoldable pub AreReserved : Rel Lexeme ReservedSyntax
+AreReserved = Either (do names ← Separated IsComma IsReservedName; Nothing (tree.reserved_names names)) (do ranges ← Separated IsComma IsRange; Nothing (tree.reserved_ranges ranges))
+
+unfoldable pub IsReserved : Rel Lexeme ReservedStatementSyntax
+IsReserved = At place_of λ place. do
+  IsWord (codes "reserved")
+  reserved ← AreReserved
+  IsSymbol 59
+  Nothing (record { place = place; reserved = reserved })
+
+-- ---- extensions = "extensions" range { "," range }
+
+unfoldable pub IsExtensions : Rel Lexeme ExtensionsSyntax
+IsExtensions = At place_of λ place. do
+  IsWord (codes "extensions")
+  ranges ← Separated IsComma IsRange
+  Nothing (record { place = place; ranges = ranges })
+
+-- ---- enum = "enum" ident "{" { ";" | reserved | option | value } "}"
+
+-- from -2147483648 to 2147483647
+unfoldable pub IsEnumNumber : Rel Lexeme ℤ
+IsEnumNumber = Either IsFieldNumber (do IsSymbol 45; n ← IsNumberUpTo 2147483648; Nothing (negative n))
+
+-- value = ident "=" [ "-" ] int [ options ]. An enum value doesn't begin with `reserved` or `option`.
+unfoldable pub IsEnumValue : ℕ → Rel Lexeme EnumValueSyntax
+IsEnumValue n = At place_of λ place. do
+  name ← Unless (is_one_of (words (codes "reserved" ∷ codes "option" ∷ []))) IsIdent
+  IsSymbol 61
+  number ← IsEnumNumber
+  options ← AreOptions n
+  Nothing (record { place = place; name = name; number = number; options = options })
+
+unfoldable pub IsEnumStatement : ℕ → Rel Lexeme EnumStatementSyntax
+IsEnumStatement n =
+    Either (do r ← IsReserved; Nothing (tree.enum_reserved r))
+    (Either (do o ← IsOption n; Nothing (tree.enum_option o))
+    (do v ← IsEnumValue n; Nothing (tree.enum_value v)))
+
+unfoldable pub IsEnum : ℕ → Rel Lexeme EnumSyntax
+IsEnum n = At place_of λ place. do
+  IsWord (codes "enum")
+  name ← IsIdent
+  body ← Braced (IsEnumStatement n)
+  Nothing (record { place = place; name = name; body = body })
+
+-- ---- message = "message" ident "{" { ";" | reserved | oneof | extend | message
+-- ----           | enum | extensions | option | field } "}"
+
+-- `extensions` stands in proto2 files only.
+unfoldable pub IsExtensionsIn : Syntax → Rel Lexeme ExtensionsSyntax
+IsExtensionsIn Proto2 = IsExtensions
+IsExtensionsIn Proto3 = Never
+
+-- with the messages inside by M
+unfoldable pub MessageStatementOf : Syntax → ℕ → Rel Lexeme MessageSyntax → Rel Lexeme MessageStatementSyntax
+MessageStatementOf syntax n M =
+    Either (do r ← IsReserved; Nothing (tree.message_reserved r))
+    (Either (do o ← IsOneof syntax n; Nothing (tree.message_oneof o))
+    (Either (do e ← IsExtend syntax n; Nothing (tree.message_extend e))
+    (Either (do m ← M; Nothing (tree.nested_message m))
+    (Either (do e ← IsEnum n; Nothing (tree.message_enum e))
+    (Either (do e ← IsExtensionsIn syntax; Nothing (tree.message_extensions e))
+    (Either (do o ← IsOption n; Nothing (tree.message_option o))
+    (do f ← IsField syntax n; Nothing (tree.message_field f))))))))
+
+unfoldable pub MessageOf : Syntax → ℕ → Rel Lexeme MessageSyntax → Rel Lexeme MessageSyntax
+MessageOf syntax n M = At place_of λ place. do
+  IsWord (codes "message")
+  name ← IsIdent
+  body ← Braced (MessageStatementOf syntax n M)
+  Nothing (record { place = place; name = name; body = body })
+
+-- of at most so many levels
+abbrev pub IsMessage : Syntax → ℕ → Rel Lexeme MessageSyntax
+IsMessage syntax = Level (MessageOf syntax)
+
+-- ---- service = "service" ident "{" { rpc | stream | option | ";" } "}"
+
+-- end = ";" | "{" { option | ";" } "}"
+unfoldable pub IsMethodEnd : ℕ → Rel Lexeme (List OptionStatementSyntax)
+IsMethodEnd n = Either (do IsSymbol 59; Nothing []) (Braced (IsOption n))
+
+-- "(" [ "stream" ] name ")". The word `stream` after the bracket is always the keyword.
+unfoldable pub IsStreamed : Rel Lexeme (Bool × Bytes)
+IsStreamed = do
+  IsSymbol 40
+  type_ ← Either (do IsWord (codes "stream"); name ← IsName; Nothing (true, name)) (do name ← Unless (is_one_of (words (codes "stream" ∷ []))) IsName; Nothing (false, name))
+  IsSymbol 41
+  Nothing type_
+
+-- rpc = "rpc" ident "(" [ "stream" ] name ")" "returns" "(" [ "stream" ] name ")" end
+unfoldable pub IsRpc : ℕ → Rel Lexeme MethodSyntax
+IsRpc n = At place_of λ place. do
+  IsWord (codes "rpc")
+  name ← IsIdent
+  input ← IsStreamed
+  IsWord (codes "returns")
+  output ← IsStreamed
+  options ← IsMethodEnd n
+  Nothing (record { place = place; name = name; input = input.1; output = output.1; client_streaming = input.0; server_streaming = output.0; options = options })
+
+-- stream = "stream" ident "(" name "," name ")" end. It sets both.
+unfoldable pub IsStream : ℕ → Rel Lexeme MethodSyntax
+IsStream n = At place_of λ place. do
+  IsWord (codes "stream")
+  name ← IsIdent
+  IsSymbol 40
+  input ← IsName
+  IsComma
+  output ← IsName
+  IsSymbol 41
+  options ← IsMethodEnd n
+  Nothing (record { place = place; name = name; input = input; output = output; client_streaming = true; server_streaming = true; options = options })
+
+-- `stream`, as a statement, stands in proto2 files only.
+unfoldable pub IsStreamIn : Syntax → ℕ → Rel Lexeme MethodSyntax
+IsStreamIn Proto2 n = IsStream n
+IsStreamIn Proto3 n = Never
+
+unfoldable pub IsServiceStatement : Syntax → ℕ → Rel Lexeme ServiceStatementSyntax
+IsServiceStatement syntax n =
+    Either (do m ← IsRpc n; Nothing (tree.service_method m))
+    (Either (do m ← IsStreamIn syntax n; Nothing (tree.service_method m))
+    (do o ← IsOption n; Nothing (tree.service_option o)))
+
+unfoldable pub IsService : Syntax → ℕ → Rel Lexeme ServiceSyntax
+IsService syntax n = At place_of λ place. do
+  IsWord (codes "service")
+  name ← IsIdent
+  body ← Braced (IsServiceStatement syntax n)
+  Nothing (record { place = place; name = name; body = body })
+
+-- ---- syntax = "syntax" "=" str ";"
+
+abbrev pub name_of : Syntax → Bytes
+name_of Proto2 = codes "proto2"
+name_of Proto3 = codes "proto3"
+
+-- The decoded text of `syntax` is `proto2` or `proto3`.
+abbrev pub SaysVersion : Pieces → Syntax → Type 0
+SaysVersion pieces syntax = DecodesAll pieces (name_of syntax)
+
+unfoldable pub IsVersion : Rel Lexeme Syntax
+IsVersion = do
+  pieces ← IsStr
+  syntax ← Such (SaysVersion pieces)
+  Nothing syntax
+
+unfoldable pub IsSyntax : Rel Lexeme Syntax
+IsSyntax = do
+  IsWord (codes "syntax")
+  IsSymbol 61
+  syntax ← IsVersion
+  IsSymbol 59
+  Nothing syntax
+
+-- ---- import = "import" [ "weak" | "public" ] str ";"
+
+unfoldable pub IsVisibility : Rel Lexeme ImportVis
+IsVisibility = Either (do IsWord (codes "weak"); Nothing vis.Weak) (Either (do IsWord (codes "public"); Nothing vis.Public) (Nothing vis.Default))
+
+-- The decoded text of `import` is a proto path.
+abbrev pub SaysPath : Pieces → Bytes → Type 0
+SaysPath pieces path = StandsFor pieces path × IsProtoPath path
+
+unfoldable pub IsPath : Rel Lexeme Bytes
+IsPath = do
+  pieces ← IsStr
+  path ← Such (SaysPath pieces)
+  Nothing path
+
+unfoldable pub IsImport : Rel Lexeme ImportSyntax
+IsImport = At place_of λ place. do
+  IsWord (codes "import")
+  vis ← IsVisibility
+  path ← IsPath
+  IsSymbol 59
+  Nothing (record { place = place; vis = vis; path = path })
+
+-- ---- package = "package" ident { "." ident } ";"
+
+unfoldable pub IsPackage : Rel Lexeme PackageSyntax
+IsPackage = At place_of λ place. do
+  IsWord (codes "package")
+  name ← IsDotted
+  IsSymbol 59
+  Nothing (record { place = place; name = name })
+
+-- ---- file = [ syntax ] { import | package | option | message | enum | extend | service | ";" }
+
+unfoldable pub IsFileStatement : Syntax → ℕ → Rel Lexeme StatementSyntax
+IsFileStatement syntax n =
+    Either (do i ← IsImport; Nothing (tree.file_import i))
+    (Either (do p ← IsPackage; Nothing (tree.file_package p))
+    (Either (do o ← IsOption n; Nothing (tree.file_option o))
+    (Either (do m ← IsMessage syntax n; Nothing (tree.file_message m))
+    (Either (do e ← IsEnum n; Nothing (tree.file_enum e))
+    (Either (do e ← IsExtend syntax n; Nothing (tree.file_extend e))
+    (do s ← IsService syntax n; Nothing (tree.file_service s)))))))
+
+-- Without the `syntax` statement the file is proto2. Of at most so many levels.
+unfoldable pub IsFileOf : ℕ → Rel Lexeme FileSyntax
+IsFileOf n = do
+  syntax ← Either IsSyntax (Nothing Proto2)
+  statements ← Statements (IsFileStatement syntax n)
+  Nothing (record { syntax = syntax; statements = statements })
+
+-- a file, however deep its parts nest
+abbrev pub IsFile : Rel Lexeme FileSyntax
+IsFile = AtSomeDepth IsFileOf

@@ -1,11 +1,13 @@
 -- What is promised of a file's tokens, and of its text.
-use Rattle.std.specs.Prelude.{◌≡◌, ◌<◌, ◌⊎◌, List, ◌∷◌, ◌++◌, Result, MatchResult}
+use Rattle.std.specs.Prelude.{◌≡◌, ◌<◌, ◌⊎◌, List, [], ◌∷◌, ◌++◌, true, Result, MatchResult}
 use Rattle.std.specs.Str.{IsUtf8}
+use Rattle.protobuf_parse_base.specs.Paths.{IsProtoPath}
 use Rattle.protobuf_parse_base.specs.Whole.{StopsAt}
 use Rattle.protobuf_parse_syntax.specs.Text.{Bytes}
 use Rattle.protobuf_parse_syntax.specs.Tokens.{Lexeme, DecodesAll}
 use Rattle.protobuf_parse_syntax.specs.Cut.{Stream, HasTokens, IsRefused, out_of_memory, located}
-use Rattle.protobuf_parse_syntax.specs.Trees.{PiecesTree, FileSyntax}
+use Rattle.protobuf_parse_syntax.specs.Trees.{Pieces, FileSyntax}
+use Rattle.protobuf_parse_syntax.specs.Classes.{symbol, ident, float, is_one_of, is_floating}
 use Rattle.protobuf_parse_syntax.specs.Grammar.{IsStr, IsFile, name_of, place_of}
 use Rattle.protobuf_parse_syntax.specs.declared.error.ParserError.{ParserError}
 use Rattle.protobuf_parse_syntax.specs.declared.error.ParserError.TheVariants as error
@@ -20,47 +22,69 @@ use Rattle.protobuf_parse_syntax.specs.declared.tree.Syntax.{Syntax}
 abbrev pub NoTree : List Lexeme → Type 0
 NoTree ts = (t : FileSyntax) → IsFile ts t → ⊥
 
--- an integer of over 2147483647
-abbrev pub IsLarge : TokenKind → Type 0
-IsLarge (kind.Integer n) = 2147483647 < n
-IsLarge _ = ⊥
-
--- such an integer stands at the place
-pub record LargeAt (ts : List Lexeme) (place : Place) : Type 0 where
+-- a token at the place, of which, with what stands before and behind it, P holds
+pub record StandsAt (P : List Lexeme → Lexeme → List Lexeme → Type 0) (ts : List Lexeme) (place : Place) : Type 0 where
   pub front : List Lexeme
   pub token : Lexeme
   pub back : List Lexeme
   pub parts : ts ≡ front ++ token ∷ back
   pub at : place ≡ token.place
-  pub large : IsLarge token.kind
+  pub is : P front token back
 
--- why neighbouring strings say no version: they decode to none, or to no text at all
-abbrev pub SaysNothing : PiecesTree → ParserError → Type 0
-SaysNothing text error.UnknownSyntax = (syntax : Syntax) → DecodesAll text.pieces (name_of syntax) → ⊥
-SaysNothing text error.StrLitDecode = (v : Bytes) → DecodesAll text.pieces v → IsUtf8 v → ⊥
-SaysNothing text _ = ⊥
+-- an integer of over 2147483647
+abbrev pub IsLarge : TokenKind → Type 0
+IsLarge (kind.Integer n) = 2147483647 < n
+IsLarge _ = ⊥
 
--- such strings begin at the place
-pub record WrongAt (ts : List Lexeme) (place : Place) (e : ParserError) : Type 0 where
-  pub front : List Lexeme
+abbrev pub LargeToken : List Lexeme → Lexeme → List Lexeme → Type 0
+LargeToken front t back = IsLarge t.kind
+
+-- the first token of a part of an option's name, directly behind a dot
+abbrev pub NextPart : List Lexeme → Lexeme → List Lexeme → Type 0
+NextPart front t back = (before : List Lexeme) × (dot : Lexeme) × (front ≡ before ++ dot ∷ []) × (is_one_of (symbol 46 ∷ []) dot ≡ true) × (is_one_of (ident [] ∷ symbol 40 ∷ []) t ≡ true)
+
+-- a float; or a sign, and a float, `inf` or `nan` behind it
+abbrev pub Floats : List Lexeme → Lexeme → List Lexeme → Type 0
+Floats front t [] = is_one_of (float ∷ []) t ≡ true
+Floats front t (u ∷ back) = (is_one_of (float ∷ []) t ≡ true) ⊎ ((is_one_of (symbol 43 ∷ symbol 45 ∷ []) t ≡ true) × (is_floating u ≡ true))
+
+-- Why neighbouring strings say nothing that may stand there: they decode to no version (S10), to no text at all
+-- (S15), or to no proto path (S19).
+abbrev pub SaysNothing : Pieces → ParserError → Type 0
+SaysNothing pieces error.UnknownSyntax = (syntax : Syntax) → DecodesAll pieces (name_of syntax) → ⊥
+SaysNothing pieces error.StrLitDecode = (v : Bytes) → DecodesAll pieces v → IsUtf8 v → ⊥
+SaysNothing pieces (error.BadImportPath e) = (v : Bytes) → DecodesAll pieces v → IsProtoPath v → ⊥
+SaysNothing pieces _ = ⊥
+
+-- strings that say nothing begin with the token
+pub record WrongStrings (e : ParserError) (front : List Lexeme) (t : Lexeme) (back : List Lexeme) : Type 0 where
   pub strings : List Lexeme
-  pub back : List Lexeme
-  pub text : PiecesTree
-  pub parts : ts ≡ front ++ strings ++ back
-  pub is : IsStr strings text
-  pub at : place ≡ text.place
-  pub says : SaysNothing text e
+  pub others : List Lexeme
+  pub pieces : Pieces
+  pub parts : t ∷ back ≡ strings ++ others
+  pub is : IsStr strings pieces
+  pub says : SaysNothing pieces e
 
--- What a fault of the grammar at a place says of the tokens, which end at `last`. S8, S11, S12 and S5: no
--- list of tokens that begins with those up to and with the one at the place has a tree; at S5 that token is an
--- integer that is too large. S10 and S15: there is no tree, and strings that begin there say no version.
+-- What a fault of the grammar at a place says of the tokens, which end at `last`.
+--
+-- S5, S8, S9, S11 to S14, S16, S17: no list of tokens that begins with those up to and with the one at the place
+-- has a tree, or none has that ends there; at S5 that token is an integer that is too large. S7, S10, S15, S18,
+-- S19: there is no tree, and the token of the fault stands at the place.
 abbrev pub IsFault : List Lexeme → Place → ParserError → Place → Type 0
 IsFault ts last error.IncorrectInput place = StopsAt place_of IsFile ts last place
+IsFault ts last error.ExpectConstant place = StopsAt place_of IsFile ts last place
 IsFault ts last error.LabelNotAllowed place = StopsAt place_of IsFile ts last place
 IsFault ts last error.LabelRequired place = StopsAt place_of IsFile ts last place
-IsFault ts last error.IntegerOverflow place = StopsAt place_of IsFile ts last place × LargeAt ts place
-IsFault ts last error.UnknownSyntax place = NoTree ts × WrongAt ts place error.UnknownSyntax
-IsFault ts last error.StrLitDecode place = NoTree ts × WrongAt ts place error.StrLitDecode
+IsFault ts last error.GroupNameShouldStartWithUpperCase place = StopsAt place_of IsFile ts last place
+IsFault ts last error.MapFieldNotAllowed place = StopsAt place_of IsFile ts last place
+IsFault ts last error.OneOfInGroup place = StopsAt place_of IsFile ts last place
+IsFault ts last error.OnlyFieldsInGroup place = StopsAt place_of IsFile ts last place
+IsFault ts last error.IntegerOverflow place = StopsAt place_of IsFile ts last place × StandsAt LargeToken ts place
+IsFault ts last error.OptionNameTooLong place = NoTree ts × StandsAt NextPart ts place
+IsFault ts last error.FloatConstant place = NoTree ts × StandsAt Floats ts place
+IsFault ts last error.UnknownSyntax place = NoTree ts × StandsAt (WrongStrings error.UnknownSyntax) ts place
+IsFault ts last error.StrLitDecode place = NoTree ts × StandsAt (WrongStrings error.StrLitDecode) ts place
+IsFault ts last (error.BadImportPath e) place = NoTree ts × StandsAt (WrongStrings (error.BadImportPath e)) ts place
 IsFault ts last _ place = ⊥
 
 -- ---- texts

@@ -1,19 +1,27 @@
--- A reader for each production of the grammar.
-use Rattle.std.proofs.Common.{◌≡◌, ℕ, ℤ, List, [], ◌∷◌, Some, None, Bool, true, false, ◌||◌, cond, bytes_eq, codes, refl, ap}
-use Rattle.protobuf_parse_base.specs.Relations.{Rel, Then, One, Optional, OneOrMore, somes}
-use Rattle.protobuf_parse_base.specs.Readers.{Rest, read, bind, run_one, starts, Reader, Shape, shape, seen, give, one, choose, many, shaped, ◌>>=◌, ◌>>◌, or_true}
-use Rattle.protobuf_parse_base.specs.Conditions.{at, optional, one_or_more}
+-- A reader for each production of the grammar in which nothing nests.
+use Rattle.std.proofs.Common.{◌≡◌, ℕ, zero, suc, ℤ, pos, List, [], ◌∷◌, ◌++◌, Option, Some, None, Bool, true, false, ◌||◌, cond, bytes_eq, slice_index, codes, refl, sym, ap, ◌∙◌}
+use Rattle.std.proofs.lemmas.List.{append-nil}
+use Rattle.protobuf_parse_base.specs.Relations.{Rel, Then, Nothing, Either, One, Separated, Meant, Unless}
+use Rattle.protobuf_parse_base.specs.Readers.{Rest, end, token, read, bind, run_many, starts, Reader, Shape, shape, seen, then_shape, give, one, choose, many, shaped, ◌>>=◌, ◌>>◌, or_true, all_apart-law}
+use Rattle.protobuf_parse_base.specs.Conditions.{at, one_or_more, separated, unless, meant}
+use Rattle.protobuf_parse_base.specs.Loops.{with_rest}
 use Rattle.protobuf_parse_syntax.specs.Text.{Bytes}
 use Rattle.protobuf_parse_syntax.specs.Tokens.{Lexeme}
-use Rattle.protobuf_parse_syntax.specs.Trees.{PiecesTree, field as body_field, message as file_message}
-use Rattle.protobuf_parse_syntax.specs.Classes.{Class, sees, symbol as symbol_class, word as word_class, ident as ident_class, integer, text, is_ident, lexicon}
-use Rattle.protobuf_parse_syntax.specs.Grammar.{if_so, IsSymbol, IsWord, any_ident, IsIdent, lookup, word_of, IsWordOf, number_at, field_number, IsFieldNumber, piece_at, string_piece, IsStr, IsSyntax, labels, proto3_labels, IsLabel, scalars, IsField, IsBodyItem, IsBody, IsMessage, IsFileItem, AreStatements, IsFileIn}
+use Rattle.protobuf_parse_syntax.specs.Trees as tree
+use Rattle.protobuf_parse_syntax.specs.Trees.{Pieces, OptionPartSyntax}
+use Rattle.protobuf_parse_syntax.specs.Classes.{Class, sees, symbol as symbol_class, word as word_class, ident as ident_class, integer, text, is_ident, lexicon, words, floatings, is_floating, is_one_of}
+use Rattle.protobuf_parse_syntax.specs.Grammar as grammar
+use Rattle.protobuf_parse_syntax.specs.Grammar.{if_so, IsSymbol, IsWord, any_ident, IsIdent, lookup, word_of, IsWordOf, table_words, number_at, IsNumber, small_at, small_number, IsNumberUpTo, negative, piece_at, string_piece, capital_ident, dots, truth_words, AfterSlash, labels, labels3, scalars, IsVisibility, IsStr, IsDotted, IsRoot, IsName, IsInteger, IsBracketedName, IsConstantName, IsFieldEnd, IsWordConstant, IsOptionPart, IsFieldNumber, IsRangeEnd, IsRange, IsExtensions, IsEnumNumber, IsStreamed, IsPackage, AtMost, IsNextPart, IsOptionName, StandsFor, SaysVersion, SaysPath, IsVersion, IsPath, IsReservedName, IsSyntax, IsImport, AreReserved, IsReserved}
+use Rattle.protobuf_parse_syntax.specs.Readings.{never, for, finding, none-to, none-from, more-to, more-from}
+use Rattle.protobuf_parse_syntax.specs.Decoder.{version_of, version-to, version-from, path_of, path-to, path-from, text_of, text-to, text-from}
+use Rattle.protobuf_parse_syntax.specs.declared.tree.ImportVis.TheVariants as visible
+use Rattle.protobuf_parse_syntax.specs.declared.tree.Syntax.TheVariants.{Proto2}
 use Rattle.protobuf_parse_syntax.specs.declared.lexer.token.Place.{Place}
 use Rattle.protobuf_parse_syntax.specs.declared.lexer.token.TokenKind.{TokenKind}
 use Rattle.protobuf_parse_syntax.specs.declared.lexer.token.TokenKind.TheVariants as kind
-use Rattle.protobuf_parse_syntax.specs.declared.tree.Syntax.{Syntax}
-use Rattle.protobuf_parse_syntax.specs.declared.tree.Syntax.TheVariants.{Proto2, Proto3}
-use Rattle.protobuf_parse_syntax.specs.declared.tree.Type.TheVariants as type
+
+abbrev pub Parses : {A : Type 0} → (List Lexeme → A → Type 0) → Shape Class → Type 0
+Parses = Reader lexicon
 
 -- ---- tokens
 
@@ -42,30 +50,35 @@ ident-law t a e = if_so-seen (ident_class []) t t.text a e
 abbrev pub ident : Reader lexicon IsIdent (shape (ident_class [] ∷ []) false [])
 ident = one any_ident (ident_class [] ∷ []) ident-law
 
--- the words of a table
-abbrev pub words : {A : Type 0} → List (Bytes × A) → List Class
-words [] = []
-words (e ∷ es) = word_class e.0 ∷ words es
+pub capital-law : (t : Lexeme) (a : Bytes) → capital_ident t ≡ Some a → seen sees (ident_class [] ∷ []) t ≡ true
+capital-law t a e = go (grammar.is_capital (slice_index t.text 0)) e
+  where
+    go : (b : Bool) → cond b (any_ident t) None ≡ Some a → seen sees (ident_class [] ∷ []) t ≡ true
+    go true e = ident-law t a e
+    go false e = absurd cc
 
-lookup-seen : {A : Type 0} (table : List (Bytes × A)) (t : Lexeme) (a : A) → is_ident t.kind ≡ true → lookup table t.text ≡ Some a → seen sees (words table) t ≡ true
+abbrev pub capital : Reader lexicon (One capital_ident) (shape (ident_class [] ∷ []) false [])
+capital = one capital_ident (ident_class [] ∷ []) capital-law
+
+lookup-seen : {A : Type 0} (table : List (Bytes × A)) (t : Lexeme) (a : A) → is_ident t.kind ≡ true → lookup table t.text ≡ Some a → seen sees (words (table_words table)) t ≡ true
 lookup-seen [] t a k e = absurd cc
 lookup-seen (p ∷ ps) t a k e = go (bytes_eq t.text p.0) refl e (lookup-seen ps t a k)
   where
-    go : (b : Bool) → bytes_eq t.text p.0 ≡ b → cond b (Some p.1) (lookup ps t.text) ≡ Some a → (lookup ps t.text ≡ Some a → seen sees (words ps) t ≡ true) → seen sees (words (p ∷ ps)) t ≡ true
+    go : (b : Bool) → bytes_eq t.text p.0 ≡ b → cond b (Some p.1) (lookup ps t.text) ≡ Some a → (lookup ps t.text ≡ Some a → seen sees (words (table_words ps)) t ≡ true) → seen sees (words (table_words (p ∷ ps))) t ≡ true
     go true h e f = rw (k, h) refl
     go false h e f = or_true _ _ (f e)
 
-pub word_of-law : {A : Type 0} (table : List (Bytes × A)) (t : Lexeme) (a : A) → word_of table t ≡ Some a → seen sees (words table) t ≡ true
+pub word_of-law : {A : Type 0} (table : List (Bytes × A)) (t : Lexeme) (a : A) → word_of table t ≡ Some a → seen sees (words (table_words table)) t ≡ true
 word_of-law table t a e = go (is_ident t.kind) refl e
   where
-    go : (b : Bool) → is_ident t.kind ≡ b → cond b (lookup table t.text) None ≡ Some a → seen sees (words table) t ≡ true
+    go : (b : Bool) → is_ident t.kind ≡ b → cond b (lookup table t.text) None ≡ Some a → seen sees (words (table_words table)) t ≡ true
     go true h e = lookup-seen table t a h e
     go false h e = absurd cc
 
-abbrev pub one_of : {A : Type 0} (table : List (Bytes × A)) → Reader lexicon (IsWordOf table) (shape (words table) false [])
-one_of table = one (word_of table) (words table) (word_of-law table)
+abbrev pub one_of : {A : Type 0} (table : List (Bytes × A)) → Reader lexicon (IsWordOf table) (shape (words (table_words table)) false [])
+one_of table = one (word_of table) (words (table_words table)) (word_of-law table)
 
-pub number-law : (t : Lexeme) (a : ℤ) → field_number t ≡ Some a → seen sees (integer ∷ []) t ≡ true
+pub number-law : (t : Lexeme) (a : ℕ) → grammar.number t ≡ Some a → seen sees (integer ∷ []) t ≡ true
 number-law t a e = go t.kind e
   where
     go : (k : TokenKind) → number_at k ≡ Some a → seen sees (integer ∷ []) (record t { kind = k }) ≡ true
@@ -75,8 +88,21 @@ number-law t a e = go t.kind e
     go kind.Str e = absurd cc
     go (kind.Symbol c) e = absurd cc
 
-abbrev pub number : Reader lexicon IsFieldNumber (shape (integer ∷ []) false [])
-number = one field_number (integer ∷ []) number-law
+abbrev pub number : Reader lexicon IsNumber (shape (integer ∷ []) false [])
+number = one grammar.number (integer ∷ []) number-law
+
+pub small-law : (limit : ℕ) (t : Lexeme) (a : ℕ) → small_number limit t ≡ Some a → seen sees (integer ∷ []) t ≡ true
+small-law limit t a e = go t.kind e
+  where
+    go : (k : TokenKind) → small_at limit k ≡ Some a → seen sees (integer ∷ []) (record t { kind = k }) ≡ true
+    go (kind.Integer n) e = refl
+    go kind.Ident e = absurd cc
+    go kind.Float e = absurd cc
+    go kind.Str e = absurd cc
+    go (kind.Symbol c) e = absurd cc
+
+abbrev pub number_up_to : (limit : ℕ) → Reader lexicon (IsNumberUpTo limit) (shape (integer ∷ []) false [])
+number_up_to limit = one (small_number limit) (integer ∷ []) (small-law limit)
 
 pub piece-law : (t : Lexeme) (a : Bytes) → string_piece t ≡ Some a → seen sees (text ∷ []) t ≡ true
 piece-law t a e = go t.kind e
@@ -91,106 +117,366 @@ piece-law t a e = go t.kind e
 abbrev pub piece : Reader lexicon (One string_piece) (shape (text ∷ []) false [])
 piece = one string_piece (text ∷ []) piece-law
 
--- ---- productions
+-- ---- strings and names
 
-abbrev pub Parses : {A : Type 0} → (List Lexeme → A → Type 0) → Shape Class → Type 0
-Parses = Reader lexicon
+abbrev pub str_shape : Shape Class
+str_shape = shape (text ∷ []) false (text ∷ [])
 
-unfoldable pub pieces : Parses (OneOrMore (One string_piece)) (shape (text ∷ []) false (text ∷ []))
-pieces = shaped (shape (text ∷ []) false (text ∷ [])) (one_or_more piece refl) refl
-
-unfoldable pub str : Parses IsStr (shape (text ∷ []) false (text ∷ []))
+unfoldable pub str : Parses IsStr str_shape
 unfolding IsStr
-str = shaped (shape (text ∷ []) false (text ∷ [])) (at (λ place. do
-  pieces ← pieces
-  give (record { place = place; pieces = pieces })) refl) refl
+str = shaped str_shape (one_or_more piece refl) refl
 
--- the statement `syntax` up to its strings
-abbrev pub IsSyntaxFront : Rel Lexeme PiecesTree
-IsSyntaxFront = Then (IsWord (codes "syntax")) (λ u. Then (IsSymbol 61) (λ v. IsStr))
+-- "." ident
+abbrev pub dot_ident : Reader lexicon (Then (IsSymbol 46) (λ u. IsIdent)) (shape (symbol_class 46 ∷ []) false [])
+dot_ident = shaped (shape (symbol_class 46 ∷ []) false []) (do symbol 46; ident) refl
 
-unfoldable pub syntax_front : Parses IsSyntaxFront (shape (word_class (codes "syntax") ∷ []) false (text ∷ []))
-syntax_front = shaped (shape (word_class (codes "syntax") ∷ []) false (text ∷ [])) (do
-  word (codes "syntax")
-  symbol 61
-  str) refl
+abbrev pub dotted_shape : Shape Class
+dotted_shape = shape (ident_class [] ∷ []) false (symbol_class 46 ∷ [])
+
+unfoldable pub dotted : Parses IsDotted dotted_shape
+unfolding IsDotted
+dotted = shaped dotted_shape (do
+  first ← ident
+  others ← many dot_ident refl
+  give (first ++ dots others)) refl
+
+unfoldable pub root : Parses IsRoot (shape (symbol_class 46 ∷ []) true (symbol_class 46 ∷ []))
+unfolding IsRoot
+root = shaped (shape (symbol_class 46 ∷ []) true (symbol_class 46 ∷ [])) (choose (do symbol 46; give (46 ∷ [])) refl (give [])) refl
+
+abbrev pub name_shape : Shape Class
+name_shape = shape (symbol_class 46 ∷ ident_class [] ∷ []) false (symbol_class 46 ∷ [])
+
+unfoldable pub name : Parses IsName name_shape
+unfolding IsName
+name = shaped name_shape (do
+  root ← root
+  dotted ← dotted
+  give (root ++ dotted)) refl
+
+-- ---- constants
+
+abbrev pub integer_shape : Shape Class
+integer_shape = shape (integer ∷ symbol_class 43 ∷ symbol_class 45 ∷ []) false []
+
+-- what the token says of a number, and None for a float, `inf` or `nan`
+abbrev pub found : Option ℕ → Option (Option ℕ)
+found None = None
+found (Some n) = Some (Some n)
+
+abbrev pub or_floating : (Lexeme → Option ℕ) → Lexeme → Option (Option ℕ)
+or_floating says t = cond (is_floating t) (Some None) (found (says t))
+
+-- a sign says something before a number alone
+abbrev pub said_of : (ℕ → ℤ) → Option ℕ → Option ℤ
+said_of f None = None
+said_of f (Some n) = Some (f n)
+
+-- the relation of a sign and a number
+abbrev pub SignedBy : ℕ → (Lexeme → Option ℕ) → (ℕ → ℤ) → Rel Lexeme ℤ
+SignedBy c says f = Then (IsSymbol c) (λ u. Then (One says) (λ n. Nothing (f n)))
+
+module _ (c : ℕ) (says : Lexeme → Option ℕ) (f : ℕ → ℤ) (law : (t : Lexeme) (n : ℕ) → says t ≡ Some n → seen sees (integer ∷ []) t ≡ true) where
+  found-law : (t : Lexeme) (o : Option ℕ) (p : Option ℕ) → says t ≡ p → is_floating t ≡ false → found p ≡ Some o → seen sees (integer ∷ floatings) t ≡ true
+  found-law t o None e h i = absurd cc
+  found-law t o (Some n) e h i = rw h (law t n e)
+
+  pub or_floating-law : (t : Lexeme) (o : Option ℕ) → or_floating says t ≡ Some o → seen sees (integer ∷ floatings) t ≡ true
+  or_floating-law t o e = go (is_floating t) refl e
+    where
+      go : (b : Bool) → is_floating t ≡ b → cond b (Some None) (found (says t)) ≡ Some o → seen sees (integer ∷ floatings) t ≡ true
+      go true h e = or_true _ _ h
+      go false h e = found-law t o (says t) refl h e
+
+  abbrev pub sign_shape : Shape Class
+  sign_shape = then_shape lexicon (shape (symbol_class c ∷ []) false []) (shape (integer ∷ floatings) false [])
+
+  -- a sign and a number, or a float, `inf` or `nan`
+  abbrev pub sign_and : Reader lexicon (Then (IsSymbol c) (λ u. One (or_floating says))) sign_shape
+  sign_and = do symbol c; one (or_floating says) (integer ∷ floatings) or_floating-law
+
+  says_number : (t : Lexeme) (n : ℕ) → or_floating says t ≡ Some (Some n) → says t ≡ Some n
+  says_number t n e = go (is_floating t) (says t) e
+    where
+      go : (b : Bool) (p : Option ℕ) → cond b (Some None) (found p) ≡ Some (Some n) → p ≡ Some n
+      go true p e = absurd cc
+      go false None e = absurd cc
+      go false (Some m) e = cc
+
+  said : (o : Option ℕ) (z : ℤ) → said_of f o ≡ Some z → (n : ℕ) × (o ≡ Some n) × (z ≡ f n)
+  said None z e = absurd cc
+  said (Some n) z e = (n, refl, cc)
+
+  pub signed-to : (ts : List Lexeme) (z : ℤ) → Meant (Then (IsSymbol c) (λ u. One (or_floating says))) (said_of f) ts z → SignedBy c says f ts z
+  signed-to ts z h =
+      let w = h.1 in
+      let s = said h.0 z h.2 in
+      let o = w.second in
+      record {
+        value = w.value;
+        front = w.front;
+        back = w.back;
+        first = w.first;
+        parts = w.parts;
+        second = record { value = s.0; front = w.back; back = []; first = (o.0, o.1, says_number o.0 s.0 (o.2 ∙ ap (λ (x : Option ℕ). Some x) s.1)); second = (refl, s.2); parts = sym (append-nil w.back) };
+      }
+
+  pub signed-from : (ts : List Lexeme) (z : ℤ) → SignedBy c says f ts z → Meant (Then (IsSymbol c) (λ u. One (or_floating says))) (said_of f) ts z
+  signed-from ts z w =
+      let v = w.second in
+      let o = v.first in
+      let n = v.second in
+      let flat : is_floating o.0 ≡ false = all_apart-law lexicon (integer ∷ []) floatings o.0 refl (law o.0 v.value o.2) in
+      let back : w.back ≡ v.front = v.parts ∙ ap (λ (x : List Lexeme). v.front ++ x) n.0 ∙ append-nil v.front in
+      let reads : or_floating says o.0 ≡ Some (Some v.value) = rw (flat, o.2) refl in
+      (Some v.value, record { value = w.value; front = w.front; back = w.back; first = w.first; parts = w.parts; second = (o.0, back ∙ o.1, reads) }, ap (λ (x : ℤ). Some x) (sym n.1))
+
+  -- a sign and a number; tokens from the sign on that say nothing, where a float, `inf` or `nan` follows it
+  unfoldable pub signed_by : Reader lexicon (SignedBy c says f) sign_shape
+  signed_by = for signed-to signed-from (meant sign_and (said_of f))
+
+abbrev pub plus : Reader lexicon (SignedBy 43 grammar.number pos) (shape (symbol_class 43 ∷ []) false [])
+plus = shaped (shape (symbol_class 43 ∷ []) false []) (signed_by 43 grammar.number pos number-law) refl
+
+abbrev pub minus : Reader lexicon (SignedBy 45 (small_number 9223372036854775808) negative) (shape (symbol_class 45 ∷ []) false [])
+minus = shaped (shape (symbol_class 45 ∷ []) false []) (signed_by 45 (small_number 9223372036854775808) negative (small-law 9223372036854775808)) refl
+
+unfoldable pub signed : Parses IsInteger integer_shape
+unfolding IsInteger
+signed = shaped integer_shape (choose (do n ← number; give (pos n)) refl (choose plus refl minus)) refl
+
+-- an integer as a constant
+unfoldable pub integer_constant : Parses (Then IsInteger (λ n. Nothing (tree.integer n))) integer_shape
+integer_constant = shaped integer_shape (do n ← signed; give (tree.integer n)) refl
+
+abbrev pub slash_shape : Shape Class
+slash_shape = shape (symbol_class 47 ∷ []) true (symbol_class 47 ∷ symbol_class 46 ∷ [])
+
+unfoldable pub after_slash : (first : Bytes) → Parses (AfterSlash first) slash_shape
+unfolding AfterSlash
+after_slash first = shaped slash_shape (choose (do symbol 47; rest ← name; give (tree.url_name (first ++ 47 ∷ rest))) refl (give (tree.extension_name first))) refl
+
+unfoldable pub bracketed_name : Parses IsBracketedName (shape (symbol_class 91 ∷ []) false [])
+unfolding IsBracketedName
+bracketed_name = shaped (shape (symbol_class 91 ∷ []) false []) (do
+  symbol 91
+  first ← name
+  found ← after_slash first
+  symbol 93
+  give found) refl
+
+abbrev pub constant_name_shape : Shape Class
+constant_name_shape = shape (ident_class [] ∷ symbol_class 91 ∷ []) false []
+
+unfoldable pub constant_name : Parses IsConstantName constant_name_shape
+unfolding IsConstantName
+constant_name = shaped constant_name_shape (choose (do name ← ident; give (tree.regular_name name)) refl bracketed_name) refl
+
+abbrev pub field_end_shape : Shape Class
+field_end_shape = shape (symbol_class 44 ∷ symbol_class 59 ∷ []) true (symbol_class 44 ∷ symbol_class 59 ∷ [])
+
+unfoldable pub field_end : Parses IsFieldEnd field_end_shape
+unfolding IsFieldEnd
+field_end = shaped field_end_shape (choose (symbol 44) refl (choose (symbol 59) refl (give tt))) refl
+
+unfoldable pub word_constant : Parses IsWordConstant dotted_shape
+unfolding IsWordConstant
+word_constant = shaped dotted_shape
+    (choose (do word (codes "true"); give (tree.truth true)) refl
+    (choose (do word (codes "false"); give (tree.truth false)) refl
+    (do name ← unless (words truth_words) dotted refl; give (tree.dotted name)))) refl
+
+neither_word : (v w : Bytes) (ts : Rest Lexeme Place) → starts lexicon (word_class v ∷ []) ts ≡ false → starts lexicon (word_class w ∷ []) ts ≡ false → starts lexicon (words (v ∷ w ∷ [])) ts ≡ false
+unfolding starts
+neither_word v w (end m) h i = refl
+neither_word v w (token t ts) h i = go (sees (word_class v) t) (sees (word_class w) t) h i
+  where
+    go : (x y : Bool) → (x || false) ≡ false → (y || false) ≡ false → (x || (y || false)) ≡ false
+    go true y h i = absurd cc
+    go false y h i = i
+
+-- where neither truth value comes next
+pub word_constant_name : (ts : Rest Lexeme Place) → starts lexicon (word_class (codes "true") ∷ []) ts ≡ false → starts lexicon (word_class (codes "false") ∷ []) ts ≡ false → word_constant.run ts ≡ bind (dotted.run ts) (λ name rest. read (tree.dotted name) rest)
+unfolding word_constant
+word_constant_name ts h i = rw (h, i, neither_word (codes "true") (codes "false") ts h i) refl
+
+-- ---- options
+
+abbrev pub option_part_shape : Shape Class
+option_part_shape = shape (ident_class [] ∷ symbol_class 40 ∷ []) false []
+
+unfoldable pub option_part : Parses IsOptionPart option_part_shape
+unfolding IsOptionPart
+option_part = shaped option_part_shape (choose (do name ← ident; give (tree.direct name)) refl (do symbol 40; name ← name; symbol 41; give (tree.extension name))) refl
+
+-- ---- numbers and ranges
+
+unfoldable pub field_number : Parses IsFieldNumber (shape (integer ∷ []) false [])
+unfolding IsFieldNumber
+field_number = shaped (shape (integer ∷ []) false []) (do n ← number_up_to 2147483647; give (pos n)) refl
+
+abbrev pub range_end_shape : Shape Class
+range_end_shape = shape (word_class (codes "to") ∷ []) true (word_class (codes "to") ∷ [])
+
+unfoldable pub range_end : (from : ℤ) → Parses (IsRangeEnd from) range_end_shape
+unfolding IsRangeEnd
+range_end from = shaped range_end_shape (choose (do word (codes "to"); choose field_number refl (do word (codes "max"); give (pos 536870911))) refl (give from)) refl
+
+abbrev pub range_shape : Shape Class
+range_shape = shape (integer ∷ []) false (word_class (codes "to") ∷ [])
+
+unfoldable pub range : Parses IsRange range_shape
+unfolding IsRange
+range = shaped range_shape (do
+  from ← field_number
+  to ← range_end from
+  give (record { from = from; to = to })) refl
+
+-- "," range
+abbrev pub comma_range : Reader lexicon (Then (IsSymbol 44) (λ u. IsRange)) (shape (symbol_class 44 ∷ []) false (word_class (codes "to") ∷ []))
+comma_range = shaped (shape (symbol_class 44 ∷ []) false (word_class (codes "to") ∷ [])) (do symbol 44; range) refl
+
+abbrev pub ranges_shape : Shape Class
+ranges_shape = shape (integer ∷ []) false (word_class (codes "to") ∷ symbol_class 44 ∷ [])
+
+unfoldable pub ranges : Parses (Separated (IsSymbol 44) IsRange) ranges_shape
+ranges = shaped ranges_shape (separated (symbol 44) refl range) refl
+
+-- behind the first of them
+pub ranges_first : (ts us : Rest Lexeme Place) (a : tree.RangeSyntax) → range.run ts ≡ read a us → ranges.run ts ≡ with_rest (λ (v : List tree.RangeSyntax). v) (λ (v : List tree.RangeSyntax). v) (a ∷ []) (run_many comma_range us)
+unfolding ranges range run_many
+ranges_first ts us a e = rw e refl
+
+abbrev pub extensions_shape : Shape Class
+extensions_shape = shape (word_class (codes "extensions") ∷ []) false (word_class (codes "to") ∷ symbol_class 44 ∷ [])
+
+unfoldable pub extensions : Parses IsExtensions extensions_shape
+unfolding IsExtensions
+extensions = shaped extensions_shape (at (λ place. do
+  word (codes "extensions")
+  ranges ← ranges
+  give (record { place = place; ranges = ranges })) refl) refl
+
+unfoldable pub enum_number : Parses IsEnumNumber (shape (integer ∷ symbol_class 45 ∷ []) false [])
+unfolding IsEnumNumber
+enum_number = shaped (shape (integer ∷ symbol_class 45 ∷ []) false []) (choose field_number refl (do symbol 45; n ← number_up_to 2147483648; give (negative n))) refl
+
+-- with what a statement of an enum begins that is no value
+abbrev pub other_statements : List Class
+other_statements = words (codes "reserved" ∷ codes "option" ∷ [])
+
+unfoldable pub value_name : Reader lexicon (Unless (is_one_of other_statements) IsIdent) (shape (ident_class (codes "reserved" ∷ codes "option" ∷ []) ∷ []) false [])
+value_name = shaped (shape (ident_class (codes "reserved" ∷ codes "option" ∷ []) ∷ []) false []) (unless other_statements ident refl) refl
+
+-- ---- services and files
+
+unfoldable pub streamed : Parses IsStreamed (shape (symbol_class 40 ∷ []) false [])
+unfolding IsStreamed
+streamed = shaped (shape (symbol_class 40 ∷ []) false []) (do
+  symbol 40
+  type_ ← choose (do word (codes "stream"); name ← name; give (true, name)) refl (do name ← unless (words (codes "stream" ∷ [])) name refl; give (false, name))
+  symbol 41
+  give type_) refl
+
+unfoldable pub package_name : Parses IsPackage (shape (word_class (codes "package") ∷ []) false [])
+unfolding IsPackage
+package_name = shaped (shape (word_class (codes "package") ∷ []) false []) (at (λ place. do
+  word (codes "package")
+  name ← dotted
+  symbol 59
+  give (record { place = place; name = name })) refl) refl
+
+-- ---- the name of an option
+
+abbrev pub parts_shape : Shape Class
+parts_shape = shape (symbol_class 46 ∷ []) true (symbol_class 46 ∷ [])
+
+unfoldable pub next_part : Parses IsNextPart (shape (symbol_class 46 ∷ []) false [])
+unfolding IsNextPart
+next_part = shaped (shape (symbol_class 46 ∷ []) false []) (do symbol 46; option_part) refl
+
+-- at most so many parts, each behind a dot, and no dot behind them
+unfoldable pub parts_up_to : (limit : ℕ) → Parses (AtMost limit IsNextPart) parts_shape
+parts_up_to zero = for (none-to IsNextPart) (none-from IsNextPart) (shaped parts_shape (choose (shaped (shape (symbol_class 46 ∷ []) false []) never refl) refl (give [])) refl)
+parts_up_to (suc k) = for (more-to IsNextPart k) (more-from IsNextPart k) (shaped parts_shape (choose (do first ← next_part; others ← parts_up_to k; give (first ∷ others)) refl (give [])) refl)
+
+abbrev pub option_name_shape : Shape Class
+option_name_shape = shape (ident_class [] ∷ symbol_class 40 ∷ []) false (symbol_class 46 ∷ [])
+
+unfoldable pub option_name : Parses IsOptionName option_name_shape
+unfolding IsOptionName
+option_name = shaped option_name_shape (do
+  first ← option_part
+  others ← parts_up_to 99
+  give (grammar.option_name first others)) refl
+
+-- ---- strings that say something
+
+unfoldable pub version : Parses IsVersion str_shape
+unfolding IsVersion
+version = finding str SaysVersion version_of version-to version-from
+
+unfoldable pub path : Parses IsPath str_shape
+unfolding IsPath
+path = finding str SaysPath path_of path-to path-from
+
+unfoldable pub reserved_name : Parses IsReservedName str_shape
+unfolding IsReservedName
+reserved_name = finding str StandsFor text_of text-to text-from
 
 unfoldable pub syntax : Parses IsSyntax (shape (word_class (codes "syntax") ∷ []) false [])
 unfolding IsSyntax
 syntax = shaped (shape (word_class (codes "syntax") ∷ []) false []) (do
   word (codes "syntax")
   symbol 61
-  pieces ← str
+  syntax ← version
   symbol 59
-  give pieces) refl
+  give syntax) refl
 
-abbrev pub label_shape : Shape Class
-label_shape = shape (words labels) true (words labels)
+-- [ syntax ]; proto2 where it is absent
+unfoldable pub version_statement : Parses (Either IsSyntax (Nothing Proto2)) (shape (word_class (codes "syntax") ∷ []) true (word_class (codes "syntax") ∷ []))
+version_statement = shaped (shape (word_class (codes "syntax") ∷ []) true (word_class (codes "syntax") ∷ [])) (choose syntax refl (give Proto2)) refl
 
-unfoldable pub label : (s : Syntax) → Parses (IsLabel s) label_shape
-unfolding IsLabel
-label Proto2 = shaped label_shape (do l ← one_of labels; give (Some l)) refl
-label Proto3 = shaped label_shape (optional (shaped (shape (words labels) false []) (one_of proto3_labels) refl) refl) refl
+abbrev pub visibility_shape : Shape Class
+visibility_shape = shape (words (codes "weak" ∷ codes "public" ∷ [])) true (words (codes "weak" ∷ codes "public" ∷ []))
 
--- what the reader of a label does in each version
-pub label_in_proto2 : (s : Syntax) (ts : Rest Lexeme Place) → s ≡ Proto2 → (label s).run ts ≡ bind (run_one (word_of labels) ts) (λ l rest. read (Some l) rest)
-unfolding label
-label_in_proto2 s ts e = ap (λ v. (label v).run ts) e
+-- [ "weak" | "public" ]
+unfoldable pub visibility : Parses IsVisibility visibility_shape
+unfolding IsVisibility
+visibility = shaped visibility_shape (choose (do word (codes "weak"); give visible.Weak) refl (choose (do word (codes "public"); give visible.Public) refl (give visible.Default))) refl
 
-pub label_in_proto3 : (s : Syntax) (ts : Rest Lexeme Place) → s ≡ Proto3 → (label s).run ts ≡ cond (starts lexicon (words labels) ts) (bind (run_one (word_of proto3_labels) ts) (λ l rest. read (Some l) rest)) (read None ts)
-unfolding label
-label_in_proto3 s ts e = ap (λ v. (label v).run ts) e
-
-unfoldable pub field : (s : Syntax) → Parses (IsField s) (shape (ident_class [] ∷ []) false [])
-unfolding IsField
-field s = shaped (shape (ident_class [] ∷ []) false []) (at (λ place. do
-  label ← label s
-  scalar ← one_of scalars
-  name ← ident
-  symbol 61
-  number ← number
+unfoldable pub imported : Parses IsImport (shape (word_class (codes "import") ∷ []) false [])
+unfolding IsImport
+imported = shaped (shape (word_class (codes "import") ∷ []) false []) (at (λ place. do
+  word (codes "import")
+  vis ← visibility
+  path ← path
   symbol 59
-  give (record { place = place; label = label; type_ = type.Scalar scalar; name = name; number = number })) refl) refl
+  give (record { place = place; vis = vis; path = path })) refl) refl
 
-abbrev pub item_shape : Shape Class
-item_shape = shape (symbol_class 59 ∷ ident_class [] ∷ []) false []
+abbrev pub reserved_shape : Shape Class
+reserved_shape = shape (text ∷ integer ∷ []) false (text ∷ symbol_class 44 ∷ word_class (codes "to") ∷ [])
 
-unfoldable pub body_item : (s : Syntax) → Parses (IsBodyItem s) item_shape
-unfolding IsBodyItem
-body_item s = shaped item_shape (choose (do symbol 59; give None) refl (do f ← field s; give (Some (body_field f)))) refl
+-- "," and a text
+abbrev pub comma_name : Reader lexicon (Then (IsSymbol 44) (λ u. IsReservedName)) (shape (symbol_class 44 ∷ []) false (text ∷ []))
+comma_name = shaped (shape (symbol_class 44 ∷ []) false (text ∷ [])) (do symbol 44; reserved_name) refl
 
-abbrev pub items_shape : Shape Class
-items_shape = shape (symbol_class 59 ∷ ident_class [] ∷ []) true (symbol_class 59 ∷ ident_class [] ∷ [])
+unfoldable pub names : Parses (Separated (IsSymbol 44) IsReservedName) (shape (text ∷ []) false (text ∷ symbol_class 44 ∷ []))
+names = shaped (shape (text ∷ []) false (text ∷ symbol_class 44 ∷ [])) (separated (symbol 44) refl reserved_name) refl
 
-unfoldable pub body : (s : Syntax) → Parses (IsBody s) items_shape
-unfolding IsBody
-body s = shaped items_shape (do items ← many (body_item s) refl; give (somes items)) refl
+-- behind the first of them
+pub names_first : (ts us : Rest Lexeme Place) (a : Bytes) → reserved_name.run ts ≡ read a us → names.run ts ≡ with_rest (λ (v : List Bytes). v) (λ (v : List Bytes). v) (a ∷ []) (run_many comma_name us)
+unfolding names reserved_name run_many
+names_first ts us a e = rw e refl
 
-unfoldable pub message : (s : Syntax) → Parses (IsMessage s) (shape (word_class (codes "message") ∷ []) false [])
-unfolding IsMessage
-message s = shaped (shape (word_class (codes "message") ∷ []) false []) (at (λ place. do
-  word (codes "message")
-  name ← ident
-  symbol 123
-  body ← body s
-  symbol 125
-  give (record { place = place; name = name; body = body })) refl) refl
+unfoldable pub reserved_items : Parses AreReserved reserved_shape
+unfolding AreReserved
+reserved_items = shaped reserved_shape (choose (do names ← names; give (tree.reserved_names names)) refl (do ranges ← ranges; give (tree.reserved_ranges ranges))) refl
 
--- with what a statement of a file begins
-abbrev pub file_firsts : List Class
-file_firsts = symbol_class 59 ∷ word_class (codes "message") ∷ []
-
-unfoldable pub file_item : (s : Syntax) → Parses (IsFileItem s) (shape file_firsts false [])
-unfolding IsFileItem
-file_item s = shaped (shape file_firsts false []) (choose (do symbol 59; give None) refl (do m ← message s; give (Some (file_message m)))) refl
-
-unfoldable pub statements : (s : Syntax) → Parses (AreStatements s) (shape file_firsts true file_firsts)
-unfolding AreStatements
-statements s = shaped (shape file_firsts true file_firsts) (do items ← many (file_item s) refl; give (somes items)) refl
-
-unfoldable pub file_in : (s : Syntax) → Parses (IsFileIn s) (shape file_firsts true file_firsts)
-unfolding IsFileIn
-file_in s = shaped (shape file_firsts true file_firsts) (do statements ← statements s; give (record { syntax = s; statements = statements })) refl
-
-unfoldable pub version : Parses (Optional IsSyntax) (shape (word_class (codes "syntax") ∷ []) true (word_class (codes "syntax") ∷ []))
-version = shaped (shape (word_class (codes "syntax") ∷ []) true (word_class (codes "syntax") ∷ [])) (optional syntax refl) refl
+unfoldable pub reserved : Parses IsReserved (shape (word_class (codes "reserved") ∷ []) false [])
+unfolding IsReserved
+reserved = shaped (shape (word_class (codes "reserved") ∷ []) false []) (at (λ place. do
+  word (codes "reserved")
+  reserved ← reserved_items
+  symbol 59
+  give (record { place = place; reserved = reserved })) refl) refl

@@ -1,64 +1,432 @@
 -- What a text says, without where it lies in memory: a record or a data type for each type of the tree.
-use Rattle.std.specs.Prelude.{ℤ, List, map, Option, string_bytes}
+use Rattle.std.specs.Prelude.{ℤ, pos, Bool, List, [], ◌∷◌, map, fold, Option, Some, None, string_bytes}
+use Rattle.protobuf_parse_base.specs.PathViews.{path_buf_text}
 use Rattle.protobuf_parse_syntax.specs.Text.{Bytes}
 use Rattle.protobuf_parse_syntax.specs.declared.lexer.token.Place.{Place}
-use Rattle.protobuf_parse_syntax.specs.declared.tree.Syntax.{Syntax}
-use Rattle.protobuf_parse_syntax.specs.declared.tree.Label.{Label}
-use Rattle.protobuf_parse_syntax.specs.declared.tree.Type.{«Type»}
-use Rattle.protobuf_parse_syntax.specs.declared.tree.Field.{Field}
-use Rattle.protobuf_parse_syntax.specs.declared.tree.MessageStatement.{MessageStatement}
-use Rattle.protobuf_parse_syntax.specs.declared.tree.MessageStatement.TheVariants as body
-use Rattle.protobuf_parse_syntax.specs.declared.tree.Message.{Message}
-use Rattle.protobuf_parse_syntax.specs.declared.tree.FileStatement.{FileStatement}
-use Rattle.protobuf_parse_syntax.specs.declared.tree.FileStatement.TheVariants as statement
-use Rattle.protobuf_parse_syntax.specs.declared.tree.FileTree.{FileTree}
 use Rattle.protobuf_parse_syntax.specs.declared.lexer.str_lit.StrLit.{StrLit}
+use Rattle.protobuf_parse_syntax.specs.declared.tree.Syntax.{Syntax}
+use Rattle.protobuf_parse_syntax.specs.declared.tree.ImportVis.{ImportVis}
+use Rattle.protobuf_parse_syntax.specs.declared.tree.Import.{Import}
+use Rattle.protobuf_parse_syntax.specs.declared.tree.Package.{Package}
+use Rattle.protobuf_parse_syntax.specs.declared.tree.FileStatement.{FileStatement}
+use Rattle.protobuf_parse_syntax.specs.declared.tree.FileStatement.TheVariants as file_statement
+use Rattle.protobuf_parse_syntax.specs.declared.tree.FileTree.{FileTree}
+use Rattle.protobuf_parse_syntax.specs.declared.tree.constant.ProtobufConstant.{ProtobufConstant, fold-ProtobufConstant}
+use Rattle.protobuf_parse_syntax.specs.declared.tree.constant.ProtobufConstant.TheOpen.{ProtobufConstant-F, ConstantField-F}
+use Rattle.protobuf_parse_syntax.specs.declared.tree.constant.ConstantField.{ConstantField}
+use Rattle.protobuf_parse_syntax.specs.declared.tree.constant.ConstantFieldName.{ConstantFieldName}
+use Rattle.protobuf_parse_syntax.specs.declared.tree.constant.ConstantFieldName.TheVariants as constant_name
+use Rattle.protobuf_parse_syntax.specs.declared.tree.option.ProtobufOptionNamePart.{ProtobufOptionNamePart}
+use Rattle.protobuf_parse_syntax.specs.declared.tree.option.ProtobufOptionNamePart.TheVariants as option_part
+use Rattle.protobuf_parse_syntax.specs.declared.tree.option.ProtobufOptionName.{ProtobufOptionName}
+use Rattle.protobuf_parse_syntax.specs.declared.tree.option.ProtobufOptionName.TheVariants as option_name
+use Rattle.protobuf_parse_syntax.specs.declared.tree.option.ProtobufOption.{ProtobufOption}
+use Rattle.protobuf_parse_syntax.specs.declared.tree.option.OptionStatement.{OptionStatement}
+use Rattle.protobuf_parse_syntax.specs.declared.tree.field.Label.{Label}
+use Rattle.protobuf_parse_syntax.specs.declared.tree.field.Scalar.{Scalar}
+use Rattle.protobuf_parse_syntax.specs.declared.tree.field.Type.{«Type», fold-Type}
+use Rattle.protobuf_parse_syntax.specs.declared.tree.field.Type.TheOpen.{Type-F}
+use Rattle.protobuf_parse_syntax.specs.declared.tree.field.Field.{Field}
+use Rattle.protobuf_parse_syntax.specs.declared.tree.field.FieldStatement.{FieldStatement, fold-FieldStatement}
+use Rattle.protobuf_parse_syntax.specs.declared.tree.field.Group.{Group}
+use Rattle.protobuf_parse_syntax.specs.declared.tree.field.FieldStatement.TheOpen.{FieldStatement-F, Group-F}
+use Rattle.protobuf_parse_syntax.specs.declared.tree.declaration.FieldNumberRange.{FieldNumberRange}
+use Rattle.protobuf_parse_syntax.specs.declared.tree.declaration.Reserved.{Reserved}
+use Rattle.protobuf_parse_syntax.specs.declared.tree.declaration.Reserved.TheVariants as reserved
+use Rattle.protobuf_parse_syntax.specs.declared.tree.declaration.ReservedStatement.{ReservedStatement}
+use Rattle.protobuf_parse_syntax.specs.declared.tree.declaration.Extensions.{Extensions}
+use Rattle.protobuf_parse_syntax.specs.declared.tree.declaration.OneOf.{OneOf}
+use Rattle.protobuf_parse_syntax.specs.declared.tree.declaration.OneOfStatement.{OneOfStatement}
+use Rattle.protobuf_parse_syntax.specs.declared.tree.declaration.OneOfStatement.TheVariants as oneof_statement
+use Rattle.protobuf_parse_syntax.specs.declared.tree.declaration.Extend.{Extend}
+use Rattle.protobuf_parse_syntax.specs.declared.tree.declaration.Enumeration.{Enumeration}
+use Rattle.protobuf_parse_syntax.specs.declared.tree.declaration.EnumStatement.{EnumStatement}
+use Rattle.protobuf_parse_syntax.specs.declared.tree.declaration.EnumStatement.TheVariants as enum_statement
+use Rattle.protobuf_parse_syntax.specs.declared.tree.declaration.EnumValue.{EnumValue}
+use Rattle.protobuf_parse_syntax.specs.declared.tree.declaration.Method.{Method}
+use Rattle.protobuf_parse_syntax.specs.declared.tree.declaration.Service.{Service}
+use Rattle.protobuf_parse_syntax.specs.declared.tree.declaration.ServiceStatement.{ServiceStatement}
+use Rattle.protobuf_parse_syntax.specs.declared.tree.declaration.ServiceStatement.TheVariants as service_statement
+use Rattle.protobuf_parse_syntax.specs.declared.tree.declaration.Message.{Message, fold-Message}
+use Rattle.protobuf_parse_syntax.specs.declared.tree.declaration.MessageStatement.{MessageStatement, fold-MessageStatement}
+use Rattle.protobuf_parse_syntax.specs.declared.tree.declaration.MessageStatement.TheOpen.{MessageStatement-F, Message-F}
 
--- neighbouring strings: the place of the first, and the text between the quotes of each
-pub record PiecesTree : Type 0 where
+-- ---- strings
+
+-- the text between the quotes of each of several neighbouring strings
+abbrev pub Pieces : Type 0
+Pieces = List Bytes
+
+abbrev pub pieces_of : StrLit → Pieces
+pieces_of s = map string_bytes s.pieces.items
+
+-- ---- constants
+
+-- the name of a field in a message constant: plain, or in brackets the name of an extension or a type URL
+pub data ConstantNameSyntax : Type 0 where
+  regular_name : Bytes → ConstantNameSyntax
+  extension_name : Bytes → ConstantNameSyntax
+  url_name : Bytes → ConstantNameSyntax
+
+mutual
+  pub data ConstantSyntax : Type 0 where
+    integer : ℤ → ConstantSyntax
+    truth : Bool → ConstantSyntax
+    dotted : Bytes → ConstantSyntax
+    string : Pieces → ConstantSyntax
+    list : ConstantList → ConstantSyntax
+    fields : ConstantFieldList → ConstantSyntax
+
+  pub data ConstantList : Type 0 where
+    no_constants : ConstantList
+    more_constants : ConstantSyntax → ConstantList → ConstantList
+
+  pub data ConstantFieldList : Type 0 where
+    no_fields : ConstantFieldList
+    more_fields : ConstantNameSyntax → ConstantSyntax → ConstantFieldList → ConstantFieldList
+
+pub record ConstantFieldSyntax : Type 0 where
+  pub name : ConstantNameSyntax
+  pub value : ConstantSyntax
+
+abbrev pub constants : List ConstantSyntax → ConstantList
+constants [] = no_constants
+constants (c ∷ cs) = more_constants c (constants cs)
+
+abbrev pub constant_fields : List ConstantFieldSyntax → ConstantFieldList
+constant_fields [] = no_fields
+constant_fields (f ∷ fs) = more_fields f.name f.value (constant_fields fs)
+
+abbrev pub constant_name_view : ConstantFieldName → ConstantNameSyntax
+constant_name_view (constant_name.Regular n) = regular_name (string_bytes n)
+constant_name_view (constant_name.Extension n) = extension_name (string_bytes n)
+constant_name_view (constant_name.AnyUrl n) = url_name (string_bytes n)
+
+-- one level, with each constant inside already seen
+abbrev pub constant_step : ProtobufConstant-F ConstantSyntax ConstantFieldSyntax → ConstantSyntax
+constant_step (ProtobufConstant-F.U64 n) = integer (pos n)
+constant_step (ProtobufConstant-F.I64 z) = integer z
+constant_step (ProtobufConstant-F.Bool b) = truth b
+constant_step (ProtobufConstant-F.Ident n) = dotted (string_bytes n)
+constant_step (ProtobufConstant-F.String s) = string (pieces_of s)
+constant_step (ProtobufConstant-F.List cs) = list (constants cs.items)
+constant_step (ProtobufConstant-F.Message fs) = fields (constant_fields fs.items)
+
+abbrev pub constant_field_step : ConstantField-F ConstantSyntax ConstantFieldSyntax → ConstantFieldSyntax
+constant_field_step f = record { name = constant_name_view f.name; value = f.value }
+
+abbrev pub constant_view : ProtobufConstant → ConstantSyntax
+constant_view = fold-ProtobufConstant ConstantSyntax ConstantFieldSyntax constant_step constant_field_step
+
+abbrev pub constant_field_view : ConstantField → ConstantFieldSyntax
+constant_field_view f = record { name = constant_name_view f.name; value = constant_view f.value }
+
+-- ---- options
+
+-- a part of an option's name: plain, or the name of an extension, which stands in parentheses
+pub data OptionPartSyntax : Type 0 where
+  direct : Bytes → OptionPartSyntax
+  extension : Bytes → OptionPartSyntax
+
+pub data OptionNameSyntax : Type 0 where
+  builtin : Bytes → OptionNameSyntax
+  custom : List OptionPartSyntax → OptionNameSyntax
+
+pub record OptionSyntax : Type 0 where
+  pub name : OptionNameSyntax
+  pub value : ConstantSyntax
+
+pub record OptionStatementSyntax : Type 0 where
   pub place : Place
-  pub pieces : List Bytes
+  pub option : OptionSyntax
+
+abbrev pub option_part_view : ProtobufOptionNamePart → OptionPartSyntax
+option_part_view (option_part.Direct n) = direct (string_bytes n)
+option_part_view (option_part.Ext n) = extension (string_bytes n)
+
+abbrev pub option_name_view : ProtobufOptionName → OptionNameSyntax
+option_name_view (option_name.Builtin n) = builtin (string_bytes n)
+option_name_view (option_name.Custom parts) = custom (map option_part_view parts.items)
+
+abbrev pub option_view : ProtobufOption → OptionSyntax
+option_view o = record { name = option_name_view o.name; value = constant_view o.value }
+
+abbrev pub option_statement_view : OptionStatement → OptionStatementSyntax
+option_statement_view s = record { place = s.place; option = option_view s.option }
+
+-- ---- fields
+
+pub data TypeSyntax : Type 0 where
+  scalar : Scalar → TypeSyntax
+  map_of : TypeSyntax → TypeSyntax → TypeSyntax
+  named : Bytes → TypeSyntax
+
+abbrev pub type_step : Type-F TypeSyntax → TypeSyntax
+type_step (Type-F.Scalar s) = scalar s
+type_step (Type-F.Map k v) = map_of k.value v.value
+type_step (Type-F.Named n) = named (string_bytes n)
+
+abbrev pub type_view : «Type» → TypeSyntax
+type_view = fold-Type TypeSyntax type_step
 
 pub record FieldSyntax : Type 0 where
   pub place : Place
   pub label : Option Label
-  pub type_ : «Type»
+  pub type_ : TypeSyntax
   pub name : Bytes
   pub number : ℤ
+  pub options : List OptionSyntax
 
--- a statement of a message's body
-pub data BodySyntax : Type 0 where
-  field : FieldSyntax → BodySyntax
+abbrev pub field_view : Field → FieldSyntax
+field_view f = record { place = f.place; label = f.label; type_ = type_view f.type_; name = string_bytes f.name; number = f.number; options = map option_view f.options.items }
+
+-- a statement that declares a field, or a group of fields
+mutual
+  pub data FieldStatementSyntax : Type 0 where
+    field : FieldSyntax → FieldStatementSyntax
+    group : Place → Option Label → Bytes → ℤ → FieldStatementList → FieldStatementSyntax
+
+  pub data FieldStatementList : Type 0 where
+    no_field_statements : FieldStatementList
+    more_field_statements : FieldStatementSyntax → FieldStatementList → FieldStatementList
+
+abbrev pub field_statements : List FieldStatementSyntax → FieldStatementList
+field_statements [] = no_field_statements
+field_statements (f ∷ fs) = more_field_statements f (field_statements fs)
+
+pub record GroupSyntax : Type 0 where
+  pub place : Place
+  pub label : Option Label
+  pub name : Bytes
+  pub number : ℤ
+  pub fields : List FieldStatementSyntax
+
+abbrev pub group_of : GroupSyntax → FieldStatementSyntax
+group_of g = group g.place g.label g.name g.number (field_statements g.fields)
+
+abbrev pub group_step : Group-F FieldStatementSyntax GroupSyntax → GroupSyntax
+group_step g = record { place = g.place; label = g.label; name = string_bytes g.name; number = g.number; fields = g.fields.items }
+
+abbrev pub field_statement_step : FieldStatement-F FieldStatementSyntax GroupSyntax → FieldStatementSyntax
+field_statement_step (FieldStatement-F.Field f) = field (field_view f)
+field_statement_step (FieldStatement-F.Group g) = group_of g
+
+abbrev pub field_statement_view : FieldStatement → FieldStatementSyntax
+field_statement_view = fold-FieldStatement FieldStatementSyntax GroupSyntax field_statement_step group_step
+
+abbrev pub group_view : Group → GroupSyntax
+group_view g = record { place = g.place; label = g.label; name = string_bytes g.name; number = g.number; fields = map field_statement_view g.fields.items }
+
+-- ---- parts of messages and enums
+
+-- numbers from the first to the last with both; the first may be above the last
+pub record RangeSyntax : Type 0 where
+  pub from : ℤ
+  pub to : ℤ
+
+pub data ReservedSyntax : Type 0 where
+  reserved_ranges : List RangeSyntax → ReservedSyntax
+  reserved_names : List Bytes → ReservedSyntax
+
+pub record ReservedStatementSyntax : Type 0 where
+  pub place : Place
+  pub reserved : ReservedSyntax
+
+pub record ExtensionsSyntax : Type 0 where
+  pub place : Place
+  pub ranges : List RangeSyntax
+
+pub data OneofStatementSyntax : Type 0 where
+  oneof_option : OptionStatementSyntax → OneofStatementSyntax
+  oneof_field : FieldStatementSyntax → OneofStatementSyntax
+
+pub record OneofSyntax : Type 0 where
+  pub place : Place
+  pub name : Bytes
+  pub body : List OneofStatementSyntax
+
+pub record ExtendSyntax : Type 0 where
+  pub place : Place
+  pub extendee : Bytes
+  pub fields : List FieldStatementSyntax
+
+pub record EnumValueSyntax : Type 0 where
+  pub place : Place
+  pub name : Bytes
+  pub number : ℤ
+  pub options : List OptionSyntax
+
+pub data EnumStatementSyntax : Type 0 where
+  enum_reserved : ReservedStatementSyntax → EnumStatementSyntax
+  enum_option : OptionStatementSyntax → EnumStatementSyntax
+  enum_value : EnumValueSyntax → EnumStatementSyntax
+
+pub record EnumSyntax : Type 0 where
+  pub place : Place
+  pub name : Bytes
+  pub body : List EnumStatementSyntax
+
+abbrev pub range_view : FieldNumberRange → RangeSyntax
+range_view r = record { from = r.from; to = r.to }
+
+abbrev pub reserved_view : Reserved → ReservedSyntax
+reserved_view (reserved.Ranges rs) = reserved_ranges (map range_view rs.items)
+reserved_view (reserved.Names ns) = reserved_names (map string_bytes ns.items)
+
+abbrev pub reserved_statement_view : ReservedStatement → ReservedStatementSyntax
+reserved_statement_view r = record { place = r.place; reserved = reserved_view r.reserved }
+
+abbrev pub extensions_view : Extensions → ExtensionsSyntax
+extensions_view e = record { place = e.place; ranges = map range_view e.ranges.items }
+
+abbrev pub oneof_statement_view : OneOfStatement → OneofStatementSyntax
+oneof_statement_view (oneof_statement.Option o) = oneof_option (option_statement_view o)
+oneof_statement_view (oneof_statement.Field f) = oneof_field (field_statement_view f)
+
+abbrev pub oneof_view : OneOf → OneofSyntax
+oneof_view o = record { place = o.place; name = string_bytes o.name; body = map oneof_statement_view o.body.items }
+
+abbrev pub extend_view : Extend → ExtendSyntax
+extend_view e = record { place = e.place; extendee = string_bytes e.extendee; fields = map field_statement_view e.fields.items }
+
+abbrev pub value_view : EnumValue → EnumValueSyntax
+value_view v = record { place = v.place; name = string_bytes v.name; number = v.number; options = map option_view v.options.items }
+
+abbrev pub enum_statement_view : EnumStatement → EnumStatementSyntax
+enum_statement_view (enum_statement.Reserved r) = enum_reserved (reserved_statement_view r)
+enum_statement_view (enum_statement.Option o) = enum_option (option_statement_view o)
+enum_statement_view (enum_statement.Value v) = enum_value (value_view v)
+
+abbrev pub enum_view : Enumeration → EnumSyntax
+enum_view e = record { place = e.place; name = string_bytes e.name; body = map enum_statement_view e.body.items }
+
+-- ---- messages
+
+mutual
+  pub data MessageStatementSyntax : Type 0 where
+    message_reserved : ReservedStatementSyntax → MessageStatementSyntax
+    message_oneof : OneofSyntax → MessageStatementSyntax
+    message_extend : ExtendSyntax → MessageStatementSyntax
+    message_message : Place → Bytes → MessageStatementList → MessageStatementSyntax
+    message_enum : EnumSyntax → MessageStatementSyntax
+    message_extensions : ExtensionsSyntax → MessageStatementSyntax
+    message_option : OptionStatementSyntax → MessageStatementSyntax
+    message_field : FieldStatementSyntax → MessageStatementSyntax
+
+  pub data MessageStatementList : Type 0 where
+    no_statements : MessageStatementList
+    more_statements : MessageStatementSyntax → MessageStatementList → MessageStatementList
 
 pub record MessageSyntax : Type 0 where
   pub place : Place
   pub name : Bytes
-  pub body : List BodySyntax
+  pub body : List MessageStatementSyntax
 
--- a statement of a file
+abbrev pub message_statements : List MessageStatementSyntax → MessageStatementList
+message_statements [] = no_statements
+message_statements (s ∷ ss) = more_statements s (message_statements ss)
+
+abbrev pub nested_message : MessageSyntax → MessageStatementSyntax
+nested_message m = message_message m.place m.name (message_statements m.body)
+
+abbrev pub message_step : Message-F MessageStatementSyntax MessageSyntax → MessageSyntax
+message_step m = record { place = m.place; name = string_bytes m.name; body = m.body.items }
+
+abbrev pub message_statement_step : MessageStatement-F MessageStatementSyntax MessageSyntax → MessageStatementSyntax
+message_statement_step (MessageStatement-F.Reserved r) = message_reserved (reserved_statement_view r)
+message_statement_step (MessageStatement-F.OneOf o) = message_oneof (oneof_view o)
+message_statement_step (MessageStatement-F.Extend e) = message_extend (extend_view e)
+message_statement_step (MessageStatement-F.Message m) = nested_message m
+message_statement_step (MessageStatement-F.Enumeration e) = message_enum (enum_view e)
+message_statement_step (MessageStatement-F.Extensions e) = message_extensions (extensions_view e)
+message_statement_step (MessageStatement-F.Option o) = message_option (option_statement_view o)
+message_statement_step (MessageStatement-F.Field f) = message_field (field_statement_view f)
+
+abbrev pub message_statement_view : MessageStatement → MessageStatementSyntax
+message_statement_view = fold-MessageStatement MessageStatementSyntax MessageSyntax message_statement_step message_step
+
+abbrev pub message_view : Message → MessageSyntax
+message_view = fold-Message MessageStatementSyntax MessageSyntax message_statement_step message_step
+
+-- ---- services
+
+pub record MethodSyntax : Type 0 where
+  pub place : Place
+  pub name : Bytes
+  pub input : Bytes
+  pub output : Bytes
+  pub client_streaming : Bool
+  pub server_streaming : Bool
+  pub options : List OptionStatementSyntax
+
+pub data ServiceStatementSyntax : Type 0 where
+  service_method : MethodSyntax → ServiceStatementSyntax
+  service_option : OptionStatementSyntax → ServiceStatementSyntax
+
+pub record ServiceSyntax : Type 0 where
+  pub place : Place
+  pub name : Bytes
+  pub body : List ServiceStatementSyntax
+
+abbrev pub method_view : Method → MethodSyntax
+method_view m = record { place = m.place; name = string_bytes m.name; input = string_bytes m.input; output = string_bytes m.output; client_streaming = m.client_streaming; server_streaming = m.server_streaming; options = map option_statement_view m.options.items }
+
+abbrev pub service_statement_view : ServiceStatement → ServiceStatementSyntax
+service_statement_view (service_statement.Method m) = service_method (method_view m)
+service_statement_view (service_statement.Option o) = service_option (option_statement_view o)
+
+abbrev pub service_view : Service → ServiceSyntax
+service_view s = record { place = s.place; name = string_bytes s.name; body = map service_statement_view s.body.items }
+
+-- ---- files
+
+pub record ImportSyntax : Type 0 where
+  pub place : Place
+  pub vis : ImportVis
+  pub path : Bytes
+
+pub record PackageSyntax : Type 0 where
+  pub place : Place
+  pub name : Bytes
+
 pub data StatementSyntax : Type 0 where
-  message : MessageSyntax → StatementSyntax
+  file_import : ImportSyntax → StatementSyntax
+  file_package : PackageSyntax → StatementSyntax
+  file_option : OptionStatementSyntax → StatementSyntax
+  file_message : MessageSyntax → StatementSyntax
+  file_enum : EnumSyntax → StatementSyntax
+  file_extend : ExtendSyntax → StatementSyntax
+  file_service : ServiceSyntax → StatementSyntax
 
 pub record FileSyntax : Type 0 where
   pub syntax : Syntax
   pub statements : List StatementSyntax
 
--- ---- the views of the trees
+abbrev pub import_view : Import → ImportSyntax
+import_view i = record { place = i.place; vis = i.vis; path = path_buf_text i.path }
 
-abbrev pub pieces_of : StrLit → List Bytes
-pieces_of s = map string_bytes s.pieces.items
-
-abbrev pub field_view : Field → FieldSyntax
-field_view f = record { place = f.place; label = f.label; type_ = f.type_; name = string_bytes f.name; number = f.number }
-
-abbrev pub body_view : MessageStatement → BodySyntax
-body_view (body.Field f) = field (field_view f)
-
-abbrev pub message_view : Message → MessageSyntax
-message_view m = record { place = m.place; name = string_bytes m.name; body = map body_view m.body.items }
+abbrev pub package_view : Package → PackageSyntax
+package_view p = record { place = p.place; name = string_bytes p.name }
 
 abbrev pub statement_view : FileStatement → StatementSyntax
-statement_view (statement.Message m) = message (message_view m)
+statement_view (file_statement.Import i) = file_import (import_view i)
+statement_view (file_statement.Package p) = file_package (package_view p)
+statement_view (file_statement.Option o) = file_option (option_statement_view o)
+statement_view (file_statement.Message m) = file_message (message_view m)
+statement_view (file_statement.Enumeration e) = file_enum (enum_view e)
+statement_view (file_statement.Extend e) = file_extend (extend_view e)
+statement_view (file_statement.Service s) = file_service (service_view s)
 
 abbrev pub file_view : FileTree → FileSyntax
 file_view t = record { syntax = t.syntax; statements = map statement_view t.statements.items }
+
+-- ---- the package
+
+-- the package that counts behind a statement, and before it
+abbrev pub package_behind : Option Bytes → StatementSyntax → Option Bytes
+package_behind before (file_package p) = Some p.name
+package_behind before _ = before
+
+-- Of several `package` statements the last counts.
+abbrev pub package_of : FileSyntax → Option Bytes
+package_of t = fold package_behind None t.statements

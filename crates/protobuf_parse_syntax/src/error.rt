@@ -3,6 +3,7 @@
 ghost use Rattle.std.specs.Prelude.{◌≡◌};
 ghost use Rattle.protobuf_parse_syntax.specs.declared.error.ParserError.TheVariants.{Memory};
 
+use protobuf_parse_base::proto_path::PathError;
 use std::alloc::{AllocError, AllocFailed};
 use thiserror::Error;
 
@@ -23,16 +24,32 @@ pub enum ParserError {
     IntegerOverflow,
     #[error("S6 NestingTooDeep")]
     NestingTooDeep,
+    #[error("S7 OptionNameTooLong")]
+    OptionNameTooLong,
     #[error("S8 IncorrectInput")]
     IncorrectInput,
+    #[error("S9 ExpectConstant")]
+    ExpectConstant,
     #[error("S10 UnknownSyntax")]
     UnknownSyntax,
     #[error("S11 LabelNotAllowed")]
     LabelNotAllowed,
     #[error("S12 LabelRequired")]
     LabelRequired,
+    #[error("S13 GroupNameShouldStartWithUpperCase")]
+    GroupNameShouldStartWithUpperCase,
+    #[error("S14 MapFieldNotAllowed")]
+    MapFieldNotAllowed,
     #[error("S15 StrLitDecode")]
     StrLitDecode,
+    #[error("S16 OneOfInGroup")]
+    OneOfInGroup,
+    #[error("S17 OnlyFieldsInGroup")]
+    OnlyFieldsInGroup,
+    #[error("S18 FloatConstant")]
+    FloatConstant,
+    #[error("S19 BadImportPath: {0}")]
+    BadImportPath(PathError),
     #[error("S20 TextTooLong")]
     TextTooLong,
 }

@@ -1,6 +1,7 @@
 //! The tokens of a text.
 
-ghost use Rattle.std.specs.Prelude.{◌≡◌, ◌⊎◌, ◌+◌, length, drop, IfOk, IfErr};
+ghost use Rattle.std.specs.Prelude.{◌≡◌, ◌⊎◌, ◌+◌, [], length, drop, IfOk, IfErr, MatchResult};
+ghost use Rattle.protobuf_parse_syntax.specs.Text.{IsFault};
 ghost use Rattle.protobuf_parse_syntax.specs.Cut as cut;
 ghost use Rattle.protobuf_parse_syntax.specs.Cut.{mark_len, IsShort, stream, HasTokens, IsRefused, Answers, Reads, Refuses, place_of, out_of_memory};
 

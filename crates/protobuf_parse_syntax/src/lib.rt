@@ -1,11 +1,13 @@
 //! The syntax of `.proto` files: from a text to its tokens, and from them to its tree.
 #![tactic(auto)]
 
+mod dependencies;
 mod error;
 mod lexer;
 mod parser;
 mod tree;
 
+pub use dependencies::{Dependencies, parse_dependencies};
 pub use error::{ParserError, ParserErrorWithLocation};
 pub use lexer::laws::{
     cuts_are_unique, decoding_is_unique, escaped_bytes_decode, places_count_characters,
@@ -16,5 +18,9 @@ pub use lexer::token::{Place, Token, TokenKind, TokenStream};
 pub use lexer::tokenize;
 pub use parser::{parse_file, tree_of};
 pub use tree::{
-    Field, FileStatement, FileTree, Label, Message, MessageStatement, Scalar, Syntax, Type,
+    ConstantField, ConstantFieldName, EnumStatement, EnumValue, Enumeration, Extend, Extensions,
+    Field, FieldNumberRange, FieldStatement, FileStatement, FileTree, Group, Import, ImportVis,
+    Label, Message, MessageStatement, Method, OneOf, OneOfStatement, OptionStatement, Package,
+    ProtobufConstant, ProtobufOption, ProtobufOptionName, ProtobufOptionNamePart, Reserved,
+    ReservedStatement, Scalar, Service, ServiceStatement, Syntax, Type,
 };

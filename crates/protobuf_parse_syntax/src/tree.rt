@@ -1,6 +1,27 @@
-//! The syntax tree of a file: its statements in source order, each with the place of its first token.
+//! The syntax tree of a file: the statements of the file and of each body in one list, in source order,
+//! each with the place of its first token. Empty statements, lone semicolons, are not kept.
+
+mod constant;
+mod declaration;
+mod field;
+mod option;
+#[cfg(test)]
+mod tests;
+
+ghost use Rattle.std.specs.Prelude.{◌≡◌};
+ghost use Rattle.protobuf_parse_syntax.specs.Trees.{file_view, statement_view, package_of, package_behind};
+ghost use Rattle.protobuf_parse_syntax.specs.Code.{seen_by};
 
 use crate::lexer::token::Place;
+pub use constant::{ConstantField, ConstantFieldName, ProtobufConstant};
+pub use declaration::{
+    EnumStatement, EnumValue, Enumeration, Extend, Extensions, FieldNumberRange, Message,
+    MessageStatement, Method, OneOf, OneOfStatement, Reserved, ReservedStatement, Service,
+    ServiceStatement,
+};
+pub use field::{Field, FieldStatement, Group, Label, Scalar, Type};
+pub use option::{OptionStatement, ProtobufOption, ProtobufOptionName, ProtobufOptionNamePart};
+use protobuf_parse_base::proto_path::ProtoPathBuf;
 
 /// The version of the language that a file is written in.
 #[derive(Clone, Copy, Debug, PartialEq, Eq)]
@@ -9,7 +30,7 @@ pub enum Syntax {
     Proto3,
 }
 
-/// A file. Empty statements, lone semicolons, are not kept.
+/// A file.
 #[derive(Debug, Drop)]
 pub struct FileTree {
     /// As the `syntax` statement says; proto2 in a file without one.
@@ -17,69 +38,63 @@ pub struct FileTree {
     pub statements: Vec<FileStatement>,
 }
 
+impl FileTree {
+    /// The file's package, without a dot before it: the name of the last `package` statement, since it is
+    /// the one that counts, and `None` where there is none.
+    pub fn package(&self) -> Option<&str>
+        ensures { seen_by (λ z. z.now) result ≡ package_of (file_view self.now) }
+    {
+        let mut name = None;
+        'statements: for statement in &self.statements {
+            name = package_behind(statement, name);
+        }
+        name
+    }
+}
+
+/// The package that counts behind a statement.
+fn package_behind<'a>(statement: &'a FileStatement, before: Option<&'a str>) -> Option<&'a str>
+    ensures { seen_by (λ z. z.now) result
+        ≡ package_behind (seen_by (λ z. z.now) before.entry) (statement_view statement.now) }
+{
+    match statement {
+        FileStatement::Package(package) => Some(package.name.as_str()),
+        _ => before,
+    }
+}
+
 /// A statement of a file.
 #[derive(Debug, Drop)]
 pub enum FileStatement {
+    Import(Import),
+    Package(Package),
+    Option(OptionStatement),
     Message(Message),
+    Enumeration(Enumeration),
+    Extend(Extend),
+    Service(Service),
 }
 
-/// `message NAME { .. }`.
+/// How an imported file is seen.
+#[derive(Clone, Copy, Debug, PartialEq, Eq)]
+pub enum ImportVis {
+    Default,
+    Public,
+    Weak,
+}
+
+/// `import "PATH";`, `import public "PATH";` or `import weak "PATH";`.
 #[derive(Debug, Drop)]
-pub struct Message {
-    /// The place of the word `message`.
+pub struct Import {
     pub place: Place,
-    pub name: String,
-    pub body: Vec<MessageStatement>,
+    pub vis: ImportVis,
+    pub path: ProtoPathBuf,
 }
 
-/// A statement of a message's body.
+/// `package NAME;`.
 #[derive(Debug, Drop)]
-pub enum MessageStatement {
-    Field(Field),
-}
-
-/// `[LABEL] TYPE NAME = NUMBER;`.
-#[derive(Debug, Drop)]
-pub struct Field {
-    /// The place of the label, or of the type where there is none.
+pub struct Package {
     pub place: Place,
-    pub label: Option<Label>,
-    pub type_: Type,
+    /// Identifiers with dots between them.
     pub name: String,
-    /// From 0 to 2147483647.
-    pub number: i32,
-}
-
-/// What a field's values are counted by.
-#[derive(Clone, Copy, Debug, PartialEq, Eq)]
-pub enum Label {
-    Optional,
-    Required,
-    Repeated,
-}
-
-/// The type of a field's values.
-#[derive(Clone, Copy, Debug, PartialEq, Eq)]
-pub enum Type {
-    Scalar(Scalar),
-}
-
-/// A type that has a word of its own in the language.
-#[derive(Clone, Copy, Debug, PartialEq, Eq)]
-pub enum Scalar {
-    Int32,
-    Int64,
-    Uint32,
-    Uint64,
-    Sint32,
-    Sint64,
-    Fixed32,
-    Sfixed32,
-    Fixed64,
-    Sfixed64,
-    Bool,
-    String,
-    Bytes,
-    Float,
-    Double,
 }

@@ -30,6 +30,14 @@ fn lists_files(rt: HostRuntime) -> Result<(), Fail> {
             "file f.proto\n  syntax proto3\n  message Foo\n    field optional int32 a = 1 json \"a\"\n",
         ),
         (
+            "package a.b; message M {} package c.d; syntax",
+            "error in `f.proto`: at 1:40: S8 IncorrectInput",
+        ),
+        (
+            "package a.b; message M {} package c.d;",
+            "file f.proto\n  syntax proto2\n  package c.d\n  message M\n",
+        ),
+        (
             "message A { optional string foo_bar_1 = 2147483647; ; required bytes _b = 0;\n\
              repeated sfixed64 message = 0x1F; } /* c */ message message {} // end",
             "file f.proto\n  syntax proto2\n  message A\n    \
@@ -105,10 +113,6 @@ fn tells_faults_with_their_places(rt: HostRuntime) -> Result<(), Fail> {
         ("syntax = '\\400';", "1:10: S15 StrLitDecode"),
         ("message A {} syntax = 'proto3';", "1:14: S8 IncorrectInput"),
         (
-            "syntax = 'proto3'; message A { optional int32 x = 1; }",
-            "1:32: S11 LabelNotAllowed",
-        ),
-        (
             "syntax = 'proto3'; message A { required int32 x = 1; }",
             "1:32: S11 LabelNotAllowed",
         ),
@@ -118,15 +122,6 @@ fn tells_faults_with_their_places(rt: HostRuntime) -> Result<(), Fail> {
         ),
         (
             "message A { optional int32 x = -1; }",
-            "1:32: S8 IncorrectInput",
-        ),
-        (
-            "message A { optional Foo x = 1; }",
-            "1:22: S8 IncorrectInput",
-        ),
-        ("message A { option foo = 1; }", "1:13: S8 IncorrectInput"),
-        (
-            "syntax = 'proto3'; message A { option foo = 1; }",
             "1:32: S8 IncorrectInput",
         ),
         (
@@ -186,6 +181,94 @@ fn refuses_equal_names_and_bytes_that_are_no_text(rt: HostRuntime) -> Result<(),
     ];
     for (content, want) in contents {
         assert_eq!(rt; told(rt.alloc(), content)?.as_str(), want);
+    }
+    Ok(())
+}
+
+/// What a file is told to have no descriptor for, by its word.
+fn unsupported(alloc: Global, word: &str) -> Result<String, AllocError> {
+    format!(in alloc; "error in `f.proto`: Unsupported: {word}")
+}
+
+#[test]
+fn refuses_what_a_file_cannot_have_yet(rt: HostRuntime) -> Result<(), Fail> {
+    for (statement, word) in [
+        ("import 'a.proto';", "import"),
+        ("import public 'a.proto';", "import"),
+        ("option java_package = 'a';", "option"),
+        ("enum E { A = 0; }", "enum"),
+        ("extend M { optional int32 a = 1; }", "extend"),
+        ("extend M {}", "extend"),
+        ("service S {}", "service"),
+    ] {
+        let want = unsupported(rt.alloc(), word)?;
+        assert_eq!(rt;
+            told(rt.alloc(), statement.as_bytes())?,
+            want,
+            "{statement}"
+        );
+        let among = format!(in rt.alloc(); "package p; message A {{}} {statement} message Z {{}}")?;
+        assert_eq!(rt; told(rt.alloc(), among.as_bytes())?, want, "{among}");
+    }
+    Ok(())
+}
+
+#[test]
+fn refuses_what_a_message_cannot_have_yet(rt: HostRuntime) -> Result<(), Fail> {
+    for (statement, word) in [
+        ("reserved 1 to 3, 5;", "reserved"),
+        ("reserved 'b';", "reserved"),
+        ("oneof o { int32 b = 1; }", "oneof"),
+        ("oneof o {}", "oneof"),
+        ("extend B { optional int32 b = 1; }", "extend"),
+        ("message B {}", "message"),
+        ("enum E { V = 0; }", "enum"),
+        ("extensions 100 to max;", "extensions"),
+        ("option deprecated = true;", "option"),
+        ("optional group G = 1 { optional int32 b = 2; }", "group"),
+        ("repeated group G = 1 {}", "group"),
+        ("map<int32, string> b = 1;", "map"),
+        ("optional B b = 1;", "type"),
+        ("repeated .B.C b = 1;", "type"),
+        ("required int32 b = 1 [deprecated = false];", "option"),
+        ("optional int32 b = 1 [default = 1];", "option"),
+        (
+            "optional int32 b = 1 [json_name = 'c', (d).e = 2];",
+            "option",
+        ),
+    ] {
+        let want = unsupported(rt.alloc(), word)?;
+        let alone = format!(in rt.alloc(); "message A {{ {statement} }}")?;
+        assert_eq!(rt; told(rt.alloc(), alone.as_bytes())?, want, "{alone}");
+        let field = "optional int32";
+        let among = format!(in rt.alloc();
+            "message A {{ {field} a = 8; {statement} {field} z = 9; }}"
+        )?;
+        assert_eq!(rt; told(rt.alloc(), among.as_bytes())?, want, "{among}");
+        let last = format!(in rt.alloc();
+            "message Y {{}} message Z {{ {field} a = 8; {statement} }}"
+        )?;
+        assert_eq!(rt; told(rt.alloc(), last.as_bytes())?, want, "{last}");
+    }
+    Ok(())
+}
+
+#[test]
+fn refuses_what_proto3_cannot_have_yet(rt: HostRuntime) -> Result<(), Fail> {
+    for (statement, word) in [
+        ("optional int32 b = 1;", "optional"),
+        ("map<int32, string> b = 1;", "map"),
+        ("B b = 1;", "type"),
+        ("int32 b = 1 [deprecated = false];", "option"),
+        ("reserved 1;", "reserved"),
+        ("group G = 1 {}", "group"),
+        ("oneof o { int32 b = 1; }", "oneof"),
+    ] {
+        let want = unsupported(rt.alloc(), word)?;
+        let text = format!(in rt.alloc();
+            "syntax = 'proto3'; message A {{ int32 a = 8; {statement} repeated int32 z = 9; }}"
+        )?;
+        assert_eq!(rt; told(rt.alloc(), text.as_bytes())?, want, "{text}");
     }
     Ok(())
 }

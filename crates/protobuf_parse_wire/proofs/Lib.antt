@@ -7,3 +7,6 @@ pub mod Varint
 pub mod Back
 pub mod Again
 pub mod Appending
+mod Rows
+mod Writable
+mod Options

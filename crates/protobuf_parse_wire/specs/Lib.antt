@@ -8,3 +8,7 @@ pub mod Law
 pub mod Writing
 pub mod Views
 pub mod Indexed
+pub mod OptionFields
+pub mod CustomOptions
+pub mod CustomFaults
+pub mod OptionLaw

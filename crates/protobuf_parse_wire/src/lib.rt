@@ -14,7 +14,7 @@ pub use entry::{Entry, EntryValue};
 pub use fault::ReadFault;
 pub use field::{ReadField, ReadValue};
 pub use kind::Kind;
-pub use law::spelled_is_read;
+pub use law::{options_are_read, spelled_is_read};
 pub use reader::read_custom;
 
 #[cfg(test)]

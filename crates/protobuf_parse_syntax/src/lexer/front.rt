@@ -1,6 +1,6 @@
 //! What stands at the front of a text.
 
-ghost use Rattle.std.specs.Prelude.{◌≡◌, ◌<◌, ◌≤◌, length, slice_index, true, false, MatchOption};
+ghost use Rattle.std.specs.Prelude.{◌≡◌, ◌≢◌, ℕ, ◌<◌, ◌≤◌, length, slice_index, true, false, MatchOption};
 ghost use Rattle.protobuf_parse_syntax.specs.Text.{is_in, IsBlock, IsQuote, IsString, IsIdent, HasNoComment, Longest, NoFront};
 ghost use Rattle.protobuf_parse_syntax.specs.Scan as scan;
 ghost use Rattle.protobuf_parse_syntax.specs.Scan.{Stands};

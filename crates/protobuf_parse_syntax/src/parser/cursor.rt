@@ -1,24 +1,25 @@
 //! A cursor over the tokens of a file.
 
-ghost use Rattle.std.specs.Prelude.{◌≡◌, ◌∷◌, [], map, string_bytes};
+ghost use Rattle.std.specs.Prelude.{◌≡◌, ◌≤◌, ◌∷◌, [], map, string_bytes, option_copied, OnOk};
+ghost use Rattle.protobuf_parse_base.specs.Whole.{whole};
 ghost use Rattle.protobuf_parse_base.specs.Readers.{starts};
 ghost use Rattle.protobuf_parse_base.specs.Conditions.{mark_of};
 ghost use Rattle.protobuf_parse_syntax.specs.Tokens.{lexeme};
 ghost use Rattle.protobuf_parse_syntax.specs.Classes as class;
 ghost use Rattle.protobuf_parse_syntax.specs.Classes.{lexicon};
-ghost use Rattle.protobuf_parse_syntax.specs.Grammar.{place_of, labels, proto3_labels, scalars};
+ghost use Rattle.protobuf_parse_syntax.specs.Grammar.{place_of};
 ghost use Rattle.protobuf_parse_syntax.specs.Productions as read;
-ghost use Rattle.protobuf_parse_syntax.specs.Code.{left, ahead, Gives, is_end};
+ghost use Rattle.protobuf_parse_syntax.specs.Code.{left, Gives, AtOneToken, is_end, seen_by, next_ident, floats_second};
+ghost use Rattle.protobuf_parse_syntax.specs.Words.{behind_next};
 
 use crate::error::ParserError;
 use crate::lexer::str_lit::unquoted;
 use crate::lexer::token::{Place, Token, TokenKind};
 use crate::parser::refusal::Refusal;
-use crate::tree::{Label, Scalar};
 use std::alloc::Global;
 
 /// The tokens that are not read yet. A call that refuses a token leaves the cursor before it.
-#[derive(Drop)]
+#[derive(Clone, Copy, Debug)]
 pub struct Cursor<'t, 'text> {
     rest: &'t [Token<'text>],
     end: Place,
@@ -27,8 +28,7 @@ pub struct Cursor<'t, 'text> {
 impl<'t, 'text> Cursor<'t, 'text> {
     /// A cursor before the first token.
     pub fn new(rest: &'t [Token<'text>], end: Place) -> Cursor<'t, 'text>
-        ensures tokens { ahead result ≡ map lexeme rest.now }
-        ensures end { result.end ≡ end }
+        ensures { left result ≡ whole (map lexeme rest.now) end }
     {
         Cursor { rest, end }
     }
@@ -67,8 +67,7 @@ impl<'t, 'text> Cursor<'t, 'text> {
 
     /// Reads this symbol. S8 at any other token.
     pub fn symbol(&mut self, symbol: char) -> Result<(), Refusal>
-        ensures { Gives (λ u. tt) result (left self.new)
-            ((read.symbol symbol).run (left self.old)) }
+        ensures { Gives (λ u. tt) result (left self.new) ((read.symbol symbol).run (left self.old)) }
     {
         match self.rest {
             [token, rest @ ..] => match token.kind {
@@ -82,37 +81,24 @@ impl<'t, 'text> Cursor<'t, 'text> {
         }
     }
 
-    /// Whether a statement of a body may begin here: at a semicolon or an identifier.
-    #[tactic(auto, unfolding(protobuf_parse_base::specs::Readers::starts))]
-    pub fn begins_statement(&self) -> bool
-        ensures { result ≡ starts lexicon (class.symbol 59 ∷ class.ident [] ∷ []) (left self.now) }
+    /// Reads this symbol. The fault at any other token.
+    pub fn symbol_or(&mut self, symbol: char, fault: ParserError) -> Result<(), Refusal>
+        requires { AtOneToken fault }
+        ensures { Gives (λ u. tt) result (left self.new) ((read.symbol symbol).run (left self.old)) }
     {
         match self.rest {
-            [token, ..] => match token.kind {
-                TokenKind::Symbol(symbol) => symbol == ';',
-                TokenKind::Ident => true,
-                _ => false,
+            [token, rest @ ..] => match token.kind {
+                TokenKind::Symbol(other) if other == symbol => {
+                    self.rest = rest;
+                    Ok(())
+                }
+                _ => Err(Refusal::Next(fault)),
             },
-            [] => false,
+            [] => Err(Refusal::Next(fault)),
         }
     }
 
-    /// Whether a statement of a file begins here: at a semicolon or one of its words.
-    #[tactic(auto, unfolding(protobuf_parse_base::specs::Readers::starts))]
-    pub fn begins_file_statement(&self) -> bool
-        ensures { result ≡ starts lexicon read.file_firsts (left self.now) }
-    {
-        match self.rest {
-            [token, ..] => match token.kind {
-                TokenKind::Symbol(symbol) => symbol == ';',
-                TokenKind::Ident => token.text == "message",
-                _ => false,
-            },
-            [] => false,
-        }
-    }
-
-    /// Whether this identifier comes next.
+    /// Whether this word comes next.
     #[tactic(auto, unfolding(protobuf_parse_base::specs::Readers::starts))]
     pub fn sees_word(&self, word: &str) -> bool
         ensures { result ≡ starts lexicon (class.word word.now ∷ []) (left self.now) }
@@ -126,10 +112,9 @@ impl<'t, 'text> Cursor<'t, 'text> {
         }
     }
 
-    /// Reads this identifier. S8 at any other token.
+    /// Reads this word. S8 at any other token.
     pub fn word(&mut self, word: &str) -> Result<(), Refusal>
-        ensures { Gives (λ u. tt) result (left self.new)
-            ((read.word word.now).run (left self.old)) }
+        ensures { Gives (λ u. tt) result (left self.new) ((read.word word.now).run (left self.old)) }
     {
         match self.rest {
             [token, rest @ ..] => match token.kind {
@@ -143,7 +128,56 @@ impl<'t, 'text> Cursor<'t, 'text> {
         }
     }
 
-    /// Reads an identifier. S8 at any other token.
+    /// Whether an identifier, which may be any word, comes next.
+    #[tactic(auto, unfolding(protobuf_parse_base::specs::Readers::starts))]
+    pub fn sees_ident(&self) -> bool
+        ensures { result ≡ starts lexicon (class.ident [] ∷ []) (left self.now) }
+    {
+        match self.rest {
+            [token, ..] => matches!(token.kind, TokenKind::Ident),
+            [] => false,
+        }
+    }
+
+    /// The identifier that comes next.
+    pub fn next_word(&self) -> Option<&'text str>
+        ensures { seen_by (λ z. z.now) result ≡ next_ident (left self.now) }
+    {
+        match self.rest {
+            [token, ..] => match token.kind {
+                TokenKind::Ident => Some(token.text),
+                _ => None,
+            },
+            [] => None,
+        }
+    }
+
+    /// Reads any token, if one is left.
+    pub fn skip(&mut self)
+        ensures { left self.new ≡ behind_next (left self.old) }
+    {
+        if let [_, rest @ ..] = self.rest {
+            self.rest = rest;
+        }
+    }
+
+    /// Reads an identifier, which may be any word. S8 at any other token.
+    pub fn ident_text(&mut self) -> Result<&'text str, Refusal>
+        ensures { Gives (λ z. z.now) result (left self.new) (read.ident.run (left self.old)) }
+    {
+        match self.rest {
+            [token, rest @ ..] => match token.kind {
+                TokenKind::Ident => {
+                    self.rest = rest;
+                    Ok(token.text)
+                }
+                _ => Err(Refusal::Next(ParserError::IncorrectInput)),
+            },
+            [] => Err(Refusal::Next(ParserError::IncorrectInput)),
+        }
+    }
+
+    /// Reads an identifier, which may be any word. S8 at any other token.
     pub fn ident(&mut self, alloc: Global) -> Result<String, Refusal>
         ensures { Gives string_bytes result (left self.new) (read.ident.run (left self.old)) }
     {
@@ -160,18 +194,64 @@ impl<'t, 'text> Cursor<'t, 'text> {
         }
     }
 
-    /// Reads a field's number, from 0 to 2147483647. S5 at a larger integer, S8 at any other token.
-    pub fn field_number(&mut self) -> Result<i32, Refusal>
+    /// Reads a group's name, an identifier that begins with an ASCII capital. S13 at any other identifier,
+    /// S8 at any other token.
+    pub fn group_name(&mut self, alloc: Global) -> Result<String, Refusal>
+        ensures { Gives string_bytes result (left self.new) (read.capital.run (left self.old)) }
+    {
+        match self.next_word() {
+            Some(name) => {
+                let bytes = name.as_bytes();
+                if !bytes.is_empty() && bytes[0].is_ascii_uppercase() {
+                    self.ident(alloc)
+                } else {
+                    Err(Refusal::Next(ParserError::GroupNameShouldStartWithUpperCase))
+                }
+            }
+            None => Err(Refusal::Next(ParserError::IncorrectInput)),
+        }
+    }
+
+    /// Whether an integer comes next.
+    #[tactic(auto, unfolding(protobuf_parse_base::specs::Readers::starts))]
+    pub fn sees_integer(&self) -> bool
+        ensures { result ≡ starts lexicon (class.integer ∷ []) (left self.now) }
+    {
+        match self.rest {
+            [token, ..] => matches!(token.kind, TokenKind::Integer(_)),
+            [] => false,
+        }
+    }
+
+    /// Reads an integer. S8 at any other token.
+    pub fn number(&mut self) -> Result<u64, Refusal>
         ensures { Gives (λ n. n) result (left self.new) (read.number.run (left self.old)) }
     {
         match self.rest {
             [token, rest @ ..] => match token.kind {
                 TokenKind::Integer(number) => {
-                    if number > 2147483647 {
+                    self.rest = rest;
+                    Ok(number)
+                }
+                _ => Err(Refusal::Next(ParserError::IncorrectInput)),
+            },
+            [] => Err(Refusal::Next(ParserError::IncorrectInput)),
+        }
+    }
+
+    /// Reads an integer of at most the limit. S5 at a larger one, S8 at any other token.
+    pub fn number_up_to(&mut self, limit: u64) -> Result<u64, Refusal>
+        requires { 2147483647 ≤ limit }
+        ensures { Gives (λ n. n) result (left self.new) ((read.number_up_to limit).run (left self.old)) }
+    {
+        match self.rest {
+            [token, rest @ ..] => match token.kind {
+                TokenKind::Integer(number) => {
+                    if number > limit {
                         return Err(Refusal::Next(ParserError::IntegerOverflow));
                     }
                     self.rest = rest;
-                    Ok(number as i32)
+                    Ok(number)
                 }
                 _ => Err(Refusal::Next(ParserError::IncorrectInput)),
             },
@@ -179,100 +259,13 @@ impl<'t, 'text> Cursor<'t, 'text> {
         }
     }
 
-    /// Whether a label comes next.
-    pub fn sees_label(&self) -> bool
-        ensures { result ≡ starts lexicon (read.words labels) (left self.now) }
+    /// Reads a field's number or a range's end, from 0 to 2147483647. S5 at a larger integer, S8 at any other token.
+    #[tactic(auto, unfolding(crate::specs::Productions::field_number), using(crate::specs::Code::fails_first))]
+    pub fn field_number(&mut self) -> Result<i32, Refusal>
+        ensures { Gives (λ n. n) result (left self.new) (read.field_number.run (left self.old)) }
     {
-        if self.sees_word("optional") {
-            return true;
-        }
-        if self.sees_word("required") {
-            return true;
-        }
-        self.sees_word("repeated")
-    }
-
-    /// Reads a label. Elsewhere a field lacks one, S12, or none begins, S8.
-    pub fn label(&mut self) -> Result<Label, Refusal>
-        ensures { Gives (λ l. l) result (left self.new) ((read.one_of labels).run (left self.old)) }
-    {
-        match self.rest {
-            [token, rest @ ..] => match token.kind {
-                TokenKind::Ident => {
-                    let label = match token.text {
-                        "optional" => Label::Optional,
-                        "required" => Label::Required,
-                        "repeated" => Label::Repeated,
-                        "reserved"
-                        | "oneof"
-                        | "extend"
-                        | "message"
-                        | "enum"
-                        | "extensions"
-                        | "option" => {
-                            return Err(Refusal::Next(ParserError::IncorrectInput));
-                        }
-                        _ => return Err(Refusal::Next(ParserError::LabelRequired)),
-                    };
-                    self.rest = rest;
-                    Ok(label)
-                }
-                _ => Err(Refusal::Next(ParserError::IncorrectInput)),
-            },
-            [] => Err(Refusal::Next(ParserError::IncorrectInput)),
-        }
-    }
-
-    /// Reads a label that is allowed in proto3. S11 at any other token.
-    pub fn proto3_label(&mut self) -> Result<Label, Refusal>
-        ensures { Gives (λ l. l) result (left self.new)
-            ((read.one_of proto3_labels).run (left self.old)) }
-    {
-        match self.rest {
-            [token, rest @ ..] => match token.kind {
-                TokenKind::Ident if token.text == "repeated" => {
-                    self.rest = rest;
-                    Ok(Label::Repeated)
-                }
-                _ => Err(Refusal::Next(ParserError::LabelNotAllowed)),
-            },
-            [] => Err(Refusal::Next(ParserError::LabelNotAllowed)),
-        }
-    }
-
-    /// Reads the type that has the next word. S8 at any other token.
-    pub fn scalar(&mut self) -> Result<Scalar, Refusal>
-        ensures { Gives (λ s. s) result (left self.new)
-            ((read.one_of scalars).run (left self.old)) }
-    {
-        match self.rest {
-            [token, rest @ ..] => match token.kind {
-                TokenKind::Ident => {
-                    let scalar = match token.text {
-                        "int32" => Scalar::Int32,
-                        "int64" => Scalar::Int64,
-                        "uint32" => Scalar::Uint32,
-                        "uint64" => Scalar::Uint64,
-                        "sint32" => Scalar::Sint32,
-                        "sint64" => Scalar::Sint64,
-                        "fixed32" => Scalar::Fixed32,
-                        "sfixed32" => Scalar::Sfixed32,
-                        "fixed64" => Scalar::Fixed64,
-                        "sfixed64" => Scalar::Sfixed64,
-                        "bool" => Scalar::Bool,
-                        "string" => Scalar::String,
-                        "bytes" => Scalar::Bytes,
-                        "float" => Scalar::Float,
-                        "double" => Scalar::Double,
-                        _ => return Err(Refusal::Next(ParserError::IncorrectInput)),
-                    };
-                    self.rest = rest;
-                    Ok(scalar)
-                }
-                _ => Err(Refusal::Next(ParserError::IncorrectInput)),
-            },
-            [] => Err(Refusal::Next(ParserError::IncorrectInput)),
-        }
+        let number = self.number_up_to(2147483647)?;
+        Ok(number as i32)
     }
 
     /// Whether a string comes next.
@@ -281,10 +274,7 @@ impl<'t, 'text> Cursor<'t, 'text> {
         ensures { result ≡ starts lexicon (class.text ∷ []) (left self.now) }
     {
         match self.rest {
-            [token, ..] => match token.kind {
-                TokenKind::Str => true,
-                _ => false,
-            },
+            [token, ..] => matches!(token.kind, TokenKind::Str),
             [] => false,
         }
     }
@@ -303,6 +293,31 @@ impl<'t, 'text> Cursor<'t, 'text> {
                 _ => Err(Refusal::Next(ParserError::IncorrectInput)),
             },
             [] => Err(Refusal::Next(ParserError::IncorrectInput)),
+        }
+    }
+
+    /// Whether a float comes next.
+    #[tactic(auto, unfolding(protobuf_parse_base::specs::Readers::starts))]
+    pub fn sees_float(&self) -> bool
+        ensures { result ≡ starts lexicon (class.float ∷ []) (left self.now) }
+    {
+        match self.rest {
+            [token, ..] => matches!(token.kind, TokenKind::Float),
+            [] => false,
+        }
+    }
+
+    /// Whether a float, or `inf` or `nan`, comes second.
+    pub fn sees_float_second(&self) -> bool
+        ensures { result ≡ floats_second (left self.now) }
+    {
+        match self.rest {
+            [_, token, ..] => match token.kind {
+                TokenKind::Float => true,
+                TokenKind::Ident => matches!(token.text, "inf" | "nan"),
+                _ => false,
+            },
+            _ => false,
         }
     }
 }

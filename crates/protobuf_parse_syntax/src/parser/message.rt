@@ -1,106 +1,211 @@
-//! Messages and their fields.
+//! Messages, oneofs and extensions.
 
 ghost use Rattle.std.specs.Prelude.{map};
-ghost use Rattle.protobuf_parse_syntax.specs.Productions as read;
-ghost use Rattle.protobuf_parse_syntax.specs.Trees.{field_view, body_view, message_view};
+ghost use Rattle.protobuf_parse_syntax.specs.Trees as view;
 ghost use Rattle.protobuf_parse_syntax.specs.Code.{left, Gives, seen_by};
+ghost use Rattle.protobuf_parse_syntax.specs.Nested as nest;
 
+use crate::error::ParserError;
 use crate::parser::cursor::Cursor;
+use crate::parser::enumeration::{enumeration, extensions, reserved};
+use crate::parser::field::{extend_body, field, oneof_field};
 use crate::parser::list::push_some;
+use crate::parser::name::name;
+use crate::parser::option::option;
 use crate::parser::refusal::Refusal;
-use crate::tree::{Field, Label, Message, MessageStatement, Syntax, Type};
+use crate::parser::words::{
+    begins_message_statement, begins_oneof_statement, field_fault, oneof_fault,
+};
+use crate::tree::{Extend, Message, MessageStatement, OneOf, OneOfStatement, Syntax};
 use std::alloc::Global;
 
-/// `message = "message" ident "{" { ";" | field } "}"`
-#[tactic(auto, unfolding(crate::specs::Productions::message))]
+/// A message of at most so many levels.
+#[cycle(message)]
+#[tactic(auto, using(crate::specs::Nested::message_zero, crate::specs::Nested::message_more))]
 pub fn message(
     alloc: Global,
     tokens: &mut Cursor<'_, '_>,
     syntax: Syntax,
+    levels: usize,
 ) -> Result<Message, Refusal>
-    ensures { Gives message_view result (left tokens.new)
-        ((read.message syntax).run (left tokens.old)) }
+    ensures { Gives view.message_view result (left tokens.new) ((nest.message syntax levels).run (left tokens.old)) }
+{
+    if levels == 0 {
+        return Err(Refusal::Here(ParserError::NestingTooDeep));
+    }
+    message_of(alloc, tokens, syntax, levels - 1)
+}
+
+/// `message = "message" ident "{" { ";" | reserved | oneof | extend | message | enum | extensions | option
+/// | field } "}"`
+#[cycle(message)]
+#[tactic(auto, using(crate::specs::Code::fails_first, crate::proofs::Versions::message_in_runs, crate::proofs::Messages::view_parts))]
+fn message_of(
+    alloc: Global,
+    tokens: &mut Cursor<'_, '_>,
+    syntax: Syntax,
+    levels: usize,
+) -> Result<Message, Refusal>
+    ensures { Gives view.message_view result (left tokens.new) ((nest.message_in syntax levels).low.run (left tokens.old)) }
 {
     let place = tokens.place();
     tokens.word("message")?;
     let name = tokens.ident(alloc)?;
     tokens.symbol('{')?;
-    let body = message_body(alloc, tokens, syntax)?;
-    tokens.symbol('}')?;
+    let body = message_statements(alloc, tokens, syntax, levels)?;
+    let fault = field_fault(tokens, syntax);
+    tokens.symbol_or('}', fault)?;
     Ok(Message { place, name, body })
 }
 
-#[tactic(auto, unfolding(crate::specs::Productions::body))]
-fn message_body(
+/// The statements of a message, up to the first token that begins none.
+#[cycle(message)]
+fn message_statements(
     alloc: Global,
     tokens: &mut Cursor<'_, '_>,
     syntax: Syntax,
+    levels: usize,
 ) -> Result<Vec<MessageStatement>, Refusal>
-    ensures { Gives (λ v. map body_view v.items) result (left tokens.new)
-        ((read.body syntax).run (left tokens.old)) }
+    ensures { Gives (λ v. map view.message_statement_view v.items) result (left tokens.new) ((nest.message_items syntax levels).low.run (left tokens.old)) }
 {
     let mut body = Vec::new(alloc);
-    'items: while tokens.begins_statement() {
-        let item = message_statement(alloc, tokens, syntax)?;
+    'items: while begins_message_statement(tokens, syntax) {
+        let item = message_item(alloc, tokens, syntax, levels)?;
         push_some(&mut body, item)?;
     }
     Ok(body)
 }
 
 /// A statement of a message, or nothing at a semicolon.
-#[tactic(auto, unfolding(crate::specs::Productions::body_item))]
+#[cycle(message)]
+#[tactic(auto, using(crate::specs::Code::fails_first, crate::proofs::Versions::message_item_runs))]
+fn message_item(
+    alloc: Global,
+    tokens: &mut Cursor<'_, '_>,
+    syntax: Syntax,
+    levels: usize,
+) -> Result<Option<MessageStatement>, Refusal>
+    ensures { Gives (seen_by view.message_statement_view) result (left tokens.new) ((nest.message_item syntax levels).low.run (left tokens.old)) }
+{
+    if tokens.sees_symbol(';') {
+        tokens.symbol(';')?;
+        return Ok(None);
+    }
+    Ok(Some(message_statement(alloc, tokens, syntax, levels)?))
+}
+
+/// `reserved | oneof | extend | message | enum | extensions | option | field`, where `extensions` stand in proto2
+/// alone.
+#[cycle(message)]
+#[tactic(auto, using(crate::specs::Code::fails_first, crate::proofs::Versions::message_alternatives, crate::proofs::Messages::statement_views))]
 fn message_statement(
     alloc: Global,
     tokens: &mut Cursor<'_, '_>,
     syntax: Syntax,
-) -> Result<Option<MessageStatement>, Refusal>
-    ensures { Gives (seen_by body_view) result (left tokens.new)
-        ((read.body_item syntax).run (left tokens.old)) }
+    levels: usize,
+) -> Result<MessageStatement, Refusal>
+    ensures { Gives view.message_statement_view result (left tokens.new) ((nest.message_statement syntax levels).low.run (left tokens.old)) }
+{
+    if tokens.sees_word("reserved") {
+        return Ok(MessageStatement::Reserved(reserved(alloc, tokens)?));
+    }
+    if tokens.sees_word("oneof") {
+        return Ok(MessageStatement::OneOf(oneof(alloc, tokens, syntax, levels)?));
+    }
+    if tokens.sees_word("extend") {
+        return Ok(MessageStatement::Extend(extend(alloc, tokens, syntax, levels)?));
+    }
+    if tokens.sees_word("message") {
+        return Ok(MessageStatement::Message(message(alloc, tokens, syntax, levels)?));
+    }
+    if tokens.sees_word("enum") {
+        return Ok(MessageStatement::Enumeration(enumeration(alloc, tokens, levels)?));
+    }
+    if matches!(syntax, Syntax::Proto2) && tokens.sees_word("extensions") {
+        return Ok(MessageStatement::Extensions(extensions(alloc, tokens)?));
+    }
+    if tokens.sees_word("option") {
+        return Ok(MessageStatement::Option(option(alloc, tokens, levels)?));
+    }
+    Ok(MessageStatement::Field(field(alloc, tokens, syntax, levels)?))
+}
+
+/// `oneof = "oneof" ident "{" { ";" | option | field } "}"`
+#[tactic(auto, unfolding(crate::specs::Nested::oneof_pair), using(crate::specs::Code::fails_first))]
+fn oneof(
+    alloc: Global,
+    tokens: &mut Cursor<'_, '_>,
+    syntax: Syntax,
+    levels: usize,
+) -> Result<OneOf, Refusal>
+    ensures { Gives view.oneof_view result (left tokens.new) ((nest.oneof syntax levels).low.run (left tokens.old)) }
+{
+    let place = tokens.place();
+    tokens.word("oneof")?;
+    let name = tokens.ident(alloc)?;
+    tokens.symbol('{')?;
+    let body = oneof_statements(alloc, tokens, syntax, levels)?;
+    let fault = oneof_fault(tokens);
+    tokens.symbol_or('}', fault)?;
+    Ok(OneOf { place, name, body })
+}
+
+/// The statements of a oneof, up to the first token that begins none.
+fn oneof_statements(
+    alloc: Global,
+    tokens: &mut Cursor<'_, '_>,
+    syntax: Syntax,
+    levels: usize,
+) -> Result<Vec<OneOfStatement>, Refusal>
+    ensures { Gives (λ v. map view.oneof_statement_view v.items) result (left tokens.new) ((nest.oneof_items syntax levels).low.run (left tokens.old)) }
+{
+    let mut body = Vec::new(alloc);
+    'items: while begins_oneof_statement(tokens) {
+        let item = oneof_item(alloc, tokens, syntax, levels)?;
+        push_some(&mut body, item)?;
+    }
+    Ok(body)
+}
+
+/// A statement of a oneof, or nothing at a semicolon.
+#[tactic(auto, unfolding(crate::specs::Nested::oneof_item, crate::specs::Nested::oneof_statement), using(crate::specs::Code::fails_first))]
+fn oneof_item(
+    alloc: Global,
+    tokens: &mut Cursor<'_, '_>,
+    syntax: Syntax,
+    levels: usize,
+) -> Result<Option<OneOfStatement>, Refusal>
+    ensures { Gives (seen_by view.oneof_statement_view) result (left tokens.new) ((nest.oneof_item syntax levels).low.run (left tokens.old)) }
 {
     if tokens.sees_symbol(';') {
         tokens.symbol(';')?;
-        Ok(None)
-    } else {
-        Ok(Some(MessageStatement::Field(field(alloc, tokens, syntax)?)))
+        return Ok(None);
     }
+    if tokens.sees_word("option") {
+        let option = option(alloc, tokens, levels)?;
+        return Ok(Some(OneOfStatement::Option(option)));
+    }
+    let field = oneof_field(alloc, tokens, syntax, levels)?;
+    Ok(Some(OneOfStatement::Field(field)))
 }
 
-/// `field = [ label ] scalar ident "=" int ";"`
-#[tactic(auto, unfolding(crate::specs::Productions::field))]
-fn field(alloc: Global, tokens: &mut Cursor<'_, '_>, syntax: Syntax) -> Result<Field, Refusal>
-    ensures { Gives field_view result (left tokens.new)
-        ((read.field syntax).run (left tokens.old)) }
+/// `extend = "extend" name "{" { ";" | field } "}"`
+#[tactic(auto, unfolding(crate::specs::Nested::extend_pair), using(crate::specs::Code::fails_first))]
+pub fn extend(
+    alloc: Global,
+    tokens: &mut Cursor<'_, '_>,
+    syntax: Syntax,
+    levels: usize,
+) -> Result<Extend, Refusal>
+    ensures { Gives view.extend_view result (left tokens.new) ((nest.extend syntax levels).low.run (left tokens.old)) }
 {
     let place = tokens.place();
-    let label = label(tokens, syntax)?;
-    let type_ = Type::Scalar(tokens.scalar()?);
-    let name = tokens.ident(alloc)?;
-    tokens.symbol('=')?;
-    let number = tokens.field_number()?;
-    tokens.symbol(';')?;
-    Ok(Field {
+    tokens.word("extend")?;
+    let extendee = name(alloc, tokens)?;
+    let fields = extend_body(alloc, tokens, syntax, levels)?;
+    Ok(Extend {
         place,
-        label,
-        type_,
-        name,
-        number,
+        extendee,
+        fields,
     })
-}
-
-/// The label of a field. In proto2 each field has one. In proto3 a field may be `repeated`, and has no
-/// other label.
-#[tactic(auto, using(crate::specs::Productions::label_in_proto2, crate::specs::Productions::label_in_proto3))]
-fn label(tokens: &mut Cursor<'_, '_>, syntax: Syntax) -> Result<Option<Label>, Refusal>
-    ensures { Gives (λ l. l) result (left tokens.new) ((read.label syntax).run (left tokens.old)) }
-{
-    match syntax {
-        Syntax::Proto2 => Ok(Some(tokens.label()?)),
-        Syntax::Proto3 => {
-            if tokens.sees_label() {
-                Ok(Some(tokens.proto3_label()?))
-            } else {
-                Ok(None)
-            }
-        }
-    }
 }

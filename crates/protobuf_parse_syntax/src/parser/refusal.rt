@@ -11,10 +11,10 @@ use std::alloc::{AllocError, AllocFailed};
 #[derive(Clone, Copy, Debug, PartialEq, Eq)]
 pub enum Refusal {
     Memory,
-    /// The next token, or the end of the text, cannot stand there.
+    /// What stands next, a token or the end of the text, cannot stand there.
     Next(ParserError),
-    /// What was read at this place says nothing that may stand there.
-    At(Place, ParserError),
+    /// The part that begins with the next token has this fault, and not that token alone.
+    Here(ParserError),
 }
 
 impl From<AllocError> for Refusal {
@@ -40,15 +40,13 @@ impl Refusal {
     pub fn located(self, next: Place) -> ParserErrorWithLocation
         ensures { result ≡ error_at self next }
     {
-        let (place, error) = match self {
-            Refusal::Memory => return AllocError.into(),
-            Refusal::Next(error) => (next, error),
-            Refusal::At(place, error) => (place, error),
-        };
-        ParserErrorWithLocation {
-            error,
-            line: place.line,
-            col: place.col,
+        match self {
+            Refusal::Memory => AllocError.into(),
+            Refusal::Next(error) | Refusal::Here(error) => ParserErrorWithLocation {
+                error,
+                line: next.line,
+                col: next.col,
+            },
         }
     }
 }

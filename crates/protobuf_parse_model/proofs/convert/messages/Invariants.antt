@@ -8,6 +8,6 @@ abbrev pub invariant-loop-statement : goal.invariant-loop-statement
 invariant-loop-statement l =
     let seen = map statement_view (take l.statement-index l.statements) in
     record {
-      no_fault : flat_map statement_faults seen ≡ [];
+      no_fault : flat_map (statement_faults l.syntax) seen ≡ [];
       all : map message_view l.descriptors.items ≡ flat_map messages_of seen;
     }

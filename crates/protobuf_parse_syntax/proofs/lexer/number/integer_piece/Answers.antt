@@ -1,5 +1,6 @@
 use Rattle.std.proofs.Common.{arith, refl, sym, ◌∙◌}
-use Rattle.protobuf_parse_syntax.proofs.Front.{number_from_integer, in_range}
+use Rattle.protobuf_parse_syntax.specs.Escapes.{in_range}
+use Rattle.protobuf_parse_syntax.proofs.Front.{number_from_integer}
 use Rattle.protobuf_parse_syntax.proofs.lexer.number.integer_piece.Goals as goal
 use Rattle.protobuf_parse_syntax.proofs.lexer.number.integer_piece.Goals.{else-end-text-via-then-end-text+else-is_in, else-end-text-via-else-end-text}
 

@@ -3,7 +3,7 @@ use Rattle.protobuf_parse_syntax.specs.Text.{is_in}
 use Rattle.protobuf_parse_syntax.specs.declared.lexer.bytes.Class.TheVariants as class
 use Rattle.protobuf_parse_syntax.specs.Tokens.{letter, letter_byte}
 use Rattle.protobuf_parse_syntax.specs.Decoding.{HasEscape, HasNoEscape}
-use Rattle.protobuf_parse_syntax.proofs.Escapes.{octal_front, hex_front, short_front, long_front, no_letter}
+use Rattle.protobuf_parse_syntax.specs.Escapes.{octal_front, hex_front, short_front, long_front, no_letter}
 use Rattle.protobuf_parse_syntax.proofs.lexer.str_lit.front_escape.Goals as goal
 use Rattle.protobuf_parse_syntax.proofs.lexer.str_lit.front_escape.Goals.{then-letter-eq120-via-then-letter-eq120, then-letter-eq120-via-else-letter-eq120+then-letter-eq88}
 

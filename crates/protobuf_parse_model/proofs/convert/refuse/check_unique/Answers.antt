@@ -1,0 +1,58 @@
+use Rattle.std.proofs.Common.{◌≡◌, ℕ, ◌+◌, ◌<◌, List, [], ◌∷◌, ◌++◌, length, map, take, drop, get_or, Bool, true, false, Bor, sym, refl, ◌∙◌, ap, add-one, drop-cons, cond}
+use Rattle.std.specs.Prelude.{not, ◌||◌, bytes_eq}
+use Rattle.std.proofs.lemmas.List.{map_more}
+use Rattle.protobuf_parse_model.proofs.OrTests.{cond-true_or, or_left_comm}
+use Rattle.protobuf_parse_model.specs.Faults.{Among, Fault}
+use Rattle.protobuf_parse_model.specs.declared.error.ElabErrorKind.TheVariants.{DuplicateName}
+use Rattle.protobuf_parse_model.specs.Elaboration.{stands_in, duplicates, duplicates_after}
+use Rattle.protobuf_parse_model.proofs.Blaming.{among_when}
+use Rattle.protobuf_parse_model.proofs.convert.refuse.check_unique.Goals as goal
+
+abbrev texts : List (Bor (List ℕ)) → List (List ℕ)
+texts = map (λ (s : Bor (List ℕ)). s.now)
+
+abbrev duplicate : List ℕ → Fault
+duplicate name = record { kind = DuplicateName; what = name }
+
+rest_is : (names : List (Bor (List ℕ))) (i : ℕ) (d : Bor (List ℕ)) → i < length names → texts (drop i names) ≡ (get_or names i d).now ∷ texts (drop (i + 1) names)
+rest_is names i d lt = rw (add-one, drop-cons names i d) refl
+
+-- a name among those before it is a fault
+found_again : (names : List (Bor (List ℕ))) (i : ℕ) (d : Bor (List ℕ)) (t : List ℕ) → i < length names → stands_in (get_or names i d).now (texts (take i names)) ≡ true → (get_or names i d).now ≡ t → duplicates (texts names) ≡ duplicates_after (texts (take i names)) (texts (drop i names)) → Among (duplicates (texts names)) (duplicate t)
+found_again names i d t lt e h inv =
+    rw (inv, rest_is names i d lt) (among_when (stands_in (get_or names i d).now (texts (take i names))) (duplicate (get_or names i d).now) (duplicate t) _ e (ap duplicate h))
+
+-- a name that is not among those before it adds none
+new_name : (before xs : List (List ℕ)) (x : List ℕ) → stands_in x before ≡ false → duplicates_after before (x ∷ xs) ≡ duplicates_after (before ++ x ∷ []) xs
+new_name before xs x e = rw e refl
+
+goes_on : (names : List (Bor (List ℕ))) (i : ℕ) (d : Bor (List ℕ)) → i < length names → stands_in (get_or names i d).now (texts (take i names)) ≡ false → duplicates (texts names) ≡ duplicates_after (texts (take i names)) (texts (drop i names)) → duplicates (texts names) ≡ duplicates_after (texts (take (i + 1) names)) (texts (drop (i + 1) names))
+goes_on names i d lt e inv =
+    inv ∙ ap (λ r. duplicates_after (texts (take i names)) r) (rest_is names i d lt) ∙ new_name (texts (take i names)) (texts (drop (i + 1) names)) (get_or names i d).now e ∙ ap (λ s. duplicates_after s (texts (drop (i + 1) names))) (sym (map_more (λ (s : Bor (List ℕ)). s.now) names i d lt))
+
+stands_in-push : (n x : List ℕ) (xs : List (List ℕ)) → stands_in n (xs ++ x ∷ []) ≡ (bytes_eq x n || stands_in n xs)
+stands_in-push n x [] = refl
+stands_in-push n x (y ∷ xs) = ap (λ b. bytes_eq y n || b) (stands_in-push n x xs) ∙ or_left_comm (bytes_eq y n) (bytes_eq x n) (stands_in n xs)
+
+was_in : (b r : Bool) → r ≡ not b → r ≡ false → b ≡ true
+was_in true r e h = refl
+was_in false r e h = absurd cc
+
+was_out : (b r : Bool) → r ≡ not b → r ≡ true → b ≡ false
+was_out true r e h = absurd cc
+was_out false r e h = refl
+
+pub returns-then-not-is_new : goal.returns-then-not-is_new
+returns-then-not-is_new c =
+    let d = get_or c.args.names.now c.loop-name.name-index (record { ref_ptr = (0, 0); now = [] }) in
+    let is_in = sym (c.loop-name.invariant.seen d) ∙ was_in _ _ c.in_ok-is_new.ensures.added c.if-not-is_new.true in
+    found_again c.args.names.now c.loop-name.name-index _ _ c.loop-name-test.true is_in (sym c.in_ok-from_str.ensures.ok) c.loop-name.invariant.none_yet
+
+pub loop-name-preserved : goal.loop-name-preserved
+loop-name-preserved c =
+    let d = get_or c.args.names.now c.loop-name.name-index (record { ref_ptr = (0, 0); now = [] }) in
+    let is_out = sym (c.loop-name.invariant.seen d) ∙ was_out _ _ c.in_ok-is_new.ensures.added c.if-not-is_new.false in
+    record {
+      none_yet = goes_on c.args.names.now c.loop-name.name-index _ c.loop-name-test.true is_out c.loop-name.invariant.none_yet;
+      seen = λ q. c.in_ok-is_new.ensures.updates.0 q ∙ ap (λ b. cond (bytes_eq d.now q.now) true b) (c.loop-name.invariant.seen q) ∙ cond-true_or (bytes_eq d.now q.now) _ ∙ sym (ap (stands_in q.now) (map_more (λ (s : Bor (List ℕ)). s.now) c.args.names.now c.loop-name.name-index _ c.loop-name-test.true) ∙ stands_in-push q.now d.now _);
+    }

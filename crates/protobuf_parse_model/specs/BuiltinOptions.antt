@@ -1,0 +1,170 @@
+-- The options that the language knows by name: which there are, what their statements set, and what is wrong in them.
+--
+-- The table is that of the options messages in google/protobuf/descriptor.proto: FileOptions, MessageOptions,
+-- FieldOptions, OneofOptions, EnumOptions, EnumValueOptions, ServiceOptions and MethodOptions. An option is set by the
+-- last statement with its name: a text by a string, a truth value by `true` or `false`, a value of an enum by its name.
+-- Protocol Buffers Language Guide, "Options" (https://protobuf.dev).
+use Rattle.std.specs.Prelude.{Bool, List, [], ◌∷◌, ◌++◌, map, flat_map, codes, bytes_eq, Option, Some, None, option_map, if◌then◌else◌}
+use Rattle.std.specs.List.{find, last_or}
+use Rattle.protobuf_parse_syntax.specs.Trees.{ConstantSyntax, truth, dotted, string, OptionNameSyntax, builtin, custom, OptionSyntax}
+use Rattle.protobuf_parse_syntax.specs.Decoder.{text_of}
+use Rattle.protobuf_parse_model.specs.declared.error.ElabErrorKind.TheVariants.{StrLitDecode, BuiltinOptionNotFound, BuiltinOptionPointsToNonSingularField, InconvertibleValue}
+use Rattle.protobuf_parse_model.specs.declared.descriptor.options.OptimizeMode.{OptimizeMode}
+use Rattle.protobuf_parse_model.specs.declared.descriptor.options.OptimizeMode.TheVariants.{Speed, CodeSize, LiteRuntime}
+use Rattle.protobuf_parse_model.specs.declared.descriptor.options.CType.{CType}
+use Rattle.protobuf_parse_model.specs.declared.descriptor.options.CType.TheVariants as ctypes
+use Rattle.protobuf_parse_model.specs.declared.descriptor.options.JSType.{JSType}
+use Rattle.protobuf_parse_model.specs.declared.descriptor.options.JSType.TheVariants.{JsNormal, JsString, JsNumber}
+use Rattle.protobuf_parse_model.specs.declared.descriptor.options.IdempotencyLevel.{IdempotencyLevel}
+use Rattle.protobuf_parse_model.specs.declared.descriptor.options.IdempotencyLevel.TheVariants.{IdempotencyUnknown, NoSideEffects, Idempotent}
+use Rattle.protobuf_parse_model.specs.Descriptors.{Text}
+use Rattle.protobuf_parse_model.specs.Faults.{Fault}
+use Rattle.protobuf_parse_model.specs.Duplicates.{fault, stands_in}
+
+-- ---- statements
+
+-- the values that statements give to the built-in option of that name, in order
+abbrev pub value_if_named : Text → ConstantSyntax → OptionNameSyntax → List ConstantSyntax
+value_if_named name value (builtin n) = if bytes_eq n name then value ∷ [] else []
+value_if_named name value (custom parts) = []
+
+abbrev pub values_named : Text → List OptionSyntax → List ConstantSyntax
+values_named name os = flat_map (λ (o : OptionSyntax). value_if_named name o.value o.name) os
+
+abbrev pub last_value : Text → List OptionSyntax → Option ConstantSyntax
+last_value name os = last_or None (values_named name os)
+
+-- an options message is there exactly where a statement stands
+abbrev pub where_any : {A : Type 0} → List OptionSyntax → A → Option A
+where_any [] options = None
+where_any (o ∷ os) options = Some options
+
+-- ---- values
+
+-- an enum's values by their names
+abbrev pub Words : Type 0 → Type 0
+Words A = List (Text × A)
+
+abbrev pub words_of : {A : Type 0} → Words A → List Text
+words_of words = map (λ w. w.0) words
+
+abbrev pub optimize_modes : Words OptimizeMode
+optimize_modes = (codes "SPEED", Speed) ∷ (codes "CODE_SIZE", CodeSize) ∷ (codes "LITE_RUNTIME", LiteRuntime) ∷ []
+
+abbrev pub c_types : Words CType
+c_types = (codes "STRING", ctypes.String) ∷ (codes "CORD", ctypes.Cord) ∷ (codes "STRING_PIECE", ctypes.StringPiece) ∷ []
+
+abbrev pub js_types : Words JSType
+js_types = (codes "JS_NORMAL", JsNormal) ∷ (codes "JS_STRING", JsString) ∷ (codes "JS_NUMBER", JsNumber) ∷ []
+
+abbrev pub idempotency_levels : Words IdempotencyLevel
+idempotency_levels = (codes "IDEMPOTENCY_UNKNOWN", IdempotencyUnknown) ∷ (codes "NO_SIDE_EFFECTS", NoSideEffects) ∷ (codes "IDEMPOTENT", Idempotent) ∷ []
+
+abbrev pub text_said : ConstantSyntax → Option Text
+text_said (string pieces) = text_of pieces
+text_said _ = None
+
+abbrev pub truth_said : ConstantSyntax → Option Bool
+truth_said (truth b) = Some b
+truth_said _ = None
+
+abbrev pub word_said : {A : Type 0} → Words A → ConstantSyntax → Option A
+word_said words (dotted n) = option_map (λ w. w.1) (find (λ w. bytes_eq w.0 n) words)
+word_said words _ = None
+
+-- what the last statement with the name says
+abbrev pub set_by : {A : Type 0} → (ConstantSyntax → Option A) → Option ConstantSyntax → Option A
+set_by said None = None
+set_by said (Some value) = said value
+
+abbrev pub text_option : List OptionSyntax → Text → Option Text
+text_option os name = set_by text_said (last_value name os)
+
+abbrev pub truth_option : List OptionSyntax → Text → Option Bool
+truth_option os name = set_by truth_said (last_value name os)
+
+abbrev pub word_option : {A : Type 0} → Words A → List OptionSyntax → Text → Option A
+word_option words os name = set_by (word_said words) (last_value name os)
+
+-- ---- which options there are
+
+pub data BuiltinKind : Type 0 where
+  a_text : BuiltinKind
+  a_truth : BuiltinKind
+  a_word : List Text → BuiltinKind
+
+abbrev pub Table : Type 0
+Table = List (Text × BuiltinKind)
+
+abbrev pub texts : List Text → Table
+texts names = map (λ (n : Text). (n, a_text)) names
+
+abbrev pub truths : List Text → Table
+truths names = map (λ (n : Text). (n, a_truth)) names
+
+abbrev pub words : {A : Type 0} → Text → Words A → Table
+words name of = (name, a_word (words_of of)) ∷ []
+
+abbrev pub file_table : Table
+file_table =
+    texts (codes "java_package" ∷ codes "java_outer_classname" ∷ codes "go_package" ∷ codes "objc_class_prefix" ∷ codes "csharp_namespace" ∷ codes "swift_prefix" ∷ codes "php_class_prefix" ∷ codes "php_namespace" ∷ codes "php_metadata_namespace" ∷ codes "ruby_package" ∷ [])
+    ++ truths (codes "java_multiple_files" ∷ codes "cc_generic_services" ∷ codes "java_generic_services" ∷ codes "py_generic_services" ∷ codes "java_generate_equals_and_hash" ∷ codes "deprecated" ∷ codes "java_string_check_utf8" ∷ codes "cc_enable_arenas" ∷ [])
+    ++ words (codes "optimize_for") optimize_modes
+
+abbrev pub message_table : Table
+message_table = truths (codes "message_set_wire_format" ∷ codes "no_standard_descriptor_accessor" ∷ codes "deprecated" ∷ codes "map_entry" ∷ [])
+
+abbrev pub field_table : Table
+field_table =
+    truths (codes "packed" ∷ codes "deprecated" ∷ codes "lazy" ∷ codes "weak" ∷ codes "unverified_lazy" ∷ codes "debug_redact" ∷ [])
+    ++ words (codes "ctype") c_types ++ words (codes "jstype") js_types
+
+abbrev pub oneof_table : Table
+oneof_table = []
+
+abbrev pub enum_table : Table
+enum_table = truths (codes "allow_alias" ∷ codes "deprecated" ∷ [])
+
+abbrev pub enum_value_table : Table
+enum_value_table = truths (codes "deprecated" ∷ [])
+
+abbrev pub service_table : Table
+service_table = truths (codes "deprecated" ∷ [])
+
+abbrev pub method_table : Table
+method_table = truths (codes "deprecated" ∷ []) ++ words (codes "idempotency_level") idempotency_levels
+
+-- ---- what is wrong
+
+-- E13 for a value of another kind, E9 for a string that is no text
+abbrev pub string_faults : Text → Option Text → List Fault
+string_faults name (Some text) = []
+string_faults name None = fault StrLitDecode name
+
+abbrev pub value_faults : Text → BuiltinKind → ConstantSyntax → List Fault
+value_faults name a_text (string pieces) = string_faults name (text_of pieces)
+value_faults name a_truth (truth b) = []
+value_faults name (a_word words) (dotted n) = if stands_in n words then [] else fault InconvertibleValue name
+value_faults name _ _ = fault InconvertibleValue name
+
+-- E11 for a name that the table doesn't have
+abbrev pub entry_faults : Text → ConstantSyntax → Option (Text × BuiltinKind) → List Fault
+entry_faults name value None = fault BuiltinOptionNotFound name
+entry_faults name value (Some entry) = value_faults name entry.1 value
+
+-- every table has `uninterpreted_option`, which can't be set
+abbrev pub builtin_faults : Table → Text → ConstantSyntax → List Fault
+builtin_faults table name value =
+    if bytes_eq name (codes "uninterpreted_option") then fault BuiltinOptionPointsToNonSingularField name
+    else entry_faults name value (find (λ entry. bytes_eq entry.0 name) table)
+
+-- of one statement; a custom option has no such fault
+abbrev pub named_faults : Table → ConstantSyntax → OptionNameSyntax → List Fault
+named_faults table value (builtin name) = builtin_faults table name value
+named_faults table value (custom parts) = []
+
+abbrev pub option_faults : Table → OptionSyntax → List Fault
+option_faults table o = named_faults table o.value o.name
+
+abbrev pub options_faults : Table → List OptionSyntax → List Fault
+options_faults table os = flat_map (option_faults table) os

@@ -1,0 +1,67 @@
+-- What the declaration of an enum becomes: an EnumDescriptorProto of google/protobuf/descriptor.proto; and the faults that
+-- stand in it. A reserved range has both its ends.
+-- Protocol Buffers Language Specification, "Enum definition", "Reserved" (https://protobuf.dev).
+use Rattle.std.specs.Prelude.{List, [], ◌∷◌, ◌++◌, map, flat_map}
+use Rattle.protobuf_parse_syntax.specs.Trees.{OptionSyntax, RangeSyntax, ReservedSyntax, reserved_ranges, reserved_names, EnumStatementSyntax, enum_reserved, enum_option, enum_value, EnumValueSyntax, EnumSyntax}
+use Rattle.protobuf_parse_model.specs.Descriptors.{Text, Range, EnumValueDescriptor, EnumDescriptor}
+use Rattle.protobuf_parse_model.specs.Faults.{Fault}
+use Rattle.protobuf_parse_model.specs.Duplicates.{duplicates}
+use Rattle.protobuf_parse_model.specs.Environment.{Environment}
+use Rattle.protobuf_parse_model.specs.BuiltinOptions.{enum_table, enum_value_table, options_faults}
+use Rattle.protobuf_parse_model.specs.OptionsSet.{enum_options, enum_value_options}
+
+-- ---- what is reserved, in enums and messages
+
+abbrev pub ranges_reserved : ReservedSyntax → List RangeSyntax
+ranges_reserved (reserved_ranges rs) = rs
+ranges_reserved (reserved_names ns) = []
+
+abbrev pub names_reserved : ReservedSyntax → List Text
+names_reserved (reserved_names ns) = ns
+names_reserved (reserved_ranges rs) = []
+
+-- ---- the statements of a body
+
+abbrev pub enum_values : EnumStatementSyntax → List EnumValueSyntax
+enum_values (enum_value v) = v ∷ []
+enum_values _ = []
+
+abbrev pub enum_reserves : EnumStatementSyntax → List ReservedSyntax
+enum_reserves (enum_reserved r) = r.reserved ∷ []
+enum_reserves _ = []
+
+abbrev pub options_in_enum : EnumStatementSyntax → List OptionSyntax
+options_in_enum (enum_option o) = o.option ∷ []
+options_in_enum _ = []
+
+-- ---- descriptors
+
+abbrev pub value_of : Environment → EnumValueSyntax → EnumValueDescriptor
+value_of env v = record { name = v.name; number = v.number; options = enum_value_options env v.options }
+
+abbrev pub inclusive : RangeSyntax → Range
+inclusive r = record { start = r.from; end = r.to }
+
+abbrev pub values_of : Environment → EnumSyntax → List EnumValueDescriptor
+values_of env e = map (value_of env) (flat_map enum_values e.body)
+
+abbrev pub enum_of : Environment → EnumSyntax → EnumDescriptor
+enum_of env e = record {
+  name = e.name;
+  value = values_of env e;
+  reserved_range = map inclusive (flat_map ranges_reserved (flat_map enum_reserves e.body));
+  reserved_name = flat_map names_reserved (flat_map enum_reserves e.body);
+  options = enum_options env (flat_map options_in_enum e.body);
+}
+
+-- ---- faults
+
+abbrev pub value_faults : EnumValueSyntax → List Fault
+value_faults v = options_faults enum_value_table v.options
+
+-- E1 for two values that have one name
+abbrev pub enum_faults : EnumSyntax → List Fault
+enum_faults e =
+    duplicates (map (λ (v : EnumValueSyntax). v.name) (flat_map enum_values e.body))
+    ++ flat_map value_faults (flat_map enum_values e.body)
+    ++ options_faults enum_table (flat_map options_in_enum e.body)

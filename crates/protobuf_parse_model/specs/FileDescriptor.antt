@@ -1,0 +1,116 @@
+-- What a file becomes: a FileDescriptorProto of google/protobuf/descriptor.proto; and the faults that stand in it. Where
+-- one stands the descriptor may be anything. The tree's places say nothing here.
+--
+-- Which files a file sees, and which it reaches by its imports, are given as lists, the file itself among them.
+-- Protocol Buffers Language Specification, "Proto file", "Import Statement", "Package" (https://protobuf.dev).
+use Rattle.std.specs.Prelude.{List, [], ◌∷◌, ◌++◌, map, flat_map, codes, Some}
+use Rattle.protobuf_parse_syntax.specs.Trees.{OptionSyntax, EnumSyntax, ServiceSyntax, StatementSyntax, file_option, file_message, file_enum, file_extend, file_service, FileSyntax, package_of}
+use Rattle.protobuf_parse_syntax.specs.Dependencies.{imports, imports_of}
+use Rattle.protobuf_parse_syntax.specs.declared.tree.Syntax.{Syntax}
+use Rattle.protobuf_parse_syntax.specs.declared.tree.Syntax.TheVariants.{Proto2, Proto3}
+use Rattle.protobuf_parse_model.specs.declared.error.ElabErrorKind.TheVariants.{TypeDeclaredTwice, ExtensionDeclaredTwice}
+use Rattle.protobuf_parse_model.specs.Descriptors.{Text, FieldDescriptor, MessageDescriptor, FileDescriptor}
+use Rattle.protobuf_parse_model.specs.Faults.{Fault}
+use Rattle.protobuf_parse_model.specs.Declarations.{DeclaredType, DeclaredExtension, file_scope, file_types, file_extensions, file_generated}
+use Rattle.protobuf_parse_model.specs.Duplicates.{repeats, duplicates}
+use Rattle.protobuf_parse_model.specs.Environment.{Environment, CustomBytes}
+use Rattle.protobuf_parse_model.specs.BuiltinOptions.{file_table, options_faults}
+use Rattle.protobuf_parse_model.specs.OptionsSet.{file_options}
+use Rattle.protobuf_parse_model.specs.Fields.{names_of_fields}
+use Rattle.protobuf_parse_model.specs.Enums.{enum_of, enum_faults}
+use Rattle.protobuf_parse_model.specs.Messages.{messages_behind, message_of, message_faults, extend_fields, extend_faults, names_of_messages, names_of_enums}
+use Rattle.protobuf_parse_model.specs.Services.{service_of, service_faults}
+
+-- ---- the statements of a file
+
+abbrev pub options_in_file : StatementSyntax → List OptionSyntax
+options_in_file (file_option o) = o.option ∷ []
+options_in_file _ = []
+
+abbrev pub enums_in : StatementSyntax → List EnumSyntax
+enums_in (file_enum e) = e ∷ []
+enums_in _ = []
+
+abbrev pub services_in : StatementSyntax → List ServiceSyntax
+services_in (file_service s) = s ∷ []
+services_in _ = []
+
+-- ---- what the file sees
+
+-- the messages and enums that files declare
+abbrev pub types_of_files : List FileSyntax → List DeclaredType
+types_of_files files = flat_map file_types files
+
+-- The file's environment, where it sees these files.
+abbrev pub environment : List FileSyntax → CustomBytes → FileSyntax → Environment
+environment seen custom t = record { syntax = t.syntax; types = types_of_files seen; scope = file_scope t; custom = custom }
+
+-- ---- the descriptor
+
+-- the messages of a statement: those written there, and those behind the groups of an `extend`
+abbrev pub messages_of : Environment → StatementSyntax → List MessageDescriptor
+messages_of env (file_message m) = message_of env m ∷ []
+messages_of env (file_extend e) = flat_map (messages_behind env) e.fields
+messages_of env _ = []
+
+abbrev pub extensions_of : Environment → StatementSyntax → List FieldDescriptor
+extensions_of env (file_extend e) = extend_fields env e
+extensions_of env _ = []
+
+abbrev pub syntax_text : Syntax → Text
+syntax_text Proto2 = codes "proto2"
+syntax_text Proto3 = codes "proto3"
+
+-- the file that is known by the path
+abbrev pub file_of : Environment → Text → FileSyntax → FileDescriptor
+file_of env path t = record {
+  name = Some path;
+  «package» = package_of t;
+  syntax = Some (syntax_text t.syntax);
+  dependency = (imports_of (imports t.statements)).paths;
+  public_dependency = (imports_of (imports t.statements)).public;
+  weak_dependency = (imports_of (imports t.statements)).weak;
+  message_type = flat_map (messages_of env) t.statements;
+  enum_type = map (enum_of env) (flat_map enums_in t.statements);
+  service = map (service_of env) (flat_map services_in t.statements);
+  extension = flat_map (extensions_of env) t.statements;
+  options = file_options env (flat_map options_in_file t.statements);
+}
+
+-- ---- faults
+
+abbrev pub statement_faults : Environment → StatementSyntax → List Fault
+statement_faults env (file_message m) = message_faults env m
+statement_faults env (file_enum e) = enum_faults e
+statement_faults env (file_extend e) = extend_faults env e
+statement_faults env (file_service s) = service_faults env s
+statement_faults env _ = []
+
+abbrev pub names_of_services : List ServiceSyntax → List Text
+names_of_services services = map (λ (s : ServiceSyntax). s.name) services
+
+-- E1 for two messages, enums, extensions or services of the file that have one name
+abbrev pub file_duplicates : Environment → FileSyntax → List Fault
+file_duplicates env t =
+    duplicates (names_of_messages (flat_map (messages_of env) t.statements))
+    ++ duplicates (names_of_enums (flat_map enums_in t.statements))
+    ++ duplicates (names_of_fields (flat_map (extensions_of env) t.statements))
+    ++ duplicates (names_of_services (flat_map services_in t.statements))
+
+-- of the file alone
+abbrev pub file_faults : Environment → FileSyntax → List Fault
+file_faults env t =
+    file_duplicates env t
+    ++ options_faults file_table (flat_map options_in_file t.statements)
+    ++ flat_map (statement_faults env) t.statements
+
+-- the full names of messages and enums, also of those behind maps and groups; and of extensions
+abbrev pub type_names : FileSyntax → List Text
+type_names t = map (λ (d : DeclaredType). d.name) (file_types t) ++ file_generated t
+
+abbrev pub extension_names : FileSyntax → List Text
+extension_names t = map (λ (d : DeclaredExtension). d.name) (file_extensions t)
+
+-- of the files that it reaches: E5 and E6 for a full name that is declared twice
+abbrev pub reach_faults : List FileSyntax → List Fault
+reach_faults reached = repeats TypeDeclaredTwice (flat_map type_names reached) ++ repeats ExtensionDeclaredTwice (flat_map extension_names reached)

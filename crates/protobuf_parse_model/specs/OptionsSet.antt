@@ -1,0 +1,86 @@
+-- The options message of each construct, from the statements that set its options. `custom` is what the custom options
+-- among them become.
+use Rattle.std.specs.Prelude.{true, List, [], codes, Option, Some, None}
+use Rattle.protobuf_parse_syntax.specs.Trees.{OptionSyntax}
+use Rattle.protobuf_parse_model.specs.Options.{FileOptionsSet, MessageOptionsSet, FieldOptionsSet, OneofOptionsSet, EnumOptionsSet, EnumValueOptionsSet, ServiceOptionsSet, MethodOptionsSet}
+use Rattle.protobuf_parse_model.specs.BuiltinOptions.{text_option, truth_option, word_option, where_any, optimize_modes, c_types, js_types, idempotency_levels}
+use Rattle.protobuf_parse_model.specs.Environment.{Environment, of_file, of_message, of_field, of_oneof, of_enum, of_enum_value, of_service, of_method}
+
+abbrev pub file_options : Environment → List OptionSyntax → Option FileOptionsSet
+file_options env os = where_any os (record {
+  java_package = text_option os (codes "java_package");
+  java_outer_classname = text_option os (codes "java_outer_classname");
+  optimize_for = word_option optimize_modes os (codes "optimize_for");
+  java_multiple_files = truth_option os (codes "java_multiple_files");
+  go_package = text_option os (codes "go_package");
+  cc_generic_services = truth_option os (codes "cc_generic_services");
+  java_generic_services = truth_option os (codes "java_generic_services");
+  py_generic_services = truth_option os (codes "py_generic_services");
+  java_generate_equals_and_hash = truth_option os (codes "java_generate_equals_and_hash");
+  deprecated = truth_option os (codes "deprecated");
+  java_string_check_utf8 = truth_option os (codes "java_string_check_utf8");
+  cc_enable_arenas = truth_option os (codes "cc_enable_arenas");
+  objc_class_prefix = text_option os (codes "objc_class_prefix");
+  csharp_namespace = text_option os (codes "csharp_namespace");
+  swift_prefix = text_option os (codes "swift_prefix");
+  php_class_prefix = text_option os (codes "php_class_prefix");
+  php_namespace = text_option os (codes "php_namespace");
+  php_metadata_namespace = text_option os (codes "php_metadata_namespace");
+  ruby_package = text_option os (codes "ruby_package");
+  custom = env.custom of_file env.scope os;
+})
+
+abbrev pub message_options : Environment → List OptionSyntax → Option MessageOptionsSet
+message_options env os = where_any os (record {
+  message_set_wire_format = truth_option os (codes "message_set_wire_format");
+  no_standard_descriptor_accessor = truth_option os (codes "no_standard_descriptor_accessor");
+  deprecated = truth_option os (codes "deprecated");
+  map_entry = truth_option os (codes "map_entry");
+  custom = env.custom of_message env.scope os;
+})
+
+-- of the message behind a map
+abbrev pub entry_options : Option MessageOptionsSet
+entry_options = Some (record { message_set_wire_format = None; no_standard_descriptor_accessor = None; deprecated = None; map_entry = Some true; custom = [] })
+
+abbrev pub field_options : Environment → List OptionSyntax → Option FieldOptionsSet
+field_options env os = where_any os (record {
+  ctype = word_option c_types os (codes "ctype");
+  packed = truth_option os (codes "packed");
+  deprecated = truth_option os (codes "deprecated");
+  lazy = truth_option os (codes "lazy");
+  jstype = word_option js_types os (codes "jstype");
+  weak = truth_option os (codes "weak");
+  unverified_lazy = truth_option os (codes "unverified_lazy");
+  debug_redact = truth_option os (codes "debug_redact");
+  custom = env.custom of_field env.scope os;
+})
+
+abbrev pub oneof_options : Environment → List OptionSyntax → Option OneofOptionsSet
+oneof_options env os = where_any os (record { custom = env.custom of_oneof env.scope os })
+
+abbrev pub enum_options : Environment → List OptionSyntax → Option EnumOptionsSet
+enum_options env os = where_any os (record {
+  allow_alias = truth_option os (codes "allow_alias");
+  deprecated = truth_option os (codes "deprecated");
+  custom = env.custom of_enum env.scope os;
+})
+
+abbrev pub enum_value_options : Environment → List OptionSyntax → Option EnumValueOptionsSet
+enum_value_options env os = where_any os (record {
+  deprecated = truth_option os (codes "deprecated");
+  custom = env.custom of_enum_value env.scope os;
+})
+
+abbrev pub service_options : Environment → List OptionSyntax → Option ServiceOptionsSet
+service_options env os = where_any os (record {
+  deprecated = truth_option os (codes "deprecated");
+  custom = env.custom of_service env.scope os;
+})
+
+abbrev pub method_options : Environment → List OptionSyntax → Option MethodOptionsSet
+method_options env os = where_any os (record {
+  deprecated = truth_option os (codes "deprecated");
+  idempotency_level = word_option idempotency_levels os (codes "idempotency_level");
+  custom = env.custom of_method env.scope os;
+})

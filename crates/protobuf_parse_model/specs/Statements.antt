@@ -1,0 +1,49 @@
+-- The statements of bodies as lists, and what the same words mean wherever they stand.
+use Rattle.std.specs.Prelude.{◌≡◌, refl, ◌++◌, List, [], ◌∷◌, map, Bool, true, false, codes}
+use Rattle.std.specs.Char.{to_ascii_lowercase}
+use Rattle.protobuf_parse_base.specs.Cases.{camel_case_text}
+use Rattle.protobuf_parse_syntax.specs.Trees.{OptionSyntax, TypeSyntax, scalar, map_of, named, FieldStatementSyntax, field, group, FieldStatementList, no_field_statements, more_field_statements, field_statements, MessageStatementSyntax, MessageStatementList, no_statements, more_statements, message_statements, OneofStatementSyntax, oneof_option, oneof_field}
+use Rattle.protobuf_parse_model.specs.Descriptors.{Text}
+
+-- the statements of a group's body, and those of a message inside another
+abbrev pub group_body : FieldStatementList → List FieldStatementSyntax
+group_body no_field_statements = []
+group_body (more_field_statements f fs) = f ∷ group_body fs
+
+abbrev pub message_body : MessageStatementList → List MessageStatementSyntax
+message_body no_statements = []
+message_body (more_statements s ss) = s ∷ message_body ss
+
+pub group_body_is : (fs : List FieldStatementSyntax) → group_body (field_statements fs) ≡ fs
+group_body_is [] = refl
+group_body_is (f ∷ fs) = rw (group_body_is fs) refl
+
+pub message_body_is : (ss : List MessageStatementSyntax) → message_body (message_statements ss) ≡ ss
+message_body_is [] = refl
+message_body_is (s ∷ ss) = rw (message_body_is ss) refl
+
+-- A group's field has the name of the group in lower case.
+abbrev pub group_field_name : Text → Text
+group_field_name name = map to_ascii_lowercase name
+
+abbrev pub field_statement_name : FieldStatementSyntax → Text
+field_statement_name (field f) = f.name
+field_statement_name (group place label name number fields) = group_field_name name
+
+-- The entry of the map `foo_bar` is the message `FooBarEntry`.
+abbrev pub entry_name : Text → Text
+entry_name name = camel_case_text name ++ codes "Entry"
+
+abbrev pub is_map : TypeSyntax → Bool
+is_map (map_of key value) = true
+is_map (scalar s) = false
+is_map (named n) = false
+
+-- the fields and the options of a oneof
+abbrev pub oneof_fields : OneofStatementSyntax → List FieldStatementSyntax
+oneof_fields (oneof_field f) = f ∷ []
+oneof_fields (oneof_option o) = []
+
+abbrev pub oneof_options : OneofStatementSyntax → List OptionSyntax
+oneof_options (oneof_option o) = o.option ∷ []
+oneof_options (oneof_field f) = []

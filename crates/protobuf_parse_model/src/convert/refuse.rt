@@ -1,0 +1,41 @@
+//! Refusals: of a name that is taken, and of a construct that has no descriptor yet.
+
+ghost use Rattle.std.specs.Prelude.{◌≡◌, ℕ, List, map};
+ghost use Rattle.std.specs.Borrow.{Bor};
+ghost use Rattle.protobuf_parse_model.specs.Elaboration.{duplicates, unsupported};
+ghost use Rattle.protobuf_parse_model.specs.Faults.{Blames, Elaborates};
+
+use crate::error::{ElabError, ElabErrorKind, ElabFailure};
+use std::alloc::Global;
+use std::collections::HashSet;
+
+/// Refuses a name that stands among those before it: E1.
+pub fn check_unique(alloc: Global, names: &[&str]) -> Result<(), ElabFailure>
+    ensures { Elaborates (λ u. u) result (duplicates (map (λ (s : Bor (List ℕ)). s.now) names.now)) tt }
+{
+    let mut seen: HashSet<&str> = HashSet::new(alloc);
+    for name in names {
+        let is_new = seen.insert(*name)?;
+        if !is_new {
+            return Err(ElabFailure::Fault(ElabError {
+                kind: ElabErrorKind::DuplicateName,
+                what: String::from_str(alloc, name)?,
+            }));
+        }
+    }
+    Ok(())
+}
+
+/// Refuses a construct that has no descriptor yet, by its word.
+#[tactic(auto, using(crate::proofs::Blaming::among_unsupported))]
+pub fn unsupported(alloc: Global, word: &str) -> ElabFailure
+    ensures { Blames result (unsupported word.now) }
+{
+    match String::from_str(alloc, word) {
+        Ok(what) => ElabFailure::Fault(ElabError {
+            kind: ElabErrorKind::Unsupported,
+            what,
+        }),
+        Err(_) => ElabFailure::Memory,
+    }
+}

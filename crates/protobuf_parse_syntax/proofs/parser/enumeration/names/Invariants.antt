@@ -1,0 +1,13 @@
+use Rattle.std.proofs.Common.{◌≡◌, List, map, string_bytes}
+use Rattle.protobuf_parse_base.specs.Readers.{size, run_many}
+use Rattle.protobuf_parse_base.specs.Loops.{with_rest}
+use Rattle.protobuf_parse_syntax.specs.Text.{Bytes}
+use Rattle.protobuf_parse_syntax.specs.Productions as read
+use Rattle.protobuf_parse_syntax.specs.Code.{left}
+use Rattle.protobuf_parse_syntax.proofs.parser.enumeration.names.Given as goal
+
+abbrev pub invariant-others : goal.invariant-others
+invariant-others l = read.names.run (left l.fn.tokens) ≡ with_rest (λ (v : List Bytes). v) (λ (v : List Bytes). v) (map string_bytes l.names.items) (run_many read.comma_name (left l.tokens))
+
+abbrev pub decreases-others : goal.decreases-others
+decreases-others l = size (left l.tokens)

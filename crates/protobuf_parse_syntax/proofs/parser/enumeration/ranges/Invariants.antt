@@ -1,0 +1,13 @@
+use Rattle.std.proofs.Common.{◌≡◌, List, map}
+use Rattle.protobuf_parse_base.specs.Readers.{size, run_many}
+use Rattle.protobuf_parse_base.specs.Loops.{with_rest}
+use Rattle.protobuf_parse_syntax.specs.Trees.{RangeSyntax, range_view}
+use Rattle.protobuf_parse_syntax.specs.Productions as read
+use Rattle.protobuf_parse_syntax.specs.Code.{left}
+use Rattle.protobuf_parse_syntax.proofs.parser.enumeration.ranges.Given as goal
+
+abbrev pub invariant-others : goal.invariant-others
+invariant-others l = read.ranges.run (left l.fn.tokens) ≡ with_rest (λ (v : List RangeSyntax). v) (λ (v : List RangeSyntax). v) (map range_view l.ranges.items) (run_many read.comma_range (left l.tokens))
+
+abbrev pub decreases-others : goal.decreases-others
+decreases-others l = size (left l.tokens)

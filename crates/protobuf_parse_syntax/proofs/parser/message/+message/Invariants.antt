@@ -1,0 +1,29 @@
+use Rattle.std.proofs.Common.{◌≡◌, ◌+◌, ◌*◌, List, map}
+use Rattle.protobuf_parse_base.specs.Relations.{somes}
+use Rattle.protobuf_parse_base.specs.Readers.{size, run_many}
+use Rattle.protobuf_parse_base.specs.Loops.{with_rest}
+use Rattle.protobuf_parse_syntax.specs.Trees.{message_statement_view, MessageStatementSyntax}
+use Rattle.protobuf_parse_syntax.specs.Nested as nest
+use Rattle.protobuf_parse_syntax.specs.Code.{left}
+use Rattle.protobuf_parse_syntax.proofs.parser.message.+message.Given as goal
+
+abbrev pub decreases-message : goal.decreases-message
+decreases-message l = 5 * l.levels
+
+abbrev pub decreases-message_of : goal.decreases-message_of
+decreases-message_of l = 5 * l.levels + 4
+
+abbrev pub decreases-message_statements : goal.decreases-message_statements
+decreases-message_statements l = 5 * l.levels + 3
+
+abbrev pub decreases-message_item : goal.decreases-message_item
+decreases-message_item l = 5 * l.levels + 2
+
+abbrev pub decreases-message_statement : goal.decreases-message_statement
+decreases-message_statement l = 5 * l.levels + 1
+
+abbrev pub invariant-message_statements-items : goal.invariant-message_statements-items
+invariant-message_statements-items l = (nest.message_items l.syntax l.levels).low.run (left l.fn.tokens) ≡ with_rest somes (λ (v : List MessageStatementSyntax). v) (map message_statement_view l.body.items) (run_many (nest.message_item l.syntax l.levels).low (left l.tokens))
+
+abbrev pub decreases-message_statements-items : goal.decreases-message_statements-items
+decreases-message_statements-items l = size (left l.tokens)

@@ -1,0 +1,60 @@
+-- What a file imports.
+use Rattle.std.specs.Prelude.{ℕ, ◌+◌, ℤ, pos, Bool, true, false, List, [], ◌∷◌, ◌++◌, length, map, flat_map, string_bytes, if◌then◌else◌}
+use Rattle.protobuf_parse_syntax.specs.Text.{Bytes}
+use Rattle.protobuf_parse_syntax.specs.Trees.{ImportSyntax, StatementSyntax, file_import}
+use Rattle.protobuf_parse_syntax.specs.declared.dependencies.Dependencies.{Dependencies}
+use Rattle.protobuf_parse_syntax.specs.declared.tree.ImportVis.{ImportVis}
+use Rattle.protobuf_parse_syntax.specs.declared.tree.ImportVis.TheVariants as vis
+
+abbrev pub imported : StatementSyntax → List ImportSyntax
+imported (file_import i) = i ∷ []
+imported _ = []
+
+-- the imports, in source order
+abbrev pub imports : List StatementSyntax → List ImportSyntax
+imports ss = flat_map imported ss
+
+abbrev pub is_public : ImportVis → Bool
+is_public vis.Public = true
+is_public _ = false
+
+abbrev pub is_weak : ImportVis → Bool
+is_weak vis.Weak = true
+is_weak _ = false
+
+-- the position, if b is true
+abbrev pub position_if : Bool → ℕ → List ℤ
+position_if b n = if b then pos n ∷ [] else []
+
+-- the positions of those that are seen so, where the first import stands at n
+abbrev pub positions : (ImportVis → Bool) → ℕ → List ImportSyntax → List ℤ
+positions is_so n [] = []
+positions is_so n (i ∷ is) = position_if (is_so i.vis) n ++ positions is_so (n + 1) is
+
+-- the paths of the imports, in source order, and the positions of the public and of the weak ones among them
+pub record FileImports : Type 0 where
+  pub paths : List Bytes
+  pub public : List ℤ
+  pub weak : List ℤ
+
+abbrev pub imports_of : List ImportSyntax → FileImports
+imports_of is = record { paths = map (λ i. i.path) is; public = positions is_public 0 is; weak = positions is_weak 0 is }
+
+unfoldable pub dependencies_of : List StatementSyntax → FileImports
+dependencies_of ss = imports_of (imports ss)
+
+abbrev pub dependencies_view : Dependencies → FileImports
+dependencies_view d = record { paths = map string_bytes d.dependency.items; public = d.public_dependency.items; weak = d.weak_dependency.items }
+
+-- one import more, behind the others
+abbrev pub with_import : FileImports → ImportSyntax → FileImports
+with_import found i = record {
+  paths = found.paths ++ i.path ∷ [];
+  public = found.public ++ position_if (is_public i.vis) (length found.paths);
+  weak = found.weak ++ position_if (is_weak i.vis) (length found.paths);
+}
+
+-- one statement more
+abbrev pub with_statement : FileImports → StatementSyntax → FileImports
+with_statement found (file_import i) = with_import found i
+with_statement found _ = found

@@ -1,0 +1,24 @@
+-- What functions say of the next token's word.
+use Rattle.std.specs.Prelude.{◌≡◌, Bool, true, false, Option, Some, None, List}
+use Rattle.protobuf_parse_base.specs.Readers.{Rest, end, token, read, seen, starts}
+use Rattle.protobuf_parse_syntax.specs.Text.{Bytes}
+use Rattle.protobuf_parse_syntax.specs.Tokens.{Lexeme}
+use Rattle.protobuf_parse_syntax.specs.Classes.{Class, sees_at, words, lexicon}
+use Rattle.protobuf_parse_syntax.specs.Grammar.{table_words}
+use Rattle.protobuf_parse_syntax.specs.Productions.{one_of}
+use Rattle.protobuf_parse_syntax.specs.declared.lexer.token.Place.{Place}
+use Rattle.protobuf_parse_syntax.specs.declared.lexer.token.TokenKind.TheVariants as kind
+
+-- one of the classes sees an identifier with this text
+abbrev pub takes : List Class → Bytes → Bool
+takes cs w = seen (λ c v. sees_at c kind.Ident v) cs w
+
+-- what a function says that reads a word of a table, if one comes next
+abbrev pub Finds : {A : Type 0} → List (Bytes × A) → Option A → Rest Lexeme Place → Rest Lexeme Place → Type 0
+Finds table None before after = (starts lexicon (words (table_words table)) before ≡ false) × (after ≡ before)
+Finds table (Some x) before after = (starts lexicon (words (table_words table)) before ≡ true) × ((one_of table).run before ≡ read x after)
+
+-- the tokens behind the next one
+abbrev pub behind_next : Rest Lexeme Place → Rest Lexeme Place
+behind_next (end m) = end m
+behind_next (token t rest) = rest

@@ -1,0 +1,340 @@
+//! Fields, groups and types.
+
+ghost use Rattle.std.specs.Prelude.{◌≡◌, suc, false, map};
+ghost use Rattle.protobuf_parse_base.specs.Readers.{starts};
+ghost use Rattle.protobuf_parse_syntax.specs.Classes.{lexicon};
+ghost use Rattle.protobuf_parse_syntax.specs.Grammar as grammar;
+ghost use Rattle.protobuf_parse_syntax.specs.Trees as view;
+ghost use Rattle.protobuf_parse_syntax.specs.Code.{left, Gives, seen_by};
+ghost use Rattle.protobuf_parse_syntax.specs.Words.{Finds};
+ghost use Rattle.protobuf_parse_syntax.specs.Fields.{type_in, map_in, after_label_in, reads_map_field, labels_in, group_firsts, field_in};
+ghost use Rattle.protobuf_parse_syntax.specs.Nested as nest;
+
+use crate::error::ParserError;
+use crate::lexer::token::Place;
+use crate::parser::cursor::Cursor;
+use crate::parser::list::push_some;
+use crate::parser::name::name;
+use crate::parser::option::options;
+use crate::parser::refusal::Refusal;
+use crate::parser::words::{
+    begins_field, begins_field_item, begins_no_oneof_field, extend_fault, field_fault, group_fault,
+    label_of, oneof_fault, scalar_of,
+};
+use crate::tree::{Field, FieldStatement, Group, Label, Scalar, Syntax, Type};
+use std::alloc::Global;
+
+/// A field of a message, a group or an `extend`, of at most so many levels.
+#[cycle(field)]
+#[tactic(auto, using(crate::specs::Fields::field_zero, crate::specs::Fields::field_more))]
+pub fn field(
+    alloc: Global,
+    tokens: &mut Cursor<'_, '_>,
+    syntax: Syntax,
+    levels: usize,
+) -> Result<FieldStatement, Refusal>
+    ensures { Gives view.field_statement_view result (left tokens.new) ((nest.field syntax levels).run (left tokens.old)) }
+{
+    if levels == 0 {
+        return Err(Refusal::Here(ParserError::NestingTooDeep));
+    }
+    field_of(alloc, tokens, syntax, levels, levels - 1)
+}
+
+/// A label word that begins a field is its label. In proto2 every field has a label, unless it begins with
+/// `map`; in proto3 none has the label `required`. The fields of a group have one level less.
+#[cycle(field)]
+fn field_of(
+    alloc: Global,
+    tokens: &mut Cursor<'_, '_>,
+    syntax: Syntax,
+    levels: usize,
+    inner: usize,
+) -> Result<FieldStatement, Refusal>
+    requires { levels ≡ suc inner }
+    ensures { Gives view.field_statement_view result (left tokens.new) ((field_in syntax inner).run (left tokens.old)) }
+{
+    if !begins_field(tokens, syntax) {
+        return Err(Refusal::Next(field_fault(tokens, syntax)));
+    }
+    let place = tokens.place();
+    match label(tokens, syntax) {
+        Some(label) => after_label(alloc, tokens, syntax, levels, inner, place, Some(label)),
+        None => match syntax {
+            Syntax::Proto2 => map_field(alloc, tokens, levels, inner, place),
+            Syntax::Proto3 => after_label(alloc, tokens, syntax, levels, inner, place, None),
+        },
+    }
+}
+
+/// The label that begins a field, if one does.
+fn label(tokens: &mut Cursor<'_, '_>, syntax: Syntax) -> Option<Label>
+    ensures { Finds (labels_in syntax) result (left tokens.old) (left tokens.new) }
+{
+    match tokens.next_word() {
+        None => None,
+        Some(word) => match label_of(word, syntax) {
+            None => None,
+            Some(label) => {
+                tokens.skip();
+                Some(label)
+            }
+        },
+    }
+}
+
+/// A field directly in a oneof. It has no label, and does not begin with `map`.
+#[tactic(auto, using(crate::proofs::Fields::oneof_field_law))]
+pub fn oneof_field(
+    alloc: Global,
+    tokens: &mut Cursor<'_, '_>,
+    syntax: Syntax,
+    levels: usize,
+) -> Result<FieldStatement, Refusal>
+    ensures { Gives view.field_statement_view result (left tokens.new) ((nest.oneof_field syntax levels).low.run (left tokens.old)) }
+{
+    if begins_no_oneof_field(tokens) {
+        return Err(Refusal::Next(oneof_fault(tokens)));
+    }
+    let place = tokens.place();
+    after_label(alloc, tokens, syntax, levels, levels, place, None)
+}
+
+/// `group ident "=" int "{" { ";" | field } "}"` with fields of the inner levels, or
+/// `type ident "=" int [ options ] ";"`
+#[cycle(field)]
+#[tactic(auto, unfolding(crate::specs::Nested::after_label), using(crate::specs::Code::fails_first, crate::proofs::FieldViews::views_plain, crate::proofs::FieldViews::views_group))]
+fn after_label(
+    alloc: Global,
+    tokens: &mut Cursor<'_, '_>,
+    syntax: Syntax,
+    levels: usize,
+    inner: usize,
+    place: Place,
+    label: Option<Label>,
+) -> Result<FieldStatement, Refusal>
+    ensures { Gives view.field_statement_view result (left tokens.new) ((after_label_in syntax levels inner place label).low.run (left tokens.old)) }
+{
+    if tokens.sees_word("group") {
+        let group = group(alloc, tokens, syntax, inner, place, label)?;
+        Ok(FieldStatement::Group(group))
+    } else {
+        let field = plain_field(alloc, tokens, levels, place, label)?;
+        Ok(FieldStatement::Field(field))
+    }
+}
+
+#[cycle(field)]
+#[tactic(auto, unfolding(crate::specs::Nested::group_of), using(crate::specs::Code::fails_first))]
+fn group(
+    alloc: Global,
+    tokens: &mut Cursor<'_, '_>,
+    syntax: Syntax,
+    levels: usize,
+    place: Place,
+    label: Option<Label>,
+) -> Result<Group, Refusal>
+    ensures { Gives (λ g. view.group_of (view.group_view g)) result (left tokens.new) ((nest.group_of syntax place label (nest.fields syntax levels)).low.run (left tokens.old)) }
+{
+    tokens.word("group")?;
+    let name = tokens.group_name(alloc)?;
+    tokens.symbol('=')?;
+    let number = tokens.field_number()?;
+    let fields = group_body(alloc, tokens, syntax, levels)?;
+    Ok(Group {
+        place,
+        label,
+        name,
+        number,
+        fields,
+    })
+}
+
+/// `"{" { ";" | field } "}"` of a group
+#[cycle(field)]
+#[tactic(auto, using(crate::specs::Code::fails_first, crate::proofs::Fields::field_block_law))]
+fn group_body(
+    alloc: Global,
+    tokens: &mut Cursor<'_, '_>,
+    syntax: Syntax,
+    levels: usize,
+) -> Result<Vec<FieldStatement>, Refusal>
+    ensures { Gives (λ v. map view.field_statement_view v.items) result (left tokens.new) ((nest.field_block_of syntax (nest.fields syntax levels)).low.run (left tokens.old)) }
+{
+    tokens.symbol('{')?;
+    let fields = field_statements(alloc, tokens, syntax, levels)?;
+    let fault = group_fault(tokens, syntax);
+    tokens.symbol_or('}', fault)?;
+    Ok(fields)
+}
+
+/// `"{" { ";" | field } "}"` of an `extend`
+#[tactic(auto, unfolding(crate::specs::Nested::extend_body), using(crate::specs::Code::fails_first, crate::proofs::Fields::field_block_law))]
+pub fn extend_body(
+    alloc: Global,
+    tokens: &mut Cursor<'_, '_>,
+    syntax: Syntax,
+    levels: usize,
+) -> Result<Vec<FieldStatement>, Refusal>
+    ensures { Gives (λ v. map view.field_statement_view v.items) result (left tokens.new) ((nest.extend_body syntax levels).low.run (left tokens.old)) }
+{
+    tokens.symbol('{')?;
+    let fields = field_statements(alloc, tokens, syntax, levels)?;
+    let fault = extend_fault(tokens, syntax);
+    tokens.symbol_or('}', fault)?;
+    Ok(fields)
+}
+
+#[cycle(field)]
+fn field_statements(
+    alloc: Global,
+    tokens: &mut Cursor<'_, '_>,
+    syntax: Syntax,
+    levels: usize,
+) -> Result<Vec<FieldStatement>, Refusal>
+    ensures { Gives (λ v. map view.field_statement_view v.items) result (left tokens.new) ((nest.field_items_of syntax (nest.fields syntax levels)).low.run (left tokens.old)) }
+{
+    let mut fields = Vec::new(alloc);
+    'items: while begins_field_item(tokens, syntax) {
+        let item = field_item(alloc, tokens, syntax, levels)?;
+        push_some(&mut fields, item)?;
+    }
+    Ok(fields)
+}
+
+/// A field, or nothing at a semicolon.
+#[cycle(field)]
+#[tactic(auto, using(crate::specs::Code::fails_first, crate::proofs::Fields::field_item_law))]
+fn field_item(
+    alloc: Global,
+    tokens: &mut Cursor<'_, '_>,
+    syntax: Syntax,
+    levels: usize,
+) -> Result<Option<FieldStatement>, Refusal>
+    ensures { Gives (seen_by view.field_statement_view) result (left tokens.new) ((nest.field_item_of syntax (nest.fields syntax levels)).low.run (left tokens.old)) }
+{
+    if tokens.sees_symbol(';') {
+        tokens.symbol(';')?;
+        return Ok(None);
+    }
+    Ok(Some(field(alloc, tokens, syntax, levels)?))
+}
+
+/// `type ident "=" int [ options ] ";"`, where the word `group` does not come next.
+#[tactic(auto, unfolding(crate::specs::Nested::plain_field), using(crate::specs::Code::fails_first))]
+fn plain_field(
+    alloc: Global,
+    tokens: &mut Cursor<'_, '_>,
+    levels: usize,
+    place: Place,
+    label: Option<Label>,
+) -> Result<Field, Refusal>
+    requires { starts lexicon group_firsts (left tokens.old) ≡ false }
+    ensures { Gives (λ f. view.field (view.field_view f)) result (left tokens.new) ((nest.plain_field levels place label).low.run (left tokens.old)) }
+{
+    let type_ = field_type(alloc, tokens, levels)?;
+    after_type(alloc, tokens, levels, place, label, type_)
+}
+
+/// `map ident "=" int [ options ] ";"` with types of the inner levels.
+#[tactic(auto, using(crate::specs::Code::fails_first, crate::proofs::FieldViews::views_plain))]
+fn map_field(
+    alloc: Global,
+    tokens: &mut Cursor<'_, '_>,
+    levels: usize,
+    inner: usize,
+    place: Place,
+) -> Result<FieldStatement, Refusal>
+    ensures { Gives view.field_statement_view result (left tokens.new) (reads_map_field levels inner place (left tokens.old)) }
+{
+    let type_ = map(alloc, tokens, inner)?;
+    let field = after_type(alloc, tokens, levels, place, None, type_)?;
+    Ok(FieldStatement::Field(field))
+}
+
+/// What follows the type of a field: `ident "=" int [ options ] ";"`
+#[tactic(auto, unfolding(crate::specs::Nested::after_type), using(crate::specs::Code::fails_first))]
+fn after_type(
+    alloc: Global,
+    tokens: &mut Cursor<'_, '_>,
+    levels: usize,
+    place: Place,
+    label: Option<Label>,
+    type_: Type,
+) -> Result<Field, Refusal>
+    ensures { Gives (λ f. view.field (view.field_view f)) result (left tokens.new) ((nest.after_type levels place label (view.type_view type_)).low.run (left tokens.old)) }
+{
+    let name = tokens.ident(alloc)?;
+    tokens.symbol('=')?;
+    let number = tokens.field_number()?;
+    let options = options(alloc, tokens, levels)?;
+    tokens.symbol(';')?;
+    Ok(Field {
+        place,
+        label,
+        type_,
+        name,
+        number,
+        options,
+    })
+}
+
+/// A type of at most so many levels.
+#[cycle(types)]
+#[tactic(auto, using(crate::specs::Fields::type_zero, crate::specs::Fields::type_more))]
+fn field_type(alloc: Global, tokens: &mut Cursor<'_, '_>, levels: usize) -> Result<Type, Refusal>
+    ensures { Gives view.type_view result (left tokens.new) ((nest.type_ levels).run (left tokens.old)) }
+{
+    if levels == 0 {
+        return Err(Refusal::Here(ParserError::NestingTooDeep));
+    }
+    type_of(alloc, tokens, levels - 1)
+}
+
+/// `type = scalar | "map" "<" type "," type ">" | name`
+#[cycle(types)]
+#[tactic(auto, unfolding(crate::specs::Nested::type_of))]
+fn type_of(alloc: Global, tokens: &mut Cursor<'_, '_>, levels: usize) -> Result<Type, Refusal>
+    ensures { Gives view.type_view result (left tokens.new) ((type_in levels).run (left tokens.old)) }
+{
+    match scalar(tokens) {
+        Some(scalar) => Ok(Type::Scalar(scalar)),
+        None => {
+            if tokens.sees_word("map") {
+                return map(alloc, tokens, levels);
+            }
+            Ok(Type::Named(name(alloc, tokens)?))
+        }
+    }
+}
+
+/// The scalar type that comes next, if one does.
+fn scalar(tokens: &mut Cursor<'_, '_>) -> Option<Scalar>
+    ensures { Finds grammar.scalars result (left tokens.old) (left tokens.new) }
+{
+    match tokens.next_word() {
+        None => None,
+        Some(word) => match scalar_of(word) {
+            None => None,
+            Some(scalar) => {
+                tokens.skip();
+                Some(scalar)
+            }
+        },
+    }
+}
+
+/// `"map" "<" type "," type ">"`
+#[cycle(types)]
+#[tactic(auto, unfolding(crate::specs::Nested::map_of), using(crate::specs::Code::fails_first))]
+fn map(alloc: Global, tokens: &mut Cursor<'_, '_>, levels: usize) -> Result<Type, Refusal>
+    ensures { Gives view.type_view result (left tokens.new) ((map_in levels).run (left tokens.old)) }
+{
+    tokens.word("map")?;
+    tokens.symbol('<')?;
+    let key = field_type(alloc, tokens, levels)?;
+    tokens.symbol(',')?;
+    let value = field_type(alloc, tokens, levels)?;
+    tokens.symbol('>')?;
+    Ok(Type::Map(Box::new(alloc, key)?, Box::new(alloc, value)?))
+}

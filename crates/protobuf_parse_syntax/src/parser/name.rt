@@ -1,0 +1,92 @@
+//! Dotted names and strings.
+
+ghost use Rattle.std.specs.Prelude.{◌≡◌, map, string_bytes};
+ghost use Rattle.protobuf_parse_syntax.specs.Productions as read;
+ghost use Rattle.protobuf_parse_syntax.specs.Trees.{pieces_of};
+ghost use Rattle.protobuf_parse_syntax.specs.Code.{left, Gives, refusal_of};
+
+use crate::error::ParserError;
+use crate::lexer::str_lit::{StrLit, StrLitDecodeError};
+use crate::parser::cursor::Cursor;
+use crate::parser::refusal::Refusal;
+use std::alloc::Global;
+
+/// `ident { "." ident }`, without blanks.
+#[tactic(auto, unfolding(crate::specs::Productions::dotted), using(crate::specs::Code::fails_first))]
+pub fn dotted(alloc: Global, tokens: &mut Cursor<'_, '_>) -> Result<String, Refusal>
+    ensures { Gives string_bytes result (left tokens.new) (read.dotted.run (left tokens.old)) }
+{
+    let mut name = tokens.ident(alloc)?;
+    'parts: while tokens.sees_symbol('.') {
+        let part = dot_ident(tokens)?;
+        name.push('.')?;
+        name.push_str(part)?;
+    }
+    Ok(name)
+}
+
+/// `"." ident`
+#[tactic(auto, using(crate::specs::Code::fails_first))]
+fn dot_ident<'text>(tokens: &mut Cursor<'_, 'text>) -> Result<&'text str, Refusal>
+    ensures { Gives (λ z. z.now) result (left tokens.new) (read.dot_ident.run (left tokens.old)) }
+{
+    tokens.symbol('.')?;
+    tokens.ident_text()
+}
+
+/// `name = [ "." ] ident { "." ident }`, without blanks.
+#[tactic(auto, unfolding(crate::specs::Productions::name, crate::specs::Productions::root), using(crate::specs::Code::fails_first))]
+pub fn name(alloc: Global, tokens: &mut Cursor<'_, '_>) -> Result<String, Refusal>
+    ensures { Gives string_bytes result (left tokens.new) (read.name.run (left tokens.old)) }
+{
+    if !tokens.sees_symbol('.') {
+        return dotted(alloc, tokens);
+    }
+    tokens.symbol('.')?;
+    let rest = dotted(alloc, tokens)?;
+    let mut name = String::from_str(alloc, ".")?;
+    name.push_str(rest.as_str())?;
+    Ok(name)
+}
+
+/// `str = string token { string token }`
+#[tactic(auto, unfolding(crate::specs::Productions::str), using(crate::specs::Code::fails_first))]
+pub fn string(alloc: Global, tokens: &mut Cursor<'_, '_>) -> Result<StrLit, Refusal>
+    ensures { Gives pieces_of result (left tokens.new) (read.str.run (left tokens.old)) }
+{
+    let mut pieces = Vec::new(alloc);
+    pieces.push(tokens.piece(alloc)?)?;
+    'others: while tokens.sees_str() {
+        let piece = tokens.piece(alloc)?;
+        pieces.push(piece)?;
+    }
+    Ok(StrLit { pieces })
+}
+
+/// The text that a string stands for. S15 at the string where it stands for none.
+#[tactic(auto, unfolding(crate::specs::Productions::reserved_name), using(crate::specs::Code::fails_first))]
+pub fn text(alloc: Global, tokens: &mut Cursor<'_, '_>) -> Result<String, Refusal>
+    ensures { Gives string_bytes result (left tokens.new) (read.reserved_name.run (left tokens.old)) }
+{
+    let before = *tokens;
+    let string = string(alloc, tokens)?;
+    match string.decode_utf8(alloc) {
+        Ok(text) => Ok(text),
+        Err(error) => {
+            *tokens = before;
+            Err(no_text(error))
+        }
+    }
+}
+
+/// Why a string stands for no text.
+fn no_text(error: StrLitDecodeError) -> Refusal
+    ensures { result ≡ refusal_of error }
+{
+    match error {
+        StrLitDecodeError::Memory => Refusal::Memory,
+        StrLitDecodeError::BadEscape | StrLitDecodeError::NotUtf8 => {
+            Refusal::Here(ParserError::StrLitDecode)
+        }
+    }
+}

@@ -1,0 +1,236 @@
+//! Options.
+
+ghost use Rattle.std.specs.Prelude.{◌≡◌, ◌≤◌, ◌∷◌, [], map, string_bytes, codes, OnOk};
+ghost use Rattle.protobuf_parse_base.specs.Readers.{starts, with_first};
+ghost use Rattle.protobuf_parse_syntax.specs.Classes as class;
+ghost use Rattle.protobuf_parse_syntax.specs.Classes.{lexicon};
+ghost use Rattle.protobuf_parse_syntax.specs.Grammar as grammar;
+ghost use Rattle.protobuf_parse_syntax.specs.Productions as read;
+ghost use Rattle.protobuf_parse_syntax.specs.Trees as view;
+ghost use Rattle.protobuf_parse_syntax.specs.Code.{left, Gives, seen_by, comes};
+ghost use Rattle.protobuf_parse_syntax.specs.Nested as nest;
+
+use crate::error::ParserError;
+use crate::parser::constant::constant;
+use crate::parser::cursor::Cursor;
+use crate::parser::list::push_some;
+use crate::parser::name::name;
+use crate::parser::refusal::Refusal;
+use crate::tree::{OptionStatement, ProtobufOption, ProtobufOptionName, ProtobufOptionNamePart};
+use std::alloc::Global;
+
+/// The most parts that an option's name may have behind its first.
+const MAX_OTHER_PARTS: usize = 99;
+
+/// `option = "option" optname "=" constant ";"`
+#[tactic(auto, unfolding(crate::specs::Nested::option_pair), using(crate::specs::Code::fails_first))]
+pub fn option(
+    alloc: Global,
+    tokens: &mut Cursor<'_, '_>,
+    levels: usize,
+) -> Result<OptionStatement, Refusal>
+    ensures { Gives view.option_statement_view result (left tokens.new) ((nest.option levels).low.run (left tokens.old)) }
+{
+    let place = tokens.place();
+    tokens.word("option")?;
+    let option = assignment(alloc, tokens, levels)?;
+    tokens.symbol(';')?;
+    Ok(OptionStatement { place, option })
+}
+
+/// `[ "[" optname "=" constant { "," optname "=" constant } "]" ]`
+#[tactic(auto, unfolding(crate::specs::Nested::options_pair), using(crate::specs::Code::fails_first))]
+pub fn options(
+    alloc: Global,
+    tokens: &mut Cursor<'_, '_>,
+    levels: usize,
+) -> Result<Vec<ProtobufOption>, Refusal>
+    ensures { Gives (λ v. map view.option_view v.items) result (left tokens.new) ((nest.options levels).low.run (left tokens.old)) }
+{
+    if !tokens.sees_symbol('[') {
+        return Ok(Vec::new(alloc));
+    }
+    tokens.symbol('[')?;
+    let options = assignments(alloc, tokens, levels)?;
+    tokens.symbol(']')?;
+    Ok(options)
+}
+
+#[tactic(auto, unfolding(crate::specs::Nested::assignments), using(crate::specs::Code::fails_first))]
+fn assignments(
+    alloc: Global,
+    tokens: &mut Cursor<'_, '_>,
+    levels: usize,
+) -> Result<Vec<ProtobufOption>, Refusal>
+    ensures { Gives (λ v. map view.option_view v.items) result (left tokens.new) ((nest.assignments levels).low.run (left tokens.old)) }
+{
+    let mut options = Vec::new(alloc);
+    options.push(assignment(alloc, tokens, levels)?)?;
+    'others: while tokens.sees_symbol(',') {
+        tokens.symbol(',')?;
+        let option = assignment(alloc, tokens, levels)?;
+        options.push(option)?;
+    }
+    Ok(options)
+}
+
+/// `optname "=" constant`
+#[tactic(auto, unfolding(crate::specs::Nested::assignment), using(crate::specs::Code::fails_first))]
+fn assignment(
+    alloc: Global,
+    tokens: &mut Cursor<'_, '_>,
+    levels: usize,
+) -> Result<ProtobufOption, Refusal>
+    ensures { Gives view.option_view result (left tokens.new) ((nest.assignment levels).low.run (left tokens.old)) }
+{
+    let name = option_name(alloc, tokens)?;
+    tokens.symbol('=')?;
+    let value = constant(alloc, tokens, levels)?;
+    Ok(ProtobufOption { name, value })
+}
+
+/// `optname = optpart { "." optpart }`, of at most 100 parts
+#[tactic(auto, unfolding(crate::specs::Productions::option_name), using(crate::specs::Code::fails_first))]
+fn option_name(alloc: Global, tokens: &mut Cursor<'_, '_>) -> Result<ProtobufOptionName, Refusal>
+    ensures { Gives view.option_name_view result (left tokens.new) (read.option_name.run (left tokens.old)) }
+{
+    let first = option_part(alloc, tokens)?;
+    if tokens.sees_symbol('.') {
+        return Ok(ProtobufOptionName::Custom(parts(alloc, tokens, first)?));
+    }
+    match first {
+        ProtobufOptionNamePart::Direct(name) => Ok(ProtobufOptionName::Builtin(name)),
+        ProtobufOptionNamePart::Ext(_) => {
+            let mut parts = Vec::new(alloc);
+            parts.push(first)?;
+            Ok(ProtobufOptionName::Custom(parts))
+        }
+    }
+}
+
+/// The first part and `{ "." optpart }` behind it.
+fn parts(
+    alloc: Global,
+    tokens: &mut Cursor<'_, '_>,
+    first: ProtobufOptionNamePart,
+) -> Result<Vec<ProtobufOptionNamePart>, Refusal>
+    ensures { Gives (λ v. map view.option_part_view v.items) result (left tokens.new) (with_first (view.option_part_view first) ((read.parts_up_to 99).run (left tokens.old))) }
+{
+    let mut parts = Vec::new(alloc);
+    parts.push(first)?;
+    let mut room = MAX_OTHER_PARTS;
+    'others: while room > 0 {
+        if !tokens.sees_symbol('.') {
+            return Ok(parts);
+        }
+        let part = next_part(alloc, tokens)?;
+        parts.push(part)?;
+        room -= 1;
+    }
+    no_more_parts(tokens)?;
+    Ok(parts)
+}
+
+/// `"." optpart`
+#[tactic(auto, unfolding(crate::specs::Productions::next_part), using(crate::specs::Code::fails_first))]
+fn next_part(alloc: Global, tokens: &mut Cursor<'_, '_>) -> Result<ProtobufOptionNamePart, Refusal>
+    ensures { Gives view.option_part_view result (left tokens.new) (read.next_part.run (left tokens.old)) }
+{
+    tokens.symbol('.')?;
+    option_part(alloc, tokens)
+}
+
+/// That no part follows the 100th. S7 at the first token of another part, S8 at a dot with no part behind it.
+fn no_more_parts(tokens: &mut Cursor<'_, '_>) -> Result<(), Refusal>
+    ensures { Gives (λ u. []) result (left tokens.new) ((read.parts_up_to 0).run (left tokens.old)) }
+{
+    if !tokens.sees_symbol('.') {
+        return Ok(());
+    }
+    let before = *tokens;
+    tokens.symbol('.')?;
+    if begins_option_part(tokens) {
+        return Err(Refusal::Here(ParserError::OptionNameTooLong));
+    }
+    *tokens = before;
+    Err(Refusal::Next(ParserError::IncorrectInput))
+}
+
+/// Whether a part of an option's name comes next.
+#[tactic(auto, unfolding(protobuf_parse_base::specs::Readers::starts))]
+fn begins_option_part(tokens: &Cursor<'_, '_>) -> bool
+    ensures { result ≡ comes (class.ident [] ∷ class.symbol 40 ∷ []) (left tokens.now) }
+{
+    tokens.sees_ident() || tokens.sees_symbol('(')
+}
+
+/// `optpart = ident | "(" name ")"`
+#[tactic(auto, unfolding(crate::specs::Productions::option_part), using(crate::specs::Code::fails_first))]
+fn option_part(
+    alloc: Global,
+    tokens: &mut Cursor<'_, '_>,
+) -> Result<ProtobufOptionNamePart, Refusal>
+    ensures { Gives view.option_part_view result (left tokens.new) (read.option_part.run (left tokens.old)) }
+{
+    if tokens.sees_ident() {
+        return Ok(ProtobufOptionNamePart::Direct(tokens.ident(alloc)?));
+    }
+    tokens.symbol('(')?;
+    let name = name(alloc, tokens)?;
+    tokens.symbol(')')?;
+    Ok(ProtobufOptionNamePart::Ext(name))
+}
+
+/// `"{" { option | ";" } "}"`
+#[tactic(auto, unfolding(crate::specs::Nested::option_body), using(crate::specs::Code::fails_first))]
+pub fn option_body(
+    alloc: Global,
+    tokens: &mut Cursor<'_, '_>,
+    levels: usize,
+) -> Result<Vec<OptionStatement>, Refusal>
+    ensures { Gives (λ v. map view.option_statement_view v.items) result (left tokens.new) ((nest.option_body levels).low.run (left tokens.old)) }
+{
+    tokens.symbol('{')?;
+    let options = option_statements(alloc, tokens, levels)?;
+    tokens.symbol('}')?;
+    Ok(options)
+}
+
+#[tactic(auto, unfolding(crate::specs::Nested::option_items))]
+fn option_statements(
+    alloc: Global,
+    tokens: &mut Cursor<'_, '_>,
+    levels: usize,
+) -> Result<Vec<OptionStatement>, Refusal>
+    ensures { Gives (λ v. map view.option_statement_view v.items) result (left tokens.new) ((nest.option_items levels).low.run (left tokens.old)) }
+{
+    let mut options = Vec::new(alloc);
+    'items: while begins_option_item(tokens) {
+        let item = option_item(alloc, tokens, levels)?;
+        push_some(&mut options, item)?;
+    }
+    Ok(options)
+}
+
+#[tactic(auto, using(crate::proofs::Left::starts_more))]
+fn begins_option_item(tokens: &Cursor<'_, '_>) -> bool
+    ensures { result ≡ starts lexicon (class.symbol 59 ∷ class.word (codes "option") ∷ []) (left tokens.now) }
+{
+    tokens.sees_symbol(';') || tokens.sees_word("option")
+}
+
+/// An option, or nothing at a semicolon.
+#[tactic(auto, unfolding(crate::specs::Nested::option_item), using(crate::specs::Code::fails_first))]
+fn option_item(
+    alloc: Global,
+    tokens: &mut Cursor<'_, '_>,
+    levels: usize,
+) -> Result<Option<OptionStatement>, Refusal>
+    ensures { Gives (seen_by view.option_statement_view) result (left tokens.new) ((nest.option_item levels).low.run (left tokens.old)) }
+{
+    if tokens.sees_symbol(';') {
+        tokens.symbol(';')?;
+        return Ok(None);
+    }
+    Ok(Some(option(alloc, tokens, levels)?))
+}

@@ -1,0 +1,144 @@
+//! Messages, enums, extensions and services.
+
+use crate::lexer::token::Place;
+use crate::tree::field::FieldStatement;
+use crate::tree::option::{OptionStatement, ProtobufOption};
+
+/// `message NAME { .. }`.
+#[derive(Debug, Drop)]
+#[cycle(message)]
+pub struct Message {
+    /// The place of the word `message`.
+    pub place: Place,
+    pub name: String,
+    pub body: Vec<MessageStatement>,
+}
+
+/// A statement of a message's body.
+#[derive(Debug, Drop)]
+#[cycle(message)]
+pub enum MessageStatement {
+    Reserved(ReservedStatement),
+    OneOf(OneOf),
+    Extend(Extend),
+    Message(Message),
+    Enumeration(Enumeration),
+    Extensions(Extensions),
+    Option(OptionStatement),
+    Field(FieldStatement),
+}
+
+/// `oneof NAME { .. }`.
+#[derive(Debug, Drop)]
+pub struct OneOf {
+    /// The place of the word `oneof`.
+    pub place: Place,
+    pub name: String,
+    pub body: Vec<OneOfStatement>,
+}
+
+/// A statement of a oneof's body.
+#[derive(Debug, Drop)]
+pub enum OneOfStatement {
+    Option(OptionStatement),
+    Field(FieldStatement),
+}
+
+/// `extend NAME { .. }`.
+#[derive(Debug, Drop)]
+pub struct Extend {
+    /// The place of the word `extend`.
+    pub place: Place,
+    /// The name of the message that is extended.
+    pub extendee: String,
+    pub fields: Vec<FieldStatement>,
+}
+
+/// Numbers of fields or of enum values, from the first to the last with both.
+/// The first may be above the last.
+#[derive(Clone, Copy, Debug, PartialEq, Eq)]
+pub struct FieldNumberRange {
+    pub from: i32,
+    pub to: i32,
+}
+
+/// `extensions RANGES`.
+#[derive(Debug, Drop)]
+pub struct Extensions {
+    /// The place of the word `extensions`.
+    pub place: Place,
+    pub ranges: Vec<FieldNumberRange>,
+}
+
+/// What is reserved.
+#[derive(Debug, Drop)]
+pub enum Reserved {
+    Ranges(Vec<FieldNumberRange>),
+    /// The texts that the strings stand for.
+    Names(Vec<String>),
+}
+
+/// `reserved RANGES;` or `reserved NAMES;`.
+#[derive(Debug, Drop)]
+pub struct ReservedStatement {
+    /// The place of the word `reserved`.
+    pub place: Place,
+    pub reserved: Reserved,
+}
+
+/// `enum NAME { .. }`.
+#[derive(Debug, Drop)]
+pub struct Enumeration {
+    /// The place of the word `enum`.
+    pub place: Place,
+    pub name: String,
+    pub body: Vec<EnumStatement>,
+}
+
+/// A statement of an enum's body.
+#[derive(Debug, Drop)]
+pub enum EnumStatement {
+    Reserved(ReservedStatement),
+    Option(OptionStatement),
+    Value(EnumValue),
+}
+
+/// `NAME = NUMBER [OPTIONS]`.
+#[derive(Debug, Drop)]
+pub struct EnumValue {
+    /// The place of the name.
+    pub place: Place,
+    pub name: String,
+    pub number: i32,
+    pub options: Vec<ProtobufOption>,
+}
+
+/// `service NAME { .. }`.
+#[derive(Debug, Drop)]
+pub struct Service {
+    /// The place of the word `service`.
+    pub place: Place,
+    pub name: String,
+    pub body: Vec<ServiceStatement>,
+}
+
+/// A statement of a service's body.
+#[derive(Debug, Drop)]
+pub enum ServiceStatement {
+    Method(Method),
+    Option(OptionStatement),
+}
+
+/// `rpc NAME ([stream] INPUT) returns ([stream] OUTPUT)`, or `stream NAME (INPUT, OUTPUT)`, which streams
+/// both ways.
+#[derive(Debug, Drop)]
+pub struct Method {
+    /// The place of the word `rpc` or `stream`.
+    pub place: Place,
+    pub name: String,
+    pub input: String,
+    pub output: String,
+    pub client_streaming: bool,
+    pub server_streaming: bool,
+    pub options: Vec<OptionStatement>,
+}

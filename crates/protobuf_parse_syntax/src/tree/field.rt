@@ -1,0 +1,77 @@
+//! Fields, groups and types.
+
+use crate::lexer::token::Place;
+use crate::tree::option::ProtobufOption;
+
+/// What a field's values are counted by.
+#[derive(Clone, Copy, Debug, PartialEq, Eq)]
+pub enum Label {
+    Optional,
+    Required,
+    Repeated,
+}
+
+/// A type that has a word of its own in the language.
+#[derive(Clone, Copy, Debug, PartialEq, Eq)]
+pub enum Scalar {
+    Int32,
+    Int64,
+    Uint32,
+    Uint64,
+    Sint32,
+    Sint64,
+    Fixed32,
+    Sfixed32,
+    Fixed64,
+    Sfixed64,
+    Bool,
+    String,
+    Bytes,
+    Float,
+    Double,
+}
+
+/// The type of a field's values.
+#[derive(Debug, Drop)]
+pub enum Type {
+    Scalar(Scalar),
+    /// `map<KEY, VALUE>`.
+    Map(Box<Type>, Box<Type>),
+    /// The name of a message or an enum, without blanks: identifiers with dots between them, and a dot
+    /// before the first if the name begins at the root.
+    Named(String),
+}
+
+/// `[LABEL] TYPE NAME = NUMBER [OPTIONS];`.
+#[derive(Debug, Drop)]
+pub struct Field {
+    /// The place of the label, or of the type where there is none.
+    pub place: Place,
+    pub label: Option<Label>,
+    pub type_: Type,
+    pub name: String,
+    /// From 0 to 2147483647.
+    pub number: i32,
+    pub options: Vec<ProtobufOption>,
+}
+
+/// `[LABEL] group NAME = NUMBER { .. }`.
+#[derive(Debug, Drop)]
+#[cycle(field)]
+pub struct Group {
+    /// The place of the label, or of the word `group` where there is none.
+    pub place: Place,
+    pub label: Option<Label>,
+    pub name: String,
+    /// From 0 to 2147483647.
+    pub number: i32,
+    pub fields: Vec<FieldStatement>,
+}
+
+/// A statement that declares a field.
+#[derive(Debug, Drop)]
+#[cycle(field)]
+pub enum FieldStatement {
+    Field(Field),
+    Group(Group),
+}

@@ -1,0 +1,38 @@
+//! Options.
+
+use crate::lexer::token::Place;
+use crate::tree::constant::ProtobufConstant;
+
+/// A part of an option's name.
+#[derive(Debug, Drop)]
+pub enum ProtobufOptionNamePart {
+    /// A field's name.
+    Direct(String),
+    /// The name of an extension, which stands in parentheses: identifiers with dots between them, and a
+    /// dot before the first if the name begins at the root.
+    Ext(String),
+}
+
+/// The name of an option.
+#[derive(Debug, Drop)]
+pub enum ProtobufOptionName {
+    /// One part without parentheses.
+    Builtin(String),
+    /// One to 100 parts, the first in parentheses or followed by others.
+    Custom(Vec<ProtobufOptionNamePart>),
+}
+
+/// `NAME = VALUE`.
+#[derive(Debug, Drop)]
+pub struct ProtobufOption {
+    pub name: ProtobufOptionName,
+    pub value: ProtobufConstant,
+}
+
+/// `option NAME = VALUE;`.
+#[derive(Debug, Drop)]
+pub struct OptionStatement {
+    /// The place of the word `option`.
+    pub place: Place,
+    pub option: ProtobufOption,
+}

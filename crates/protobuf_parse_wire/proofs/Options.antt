@@ -1,0 +1,274 @@
+-- What custom options denote suits the descriptors, so that the reader reads it back.
+use Rattle.std.proofs.Common.{◌≡◌, ℕ, suc, ◌<◌, ℤ, pos, negsuc, nat_abs, Bool, true, false, not, ◌&&◌, cond, List, [], ◌∷◌, ◌++◌, map, flat_map, Option, Some, None, unwrap_or, refl, sym, ap, subst, arith, Contains, bytes_eq}
+use Rattle.std.specs.Prelude.{int_le}
+use Rattle.std.specs.Option.{option_to_list}
+use Rattle.std.specs.List.{filter}
+use Rattle.std.specs.Str.{IsUtf8, is_utf8}
+use Rattle.std.proofs.lemmas.Bool.{leb-true}
+use Rattle.std.proofs.lemmas.Str.{IsUtf8-from_is_utf8}
+use Rattle.std.specs.Int.{w32}
+use Rattle.std.specs.Int.RustNames.{FitsSigned}
+use Rattle.protobuf_parse_syntax.specs.Trees.{Pieces, ConstantSyntax, integer, truth, dotted, string, list, fields, ConstantNameSyntax, regular_name, extension_name, url_name, ConstantList, no_constants, more_constants, ConstantFieldList, no_fields, more_fields, OptionPartSyntax, direct, extension, OptionNameSyntax, builtin, custom, OptionSyntax}
+use Rattle.protobuf_parse_syntax.specs.Decoder.{decode, text_when}
+use Rattle.protobuf_parse_model.specs.declared.error.ElabErrorKind.TheVariants.{OptionFieldNumber}
+use Rattle.protobuf_parse_model.specs.declared.descriptor.FieldType.{FieldType}
+use Rattle.protobuf_parse_model.specs.declared.descriptor.FieldType.TheVariants as types
+use Rattle.protobuf_parse_model.specs.Descriptors.{Text, FieldDescriptor, FileDescriptor, MessageParts}
+use Rattle.protobuf_parse_model.specs.Faults.{Fault, Among, here, there}
+use Rattle.protobuf_parse_model.specs.Declarations.{Declared}
+use Rattle.protobuf_parse_model.specs.Lookup.{meaning}
+use Rattle.protobuf_parse_model.specs.Environment.{OptionsOf}
+use Rattle.protobuf_parse_model.specs.Duplicates.{fault_when}
+use Rattle.protobuf_parse_model.specs.BuiltinOptions.{string_faults}
+use Rattle.protobuf_parse_wire.specs.declared.kind.Kind.{Kind}
+use Rattle.protobuf_parse_wire.specs.declared.kind.Kind.TheVariants as kinds
+use Rattle.protobuf_parse_wire.specs.Kinds.{shape, kind_of}
+use Rattle.protobuf_parse_wire.specs.Trees as trees
+use Rattle.protobuf_parse_wire.specs.Trees.{EntryTree}
+use Rattle.protobuf_parse_wire.specs.Views.{Item, entries_of_list}
+use Rattle.protobuf_parse_wire.specs.Declarations.{messages_of, extensions_in, extensions_of, extends}
+use Rattle.protobuf_parse_wire.specs.Law.{Suit, ValueSuits, Enters}
+use Rattle.protobuf_parse_wire.specs.OptionFields.{OptionScope, options_message, fields_of_message, field_named, if_extends, number_of_value, part_field, type_name_of, takes_by, is_entry}
+use Rattle.protobuf_parse_wire.specs.CustomOptions.{message_item, value_items, list_items, field_items, constant_fields, path_items, named_items, option_items, denotes}
+use Rattle.protobuf_parse_wire.specs.CustomFaults.{integer_faults, truth_faults, value_name_faults, string_value_faults, message_value_faults, number_faults, constant_name_faults, value_faults, list_faults, field_faults, part_text, path_text, part_faults, step_faults, path_faults, custom_faults, named_faults, statement_faults}
+use Rattle.protobuf_parse_wire.specs.OptionLaw.{IsEntered, fields_at, IsReadable, OptionsAreRead}
+use Rattle.protobuf_parse_wire.proofs.Again as again
+use Rattle.protobuf_parse_model.proofs.Lookups.{found_is, meaning_declared}
+use Rattle.protobuf_parse_wire.proofs.Writable.{no_left, no_right, number_kept, plain_step_has_fault}
+
+-- ---- members
+
+contains_later : {A : Type 0} (y : A) (xs : List A) (x : A) → Contains xs x → Contains (y ∷ xs) x
+contains_later y xs x h = (suc h.0, omega (arith, h.1), h.2)
+
+contains_from_among : {A : Type 0} (xs : List A) (x : A) → Among xs x → Contains xs x
+contains_from_among [] x h = elim h [ ]
+contains_from_among (x ∷ xs) _ here = (0, omega arith, refl)
+contains_from_among (y ∷ xs) x (there h) = contains_later y xs x (contains_from_among xs x h)
+
+among_left : {A : Type 0} {x : A} {xs : List A} (ys : List A) → Among xs x → Among (xs ++ ys) x
+among_left ys here = here
+among_left ys (there h) = there (among_left ys h)
+
+among_right : {A : Type 0} {x : A} (xs : List A) {ys : List A} → Among ys x → Among (xs ++ ys) x
+among_right [] h = h
+among_right (y ∷ xs) h = there (among_right xs h)
+
+among_filtered : {A : Type 0} (test : A → Bool) (xs : List A) (x : A) → Among xs x → test x ≡ true → Among (filter test xs) x
+among_filtered test [] x h e = elim h [ ]
+among_filtered test (x ∷ xs) _ here e = rw e here
+among_filtered test (y ∷ xs) x (there h) e = at (test y) (among_filtered test xs x h e)
+  where
+    at : (b : Bool) → Among (filter test xs) x → Among (cond b (y ∷ filter test xs) (filter test xs)) x
+    at true k = there k
+    at false k = k
+
+-- ---- one entry
+
+abbrev Suits : List FileDescriptor → List FieldDescriptor → List Item → Type 0
+Suits files fs items = Suit files fs (entries_of_list items)
+
+suit_append : (files : List FileDescriptor) (fs : List FieldDescriptor) (xs ys : List Item) → Suits files fs xs → Suits files fs ys → Suits files fs (xs ++ ys)
+suit_append files fs [] ys p q = q
+suit_append files fs (x ∷ xs) ys p q = (p.0, p.1, p.2, suit_append files fs xs ys p.3 q)
+
+-- a field of the list whose number can stand in a tag
+pub record IsUsed (fs : List FieldDescriptor) (f : FieldDescriptor) : Type 0 where
+  pub among : Among fs f
+  pub number : f.number ≡ pos (nat_abs f.number)
+  pub small : nat_abs f.number < 2147483648
+
+abbrev item_at : ℕ → FieldType → EntryTree → List Item
+item_at n t v = map (λ (k : Kind). record { number = n; kind = k; value = v }) (option_to_list (kind_of t))
+
+entry_suits : (files : List FileDescriptor) (fs : List FieldDescriptor) (f : FieldDescriptor) (k : Kind) (v : EntryTree) → IsUsed fs f → kind_of f.type_ ≡ Some k → ValueSuits files f (shape k) v → Suits files fs (record { number = nat_abs f.number; kind = k; value = v } ∷ [])
+entry_suits files fs f k v u e p = (f, record { declared = contains_from_among fs f u.among; number = u.number; small = u.small; kind = e }, p, tt)
+
+-- ---- one value of one field, by the field's type
+
+number_suits : (files : List FileDescriptor) (fs : List FieldDescriptor) (f : FieldDescriptor) → IsUsed fs f → (is_map : Bool) (t : FieldType) → f.type_ ≡ t → (z : ℤ) → integer_faults f.name (takes_by is_map t) z ≡ [] → Suits files fs (item_at (nat_abs f.number) t (trees.number z))
+number_suits files fs f u is_map types.Int32 s z e = entry_suits files fs f kinds.Int32 (trees.number z) u (ap kind_of s) (number_kept kinds.Int32 f.name z e)
+number_suits files fs f u is_map types.Int64 s z e = entry_suits files fs f kinds.Int64 (trees.number z) u (ap kind_of s) (number_kept kinds.Int64 f.name z e)
+number_suits files fs f u is_map types.Uint32 s z e = entry_suits files fs f kinds.Uint32 (trees.number z) u (ap kind_of s) (number_kept kinds.Uint32 f.name z e)
+number_suits files fs f u is_map types.Uint64 s z e = entry_suits files fs f kinds.Uint64 (trees.number z) u (ap kind_of s) (number_kept kinds.Uint64 f.name z e)
+number_suits files fs f u is_map types.Sint32 s z e = entry_suits files fs f kinds.Sint32 (trees.number z) u (ap kind_of s) (number_kept kinds.Sint32 f.name z e)
+number_suits files fs f u is_map types.Sint64 s z e = entry_suits files fs f kinds.Sint64 (trees.number z) u (ap kind_of s) (number_kept kinds.Sint64 f.name z e)
+number_suits files fs f u is_map types.Fixed32 s z e = entry_suits files fs f kinds.Fixed32 (trees.number z) u (ap kind_of s) (number_kept kinds.Fixed32 f.name z e)
+number_suits files fs f u is_map types.Sfixed32 s z e = entry_suits files fs f kinds.Sfixed32 (trees.number z) u (ap kind_of s) (number_kept kinds.Sfixed32 f.name z e)
+number_suits files fs f u is_map types.Fixed64 s z e = entry_suits files fs f kinds.Fixed64 (trees.number z) u (ap kind_of s) (number_kept kinds.Fixed64 f.name z e)
+number_suits files fs f u is_map types.Sfixed64 s z e = entry_suits files fs f kinds.Sfixed64 (trees.number z) u (ap kind_of s) (number_kept kinds.Sfixed64 f.name z e)
+number_suits files fs f u true types.Message s z e = absurd cc
+number_suits files fs f u false types.Message s z e = absurd cc
+number_suits files fs f u is_map _ s z e = absurd cc
+
+truth_suits : (files : List FileDescriptor) (fs : List FieldDescriptor) (f : FieldDescriptor) → IsUsed fs f → (is_map : Bool) (t : FieldType) → f.type_ ≡ t → (b : Bool) → truth_faults f.name (takes_by is_map t) ≡ [] → Suits files fs (item_at (nat_abs f.number) t (trees.truth b))
+truth_suits files fs f u is_map types.Bool s b e = entry_suits files fs f kinds.Bool (trees.truth b) u (ap kind_of s) tt
+truth_suits files fs f u true types.Message s b e = absurd cc
+truth_suits files fs f u false types.Message s b e = absurd cc
+truth_suits files fs f u is_map _ s b e = absurd cc
+
+text_is_utf8 : (option : Text) (o : Option (List ℕ)) → string_faults option (text_when o) ≡ [] → IsUtf8 (unwrap_or o [])
+text_is_utf8 option None e = absurd cc
+text_is_utf8 option (Some v) e = at (is_utf8 v) refl e
+  where
+    at : (b : Bool) → is_utf8 v ≡ b → string_faults option (cond b (Some v) None) ≡ [] → IsUtf8 v
+    at true h k = IsUtf8-from_is_utf8 v h
+    at false h k = absurd cc
+
+string_suits : (files : List FileDescriptor) (fs : List FieldDescriptor) (f : FieldDescriptor) → IsUsed fs f → (is_map : Bool) (t : FieldType) → f.type_ ≡ t → (option : Text) (pieces : Pieces) → string_value_faults option f.name (takes_by is_map t) pieces ≡ [] → Suits files fs (item_at (nat_abs f.number) t (trees.bytes (unwrap_or (decode pieces) [])))
+string_suits files fs f u is_map types.String s option pieces e = entry_suits files fs f kinds.String (trees.bytes (unwrap_or (decode pieces) [])) u (ap kind_of s) (text_is_utf8 option (decode pieces) e)
+string_suits files fs f u is_map types.Bytes s option pieces e = entry_suits files fs f kinds.Bytes (trees.bytes (unwrap_or (decode pieces) [])) u (ap kind_of s) tt
+string_suits files fs f u true types.Message s option pieces e = absurd cc
+string_suits files fs f u false types.Message s option pieces e = absurd cc
+string_suits files fs f u is_map _ s option pieces e = absurd cc
+
+abbrev numbers : ℕ → FieldType → Option ℤ → List Item
+numbers n t o = flat_map (λ (z : ℤ). item_at n t (trees.number z)) (option_to_list o)
+
+value_name_suits : (files : List FileDescriptor) (fs : List FieldDescriptor) (f : FieldDescriptor) → IsUsed fs f → (is_map : Bool) (t : FieldType) → f.type_ ≡ t → (value : Text) (o : Option ℤ) → ((z : ℤ) → o ≡ Some z → FitsSigned w32 z) → value_name_faults f.name (takes_by is_map t) value o ≡ [] → Suits files fs (numbers (nat_abs f.number) t o)
+value_name_suits files fs f u is_map types.Enum s value (Some z) small e = entry_suits files fs f kinds.Enum (trees.number z) u (ap kind_of s) (small z refl)
+value_name_suits files fs f u is_map types.Enum s value None small e = tt
+value_name_suits files fs f u true types.Message s value o small e = absurd cc
+value_name_suits files fs f u false types.Message s value o small e = absurd cc
+value_name_suits files fs f u is_map _ s value o small e = absurd cc
+
+-- what stands in the message that a field holds
+abbrev Inside : List FileDescriptor → FieldDescriptor → List Item → Type 0
+Inside files f items = (name : Text) × (f.type_name ≡ Some name) × Enters files name (λ fs. Suit files fs (entries_of_list items))
+
+message_suits : (files : List FileDescriptor) (fs : List FieldDescriptor) (f : FieldDescriptor) → IsUsed fs f → (is_map : Bool) (t : FieldType) → f.type_ ≡ t → (inside : List Fault) (items : List Item) → message_value_faults f.name (takes_by is_map t) inside ≡ [] → (f.type_ ≡ types.Message → inside ≡ [] → Inside files f items) → Suits files fs (item_at (nat_abs f.number) t (trees.message (entries_of_list items)))
+message_suits files fs f u true types.Message s inside items e g = absurd cc
+message_suits files fs f u false types.Message s inside items e g = entry_suits files fs f kinds.Message (trees.message (entries_of_list items)) u (ap kind_of s) (g s e)
+message_suits files fs f u is_map _ s inside items e g = absurd cc
+
+step_suits : (files : List FileDescriptor) (fs : List FieldDescriptor) (f : FieldDescriptor) → IsUsed fs f → (is_map : Bool) (t : FieldType) → f.type_ ≡ t → (part : Text) (inside : List Fault) (items : List Item) → step_faults part (takes_by is_map t) inside ≡ [] → (f.type_ ≡ types.Message → inside ≡ [] → Inside files f items) → Suits files fs (item_at (nat_abs f.number) t (trees.message (entries_of_list items)))
+step_suits files fs f u true types.Message s part inside items e g = entry_suits files fs f kinds.Message (trees.message (entries_of_list items)) u (ap kind_of s) (g s e)
+step_suits files fs f u false types.Message s part inside items e g = entry_suits files fs f kinds.Message (trees.message (entries_of_list items)) u (ap kind_of s) (g s e)
+step_suits files fs f u is_map _ s part inside items e g = absurd cc
+
+-- ---- the message that a field holds
+
+no_more : (xs : List FieldDescriptor) → xs ++ [] ≡ xs
+no_more [] = refl
+no_more (x ∷ xs) = ap (λ ys. x ∷ ys) (no_more xs)
+
+fields_are : (files : List FileDescriptor) (name : Text) (parts : MessageParts) → messages_of files name ≡ parts ∷ [] → fields_at files name ≡ parts.field ++ extensions_of files name
+fields_are files name parts once = rw once (ap (λ fs. fs ++ extensions_of files name) (no_more parts.field))
+
+enters : (files : List FileDescriptor) (name : Text) (items : List Item) → IsEntered files name → Suits files (fields_at files name) items → Enters files name (λ fs. Suit files fs (entries_of_list items))
+enters files name items m h = record { parts = m.parts; once = m.once; distinct = m.distinct; inside = subst (λ fs. Suit files fs (entries_of_list items)) (fields_are files name m.parts m.once) h }
+
+named : (f : FieldDescriptor) (name : Text) → f.type_name ≡ Some name → type_name_of f ≡ name
+named f name e = ap (λ o. unwrap_or o []) e
+
+-- the inside of a field of the message
+held_inside : (at : OptionScope) → IsReadable at → (message : Text) (f : FieldDescriptor) → Among (fields_at at.files message) f → (items : List Item) → f.type_ ≡ types.Message → Suits at.files (fields_at at.files (type_name_of f)) items → Inside at.files f items
+held_inside at r message f a items s h =
+    let held = r.held message f a s in
+    (held.0, held.1, enters at.files held.0 items held.2 (subst (λ name. Suits at.files (fields_at at.files name) items) (named f held.0 held.1) h))
+
+-- ---- numbers
+
+number_used : (f : FieldDescriptor) (z : ℤ) (b c : Bool) → b ≡ int_le (pos 1) z → c ≡ int_le z (pos 536870911) → fault_when (not (b && c)) OptionFieldNumber f.name ≡ [] → (z ≡ pos (nat_abs z)) × (nat_abs z < 2147483648)
+number_used f (pos n) true true p q e = let small = leb-true n 536870911 (sym q) in (refl, omega (arith, small))
+number_used f (negsuc n) true true p q e = absurd cc
+number_used f z true false p q e = absurd cc
+number_used f z false c p q e = absurd cc
+
+used : (fs : List FieldDescriptor) (f : FieldDescriptor) → Among fs f → number_faults f ≡ [] → IsUsed fs f
+used fs f a e =
+    let n = number_used f f.number (int_le (pos 1) f.number) (int_le f.number (pos 536870911)) refl refl e in
+    record { among = a; number = n.0; small = n.1 }
+
+-- ---- constants
+
+-- of the field that is found, if one is
+suit_found : (files : List FileDescriptor) (fs : List FieldDescriptor) (faults : FieldDescriptor → List Fault) (items : FieldDescriptor → List Item) (o : Option FieldDescriptor) → ((f : FieldDescriptor) → o ≡ Some f → faults f ≡ [] → Suits files fs (items f)) → flat_map faults (option_to_list o) ≡ [] → Suits files fs (flat_map items (option_to_list o))
+suit_found files fs faults items None each e = tt
+suit_found files fs faults items (Some f) each e = suit_append files fs (items f) [] (each f refl (no_left (faults f) [] e)) tt
+
+field_among : (files : List FileDescriptor) (message name : Text) (f : FieldDescriptor) → field_named files message name ≡ Some f → Among (fields_at files message) f
+field_among files message name f e = among_left (extensions_of files message) (found_is (λ (g : FieldDescriptor). bytes_eq g.name name) (fields_of_message files message) f e).0
+
+-- of the field that a name in a message constant means
+constant_suits : (at : OptionScope) (option message : Text) (name : ConstantNameSyntax) (faults : FieldDescriptor → List Fault) (items : FieldDescriptor → List Item) → ((f : FieldDescriptor) → Among (fields_at at.files message) f → faults f ≡ [] → Suits at.files (fields_at at.files message) (items f)) → flat_map faults (constant_fields at.files message name) ≡ [] → Suits at.files (fields_at at.files message) (flat_map items (constant_fields at.files message name))
+constant_suits at option message (regular_name name) faults items each e = suit_found at.files (fields_at at.files message) faults items (field_named at.files message name) (λ f h k. each f (field_among at.files message name f h) k) e
+constant_suits at option message (extension_name name) faults items each e = tt
+constant_suits at option message (url_name name) faults items each e = tt
+
+mutual
+  value_suits : (at : OptionScope) → IsReadable at → (option message : Text) (f : FieldDescriptor) → Among (fields_at at.files message) f → number_faults f ≡ [] → (c : ConstantSyntax) → value_faults at.files option f c ≡ [] → Suits at.files (fields_at at.files message) (value_items at.files f c)
+  value_suits at r option message f a n (integer z) e = number_suits at.files (fields_at at.files message) f (used (fields_at at.files message) f a n) (is_entry at.files (type_name_of f)) f.type_ refl z e
+  value_suits at r option message f a n (truth b) e = truth_suits at.files (fields_at at.files message) f (used (fields_at at.files message) f a n) (is_entry at.files (type_name_of f)) f.type_ refl b e
+  value_suits at r option message f a n (dotted name) e = value_name_suits at.files (fields_at at.files message) f (used (fields_at at.files message) f a n) (is_entry at.files (type_name_of f)) f.type_ refl name (number_of_value at.files (type_name_of f) name) (r.small (type_name_of f) name) e
+  value_suits at r option message f a n (string pieces) e = string_suits at.files (fields_at at.files message) f (used (fields_at at.files message) f a n) (is_entry at.files (type_name_of f)) f.type_ refl option pieces e
+  value_suits at r option message f a n (list cs) e = list_suits at r option message f a n cs e
+  value_suits at r option message f a n (fields fs) e =
+      message_suits at.files (fields_at at.files message) f (used (fields_at at.files message) f a n) (is_entry at.files (type_name_of f)) f.type_ refl (field_faults at.files option (type_name_of f) fs) (field_items at.files (type_name_of f) fs) e
+      (λ s h. held_inside at r message f a (field_items at.files (type_name_of f) fs) s (field_suits at r option (type_name_of f) fs h))
+
+  list_suits : (at : OptionScope) → IsReadable at → (option message : Text) (f : FieldDescriptor) → Among (fields_at at.files message) f → number_faults f ≡ [] → (cs : ConstantList) → list_faults at.files option f cs ≡ [] → Suits at.files (fields_at at.files message) (list_items at.files f cs)
+  list_suits at r option message f a n no_constants e = tt
+  list_suits at r option message f a n (more_constants c cs) e =
+      suit_append at.files (fields_at at.files message) (value_items at.files f c) (list_items at.files f cs)
+      (value_suits at r option message f a n c (no_left (value_faults at.files option f c) (list_faults at.files option f cs) e))
+      (list_suits at r option message f a n cs (no_right (value_faults at.files option f c) (list_faults at.files option f cs) e))
+
+  field_suits : (at : OptionScope) → IsReadable at → (option message : Text) (fs : ConstantFieldList) → field_faults at.files option message fs ≡ [] → Suits at.files (fields_at at.files message) (field_items at.files message fs)
+  field_suits at r option message no_fields e = tt
+  field_suits at r option message (more_fields name c fs) e =
+      suit_append at.files (fields_at at.files message) (flat_map (λ (g : FieldDescriptor). value_items at.files g c) (constant_fields at.files message name)) (field_items at.files message fs)
+      (constant_suits at option message name (λ (g : FieldDescriptor). number_faults g ++ value_faults at.files option g c) (λ (g : FieldDescriptor). value_items at.files g c) (λ g a h. value_suits at r option message g a (no_left (number_faults g) (value_faults at.files option g c) h) c (no_right (number_faults g) (value_faults at.files option g c) h))
+      (no_right (constant_name_faults at.files message name) (flat_map (λ (g : FieldDescriptor). number_faults g ++ value_faults at.files option g c) (constant_fields at.files message name)) (no_left (constant_name_faults at.files message name ++ flat_map (λ (g : FieldDescriptor). number_faults g ++ value_faults at.files option g c) (constant_fields at.files message name)) (field_faults at.files option message fs) e)))
+      (field_suits at r option message fs (no_right (constant_name_faults at.files message name ++ flat_map (λ (g : FieldDescriptor). number_faults g ++ value_faults at.files option g c) (constant_fields at.files message name)) (field_faults at.files option message fs) e))
+
+-- ---- names
+
+if_extends_is : (message : Text) (o : Option (Declared FieldDescriptor)) (f : FieldDescriptor) → if_extends message o ≡ Some f → (d : Declared FieldDescriptor) × (o ≡ Some d) × (d.what ≡ f) × (extends message d.what ≡ true)
+if_extends_is message None f e = absurd cc
+if_extends_is message (Some d) f e = at (extends message d.what) refl e
+  where
+    at : (b : Bool) → extends message d.what ≡ b → cond b (Some d.what) None ≡ Some f → (x : Declared FieldDescriptor) × (Some d ≡ Some x) × (x.what ≡ f) × (extends message x.what ≡ true)
+    at true h k = (d, refl, cc, h)
+    at false h k = absurd cc
+
+part_among : (at : OptionScope) → IsReadable at → (message : Text) (p : OptionPartSyntax) (f : FieldDescriptor) → part_field at message p ≡ Some f → Among (fields_at at.files message) f
+part_among at r message (direct name) f e = field_among at.files message name f e
+part_among at r message (extension name) f e =
+    let x = if_extends_is message (meaning at.extensions at.scope name) f e in
+    let a = meaning_declared at.extensions at.scope name x.0 x.1 in
+    subst (λ g. Among (fields_at at.files message) g) x.2 (among_right (fields_of_message at.files message) (among_filtered (extends message) (flat_map extensions_in at.files) x.0.what (r.seen x.0 a) x.3))
+
+path_suits : (at : OptionScope) → IsReadable at → (option : Text) (value : ConstantSyntax) (message : Text) (parts : List OptionPartSyntax) → path_faults at option value message parts ≡ [] → Suits at.files (fields_at at.files message) (path_items at value message parts)
+path_suits at r option value message [] e = tt
+path_suits at r option value message (p ∷ []) e =
+    suit_found at.files (fields_at at.files message) (λ (g : FieldDescriptor). number_faults g ++ value_faults at.files option g value) (λ (g : FieldDescriptor). value_items at.files g value) (part_field at message p)
+    (λ g h k. value_suits at r option message g (part_among at r message p g h) (no_left (number_faults g) (value_faults at.files option g value) k) value (no_right (number_faults g) (value_faults at.files option g value) k))
+    (no_right (part_faults at message p) _ e)
+path_suits at r option value message (p ∷ q ∷ ps) e =
+    suit_found at.files (fields_at at.files message) (λ (g : FieldDescriptor). number_faults g ++ step_faults (part_text p) (takes_by (is_entry at.files (type_name_of g)) g.type_) (path_faults at option value (type_name_of g) (q ∷ ps))) (λ (g : FieldDescriptor). message_item g (path_items at value (type_name_of g) (q ∷ ps))) (part_field at message p)
+    (λ g h k. step_suits at.files (fields_at at.files message) g (used (fields_at at.files message) g (part_among at r message p g h) (no_left (number_faults g) _ k)) (is_entry at.files (type_name_of g)) g.type_ refl (part_text p) (path_faults at option value (type_name_of g) (q ∷ ps)) (path_items at value (type_name_of g) (q ∷ ps)) (no_right (number_faults g) _ k)
+    (λ s i. held_inside at r message g (part_among at r message p g h) (path_items at value (type_name_of g) (q ∷ ps)) s (path_suits at r option value (type_name_of g) (q ∷ ps) i)))
+    (no_right (part_faults at message p) _ e)
+
+custom_suits : (at : OptionScope) → IsReadable at → (construct : OptionsOf) (value : ConstantSyntax) (parts : List OptionPartSyntax) → custom_faults at construct value parts ≡ [] → Suits at.files (fields_at at.files (options_message construct)) (path_items at value (options_message construct) parts)
+custom_suits at r construct value [] e = tt
+custom_suits at r construct value (direct name ∷ ps) e = absurd (plain_step_has_fault construct name e)
+custom_suits at r construct value (extension name ∷ ps) e = path_suits at r (path_text (extension name ∷ ps)) value (options_message construct) (extension name ∷ ps) e
+
+named_suits : (at : OptionScope) → IsReadable at → (construct : OptionsOf) (value : ConstantSyntax) (name : OptionNameSyntax) → named_faults at construct value name ≡ [] → Suits at.files (fields_at at.files (options_message construct)) (named_items at (options_message construct) value name)
+named_suits at r construct value (builtin name) e = tt
+named_suits at r construct value (custom parts) e = custom_suits at r construct value parts e
+
+all_suit : (at : OptionScope) → IsReadable at → (construct : OptionsOf) (os : List OptionSyntax) → statement_faults at construct os ≡ [] → Suits at.files (fields_at at.files (options_message construct)) (flat_map (option_items at construct) os)
+all_suit at r construct [] e = tt
+all_suit at r construct (o ∷ os) e =
+    suit_append at.files (fields_at at.files (options_message construct)) (option_items at construct o) (flat_map (option_items at construct) os)
+    (named_suits at r construct o.value o.name (no_left (named_faults at construct o.value o.name) (statement_faults at construct os) e))
+    (all_suit at r construct os (no_right (named_faults at construct o.value o.name) (statement_faults at construct os) e))
+
+-- ---- the law
+
+pub options_are_read : OptionsAreRead
+options_are_read at construct os bs r m none shallow short spelled =
+    again.spelled_is_read at.files (options_message construct) (denotes at construct os) bs short (enters at.files (options_message construct) (flat_map (option_items at construct) os) m (all_suit at r construct os none)) shallow spelled
