@@ -5,6 +5,4 @@
 mod joins;
 pub mod names;
 pub mod proto_path;
-#[cfg(test)]
-mod tests;
 pub mod text;

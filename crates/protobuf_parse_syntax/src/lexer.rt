@@ -12,8 +12,6 @@ pub mod laws;
 mod number;
 pub mod place;
 pub mod str_lit;
-#[cfg(test)]
-mod tests;
 pub mod token;
 
 use crate::error::{ParserError, ParserErrorWithLocation};

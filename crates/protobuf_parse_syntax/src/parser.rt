@@ -11,8 +11,6 @@ mod name;
 mod option;
 mod refusal;
 mod service;
-#[cfg(test)]
-mod tests;
 mod words;
 
 ghost use Rattle.std.specs.Prelude.{◌≡◌, ◌⊎◌, IfOk, IfErr};

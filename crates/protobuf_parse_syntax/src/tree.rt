@@ -5,8 +5,6 @@ mod constant;
 mod declaration;
 mod field;
 mod option;
-#[cfg(test)]
-mod tests;
 
 ghost use Rattle.std.specs.Prelude.{◌≡◌};
 ghost use Rattle.protobuf_parse_syntax.specs.Trees.{file_view, statement_view, package_of, package_behind};

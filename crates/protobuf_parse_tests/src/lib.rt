@@ -3,8 +3,18 @@
 #![tactic(auto)]
 
 #[cfg(test)]
+mod base;
+#[cfg(test)]
 mod describe;
+#[cfg(test)]
+mod formats;
+#[cfg(test)]
+mod lexing;
 #[cfg(test)]
 mod listed;
 #[cfg(test)]
+mod parsing;
+#[cfg(test)]
 mod program;
+#[cfg(test)]
+mod wire;

@@ -17,5 +17,3 @@ pub use kind::Kind;
 pub use law::{options_are_read, spelled_is_read};
 pub use reader::read_custom;
 
-#[cfg(test)]
-mod tests;

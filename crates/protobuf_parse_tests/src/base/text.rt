@@ -1,5 +1,5 @@
 //! Rows on spellings.
-use crate::text::{camel_case, escape_bytes, json_name, snake_case};
+use protobuf_parse_base::text::{camel_case, escape_bytes, json_name, snake_case};
 use std::test::Fail;
 
 #[test]

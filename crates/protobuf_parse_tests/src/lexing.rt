@@ -1,7 +1,6 @@
 //! Tokens, faults and strings of small texts.
 
-use crate::lexer::str_lit::{StrLit, StrLitDecodeError, unquoted};
-use crate::lexer::tokenize;
+use protobuf_parse_syntax::{StrLit, StrLitDecodeError, tokenize, unquoted};
 use std::alloc::{AllocError, Global};
 use std::test::Fail;
 

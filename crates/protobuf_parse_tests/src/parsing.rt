@@ -1,7 +1,6 @@
 //! Trees and faults of small texts.
 
-use crate::dependencies::parse_dependencies;
-use crate::parser::parse_file;
+use protobuf_parse_syntax::{parse_dependencies, parse_file};
 use std::alloc::{AllocError, Global};
 use std::test::Fail;
 

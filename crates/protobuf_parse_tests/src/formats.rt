@@ -1,7 +1,6 @@
 //! Formats of constants.
 
-use crate::parser::parse_file;
-use crate::tree::FileStatement;
+use protobuf_parse_syntax::{FileStatement, parse_file};
 use std::alloc::Global;
 use std::test::Fail;
 

@@ -4,9 +4,7 @@ ghost use Rattle.protobuf_parse_wire.specs.Kinds.{shape};
 ghost use Rattle.protobuf_parse_wire.specs.Views.{entry_value_view};
 ghost use Rattle.protobuf_parse_wire.specs.Writing.{IsWritable};
 
-use crate::encoder::encode;
-use crate::entry::{Entry, EntryValue};
-use crate::kind::Kind;
+use protobuf_parse_wire::{Entry, EntryValue, Kind, encode};
 use std::alloc::{AllocError, Global};
 use std::fmt::Write;
 use std::test::Fail;

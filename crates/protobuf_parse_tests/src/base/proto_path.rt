@@ -1,6 +1,6 @@
 //! Rows on proto paths.
 use super::hash_of;
-use crate::proto_path::{PathError, ProtoPath, ProtoPathBuf};
+use protobuf_parse_base::proto_path::{PathError, ProtoPath, ProtoPathBuf};
 use std::test::Fail;
 
 #[test]

@@ -1,9 +1,9 @@
 //! What `read_custom` answers, and what it refuses.
 
 use super::files;
-use crate::reader::read_custom;
 use protobuf_parse_base::names::ProtobufAbsPathRef;
 use protobuf_parse_model::{FieldType, FileDescriptorProto};
+use protobuf_parse_wire::read_custom;
 use std::alloc::{AllocError, Global};
 use std::test::Fail;
 

@@ -1,6 +1,6 @@
 //! Rows on names.
 use super::hash_of;
-use crate::names::{
+use protobuf_parse_base::names::{
     ProtobufAbsPath, ProtobufAbsPathRef, ProtobufIdent, ProtobufIdentRef, ProtobufRelPath,
     ProtobufRelPathRef,
 };
