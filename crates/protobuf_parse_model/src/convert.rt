@@ -7,8 +7,9 @@ ghost use Rattle.std.specs.Prelude.{◌≡◌, ℕ, List, map, flat_map, option_
 ghost use Rattle.std.specs.Borrow.{Bor};
 ghost use Rattle.protobuf_parse_syntax.specs.Trees.{statement_view, file_view, package_of};
 ghost use Rattle.protobuf_parse_model.specs.Descriptors as described;
-ghost use Rattle.protobuf_parse_model.specs.Elaboration.{file_faults, file_of, message_names, messages_of, statement_faults, syntax_text};
+ghost use Rattle.protobuf_parse_model.specs.Elaboration.{file_faults, file_of, message_names, messages_of, statement_faults};
 ghost use Rattle.protobuf_parse_model.specs.Faults.{Elaborates};
+ghost use Rattle.protobuf_parse_model.specs.FileDescriptor.{syntax_text};
 
 use crate::convert::message::descriptor;
 use crate::convert::refuse::{check_unique, unsupported};
