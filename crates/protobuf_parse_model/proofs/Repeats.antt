@@ -12,7 +12,7 @@ use Rattle.protobuf_parse_model.specs.Faults.{Among, here, there, Fault}
 
 -- the first are among the second, in the same order
 pub data IsSublist {A : Type 0} : List A → List A → Type 0 where
-  none : {ys : List A} → IsSublist [] ys
+  is_empty : {ys : List A} → IsSublist [] ys
   keep : {x : A} {xs ys : List A} → IsSublist xs ys → IsSublist (x ∷ xs) (x ∷ ys)
   skip : {y : A} {xs ys : List A} → IsSublist xs ys → IsSublist xs (y ∷ ys)
 
@@ -46,7 +46,7 @@ among_repeats true false kind x rest more same later h = let e : false ≡ true 
 among_repeats false c kind x rest more same later h = among_right (fault_when c kind x) (later h)
 
 repeated_in_more : (before more : List Text) (kind : ElabErrorKind) {xs ys : List Text} {f : Fault} → IsWithin before more → IsSublist xs ys → Among (repeats_after before kind xs) f → Among (repeats_after more kind ys) f
-repeated_in_more before more kind within none h = elim h [ ]
+repeated_in_more before more kind within is_empty h = elim h [ ]
 repeated_in_more before more kind within (keep {x = x} {xs = xs} {ys = ys} s) h =
     among_repeats (stands_in x before) (stands_in x more) kind x (repeats_after (before ++ x ∷ []) kind xs) (repeats_after (more ++ x ∷ []) kind ys) (within x) (repeated_in_more (before ++ x ∷ []) (more ++ x ∷ []) kind (within_push before more x within) s) h
 repeated_in_more before more kind within (skip {y = y} s) h = among_right (fault_when (stands_in y more) kind y) (repeated_in_more before (more ++ y ∷ []) kind (within_further before more y within) s h)

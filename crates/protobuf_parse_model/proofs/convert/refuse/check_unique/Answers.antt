@@ -1,5 +1,5 @@
 use Rattle.std.proofs.Common.{◌≡◌, ℕ, ◌+◌, ◌<◌, List, [], ◌∷◌, ◌++◌, length, map, take, drop, get_or, Bool, true, false, Bor, sym, refl, ◌∙◌, ap, add-one, drop-cons, cond}
-use Rattle.std.specs.Prelude.{not, ◌||◌, bytes_eq}
+use Rattle.std.specs.Prelude.{not, bytes_eq}
 use Rattle.std.proofs.lemmas.List.{map_more}
 use Rattle.protobuf_parse_model.proofs.OrTests.{cond-true_or}
 use Rattle.protobuf_parse_model.proofs.Repeats.{stands_in-push}
