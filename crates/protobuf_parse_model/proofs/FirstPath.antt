@@ -1,5 +1,5 @@
 -- What the code looks for and makes, where every construct is supported, is what the language says of any file.
-use Rattle.std.proofs.Common.{◌⊎◌, inl, inr, ◌≡◌, ℕ, ◌+◌, false, List, [], ◌∷◌, ◌++◌, flat_map, length, Option, Some, refl, sym, ap, ◌∙◌}
+use Rattle.std.proofs.Common.{Result, Ok, Err, ◌⊎◌, inl, inr, ◌≡◌, ℕ, ◌+◌, false, List, [], ◌∷◌, ◌++◌, flat_map, length, Option, Some, refl, sym, ap, ◌∙◌}
 use Rattle.std.proofs.lemmas.List.{append-nil, map-append}
 use Rattle.protobuf_parse_syntax.specs.Dependencies.{imported}
 use Rattle.protobuf_parse_syntax.specs.Trees.{OptionSyntax, TypeSyntax, scalar, map_of, named, FieldSyntax, field, group, MessageStatementSyntax, message_field, MessageSyntax, StatementSyntax, file_package, file_message, FileSyntax}
@@ -8,12 +8,12 @@ use Rattle.protobuf_parse_syntax.specs.declared.tree.Syntax.TheVariants.{Proto3}
 use Rattle.protobuf_parse_syntax.specs.declared.tree.field.Label.{Label}
 use Rattle.protobuf_parse_syntax.specs.declared.tree.field.Label.TheVariants.{Optional}
 use Rattle.protobuf_parse_syntax.specs.declared.tree.field.Scalar.{Scalar}
-use Rattle.protobuf_parse_model.specs.Descriptors.{Text, FieldDescriptor}
+use Rattle.protobuf_parse_model.specs.Descriptors.{Text, FieldDescriptor, FileDescriptor}
 use Rattle.protobuf_parse_model.proofs.Blaming.{among_left, among_right}
 use Rattle.protobuf_parse_model.proofs.Repeats.{IsSublist, is_empty, keep, skip, sublist_behind, duplicated_in_more}
 use Rattle.protobuf_parse_model.specs.declared.error.ElabFailure.{ElabFailure}
 use Rattle.protobuf_parse_model.specs.declared.error.ElabFailure.TheVariants as failure
-use Rattle.protobuf_parse_model.specs.Faults.{Fault, Among, here, there, Blames}
+use Rattle.protobuf_parse_model.specs.Faults.{Fault, Among, here, there, Blames, Elaborates}
 use Rattle.protobuf_parse_model.specs.Duplicates.{duplicates}
 use Rattle.protobuf_parse_model.specs.BuiltinOptions.{file_table, options_faults}
 use Rattle.protobuf_parse_model.specs.Environment.{Environment, inside, CustomBytes}
@@ -295,6 +295,16 @@ file_stands seen custom t h =
     | inr at ↦ elim (statements_stand env t.statements at) [ inl refused ↦ among_left _ refused | inr fault ↦ among_right (unsupported_in t) (among_right (files.file_duplicates env t ++ options_faults file_table (flat_map files.options_in_file t.statements)) fault) ]
     ]
 
-pub blames_first : (seen : List FileSyntax) (custom : CustomBytes) (t : FileSyntax) (e : ElabFailure) → Blames e (first.file_faults t) → Blames e (unsupported_in t ++ files.file_faults (files.environment seen custom t) t)
+blames_first : (seen : List FileSyntax) (custom : CustomBytes) (t : FileSyntax) (e : ElabFailure) → Blames e (first.file_faults t) → Blames e (unsupported_in t ++ files.file_faults (files.environment seen custom t) t)
 blames_first seen custom t failure.Memory h = tt
 blames_first seen custom t (failure.Fault f) h = file_stands seen custom t h
+
+-- ---- answers
+
+pub described_first : (seen : List FileSyntax) (custom : CustomBytes) (path : Text) (t : FileSyntax) (d : FileDescriptor) → (first.file_faults t ≡ []) × (d ≡ first.file_of path t) → (unsupported_in t ++ files.file_faults (files.environment seen custom t) t ≡ []) × (d ≡ files.file_of (files.environment seen custom t) path t)
+described_first seen custom path t d h = (faultless seen custom t h.0, h.1 ∙ sym (first_file seen custom path t (supported t h.0)))
+
+-- what answers by the first path answers by the language
+pub elaborates_first : {X : Type 0} (view : X → FileDescriptor) (seen : List FileSyntax) (custom : CustomBytes) (path : Text) (t : FileSyntax) (r : Result X ElabFailure) → Elaborates view r (first.file_faults t) (first.file_of path t) → Elaborates view r (unsupported_in t ++ files.file_faults (files.environment seen custom t) t) (files.file_of (files.environment seen custom t) path t)
+elaborates_first view seen custom path t (Ok x) h = described_first seen custom path t (view x) h
+elaborates_first view seen custom path t (Err e) h = blames_first seen custom t e h

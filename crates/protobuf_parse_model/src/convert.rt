@@ -3,13 +3,15 @@
 mod message;
 mod refuse;
 
-ghost use Rattle.std.specs.Prelude.{◌≡◌, ℕ, List, map, flat_map, option_map, string_bytes, IfOk};
+ghost use Rattle.std.specs.Prelude.{◌≡◌, ℕ, List, ◌++◌, map, flat_map, option_map, string_bytes, IfOk};
 ghost use Rattle.std.specs.Borrow.{Bor};
-ghost use Rattle.protobuf_parse_syntax.specs.Trees.{statement_view, file_view, package_of};
+ghost use Rattle.protobuf_parse_syntax.specs.Trees.{FileSyntax, statement_view, file_view, package_of};
 ghost use Rattle.protobuf_parse_model.specs.Descriptors as described;
-ghost use Rattle.protobuf_parse_model.specs.Elaboration.{file_faults, file_of, message_names, messages_of, statement_faults};
+ghost use Rattle.protobuf_parse_model.specs.Elaboration.{message_names, messages_of, statement_faults};
+ghost use Rattle.protobuf_parse_model.specs.Environment.{CustomBytes};
 ghost use Rattle.protobuf_parse_model.specs.Faults.{Elaborates};
-ghost use Rattle.protobuf_parse_model.specs.FileDescriptor.{syntax_text};
+ghost use Rattle.protobuf_parse_model.specs.FileDescriptor.{environment, file_faults, file_of, syntax_text};
+ghost use Rattle.protobuf_parse_model.specs.Unsupported.{unsupported_in};
 
 use crate::convert::message::descriptor;
 use crate::convert::refuse::{check_unique, unsupported};
@@ -28,7 +30,10 @@ pub fn elaborate(
     name: &str,
     tree: &FileTree,
 ) -> Result<FileDescriptorProto, ElabFailure>
-    ensures { Elaborates described.file_view result (file_faults (file_view tree.now)) (file_of name.now (file_view tree.now)) }
+    ensures { (seen : List FileSyntax) (custom : CustomBytes) →
+        let t = file_view tree.now in
+        let env = environment seen custom t in
+        Elaborates described.file_view result (unsupported_in t ++ file_faults env t) (file_of env name.now t) }
 {
     check_unique(alloc, &message_names(alloc, &tree.statements)?)?;
     let name = String::from_str(alloc, name)?;
