@@ -1,5 +1,4 @@
-use Rattle.std.proofs.Common.{rules, arith}
-use Rattle.std.proofs.lemmas.Grind.{common_steps}
+use Rattle.std.proofs.Common.{rules}
 use Rattle.protobuf_parse_syntax.specs.Trees.{file_view}
 use Rattle.protobuf_parse_model.specs.Descriptors as described
 use Rattle.protobuf_parse_model.specs.Elaboration as first
