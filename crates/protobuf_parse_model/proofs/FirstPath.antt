@@ -8,20 +8,20 @@ use Rattle.protobuf_parse_syntax.specs.declared.tree.Syntax.TheVariants.{Proto3}
 use Rattle.protobuf_parse_syntax.specs.declared.tree.field.Label.{Label}
 use Rattle.protobuf_parse_syntax.specs.declared.tree.field.Label.TheVariants.{Optional}
 use Rattle.protobuf_parse_syntax.specs.declared.tree.field.Scalar.{Scalar}
-use Rattle.protobuf_parse_model.specs.Descriptors.{Text, FieldDescriptor, FileDescriptor}
-use Rattle.protobuf_parse_model.proofs.Blaming.{among_left, among_right}
-use Rattle.protobuf_parse_model.proofs.Repeats.{IsSublist, is_empty, keep, skip, sublist_behind, duplicated_in_more}
 use Rattle.protobuf_parse_model.specs.declared.error.ElabFailure.{ElabFailure}
 use Rattle.protobuf_parse_model.specs.declared.error.ElabFailure.TheVariants as failure
+use Rattle.protobuf_parse_model.specs.Descriptors.{Text, FieldDescriptor, FileDescriptor}
 use Rattle.protobuf_parse_model.specs.Faults.{Fault, Among, here, there, Blames, Elaborates}
 use Rattle.protobuf_parse_model.specs.Duplicates.{duplicates}
-use Rattle.protobuf_parse_model.specs.BuiltinOptions.{file_table, options_faults}
 use Rattle.protobuf_parse_model.specs.Environment.{Environment, inside, CustomBytes}
+use Rattle.protobuf_parse_model.specs.BuiltinOptions.{file_table, options_faults}
 use Rattle.protobuf_parse_model.specs.Fields.{says_optional, names_of_fields}
 use Rattle.protobuf_parse_model.specs.Messages as messages
 use Rattle.protobuf_parse_model.specs.FileDescriptor as files
 use Rattle.protobuf_parse_model.specs.Unsupported.{unsupported_type, unsupported_label, unsupported_options, unsupported_in_body, unsupported_statement, unsupported_in}
 use Rattle.protobuf_parse_model.specs.Elaboration as first
+use Rattle.protobuf_parse_model.proofs.Blaming.{among_left, among_right}
+use Rattle.protobuf_parse_model.proofs.Repeats.{IsSublist, is_empty, keep, skip, sublist_behind, duplicated_in_more}
 
 -- ---- lists of which nothing stands
 
@@ -33,7 +33,7 @@ nil_right : {A : Type 0} (xs ys : List A) → xs ++ ys ≡ [] → ys ≡ []
 nil_right [] ys h = h
 nil_right (x ∷ xs) ys h = absurd cc
 
--- two lists are one, where they are for each element of which nothing is in the first
+-- what elements give is the same, or nothing, where it is so for each element without a fault, and none has one
 same_without : {A B C : Type 0} (none : A → List B) (f g : A → List C) → ((x : A) → none x ≡ [] → f x ≡ g x) → (xs : List A) → flat_map none xs ≡ [] → flat_map f xs ≡ flat_map g xs
 same_without none f g same [] h = refl
 same_without none f g same (x ∷ xs) h = rw (same x (nil_left (none x) (flat_map none xs) h), same_without none f g same xs (nil_right (none x) (flat_map none xs) h)) refl
@@ -274,8 +274,8 @@ among_either (x ∷ xs) ys (there h) = elim (among_either xs ys h) [ inl a ↦ i
 statement_stands : (env : Environment) (s : StatementSyntax) {f : Fault} → Among (first.statement_faults env.syntax s) f → Among (unsupported_statement env.syntax s) f ⊎ Among (files.statement_faults env s) f
 statement_stands env (file_message m) h =
     elim (among_either (duplicates (flat_map first.field_names m.body)) (flat_map (unsupported_in_body env.syntax) m.body) h) [
-      inl twice ↦ inr (among_left _ (among_left _ (among_left _ (among_left _ (among_left _ (among_left _ (among_left _ (duplicated_in_more (fields_among (inside env m.name) 0 m.body) twice))))))))
-    | inr refused ↦ inl refused
+      | inl twice ↦ inr (among_left _ (among_left _ (among_left _ (among_left _ (among_left _ (among_left _ (among_left _ (duplicated_in_more (fields_among (inside env m.name) 0 m.body) twice))))))))
+      | inr refused ↦ inl refused
     ]
 statement_stands env _ h = inl h
 
@@ -283,16 +283,16 @@ statements_stand : (env : Environment) (ss : List StatementSyntax) {f : Fault} �
 statements_stand env [] h = elim h [ ]
 statements_stand env (s ∷ ss) h =
     elim (among_either (first.statement_faults env.syntax s) (flat_map (first.statement_faults env.syntax) ss) h) [
-      inl at ↦ elim (statement_stands env s at) [ inl refused ↦ inl (among_left _ refused) | inr fault ↦ inr (among_left _ fault) ]
-    | inr later ↦ elim (statements_stand env ss later) [ inl refused ↦ inl (among_right (unsupported_statement env.syntax s) refused) | inr fault ↦ inr (among_right (files.statement_faults env s) fault) ]
+      | inl at ↦ elim (statement_stands env s at) [ inl refused ↦ inl (among_left _ refused) | inr fault ↦ inr (among_left _ fault) ]
+      | inr later ↦ elim (statements_stand env ss later) [ inl refused ↦ inl (among_right (unsupported_statement env.syntax s) refused) | inr fault ↦ inr (among_right (files.statement_faults env s) fault) ]
     ]
 
 file_stands : (seen : List FileSyntax) (custom : CustomBytes) (t : FileSyntax) {f : Fault} → Among (first.file_faults t) f → Among (unsupported_in t ++ files.file_faults (files.environment seen custom t) t) f
 file_stands seen custom t h =
     let env = files.environment seen custom t in
     elim (among_either (duplicates (flat_map first.message_names t.statements)) (flat_map (first.statement_faults t.syntax) t.statements) h) [
-      inl twice ↦ among_right (unsupported_in t) (among_left _ (among_left _ (among_left _ (among_left _ (among_left _ (duplicated_in_more (messages_among env t.statements) twice))))))
-    | inr at ↦ elim (statements_stand env t.statements at) [ inl refused ↦ among_left _ refused | inr fault ↦ among_right (unsupported_in t) (among_right (files.file_duplicates env t ++ options_faults file_table (flat_map files.options_in_file t.statements)) fault) ]
+      | inl twice ↦ among_right (unsupported_in t) (among_left _ (among_left _ (among_left _ (among_left _ (among_left _ (duplicated_in_more (messages_among env t.statements) twice))))))
+      | inr at ↦ elim (statements_stand env t.statements at) [ inl refused ↦ among_left _ refused | inr fault ↦ among_right (unsupported_in t) (among_right (files.file_duplicates env t ++ options_faults file_table (flat_map files.options_in_file t.statements)) fault) ]
     ]
 
 blames_first : (seen : List FileSyntax) (custom : CustomBytes) (t : FileSyntax) (e : ElabFailure) → Blames e (first.file_faults t) → Blames e (unsupported_in t ++ files.file_faults (files.environment seen custom t) t)

@@ -23,6 +23,8 @@ use std::alloc::{AllocError, Global};
 ///
 /// E1 where two messages of the file, or two fields of a message, have one name; Unsupported where a
 /// construct stands that has no descriptor yet. Where several faults stand, any one of them is told.
+/// No construct that has a descriptor yet asks for other files or for custom options, so the answer is
+/// right whatever files this one sees.
 pub fn elaborate(
     alloc: Global,
     name: &str,
