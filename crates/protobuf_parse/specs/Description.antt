@@ -1,5 +1,5 @@
 -- What is answered for one file that is known by a path: its descriptor, or why there is none.
-use Rattle.std.specs.Prelude.{◌≡◌, ℕ, List, [], Result, Ok, Err, string_bytes}
+use Rattle.std.specs.Prelude.{◌≡◌, ℕ, List, [], ◌++◌, Result, Ok, Err, string_bytes}
 use Rattle.std.specs.Str.{IsUtf8}
 use Rattle.protobuf_parse_syntax.specs.Cut.{place_of}
 use Rattle.protobuf_parse_syntax.specs.Parsing.{HasTree, IsFaultOf}
@@ -8,30 +8,31 @@ use Rattle.protobuf_parse_syntax.specs.declared.tree.FileTree.{FileTree}
 use Rattle.protobuf_parse_syntax.specs.declared.error.ParserErrorWithLocation.{ParserErrorWithLocation}
 use Rattle.protobuf_parse_model.specs.Descriptors as described
 use Rattle.protobuf_parse_model.specs.Descriptors.{Text}
-use Rattle.protobuf_parse_model.specs.Elaboration.{file_faults, file_of}
 use Rattle.protobuf_parse_model.specs.Faults.{Among, fault_view}
+use Rattle.protobuf_parse_model.specs.FileDescriptor.{InAnyEnvironment, file_faults, file_of}
+use Rattle.protobuf_parse_model.specs.Unsupported.{unsupported_in}
 use Rattle.protobuf_parse_model.specs.declared.descriptor.FileDescriptorProto.{FileDescriptorProto}
 use Rattle.protobuf_parse_model.specs.declared.error.ElabError.{ElabError}
 use Rattle.protobuf_parse.specs.declared.run.RunFault.{RunFault}
 use Rattle.protobuf_parse.specs.declared.run.RunFault.TheVariants as fault
 
--- the descriptor of the one tree, in which no fault stands
+-- the descriptor of the one tree, in which no fault stands and every construct is supported
 pub record IsDescriptor (name : Text) (content : List ℕ) (d : FileDescriptorProto) : Type 0 where
   pub tree : FileSyntax
   pub parsed : HasTree content tree
-  pub faultless : file_faults tree ≡ []
-  pub descriptor : described.file_view d ≡ file_of name tree
+  pub faultless : InAnyEnvironment tree (λ env. unsupported_in tree ++ file_faults env tree ≡ [])
+  pub descriptor : InAnyEnvironment tree (λ env. described.file_view d ≡ file_of env name tree)
 
 -- L9: the text has no tree, and the parse error stands in it
 pub record IsUnparsed (text : List ℕ) (e : ParserErrorWithLocation) : Type 0 where
   pub treeless : (tree : FileSyntax) → HasTree text tree → ⊥
   pub stands : IsFaultOf text e.error (place_of e)
 
--- L10: the error stands in the one tree
+-- L10: the error stands in the one tree, or tells a construct of it that is not supported
 pub record IsFaulty (text : List ℕ) (e : ElabError) : Type 0 where
   pub tree : FileSyntax
   pub parsed : HasTree text tree
-  pub stands : Among (file_faults tree) (fault_view e)
+  pub stands : InAnyEnvironment tree (λ env. Among (unsupported_in tree ++ file_faults env tree) (fault_view e))
 
 -- why a file of this content has no descriptor
 abbrev pub Stands : Text → List ℕ → RunFault → Type 0

@@ -5,7 +5,7 @@ use Rattle.protobuf_parse_model.specs.declared.error.ElabFailure.{ElabFailure}
 use Rattle.protobuf_parse_model.specs.declared.error.ElabFailure.TheVariants as failure
 use Rattle.protobuf_parse_model.specs.Faults.{Among, here, there, Blames, Fault}
 use Rattle.protobuf_parse_model.specs.declared.error.ElabErrorKind.TheVariants.{Unsupported}
-use Rattle.protobuf_parse_model.specs.Elaboration.{unsupported}
+use Rattle.protobuf_parse_model.specs.Unsupported.{unsupported}
 
 pub among_left : {A : Type 0} {x : A} {xs : List A} (ys : List A) → Among xs x → Among (xs ++ ys) x
 among_left ys here = here

@@ -1,5 +1,7 @@
 pub mod Blaming
 pub mod OrTests
+pub mod Repeats
+pub mod FirstPath
 pub mod TreeViews
 pub mod Lookups
 mod Rows

@@ -14,4 +14,5 @@ pub mod Services
 pub mod Messages
 pub mod FileDescriptor
 pub mod OptionSets
+pub mod Unsupported
 pub mod Elaboration

@@ -3,12 +3,14 @@
 mod message;
 mod refuse;
 
-ghost use Rattle.std.specs.Prelude.{◌≡◌, ℕ, List, map, flat_map, option_map, string_bytes, IfOk};
+ghost use Rattle.std.specs.Prelude.{◌≡◌, ℕ, List, ◌++◌, map, flat_map, option_map, string_bytes, IfOk};
 ghost use Rattle.std.specs.Borrow.{Bor};
 ghost use Rattle.protobuf_parse_syntax.specs.Trees.{statement_view, file_view, package_of};
 ghost use Rattle.protobuf_parse_model.specs.Descriptors as described;
-ghost use Rattle.protobuf_parse_model.specs.Elaboration.{file_faults, file_of, message_names, messages_of, statement_faults, syntax_text};
+ghost use Rattle.protobuf_parse_model.specs.Elaboration.{message_names, messages_of, statement_faults};
 ghost use Rattle.protobuf_parse_model.specs.Faults.{Elaborates};
+ghost use Rattle.protobuf_parse_model.specs.FileDescriptor.{InAnyEnvironment, file_faults, file_of, syntax_text};
+ghost use Rattle.protobuf_parse_model.specs.Unsupported.{unsupported_in};
 
 use crate::convert::message::descriptor;
 use crate::convert::refuse::{check_unique, unsupported};
@@ -21,13 +23,15 @@ use std::alloc::{AllocError, Global};
 ///
 /// E1 where two messages of the file, or two fields of a message, have one name; Unsupported where a
 /// construct stands that has no descriptor yet. Where several faults stand, any one of them is told.
-#[tactic(auto, using(crate::proofs::Blaming::blames_left, crate::proofs::Blaming::blames_right))]
+/// No construct that has a descriptor yet asks for other files or for custom options, so the answer is
+/// right whatever files this one sees.
 pub fn elaborate(
     alloc: Global,
     name: &str,
     tree: &FileTree,
 ) -> Result<FileDescriptorProto, ElabFailure>
-    ensures { Elaborates described.file_view result (file_faults (file_view tree.now)) (file_of name.now (file_view tree.now)) }
+    ensures { let t = file_view tree.now in
+        InAnyEnvironment t (λ env. Elaborates described.file_view result (unsupported_in t ++ file_faults env t) (file_of env name.now t)) }
 {
     check_unique(alloc, &message_names(alloc, &tree.statements)?)?;
     let name = String::from_str(alloc, name)?;

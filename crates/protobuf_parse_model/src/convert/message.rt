@@ -5,8 +5,9 @@ ghost use Rattle.std.specs.Borrow.{Bor};
 ghost use Rattle.protobuf_parse_syntax.specs.declared.tree.field.Field.{Field};
 ghost use Rattle.protobuf_parse_syntax.specs.Trees.{field_view, field_statement_view, message_statement_view, message_view, option_view, type_view, scalar};
 ghost use Rattle.protobuf_parse_model.specs.Descriptors as described;
-ghost use Rattle.protobuf_parse_model.specs.Elaboration.{body_faults, field_faults, field_names, field_of, field_statement_faults, fields_of, label_faults, message_faults, message_of, plain_field, plain_fields, type_faults, typed_field};
+ghost use Rattle.protobuf_parse_model.specs.Elaboration.{field_names, field_of, fields_of, message_faults, message_of, plain_field, plain_fields, typed_field};
 ghost use Rattle.protobuf_parse_model.specs.Faults.{Elaborates};
+ghost use Rattle.protobuf_parse_model.specs.Unsupported.{unsupported_field, unsupported_field_statement, unsupported_in_body, unsupported_label, unsupported_type};
 
 use crate::convert::refuse::{check_unique, unsupported};
 use crate::descriptor::{DescriptorProto, FieldDescriptorProto, FieldType, Label};
@@ -80,7 +81,7 @@ fn fields(
     syntax: Syntax,
     body: &[MessageStatement],
 ) -> Result<Vec<FieldDescriptorProto>, ElabFailure>
-    ensures { Elaborates (λ v. map described.field_view v.items) result (flat_map (body_faults syntax) (map message_statement_view body.now)) (flat_map fields_of (map message_statement_view body.now)) }
+    ensures { Elaborates (λ v. map described.field_view v.items) result (flat_map (unsupported_in_body syntax) (map message_statement_view body.now)) (flat_map fields_of (map message_statement_view body.now)) }
 {
     let mut descriptors = Vec::new(alloc);
     for statement in body {
@@ -95,7 +96,7 @@ fn body_field(
     syntax: Syntax,
     statement: &MessageStatement,
 ) -> Result<FieldDescriptorProto, ElabFailure>
-    ensures { Elaborates (λ d. described.field_view d ∷ []) result (body_faults syntax (message_statement_view statement.now)) (fields_of (message_statement_view statement.now)) }
+    ensures { Elaborates (λ d. described.field_view d ∷ []) result (unsupported_in_body syntax (message_statement_view statement.now)) (fields_of (message_statement_view statement.now)) }
 {
     match statement {
         MessageStatement::Field(field) => field_statement(alloc, syntax, field),
@@ -115,7 +116,7 @@ fn field_statement(
     syntax: Syntax,
     statement: &FieldStatement,
 ) -> Result<FieldDescriptorProto, ElabFailure>
-    ensures { Elaborates (λ d. described.field_view d ∷ []) result (field_statement_faults syntax (field_statement_view statement.now)) (flat_map (λ f. typed_field f f.type_) (plain_field (field_statement_view statement.now))) }
+    ensures { Elaborates (λ d. described.field_view d ∷ []) result (unsupported_field_statement syntax (field_statement_view statement.now)) (flat_map (λ f. typed_field f f.type_) (plain_field (field_statement_view statement.now))) }
 {
     match statement {
         FieldStatement::Field(field) => field_descriptor(alloc, syntax, field),
@@ -130,7 +131,7 @@ fn field_descriptor(
     syntax: Syntax,
     field: &Field,
 ) -> Result<FieldDescriptorProto, ElabFailure>
-    ensures { Elaborates (λ d. described.field_view d ∷ []) result (field_faults syntax (field_view field.now)) (let f = field_view field.now in typed_field f f.type_) }
+    ensures { Elaborates (λ d. described.field_view d ∷ []) result (unsupported_field syntax (field_view field.now)) (let f = field_view field.now in typed_field f f.type_) }
 {
     check_label(alloc, syntax, field.label)?;
     let scalar = scalar_of(alloc, &field.type_)?;
@@ -154,7 +155,7 @@ fn field_descriptor(
 
 /// Refuses the label `optional` in proto3.
 fn check_label(alloc: Global, syntax: Syntax, label: Option<Label>) -> Result<(), ElabFailure>
-    ensures { Elaborates (λ u. u) result (label_faults syntax label) tt }
+    ensures { Elaborates (λ u. u) result (unsupported_label syntax label) tt }
 {
     match (syntax, label) {
         (Syntax::Proto3, Some(Label::Optional)) => Err(unsupported(alloc, "optional")),
@@ -164,7 +165,7 @@ fn check_label(alloc: Global, syntax: Syntax, label: Option<Label>) -> Result<()
 
 /// The scalar that a type is.
 fn scalar_of(alloc: Global, type_: &Type) -> Result<Scalar, ElabFailure>
-    ensures { Elaborates scalar result (type_faults (type_view type_.now)) (type_view type_.now) }
+    ensures { Elaborates scalar result (unsupported_type (type_view type_.now)) (type_view type_.now) }
 {
     match type_ {
         Type::Scalar(scalar) => Ok(*scalar),

@@ -2,8 +2,9 @@
 
 ghost use Rattle.std.specs.Prelude.{◌≡◌, ℕ, List, map};
 ghost use Rattle.std.specs.Borrow.{Bor};
-ghost use Rattle.protobuf_parse_model.specs.Elaboration.{duplicates, unsupported};
+ghost use Rattle.protobuf_parse_model.specs.Duplicates.{duplicates};
 ghost use Rattle.protobuf_parse_model.specs.Faults.{Blames, Elaborates};
+ghost use Rattle.protobuf_parse_model.specs.Unsupported.{unsupported};
 
 use crate::error::{ElabError, ElabErrorKind, ElabFailure};
 use std::alloc::Global;

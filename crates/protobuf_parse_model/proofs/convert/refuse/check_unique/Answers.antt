@@ -1,10 +1,11 @@
 use Rattle.std.proofs.Common.{◌≡◌, ℕ, ◌+◌, ◌<◌, List, [], ◌∷◌, ◌++◌, length, map, take, drop, get_or, Bool, true, false, Bor, sym, refl, ◌∙◌, ap, add-one, drop-cons, cond}
-use Rattle.std.specs.Prelude.{not, ◌||◌, bytes_eq}
+use Rattle.std.specs.Prelude.{not, bytes_eq}
 use Rattle.std.proofs.lemmas.List.{map_more}
-use Rattle.protobuf_parse_model.proofs.OrTests.{cond-true_or, or_left_comm}
+use Rattle.protobuf_parse_model.proofs.OrTests.{cond-true_or}
+use Rattle.protobuf_parse_model.proofs.Repeats.{stands_in-push}
 use Rattle.protobuf_parse_model.specs.Faults.{Among, Fault}
 use Rattle.protobuf_parse_model.specs.declared.error.ElabErrorKind.TheVariants.{DuplicateName}
-use Rattle.protobuf_parse_model.specs.Elaboration.{stands_in, duplicates, duplicates_after}
+use Rattle.protobuf_parse_model.specs.Duplicates.{stands_in, duplicates, repeats_after}
 use Rattle.protobuf_parse_model.proofs.Blaming.{among_when}
 use Rattle.protobuf_parse_model.proofs.convert.refuse.check_unique.Goals as goal
 
@@ -18,21 +19,17 @@ rest_is : (names : List (Bor (List ℕ))) (i : ℕ) (d : Bor (List ℕ)) → i <
 rest_is names i d lt = rw (add-one, drop-cons names i d) refl
 
 -- a name among those before it is a fault
-found_again : (names : List (Bor (List ℕ))) (i : ℕ) (d : Bor (List ℕ)) (t : List ℕ) → i < length names → stands_in (get_or names i d).now (texts (take i names)) ≡ true → (get_or names i d).now ≡ t → duplicates (texts names) ≡ duplicates_after (texts (take i names)) (texts (drop i names)) → Among (duplicates (texts names)) (duplicate t)
+found_again : (names : List (Bor (List ℕ))) (i : ℕ) (d : Bor (List ℕ)) (t : List ℕ) → i < length names → stands_in (get_or names i d).now (texts (take i names)) ≡ true → (get_or names i d).now ≡ t → duplicates (texts names) ≡ repeats_after (texts (take i names)) DuplicateName (texts (drop i names)) → Among (duplicates (texts names)) (duplicate t)
 found_again names i d t lt e h inv =
     rw (inv, rest_is names i d lt) (among_when (stands_in (get_or names i d).now (texts (take i names))) (duplicate (get_or names i d).now) (duplicate t) _ e (ap duplicate h))
 
 -- a name that is not among those before it adds none
-new_name : (before xs : List (List ℕ)) (x : List ℕ) → stands_in x before ≡ false → duplicates_after before (x ∷ xs) ≡ duplicates_after (before ++ x ∷ []) xs
+new_name : (before xs : List (List ℕ)) (x : List ℕ) → stands_in x before ≡ false → repeats_after before DuplicateName (x ∷ xs) ≡ repeats_after (before ++ x ∷ []) DuplicateName xs
 new_name before xs x e = rw e refl
 
-goes_on : (names : List (Bor (List ℕ))) (i : ℕ) (d : Bor (List ℕ)) → i < length names → stands_in (get_or names i d).now (texts (take i names)) ≡ false → duplicates (texts names) ≡ duplicates_after (texts (take i names)) (texts (drop i names)) → duplicates (texts names) ≡ duplicates_after (texts (take (i + 1) names)) (texts (drop (i + 1) names))
+goes_on : (names : List (Bor (List ℕ))) (i : ℕ) (d : Bor (List ℕ)) → i < length names → stands_in (get_or names i d).now (texts (take i names)) ≡ false → duplicates (texts names) ≡ repeats_after (texts (take i names)) DuplicateName (texts (drop i names)) → duplicates (texts names) ≡ repeats_after (texts (take (i + 1) names)) DuplicateName (texts (drop (i + 1) names))
 goes_on names i d lt e inv =
-    inv ∙ ap (λ r. duplicates_after (texts (take i names)) r) (rest_is names i d lt) ∙ new_name (texts (take i names)) (texts (drop (i + 1) names)) (get_or names i d).now e ∙ ap (λ s. duplicates_after s (texts (drop (i + 1) names))) (sym (map_more (λ (s : Bor (List ℕ)). s.now) names i d lt))
-
-stands_in-push : (n x : List ℕ) (xs : List (List ℕ)) → stands_in n (xs ++ x ∷ []) ≡ (bytes_eq x n || stands_in n xs)
-stands_in-push n x [] = refl
-stands_in-push n x (y ∷ xs) = ap (λ b. bytes_eq y n || b) (stands_in-push n x xs) ∙ or_left_comm (bytes_eq y n) (bytes_eq x n) (stands_in n xs)
+    inv ∙ ap (λ r. repeats_after (texts (take i names)) DuplicateName r) (rest_is names i d lt) ∙ new_name (texts (take i names)) (texts (drop (i + 1) names)) (get_or names i d).now e ∙ ap (λ s. repeats_after s DuplicateName (texts (drop (i + 1) names))) (sym (map_more (λ (s : Bor (List ℕ)). s.now) names i d lt))
 
 was_in : (b r : Bool) → r ≡ not b → r ≡ false → b ≡ true
 was_in true r e h = refl

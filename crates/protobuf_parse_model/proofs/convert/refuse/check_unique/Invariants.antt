@@ -1,13 +1,14 @@
 use Rattle.std.proofs.Common.{◌≡◌, ℕ, List, map, take, drop, Bor}
 use Rattle.std.specs.Prelude.{bytes_eq}
 use Rattle.std.specs.HashSet.{contains}
-use Rattle.protobuf_parse_model.specs.Elaboration.{duplicates, duplicates_after, stands_in}
+use Rattle.protobuf_parse_model.specs.Duplicates.{duplicates, repeats_after, stands_in}
+use Rattle.protobuf_parse_model.specs.declared.error.ElabErrorKind.TheVariants.{DuplicateName}
 use Rattle.protobuf_parse_model.proofs.convert.refuse.check_unique.Given as goal
 
 abbrev pub invariant-loop-name : goal.invariant-loop-name
 invariant-loop-name l =
     let texts = map (λ (s : Bor (List ℕ)). s.now) in
     record {
-      none_yet : duplicates (texts l.names) ≡ duplicates_after (texts (take l.name-index l.names)) (texts (drop l.name-index l.names));
+      none_yet : duplicates (texts l.names) ≡ repeats_after (texts (take l.name-index l.names)) DuplicateName (texts (drop l.name-index l.names));
       seen : (q : Bor (List ℕ)) → contains (λ (a b : Bor (List ℕ)). bytes_eq a.now b.now) l.seen q ≡ stands_in q.now (texts (take l.name-index l.names));
     }
