@@ -1,2 +1,12 @@
 pub mod Appending
 pub mod Refusing
+pub mod Opening
+pub mod Keeping
+pub mod Walking
+pub mod Steps
+pub mod Reading
+pub mod Leaving
+pub mod Inputs
+pub mod Checking
+pub mod Telling
+pub mod Counting

@@ -1,4 +1,6 @@
 pub mod Listing
 pub mod Settings
 pub mod Parts
-pub mod Description
+pub mod Walks
+pub mod Run
+pub mod Loading

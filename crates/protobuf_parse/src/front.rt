@@ -2,6 +2,7 @@
 
 mod command;
 mod lines;
+mod one_file;
 
 pub use command::program;
 pub use lines::listing;

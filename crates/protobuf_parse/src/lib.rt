@@ -1,7 +1,9 @@
 //! Parses `.proto` files and checks their types.
 #![tactic(auto)]
 
+mod bundled;
 mod front;
+pub mod pure;
 mod run;
 
 pub use front::{listing, program};
@@ -21,4 +23,7 @@ pub use protobuf_parse_model::{
 };
 pub use protobuf_parse_syntax::{ParserError, ParserErrorWithLocation};
 pub use protobuf_parse_wire::{ReadFault, ReadField, ReadValue, read_custom};
-pub use run::{ReadInputFault, RunFault, describe_file};
+pub use run::fault::{ReadInputFault, ResolveFault, RunFault};
+pub use run::log::{ReadEntry, ReadOutcome, RunInput, RunLog};
+pub use run::run_inputs;
+pub use run::source::{InputReader, ProtoPathResolver, ResolvedProtoFile};

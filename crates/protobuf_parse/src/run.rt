@@ -1,89 +1,98 @@
-//! From the bytes of a file to its descriptor, and the faults of a run.
+//! A run: from inputs to the descriptors of all files that they reach.
 
-ghost use Rattle.std.specs.Prelude.{◌≡◌};
-ghost use Rattle.protobuf_parse.specs.Description.{Describes, Parses};
-ghost use Rattle.protobuf_parse.specs.declared.run.RunFault.TheVariants.{Memory};
+ghost use Rattle.std.specs.Prelude.{◌≡◌, map, IfOk};
+ghost use Rattle.protobuf_parse.specs.Run.{IsMet, MayAnswer, RunsAsTold, RunsByResolver, input_view, rows};
+ghost use Rattle.protobuf_parse.specs.Walks.{named};
+ghost use Rattle.protobuf_parse.specs.Loading.{Entry};
+ghost use Rattle.protobuf_parse_base.specs.PathViews.{path_buf_text};
+ghost use Rattle.protobuf_parse_base.specs.declared.proto_path.path.ProtoPathBuf.{ProtoPathBuf};
 
-use protobuf_parse_model::{ElabError, ElabFailure, FileDescriptorProto, elaborate};
-use protobuf_parse_syntax::{FileTree, ParserError, ParserErrorWithLocation, parse_file};
+pub mod asking;
+pub mod fault;
+pub mod loader;
+pub mod log;
+pub mod reach;
+pub mod source;
+
+use crate::bundled::bundled_files;
+use crate::run::fault::RunFault;
+use crate::run::loader::{LoadedFiles, Loader, load_inputs};
+use crate::run::log::{RunInput, RunLog};
+use crate::run::source::{InputReader, NoReader, ProtoPathResolver, Sources};
+use indexmap::IndexMap;
+use protobuf_parse_base::proto_path::ProtoPathBuf;
+use protobuf_parse_model::FileDescriptorProto;
 use std::alloc::{AllocError, Global};
-use std::str;
-use thiserror::Error;
 
-/// Why a run gave no descriptors.
-#[derive(Debug, PartialEq, Eq, Drop, Error)]
-pub enum RunFault {
-    #[error("out of memory")]
-    Memory,
-    /// L1: the content of the file of this path isn't UTF-8.
-    #[error("file `{0}` content is not UTF-8")]
-    ContentIsNotUtf8(String),
-    /// L3: no include is a front of the input. The second text lists the includes, as `["a", "b"]`.
-    #[error("file `{0}` must reside in include path {1}")]
-    FileMustResideInImportPath(String, String),
-    /// L4: the file of this path could not be read.
-    #[error("could not read file `{0}`: {1}")]
-    CouldNotReadFile(String, ReadInputFault),
-    /// L9: the text of this file has no tree.
-    #[error("error in `{0}`: {1}")]
-    Parse(String, ParserErrorWithLocation),
-    /// L10: a fault stands in this file.
-    #[error("error in `{0}`: {1}")]
-    Elaborate(String, ElabError),
-}
-
-/// Why a file could not be read.
-#[derive(Clone, Copy, Debug, PartialEq, Eq, Error)]
-pub enum ReadInputFault {
-    #[error("out of memory")]
-    Memory,
-    #[error("not found")]
-    NotFound,
-    #[error("read failed")]
-    Failed,
-}
-
-impl From<AllocError> for RunFault {
-    ghost from_gives = { λ _ e. e ≡ Memory };
-
-    fn from(_error: AllocError) -> RunFault {
-        RunFault::Memory
-    }
-}
-
-/// The descriptor of a file with this content, known by the path `name`.
+/// Loads the inputs in turn, each file that they reach once and after its imports, and gives the
+/// descriptors in the order of loading, or the fault of the first step that fails.
 ///
-/// A content that isn't UTF-8 is L1, a text without a tree is L9, and a tree in which a fault stands is
-/// L10, each with `name`.
-pub fn describe_file(
+/// `bundled` has proto paths and texts: where the resolver has no file, the first row with the path stands
+/// for it.
+pub fn run_inputs<'a, R: ProtoPathResolver, I: InputReader>(
     alloc: Global,
-    name: &str,
-    content: &[u8],
-) -> Result<FileDescriptorProto, RunFault>
-    ensures { Describes name.now content.now result }
+    inputs: &[RunInput],
+    resolver: &'a R,
+    reader: &'a I,
+    bundled: &'a [(&'a str, &'a str)],
+) -> RunLog
+    ensures told { RunsAsTold (MayAnswer (λ p a. R.may_answer resolver.now p a) (λ p a. I.may_read reader.now p a)) (map input_view inputs.now) (rows bundled.now) result.reads.items result.result }
+    ensures meets { IsMet (map input_view inputs.now) (rows bundled.now) result.reads.items result.meets result.result }
 {
-    let Ok(text) = str::from_utf8(content) else {
-        return Err(RunFault::ContentIsNotUtf8(String::from_str(alloc, name)?));
+    let mut loader = Loader {
+        loaded: IndexMap::new(alloc),
+        reads: Vec::new(alloc),
+        chain: Vec::new(alloc),
+        meets: 0,
     };
-    let tree = tree_of_text(alloc, name, text)?;
-    match elaborate(alloc, name, &tree) {
-        Ok(descriptor) => Ok(descriptor),
-        Err(ElabFailure::Memory) => Err(RunFault::Memory),
-        Err(ElabFailure::Fault(error)) => {
-            Err(RunFault::Elaborate(String::from_str(alloc, name)?, error))
-        }
+    let sources = Sources {
+        resolver,
+        reader,
+        bundled,
+    };
+    let outcome = load_inputs(alloc, &mut loader, &sources, inputs);
+    let Loader {
+        loaded,
+        reads,
+        meets,
+        chain: _,
+    } = loader;
+    let result = match outcome {
+        Ok(()) => match descriptors(alloc, loaded) {
+            Ok(descriptors) => Ok(descriptors),
+            Err(_) => Err(RunFault::Memory),
+        },
+        Err(fault) => Err(fault),
+    };
+    RunLog {
+        reads,
+        meets,
+        result,
     }
 }
 
-/// The tree of a text, or L9 with `name`.
-fn tree_of_text(alloc: Global, name: &str, text: &str) -> Result<FileTree, RunFault>
-    ensures { Parses name.now text.now result }
+/// The descriptors of the loaded files, in their order.
+fn descriptors(alloc: Global, loaded: LoadedFiles) -> Result<Vec<FileDescriptorProto>, AllocError>
+    ensures { IfOk result (λ v. v.items ≡ map (λ (e : Entry). e.1.descriptor) loaded.entries) }
 {
-    match parse_file(alloc, text) {
-        Ok(tree) => Ok(tree),
-        Err(error) => match error.error {
-            ParserError::Memory => Err(RunFault::Memory),
-            _ => Err(RunFault::Parse(String::from_str(alloc, name)?, error)),
-        },
+    let mut descriptors = Vec::new(alloc);
+    for file in loaded.into_values() {
+        descriptors.push(file.descriptor)?;
     }
+    Ok(descriptors)
+}
+
+/// The result of a run over inputs that the resolver finds, with the files that this library brings.
+pub fn parse_and_typecheck_custom<R: ProtoPathResolver>(
+    alloc: Global,
+    input: &[ProtoPathBuf],
+    resolver: &R,
+) -> Result<Vec<FileDescriptorProto>, RunFault>
+    ensures { RunsByResolver (λ p a. R.may_answer resolver.now p a) (map (λ (b : ProtoPathBuf). named (path_buf_text b)) input.now) result }
+{
+    let mut inputs = Vec::new(alloc);
+    for path in input {
+        inputs.push(RunInput::Named(path.as_path().to_proto_path_buf(alloc)?))?;
+    }
+    run_inputs(alloc, &inputs, resolver, &NoReader, bundled_files()).result
 }

@@ -3,9 +3,11 @@
 #![tactic(auto)]
 
 #[cfg(test)]
+mod asking;
+#[cfg(test)]
 mod base;
 #[cfg(test)]
-mod describe;
+mod chains;
 #[cfg(test)]
 mod formats;
 #[cfg(test)]
@@ -13,8 +15,16 @@ mod lexing;
 #[cfg(test)]
 mod listed;
 #[cfg(test)]
+mod loading;
+#[cfg(test)]
+mod memory;
+#[cfg(test)]
 mod parsing;
 #[cfg(test)]
 mod program;
+#[cfg(test)]
+mod texts;
+#[cfg(test)]
+mod wide;
 #[cfg(test)]
 mod wire;

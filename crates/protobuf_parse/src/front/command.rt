@@ -1,7 +1,13 @@
 //! The program `parse-and-typecheck`, over any two writers.
 
+use crate::bundled::bundled_files;
 use crate::front::lines::listing;
-use crate::run::{ReadInputFault, RunFault, describe_file};
+use crate::front::one_file::OneFile;
+use crate::run::fault::{ReadInputFault, RunFault};
+use crate::run::log::RunInput;
+use crate::run::run_inputs;
+use crate::run::source::NoReader;
+use protobuf_parse_base::proto_path::{PathError, ProtoPathBuf};
 use std::alloc::{AllocError, Global};
 use std::io::{ErrorKind, Write};
 use std::rt::Files;
@@ -24,7 +30,8 @@ enum Failure {
 ///
 /// `args` are the two arguments, without the program's own name. They are looked at first, then the input
 /// is read at its own path, and its whole listing is made before any of it is written. The one include
-/// that an input resides in is `.`; any other is L3.
+/// that an input resides in is `.`; any other is L3, and then an input that names no proto path is L11. An
+/// import is found only where it is the input itself.
 pub fn program<R: Files + AllocGlobal, O: Write, E: Write>(
     rt: &R,
     args: &[String],
@@ -75,13 +82,28 @@ fn listing_of<R: Files + AllocGlobal>(
     if include != "." {
         return Err(outside_include(alloc, input, include)?);
     }
+    let name = proto_path_of(alloc, input)?;
     let content = match fs::read(rt, input) {
         Ok(content) => content,
         Err(error) => return Err(read_fault(alloc, input, error.kind())?),
     };
-    let descriptor = describe_file(alloc, input, &content)?;
-    let text = listing(alloc, &[descriptor])?;
-    Ok(text)
+    let resolver = OneFile {
+        name: name.as_path(),
+        file: input,
+        content: &content,
+    };
+    let named = RunInput::Named(name.as_path().to_proto_path_buf(alloc)?);
+    let log = run_inputs(alloc, &[named], &resolver, &NoReader, bundled_files());
+    Ok(listing(alloc, &log.result?)?)
+}
+
+/// The proto path that the input names, or L11.
+fn proto_path_of(alloc: Global, input: &str) -> Result<ProtoPathBuf, RunFault> {
+    match ProtoPathBuf::from_path(alloc, input) {
+        Ok(name) => Ok(name),
+        Err(PathError::Memory) => Err(RunFault::Memory),
+        Err(error) => Err(RunFault::InputPath(String::from_str(alloc, input)?, error)),
+    }
 }
 
 /// L3 for this one include.

@@ -1,0 +1,47 @@
+-- What one read leaves.
+use Rattle.std.proofs.Common.{◌≡◌, ◌⊎◌, inl, inr, List, [], ◌∷◌, ◌++◌, Option, Some, None, Result, Ok, Err, sym, refl, subst}
+use Rattle.protobuf_parse_base.specs.PathViews.{path_buf_text}
+use Rattle.protobuf_parse_syntax.specs.Trees.{FileSyntax, file_view}
+use Rattle.protobuf_parse_syntax.specs.declared.tree.FileTree.{FileTree}
+use Rattle.protobuf_parse_model.specs.Descriptors.{Text}
+use Rattle.protobuf_parse.specs.declared.run.fault.RunFault.{RunFault}
+use Rattle.protobuf_parse.specs.declared.run.fault.RunFault.TheVariants as fault
+use Rattle.protobuf_parse.specs.declared.run.log.ReadEntry.{ReadEntry}
+use Rattle.protobuf_parse.specs.declared.run.log.ReadOutcome.{ReadOutcome}
+use Rattle.protobuf_parse.specs.declared.run.log.ReadOutcome.TheVariants as outcome
+use Rattle.protobuf_parse.specs.Walks.{Asked, the_resolver, the_reader}
+use Rattle.protobuf_parse.specs.Run.{IsTheTree, MayResolve, MayRead, MayAnswer, StandsInLoad, text_given}
+use Rattle.protobuf_parse.specs.Loading.{Legal, OrMemory, ReadsTree, CanGive}
+
+abbrev pub Noted : Text → ReadOutcome → List ReadEntry → List ReadEntry → Type 0
+Noted p o old new = (e : ReadEntry) × (new ≡ old ++ e ∷ []) × (path_buf_text e.path ≡ p) × (e.outcome ≡ o)
+
+-- a legal answer is one that who is asked can give at all
+pub can_give : (resolve : MayResolve) (read : MayRead) (asked : Asked) (p : Text) (o : ReadOutcome) → MayAnswer resolve read asked p o → CanGive asked o
+can_give resolve read the_resolver p (outcome.ReaderFault why) h = h
+can_give resolve read the_resolver p (outcome.Content origin content) h = tt
+can_give resolve read the_resolver p outcome.NotFound h = tt
+can_give resolve read the_resolver p (outcome.ResolverFault why) h = tt
+can_give resolve read (the_reader own) p o h = tt
+
+tree_moved : (table : List (Text × Text)) (p q : Text) (x o : ReadOutcome) (t : Option FileSyntax) → q ≡ p → x ≡ o → IsTheTree (text_given table q (Some o)) t → IsTheTree (text_given table p (Some x)) t
+tree_moved table p q x o t e n h = subst (λ (y : ReadOutcome). IsTheTree (text_given table p (Some y)) t) (sym n) (subst (λ (z : Text). IsTheTree (text_given table z (Some o)) t) e h)
+
+pub read_found : (legal : Legal) (table : List (Text × Text)) (asked : Asked) (p q : Text) (old new : List ReadEntry) (o : ReadOutcome) (tree : FileTree) → q ≡ p → Noted p o old new → legal asked p o → IsTheTree (text_given table q (Some o)) (Some (file_view tree)) → ReadsTree legal table asked p old new (Ok tree)
+read_found legal table asked p q old new o tree e n ok t =
+    (n.0, n.1, n.2, rw n.3 ok, tree_moved table p q n.0.outcome o (Some (file_view tree)) e n.3 t)
+
+pub but_memory : {P : Type 0} (f : RunFault) → (f ≡ fault.Memory → ⊥) → OrMemory f P → P
+but_memory f other (inl h) = h
+but_memory f other (inr m) = absurd (other m)
+
+pub read_refused : (legal : Legal) (table : List (Text × Text)) (asked : Asked) (p q : Text) (old new : List ReadEntry) (o : ReadOutcome) (f : RunFault) → q ≡ p → Noted p o old new → legal asked p o → (f ≡ fault.Memory → ⊥) → OrMemory f (IsTheTree (text_given table q (Some o)) None) → OrMemory f (StandsInLoad asked q (Some o) (text_given table q (Some o)) f) → ReadsTree legal table asked p old new (Err f)
+read_refused legal table asked p q old new o f e n ok other t s =
+    inl (
+      n.0,
+      n.1,
+      n.2,
+      rw n.3 ok,
+      tree_moved table p q n.0.outcome o None e n.3 (but_memory f other t),
+      subst (λ (y : ReadOutcome). StandsInLoad asked p (Some y) (text_given table p (Some y)) f) (sym n.3) (subst (λ (z : Text). StandsInLoad asked z (Some o) (text_given table z (Some o)) f) e (but_memory f other s)),
+    )

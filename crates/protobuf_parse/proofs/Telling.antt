@@ -1,0 +1,94 @@
+-- What a run promises, from what its loading left.
+use Rattle.std.proofs.Common.{◌≡◌, Bool, true, false, ◌⊎◌, inl, inr, List, [], ◌∷◌, ◌++◌, map, Option, Some, None, Result, Ok, Err, refl, sym, ◌∙◌, ap, subst, append-nil, find}
+use Rattle.std.specs.Prelude.{string_bytes}
+use Rattle.std.specs.Global.{Vec}
+use Rattle.std.specs.List.{AllByRecursion}
+use Rattle.protobuf_parse_model.specs.Descriptors.{Text}
+use Rattle.protobuf_parse_model.specs.declared.descriptor.FileDescriptorProto.{FileDescriptorProto}
+use Rattle.protobuf_parse_syntax.specs.Trees.{file_view}
+use Rattle.protobuf_parse.specs.declared.run.fault.RunFault.{RunFault}
+use Rattle.protobuf_parse.specs.declared.run.fault.RunFault.TheVariants as fault
+use Rattle.protobuf_parse.specs.declared.run.loader.LoadedFile.{LoadedFile}
+use Rattle.protobuf_parse.specs.declared.run.log.ReadEntry.{ReadEntry}
+use Rattle.protobuf_parse.specs.Walks.{Event, Input, Trees, elab_paths, events, until}
+use Rattle.protobuf_parse.specs.Run.{Files, HasTrees, AreDescriptors, IsAccepted, IsRefused, IsBroken, MayResolve, RunsByResolver, fails}
+use Rattle.protobuf_parse.specs.Loading.{Legal, Entry, GoesOn, Goes, Good, Stops, IsLoaded, paths_of}
+use Rattle.protobuf_parse.proofs.Keeping.{bool_cases}
+
+find-after : (test : Event → Bool) (xs ys : List Event) (e : Event) → find test xs ≡ None → test e ≡ true → find test (xs ++ e ∷ ys) ≡ Some e
+find-after test [] ys e h t = rw t refl
+find-after test (x ∷ xs) ys e h t =
+    elim (bool_cases (test x)) [
+      | inl w ↦ absurd (let z : Some x ≡ None = (rw w at h) in cc)
+      | inr w ↦ let z : find test xs ≡ None = (rw w at h) in rw w (find-after test xs ys e z t)
+    ]
+
+until-after : (test : Event → Bool) (xs ys : List Event) → find test xs ≡ None → until test (xs ++ ys) ≡ xs ++ until test ys
+until-after test [] ys h = refl
+until-after test (x ∷ xs) ys h =
+    elim (bool_cases (test x)) [
+      | inl w ↦ absurd (let z : Some x ≡ None = (rw w at h) in cc)
+      | inr w ↦ let z : find test xs ≡ None = (rw w at h) in rw w (ap (λ r. x ∷ r) (until-after test xs ys z))
+    ]
+
+pub values-descriptors : (es : List Entry) → map (λ (f : LoadedFile). f.descriptor) (map (λ (e : Entry). e.1) es) ≡ map (λ (e : Entry). e.1.descriptor) es
+values-descriptors [] = refl
+values-descriptors (e ∷ es) = ap (λ z. e.1.descriptor ∷ z) (values-descriptors es)
+
+module _ (legal : Legal) (files : Files) (told : List Event) where
+  are-descriptors : (log : List ReadEntry) (loaded : List Entry) → AllByRecursion (λ (e : Entry). IsLoaded files log (string_bytes e.0) e.1) loaded → AreDescriptors files (paths_of loaded) (map (λ (e : Entry). e.1.descriptor) loaded)
+  are-descriptors log [] h = tt
+  are-descriptors log (e ∷ loaded) h = ((file_view e.1.tree, h.0.is, h.0.descriptor), are-descriptors log loaded h.1)
+
+  pub accepted : (loaded : List Entry) (ds : List FileDescriptorProto) → Good legal files told loaded files.reads [] → ds ≡ map (λ (e : Entry). e.1.descriptor) loaded → IsAccepted legal files told ds
+  accepted loaded ds g is = record {
+    none_fails = g.clean;
+    reads = g.answers;
+    descriptors = rw (g.elabs, is) (are-descriptors files.reads loaded g.made);
+  }
+
+  -- memory runs out once all is loaded
+  pub broken : (loaded : List Entry) (f : RunFault) → Good legal files told loaded files.reads [] → f ≡ fault.Memory → IsBroken legal files told f
+  broken loaded f g m = record {
+    memory = m;
+    done = told;
+    rest = [];
+    beginning = ap (until (fails files)) (sym (append-nil told)) ∙ until-after (fails files) told [] g.clean;
+    reads = g.answers;
+  }
+
+  pub stopped : (f : RunFault) → Stops legal files told files.reads f → IsRefused legal files told f ⊎ IsBroken legal files told f
+  stopped f (inl h) = inl (record {
+    event = h.event;
+    first = rw h.split (find-after (fails files) h.before h.after h.event h.clean h.failing);
+    reads = rw (h.split, until-after (fails files) h.before (h.event ∷ h.after) h.clean, h.failing) h.answers;
+    stands = h.stands;
+  })
+  stopped f (inr h) = inr (record {
+    memory = h.memory;
+    done = h.before;
+    rest = until (fails files) h.after;
+    beginning = rw h.split (until-after (fails files) h.before h.after h.clean);
+    reads = h.answers;
+  })
+
+-- the files of a run with this log
+abbrev pub run-files : List (Text × Text) → List ReadEntry → Trees → Files
+run-files table log trees = record { bundled = table; reads = log; trees = trees }
+
+pub goes-on : (table : List (Text × Text)) (log : List ReadEntry) (trees : Trees) → HasTrees (run-files table log trees) → GoesOn (run-files table log trees) table log
+goes-on table log trees h = record { bundled = refl; reads = ([], sym (append-nil log)); trees = h }
+
+-- memory runs out before the first input
+pub unstarted : (resolve : MayResolve) (inputs : List Input) (r : Result (Vec FileDescriptorProto) RunFault) (f : RunFault) → r ≡ Err f → f ≡ fault.Memory → RunsByResolver resolve inputs r
+unstarted resolve inputs r f is m = (
+  [],
+  [],
+  λ trees has. rw is (inr (record {
+    memory = m;
+    done = [];
+    rest = until (fails (run-files [] [] trees)) (events trees inputs);
+    beginning = refl;
+    reads = tt;
+  })),
+)

@@ -1,0 +1,8 @@
+use Rattle.protobuf_parse.proofs.Opening.{tree_found, tree_lacking}
+use Rattle.protobuf_parse.proofs.run.asking.tree_of_bytes.Goals as goal
+
+pub returns-clause-tree : goal.returns-clause-tree
+returns-clause-tree c = tree_found c.tree_of_text.result _ _ c.in-Ok.ensures.cases.0 c.in-Ok.ensures.cases.1 c.tree_of_text.ensures.tree c.tree_of_text.ensures.only
+
+pub returns-clause-treeless : goal.returns-clause-treeless
+returns-clause-treeless c = tree_lacking c.tree_of_text.result _ _ c.in-Ok.ensures.cases.0 c.tree_of_text.ensures.treeless

@@ -1,0 +1,237 @@
+-- What holds while files are loaded, for every list of reads that the log begins and any events kept so far.
+use Rattle.std.specs.Prelude.{◌≡◌, ◌⊎◌, ◌≤◌, ◌<◌, ◌+◌, ◌-◌, ℕ, Bool, true, false, nat_lt, List, [], ◌∷◌, ◌++◌, length, map, Option, Some, None, Result, Ok, Err, IfOk, bytes_eq, String, string_bytes, slice_get, find}
+use Rattle.std.specs.Global.{Global}
+use Rattle.std.specs.List.{AllByRecursion}
+use Rattle.std.specs.Map.{lookup}
+use Rattle.protobuf_parse_base.specs.PathViews.{path_buf_text}
+use Rattle.protobuf_parse_syntax.specs.Trees.{FileSyntax, file_view}
+use Rattle.protobuf_parse_syntax.specs.declared.tree.FileTree.{FileTree}
+use Rattle.protobuf_parse_model.specs.Descriptors as described
+use Rattle.protobuf_parse_model.specs.Descriptors.{Text}
+use Rattle.protobuf_parse_model.specs.Elaboration.{file_faults, file_of}
+use Rattle.protobuf_parse_model.specs.Faults as elaborating
+use Rattle.protobuf_parse_model.specs.Faults.{fault_view}
+use Rattle.protobuf_parse.specs.declared.run.fault.RunFault.{RunFault}
+use Rattle.protobuf_parse.specs.declared.run.fault.RunFault.TheVariants as fault
+use Rattle.protobuf_parse.specs.declared.run.loader.LoadedFile.{LoadedFile}
+use Rattle.protobuf_parse.specs.declared.run.loader.Placed.{Placed}
+use Rattle.protobuf_parse.specs.declared.run.log.ReadEntry.{ReadEntry}
+use Rattle.protobuf_parse.specs.declared.run.log.ReadOutcome.{ReadOutcome}
+use Rattle.protobuf_parse.specs.Walks.{Asked, the_resolver, the_reader, Event, cycle, long, load, check, elab, has, keep, among, Trees, import_paths, joined, walk, reads_in, elab_paths}
+use Rattle.std.specs.Borrow.{Bor}
+use Rattle.std.specs.Str.{IsUtf8}
+use Rattle.protobuf_parse.specs.declared.run.fault.ResolveFault.{ResolveFault}
+use Rattle.protobuf_parse.specs.declared.run.fault.ReadInputFault.{ReadInputFault}
+use Rattle.protobuf_parse.specs.declared.run.log.ReadOutcome.TheVariants as outcome
+use Rattle.protobuf_parse.specs.Run.{Files, HasTrees, IsTheTree, first_read, fails, said, text_given, origin_given, Answers, StandsAt, StandsInLoad, StandsInElab, IsUnparsed}
+
+-- the answers that who is asked for a path may give
+abbrev pub Legal : Type 1
+Legal = Asked → Text → ReadOutcome → Type 0
+
+-- the events of a walk, by its input, who is asked, the room and the chain
+abbrev pub Shape : Type 0
+Shape = Text → Asked → ℕ → List Text → List Event
+
+abbrev pub Entry : Type 0
+Entry = String Global × LoadedFile
+
+abbrev pub paths_of : List Entry → List Text
+paths_of loaded = map (λ (e : Entry). string_bytes e.0) loaded
+
+-- the loaded file of a path
+abbrev pub file_at : Text → List Entry → Option LoadedFile
+file_at path loaded = lookup (λ (k : String Global). bytes_eq path (string_bytes k)) loaded
+
+abbrev pub read_paths : List ReadEntry → List Text
+read_paths log = map (λ (e : ReadEntry). path_buf_text e.path) log
+
+-- these are more of what was there
+abbrev pub Grows : List ReadEntry → List ReadEntry → Type 0
+Grows old new = (more : List ReadEntry) × (new ≡ old ++ more)
+
+-- no file of the chain is elaborated
+abbrev pub Apart : List Event → List Text → Type 0
+Apart events chain = (p : Text) → among p chain ≡ true → has (elab p) events ≡ false
+
+abbrev pub Within : List Event → List Event → Type 0
+Within small large = (e : Event) → has e small ≡ true → has e large ≡ true
+
+-- The events of this shape are all kept, wherever it is met, but for a chain that is too long, which there
+-- is exactly where the room is below the height.
+pub record Settled (kept : List Event) (height : ℕ) (events : Shape) : Type 0 where
+  pub before : List Event
+  pub within : Within before kept
+  pub only : (i : Text) (a : Asked) (room : ℕ) (chain : List Text) → Apart before chain → (e : Event) → has e (events i a room chain) ≡ true → (has e kept ≡ true) ⊎ (e ≡ long i)
+  pub tall : (i : Text) (a : Asked) (room : ℕ) (chain : List Text) → Apart before chain → has (long i) (events i a room chain) ≡ nat_lt room height
+
+-- the walks of a path
+abbrev pub file_shape : Trees → Text → Shape
+file_shape trees path = λ i a room chain. walk trees i a room chain path
+
+-- the walks of these paths, one after another
+abbrev pub imports_shape : Trees → List Text → Shape
+imports_shape trees paths = λ i a room chain. joined (walk trees i the_resolver room chain) paths
+
+-- a loaded file has the tree of its path, and is what that becomes
+pub record IsLoaded (files : Files) (log : List ReadEntry) (path : Text) (file : LoadedFile) : Type 0 where
+  pub low : file.height ≤ 100
+  pub is : files.trees path ≡ Some (file_view file.tree)
+  pub faultless : file_faults (file_view file.tree) ≡ []
+  pub descriptor : described.file_view file.descriptor ≡ file_of path (file_view file.tree)
+  pub entry : ReadEntry
+  pub read : slice_get log file.read ≡ Some entry
+  pub named : path_buf_text entry.path ≡ path
+  pub first : first_read path files.reads ≡ Some entry.outcome
+
+pub record Good (legal : Legal) (files : Files) (kept : List Event) (loaded : List Entry) (log : List ReadEntry) (chain : List Text) : Type 0 where
+  pub answers : Answers legal (reads_in kept) log
+  pub elabs : elab_paths kept ≡ paths_of loaded
+  pub clean : find (fails files) kept ≡ None
+  pub settled : (p : Text) (e : LoadedFile) → file_at p loaded ≡ Some e → Settled kept e.height (file_shape files.trees p)
+  pub made : AllByRecursion (λ (e : Entry). IsLoaded files log (string_bytes e.0) e.1) loaded
+  pub known : (p : Text) → has (load the_resolver p) kept ≡ true → (among p chain ≡ true) ⊎ (has (elab p) kept ≡ true)
+  pub read : (p : Text) → among p (read_paths log) ≡ true → has (load the_resolver p) kept ≡ true
+  pub apart : Apart kept chain
+
+-- the event is the first of these that fails, the log has the reads up to it, and the fault stands at it
+pub record Halts (legal : Legal) (files : Files) (events : List Event) (log : List ReadEntry) (f : RunFault) : Type 0 where
+  pub before : List Event
+  pub event : Event
+  pub after : List Event
+  pub split : events ≡ before ++ event ∷ after
+  pub clean : find (fails files) before ≡ None
+  pub failing : fails files event ≡ true
+  pub answers : Answers legal (reads_in (before ++ event ∷ [])) log
+  pub stands : StandsAt files event f
+
+-- memory ran out, and the log has the reads of a beginning in which nothing fails
+pub record Breaks (legal : Legal) (files : Files) (events : List Event) (log : List ReadEntry) (f : RunFault) : Type 0 where
+  pub memory : f ≡ fault.Memory
+  pub before : List Event
+  pub after : List Event
+  pub split : events ≡ before ++ after
+  pub clean : find (fails files) before ≡ None
+  pub answers : Answers legal (reads_in before) log
+
+abbrev pub Stops : Legal → Files → List Event → List ReadEntry → RunFault → Type 0
+Stops legal files events log f = Halts legal files events log f ⊎ Breaks legal files events log f
+
+-- the fault is this or want of memory
+abbrev pub OrMemory : RunFault → Type 0 → Type 0
+OrMemory f P = P ⊎ (f ≡ fault.Memory)
+
+-- whom a read asks
+abbrev pub asked_by : Option (Bor (List ℕ)) → Asked
+asked_by None = the_resolver
+asked_by (Some own) = the_reader own.now
+
+-- a resolver gives no reader's fault
+abbrev pub CanGive : Asked → ReadOutcome → Type 0
+CanGive the_resolver (outcome.ReaderFault why) = ⊥
+CanGive _ _ = Unit {0}
+
+-- a reader gives a content or a fault of its own
+abbrev pub IsReaders : ReadOutcome → Type 0
+IsReaders (outcome.Content origin content) = Unit {0}
+IsReaders (outcome.ReaderFault why) = Unit {0}
+IsReaders _ = ⊥
+
+abbrev pub IsShadowed : Text → Text → RunFault → Type 0
+IsShadowed own p (fault.Shadowed input path) = (string_bytes input ≡ own) × (string_bytes path ≡ p)
+IsShadowed own p _ = ⊥
+
+abbrev pub IsNoText : Text → RunFault → Type 0
+IsNoText p (fault.ContentIsNotUtf8 path) = string_bytes path ≡ p
+IsNoText p _ = ⊥
+
+abbrev pub IsUnfound : Text → RunFault → Type 0
+IsUnfound p (fault.FileNotFoundInImportPath path resolver) = string_bytes path ≡ p
+IsUnfound p _ = ⊥
+
+abbrev pub IsUnreadable : Text → ReadInputFault → RunFault → Type 0
+IsUnreadable own given (fault.CouldNotReadFile path why) = (string_bytes path ≡ own) × (why ≡ given)
+IsUnreadable own given _ = ⊥
+
+abbrev pub IsUnresolved : Text → ResolveFault → RunFault → Type 0
+IsUnresolved p given (fault.Resolver path why) = (string_bytes path ≡ p) × (said why ≡ said given)
+IsUnresolved p given _ = ⊥
+
+abbrev pub IsParseFault : Text → Text → RunFault → Type 0
+IsParseFault origin text (fault.Parse file error) = (string_bytes file ≡ origin) × IsUnparsed text error
+IsParseFault origin text _ = ⊥
+
+-- L10 of a file, with this fault
+abbrev pub IsElabFault : Text → elaborating.Fault → RunFault → Type 0
+IsElabFault origin stands (fault.Elaborate file error) = (string_bytes file ≡ origin) × (fault_view error ≡ stands)
+IsElabFault origin stands _ = ⊥
+
+-- L1 or L9 of a content
+abbrev pub IsContentFault : Text → Text → Text → RunFault → Type 0
+IsContentFault p origin text (fault.ContentIsNotUtf8 path) = (string_bytes path ≡ p) × ¬ IsUtf8 text
+IsContentFault p origin text (fault.Parse file error) = (string_bytes file ≡ origin) × IsUnparsed text error
+IsContentFault p origin text _ = ⊥
+
+-- what a call leaves, where the events are those kept with its own
+abbrev pub Leaves : Legal → Files → List Event → Shape → List Entry → List ReadEntry → List Text → Result Placed RunFault → Type 0
+Leaves legal files events shape loaded log chain (Ok placed) = Good legal files events loaded log chain × Settled events placed.height shape
+Leaves legal files events shape loaded log chain (Err f) = Stops legal files events log f
+
+abbrev pub Goes : Legal → Files → List Event → List Entry → List ReadEntry → Result (Unit {0}) RunFault → Type 0
+Goes legal files events loaded log (Ok _) = Good legal files events loaded log []
+Goes legal files events loaded log (Err f) = Stops legal files events log f
+
+-- the events kept when these imports have been walked
+abbrev pub so_far : Trees → List Event → Text → Asked → Text → List Text → List Text → List Event
+so_far trees kept input asked path chain done =
+    keep (kept ++ load asked path ∷ []) (joined (walk trees input the_resolver (100 - length (chain ++ path ∷ [])) (chain ++ path ∷ [])) done)
+
+-- A file was added for this path: it has this tree, in which no fault stands, and is what that becomes.
+pub record IsAdded (path : Text) (tree : FileSyntax) (height read : ℕ) (old new : List Entry) (placed : Placed) : Type 0 where
+  pub key : String Global
+  pub file : LoadedFile
+  pub entries : new ≡ old ++ (key, file) ∷ []
+  pub named : string_bytes key ≡ path
+  pub tree_is : file_view file.tree ≡ tree
+  pub height_is : file.height ≡ height
+  pub read_is : file.read ≡ read
+  pub faultless : file_faults tree ≡ []
+  pub descriptor : described.file_view file.descriptor ≡ file_of path tree
+  pub placed_is : placed.height ≡ height
+
+-- between two imports of a file
+pub record InLoop (legal : Legal) (files : Files) (kept : List Event) (input : Text) (asked : Asked) (path : Text) (chain : List Text) (entry : ReadEntry) (number : ℕ) (done : List Text) (height : ℕ) (loaded : List Entry) (log : List ReadEntry) : Type 0 where
+  pub fresh : has (load asked path) kept ≡ false
+  pub found : slice_get log number ≡ Some entry
+  pub named : path_buf_text entry.path ≡ path
+  pub first : first_read path files.reads ≡ Some entry.outcome
+  pub good : Good legal files (so_far files.trees kept input asked path chain done) loaded log (chain ++ path ∷ [])
+  pub settled : Settled (so_far files.trees kept input asked path chain done) height (imports_shape files.trees done)
+
+-- the texts of a chain
+abbrev pub texts : List (String Global) → List Text
+texts chain = map string_bytes chain
+
+-- A read of a file that isn't loaded, between these two logs, that gave its tree or a fault.
+abbrev pub ReadsTree : Legal → List (Text × Text) → Asked → Text → List ReadEntry → List ReadEntry → Result FileTree RunFault → Type 0
+ReadsTree legal table asked p old new (Ok tree) =
+    (e : ReadEntry) × (new ≡ old ++ e ∷ []) × (path_buf_text e.path ≡ p) × legal asked p e.outcome × IsTheTree (text_given table p (Some e.outcome)) (Some (file_view tree))
+ReadsTree legal table asked p old new (Err f) =
+    ((e : ReadEntry) × (new ≡ old ++ e ∷ []) × (path_buf_text e.path ≡ p) × legal asked p e.outcome × IsTheTree (text_given table p (Some e.outcome)) None × StandsInLoad asked p (Some e.outcome) (text_given table p (Some e.outcome)) f)
+    ⊎ ((f ≡ fault.Memory) × (new ≡ old))
+
+-- The files of a run with this log and these bundled files, or of one that goes on from it.
+pub record GoesOn (files : Files) (table : List (Text × Text)) (log : List ReadEntry) : Type 0 where
+  pub bundled : files.bundled ≡ table
+  pub reads : Grows log files.reads
+  pub trees : HasTrees files
+
+-- the loaded file of a path, as a look-up told it
+abbrev pub IsPlaced : Text → List Entry → Option Placed → Type 0
+IsPlaced path loaded None = file_at path loaded ≡ None
+IsPlaced path loaded (Some placed) = (file : LoadedFile) × (file_at path loaded ≡ Some file) × (placed.height ≡ file.height)
+
+-- what an elaboration leaves
+abbrev pub Settles : Text → FileSyntax → ℕ → ℕ → List ReadEntry → List Entry → List Entry → Result Placed RunFault → Type 0
+Settles path tree height read log old new (Ok placed) = file_at path old ≡ None → IsAdded path tree height read old new placed
+Settles path tree height read log old new (Err f) = (e : ReadEntry) → slice_get log read ≡ Some e → path_buf_text e.path ≡ path → OrMemory f (StandsInElab (origin_given path (Some e.outcome)) (file_faults tree) f)

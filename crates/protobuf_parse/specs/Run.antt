@@ -1,0 +1,263 @@
+-- What a run read, which of its events fails, and which fault stands at an event.
+use Rattle.std.specs.Prelude.{◌≡◌, ◌⊎◌, ◌+◌, ℕ, length, Bool, true, false, not, List, [], ◌∷◌, ◌++◌, map, Option, Some, None, is_some, option_map, slice_get, Result, Ok, Err, if◌then◌else◌, bytes_eq, string_bytes, find}
+use Rattle.std.specs.Global.{Vec}
+use Rattle.std.specs.Borrow.{Bor}
+use Rattle.std.specs.Str.{IsUtf8}
+use Rattle.protobuf_parse_base.specs.PathViews.{path_buf_text}
+use Rattle.protobuf_parse_syntax.specs.Cut.{place_of}
+use Rattle.protobuf_parse_syntax.specs.Parsing.{HasTree, IsFaultOf}
+use Rattle.protobuf_parse_syntax.specs.Trees.{FileSyntax}
+use Rattle.protobuf_parse_syntax.specs.declared.error.ParserErrorWithLocation.{ParserErrorWithLocation}
+use Rattle.protobuf_parse_model.specs.Descriptors as described
+use Rattle.protobuf_parse_model.specs.Descriptors.{Text, FileDescriptor}
+use Rattle.protobuf_parse_model.specs.Elaboration.{file_faults, file_of}
+use Rattle.protobuf_parse_model.specs.Faults as elaborating
+use Rattle.protobuf_parse_model.specs.Faults.{Among, fault_view}
+use Rattle.protobuf_parse_model.specs.declared.descriptor.FileDescriptorProto.{FileDescriptorProto}
+use Rattle.protobuf_parse.specs.declared.run.fault.RunFault.{RunFault}
+use Rattle.protobuf_parse.specs.declared.run.fault.RunFault.TheVariants as fault
+use Rattle.protobuf_parse.specs.declared.run.fault.ResolveFault.{ResolveFault}
+use Rattle.protobuf_parse.specs.declared.run.fault.ResolveFault.TheVariants as refused
+use Rattle.protobuf_parse.specs.declared.run.fault.ReadInputFault.{ReadInputFault}
+use Rattle.protobuf_parse.specs.declared.run.fault.ReadInputFault.TheVariants as unread
+use Rattle.protobuf_parse.specs.declared.run.source.ResolvedProtoFile.{ResolvedProtoFile}
+use Rattle.protobuf_parse.specs.declared.run.log.RunInput.{RunInput}
+use Rattle.protobuf_parse.specs.declared.run.log.RunInput.TheVariants as given
+use Rattle.protobuf_parse.specs.declared.run.log.ReadEntry.{ReadEntry}
+use Rattle.protobuf_parse.specs.declared.run.log.ReadOutcome.{ReadOutcome}
+use Rattle.protobuf_parse.specs.declared.run.log.ReadOutcome.TheVariants as outcome
+use Rattle.protobuf_parse.specs.Walks.{Input, named, at, Asked, the_resolver, the_reader, Event, cycle, long, load, check, elab, Trees, Read, reads_in, elab_paths, events, statements, until}
+
+abbrev pub input_view : RunInput → Input
+input_view (given.Named name) = named (path_buf_text name)
+input_view (given.At name fs_path) = at (path_buf_text name) (string_bytes fs_path)
+
+-- the rows of a table of bundled files
+abbrev pub rows : List (Bor (List ℕ) × Bor (List ℕ)) → List (Text × Text)
+rows table = map (λ (r : Bor (List ℕ) × Bor (List ℕ)). (r.0.now, r.1.now)) table
+
+-- ---- what was read
+
+-- the text of the first row with this path
+abbrev pub row_of : Text → List (Text × Text) → Option Text
+row_of path [] = None
+row_of path (row ∷ table) = if bytes_eq path row.0 then Some row.1 else row_of path table
+
+-- the answer to the first read of a path
+abbrev pub first_read : Text → List ReadEntry → Option ReadOutcome
+first_read path [] = None
+first_read path (entry ∷ log) = if bytes_eq path (path_buf_text entry.path) then Some entry.outcome else first_read path log
+
+-- the bytes that an answer gives for a path: a file's, or those of a bundled file where the resolver has none
+abbrev pub text_given : List (Text × Text) → Text → Option ReadOutcome → Option Text
+text_given table path (Some (outcome.Content origin content)) = Some content.items
+text_given table path (Some outcome.NotFound) = row_of path table
+text_given table path _ = None
+
+-- what faults call the file
+abbrev pub origin_given : Text → Option ReadOutcome → Text
+origin_given path (Some (outcome.Content origin content)) = string_bytes origin
+origin_given path _ = path
+
+-- What a run read, with the bundled files; and the tree of each path, as far as it has one.
+pub record Files : Type 0 where
+  pub bundled : List (Text × Text)
+  pub reads : List ReadEntry
+  pub trees : Trees
+
+-- what the first read of a path gave
+abbrev pub answer_for : Files → Text → Option ReadOutcome
+answer_for files path = first_read path files.reads
+
+abbrev pub text_for : Files → Text → Option Text
+text_for files path = text_given files.bundled path (answer_for files path)
+
+-- the answer to the read with this number
+abbrev pub answer_at : Files → ℕ → Option ReadOutcome
+answer_at files n = option_map (λ (e : ReadEntry). e.outcome) (slice_get files.reads n)
+
+-- the text is UTF-8 and this is its tree, or it has none
+abbrev pub IsTree : Option Text → Option FileSyntax → Type 0
+IsTree (Some text) (Some t) = IsUtf8 text × HasTree text t
+IsTree (Some text) None = IsUtf8 text → (t : FileSyntax) → HasTree text t → ⊥
+IsTree None (Some t) = ⊥
+IsTree None None = Unit {0}
+
+-- and no other
+abbrev pub IsTheTree : Option Text → Option FileSyntax → Type 0
+IsTheTree text t = IsTree text t × ((u : Option FileSyntax) → IsTree text u → u ≡ t)
+
+-- each path has the tree of its text; a path that was not read has none
+abbrev pub HasTrees : Files → Type 0
+HasTrees files = (path : Text) → IsTree (text_for files path) (files.trees path)
+
+-- ---- which event fails
+
+abbrev pub is_nothing : {A : Type 0} → List A → Bool
+is_nothing [] = true
+is_nothing (x ∷ xs) = false
+
+abbrev pub are_same_bytes : Option Text → Option Text → Bool
+are_same_bytes (Some a) (Some b) = bytes_eq a b
+are_same_bytes _ _ = false
+
+-- the faults that stand in a file with this tree
+abbrev pub faults_in : Option FileSyntax → List elaborating.Fault
+faults_in (Some t) = file_faults t
+faults_in None = []
+
+-- the bytes of the read with this number, which an input's own path was read by
+abbrev pub content_at : Files → ℕ → Option Text
+content_at files n = text_given [] [] (answer_at files n)
+
+abbrev pub fails : Files → Event → Bool
+fails files (cycle p) = true
+fails files (long i) = true
+fails files (load a p) = not (is_some (files.trees p))
+fails files (check n f p) = not (are_same_bytes (content_at files n) (text_for files p))
+fails files (elab p) = not (is_nothing (faults_in (files.trees p)))
+
+-- ---- which fault stands where an event fails
+
+-- the text has no tree, and the parse error stands in it
+pub record IsUnparsed (text : Text) (e : ParserErrorWithLocation) : Type 0 where
+  pub treeless : (t : FileSyntax) → HasTree text t → ⊥
+  pub stands : IsFaultOf text e.error (place_of e)
+
+-- what a resolver's fault says
+pub data ResolverSays : Type 0 where
+  no_memory : ResolverSays
+  unreadable : Text → ResolverSays
+  refuses : Text → ResolverSays
+
+abbrev pub said : ResolveFault → ResolverSays
+said refused.Memory = no_memory
+said (refused.CouldNotRead path) = unreadable (string_bytes path)
+said (refused.Refused reason) = refuses (string_bytes reason)
+
+-- the fault of a path that was asked so, whose answer and text are these
+abbrev pub StandsInLoad : Asked → Text → Option ReadOutcome → Option Text → RunFault → Type 0
+StandsInLoad asked p answer text (fault.ContentIsNotUtf8 path) =
+    (string_bytes path ≡ p) × (bytes : Text) × (text ≡ Some bytes) × ¬ IsUtf8 bytes
+StandsInLoad asked p answer text (fault.FileNotFoundInImportPath path resolver) =
+    (string_bytes path ≡ p) × (answer ≡ Some outcome.NotFound) × (text ≡ None)
+StandsInLoad asked p answer text (fault.CouldNotReadFile path why) =
+    (asked ≡ the_reader (string_bytes path)) × (answer ≡ Some (outcome.ReaderFault why))
+StandsInLoad asked p answer text (fault.Resolver path why) =
+    (string_bytes path ≡ p) × (given : ResolveFault) × (answer ≡ Some (outcome.ResolverFault given)) × (said why ≡ said given)
+StandsInLoad asked p answer text (fault.Parse file error) =
+    (string_bytes file ≡ origin_given p answer) × (bytes : Text) × (text ≡ Some bytes) × IsUnparsed bytes error
+StandsInLoad asked p answer text _ = ⊥
+
+-- the fault of an input's own file, read as this answer, whose path was loaded with this text
+abbrev pub StandsInCheck : Text → Text → Option ReadOutcome → RunFault → Type 0
+StandsInCheck own p answer (fault.CouldNotReadFile path why) =
+    (string_bytes path ≡ own) × (answer ≡ Some (outcome.ReaderFault why))
+StandsInCheck own p answer (fault.Shadowed input path) =
+    (string_bytes input ≡ own) × (string_bytes path ≡ p) × (bytes : Text) × (text_given [] [] answer ≡ Some bytes)
+StandsInCheck own p answer _ = ⊥
+
+abbrev pub StandsInCycle : Text → RunFault → Type 0
+StandsInCycle p (fault.ImportCycle path) = string_bytes path ≡ p
+StandsInCycle p _ = ⊥
+
+abbrev pub StandsInLong : Text → RunFault → Type 0
+StandsInLong i (fault.ImportChainTooLong input) = string_bytes input ≡ i
+StandsInLong i _ = ⊥
+
+abbrev pub StandsInElab : Text → List elaborating.Fault → RunFault → Type 0
+StandsInElab origin faults (fault.Elaborate file error) = (string_bytes file ≡ origin) × Among faults (fault_view error)
+StandsInElab origin faults _ = ⊥
+
+abbrev pub StandsAt : Files → Event → RunFault → Type 0
+StandsAt files (cycle p) = StandsInCycle p
+StandsAt files (long i) = StandsInLong i
+StandsAt files (load asked p) = StandsInLoad asked p (answer_for files p) (text_for files p)
+StandsAt files (check n own p) = StandsInCheck own p (answer_at files n)
+StandsAt files (elab p) = StandsInElab (origin_given p (answer_for files p)) (faults_in (files.trees p))
+
+-- ---- which answers are legal
+
+-- what a resolver may answer for a path, and what a reader may
+abbrev pub MayResolve : Type 1
+MayResolve = Text → Result (Option ResolvedProtoFile) ResolveFault → Type 0
+
+abbrev pub MayRead : Type 1
+MayRead = Text → Result (Vec ℕ) ReadInputFault → Type 0
+
+abbrev pub Resolved : MayResolve → Text → ReadOutcome → Type 0
+Resolved may p (outcome.Content origin content) = may p (Ok (Some (record { path = origin; content = content })))
+Resolved may p outcome.NotFound = may p (Ok None)
+Resolved may p (outcome.ResolverFault why) = may p (Err why)
+Resolved may p (outcome.ReaderFault why) = ⊥
+
+abbrev pub WasRead : MayRead → Text → ReadOutcome → Type 0
+WasRead may own (outcome.Content origin content) = (string_bytes origin ≡ own) × may own (Ok content)
+WasRead may own (outcome.ReaderFault why) = may own (Err why)
+WasRead may own _ = ⊥
+
+-- the answer is one that who is asked may give
+abbrev pub MayAnswer : MayResolve → MayRead → Asked → Text → ReadOutcome → Type 0
+MayAnswer resolve read the_resolver p answer = Resolved resolve p answer
+MayAnswer resolve read (the_reader own) p answer = WasRead read own answer
+
+-- the entries are these reads in order, each with a legal answer
+abbrev pub Answers : (Asked → Text → ReadOutcome → Type 0) → List Read → List ReadEntry → Type 0
+Answers legal [] [] = Unit {0}
+Answers legal (read ∷ reads) (entry ∷ log) =
+    (path_buf_text entry.path ≡ read.path) × legal read.asked read.path entry.outcome × Answers legal reads log
+Answers legal _ _ = ⊥
+
+-- ---- what a run promises
+
+-- the descriptors of these files, in this order, each of which has a tree without faults
+abbrev pub AreDescriptors : Files → List Text → List FileDescriptorProto → Type 0
+AreDescriptors files [] [] = Unit {0}
+AreDescriptors files (p ∷ paths) (d ∷ ds) =
+    ((t : FileSyntax) × (files.trees p ≡ Some t) × (described.file_view d ≡ file_of p t)) × AreDescriptors files paths ds
+AreDescriptors files _ _ = ⊥
+
+-- no event fails, and these are the descriptors of the files in order
+pub record IsAccepted (legal : Asked → Text → ReadOutcome → Type 0) (files : Files) (events : List Event) (ds : List FileDescriptorProto) : Type 0 where
+  pub none_fails : find (fails files) events ≡ None
+  pub reads : Answers legal (reads_in events) files.reads
+  pub descriptors : AreDescriptors files (elab_paths events) ds
+
+-- the fault stands at the first event that fails, and the reads are those up to and with it
+pub record IsRefused (legal : Asked → Text → ReadOutcome → Type 0) (files : Files) (events : List Event) (f : RunFault) : Type 0 where
+  pub event : Event
+  pub first : find (fails files) events ≡ Some event
+  pub reads : Answers legal (reads_in (until (fails files) events)) files.reads
+  pub stands : StandsAt files event f
+
+-- memory ran out: the reads are those of a beginning of the events up to and with the first that fails
+pub record IsBroken (legal : Asked → Text → ReadOutcome → Type 0) (files : Files) (events : List Event) (f : RunFault) : Type 0 where
+  pub memory : f ≡ fault.Memory
+  pub done : List Event
+  pub rest : List Event
+  pub beginning : until (fails files) events ≡ done ++ rest
+  pub reads : Answers legal (reads_in done) files.reads
+
+abbrev pub Ends : (Asked → Text → ReadOutcome → Type 0) → Files → List Event → Result (Vec FileDescriptorProto) RunFault → Type 0
+Ends legal files events (Ok ds) = IsAccepted legal files events ds.items
+Ends legal files events (Err f) = IsRefused legal files events f ⊎ IsBroken legal files events f
+
+-- In an accepted run a file is met once for each input and each import statement of the loaded files.
+abbrev pub IsMet : List Input → List (Text × Text) → List ReadEntry → ℕ → Result (Vec FileDescriptorProto) RunFault → Type 0
+IsMet inputs bundled log meets (Ok ds) =
+    (trees : Trees) → HasTrees (record { bundled = bundled; reads = log; trees = trees }) → meets ≡ length inputs + statements trees (events trees inputs)
+IsMet inputs bundled log meets (Err f) = Unit {0}
+
+-- A run over these inputs and bundled files read this log and ended so, whichever trees the texts have.
+abbrev pub RunsAsTold : (Asked → Text → ReadOutcome → Type 0) → List Input → List (Text × Text) → List ReadEntry → Result (Vec FileDescriptorProto) RunFault → Type 0
+RunsAsTold legal inputs bundled log result =
+    (trees : Trees) → let files : Files = record { bundled = bundled; reads = log; trees = trees } in HasTrees files → Ends legal files (events trees inputs) result
+
+-- a reader that finds nothing
+abbrev pub FindsNothing : MayRead
+FindsNothing own answer = answer ≡ Err unread.NotFound
+
+-- A run over these inputs, by such a resolver and with some bundled files, read some log and ended so.
+abbrev pub RunsByResolver : MayResolve → List Input → Result (Vec FileDescriptorProto) RunFault → Type 0
+RunsByResolver resolve inputs result =
+    (bundled : List (Text × Text)) × (log : List ReadEntry) × RunsAsTold (MayAnswer resolve FindsNothing) inputs bundled log result

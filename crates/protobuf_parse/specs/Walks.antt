@@ -1,0 +1,128 @@
+-- Walks of import trees: what happens to the files that a run's inputs reach, in which order.
+-- A walk unfolds a whole import tree and remembers nothing; of equal events the first is kept.
+use Rattle.std.specs.Prelude.{ℕ, zero, suc, ◌+◌, Bool, true, false, nat_eq, List, [], ◌∷◌, ◌++◌, map, flat_map, length, Option, Some, None, if◌then◌else◌, bytes_eq}
+use Rattle.std.specs.List.{list_any}
+use Rattle.protobuf_parse_syntax.specs.Trees.{FileSyntax, ImportSyntax}
+use Rattle.protobuf_parse_model.specs.Descriptors.{Text}
+use Rattle.protobuf_parse_model.specs.Elaboration.{imports_of}
+
+-- an input: found by the resolver, or a file at a path of its own
+pub data Input : Type 0 where
+  named : Text → Input
+  at : Text → Text → Input
+
+-- who is asked for a file: the resolver, or the reader, at an input's own path
+pub data Asked : Type 0 where
+  the_resolver : Asked
+  the_reader : Text → Asked
+
+abbrev pub name_of : Input → Text
+name_of (named p) = p
+name_of (at p own) = p
+
+abbrev pub asked_of : Input → Asked
+asked_of (named p) = the_resolver
+asked_of (at p own) = the_reader own
+
+-- what happens: a file on its own import chain is met again; a chain from an input is too long; a file is
+-- read and parsed; an input's own file, read after so many reads, is held against what was loaded for its
+-- path; a file whose imports are done is elaborated
+pub data Event : Type 0 where
+  cycle : Text → Event
+  long : Text → Event
+  load : Asked → Text → Event
+  check : ℕ → Text → Text → Event
+  elab : Text → Event
+
+-- equal events; a file is loaded once, whoever is asked for it
+abbrev pub same : Event → Event → Bool
+same (cycle p) (cycle q) = bytes_eq p q
+same (long p) (long q) = bytes_eq p q
+same (load a p) (load b q) = bytes_eq p q
+same (check n f p) (check m g q) = nat_eq n m
+same (elab p) (elab q) = bytes_eq p q
+same _ _ = false
+
+abbrev pub has : Event → List Event → Bool
+has event events = list_any (λ x. same event x) events
+
+-- each of these that is not there yet is added
+abbrev pub keep : List Event → List Event → List Event
+keep kept [] = kept
+keep kept (event ∷ events) = keep (if has event kept then kept else kept ++ event ∷ []) events
+
+abbrev pub among : Text → List Text → Bool
+among path paths = list_any (λ x. bytes_eq path x) paths
+
+-- the tree of each path that names a file with a tree
+abbrev pub Trees : Type 0
+Trees = Text → Option FileSyntax
+
+-- the paths that a file imports, in order
+abbrev pub import_paths : FileSyntax → List Text
+import_paths t = map (λ (i : ImportSyntax). i.path) (imports_of t)
+
+abbrev pub joined : (Text → List Event) → List Text → List Event
+joined walk_of [] = []
+joined walk_of (path ∷ paths) = walk_of path ++ joined walk_of paths
+
+-- after a file with a tree is loaded: the walks of its imports in order, and then its elaboration
+abbrev pub inside : Option FileSyntax → (Text → List Event) → Text → List Event
+inside None walk_of path = []
+inside (Some t) walk_of path = joined walk_of (import_paths t) ++ elab path ∷ []
+
+-- the walk of a path, met at the end of a chain of imports that has room for this many more files
+unfoldable pub walk : Trees → Text → Asked → ℕ → List Text → Text → List Event
+walk trees input asked zero chain path = if among path chain then cycle path ∷ [] else long input ∷ []
+walk trees input asked (suc room) chain path =
+    if among path chain then cycle path ∷ []
+    else load asked path ∷ inside (trees path) (walk trees input the_resolver room (chain ++ path ∷ [])) path
+
+pub record Read : Type 0 where
+  pub asked : Asked
+  pub path : Text
+
+-- the reads of events
+abbrev pub reads_in : List Event → List Read
+reads_in [] = []
+reads_in (load a p ∷ events) = record { asked = a; path = p } ∷ reads_in events
+reads_in (check n f p ∷ events) = record { asked = the_reader f; path = p } ∷ reads_in events
+reads_in (_ ∷ events) = reads_in events
+
+-- the files that are elaborated, in order
+abbrev pub elab_paths : List Event → List Text
+elab_paths [] = []
+elab_paths (elab path ∷ events) = path ∷ elab_paths events
+elab_paths (_ ∷ events) = elab_paths events
+
+abbrev pub statements_of : Option FileSyntax → ℕ
+statements_of None = 0
+statements_of (Some t) = length (import_paths t)
+
+-- how many import statements the files have that are loaded
+abbrev pub statements : Trees → List Event → ℕ
+statements trees [] = 0
+statements trees (load a p ∷ events) = statements_of (trees p) + statements trees events
+statements trees (_ ∷ events) = statements trees events
+
+-- an input at a path of its own is checked first, if an earlier input's events load its name
+abbrev pub checks : List Event → Input → List Event
+checks kept (named p) = []
+checks kept (at p own) = if has (load the_resolver p) kept then check (length (reads_in kept)) own p ∷ [] else []
+
+abbrev pub input_walk : Trees → Input → List Event
+input_walk trees i = walk trees (name_of i) (asked_of i) 100 [] (name_of i)
+
+-- what is kept after the walks of these inputs in turn, each from the empty chain
+unfoldable pub events_after : Trees → List Event → List Input → List Event
+events_after trees kept [] = kept
+events_after trees kept (i ∷ inputs) = events_after trees (keep (kept ++ checks kept i) (input_walk trees i)) inputs
+
+-- the events of a run
+abbrev pub events : Trees → List Input → List Event
+events trees inputs = events_after trees [] inputs
+
+-- up to and with the first that passes the test
+abbrev pub until : (Event → Bool) → List Event → List Event
+until test [] = []
+until test (event ∷ events) = event ∷ (if test event then [] else until test events)

@@ -1,0 +1,470 @@
+//! Loading: each file once, its imports first.
+
+ghost use Rattle.std.specs.Prelude.{◌≡◌, true, false, ◌≤◌, ◌+◌, ◌-◌, ◌*◌, ◌^◌, ◌++◌, ◌∷◌, [], ℕ, List, map, length, Result, Option, Some, option_map, IfOk, IfErr, OnOk, OnErr, String, slice_get, string_bytes};
+ghost use Rattle.std.specs.Borrow.{Bor};
+ghost use Rattle.std.specs.Global.{Global};
+ghost use Rattle.protobuf_parse_base.specs.declared.proto_path.path.ProtoPathBuf.{ProtoPathBuf};
+ghost use Rattle.protobuf_parse_base.specs.PathViews.{path_buf_text};
+ghost use Rattle.protobuf_parse_syntax.specs.Trees.{file_view};
+ghost use Rattle.protobuf_parse_model.specs.Descriptors as described;
+ghost use Rattle.protobuf_parse_model.specs.Elaboration.{file_faults, file_of};
+ghost use Rattle.protobuf_parse_model.specs.Faults.{Elaborates, fault_view};
+ghost use Rattle.protobuf_parse.specs.declared.run.fault.RunFault.TheVariants.{Memory};
+ghost use Rattle.protobuf_parse.specs.declared.run.log.ReadEntry.{ReadEntry};
+ghost use Rattle.protobuf_parse.specs.Walks.{Event, among, at, checks, events, import_paths, input_walk, keep, statements, walk};
+ghost use Rattle.protobuf_parse.specs.Run.{Files, MayAnswer, are_same_bytes, input_view, StandsInCheck, StandsInCycle, StandsInLong, origin_given, rows, text_given};
+ghost use Rattle.protobuf_parse.specs.Loading.{Goes, GoesOn, Good, Grows, IsElabFault, IsPlaced, IsReaders, IsShadowed, Leaves, OrMemory, ReadsTree, Settles, asked_by, file_shape, texts};
+
+use crate::run::asking::{answer, content, opened, origin, unreadable};
+use crate::run::fault::RunFault;
+use crate::run::log::{ReadEntry, ReadOutcome, RunInput};
+use crate::run::reach::reach_of;
+use crate::run::source::{InputReader, ProtoPathResolver, Sources};
+use indexmap::IndexMap;
+use protobuf_parse_base::proto_path::ProtoPathBuf;
+use protobuf_parse_model::{ElabError, ElabFailure, FileDescriptorProto, elaborate};
+use protobuf_parse_syntax::{FileStatement, FileTree};
+use std::alloc::{AllocError, Global};
+
+/// How many files an import chain may have.
+pub const LIMIT: usize = 100;
+
+/// A file whose imports are loaded, and which became a descriptor.
+#[derive(Debug, Drop)]
+pub struct LoadedFile {
+    pub tree: FileTree,
+    /// How many files the longest import chain from it has, itself counted.
+    pub height: usize,
+    /// The numbers of the files that it reaches, its own among them, ascending.
+    pub reach: Vec<usize>,
+    /// Which read gave it.
+    pub read: usize,
+    pub descriptor: FileDescriptorProto,
+}
+
+/// The number and the height of a loaded file.
+#[derive(Clone, Copy, Debug)]
+pub struct Placed {
+    pub number: usize,
+    pub height: usize,
+}
+
+/// The loaded files by their proto paths, in the order in which they were loaded.
+pub type LoadedFiles = IndexMap<String, LoadedFile>;
+
+/// What a run has so far.
+#[derive(Drop)]
+pub struct Loader {
+    pub loaded: LoadedFiles,
+    pub reads: Vec<ReadEntry>,
+    /// The files whose imports are being loaded, each imported by the one before it.
+    pub chain: Vec<String>,
+    pub meets: u128,
+}
+
+/// Loads each input in turn.
+pub fn load_inputs<R: ProtoPathResolver, I: InputReader>(
+    alloc: Global,
+    loader: &mut Loader,
+    sources: &Sources<'_, R, I>,
+    inputs: &[RunInput],
+) -> Result<(), RunFault>
+    requires loaded { loader.old.loaded.entries ≡ [] }
+    requires reads { loader.old.reads.items ≡ [] }
+    requires chain { loader.old.chain.items ≡ [] }
+    requires meets { loader.old.meets ≡ 0 }
+    ensures goes { (files : Files)
+        → let legal = MayAnswer (λ p a. R.may_answer sources.now.resolver.now p a) (λ p a. I.may_read sources.now.reader.now p a) in
+        GoesOn files (rows sources.now.bundled.now) loader.new.reads.items
+        → Goes legal files (events files.trees (map input_view inputs.now)) loader.new.loaded.entries loader.new.reads.items result }
+    ensures count { (files : Files) → GoesOn files (rows sources.now.bundled.now) loader.new.reads.items
+        → OnOk result (loader.new.meets ≡ length inputs.now + statements files.trees (events files.trees (map input_view inputs.now))) }
+{
+    for input in inputs {
+        load_input(alloc, loader, sources, input)?;
+    }
+    Ok(())
+}
+
+/// Loads an input and the files that it reaches.
+fn load_input<R: ProtoPathResolver, I: InputReader>(
+    alloc: Global,
+    loader: &mut Loader,
+    sources: &Sources<'_, R, I>,
+    input: &RunInput,
+) -> Result<(), RunFault>
+    requires chain { loader.old.chain.items ≡ [] }
+    requires room { loader.old.meets + 1 ≤ 2 ^ 65 + length loader.old.reads.items * 2 ^ 64 }
+    ensures grows { Grows loader.old.reads.items loader.new.reads.items }
+    ensures chain { OnOk result (loader.new.chain.items ≡ []) }
+    ensures bound { OnOk result (loader.new.meets + length loader.old.reads.items * 2 ^ 64
+        ≤ loader.old.meets + 1 + length loader.new.reads.items * 2 ^ 64) }
+    ensures goes { (files : Files) (kept : List Event)
+        → let legal = MayAnswer (λ p a. R.may_answer sources.now.resolver.now p a) (λ p a. I.may_read sources.now.reader.now p a) in
+        GoesOn files (rows sources.now.bundled.now) loader.new.reads.items
+        → Good legal files kept loader.old.loaded.entries loader.old.reads.items []
+        → Goes legal files (keep (kept ++ checks kept (input_view input.now)) (input_walk files.trees (input_view input.now))) loader.new.loaded.entries loader.new.reads.items result }
+    ensures count { (files : Files) (kept : List Event)
+        → let legal = MayAnswer (λ p a. R.may_answer sources.now.resolver.now p a) (λ p a. I.may_read sources.now.reader.now p a) in
+        GoesOn files (rows sources.now.bundled.now) loader.new.reads.items
+        → Good legal files kept loader.old.loaded.entries loader.old.reads.items []
+        → OnOk result (loader.new.meets + statements files.trees kept
+        ≡ loader.old.meets + 1 + statements files.trees (keep (kept ++ checks kept (input_view input.now)) (input_walk files.trees (input_view input.now)))) }
+{
+    match input {
+        RunInput::Named(name) => {
+            load_file(alloc, loader, sources, name, name, None)?;
+            Ok(())
+        }
+        RunInput::At { name, fs_path } => {
+            check_loaded(alloc, loader, sources, name, fs_path)?;
+            load_file(alloc, loader, sources, name, name, Some(fs_path.as_str()))?;
+            Ok(())
+        }
+    }
+}
+
+/// Where the file of an input that lies at a path of its own is loaded already, reads it there too: other
+/// content is L6.
+fn check_loaded<R: ProtoPathResolver, I: InputReader>(
+    alloc: Global,
+    loader: &mut Loader,
+    sources: &Sources<'_, R, I>,
+    name: &ProtoPathBuf,
+    fs_path: &str,
+) -> Result<(), RunFault>
+    ensures chain { loader.new.chain ≡ loader.old.chain }
+    ensures loaded { loader.new.loaded ≡ loader.old.loaded }
+    ensures meets { loader.new.meets ≡ loader.old.meets }
+    ensures grows { Grows loader.old.reads.items loader.new.reads.items }
+    ensures more { length loader.old.reads.items ≤ length loader.new.reads.items }
+    ensures goes { (files : Files) (kept : List Event)
+        → let legal = MayAnswer (λ p a. R.may_answer sources.now.resolver.now p a) (λ p a. I.may_read sources.now.reader.now p a) in
+        GoesOn files (rows sources.now.bundled.now) loader.new.reads.items
+        → Good legal files kept loader.old.loaded.entries loader.old.reads.items []
+        → Goes legal files (kept ++ checks kept (at (path_buf_text name.now) fs_path.now)) loader.new.loaded.entries loader.new.reads.items result }
+{
+    let read = match loader.loaded.get(name.as_path().to_str()) {
+        Some(file) => file.read,
+        None => return Ok(()),
+    };
+    let outcome = answer(alloc, sources, name, Some(fs_path))?;
+    let loaded = content_of(&loader.reads, read, sources.bundled);
+    if let Err(fault) = compared(alloc, name, fs_path, &outcome, loaded) {
+        if is_memory(&fault) {
+            return Err(fault);
+        }
+        note(alloc, loader, name, outcome)?;
+        return Err(fault);
+    }
+    note(alloc, loader, name, outcome)?;
+    Ok(())
+}
+
+/// The content that the read with this number gave.
+fn content_of<'a>(
+    reads: &'a [ReadEntry],
+    read: usize,
+    bundled: &[(&'a str, &'a str)],
+) -> Option<&'a [u8]>
+    ensures { (e : ReadEntry) → slice_get reads.now read ≡ Some e → option_map (λ (b : Bor (List ℕ)). b.now) result ≡ text_given (rows bundled.now) (path_buf_text e.path) (Some e.outcome) }
+{
+    match reads.get(read) {
+        Some(entry) => content(entry, bundled),
+        None => None,
+    }
+}
+
+/// L4 where the reader gave a fault, and L6 where it gave other bytes than were loaded.
+fn compared(
+    alloc: Global,
+    name: &ProtoPathBuf,
+    fs_path: &str,
+    outcome: &ReadOutcome,
+    loaded: Option<&[u8]>,
+) -> Result<(), RunFault>
+    requires { IsReaders outcome.now }
+    ensures same { OnOk result (are_same_bytes (text_given [] [] (Some outcome.now)) (option_map (λ (b : Bor (List ℕ)). b.now) loaded.entry) ≡ true) }
+    ensures other { IfErr result (λ f. OrMemory f (are_same_bytes (text_given [] [] (Some outcome.now)) (option_map (λ (b : Bor (List ℕ)). b.now) loaded.entry) ≡ false)) }
+    ensures stands { IfErr result (λ f. OrMemory f (StandsInCheck fs_path.now (path_buf_text name.now) (Some outcome.now) f)) }
+{
+    match outcome {
+        ReadOutcome::ReaderFault(fault) => Err(unreadable(alloc, fs_path, *fault)),
+        ReadOutcome::Content { content, .. } => match loaded {
+            Some(bytes) if content.as_slice() == bytes => Ok(()),
+            _ => Err(shadowed(alloc, name, fs_path)),
+        },
+        _ => Err(RunFault::Memory),
+    }
+}
+
+/// L6.
+fn shadowed(alloc: Global, name: &ProtoPathBuf, fs_path: &str) -> RunFault
+    ensures { OrMemory result (IsShadowed fs_path.now (path_buf_text name.now) result) }
+{
+    let Ok(input) = String::from_str(alloc, fs_path) else {
+        return RunFault::Memory;
+    };
+    match String::from_str(alloc, name.as_path().to_str()) {
+        Ok(path) => RunFault::Shadowed(input, path),
+        Err(_) => RunFault::Memory,
+    }
+}
+
+/// Notes a read.
+fn note(
+    alloc: Global,
+    loader: &mut Loader,
+    path: &ProtoPathBuf,
+    outcome: ReadOutcome,
+) -> Result<(), AllocError>
+    ensures loaded { loader.new.loaded ≡ loader.old.loaded }
+    ensures chain { loader.new.chain ≡ loader.old.chain }
+    ensures meets { loader.new.meets ≡ loader.old.meets }
+    ensures ok { OnOk result ((e : ReadEntry) × (loader.new.reads.items ≡ loader.old.reads.items ++ e ∷ []) × (path_buf_text e.path ≡ path_buf_text path.now) × (e.outcome ≡ outcome)) }
+    ensures err { OnErr result (loader.new.reads.items ≡ loader.old.reads.items) }
+{
+    let path = path.as_path().to_proto_path_buf(alloc)?;
+    loader.reads.push(ReadEntry { path, outcome })?;
+    Ok(())
+}
+
+/// Loads a file where it is met, its imports first: as `input`, or as an import of the last file of the
+/// chain. `fs_path` is where the input itself lies, if it isn't found by the resolver.
+fn load_file<R: ProtoPathResolver, I: InputReader>(
+    alloc: Global,
+    loader: &mut Loader,
+    sources: &Sources<'_, R, I>,
+    input: &ProtoPathBuf,
+    path: &ProtoPathBuf,
+    fs_path: Option<&str>,
+) -> Result<Placed, RunFault>
+    requires chain { length loader.old.chain.items ≤ LIMIT }
+    requires room { loader.old.meets + 1 ≤ 2 ^ 65 + length loader.old.reads.items * 2 ^ 64 }
+    ensures grows { Grows loader.old.reads.items loader.new.reads.items }
+    ensures chain { OnOk result (loader.new.chain.items ≡ loader.old.chain.items) }
+    ensures bound { OnOk result (loader.new.meets + length loader.old.reads.items * 2 ^ 64
+        ≤ loader.old.meets + 1 + length loader.new.reads.items * 2 ^ 64) }
+    ensures low { IfOk result (λ placed. length loader.old.chain.items + placed.height ≤ LIMIT) }
+    ensures leaves { (files : Files) (kept : List Event)
+        → let legal = MayAnswer (λ p a. R.may_answer sources.now.resolver.now p a) (λ p a. I.may_read sources.now.reader.now p a) in
+        let chain = texts loader.old.chain.items in
+        let p = path_buf_text path.now in
+        GoesOn files (rows sources.now.bundled.now) loader.new.reads.items
+        → Good legal files kept loader.old.loaded.entries loader.old.reads.items chain
+        → Leaves legal files
+        (keep kept (walk files.trees (path_buf_text input.now) (asked_by fs_path.entry) (LIMIT - length chain) chain p))
+        (file_shape files.trees p) loader.new.loaded.entries loader.new.reads.items chain result }
+    ensures count { (files : Files) (kept : List Event)
+        → let legal = MayAnswer (λ p a. R.may_answer sources.now.resolver.now p a) (λ p a. I.may_read sources.now.reader.now p a) in
+        let chain = texts loader.old.chain.items in
+        GoesOn files (rows sources.now.bundled.now) loader.new.reads.items
+        → Good legal files kept loader.old.loaded.entries loader.old.reads.items chain
+        → OnOk result (loader.new.meets + statements files.trees kept
+        ≡ loader.old.meets + 1 + statements files.trees (keep kept (walk files.trees (path_buf_text input.now) (asked_by fs_path.entry) (LIMIT - length chain) chain (path_buf_text path.now)))) }
+{
+    let _known = loader.reads.as_slice();
+    loader.meets += 1;
+    let text = path.as_path().to_str();
+    if is_on_chain(&loader.chain, text) {
+        return Err(cycle(alloc, text));
+    }
+    if let Some(placed) = place_of(&loader.loaded, text) {
+        if placed.height > LIMIT - loader.chain.len() {
+            return Err(too_long(alloc, input));
+        }
+        return Ok(placed);
+    }
+    if loader.chain.len() == LIMIT {
+        return Err(too_long(alloc, input));
+    }
+    let read = loader.reads.len();
+    let tree = read_tree(alloc, loader, sources, path, fs_path)?;
+    enter(alloc, &mut loader.chain, text)?;
+    let imports = imports_of(alloc, &tree)?;
+    let mut height = 0;
+    let mut below = Vec::new(alloc);
+    for import in &imports {
+        let placed = load_file(alloc, loader, sources, input, *import, None)?;
+        if placed.height > height {
+            height = placed.height;
+        }
+        below.push(placed.number)?;
+    }
+    drop(imports);
+    let _ = loader.chain.pop();
+    settle(alloc, loader, text, tree, height + 1, &below, read)
+}
+
+/// L7.
+fn cycle(alloc: Global, path: &str) -> RunFault
+    ensures { OrMemory result (StandsInCycle path.now result) }
+{
+    match String::from_str(alloc, path) {
+        Ok(path) => RunFault::ImportCycle(path),
+        Err(_) => RunFault::Memory,
+    }
+}
+
+/// L8 from the input.
+fn too_long(alloc: Global, input: &ProtoPathBuf) -> RunFault
+    ensures { OrMemory result (StandsInLong (path_buf_text input.now) result) }
+{
+    match String::from_str(alloc, input.as_path().to_str()) {
+        Ok(input) => RunFault::ImportChainTooLong(input),
+        Err(_) => RunFault::Memory,
+    }
+}
+
+fn is_on_chain(chain: &[String], path: &str) -> bool
+    ensures { result ≡ among path.now (texts chain.now) }
+{
+    for above in chain {
+        if path == above.as_str() {
+            return true;
+        }
+    }
+    false
+}
+
+fn place_of(loaded: &LoadedFiles, path: &str) -> Option<Placed>
+    ensures { IsPlaced path.now loaded.now.entries result }
+{
+    match loaded.get_full(path) {
+        Some((number, _, file)) => Some(Placed {
+            number,
+            height: file.height,
+        }),
+        None => None,
+    }
+}
+
+/// Adds a file to the end of the chain.
+fn enter(alloc: Global, chain: &mut Vec<String>, path: &str) -> Result<(), AllocError>
+    ensures { OnOk result ((s : String Global) × (chain.new.items ≡ chain.old.items ++ s ∷ []) × (string_bytes s ≡ path.now)) }
+{
+    chain.push(String::from_str(alloc, path)?)?;
+    Ok(())
+}
+
+/// The paths of the `import` statements of a file, in source order.
+fn imports_of(alloc: Global, tree: &FileTree) -> Result<Vec<&ProtoPathBuf>, AllocError>
+    ensures { IfOk result (λ v. map (λ (p : Bor ProtoPathBuf). path_buf_text p.now) v.items ≡ import_paths (file_view tree.now)) }
+{
+    let mut paths = Vec::new(alloc);
+    for statement in &tree.statements {
+        if let FileStatement::Import(import) = statement {
+            paths.push(&import.path)?;
+        }
+    }
+    Ok(paths)
+}
+
+/// Reads a file that isn't loaded, and notes the read.
+fn read_tree<R: ProtoPathResolver, I: InputReader>(
+    alloc: Global,
+    loader: &mut Loader,
+    sources: &Sources<'_, R, I>,
+    path: &ProtoPathBuf,
+    fs_path: Option<&str>,
+) -> Result<FileTree, RunFault>
+    ensures loaded { loader.new.loaded ≡ loader.old.loaded }
+    ensures chain { loader.new.chain ≡ loader.old.chain }
+    ensures meets { loader.new.meets ≡ loader.old.meets }
+    ensures read { ReadsTree (MayAnswer (λ p a. R.may_answer sources.now.resolver.now p a) (λ p a. I.may_read sources.now.reader.now p a)) (rows sources.now.bundled.now) (asked_by fs_path.entry) (path_buf_text path.now) loader.old.reads.items loader.new.reads.items result }
+{
+    let outcome = answer(alloc, sources, path, fs_path)?;
+    match opened(alloc, sources, path.as_path().to_str(), fs_path, &outcome) {
+        Ok(tree) => {
+            note(alloc, loader, path, outcome)?;
+            Ok(tree)
+        }
+        Err(fault) => {
+            if is_memory(&fault) {
+                return Err(fault);
+            }
+            note(alloc, loader, path, outcome)?;
+            Err(fault)
+        }
+    }
+}
+
+fn is_memory(fault: &RunFault) -> bool
+    ensures memory { result ≡ true → fault.now ≡ Memory }
+    ensures other { result ≡ false → fault.now ≡ Memory → ⊥ }
+{
+    match fault {
+        RunFault::Memory => true,
+        _ => false,
+    }
+}
+
+/// Elaborates a file whose imports are loaded, and adds it to the loaded ones.
+fn settle(
+    alloc: Global,
+    loader: &mut Loader,
+    path: &str,
+    tree: FileTree,
+    height: usize,
+    imports: &[usize],
+    read: usize,
+) -> Result<Placed, RunFault>
+    ensures reads { loader.new.reads ≡ loader.old.reads }
+    ensures chain { loader.new.chain ≡ loader.old.chain }
+    ensures meets { loader.new.meets ≡ loader.old.meets }
+    ensures height { IfOk result (λ placed. placed.height ≡ height) }
+    ensures settles { Settles path.now (file_view tree) height read loader.old.reads.items loader.old.loaded.entries loader.new.loaded.entries result }
+{
+    let number = loader.loaded.len();
+    let reach = reach_of(alloc, &loader.loaded, imports)?;
+    let descriptor = match elaborated(alloc, &loader.loaded, &reach, path, &tree) {
+        Ok(descriptor) => descriptor,
+        Err(ElabFailure::Memory) => return Err(RunFault::Memory),
+        Err(ElabFailure::Fault(error)) => {
+            return Err(refused(alloc, &loader.reads, read, path, error));
+        }
+    };
+    let key = String::from_str(alloc, path)?;
+    let file = LoadedFile {
+        tree,
+        height,
+        reach,
+        read,
+        descriptor,
+    };
+    loader.loaded.insert(key, file)?;
+    Ok(Placed { number, height })
+}
+
+/// L10 of the file that this read gave.
+fn refused(
+    alloc: Global,
+    reads: &[ReadEntry],
+    read: usize,
+    path: &str,
+    error: ElabError,
+) -> RunFault
+    ensures { (e : ReadEntry) → slice_get reads.now read ≡ Some e → path_buf_text e.path ≡ path.now → OrMemory result (IsElabFault (origin_given path.now (Some e.outcome)) (fault_view error) result) }
+{
+    let file = match reads.get(read) {
+        Some(entry) => origin(entry),
+        None => path,
+    };
+    match String::from_str(alloc, file) {
+        Ok(file) => RunFault::Elaborate(file, error),
+        Err(_) => RunFault::Memory,
+    }
+}
+
+/// What a file becomes over the loaded files with these numbers.
+fn elaborated(
+    alloc: Global,
+    _loaded: &LoadedFiles,
+    _reach: &[usize],
+    path: &str,
+    tree: &FileTree,
+) -> Result<FileDescriptorProto, ElabFailure>
+    ensures { Elaborates described.file_view result (file_faults (file_view tree.now)) (file_of path.now (file_view tree.now)) }
+{
+    elaborate(alloc, path, tree)
+}
