@@ -1,8 +1,8 @@
 -- What the code looks for and makes, where every construct is supported, is what the language says of any file.
 use Rattle.std.proofs.Common.{Result, Ok, Err, ◌⊎◌, inl, inr, ◌≡◌, ℕ, ◌+◌, false, List, [], ◌∷◌, ◌++◌, flat_map, length, Option, Some, refl, sym, ap, ◌∙◌}
 use Rattle.std.proofs.lemmas.List.{append-nil, map-append}
-use Rattle.protobuf_parse_syntax.specs.Dependencies.{imported}
-use Rattle.protobuf_parse_syntax.specs.Trees.{OptionSyntax, TypeSyntax, scalar, map_of, named, FieldSyntax, field, group, MessageStatementSyntax, message_field, MessageSyntax, StatementSyntax, file_package, file_message, FileSyntax}
+use Rattle.protobuf_parse_syntax.specs.Dependencies.{imports}
+use Rattle.protobuf_parse_syntax.specs.Trees.{OptionSyntax, TypeSyntax, scalar, map_of, named, FieldSyntax, field, group, MessageStatementSyntax, message_field, MessageSyntax, StatementSyntax, file_import, file_package, file_message, FileSyntax}
 use Rattle.protobuf_parse_syntax.specs.declared.tree.Syntax.{Syntax}
 use Rattle.protobuf_parse_syntax.specs.declared.tree.Syntax.TheVariants.{Proto3}
 use Rattle.protobuf_parse_syntax.specs.declared.tree.field.Label.{Label}
@@ -18,7 +18,7 @@ use Rattle.protobuf_parse_model.specs.BuiltinOptions.{file_table, options_faults
 use Rattle.protobuf_parse_model.specs.Fields.{says_optional, names_of_fields}
 use Rattle.protobuf_parse_model.specs.Messages as messages
 use Rattle.protobuf_parse_model.specs.FileDescriptor as files
-use Rattle.protobuf_parse_model.specs.Unsupported.{unsupported_type, unsupported_label, unsupported_options, unsupported_in_body, unsupported_statement, unsupported_in}
+use Rattle.protobuf_parse_model.specs.Unsupported.{unsupported_type, unsupported_label, unsupported_options, unsupported_in_body, unsupported_statement, imports_beyond_positions, unsupported_in}
 use Rattle.protobuf_parse_model.specs.Elaboration as first
 use Rattle.protobuf_parse_model.proofs.Blaming.{among_left, among_right}
 use Rattle.protobuf_parse_model.proofs.Repeats.{IsSublist, is_empty, keep, skip, sublist_behind, duplicated_in_more}
@@ -161,7 +161,6 @@ first_message_faults env m h =
 record IsFirstStatement (env : Environment) (s : StatementSyntax) : Type 0 where
   messages_are : files.messages_of env s ≡ first.messages_of s
   named : messages.names_of_messages (first.messages_of s) ≡ first.message_names s
-  no_import : imported s ≡ []
   no_enum : files.enums_in s ≡ []
   no_service : files.services_in s ≡ []
   no_extension : files.extensions_of env s ≡ []
@@ -172,7 +171,6 @@ first_file_statement : (env : Environment) (s : StatementSyntax) → unsupported
 first_file_statement env (file_message m) h = record {
   messages_are = ap (λ d. d ∷ []) (first_message env m h);
   named = refl;
-  no_import = refl;
   no_enum = refl;
   no_service = refl;
   no_extension = refl;
@@ -182,7 +180,15 @@ first_file_statement env (file_message m) h = record {
 first_file_statement env (file_package p) h = record {
   messages_are = refl;
   named = refl;
-  no_import = refl;
+  no_enum = refl;
+  no_service = refl;
+  no_extension = refl;
+  no_option = refl;
+  faults_are = refl;
+}
+first_file_statement env (file_import i) h = record {
+  messages_are = refl;
+  named = refl;
   no_enum = refl;
   no_service = refl;
   no_extension = refl;
@@ -202,7 +208,6 @@ first_messages_named env (s ∷ ss) h =
 record AreFirst (env : Environment) (ss : List StatementSyntax) : Type 0 where
   messages_are : flat_map (files.messages_of env) ss ≡ flat_map first.messages_of ss
   named : messages.names_of_messages (flat_map first.messages_of ss) ≡ flat_map first.message_names ss
-  no_import : flat_map imported ss ≡ []
   no_enum : flat_map files.enums_in ss ≡ []
   no_service : flat_map files.services_in ss ≡ []
   no_extension : flat_map (files.extensions_of env) ss ≡ []
@@ -215,7 +220,6 @@ first_statements env ss h =
     record {
       messages_are = same_without none (files.messages_of env) first.messages_of (λ s e. (first_file_statement env s e).messages_are) ss h;
       named = first_messages_named env ss h;
-      no_import = nil_without none imported (λ s e. (first_file_statement env s e).no_import) ss h;
       no_enum = nil_without none files.enums_in (λ s e. (first_file_statement env s e).no_enum) ss h;
       no_service = nil_without none files.services_in (λ s e. (first_file_statement env s e).no_service) ss h;
       no_extension = nil_without none (files.extensions_of env) (λ s e. (first_file_statement env s e).no_extension) ss h;
@@ -223,17 +227,24 @@ first_statements env ss h =
       faults_are = same_without none (files.statement_faults env) (first.statement_faults env.syntax) (λ s e. (first_file_statement env s e).faults_are) ss h;
     }
 
+-- what is supported of a file
+few_imports : (t : FileSyntax) → unsupported_in t ≡ [] → imports_beyond_positions (length (imports t.statements)) ≡ []
+few_imports t h = nil_left (imports_beyond_positions (length (imports t.statements))) (flat_map (unsupported_statement t.syntax) t.statements) h
+
+supported_statements : (t : FileSyntax) → unsupported_in t ≡ [] → flat_map (unsupported_statement t.syntax) t.statements ≡ []
+supported_statements t h = nil_right (imports_beyond_positions (length (imports t.statements))) (flat_map (unsupported_statement t.syntax) t.statements) h
+
 -- where every construct is supported, the descriptors are one
 pub first_file : (seen : List FileSyntax) (custom : CustomBytes) (path : Text) (t : FileSyntax) → unsupported_in t ≡ [] → files.file_of (files.environment seen custom t) path t ≡ first.file_of path t
 first_file seen custom path t h =
-    let is = first_statements (files.environment seen custom t) t.statements h in
-    rw (is.messages_are, is.no_import, is.no_enum, is.no_service, is.no_extension, is.no_option) refl
+    let is = first_statements (files.environment seen custom t) t.statements (supported_statements t h) in
+    rw (is.messages_are, is.no_enum, is.no_service, is.no_extension, is.no_option) refl
 
 -- and so are the faults
 first_file_faults : (seen : List FileSyntax) (custom : CustomBytes) (t : FileSyntax) → unsupported_in t ≡ [] → files.file_faults (files.environment seen custom t) t ≡ first.file_faults t
 first_file_faults seen custom t h =
-    let is = first_statements (files.environment seen custom t) t.statements h in
-    rw (is.messages_are, is.named, is.no_enum, is.no_service, is.no_extension, is.no_option, is.faults_are) (simp append-nil)
+    let is = first_statements (files.environment seen custom t) t.statements (supported_statements t h) in
+    rw (few_imports t h, is.messages_are, is.named, is.no_enum, is.no_service, is.no_extension, is.no_option, is.faults_are) (simp append-nil)
 
 -- where the code finds no fault, every construct is supported
 first_supported : (syntax : Syntax) (ss : List StatementSyntax) → flat_map (first.statement_faults syntax) ss ≡ [] → flat_map (unsupported_statement syntax) ss ≡ []
@@ -244,7 +255,12 @@ first_supported syntax ss h = nil_without (first.statement_faults syntax) (unsup
     statement_supported syntax _ h = h
 
 pub supported : (t : FileSyntax) → first.file_faults t ≡ [] → unsupported_in t ≡ []
-supported t h = first_supported t.syntax t.statements (nil_right (duplicates (flat_map first.message_names t.statements)) (flat_map (first.statement_faults t.syntax) t.statements) h)
+supported t h =
+    let twice = duplicates (flat_map first.message_names t.statements) in
+    let many = imports_beyond_positions (length (imports t.statements)) in
+    let faults = flat_map (first.statement_faults t.syntax) t.statements in
+    let few : many ≡ [] = nil_right twice many (nil_left (twice ++ many) faults h) in
+    rw (few, first_supported t.syntax t.statements (nil_right (twice ++ many) faults h)) refl
 
 pub faultless : (seen : List FileSyntax) (custom : CustomBytes) (t : FileSyntax) → first.file_faults t ≡ [] → unsupported_in t ++ files.file_faults (files.environment seen custom t) t ≡ []
 faultless seen custom t h = rw (supported t h, first_file_faults seen custom t (supported t h)) h
@@ -290,9 +306,14 @@ statements_stand env (s ∷ ss) h =
 file_stands : (seen : List FileSyntax) (custom : CustomBytes) (t : FileSyntax) {f : Fault} → Among (first.file_faults t) f → Among (unsupported_in t ++ files.file_faults (files.environment seen custom t) t) f
 file_stands seen custom t h =
     let env = files.environment seen custom t in
-    elim (among_either (duplicates (flat_map first.message_names t.statements)) (flat_map (first.statement_faults t.syntax) t.statements) h) [
-      | inl twice ↦ among_right (unsupported_in t) (among_left _ (among_left _ (among_left _ (among_left _ (among_left _ (duplicated_in_more (messages_among env t.statements) twice))))))
-      | inr at ↦ elim (statements_stand env t.statements at) [ inl refused ↦ among_left _ refused | inr fault ↦ among_right (unsupported_in t) (among_right (files.file_duplicates env t ++ options_faults file_table (flat_map files.options_in_file t.statements)) fault) ]
+    let twice = duplicates (flat_map first.message_names t.statements) in
+    let many = imports_beyond_positions (length (imports t.statements)) in
+    elim (among_either (twice ++ many) (flat_map (first.statement_faults t.syntax) t.statements) h) [
+      | inl before ↦ elim (among_either twice many before) [
+        | inl again ↦ among_right (unsupported_in t) (among_left _ (among_left _ (among_left _ (among_left _ (among_left _ (duplicated_in_more (messages_among env t.statements) again))))))
+        | inr beyond ↦ among_left _ (among_left _ beyond)
+      ]
+      | inr at ↦ elim (statements_stand env t.statements at) [ inl refused ↦ among_left _ (among_right many refused) | inr fault ↦ among_right (unsupported_in t) (among_right (files.file_duplicates env t ++ options_faults file_table (flat_map files.options_in_file t.statements)) fault) ]
     ]
 
 blames_first : (seen : List FileSyntax) (custom : CustomBytes) (t : FileSyntax) (e : ElabFailure) → Blames e (first.file_faults t) → Blames e (unsupported_in t ++ files.file_faults (files.environment seen custom t) t)

@@ -1,7 +1,8 @@
 -- What a file becomes where every construct of it is supported, and the faults that the code looks for. FileDescriptor
 -- says the same of any file; proofs/FirstPath.antt leads from here to there.
-use Rattle.std.specs.Prelude.{false, List, [], ◌∷◌, ◌++◌, map, flat_map, Some, None, unwrap_or}
+use Rattle.std.specs.Prelude.{false, List, [], ◌∷◌, ◌++◌, length, map, flat_map, Some, None, unwrap_or}
 use Rattle.protobuf_parse_base.specs.Cases.{json_name_text}
+use Rattle.protobuf_parse_syntax.specs.Dependencies.{imports, imports_of}
 use Rattle.protobuf_parse_syntax.specs.Trees.{TypeSyntax, scalar, FieldSyntax, FieldStatementSyntax, field, group, MessageStatementSyntax, message_field, MessageSyntax, StatementSyntax, file_message, FileSyntax, package_of}
 use Rattle.protobuf_parse_syntax.specs.declared.tree.Syntax.{Syntax}
 use Rattle.protobuf_parse_syntax.specs.declared.tree.field.Label.TheVariants.{Optional}
@@ -9,7 +10,7 @@ use Rattle.protobuf_parse_syntax.specs.declared.tree.field.Scalar.{Scalar}
 use Rattle.protobuf_parse_model.specs.Descriptors.{Text, FieldDescriptor, MessageDescriptor, FileDescriptor}
 use Rattle.protobuf_parse_model.specs.Faults.{Fault}
 use Rattle.protobuf_parse_model.specs.Duplicates.{duplicates}
-use Rattle.protobuf_parse_model.specs.Unsupported.{unsupported_in_body, unsupported_statement}
+use Rattle.protobuf_parse_model.specs.Unsupported.{unsupported_in_body, unsupported_statement, imports_beyond_positions}
 use Rattle.protobuf_parse_model.specs.Fields.{kind_of_scalar}
 use Rattle.protobuf_parse_model.specs.Messages.{message_with}
 use Rattle.protobuf_parse_model.specs.FileDescriptor.{syntax_text}
@@ -40,9 +41,9 @@ abbrev pub statement_faults : Syntax → StatementSyntax → List Fault
 statement_faults syntax (file_message m) = message_faults syntax m
 statement_faults syntax s = unsupported_statement syntax s
 
--- two messages of a file have one name, or a fault stands in a statement of it
+-- two messages of a file have one name, its imports are too many, or a fault stands in a statement of it
 abbrev pub file_faults : FileSyntax → List Fault
-file_faults t = duplicates (flat_map message_names t.statements) ++ flat_map (statement_faults t.syntax) t.statements
+file_faults t = duplicates (flat_map message_names t.statements) ++ imports_beyond_positions (length (imports t.statements)) ++ flat_map (statement_faults t.syntax) t.statements
 
 -- ---- what it becomes, where none stands
 
@@ -82,9 +83,9 @@ file_of path t = record {
   name = Some path;
   «package» = package_of t;
   syntax = Some (syntax_text t.syntax);
-  dependency = [];
-  public_dependency = [];
-  weak_dependency = [];
+  dependency = (imports_of (imports t.statements)).paths;
+  public_dependency = (imports_of (imports t.statements)).public;
+  weak_dependency = (imports_of (imports t.statements)).weak;
   message_type = flat_map messages_of t.statements;
   enum_type = [];
   service = [];

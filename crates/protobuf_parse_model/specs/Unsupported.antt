@@ -1,5 +1,6 @@
 -- The constructs that have no descriptor yet. Each is told by its word.
-use Rattle.std.specs.Prelude.{List, [], ◌∷◌, ◌++◌, flat_map, codes, Option, Some}
+use Rattle.std.specs.Prelude.{ℕ, nat_lt, List, [], ◌∷◌, ◌++◌, flat_map, length, codes, Option, Some, if◌then◌else◌}
+use Rattle.protobuf_parse_syntax.specs.Dependencies.{imports}
 use Rattle.protobuf_parse_syntax.specs.Trees.{OptionSyntax, TypeSyntax, scalar, map_of, named, FieldSyntax, FieldStatementSyntax, field, group, MessageStatementSyntax, message_reserved, message_oneof, message_extend, message_message, message_enum, message_extensions, message_option, message_field, StatementSyntax, file_import, file_package, file_option, file_message, file_enum, file_extend, file_service, FileSyntax}
 use Rattle.protobuf_parse_syntax.specs.declared.tree.Syntax.{Syntax}
 use Rattle.protobuf_parse_syntax.specs.declared.tree.Syntax.TheVariants.{Proto3}
@@ -50,12 +51,16 @@ unsupported_in_body syntax (message_option o) = unsupported (codes "option")
 abbrev pub unsupported_statement : Syntax → StatementSyntax → List Fault
 unsupported_statement syntax (file_message m) = flat_map (unsupported_in_body syntax) m.body
 unsupported_statement syntax (file_package p) = []
-unsupported_statement syntax (file_import i) = unsupported (codes "import")
+unsupported_statement syntax (file_import i) = []
 unsupported_statement syntax (file_option o) = unsupported (codes "option")
 unsupported_statement syntax (file_enum e) = unsupported (codes "enum")
 unsupported_statement syntax (file_extend e) = unsupported (codes "extend")
 unsupported_statement syntax (file_service s) = unsupported (codes "service")
 
+-- of so many imports: more than have a position. No text is so long, so that this stands in no file that was read
+abbrev pub imports_beyond_positions : ℕ → List Fault
+imports_beyond_positions n = if nat_lt n 2147483648 then [] else unsupported (codes "import")
+
 -- all of a file
 abbrev pub unsupported_in : FileSyntax → List Fault
-unsupported_in t = flat_map (unsupported_statement t.syntax) t.statements
+unsupported_in t = imports_beyond_positions (length (imports t.statements)) ++ flat_map (unsupported_statement t.syntax) t.statements

@@ -1,5 +1,6 @@
 //! From a file's tree to its descriptor.
 
+mod imports;
 mod message;
 mod refuse;
 
@@ -7,11 +8,13 @@ ghost use Rattle.std.specs.Prelude.{◌≡◌, ℕ, List, ◌++◌, map, flat_ma
 ghost use Rattle.std.specs.Borrow.{Bor};
 ghost use Rattle.protobuf_parse_syntax.specs.Trees.{statement_view, file_view, package_of};
 ghost use Rattle.protobuf_parse_model.specs.Descriptors as described;
+ghost use Rattle.protobuf_parse_model.specs.Elaboration as first;
 ghost use Rattle.protobuf_parse_model.specs.Elaboration.{message_names, messages_of, statement_faults};
 ghost use Rattle.protobuf_parse_model.specs.Faults.{Elaborates};
 ghost use Rattle.protobuf_parse_model.specs.FileDescriptor.{InAnyEnvironment, file_faults, file_of, syntax_text};
 ghost use Rattle.protobuf_parse_model.specs.Unsupported.{unsupported_in};
 
+use crate::convert::imports::{check_number, imports, paths, public_positions, weak_positions};
 use crate::convert::message::descriptor;
 use crate::convert::refuse::{check_unique, unsupported};
 use crate::descriptor::{DescriptorProto, FileDescriptorProto};
@@ -30,10 +33,27 @@ pub fn elaborate(
     name: &str,
     tree: &FileTree,
 ) -> Result<FileDescriptorProto, ElabFailure>
-    ensures { let t = file_view tree.now in
+    ensures supported { let t = file_view tree.now in
+        Elaborates described.file_view result (first.file_faults t) (first.file_of name.now t) }
+    ensures whole { let t = file_view tree.now in
         InAnyEnvironment t (λ env. Elaborates described.file_view result (unsupported_in t ++ file_faults env t) (file_of env name.now t)) }
 {
+    descriptor_of_file(alloc, name, tree)
+}
+
+/// The descriptor of a file of which every construct is supported.
+#[tactic(auto, using(crate::proofs::Blaming::blames_left, crate::proofs::Blaming::blames_right))]
+fn descriptor_of_file(
+    alloc: Global,
+    name: &str,
+    tree: &FileTree,
+) -> Result<FileDescriptorProto, ElabFailure>
+    ensures { let t = file_view tree.now in
+        Elaborates described.file_view result (first.file_faults t) (first.file_of name.now t) }
+{
     check_unique(alloc, &message_names(alloc, &tree.statements)?)?;
+    let imports = imports(alloc, &tree.statements)?;
+    check_number(alloc, &imports)?;
     let name = String::from_str(alloc, name)?;
     let syntax = String::from_str(alloc, syntax_text(tree.syntax))?;
     let package = package_of(alloc, tree)?;
@@ -42,9 +62,9 @@ pub fn elaborate(
         name: Some(name),
         package,
         syntax: Some(syntax),
-        dependency: Vec::new(alloc),
-        public_dependency: Vec::new(alloc),
-        weak_dependency: Vec::new(alloc),
+        dependency: paths(alloc, &imports)?,
+        public_dependency: public_positions(alloc, &imports)?,
+        weak_dependency: weak_positions(alloc, &imports)?,
         message_type,
         enum_type: Vec::new(alloc),
         service: Vec::new(alloc),
@@ -100,8 +120,7 @@ fn messages(
             FileStatement::Message(message) => descriptors.push(descriptor(
                 alloc, syntax, message,
             )?)?,
-            FileStatement::Package(_) => {}
-            FileStatement::Import(_) => return Err(unsupported(alloc, "import")),
+            FileStatement::Package(_) | FileStatement::Import(_) => {}
             FileStatement::Option(_) => return Err(unsupported(alloc, "option")),
             FileStatement::Enumeration(_) => return Err(unsupported(alloc, "enum")),
             FileStatement::Extend(_) => return Err(unsupported(alloc, "extend")),
