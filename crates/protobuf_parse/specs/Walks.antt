@@ -4,7 +4,7 @@ use Rattle.std.specs.Prelude.{ℕ, zero, suc, ◌+◌, Bool, true, false, nat_eq
 use Rattle.std.specs.List.{list_any}
 use Rattle.protobuf_parse_syntax.specs.Trees.{FileSyntax, ImportSyntax}
 use Rattle.protobuf_parse_model.specs.Descriptors.{Text}
-use Rattle.protobuf_parse_model.specs.Elaboration.{imports_of}
+use Rattle.protobuf_parse_syntax.specs.Dependencies.{imports}
 
 -- an input: found by the resolver, or a file at a path of its own
 pub data Input : Type 0 where
@@ -60,7 +60,7 @@ Trees = Text → Option FileSyntax
 
 -- the paths that a file imports, in order
 abbrev pub import_paths : FileSyntax → List Text
-import_paths t = map (λ (i : ImportSyntax). i.path) (imports_of t)
+import_paths t = map (λ (i : ImportSyntax). i.path) (imports t.statements)
 
 abbrev pub joined : (Text → List Event) → List Text → List Event
 joined walk_of [] = []
