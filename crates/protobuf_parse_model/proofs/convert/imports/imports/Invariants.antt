@@ -1,4 +1,4 @@
-use Rattle.std.proofs.Common.{◌≡◌, ℕ, List, map, take, Bor}
+use Rattle.std.proofs.Common.{◌≡◌, map, take, Bor}
 use Rattle.protobuf_parse_syntax.specs.Dependencies as spec
 use Rattle.protobuf_parse_syntax.specs.Trees.{import_view, statement_view}
 use Rattle.protobuf_parse_syntax.specs.declared.tree.Import.{Import}

@@ -1,4 +1,4 @@
-use Rattle.std.proofs.Common.{◌≡◌, ℕ, List, ◌++◌, map, drop, Bor}
+use Rattle.std.proofs.Common.{◌≡◌, ◌++◌, map, drop, Bor}
 use Rattle.protobuf_parse_syntax.specs.Dependencies.{is_weak, positions}
 use Rattle.protobuf_parse_syntax.specs.Trees.{import_view}
 use Rattle.protobuf_parse_syntax.specs.declared.tree.Import.{Import}
