@@ -1,6 +1,5 @@
 -- An input at a path of its own, held against what was loaded for its name.
-use Rattle.std.proofs.Common.{◌≡◌, ℕ, zero, suc, Bool, true, false, not, ◌||◌, ◌⊎◌, inl, inr, List, [], ◌∷◌, ◌++◌, map, Option, Some, None, Result, Ok, Err, refl, sym, ◌∙◌, ap, subst, append_assoc, append-nil, length, arith, find}
-use Rattle.std.proofs.lemmas.Bool.{or_from}
+use Rattle.std.proofs.Common.{◌≡◌, ℕ, zero, suc, Bool, true, false, not, ◌||◌, inl, inr, List, [], ◌∷◌, ◌++◌, Option, Some, refl, sym, ◌∙◌, ap, subst, append-nil, length, arith}
 use Rattle.std.specs.Prelude.{slice_get}
 use Rattle.protobuf_parse_base.specs.PathViews.{path_buf_text}
 use Rattle.protobuf_parse_model.specs.Descriptors.{Text}
@@ -9,11 +8,10 @@ use Rattle.protobuf_parse.specs.declared.run.fault.RunFault.TheVariants as fault
 use Rattle.protobuf_parse.specs.declared.run.loader.LoadedFile.{LoadedFile}
 use Rattle.protobuf_parse.specs.declared.run.log.ReadEntry.{ReadEntry}
 use Rattle.protobuf_parse.specs.declared.run.log.ReadOutcome.{ReadOutcome}
-use Rattle.protobuf_parse.specs.declared.run.log.ReadOutcome.TheVariants as outcome
 use Rattle.protobuf_parse.specs.Walks.{the_resolver, the_reader, Event, load, check, elab, has, among, at, checks, Read, reads_in}
-use Rattle.protobuf_parse.specs.Run.{Files, Answers, StandsAt, StandsInCheck, answer_at, are_same_bytes, content_at, fails, first_read, text_for, text_given}
-use Rattle.protobuf_parse.specs.Loading.{Legal, Entry, file_at, read_paths, Grows, GoesOn, Good, Stops, OrMemory}
-use Rattle.protobuf_parse.proofs.Keeping.{text-same, or_left, not_true, has-append, has-in, has-left, has-right, has-one, reads_in-append, elab_paths-append, among-in, find-none, among-last, among-append}
+use Rattle.protobuf_parse.specs.Run.{Files, Answers, StandsInCheck, answer_at, are_same_bytes, fails, first_read, text_for, text_given}
+use Rattle.protobuf_parse.specs.Loading.{Legal, Entry, file_at, read_paths, GoesOn, Good, Stops}
+use Rattle.protobuf_parse.proofs.Keeping.{text-same, or_left, has-in, has-left, has-one, reads_in-append, elab_paths-append, among-in, find-none}
 use Rattle.protobuf_parse.proofs.Steps.{read_paths-append, answers-more, get-seam, get-grown, loaded-more, loaded-at, all-into}
 use Rattle.protobuf_parse.proofs.Walking.{settled-more}
 use Rattle.protobuf_parse.proofs.Reading.{Noted}

@@ -1,5 +1,5 @@
 -- How often files are met: once for each input and each import statement of the files that are loaded.
-use Rattle.std.proofs.Common.{◌≡◌, ℕ, zero, suc, ◌+◌, ◌-◌, ◌<◌, ◌≤◌, Bool, true, false, cond, List, [], ◌∷◌, ◌++◌, map, Option, Some, None, Result, Ok, Err, refl, sym, ◌∙◌, ap, subst, append-nil, length, arith}
+use Rattle.std.proofs.Common.{◌≡◌, ℕ, ◌+◌, ◌-◌, ◌<◌, ◌≤◌, true, false, cond, List, [], ◌∷◌, ◌++◌, map, Some, Result, Ok, Err, refl, ◌∙◌, ap, subst, append-nil, length, arith}
 use Rattle.std.specs.Prelude.{OnOk, String}
 use Rattle.std.specs.Global.{Global}
 use Rattle.protobuf_parse_syntax.specs.Trees.{FileSyntax}

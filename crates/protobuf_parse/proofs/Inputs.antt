@@ -1,14 +1,14 @@
 -- The inputs of a run, one after another.
-use Rattle.std.proofs.Common.{◌≡◌, ℕ, zero, suc, ◌+◌, ◌-◌, ◌*◌, ◌^◌, ◌<◌, ◌≤◌, Bool, true, false, not, ◌⊎◌, inl, inr, List, [], ◌∷◌, ◌++◌, map, Option, Some, None, Result, Ok, Err, refl, sym, ◌∙◌, ap, subst, append_assoc, append-nil, length, arith, find}
-use Rattle.std.specs.Global.{Vec, Global}
+use Rattle.std.proofs.Common.{◌≡◌, ◌-◌, false, inl, inr, List, [], ◌∷◌, ◌++◌, None, Ok, refl, sym, ◌∙◌, ap, subst, append_assoc, append-nil, length}
+use Rattle.std.specs.Global.{Global}
 use Rattle.std.specs.Prelude.{String}
 use Rattle.protobuf_parse_model.specs.Descriptors.{Text}
 use Rattle.protobuf_parse.specs.declared.run.fault.RunFault.{RunFault}
 use Rattle.protobuf_parse.specs.declared.run.loader.Placed.{Placed}
 use Rattle.protobuf_parse.specs.declared.run.log.ReadEntry.{ReadEntry}
-use Rattle.protobuf_parse.specs.Walks.{Asked, the_resolver, load, elab, has, Input, named, at, name_of, asked_of, Event, keep, checks, input_walk, events_after, events, walk, Trees}
+use Rattle.protobuf_parse.specs.Walks.{the_resolver, load, elab, has, Input, at, name_of, asked_of, Event, keep, checks, input_walk, events_after, events, walk, Trees}
 use Rattle.protobuf_parse.specs.Run.{Files}
-use Rattle.protobuf_parse.specs.Loading.{Legal, Entry, Shape, file_at, Good, Stops, Leaves, Goes, file_shape, texts}
+use Rattle.protobuf_parse.specs.Loading.{Legal, Entry, Shape, file_at, Good, Stops, Leaves, texts}
 use Rattle.protobuf_parse.proofs.Keeping.{has-elab, not_true}
 use Rattle.protobuf_parse.proofs.Steps.{stops-more, file-none}
 

@@ -1,9 +1,8 @@
 -- What a call that loads a file leaves, at each of its ends.
-use Rattle.std.proofs.Common.{◌≡◌, ◌≢◌, ℕ, zero, suc, ◌+◌, ◌-◌, ◌*◌, ◌^◌, ◌<◌, ◌≤◌, Bool, true, false, ◌⊎◌, inl, inr, List, [], ◌∷◌, ◌++◌, map, Option, Some, None, Result, Ok, Err, refl, sym, ◌∙◌, ap, subst, append_assoc, append-nil, length, max, arith, take, drop, add-one, get_or, drop-cons, not}
+use Rattle.std.proofs.Common.{◌≡◌, ℕ, suc, ◌+◌, ◌-◌, ◌*◌, ◌<◌, ◌≤◌, true, false, inl, inr, List, [], ◌∷◌, ◌++◌, map, Option, Some, None, Result, Ok, Err, refl, sym, ◌∙◌, ap, subst, append_assoc, append-nil, length, max, arith, take, drop, get_or, drop-cons, not}
 use Rattle.std.specs.Prelude.{String, string_bytes, IfOk}
 use Rattle.std.specs.Global.{Global}
-use Rattle.std.proofs.lemmas.List.{length_push, take_more, take-append-drop}
-use Rattle.protobuf_parse_base.specs.PathViews.{path_buf_text}
+use Rattle.std.proofs.lemmas.List.{take_more, take-append-drop}
 use Rattle.protobuf_parse_syntax.specs.Trees.{FileSyntax, file_view}
 use Rattle.protobuf_parse_syntax.specs.declared.tree.FileTree.{FileTree}
 use Rattle.protobuf_parse_model.specs.Descriptors.{Text}
@@ -12,15 +11,14 @@ use Rattle.protobuf_parse_model.specs.Faults as elaborating
 use Rattle.protobuf_parse_model.specs.Faults.{Among, here, there}
 use Rattle.protobuf_parse.specs.declared.run.fault.RunFault.{RunFault}
 use Rattle.protobuf_parse.specs.declared.run.fault.RunFault.TheVariants as fault
-use Rattle.protobuf_parse.specs.declared.run.loader.LoadedFile.{LoadedFile}
 use Rattle.protobuf_parse.specs.declared.run.loader.Placed.{Placed}
 use Rattle.protobuf_parse.specs.declared.run.log.ReadEntry.{ReadEntry}
 use Rattle.protobuf_parse.specs.declared.run.log.ReadOutcome.{ReadOutcome}
-use Rattle.protobuf_parse.specs.Walks.{Asked, the_resolver, Event, cycle, long, load, elab, keep, among, import_paths, walk}
-use Rattle.protobuf_parse.specs.Run.{Files, HasTrees, IsTheTree, StandsAt, StandsInCycle, StandsInLong, StandsInLoad, StandsInElab, text_given, origin_given, first_read, faults_in, is_nothing, fails}
-use Rattle.protobuf_parse.specs.Loading.{Legal, Shape, Entry, file_at, Grows, Good, Stops, OrMemory, Leaves, so_far, InLoop, GoesOn, ReadsTree, Settles, Settled, file_shape, IsPlaced, IsAdded, texts}
+use Rattle.protobuf_parse.specs.Walks.{Asked, the_resolver, Event, load, keep, among, import_paths, walk}
+use Rattle.protobuf_parse.specs.Run.{Files, IsTheTree, StandsAt, StandsInCycle, StandsInLong, StandsInLoad, StandsInElab, text_given, origin_given, first_read, faults_in, is_nothing}
+use Rattle.protobuf_parse.specs.Loading.{Legal, Entry, file_at, Grows, Good, Stops, OrMemory, Leaves, so_far, InLoop, GoesOn, ReadsTree, Settles, Settled, file_shape, IsPlaced, IsAdded, texts}
 use Rattle.protobuf_parse.proofs.Keeping.{has-elab, among-last}
-use Rattle.protobuf_parse.proofs.Steps.{Grows-trans, room-is, loaded-at, good-load, breaks-now, stops-cycle, stops-no_room, stops-tall, loaded-again, halts-load, unread-first, loop-step, loop-stops, loop-breaks, loop-end, loop-refused, tree-read, none-file}
+use Rattle.protobuf_parse.proofs.Steps.{Grows-trans, room-is, good-load, breaks-now, stops-cycle, stops-no_room, stops-tall, loaded-again, halts-load, unread-first, loop-step, loop-stops, loop-breaks, loop-end, loop-refused, tree-read, none-file}
 
 pub texts-length : (chain : List (String Global)) → length (texts chain) ≡ length chain
 texts-length [] = refl

@@ -1,5 +1,5 @@
 -- From what parsing a text tells to the tree of what was read.
-use Rattle.std.proofs.Common.{◌≡◌, ◌⊎◌, inl, inr, ap, sym, ◌∙◌, refl, ℕ, List, Option, Some, None, Result, Ok, Err}
+use Rattle.std.proofs.Common.{◌≡◌, inl, inr, ap, ◌∙◌, refl, ℕ, List, Option, Some, None, Result, Ok, Err}
 use Rattle.std.specs.Prelude.{IfOk, IfErr}
 use Rattle.std.specs.Str.{IsUtf8}
 use Rattle.protobuf_parse_syntax.specs.Parsing.{HasTree}

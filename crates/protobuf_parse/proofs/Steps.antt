@@ -1,7 +1,6 @@
 -- The state of a run, step by step.
-use Rattle.std.proofs.Common.{◌≡◌, ◌≢◌, ℕ, zero, suc, ◌+◌, ◌-◌, ◌<◌, ◌≤◌, Bool, true, false, cond, not, ◌||◌, ◌⊎◌, inl, inr, List, [], ◌∷◌, ◌++◌, map, Option, Some, None, Result, Ok, Err, refl, sym, ◌∙◌, ap, subst, append_assoc, append-nil, length, max, arith, rules, find, nat_lt, is_some, get_or}
-use Rattle.std.specs.Prelude.{bytes_eq, string_bytes, String, slice_get}
-use Rattle.std.specs.Global.{Global}
+use Rattle.std.proofs.Common.{◌≡◌, ℕ, zero, suc, ◌-◌, ◌<◌, ◌≤◌, true, false, ◌⊎◌, inl, inr, List, [], ◌∷◌, ◌++◌, Option, Some, None, refl, sym, ◌∙◌, ap, subst, append_assoc, append-nil, length, max, arith}
+use Rattle.std.specs.Prelude.{bytes_eq, string_bytes, slice_get}
 use Rattle.std.specs.List.{AllByRecursion}
 use Rattle.std.proofs.lemmas.Bool.{or_from}
 use Rattle.std.proofs.lemmas.Bool.Decides.{nat_tests}
@@ -9,7 +8,7 @@ use Rattle.std.proofs.lemmas.List.{length_push}
 use Rattle.std.proofs.lemmas.Option.{slice_get_read}
 use Rattle.std.proofs.Math.Seq.{get_or-append_seam}
 use Rattle.protobuf_parse_base.specs.PathViews.{path_buf_text}
-use Rattle.protobuf_parse_syntax.specs.Trees.{FileSyntax, file_view}
+use Rattle.protobuf_parse_syntax.specs.Trees.{FileSyntax}
 use Rattle.protobuf_parse_model.specs.Descriptors.{Text}
 use Rattle.protobuf_parse_model.specs.Elaboration.{file_faults, file_of}
 use Rattle.protobuf_parse.specs.declared.run.fault.RunFault.{RunFault}
@@ -18,10 +17,10 @@ use Rattle.protobuf_parse.specs.declared.run.loader.LoadedFile.{LoadedFile}
 use Rattle.protobuf_parse.specs.declared.run.loader.Placed.{Placed}
 use Rattle.protobuf_parse.specs.declared.run.log.ReadEntry.{ReadEntry}
 use Rattle.protobuf_parse.specs.declared.run.log.ReadOutcome.{ReadOutcome}
-use Rattle.protobuf_parse.specs.Walks.{Asked, the_resolver, the_reader, Event, cycle, long, load, check, elab, same, has, keep, among, Trees, import_paths, joined, inside, walk, Read, reads_in, elab_paths}
-use Rattle.protobuf_parse.specs.Run.{Files, HasTrees, IsTree, IsTheTree, text_given, first_read, fails, Answers, StandsAt, StandsInLoad, StandsInElab, origin_given, faults_in}
-use Rattle.protobuf_parse.specs.Loading.{Legal, Shape, Entry, paths_of, file_at, read_paths, Grows, Apart, Within, Settled, file_shape, imports_shape, IsLoaded, IsAdded, Good, Halts, Breaks, Stops, OrMemory, Leaves, so_far, InLoop}
-use Rattle.protobuf_parse.proofs.Keeping.{text-true, text-same, same-refl, cycle-same, long-same, or_cases, or_left, or_right, bool_cases, not_true, has-append, has-in, has-left, has-right, has-one, has-one-long, has-here, has-last, has-like, keep-append, keep-extends, keep-within, keep-all, keep-but_long, keep-fresh, reads_in-append, elab_paths-append, has-elab, among-append, among-last, among-left, among-in, find-none, clean-has, Apart-within}
+use Rattle.protobuf_parse.specs.Walks.{Asked, the_resolver, Event, cycle, long, load, elab, has, keep, among, import_paths, joined, walk, Read, reads_in}
+use Rattle.protobuf_parse.specs.Run.{Files, HasTrees, IsTree, IsTheTree, text_given, first_read, fails, Answers, StandsAt}
+use Rattle.protobuf_parse.specs.Loading.{Legal, Entry, paths_of, file_at, read_paths, Grows, Settled, file_shape, imports_shape, IsLoaded, IsAdded, Good, Halts, Stops, OrMemory, so_far, InLoop}
+use Rattle.protobuf_parse.proofs.Keeping.{text-true, text-same, cycle-same, long-same, or_left, bool_cases, not_true, has-append, has-in, has-left, has-right, has-one, has-last, has-like, keep-append, keep-extends, keep-within, keep-all, keep-but_long, keep-fresh, reads_in-append, elab_paths-append, has-elab, among-last, among-left, among-in, find-none, clean-has, Apart-within}
 use Rattle.protobuf_parse.proofs.Walking.{walk-on_chain, walk-no_room, walk-load, joined-append, settled-nil, settled-join, settled-more, settled-same, settled-file}
 
 -- ** lists of what was read and loaded

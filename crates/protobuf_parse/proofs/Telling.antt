@@ -1,5 +1,5 @@
 -- What a run promises, from what its loading left.
-use Rattle.std.proofs.Common.{◌≡◌, Bool, true, false, ◌⊎◌, inl, inr, List, [], ◌∷◌, ◌++◌, map, Option, Some, None, Result, Ok, Err, refl, sym, ◌∙◌, ap, subst, append-nil, find}
+use Rattle.std.proofs.Common.{◌≡◌, Bool, true, ◌⊎◌, inl, inr, List, [], ◌∷◌, ◌++◌, map, Some, None, Result, Err, refl, sym, ◌∙◌, ap, append-nil, find}
 use Rattle.std.specs.Prelude.{string_bytes}
 use Rattle.std.specs.Global.{Vec}
 use Rattle.std.specs.List.{AllByRecursion}
@@ -10,9 +10,9 @@ use Rattle.protobuf_parse.specs.declared.run.fault.RunFault.{RunFault}
 use Rattle.protobuf_parse.specs.declared.run.fault.RunFault.TheVariants as fault
 use Rattle.protobuf_parse.specs.declared.run.loader.LoadedFile.{LoadedFile}
 use Rattle.protobuf_parse.specs.declared.run.log.ReadEntry.{ReadEntry}
-use Rattle.protobuf_parse.specs.Walks.{Event, Input, Trees, elab_paths, events, until}
+use Rattle.protobuf_parse.specs.Walks.{Event, Input, Trees, events, until}
 use Rattle.protobuf_parse.specs.Run.{Files, HasTrees, AreDescriptors, IsAccepted, IsRefused, IsBroken, MayResolve, RunsByResolver, fails}
-use Rattle.protobuf_parse.specs.Loading.{Legal, Entry, GoesOn, Goes, Good, Stops, IsLoaded, paths_of}
+use Rattle.protobuf_parse.specs.Loading.{Legal, Entry, GoesOn, Good, Stops, IsLoaded, paths_of}
 use Rattle.protobuf_parse.proofs.Keeping.{bool_cases}
 
 find-after : (test : Event → Bool) (xs ys : List Event) (e : Event) → find test xs ≡ None → test e ≡ true → find test (xs ++ e ∷ ys) ≡ Some e

@@ -1,12 +1,11 @@
 -- What the loader's steps do to the events kept so far.
-use Rattle.std.proofs.Common.{◌≡◌, ◌≢◌, ℕ, zero, suc, ◌+◌, ◌-◌, ◌<◌, ◌≤◌, Bool, true, false, cond, not, ◌||◌, ◌⊎◌, inl, inr, List, [], ◌∷◌, ◌++◌, Option, Some, None, Result, refl, sym, ◌∙◌, ap, subst, append_assoc, append-nil, length, max, arith, rules, find, nat_lt, is_some}
+use Rattle.std.proofs.Common.{◌≡◌, ℕ, zero, suc, true, false, ◌||◌, ◌⊎◌, inl, inr, List, [], ◌∷◌, ◌++◌, Some, refl, sym, ◌∙◌, ap, append_assoc, max, arith, nat_lt}
 use Rattle.std.proofs.lemmas.Bool.Decides.{nat_tests}
-use Rattle.std.proofs.lemmas.List.{length_push}
 use Rattle.protobuf_parse_syntax.specs.Trees.{FileSyntax}
 use Rattle.protobuf_parse_model.specs.Descriptors.{Text}
-use Rattle.protobuf_parse.specs.Walks.{Asked, the_resolver, Event, cycle, long, load, check, elab, same, has, keep, among, Trees, import_paths, joined, inside, walk}
+use Rattle.protobuf_parse.specs.Walks.{Asked, the_resolver, Event, cycle, long, load, elab, same, has, among, Trees, import_paths, joined, inside, walk}
 use Rattle.protobuf_parse.specs.Loading.{Within, Apart, Settled, Shape, file_shape, imports_shape}
-use Rattle.protobuf_parse.proofs.Keeping.{text-same, same-refl, or_cases, or_left, or_right, bool_cases, not_true, has-append, has-in, has-left, has-right, has-one, has-one-long, has-here, has-last, has-like, among-in, Apart-within}
+use Rattle.protobuf_parse.proofs.Keeping.{text-same, or_cases, not_true, has-append, has-in, has-left, has-right, has-one-long, has-last, has-like, among-in, Apart-within}
 
 -- the walk, by cases
 pub walk-on_chain : (trees : Trees) (i : Text) (a : Asked) (room : ℕ) (chain : List Text) (p : Text) → among p chain ≡ true → walk trees i a room chain p ≡ cycle p ∷ []

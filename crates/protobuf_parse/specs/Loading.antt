@@ -1,5 +1,5 @@
 -- What holds while files are loaded, for every list of reads that the log begins and any events kept so far.
-use Rattle.std.specs.Prelude.{◌≡◌, ◌⊎◌, ◌≤◌, ◌<◌, ◌+◌, ◌-◌, ℕ, Bool, true, false, nat_lt, List, [], ◌∷◌, ◌++◌, length, map, Option, Some, None, Result, Ok, Err, IfOk, bytes_eq, String, string_bytes, slice_get, find}
+use Rattle.std.specs.Prelude.{◌≡◌, ◌⊎◌, ◌≤◌, ◌-◌, ℕ, true, false, nat_lt, List, [], ◌∷◌, ◌++◌, length, map, Option, Some, None, Result, Ok, Err, bytes_eq, String, string_bytes, slice_get, find}
 use Rattle.std.specs.Global.{Global}
 use Rattle.std.specs.List.{AllByRecursion}
 use Rattle.std.specs.Map.{lookup}
@@ -17,7 +17,7 @@ use Rattle.protobuf_parse.specs.declared.run.loader.LoadedFile.{LoadedFile}
 use Rattle.protobuf_parse.specs.declared.run.loader.Placed.{Placed}
 use Rattle.protobuf_parse.specs.declared.run.log.ReadEntry.{ReadEntry}
 use Rattle.protobuf_parse.specs.declared.run.log.ReadOutcome.{ReadOutcome}
-use Rattle.protobuf_parse.specs.Walks.{Asked, the_resolver, the_reader, Event, cycle, long, load, check, elab, has, keep, among, Trees, import_paths, joined, walk, reads_in, elab_paths}
+use Rattle.protobuf_parse.specs.Walks.{Asked, the_resolver, the_reader, Event, long, load, elab, has, keep, among, Trees, joined, walk, reads_in, elab_paths}
 use Rattle.std.specs.Borrow.{Bor}
 use Rattle.std.specs.Str.{IsUtf8}
 use Rattle.protobuf_parse.specs.declared.run.fault.ResolveFault.{ResolveFault}

@@ -1,4 +1,3 @@
-use Rattle.std.proofs.Common.{◌∙◌}
 use Rattle.protobuf_parse.proofs.Telling.{values-descriptors}
 use Rattle.protobuf_parse.proofs.run.descriptors.Goals as goal
 

@@ -1,4 +1,4 @@
-use Rattle.std.proofs.Common.{◌≡◌, ◌∙◌, ◌+◌, inr, refl, sym, ap, map}
+use Rattle.std.proofs.Common.{◌∙◌, ◌+◌, inr, refl, sym, ap, map}
 use Rattle.protobuf_parse.specs.Walks.{events, statements}
 use Rattle.protobuf_parse.specs.Run.{MayAnswer, input_view, rows}
 use Rattle.protobuf_parse.proofs.Counting.{lengths}

@@ -1,4 +1,4 @@
-use Rattle.std.proofs.Common.{◌≡◌, refl, sym, ap, ◌∙◌, Some, rules}
+use Rattle.std.proofs.Common.{◌≡◌, Some, rules}
 use Rattle.protobuf_parse.specs.Run.{rows, text_given, origin_given}
 use Rattle.protobuf_parse.proofs.Opening.{contents_stand, lacks_tree}
 use Rattle.protobuf_parse.proofs.run.asking.opened.Goals as goal

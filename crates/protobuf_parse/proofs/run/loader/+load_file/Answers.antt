@@ -1,4 +1,4 @@
-use Rattle.std.proofs.Common.{◌≡◌, ◌≤◌, ◌<◌, ◌+◌, ◌-◌, ℕ, suc, ◌++◌, ◌∷◌, [], List, Option, Result, Some, None, Ok, Err, length, Bool, true, false, refl, sym, ap, ◌∙◌, take, drop, get_or, arith, max, subst, append-nil, map, Bor, inl, inr, ◌*◌, ◌^◌, add-one}
+use Rattle.std.proofs.Common.{◌≡◌, ◌++◌, ◌∷◌, [], None, length, true, false, refl, sym, ap, ◌∙◌, arith, max, subst, append-nil, map, Bor, inl, inr, ◌^◌, add-one}
 use Rattle.std.specs.Prelude.{String}
 use Rattle.std.specs.Global.{Global, Vec}
 use Rattle.std.proofs.lemmas.List.{length_push, take_all}
@@ -6,8 +6,7 @@ use Rattle.std.proofs.lemmas.Result.{err_from_is_err_and}
 use Rattle.protobuf_parse_base.specs.PathViews.{path_buf_text}
 use Rattle.protobuf_parse_model.specs.Descriptors.{Text}
 use Rattle.protobuf_parse.specs.Walks.{among}
-use Rattle.protobuf_parse.specs.Run.{MayAnswer, rows}
-use Rattle.protobuf_parse.specs.Loading.{asked_by, texts, file_at, Grows, Entry}
+use Rattle.protobuf_parse.specs.Loading.{asked_by, texts, file_at}
 use Rattle.protobuf_parse.specs.declared.run.log.ReadEntry.{ReadEntry}
 use Rattle.protobuf_parse_base.specs.declared.proto_path.path.ProtoPathBuf.{ProtoPathBuf}
 use Rattle.protobuf_parse.proofs.Steps.{Grows-trans}

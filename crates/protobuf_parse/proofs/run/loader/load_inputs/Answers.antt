@@ -1,4 +1,4 @@
-use Rattle.std.proofs.Common.{◌≡◌, ◌∙◌, List, [], ap, refl, sym, suc, append-nil, subst, map, take, drop, arith}
+use Rattle.std.proofs.Common.{◌≡◌, [], ap, refl, map, take, arith}
 use Rattle.std.proofs.lemmas.List.{take_all}
 use Rattle.std.proofs.lemmas.Result.{err_from_is_err_and}
 use Rattle.protobuf_parse.specs.Walks.{events, statements}

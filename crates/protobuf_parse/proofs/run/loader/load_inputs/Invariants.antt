@@ -1,4 +1,4 @@
-use Rattle.std.proofs.Common.{◌≡◌, ℕ, ◌+◌, ◌*◌, ◌^◌, ◌≤◌, List, [], length, map, take}
+use Rattle.std.proofs.Common.{◌≡◌, ◌+◌, ◌*◌, ◌^◌, ◌≤◌, [], length, map, take}
 use Rattle.protobuf_parse.specs.Walks.{events, statements}
 use Rattle.protobuf_parse.specs.Run.{Files, MayAnswer, input_view, rows}
 use Rattle.protobuf_parse.specs.Loading.{GoesOn, Good}
