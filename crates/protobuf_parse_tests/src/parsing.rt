@@ -70,7 +70,7 @@ fn fronts_are_refused_behind_them(rt: HostRuntime) -> Result<(), Fail> {
 }
 
 #[test]
-fn faults_and_their_places(rt: HostRuntime) -> Result<(), Fail> {
+fn faults_of_files_and_imports(rt: HostRuntime) -> Result<(), Fail> {
     let rows = [
         ("", "ok"),
         (
@@ -88,6 +88,17 @@ fn faults_and_their_places(rt: HostRuntime) -> Result<(), Fail> {
         ("syntax = 1;", "at 1:10: S8 IncorrectInput"),
         ("; syntax = 'proto2';", "at 1:3: S8 IncorrectInput"),
         ("import '';", "at 1:8: S19 BadImportPath: path is empty"),
+    ];
+    for (text, want) in rows {
+        let found = fault(rt.alloc(), text)?;
+        assert_eq!(rt; found.as_str(), want, "at {text}");
+    }
+    Ok(())
+}
+
+#[test]
+fn faults_of_packages_and_constants(rt: HostRuntime) -> Result<(), Fail> {
+    let rows = [
         (
             "import public 'a/../b';",
             "at 1:15: S19 BadImportPath: dot-dot in path",
@@ -110,6 +121,17 @@ fn faults_and_their_places(rt: HostRuntime) -> Result<(), Fail> {
         ("option a = 1.5;", "at 1:12: S18 FloatConstant"),
         ("option a = - 1.5;", "at 1:12: S18 FloatConstant"),
         ("option a = - inf;", "at 1:12: S18 FloatConstant"),
+    ];
+    for (text, want) in rows {
+        let found = fault(rt.alloc(), text)?;
+        assert_eq!(rt; found.as_str(), want, "at {text}");
+    }
+    Ok(())
+}
+
+#[test]
+fn faults_of_constants_and_options(rt: HostRuntime) -> Result<(), Fail> {
+    let rows = [
         ("option a = +nan;", "at 1:12: S18 FloatConstant"),
         ("option a = inf;", "ok"),
         ("option a = --1;", "at 1:13: S8 IncorrectInput"),
@@ -129,6 +151,17 @@ fn faults_and_their_places(rt: HostRuntime) -> Result<(), Fail> {
         ("option a = [,];", "at 1:13: S9 ExpectConstant"),
         ("option a = {b};", "at 1:14: S8 IncorrectInput"),
         ("option a = {b 1};", "at 1:15: S8 IncorrectInput"),
+    ];
+    for (text, want) in rows {
+        let found = fault(rt.alloc(), text)?;
+        assert_eq!(rt; found.as_str(), want, "at {text}");
+    }
+    Ok(())
+}
+
+#[test]
+fn faults_of_fields(rt: HostRuntime) -> Result<(), Fail> {
+    let rows = [
         ("option a = {b [1]};", "at 1:15: S8 IncorrectInput"),
         ("option a = {b: };", "at 1:16: S9 ExpectConstant"),
         ("option a = {b: 1,, c: 2};", "at 1:18: S8 IncorrectInput"),
@@ -145,6 +178,17 @@ fn faults_and_their_places(rt: HostRuntime) -> Result<(), Fail> {
             "message A { extensions = 1; }",
             "at 1:24: S8 IncorrectInput",
         ),
+    ];
+    for (text, want) in rows {
+        let found = fault(rt.alloc(), text)?;
+        assert_eq!(rt; found.as_str(), want, "at {text}");
+    }
+    Ok(())
+}
+
+#[test]
+fn faults_of_groups_and_oneofs(rt: HostRuntime) -> Result<(), Fail> {
+    let rows = [
         (
             "message A { optional int32.b c = 1; }",
             "at 1:27: S8 IncorrectInput",
@@ -191,6 +235,17 @@ fn faults_and_their_places(rt: HostRuntime) -> Result<(), Fail> {
             "message A { optional group B = 1 { int32 a = 1; } }",
             "at 1:36: S12 LabelRequired",
         ),
+    ];
+    for (text, want) in rows {
+        let found = fault(rt.alloc(), text)?;
+        assert_eq!(rt; found.as_str(), want, "at {text}");
+    }
+    Ok(())
+}
+
+#[test]
+fn faults_of_reserved_and_ranges(rt: HostRuntime) -> Result<(), Fail> {
+    let rows = [
         (
             "message A { optional group B = 1 { option a = 1; } }",
             "at 1:36: S17 OnlyFieldsInGroup",
@@ -231,6 +286,17 @@ fn faults_and_their_places(rt: HostRuntime) -> Result<(), Fail> {
             "message A { reserved 'a', '\\q'; }",
             "at 1:27: S15 StrLitDecode",
         ),
+    ];
+    for (text, want) in rows {
+        let found = fault(rt.alloc(), text)?;
+        assert_eq!(rt; found.as_str(), want, "at {text}");
+    }
+    Ok(())
+}
+
+#[test]
+fn faults_of_enums_and_services(rt: HostRuntime) -> Result<(), Fail> {
+    let rows = [
         (
             "message A { reserved 1 to 2147483648; }",
             "at 1:27: S5 IntegerOverflow",

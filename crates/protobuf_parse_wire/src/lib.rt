@@ -16,4 +16,3 @@ pub use field::{ReadField, ReadValue};
 pub use kind::Kind;
 pub use law::{options_are_read, spelled_is_read};
 pub use reader::read_custom;
-
