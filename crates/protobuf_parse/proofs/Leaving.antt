@@ -6,7 +6,6 @@ use Rattle.std.proofs.lemmas.List.{take_more, take-append-drop}
 use Rattle.protobuf_parse_syntax.specs.Trees.{FileSyntax, file_view}
 use Rattle.protobuf_parse_syntax.specs.declared.tree.FileTree.{FileTree}
 use Rattle.protobuf_parse_model.specs.Descriptors.{Text}
-use Rattle.protobuf_parse_model.specs.Elaboration.{file_faults}
 use Rattle.protobuf_parse_model.specs.Faults as elaborating
 use Rattle.protobuf_parse_model.specs.Faults.{Among, here, there}
 use Rattle.protobuf_parse.specs.declared.run.fault.RunFault.{RunFault}
@@ -16,7 +15,7 @@ use Rattle.protobuf_parse.specs.declared.run.log.ReadEntry.{ReadEntry}
 use Rattle.protobuf_parse.specs.declared.run.log.ReadOutcome.{ReadOutcome}
 use Rattle.protobuf_parse.specs.Walks.{Asked, the_resolver, Event, load, keep, among, import_paths, walk}
 use Rattle.protobuf_parse.specs.Run.{Files, IsTheTree, StandsAt, StandsInCycle, StandsInLong, StandsInLoad, StandsInElab, text_given, origin_given, first_read, faults_in, is_nothing}
-use Rattle.protobuf_parse.specs.Loading.{Legal, Entry, file_at, Grows, Good, Stops, OrMemory, Leaves, so_far, InLoop, GoesOn, ReadsTree, Settles, Settled, file_shape, IsPlaced, IsAdded, texts}
+use Rattle.protobuf_parse.specs.Loading.{Legal, Entry, IsElabFault, file_at, Grows, Good, Stops, OrMemory, Leaves, so_far, InLoop, GoesOn, ReadsTree, Settles, Settled, file_shape, IsPlaced, IsAdded, texts}
 use Rattle.protobuf_parse.proofs.Keeping.{has-elab, among-last}
 use Rattle.protobuf_parse.proofs.Steps.{Grows-trans, room-is, good-load, breaks-now, stops-cycle, stops-no_room, stops-tall, loaded-again, halts-load, unread-first, loop-step, loop-stops, loop-breaks, loop-end, loop-refused, tree-read, none-file}
 
@@ -53,6 +52,12 @@ goes-same files table old new e go = subst (λ (z : List ReadEntry). GoesOn file
 pub low-height : (r : Result Placed RunFault) (n h : ℕ) → IfOk r (λ x. x.height ≡ h) → n + h ≤ 100 → IfOk r (λ x. n + x.height ≤ 100)
 low-height (Ok x) n h e le = rw e le
 low-height (Err f) n h e le = tt
+
+-- L10 with a fault that is among those of the file
+pub elab-stands : (origin : Text) (faults : List elaborating.Fault) (x : elaborating.Fault) (f : RunFault) → Among faults x → OrMemory f (IsElabFault origin x f) → OrMemory f (StandsInElab origin faults f)
+elab-stands origin faults x f h (inr m) = inr m
+elab-stands origin faults x (fault.Elaborate file error) h (inl is) = inl (is.0, subst (λ z. Among faults z) (sym is.1) h)
+elab-stands origin faults x _ h (inl is) = absurd is
 
 stands-failing : (origin : Text) (faults : List elaborating.Fault) (f : RunFault) → StandsInElab origin faults f → not (is_nothing faults) ≡ true
 stands-failing origin (x ∷ faults) f h = refl
@@ -131,11 +136,11 @@ module _ (legal : Legal) (files : Files) where
       rw same (loop-end legal files kept i a p chain t x n h loaded later log placed whole tree_is lt low off d)
   leaves-end kept i a p q chain t x n done h m loaded later log after (Err f) e same tall all l tree_is lt low off settles =
       let whole : InLoop legal files kept i a p chain x n (import_paths t) h loaded log = (rw all at l) in
-      let s : OrMemory f (StandsInElab (origin_given p (Some x.outcome)) (file_faults t) f) = subst (λ (z : Text). OrMemory f (StandsInElab (origin_given z (Some x.outcome)) (file_faults t) f)) e (settles x whole.found (whole.named ∙ sym e)) in
+      let s : OrMemory f (StandsInElab (origin_given p (Some x.outcome)) (faults_in files p (Some t)) f) = subst (λ (z : Text). OrMemory f (StandsInElab (origin_given z (Some x.outcome)) (faults_in files p (Some t)) f)) e (settles x whole.found (whole.named ∙ sym e) (files.sees p) (files.custom p)) in
       rw same (elim s [
         | inl stands ↦
-            let here : StandsInElab (origin_given p (first_read p files.reads)) (faults_in (files.trees p)) f =
-            subst (λ (o : Option ReadOutcome). StandsInElab (origin_given p o) (faults_in (files.trees p)) f) (sym whole.first) (subst (λ (o : Option FileSyntax). StandsInElab (origin_given p (Some x.outcome)) (faults_in o) f) (sym tree_is) stands) in
+            let here : StandsInElab (origin_given p (first_read p files.reads)) (faults_in files p (files.trees p)) f =
+            subst (λ (o : Option ReadOutcome). StandsInElab (origin_given p o) (faults_in files p (files.trees p)) f) (sym whole.first) (subst (λ (o : Option FileSyntax). StandsInElab (origin_given p (Some x.outcome)) (faults_in files p o) f) (sym tree_is) stands) in
             loop-refused legal files kept i a p chain t x n h loaded log f whole tree_is lt off (stands-failing _ _ f here) here
         | inr memory ↦ loop-breaks legal files kept i a p chain t x n (import_paths t) [] h loaded log f whole tree_is lt off (sym (append-nil (import_paths t))) memory
       ])

@@ -10,7 +10,7 @@ use Rattle.std.proofs.Math.Seq.{get_or-append_seam}
 use Rattle.protobuf_parse_base.specs.PathViews.{path_buf_text}
 use Rattle.protobuf_parse_syntax.specs.Trees.{FileSyntax}
 use Rattle.protobuf_parse_model.specs.Descriptors.{Text}
-use Rattle.protobuf_parse_model.specs.Elaboration.{file_faults, file_of}
+use Rattle.protobuf_parse_model.specs.FileDescriptor.{file_of}
 use Rattle.protobuf_parse.specs.declared.run.fault.RunFault.{RunFault}
 use Rattle.protobuf_parse.specs.declared.run.fault.RunFault.TheVariants as fault
 use Rattle.protobuf_parse.specs.declared.run.loader.LoadedFile.{LoadedFile}
@@ -18,7 +18,7 @@ use Rattle.protobuf_parse.specs.declared.run.loader.Placed.{Placed}
 use Rattle.protobuf_parse.specs.declared.run.log.ReadEntry.{ReadEntry}
 use Rattle.protobuf_parse.specs.declared.run.log.ReadOutcome.{ReadOutcome}
 use Rattle.protobuf_parse.specs.Walks.{Asked, the_resolver, Event, cycle, long, load, elab, has, keep, among, import_paths, joined, walk, Read, reads_in}
-use Rattle.protobuf_parse.specs.Run.{Files, HasTrees, IsTree, IsTheTree, text_given, first_read, fails, Answers, StandsAt}
+use Rattle.protobuf_parse.specs.Run.{Files, HasTrees, environment_of, faults_in, IsTree, IsTheTree, text_given, first_read, fails, Answers, StandsAt}
 use Rattle.protobuf_parse.specs.Loading.{Legal, Entry, paths_of, file_at, read_paths, Grows, Settled, file_shape, imports_shape, IsLoaded, IsAdded, Good, Halts, Stops, OrMemory, so_far, InLoop}
 use Rattle.protobuf_parse.proofs.Keeping.{text-true, text-same, cycle-same, long-same, or_left, bool_cases, not_true, has-append, has-in, has-left, has-right, has-one, has-last, has-like, keep-append, keep-extends, keep-within, keep-all, keep-but_long, keep-fresh, reads_in-append, elab_paths-append, has-elab, among-last, among-left, among-in, find-none, clean-has, Apart-within}
 use Rattle.protobuf_parse.proofs.Walking.{walk-on_chain, walk-no_room, walk-load, joined-append, settled-nil, settled-join, settled-more, settled-same, settled-file}
@@ -114,7 +114,6 @@ module _ (legal : Legal) (files : Files) where
   loaded-more log e x l = record {
     low = l.low;
     is = l.is;
-    faultless = l.faultless;
     descriptor = l.descriptor;
     entry = l.entry;
     read = get-more log (e ∷ []) x.1.read l.entry l.read;
@@ -169,7 +168,7 @@ module _ (legal : Legal) (files : Files) where
       }
 
   -- a file whose imports are loaded is elaborated
-  good-elab : (kept : List Event) (loaded : List Entry) (log : List ReadEntry) (chain : List Text) (p : Text) (t : FileSyntax) (h : ℕ) (n : Entry) → Good legal files kept loaded log (chain ++ p ∷ []) → among p chain ≡ false → has (load the_resolver p) kept ≡ true → files.trees p ≡ Some t → file_faults t ≡ [] → Settled kept h (imports_shape files.trees (import_paths t)) → string_bytes n.0 ≡ p → n.1.height ≡ suc h → IsLoaded files log p n.1 → Good legal files (kept ++ elab p ∷ []) (loaded ++ n ∷ []) log chain × Settled (kept ++ elab p ∷ []) (suc h) (file_shape files.trees p)
+  good-elab : (kept : List Event) (loaded : List Entry) (log : List ReadEntry) (chain : List Text) (p : Text) (t : FileSyntax) (h : ℕ) (n : Entry) → Good legal files kept loaded log (chain ++ p ∷ []) → among p chain ≡ false → has (load the_resolver p) kept ≡ true → files.trees p ≡ Some t → faults_in files p (Some t) ≡ [] → Settled kept h (imports_shape files.trees (import_paths t)) → string_bytes n.0 ≡ p → n.1.height ≡ suc h → IsLoaded files log p n.1 → Good legal files (kept ++ elab p ∷ []) (loaded ++ n ∷ []) log chain × Settled (kept ++ elab p ∷ []) (suc h) (file_shape files.trees p)
   good-elab kept loaded log chain p t h n g off read is faultless s named tall m =
       let e : has (elab p) kept ≡ false = g.apart p (among-last p chain) in
       let set : Settled (kept ++ elab p ∷ []) (suc h) (file_shape files.trees p) = settled-file files.trees kept p t h is s e read in (
@@ -349,14 +348,13 @@ module _ (legal : Legal) (files : Files) where
       let m : IsLoaded files log p d.file = record {
         low = rw d.height_is (omega arith);
         is = tree_is ∙ ap Some (sym d.tree_is);
-        faultless = ap file_faults d.tree_is ∙ d.faultless;
-        descriptor = d.descriptor ∙ ap (file_of p) (sym d.tree_is);
+        descriptor = d.descriptor (files.sees p) (files.custom p) ∙ ap (λ u. file_of (environment_of files p u) p u) (sym d.tree_is);
         entry = x;
         read = rw d.read_is l.found;
         named = l.named;
         first = l.first;
       } in
-      let g = good-elab s loaded log chain p t h (d.key, d.file) l.good off r tree_is d.faultless l.settled d.named d.height_is m in
+      let g = good-elab s loaded log chain p t h (d.key, d.file) l.good off r tree_is (d.faultless (files.sees p) (files.custom p)) l.settled d.named d.height_is m in
       rw (opened kept i a p chain t lt off l.fresh tree_is, keep-fresh s [] (elab p) fresh, d.entries, d.placed_is) g
 
   -- the file is refused
@@ -368,7 +366,7 @@ module _ (legal : Legal) (files : Files) where
       (rw (opened kept i a p chain t lt off l.fresh tree_is) (keep-fresh s [] (elab p) fresh)) stands)
 
   -- the tree that was read is that of the path
-  pub tree-read : (kept : List Event) (loaded : List Entry) (log : List ReadEntry) (chain : List Text) (p : Text) (e : ReadEntry) (t : Option FileSyntax) → Good legal files kept loaded log chain → among p chain ≡ false → file_at p loaded ≡ None → HasTrees files → Grows (log ++ e ∷ []) files.reads → path_buf_text e.path ≡ p → IsTheTree (text_given files.bundled p (Some e.outcome)) t → files.trees p ≡ t
+  pub tree-read : (kept : List Event) (loaded : List Entry) (log : List ReadEntry) (chain : List Text) (p : Text) (e : ReadEntry) (t : Option FileSyntax) → Good legal files kept loaded log chain → among p chain ≡ false → file_at p loaded ≡ None → HasTrees files.bundled files.reads files.trees → Grows (log ++ e ∷ []) files.reads → path_buf_text e.path ≡ p → IsTheTree (text_given files.bundled p (Some e.outcome)) t → files.trees p ≡ t
   tree-read kept loaded log chain p e t g off none has grown named the =
       let first = unread-first kept loaded log chain p e g off none named grown in
       the.1 (files.trees p) (subst (λ (o : Option ReadOutcome). IsTree (text_given files.bundled p o) (files.trees p)) first (has p))

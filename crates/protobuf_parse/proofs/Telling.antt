@@ -5,7 +5,8 @@ use Rattle.std.specs.Global.{Vec}
 use Rattle.std.specs.List.{AllByRecursion}
 use Rattle.protobuf_parse_model.specs.Descriptors.{Text}
 use Rattle.protobuf_parse_model.specs.declared.descriptor.FileDescriptorProto.{FileDescriptorProto}
-use Rattle.protobuf_parse_syntax.specs.Trees.{file_view}
+use Rattle.protobuf_parse_syntax.specs.Trees.{FileSyntax, file_view}
+use Rattle.protobuf_parse_model.specs.Environment.{CustomBytes}
 use Rattle.protobuf_parse.specs.declared.run.fault.RunFault.{RunFault}
 use Rattle.protobuf_parse.specs.declared.run.fault.RunFault.TheVariants as fault
 use Rattle.protobuf_parse.specs.declared.run.loader.LoadedFile.{LoadedFile}
@@ -73,21 +74,21 @@ module _ (legal : Legal) (files : Files) (told : List Event) where
   })
 
 -- the files of a run with this log
-abbrev pub run-files : List (Text × Text) → List ReadEntry → Trees → Files
-run-files table log trees = record { bundled = table; reads = log; trees = trees }
+abbrev pub run-files : List (Text × Text) → List ReadEntry → Trees → (Text → List FileSyntax) → (Text → CustomBytes) → Files
+run-files table log trees sees custom = record { bundled = table; reads = log; trees = trees; sees = sees; custom = custom }
 
-pub goes-on : (table : List (Text × Text)) (log : List ReadEntry) (trees : Trees) → HasTrees (run-files table log trees) → GoesOn (run-files table log trees) table log
-goes-on table log trees h = record { bundled = refl; reads = ([], sym (append-nil log)); trees = h }
+pub goes-on : (table : List (Text × Text)) (log : List ReadEntry) (trees : Trees) (sees : Text → List FileSyntax) (custom : Text → CustomBytes) → HasTrees table log trees → GoesOn (run-files table log trees sees custom) table log
+goes-on table log trees sees custom h = record { bundled = refl; reads = ([], sym (append-nil log)); trees = h }
 
 -- memory runs out before the first input
 pub unstarted : (resolve : MayResolve) (inputs : List Input) (r : Result (Vec FileDescriptorProto) RunFault) (f : RunFault) → r ≡ Err f → f ≡ fault.Memory → RunsByResolver resolve inputs r
 unstarted resolve inputs r f is m = (
   [],
   [],
-  λ trees has. rw is (inr (record {
+  λ trees sees custom has. rw is (inr (record {
     memory = m;
     done = [];
-    rest = until (fails (run-files [] [] trees)) (events trees inputs);
+    rest = until (fails (run-files [] [] trees sees custom)) (events trees inputs);
     beginning = refl;
     reads = tt;
   })),

@@ -8,7 +8,7 @@ use Rattle.protobuf_parse_syntax.specs.Trees.{FileSyntax, file_view}
 use Rattle.protobuf_parse_syntax.specs.declared.tree.FileTree.{FileTree}
 use Rattle.protobuf_parse_model.specs.Descriptors as described
 use Rattle.protobuf_parse_model.specs.Descriptors.{Text}
-use Rattle.protobuf_parse_model.specs.Elaboration.{file_faults, file_of}
+use Rattle.protobuf_parse_model.specs.FileDescriptor.{InAnyEnvironment, file_of}
 use Rattle.protobuf_parse_model.specs.Faults as elaborating
 use Rattle.protobuf_parse_model.specs.Faults.{fault_view}
 use Rattle.protobuf_parse.specs.declared.run.fault.RunFault.{RunFault}
@@ -23,7 +23,7 @@ use Rattle.std.specs.Str.{IsUtf8}
 use Rattle.protobuf_parse.specs.declared.run.fault.ResolveFault.{ResolveFault}
 use Rattle.protobuf_parse.specs.declared.run.fault.ReadInputFault.{ReadInputFault}
 use Rattle.protobuf_parse.specs.declared.run.log.ReadOutcome.TheVariants as outcome
-use Rattle.protobuf_parse.specs.Run.{Files, HasTrees, IsTheTree, first_read, fails, said, text_given, origin_given, Answers, StandsAt, StandsInLoad, StandsInElab, IsUnparsed}
+use Rattle.protobuf_parse.specs.Run.{Files, HasTrees, IsTheTree, environment_of, faults_of, first_read, fails, said, text_given, origin_given, Answers, StandsAt, StandsInLoad, StandsInElab, IsUnparsed}
 
 -- the answers that who is asked for a path may give
 abbrev pub Legal : Type 1
@@ -77,8 +77,7 @@ imports_shape trees paths = λ i a room chain. joined (walk trees i the_resolver
 pub record IsLoaded (files : Files) (log : List ReadEntry) (path : Text) (file : LoadedFile) : Type 0 where
   pub low : file.height ≤ 100
   pub is : files.trees path ≡ Some (file_view file.tree)
-  pub faultless : file_faults (file_view file.tree) ≡ []
-  pub descriptor : described.file_view file.descriptor ≡ file_of path (file_view file.tree)
+  pub descriptor : described.file_view file.descriptor ≡ file_of (environment_of files path (file_view file.tree)) path (file_view file.tree)
   pub entry : ReadEntry
   pub read : slice_get log file.read ≡ Some entry
   pub named : path_buf_text entry.path ≡ path
@@ -195,8 +194,8 @@ pub record IsAdded (path : Text) (tree : FileSyntax) (height read : ℕ) (old ne
   pub tree_is : file_view file.tree ≡ tree
   pub height_is : file.height ≡ height
   pub read_is : file.read ≡ read
-  pub faultless : file_faults tree ≡ []
-  pub descriptor : described.file_view file.descriptor ≡ file_of path tree
+  pub faultless : InAnyEnvironment tree (λ env. faults_of env tree ≡ [])
+  pub descriptor : InAnyEnvironment tree (λ env. described.file_view file.descriptor ≡ file_of env path tree)
   pub placed_is : placed.height ≡ height
 
 -- between two imports of a file
@@ -224,7 +223,7 @@ ReadsTree legal table asked p old new (Err f) =
 pub record GoesOn (files : Files) (table : List (Text × Text)) (log : List ReadEntry) : Type 0 where
   pub bundled : files.bundled ≡ table
   pub reads : Grows log files.reads
-  pub trees : HasTrees files
+  pub trees : HasTrees files.bundled files.reads files.trees
 
 -- the loaded file of a path, as a look-up told it
 abbrev pub IsPlaced : Text → List Entry → Option Placed → Type 0
@@ -234,4 +233,4 @@ IsPlaced path loaded (Some placed) = (file : LoadedFile) × (file_at path loaded
 -- what an elaboration leaves
 abbrev pub Settles : Text → FileSyntax → ℕ → ℕ → List ReadEntry → List Entry → List Entry → Result Placed RunFault → Type 0
 Settles path tree height read log old new (Ok placed) = file_at path old ≡ None → IsAdded path tree height read old new placed
-Settles path tree height read log old new (Err f) = (e : ReadEntry) → slice_get log read ≡ Some e → path_buf_text e.path ≡ path → OrMemory f (StandsInElab (origin_given path (Some e.outcome)) (file_faults tree) f)
+Settles path tree height read log old new (Err f) = (e : ReadEntry) → slice_get log read ≡ Some e → path_buf_text e.path ≡ path → InAnyEnvironment tree (λ env. OrMemory f (StandsInElab (origin_given path (Some e.outcome)) (faults_of env tree) f))

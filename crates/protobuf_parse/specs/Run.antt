@@ -1,5 +1,5 @@
 -- What a run read, which of its events fails, and which fault stands at an event.
-use Rattle.std.specs.Prelude.{◌≡◌, ◌⊎◌, ◌+◌, ℕ, length, Bool, true, false, not, List, [], ◌∷◌, ◌++◌, map, Option, Some, None, is_some, option_map, slice_get, Result, Ok, Err, if◌then◌else◌, bytes_eq, string_bytes, find}
+use Rattle.std.specs.Prelude.{◌≡◌, ◌⊎◌, ◌≤◌, ◌+◌, ℕ, length, Bool, true, false, not, List, [], ◌∷◌, ◌++◌, map, Option, Some, None, is_some, option_map, slice_get, Result, Ok, Err, if◌then◌else◌, bytes_eq, string_bytes, find}
 use Rattle.std.specs.Global.{Vec}
 use Rattle.std.specs.Borrow.{Bor}
 use Rattle.std.specs.Str.{IsUtf8}
@@ -10,7 +10,9 @@ use Rattle.protobuf_parse_syntax.specs.Trees.{FileSyntax}
 use Rattle.protobuf_parse_syntax.specs.declared.error.ParserErrorWithLocation.{ParserErrorWithLocation}
 use Rattle.protobuf_parse_model.specs.Descriptors as described
 use Rattle.protobuf_parse_model.specs.Descriptors.{Text, FileDescriptor}
-use Rattle.protobuf_parse_model.specs.Elaboration.{file_faults, file_of}
+use Rattle.protobuf_parse_model.specs.Environment.{Environment, CustomBytes}
+use Rattle.protobuf_parse_model.specs.FileDescriptor.{environment, file_faults, file_of}
+use Rattle.protobuf_parse_model.specs.Unsupported.{unsupported_in}
 use Rattle.protobuf_parse_model.specs.Faults as elaborating
 use Rattle.protobuf_parse_model.specs.Faults.{Among, fault_view}
 use Rattle.protobuf_parse_model.specs.declared.descriptor.FileDescriptorProto.{FileDescriptorProto}
@@ -59,18 +61,25 @@ abbrev pub origin_given : Text → Option ReadOutcome → Text
 origin_given path (Some (outcome.Content origin content)) = string_bytes origin
 origin_given path _ = path
 
--- What a run read, with the bundled files; and the tree of each path, as far as it has one.
+-- the bytes of a path: what the first read of it gave
+abbrev pub text_read : List (Text × Text) → List ReadEntry → Text → Option Text
+text_read bundled log path = text_given bundled path (first_read path log)
+
+-- What a run read, with the bundled files; the tree of each path, as far as it has one; which files each file
+-- sees, and what its custom options become.
 pub record Files : Type 0 where
   pub bundled : List (Text × Text)
   pub reads : List ReadEntry
   pub trees : Trees
+  pub sees : Text → List FileSyntax
+  pub custom : Text → CustomBytes
 
 -- what the first read of a path gave
 abbrev pub answer_for : Files → Text → Option ReadOutcome
 answer_for files path = first_read path files.reads
 
 abbrev pub text_for : Files → Text → Option Text
-text_for files path = text_given files.bundled path (answer_for files path)
+text_for files path = text_read files.bundled files.reads path
 
 -- the answer to the read with this number
 abbrev pub answer_at : Files → ℕ → Option ReadOutcome
@@ -88,8 +97,8 @@ abbrev pub IsTheTree : Option Text → Option FileSyntax → Type 0
 IsTheTree text t = IsTree text t × ((u : Option FileSyntax) → IsTree text u → u ≡ t)
 
 -- each path has the tree of its text; a path that was not read has none
-abbrev pub HasTrees : Files → Type 0
-HasTrees files = (path : Text) → IsTree (text_for files path) (files.trees path)
+abbrev pub HasTrees : List (Text × Text) → List ReadEntry → Trees → Type 0
+HasTrees bundled log trees = (path : Text) → IsTree (text_read bundled log path) (trees path)
 
 -- ---- which event fails
 
@@ -101,10 +110,17 @@ abbrev pub are_same_bytes : Option Text → Option Text → Bool
 are_same_bytes (Some a) (Some b) = bytes_eq a b
 are_same_bytes _ _ = false
 
--- the faults that stand in a file with this tree
-abbrev pub faults_in : Option FileSyntax → List elaborating.Fault
-faults_in (Some t) = file_faults t
-faults_in None = []
+-- from where the file of this path and tree is seen
+abbrev pub environment_of : Files → Text → FileSyntax → Environment
+environment_of files p t = environment (files.sees p) (files.custom p) t
+
+-- the faults that stand in a file, and the constructs of it that have no descriptor yet
+abbrev pub faults_of : Environment → FileSyntax → List elaborating.Fault
+faults_of env t = unsupported_in t ++ file_faults env t
+
+abbrev pub faults_in : Files → Text → Option FileSyntax → List elaborating.Fault
+faults_in files p (Some t) = faults_of (environment_of files p t) t
+faults_in files p None = []
 
 -- the bytes of the read with this number, which an input's own path was read by
 abbrev pub content_at : Files → ℕ → Option Text
@@ -115,7 +131,7 @@ fails files (cycle p) = true
 fails files (long i) = true
 fails files (load a p) = not (is_some (files.trees p))
 fails files (check n f p) = not (are_same_bytes (content_at files n) (text_for files p))
-fails files (elab p) = not (is_nothing (faults_in (files.trees p)))
+fails files (elab p) = not (is_nothing (faults_in files p (files.trees p)))
 
 -- ---- which fault stands where an event fails
 
@@ -174,7 +190,7 @@ StandsAt files (cycle p) = StandsInCycle p
 StandsAt files (long i) = StandsInLong i
 StandsAt files (load asked p) = StandsInLoad asked p (answer_for files p) (text_for files p)
 StandsAt files (check n own p) = StandsInCheck own p (answer_at files n)
-StandsAt files (elab p) = StandsInElab (origin_given p (answer_for files p)) (faults_in (files.trees p))
+StandsAt files (elab p) = StandsInElab (origin_given p (answer_for files p)) (faults_in files p (files.trees p))
 
 -- ---- which answers are legal
 
@@ -214,7 +230,7 @@ Answers legal _ _ = ⊥
 abbrev pub AreDescriptors : Files → List Text → List FileDescriptorProto → Type 0
 AreDescriptors files [] [] = Unit {0}
 AreDescriptors files (p ∷ paths) (d ∷ ds) =
-    ((t : FileSyntax) × (files.trees p ≡ Some t) × (described.file_view d ≡ file_of p t)) × AreDescriptors files paths ds
+    ((t : FileSyntax) × (files.trees p ≡ Some t) × (described.file_view d ≡ file_of (environment_of files p t) p t)) × AreDescriptors files paths ds
 AreDescriptors files _ _ = ⊥
 
 -- no event fails, and these are the descriptors of the files in order
@@ -242,16 +258,24 @@ abbrev pub Ends : (Asked → Text → ReadOutcome → Type 0) → Files → List
 Ends legal files events (Ok ds) = IsAccepted legal files events ds.items
 Ends legal files events (Err f) = IsRefused legal files events f ⊎ IsBroken legal files events f
 
--- In an accepted run a file is met once for each input and each import statement of the loaded files.
-abbrev pub IsMet : List Input → List (Text × Text) → List ReadEntry → ℕ → Result (Vec FileDescriptorProto) RunFault → Type 0
-IsMet inputs bundled log meets (Ok ds) =
-    (trees : Trees) → HasTrees (record { bundled = bundled; reads = log; trees = trees }) → meets ≡ length inputs + statements trees (events trees inputs)
-IsMet inputs bundled log meets (Err f) = Unit {0}
+-- files were met exactly so often where there is a result, and at most so often where there is none
+abbrev pub IsCounted : {X E : Type 0} → ℕ → ℕ → Result X E → Type 0
+IsCounted meets count (Ok _) = meets ≡ count
+IsCounted meets count (Err _) = meets ≤ count
 
--- A run over these inputs and bundled files read this log and ended so, whichever trees the texts have.
+-- A file is met once for each input and each import statement of the loaded files, if the run is accepted,
+-- and at most so often if it isn't.
+abbrev pub IsMet : List Input → List (Text × Text) → List ReadEntry → ℕ → Result (Vec FileDescriptorProto) RunFault → Type 0
+IsMet inputs bundled log meets result =
+    (trees : Trees) → HasTrees bundled log trees → IsCounted meets (length inputs + statements trees (events trees inputs)) result
+
+-- A run over these inputs and bundled files read this log and ended so, whichever trees the texts have. Nothing that
+-- has a descriptor yet asks other files or for custom options, so this holds whatever each file sees of the others,
+-- and whatever its custom options become.
 abbrev pub RunsAsTold : (Asked → Text → ReadOutcome → Type 0) → List Input → List (Text × Text) → List ReadEntry → Result (Vec FileDescriptorProto) RunFault → Type 0
 RunsAsTold legal inputs bundled log result =
-    (trees : Trees) → let files : Files = record { bundled = bundled; reads = log; trees = trees } in HasTrees files → Ends legal files (events trees inputs) result
+    (trees : Trees) (sees : Text → List FileSyntax) (custom : Text → CustomBytes) → HasTrees bundled log trees
+    → Ends legal (record { bundled = bundled; reads = log; trees = trees; sees = sees; custom = custom }) (events trees inputs) result
 
 -- a reader that finds nothing
 abbrev pub FindsNothing : MayRead

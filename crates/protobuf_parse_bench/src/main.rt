@@ -1,7 +1,12 @@
 //! Lexes and parses the file that its argument names, and prints how many tokens and statements it has and
-//! how long both took; or does so with a small text, without the times.
+//! how long both took; or, with `--files N`, loads N files that import each other, and prints how often files
+//! were met and how long it took. With no argument it takes a small text and 2,000 files, and leaves out the
+//! times.
 #![tactic(auto)]
 
+mod graph;
+
+use crate::graph::load;
 use anyhow::{Result, anyhow};
 use protobuf_parse_syntax::{parse_file, tokenize};
 use std::rt::Runtime;
@@ -48,17 +53,36 @@ fn measure<R: Runtime<A = std::alloc::Global>>(rt: &R, text: &str) -> Result<()>
     Ok(())
 }
 
-fn run<R: Runtime<A = std::alloc::Global>>(rt: &R) -> Result<()> {
-    let mut args = env::args(rt)?;
-    let _program = args.next();
-    if let Some(path) = args.next() {
-        let text = fs::read_to_string(rt, path.as_str())?;
-        return measure(rt, text.as_str());
-    }
+/// Prints how long so many files take.
+fn measure_files<R: Runtime<A = std::alloc::Global>>(rt: &R, files: u64) -> Result<()> {
+    let start = Instant::now(rt)?;
+    let (loaded, meets) = load(rt.alloc(), files)?;
+    let time = start.elapsed(rt)?.as_micros();
+    println!(rt; "{loaded} files, met {meets} times, in {time} microseconds")?;
+    Ok(())
+}
+
+/// Prints what does not change from one run to the next.
+fn count<R: Runtime<A = std::alloc::Global>>(rt: &R) -> Result<()> {
     let tokens = tokens(rt, MESSAGE)?;
     let statements = statements(rt, MESSAGE)?;
     println!(rt; "{tokens} tokens, {statements} statements")?;
+    let (loaded, meets) = load(rt.alloc(), 2000)?;
+    println!(rt; "{loaded} files, met {meets} times")?;
     Ok(())
+}
+
+fn run<R: Runtime<A = std::alloc::Global>>(rt: &R) -> Result<()> {
+    let mut args = env::args(rt)?;
+    let _program = args.next();
+    match (args.next(), args.next()) {
+        (None, _) => count(rt),
+        (Some(word), Some(files)) if word.as_str() == "--files" => measure_files(
+            rt,
+            files.parse()?,
+        ),
+        (Some(path), _) => measure(rt, fs::read_to_string(rt, path.as_str())?.as_str()),
+    }
 }
 
 fn main(rt: HostRuntime) -> Result<()> {

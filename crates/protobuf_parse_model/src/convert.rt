@@ -33,9 +33,7 @@ pub fn elaborate(
     name: &str,
     tree: &FileTree,
 ) -> Result<FileDescriptorProto, ElabFailure>
-    ensures supported { let t = file_view tree.now in
-        Elaborates described.file_view result (first.file_faults t) (first.file_of name.now t) }
-    ensures whole { let t = file_view tree.now in
+    ensures { let t = file_view tree.now in
         InAnyEnvironment t (λ env. Elaborates described.file_view result (unsupported_in t ++ file_faults env t) (file_of env name.now t)) }
 {
     descriptor_of_file(alloc, name, tree)

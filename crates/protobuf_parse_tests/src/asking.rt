@@ -42,7 +42,7 @@ struct FailsOnce<'a> {
 
 impl<'a> fmt::Display for FailsOnce<'a> {
     fn fmt<W: fmt::Write>(&self, f: &mut fmt::Formatter<W>) -> fmt::Result {
-        f.write_str("[\"in\"]")
+        f.write_str("Files")
     }
 }
 
@@ -138,7 +138,7 @@ struct InTurn<'a> {
 
 impl<'a> fmt::Display for InTurn<'a> {
     fn fmt<W: fmt::Write>(&self, f: &mut fmt::Formatter<W>) -> fmt::Result {
-        f.write_str("[\"in\"]")
+        f.write_str("Files")
     }
 }
 
@@ -185,12 +185,12 @@ fn keeps_the_first_answer_for_a_path(rt: HostRuntime) -> Result<(), Fail> {
         (
             &["x"],
             &[None, Some("message M {}")],
-            "protobuf path `x` is not found in import path [\"in\"] | x=none | 1",
+            "protobuf path `x` is not found in import path Files | x=none | 1",
         ),
         (
             &["x"],
             &[Some("import 'y';"), None, Some("message M {}")],
-            "protobuf path `y` is not found in import path [\"in\"] | x=in/x y=none | 2",
+            "protobuf path `y` is not found in import path Files | x=in/x y=none | 2",
         ),
         (
             &["x"],

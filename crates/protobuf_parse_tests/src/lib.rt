@@ -25,6 +25,4 @@ mod program;
 #[cfg(test)]
 mod texts;
 #[cfg(test)]
-mod wide;
-#[cfg(test)]
 mod wire;

@@ -39,11 +39,11 @@ fn loads_imports_first_and_each_file_once(rt: HostRuntime) -> Result<(), Fail> {
         (&["x"], "import cycle at `x` | x=in/x y=in/y | 3"),
         (
             &["nowhere", "a"],
-            "protobuf path `nowhere` is not found in import path [\"in\"] | nowhere=none | 1",
+            "protobuf path `nowhere` is not found in import path Files | nowhere=none | 1",
         ),
         (
             &["lost"],
-            "protobuf path `nowhere` is not found in import path [\"in\"] | lost=in/lost a=in/a nowhere=none | 3",
+            "protobuf path `nowhere` is not found in import path Files | lost=in/lost a=in/a nowhere=none | 3",
         ),
         (
             &["open"],
@@ -67,7 +67,7 @@ fn loads_imports_first_and_each_file_once(rt: HostRuntime) -> Result<(), Fail> {
         ),
         (
             &["b", "nowhere", "c"],
-            "protobuf path `nowhere` is not found in import path [\"in\"] | b=in/b a=in/a nowhere=none | 3",
+            "protobuf path `nowhere` is not found in import path Files | b=in/b a=in/a nowhere=none | 3",
         ),
     ] {
         let log = run(alloc, words, diamond, &[])?;
@@ -280,7 +280,7 @@ fn describes_each_file_after_its_imports(rt: HostRuntime) -> Result<(), Fail> {
     let refused = parse_and_typecheck_custom(alloc, &paths(alloc, &["all.proto", "c"])?, &files);
     let fault = RunFault::FileNotFoundInImportPath(
         String::from_str(alloc, "c")?,
-        String::from_str(alloc, "[\"in\"]")?,
+        String::from_str(alloc, "Files")?,
     );
     assert!(rt; refused == Err(fault));
     Ok(())

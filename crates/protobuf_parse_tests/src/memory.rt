@@ -16,7 +16,7 @@ pub struct Files<'a> {
 
 impl<'a> fmt::Display for Files<'a> {
     fn fmt<W: fmt::Write>(&self, f: &mut fmt::Formatter<W>) -> fmt::Result {
-        f.write_str("[\"in\"]")
+        f.write_str("Files")
     }
 }
 
@@ -62,7 +62,7 @@ pub struct Contents<'a> {
 
 impl<'a> fmt::Display for Contents<'a> {
     fn fmt<W: fmt::Write>(&self, f: &mut fmt::Formatter<W>) -> fmt::Result {
-        f.write_str("[\"in\"]")
+        f.write_str("Files")
     }
 }
 

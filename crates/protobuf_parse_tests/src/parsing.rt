@@ -1,6 +1,7 @@
 //! Trees and faults of small texts.
 
-use protobuf_parse_syntax::{parse_dependencies, parse_file};
+use protobuf_parse::pure::parse_dependencies;
+use protobuf_parse_syntax::parse_file;
 use std::alloc::{AllocError, Global};
 use std::test::Fail;
 
@@ -462,7 +463,15 @@ fn imports_in_order(rt: HostRuntime) -> Result<(), Fail> {
     let found = parse_dependencies(rt.alloc(), text)?;
     let shown = format!(in rt.alloc(); "{found:?}")?;
     let want =
-        "Dependencies { dependency: [\"google/protobuf/field_mask.proto\", \"google/protobuf/struct.proto\", \"a.proto\", \"a.proto\"], public_dependency: [1], weak_dependency: [2] }";
+        "FileDescriptorProto { name: None, package: None, syntax: None, dependency: [\"google/protobuf/field_mask.proto\", \"google/protobuf/struct.proto\", \"a.proto\", \"a.proto\"], public_dependency: [1], weak_dependency: [2], message_type: [], enum_type: [], service: [], extension: [], options: None }";
     assert_eq!(rt; shown.as_str(), want);
+    let fault = match parse_dependencies(rt.alloc(), "import 'a'; import 'b/../c';") {
+        Ok(_) => String::new(rt.alloc()),
+        Err(fault) => format!(in rt.alloc(); "{fault}")?,
+    };
+    assert_eq!(rt;
+        fault.as_str(),
+        "at 1:20: S19 BadImportPath: dot-dot in path"
+    );
     Ok(())
 }

@@ -7,12 +7,12 @@ ghost use Rattle.protobuf_parse_base.specs.declared.proto_path.path.ProtoPathBuf
 ghost use Rattle.protobuf_parse_base.specs.PathViews.{path_buf_text};
 ghost use Rattle.protobuf_parse_syntax.specs.Trees.{file_view};
 ghost use Rattle.protobuf_parse_model.specs.Descriptors as described;
-ghost use Rattle.protobuf_parse_model.specs.Elaboration.{file_faults, file_of};
+ghost use Rattle.protobuf_parse_model.specs.FileDescriptor.{InAnyEnvironment, file_of};
 ghost use Rattle.protobuf_parse_model.specs.Faults.{Elaborates, fault_view};
 ghost use Rattle.protobuf_parse.specs.declared.run.fault.RunFault.TheVariants.{Memory};
 ghost use Rattle.protobuf_parse.specs.declared.run.log.ReadEntry.{ReadEntry};
 ghost use Rattle.protobuf_parse.specs.Walks.{Event, among, at, checks, events, import_paths, input_walk, keep, statements, walk};
-ghost use Rattle.protobuf_parse.specs.Run.{Files, MayAnswer, are_same_bytes, input_view, StandsInCheck, StandsInCycle, StandsInLong, origin_given, rows, text_given};
+ghost use Rattle.protobuf_parse.specs.Run.{Files, IsCounted, MayAnswer, are_same_bytes, faults_of, input_view, StandsInCheck, StandsInCycle, StandsInLong, origin_given, rows, text_given};
 ghost use Rattle.protobuf_parse.specs.Loading.{Goes, GoesOn, Good, Grows, IsElabFault, IsPlaced, IsReaders, IsShadowed, Leaves, OrMemory, ReadsTree, Settles, asked_by, file_shape, texts};
 
 use crate::run::asking::{answer, content, opened, origin, unreadable};
@@ -78,7 +78,7 @@ pub fn load_inputs<R: ProtoPathResolver, I: InputReader>(
         GoesOn files (rows sources.now.bundled.now) loader.new.reads.items
         → Goes legal files (events files.trees (map input_view inputs.now)) loader.new.loaded.entries loader.new.reads.items result }
     ensures count { (files : Files) → GoesOn files (rows sources.now.bundled.now) loader.new.reads.items
-        → OnOk result (loader.new.meets ≡ length inputs.now + statements files.trees (events files.trees (map input_view inputs.now))) }
+        → IsCounted loader.new.meets (length inputs.now + statements files.trees (events files.trees (map input_view inputs.now))) result }
 {
     for input in inputs {
         load_input(alloc, loader, sources, input)?;
@@ -108,8 +108,8 @@ fn load_input<R: ProtoPathResolver, I: InputReader>(
         → let legal = MayAnswer (λ p a. R.may_answer sources.now.resolver.now p a) (λ p a. I.may_read sources.now.reader.now p a) in
         GoesOn files (rows sources.now.bundled.now) loader.new.reads.items
         → Good legal files kept loader.old.loaded.entries loader.old.reads.items []
-        → OnOk result (loader.new.meets + statements files.trees kept
-        ≡ loader.old.meets + 1 + statements files.trees (keep (kept ++ checks kept (input_view input.now)) (input_walk files.trees (input_view input.now)))) }
+        → IsCounted (loader.new.meets + statements files.trees kept)
+        (loader.old.meets + 1 + statements files.trees (keep (kept ++ checks kept (input_view input.now)) (input_walk files.trees (input_view input.now)))) result }
 {
     match input {
         RunInput::Named(name) => {
@@ -260,8 +260,8 @@ fn load_file<R: ProtoPathResolver, I: InputReader>(
         let chain = texts loader.old.chain.items in
         GoesOn files (rows sources.now.bundled.now) loader.new.reads.items
         → Good legal files kept loader.old.loaded.entries loader.old.reads.items chain
-        → OnOk result (loader.new.meets + statements files.trees kept
-        ≡ loader.old.meets + 1 + statements files.trees (keep kept (walk files.trees (path_buf_text input.now) (asked_by fs_path.entry) (LIMIT - length chain) chain (path_buf_text path.now)))) }
+        → IsCounted (loader.new.meets + statements files.trees kept)
+        (loader.old.meets + 1 + statements files.trees (keep kept (walk files.trees (path_buf_text input.now) (asked_by fs_path.entry) (LIMIT - length chain) chain (path_buf_text path.now)))) result }
 {
     let _known = loader.reads.as_slice();
     loader.meets += 1;
@@ -464,7 +464,8 @@ fn elaborated(
     path: &str,
     tree: &FileTree,
 ) -> Result<FileDescriptorProto, ElabFailure>
-    ensures { Elaborates described.file_view result (file_faults (file_view tree.now)) (file_of path.now (file_view tree.now)) }
+    ensures { let t = file_view tree.now in
+        InAnyEnvironment t (λ env. Elaborates described.file_view result (faults_of env t) (file_of env path.now t)) }
 {
     elaborate(alloc, path, tree)
 }

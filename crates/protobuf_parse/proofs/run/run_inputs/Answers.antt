@@ -1,5 +1,6 @@
-use Rattle.std.proofs.Common.{◌∙◌, ◌+◌, inr, refl, sym, ap, map}
-use Rattle.protobuf_parse.specs.Walks.{events, statements}
+use Rattle.protobuf_parse_model.specs.Environment.{no_custom}
+use Rattle.std.proofs.Common.{[], inr, refl, map, arith}
+use Rattle.protobuf_parse.specs.Walks.{events}
 use Rattle.protobuf_parse.specs.Run.{MayAnswer, input_view, rows}
 use Rattle.protobuf_parse.proofs.Counting.{lengths}
 use Rattle.protobuf_parse.proofs.Telling.{accepted, broken, stopped, run-files, goes-on}
@@ -7,13 +8,13 @@ use Rattle.protobuf_parse.proofs.run.run_inputs.Goals as goal
 use Rattle.protobuf_parse.proofs.run.run_inputs.Goals.{in-Ok+in-Ok-descriptors, in-Ok+in-Err-descriptors, in-Err}
 
 pub returns-clause-told : goal.returns-clause-told
-returns-clause-told g c trees has =
+returns-clause-told g c trees sees custom has =
     let legal = MayAnswer (λ p a. g.R.ProtoPathResolver.may_answer c.args.resolver.now p a) (λ p a. g.I.InputReader.may_read c.args.reader.now p a) in
     let table = rows c.args.bundled.now in
     let log = c.load_inputs-outcome.new.loader.reads.items in
-    let files = run-files table log trees in
+    let files = run-files table log trees sees custom in
     let told = events trees (map input_view c.args.inputs.now) in
-    let go = goes-on table log trees has in
+    let go = goes-on table log trees sees custom has in
     elim c.match-outcome.branch [
       | in-Ok+in-Ok-descriptors w ↦ rw w.result-is (accepted legal files told _ _ (w.in-Ok.ensures.goes files go) w.in-Ok-descriptors.ensures)
       | in-Ok+in-Err-descriptors w ↦ rw w.result-is (inr (broken legal files told _ _ (w.in-Ok.ensures.goes files go) refl))
@@ -21,11 +22,14 @@ returns-clause-told g c trees has =
     ]
 
 pub returns-clause-meets : goal.returns-clause-meets
-returns-clause-meets g c =
+returns-clause-meets g c trees has =
     let table = rows c.args.bundled.now in
     let log = c.load_inputs-outcome.new.loader.reads.items in
+    let files = run-files table log trees (λ p. []) (λ p. no_custom) in
+    let go = goes-on table log trees (λ p. []) (λ p. no_custom) has in
+    let same = lengths input_view c.args.inputs.now in
     elim c.match-outcome.branch [
-      | in-Ok+in-Ok-descriptors w ↦ rw w.result-is (λ trees has. w.in-Ok.ensures.count (run-files table log trees) (goes-on table log trees has) ∙ ap (λ z. z + statements trees (events trees (map input_view c.args.inputs.now))) (sym (lengths input_view c.args.inputs.now)))
-      | in-Ok+in-Err-descriptors w ↦ rw w.result-is tt
-      | in-Err w ↦ rw w.result-is tt
+      | in-Ok+in-Ok-descriptors w ↦ rw w.result-is (omega (arith, same, w.in-Ok.ensures.count files go))
+      | in-Ok+in-Err-descriptors w ↦ rw w.result-is (omega (arith, same, w.in-Ok.ensures.count files go))
+      | in-Err w ↦ rw w.result-is (omega (arith, same, w.in-Err.ensures.count files go))
     ]

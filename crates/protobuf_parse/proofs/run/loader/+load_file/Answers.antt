@@ -11,7 +11,7 @@ use Rattle.protobuf_parse.specs.declared.run.log.ReadEntry.{ReadEntry}
 use Rattle.protobuf_parse_base.specs.declared.proto_path.path.ProtoPathBuf.{ProtoPathBuf}
 use Rattle.protobuf_parse.proofs.Steps.{Grows-trans}
 use Rattle.protobuf_parse.proofs.Leaving.{texts-length, texts-push, init-bound, leaves-cycle, leaves-tall, leaves-again, leaves-full, leaves-read, leaves-open, leaves-before, leaves-step, leaves-err, leaves-push, leaves-end, tree-known, split-at, next-at, goes-back, goes-same, low-height}
-use Rattle.protobuf_parse.proofs.Counting.{if_ok, lengths, count-open, count-step, count-end, count-again}
+use Rattle.protobuf_parse.proofs.Counting.{counted, lengths, count-here, count-open, count-step, count-stop, count-end, count-again}
 use Rattle.protobuf_parse.proofs.run.loader.+load_file.Goals as goal
 use Rattle.protobuf_parse.proofs.run.loader.+load_file.Goals.{then-placed-height, else-placed-height}
 
@@ -184,6 +184,64 @@ returns-clause-leaves g t c files kept go good =
     let all = ap (map v) (take_all _ _ (omega arith) ∙ c.deref-import-items.ensures.value) ∙ c.in_ok-imports.ensures in
     leaves-end _ files kept (path_buf_text c.args.input.now) (asked_by c.args.fs_path) _ _ _ _ l.0 _ _ c.loop-import.height _ _ _ _ _ c.settle.result text_is reads (add-one c.loop-import.height) all l.1 known (omega (arith, n, c.loop-import.invariant.low)) (omega (arith, c.loop-import.invariant.low)) off c.settle.ensures.settles
 
+pub returns-then-is_on_chain-clause-count : goal.returns-then-is_on_chain-clause-count
+returns-then-is_on_chain-clause-count g t c files kept go good = count-here files.trees kept (path_buf_text c.args.input.now) (asked_by c.args.fs_path) _ (texts c.args.loader.now.chain.items) (path_buf_text c.args.path.now) _ _ refl
+
+pub returns-then-placed-len-clause-count : goal.returns-then-placed-len-clause-count
+returns-then-placed-len-clause-count g t c files kept go good = count-here files.trees kept (path_buf_text c.args.input.now) (asked_by c.args.fs_path) _ (texts c.args.loader.now.chain.items) (path_buf_text c.args.path.now) _ _ refl
+
+pub returns-then-len-eq-LIMIT-clause-count : goal.returns-then-len-eq-LIMIT-clause-count
+returns-then-len-eq-LIMIT-clause-count g t c files kept go good = count-here files.trees kept (path_buf_text c.args.input.now) (asked_by c.args.fs_path) _ (texts c.args.loader.now.chain.items) (path_buf_text c.args.path.now) _ _ refl
+
+pub returns-in_err-tree-clause-count : goal.returns-in_err-tree-clause-count
+returns-in_err-tree-clause-count g t c files kept go good =
+    let p = err_from_is_err_and c.from_residual.result c.from_residual.ensures.1 in
+    rw p.1 (count-here files.trees kept (path_buf_text c.args.input.now) (asked_by c.args.fs_path) _ (texts c.args.loader.now.chain.items) (path_buf_text c.args.path.now) _ _ c.read_tree.ensures.meets)
+
+pub returns-in_err-enter-clause-count : goal.returns-in_err-enter-clause-count
+returns-in_err-enter-clause-count g t c files kept go good =
+    let p = err_from_is_err_and c.from_residual-in_err-enter.result c.from_residual-in_err-enter.ensures.1 in
+    rw p.1 (count-here files.trees kept (path_buf_text c.args.input.now) (asked_by c.args.fs_path) _ (texts c.args.loader.now.chain.items) (path_buf_text c.args.path.now) _ _ c.read_tree.ensures.meets)
+
+pub returns-in_err-imports-clause-count : goal.returns-in_err-imports-clause-count
+returns-in_err-imports-clause-count g t c files kept go good =
+    let p = err_from_is_err_and c.from_residual-in_err-imports.result c.from_residual-in_err-imports.ensures.1 in
+    rw p.1 (count-here files.trees kept (path_buf_text c.args.input.now) (asked_by c.args.fs_path) _ (texts c.args.loader.now.chain.items) (path_buf_text c.args.path.now) _ _ c.read_tree.ensures.meets)
+
+pub returns-in_err-placed-clause-count : goal.returns-in_err-placed-clause-count
+returns-in_err-placed-clause-count g t c files kept go good =
+    let text_is = c.to_str-text.ensures.text ∙ c.as_path.ensures in
+    let n = texts-length c.args.loader.now.chain.items in
+    let off : among (path_buf_text c.args.path.now) (texts c.args.loader.now.chain.items) ≡ false = rw (← text_is, ← c.deref.ensures.value) (sym c.is_on_chain.ensures ∙ c.if-is_on_chain.false) in
+    let none : file_at (path_buf_text c.args.path.now) c.args.loader.now.loaded.entries ≡ None = subst (λ (z : Text). file_at z c.args.loader.now.loaded.entries ≡ None) text_is c.in_default.ensures in
+    let v = λ (b : Bor ProtoPathBuf). path_buf_text b.now in
+    let xs = c.deref-import-items.result.now in
+    let back = goes-back files _ _ _ c.load_file.ensures.grows go in
+    let l = c.loop-import.invariant.inside files kept back good in
+    let k = c.loop-import.invariant.chain in
+    let inner = ap texts k.1 ∙ texts-push c.args.loader.now.chain.items k.0 _ k.2 in
+    let known = tree-known _ files _ kept _ _ _ _ _ (asked_by c.args.fs_path) _ c.in_ok-tree.tree back c.loop-import.invariant.grows good off none c.in_ok-tree.ensures.read in
+    let is = sym (c.in_ok-imports.ensures) ∙ (ap (map v) (sym c.deref-import-items.ensures.value) ∙ split-at v xs c.loop-import.import-index c.import-item.result (omega arith) c.import-item.is) in
+    let p = err_from_is_err_and c.from_residual-in_err-placed.result c.from_residual-in_err-placed.ensures.1 in
+    rw p.1 (count-stop _ files kept (path_buf_text c.args.input.now) (asked_by c.args.fs_path) _ _ _ _ l.0 _ c.loop-import.height _ _ _ _ _ _ _ _ _ _ inner l.1 known (omega (arith, n, c.loop-import.invariant.low)) off is (omega arith) (c.loop-import.invariant.count files kept back good) (λ x. c.in_err-placed.ensures.count files _ go x))
+
+pub returns-in_err-push-clause-count : goal.returns-in_err-push-clause-count
+returns-in_err-push-clause-count g t c files kept go good =
+    let text_is = c.to_str-text.ensures.text ∙ c.as_path.ensures in
+    let n = texts-length c.args.loader.now.chain.items in
+    let off : among (path_buf_text c.args.path.now) (texts c.args.loader.now.chain.items) ≡ false = rw (← text_is, ← c.deref.ensures.value) (sym c.is_on_chain.ensures ∙ c.if-is_on_chain.false) in
+    let none : file_at (path_buf_text c.args.path.now) c.args.loader.now.loaded.entries ≡ None = subst (λ (z : Text). file_at z c.args.loader.now.loaded.entries ≡ None) text_is c.in_default.ensures in
+    let v = λ (b : Bor ProtoPathBuf). path_buf_text b.now in
+    let xs = c.deref-import-items.result.now in
+    let back = goes-back files _ _ _ c.load_file.ensures.grows go in
+    let l = c.loop-import.invariant.inside files kept back good in
+    let k = c.loop-import.invariant.chain in
+    let inner = ap texts k.1 ∙ texts-push c.args.loader.now.chain.items k.0 _ k.2 in
+    let known = tree-known _ files _ kept _ _ _ _ _ (asked_by c.args.fs_path) _ c.in_ok-tree.tree back c.loop-import.invariant.grows good off none c.in_ok-tree.ensures.read in
+    let is = sym (c.in_ok-imports.ensures) ∙ (ap (map v) (sym c.deref-import-items.ensures.value) ∙ split-at v xs c.loop-import.import-index c.import-item.result (omega arith) c.import-item.is) in
+    let p = err_from_is_err_and c.from_residual-in_err-push.result c.from_residual-in_err-push.ensures.1 in
+    rw p.1 (count-stop _ files kept (path_buf_text c.args.input.now) (asked_by c.args.fs_path) _ _ _ _ l.0 _ c.loop-import.height _ _ _ _ _ _ _ _ _ _ inner l.1 known (omega (arith, n, c.loop-import.invariant.low)) off is (omega arith) (c.loop-import.invariant.count files kept back good) (λ x. omega (arith, c.in_ok-placed.ensures.count files _ go x)))
+
 pub returns-in-Some-clause-count : goal.returns-in-Some-clause-count
 returns-in-Some-clause-count g t c files kept go good =
     let text_is = c.to_str-text.ensures.text ∙ c.as_path.ensures in
@@ -202,4 +260,4 @@ returns-clause-count g t c files kept go good =
     let l = c.loop-import.invariant.inside files kept back good in
     let known = tree-known _ files _ kept _ _ _ _ _ (asked_by c.args.fs_path) _ c.in_ok-tree.tree back c.loop-import.invariant.grows good off none c.in_ok-tree.ensures.read in
     let all = ap (map v) (take_all _ _ (omega arith) ∙ c.deref-import-items.ensures.value) ∙ c.in_ok-imports.ensures in
-    if_ok c.settle.result (count-end _ files kept (path_buf_text c.args.input.now) (asked_by c.args.fs_path) _ _ _ l.0 _ c.loop-import.height _ _ _ _ _ _ _ _ l.1 known (omega (arith, n, c.loop-import.invariant.low)) off all (omega arith) c.settle.ensures.meets (c.loop-import.invariant.count files kept back good))
+    counted c.settle.result _ _ (count-end _ files kept (path_buf_text c.args.input.now) (asked_by c.args.fs_path) _ _ _ l.0 _ c.loop-import.height _ _ _ _ _ _ _ _ l.1 known (omega (arith, n, c.loop-import.invariant.low)) off all (omega arith) c.settle.ensures.meets (c.loop-import.invariant.count files kept back good))

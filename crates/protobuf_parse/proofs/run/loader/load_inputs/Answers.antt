@@ -3,7 +3,7 @@ use Rattle.std.proofs.lemmas.List.{take_all}
 use Rattle.std.proofs.lemmas.Result.{err_from_is_err_and}
 use Rattle.protobuf_parse.specs.Walks.{events, statements}
 use Rattle.protobuf_parse.specs.Run.{MayAnswer, input_view}
-use Rattle.protobuf_parse.proofs.Counting.{count-inputs}
+use Rattle.protobuf_parse.proofs.Counting.{count-inputs, count-inputs-stop}
 use Rattle.protobuf_parse.proofs.Inputs.{inputs-step, inputs-stop, good-start, events-none}
 use Rattle.protobuf_parse.proofs.Leaving.{goes-back, split-at, next-at}
 use Rattle.protobuf_parse.proofs.run.loader.load_inputs.Goals as goal
@@ -25,7 +25,13 @@ returns-in_err-load_input g c = record {
       let is = split-at input_view xs c.loop-input.input-index c.input-item.result (omega arith) c.input-item.is in
       let p = err_from_is_err_and c.from_residual.result c.from_residual.ensures.1 in
       rw (p.1, p.2) (inputs-stop _ files _ _ _ _ _ c.in_err-load_input.field-0.0 is (c.in_err-load_input.ensures.goes files _ go good));
-  count = λ files go. let p = err_from_is_err_and c.from_residual.result c.from_residual.ensures.1 in rw p.1 tt;
+  count = λ files go.
+      let xs = c.args.inputs.now in
+      let back = goes-back files _ _ _ c.load_input.ensures.grows go in
+      let good = c.loop-input.invariant.inside files back in
+      let is = split-at input_view xs c.loop-input.input-index c.input-item.result (omega arith) c.input-item.is in
+      let p = err_from_is_err_and c.from_residual.result c.from_residual.ensures.1 in
+      rw p.1 (count-inputs-stop (MayAnswer (λ p a. g.R.ProtoPathResolver.may_answer c.args.sources.now.resolver.now p a) (λ p a. g.I.InputReader.may_read c.args.sources.now.reader.now p a)) files _ _ _ _ _ _ _ _ is (omega arith) (c.loop-input.invariant.count files back) (c.in_err-load_input.ensures.count files _ go good));
 }
 
 pub loop-input-preserved : goal.loop-input-preserved

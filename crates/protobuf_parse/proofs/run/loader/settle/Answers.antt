@@ -1,9 +1,14 @@
-use Rattle.std.proofs.Common.{◌≡◌, ◌∙◌, refl, sym, subst, None}
+use Rattle.std.proofs.Common.{◌≡◌, ◌∙◌, refl, sym, subst, Some, None}
 use Rattle.std.specs.Prelude.{string_eq}
 use Rattle.indexmap.proofs.CallerLemmas.{insert_entry-new}
+use Rattle.protobuf_parse_syntax.specs.Trees.{file_view}
 use Rattle.protobuf_parse_model.specs.Descriptors.{Text}
+use Rattle.protobuf_parse_model.specs.Faults.{fault_view}
+use Rattle.protobuf_parse_model.specs.FileDescriptor.{environment}
+use Rattle.protobuf_parse.specs.Run.{faults_of, origin_given}
 use Rattle.protobuf_parse.specs.declared.run.loader.LoadedFile.{LoadedFile}
 use Rattle.protobuf_parse.specs.Loading.{file_at}
+use Rattle.protobuf_parse.proofs.Leaving.{elab-stands}
 use Rattle.protobuf_parse.proofs.run.loader.settle.Goals as goal
 
 pub returns-clause-settles : goal.returns-clause-settles
@@ -19,7 +24,12 @@ returns-clause-settles c none =
       tree_is = refl;
       height_is = refl;
       read_is = refl;
-      faultless = c.in-Ok.ensures.0;
-      descriptor = c.in-Ok.ensures.1;
+      faultless = λ seen custom. (c.in-Ok.ensures seen custom).0;
+      descriptor = λ seen custom. (c.in-Ok.ensures seen custom).1;
       placed_is = refl;
     }
+
+pub returns-in-Err-Fault-clause-settles : goal.returns-in-Err-Fault-clause-settles
+returns-in-Err-Fault-clause-settles c e found named seen custom =
+    let t = file_view c.args.tree in
+    elab-stands (origin_given c.args.path.now (Some e.outcome)) (faults_of (environment seen custom t) t) (fault_view c.in-Err-Fault.error) c.refused.result (rw c.in-Err-Fault.field-0-is at (c.in-Err-Fault.ensures seen custom)) (c.refused.ensures e (rw c.deref-in-Err-Fault.ensures.value found) named)
