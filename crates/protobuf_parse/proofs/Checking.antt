@@ -22,7 +22,7 @@ answers-length legal (r ∷ rs) (e ∷ log) a = let h = answers-length legal rs 
 answers-length legal [] (e ∷ log) a = absurd a
 answers-length legal (r ∷ rs) [] a = absurd a
 
-among-at : (log : List ReadEntry) (n : ℕ) (e : ReadEntry) → slice_get log n ≡ Some e → among (path_buf_text e.path) (read_paths log) ≡ true
+pub among-at : (log : List ReadEntry) (n : ℕ) (e : ReadEntry) → slice_get log n ≡ Some e → among (path_buf_text e.path) (read_paths log) ≡ true
 among-at [] n e h = cc
 among-at (x ∷ log) zero e h = let z : x ≡ e = cc in rw z (or_left _ _ (text-same (path_buf_text e.path)))
 among-at (x ∷ log) (suc n) e h = rw (among-at log n e h) (bool_or_true _)

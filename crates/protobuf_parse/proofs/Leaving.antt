@@ -1,8 +1,8 @@
 -- What a call that loads a file leaves, at each of its ends.
 use Rattle.std.proofs.Common.{◌≡◌, ℕ, suc, ◌+◌, ◌-◌, ◌*◌, ◌<◌, ◌≤◌, true, false, inl, inr, List, [], ◌∷◌, ◌++◌, map, Option, Some, None, Result, Ok, Err, refl, sym, ◌∙◌, ap, subst, append_assoc, append-nil, length, max, arith, take, drop, get_or, drop-cons, not}
-use Rattle.std.specs.Prelude.{String, string_bytes, IfOk}
+use Rattle.std.specs.Prelude.{String, string_bytes, IfOk, OnOk}
 use Rattle.std.specs.Global.{Global}
-use Rattle.std.proofs.lemmas.List.{take_more, take-append-drop}
+use Rattle.std.proofs.lemmas.List.{length_push, take_at, take_more, take-append-drop}
 use Rattle.protobuf_parse_syntax.specs.Trees.{FileSyntax, file_view}
 use Rattle.protobuf_parse_syntax.specs.declared.tree.FileTree.{FileTree}
 use Rattle.protobuf_parse_model.specs.Descriptors.{Text}
@@ -42,6 +42,17 @@ split-at f xs n b lt is =
 
 pub next-at : {A B : Type 0} (f : A → B) (xs : List A) (n : ℕ) (b : A) → n < length xs → b ≡ get_or xs n b → map f (take (n + 1) xs) ≡ map f (take n xs) ++ f b ∷ []
 next-at f xs n b lt is = ap (map f) (take_more xs n b lt) ∙ (map-append f (take n xs) (get_or xs n b ∷ []) ∙ ap (λ z. map f (take n xs) ++ f z ∷ []) (sym is))
+
+pub on_ok : {X E P : Type 0} (r : Result X E) → P → OnOk r P
+on_ok (Ok x) p = p
+on_ok (Err e) p = tt
+
+-- the last is taken off again
+pub popped : {A : Type 0} (xs ys zs : List A) (x : A) (n : ℕ) → ys ≡ xs ++ x ∷ [] → n ≡ length ys → zs ≡ take (n - 1) ys → zs ≡ xs
+popped xs ys zs x n pushed is rest =
+    let k = ap length pushed ∙ length_push xs x in
+    let e : n - 1 ≡ length xs = omega (arith, k, is) in
+    rest ∙ (rw (e, pushed) (take_at xs (x ∷ []) (length xs) refl))
 
 pub goes-back : (files : Files) (table : List (Text × Text)) (old new : List ReadEntry) → Grows old new → GoesOn files table new → GoesOn files table old
 goes-back files table old new g go = record { bundled = go.bundled; reads = Grows-trans old new files.reads g go.reads; trees = go.trees }

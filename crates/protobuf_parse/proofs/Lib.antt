@@ -10,3 +10,5 @@ pub mod Inputs
 pub mod Checking
 pub mod Telling
 pub mod Counting
+pub mod Deciding
+pub mod Causing

@@ -85,6 +85,7 @@ pub unstarted : (resolve : MayResolve) (inputs : List Input) (r : Result (Vec Fi
 unstarted resolve inputs r f is m = (
   [],
   [],
+  (λ p. None, λ p. tt),
   λ trees sees custom has. rw is (inr (record {
     memory = m;
     done = [];

@@ -100,6 +100,10 @@ IsTheTree text t = IsTree text t × ((u : Option FileSyntax) → IsTree text u �
 abbrev pub HasTrees : List (Text × Text) → List ReadEntry → Trees → Type 0
 HasTrees bundled log trees = (path : Text) → IsTree (text_read bundled log path) (trees path)
 
+-- Each text that was read has a tree or none, so that there are such trees.
+abbrev pub HaveTrees : List (Text × Text) → List ReadEntry → Type 0
+HaveTrees bundled log = (trees : Trees) × HasTrees bundled log trees
+
 -- ---- which event fails
 
 abbrev pub is_nothing : {A : Type 0} → List A → Bool
@@ -258,6 +262,12 @@ abbrev pub Ends : (Asked → Text → ReadOutcome → Type 0) → Files → List
 Ends legal files events (Ok ds) = IsAccepted legal files events ds.items
 Ends legal files events (Err f) = IsRefused legal files events f ⊎ IsBroken legal files events f
 
+-- L5 comes only where the resolver may give such a fault for the path, and L4 only where the reader may give one.
+abbrev pub IsCaused : MayResolve → MayRead → RunFault → Type 0
+IsCaused resolve read (fault.Resolver path why) = (given : ResolveFault) × resolve (string_bytes path) (Err given) × (said why ≡ said given)
+IsCaused resolve read (fault.CouldNotReadFile path why) = (own : Text) × read own (Err why)
+IsCaused resolve read _ = Unit {0}
+
 -- files were met exactly so often where there is a result, and at most so often where there is none
 abbrev pub IsCounted : {X E : Type 0} → ℕ → ℕ → Result X E → Type 0
 IsCounted meets count (Ok _) = meets ≡ count
@@ -284,4 +294,4 @@ FindsNothing own answer = answer ≡ Err unread.NotFound
 -- A run over these inputs, by such a resolver and with some bundled files, read some log and ended so.
 abbrev pub RunsByResolver : MayResolve → List Input → Result (Vec FileDescriptorProto) RunFault → Type 0
 RunsByResolver resolve inputs result =
-    (bundled : List (Text × Text)) × (log : List ReadEntry) × RunsAsTold (MayAnswer resolve FindsNothing) inputs bundled log result
+    (bundled : List (Text × Text)) × (log : List ReadEntry) × HaveTrees bundled log × RunsAsTold (MayAnswer resolve FindsNothing) inputs bundled log result

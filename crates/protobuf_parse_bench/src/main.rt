@@ -75,13 +75,16 @@ fn count<R: Runtime<A = std::alloc::Global>>(rt: &R) -> Result<()> {
 fn run<R: Runtime<A = std::alloc::Global>>(rt: &R) -> Result<()> {
     let mut args = env::args(rt)?;
     let _program = args.next();
-    match (args.next(), args.next()) {
-        (None, _) => count(rt),
-        (Some(word), Some(files)) if word.as_str() == "--files" => measure_files(
-            rt,
-            files.parse()?,
-        ),
-        (Some(path), _) => measure(rt, fs::read_to_string(rt, path.as_str())?.as_str()),
+    let Some(word) = args.next() else {
+        return count(rt);
+    };
+    if word.as_str() != "--files" {
+        let text = fs::read_to_string(rt, word.as_str())?;
+        return measure(rt, text.as_str());
+    }
+    match args.next() {
+        Some(files) => measure_files(rt, files.parse()?),
+        None => Err(anyhow!("--files takes a number")),
     }
 }
 

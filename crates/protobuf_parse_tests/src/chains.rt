@@ -99,7 +99,9 @@ fn refuses_a_chain_of_a_hundred_and_one(rt: HostRuntime) -> Result<(), Fail> {
     assert_eq!(rt; log.reads.len(), 101);
     assert_eq!(rt; log.meets, 102);
     // Nobody is asked for the file with the number 101, whatever it is.
-    let log = run_over(alloc, &["c1"], &files[..100])?;
+    let mut files = Vec::new(alloc);
+    add_chain(alloc, &mut files, "c", 100, 1, "import 'c101';")?;
+    let log = run_over(alloc, &["c1"], &files)?;
     assert_eq!(rt;
         ended(alloc, &log)?.as_str(),
         "import chain too long from `c1` "

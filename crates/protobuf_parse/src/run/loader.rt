@@ -13,7 +13,7 @@ ghost use Rattle.protobuf_parse.specs.declared.run.fault.RunFault.TheVariants.{M
 ghost use Rattle.protobuf_parse.specs.declared.run.log.ReadEntry.{ReadEntry};
 ghost use Rattle.protobuf_parse.specs.Walks.{Event, among, at, checks, events, import_paths, input_walk, keep, statements, walk};
 ghost use Rattle.protobuf_parse.specs.Run.{Files, IsCounted, MayAnswer, are_same_bytes, faults_of, input_view, StandsInCheck, StandsInCycle, StandsInLong, origin_given, rows, text_given};
-ghost use Rattle.protobuf_parse.specs.Loading.{Goes, GoesOn, Good, Grows, IsElabFault, IsPlaced, IsReaders, IsShadowed, Leaves, OrMemory, ReadsTree, Settles, asked_by, file_shape, texts};
+ghost use Rattle.protobuf_parse.specs.Loading.{Goes, GoesOn, Good, Grows, IsDecided, IsElabFault, IsPlaced, IsReaders, IsShadowed, Leaves, OrMemory, ReadsTree, Settles, asked_by, file_shape, texts};
 
 use crate::run::asking::{answer, content, opened, origin, unreadable};
 use crate::run::fault::RunFault;
@@ -79,6 +79,7 @@ pub fn load_inputs<R: ProtoPathResolver, I: InputReader>(
         → Goes legal files (events files.trees (map input_view inputs.now)) loader.new.loaded.entries loader.new.reads.items result }
     ensures count { (files : Files) → GoesOn files (rows sources.now.bundled.now) loader.new.reads.items
         → IsCounted loader.new.meets (length inputs.now + statements files.trees (events files.trees (map input_view inputs.now))) result }
+    ensures decided { IsDecided (rows sources.now.bundled.now) loader.new.reads.items }
 {
     for input in inputs {
         load_input(alloc, loader, sources, input)?;
@@ -110,6 +111,11 @@ fn load_input<R: ProtoPathResolver, I: InputReader>(
         → Good legal files kept loader.old.loaded.entries loader.old.reads.items []
         → IsCounted (loader.new.meets + statements files.trees kept)
         (loader.old.meets + 1 + statements files.trees (keep (kept ++ checks kept (input_view input.now)) (input_walk files.trees (input_view input.now)))) result }
+    ensures decided { (files : Files) (kept : List Event)
+        → let legal = MayAnswer (λ p a. R.may_answer sources.now.resolver.now p a) (λ p a. I.may_read sources.now.reader.now p a) in
+        Good legal files kept loader.old.loaded.entries loader.old.reads.items []
+        → IsDecided (rows sources.now.bundled.now) loader.old.reads.items
+        → IsDecided (rows sources.now.bundled.now) loader.new.reads.items }
 {
     match input {
         RunInput::Named(name) => {
@@ -143,6 +149,11 @@ fn check_loaded<R: ProtoPathResolver, I: InputReader>(
         GoesOn files (rows sources.now.bundled.now) loader.new.reads.items
         → Good legal files kept loader.old.loaded.entries loader.old.reads.items []
         → Goes legal files (kept ++ checks kept (at (path_buf_text name.now) fs_path.now)) loader.new.loaded.entries loader.new.reads.items result }
+    ensures decided { (files : Files) (kept : List Event)
+        → let legal = MayAnswer (λ p a. R.may_answer sources.now.resolver.now p a) (λ p a. I.may_read sources.now.reader.now p a) in
+        Good legal files kept loader.old.loaded.entries loader.old.reads.items []
+        → IsDecided (rows sources.now.bundled.now) loader.old.reads.items
+        → IsDecided (rows sources.now.bundled.now) loader.new.reads.items }
 {
     let read = match loader.loaded.get(name.as_path().to_str()) {
         Some(file) => file.read,
@@ -262,6 +273,8 @@ fn load_file<R: ProtoPathResolver, I: InputReader>(
         → Good legal files kept loader.old.loaded.entries loader.old.reads.items chain
         → IsCounted (loader.new.meets + statements files.trees kept)
         (loader.old.meets + 1 + statements files.trees (keep kept (walk files.trees (path_buf_text input.now) (asked_by fs_path.entry) (LIMIT - length chain) chain (path_buf_text path.now)))) result }
+    ensures decided { IsDecided (rows sources.now.bundled.now) loader.old.reads.items
+        → IsDecided (rows sources.now.bundled.now) loader.new.reads.items }
 {
     let _known = loader.reads.as_slice();
     loader.meets += 1;

@@ -24,4 +24,4 @@ returns g c =
     let is = ap (map input_view) c.deref.ensures.value ∙ (c.loop-path.invariant ∙ ap (map (λ (b : ProtoPathBuf). named (path_buf_text b))) whole) in
     let table = rows c.bundled_files.result.now in
     let log = c.run_inputs.result.reads.items in
-    (table, log, subst (λ (z : List Input). RunsAsTold (MayAnswer (λ p a. g.R.ProtoPathResolver.may_answer c.args.resolver.now p a) FindsNothing) z table log c.run_inputs.result.result) is c.run_inputs.ensures.told)
+    (table, log, c.run_inputs.ensures.trees, subst (λ (z : List Input). RunsAsTold (MayAnswer (λ p a. g.R.ProtoPathResolver.may_answer c.args.resolver.now p a) FindsNothing) z table log c.run_inputs.result.result) is c.run_inputs.ensures.told)

@@ -2,10 +2,15 @@ use Rattle.protobuf_parse_model.specs.Environment.{no_custom}
 use Rattle.std.proofs.Common.{[], inr, refl, map, arith}
 use Rattle.protobuf_parse.specs.Walks.{events}
 use Rattle.protobuf_parse.specs.Run.{MayAnswer, input_view, rows}
+use Rattle.protobuf_parse.proofs.Causing.{caused}
 use Rattle.protobuf_parse.proofs.Counting.{lengths}
+use Rattle.protobuf_parse.proofs.Deciding.{have-trees}
 use Rattle.protobuf_parse.proofs.Telling.{accepted, broken, stopped, run-files, goes-on}
 use Rattle.protobuf_parse.proofs.run.run_inputs.Goals as goal
 use Rattle.protobuf_parse.proofs.run.run_inputs.Goals.{in-Ok+in-Ok-descriptors, in-Ok+in-Err-descriptors, in-Err}
+
+pub returns-clause-trees : goal.returns-clause-trees
+returns-clause-trees g c = have-trees _ _ c.load_inputs-outcome.ensures.decided
 
 pub returns-clause-told : goal.returns-clause-told
 returns-clause-told g c trees sees custom has =
@@ -20,6 +25,12 @@ returns-clause-told g c trees sees custom has =
       | in-Ok+in-Err-descriptors w ↦ rw w.result-is (inr (broken legal files told _ _ (w.in-Ok.ensures.goes files go) refl))
       | in-Err w ↦ rw w.result-is (stopped legal files told _ (w.in-Err.ensures.goes files go))
     ]
+
+pub returns-clause-caused : goal.returns-clause-caused
+returns-clause-caused g c =
+    let t = have-trees _ _ c.load_inputs-outcome.ensures.decided in
+    let h = returns-clause-told g c t.0 (λ p. []) (λ p. no_custom) t.1 in
+    caused (λ p a. g.R.ProtoPathResolver.may_answer c.args.resolver.now p a) (λ p a. g.I.InputReader.may_read c.args.reader.now p a) _ _ _ h
 
 pub returns-clause-meets : goal.returns-clause-meets
 returns-clause-meets g c trees has =

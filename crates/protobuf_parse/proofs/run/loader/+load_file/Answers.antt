@@ -1,4 +1,4 @@
-use Rattle.std.proofs.Common.{◌≡◌, ◌++◌, ◌∷◌, [], None, length, true, false, refl, sym, ap, ◌∙◌, arith, max, subst, append-nil, map, Bor, inl, inr, ◌^◌, add-one}
+use Rattle.std.proofs.Common.{◌≡◌, ◌++◌, ◌∷◌, [], Ok, Err, None, length, true, false, refl, sym, ap, ◌∙◌, arith, max, subst, append-nil, map, Bor, inl, inr, ◌^◌, add-one}
 use Rattle.std.specs.Prelude.{String}
 use Rattle.std.specs.Global.{Global, Vec}
 use Rattle.std.proofs.lemmas.List.{length_push, take_all}
@@ -6,11 +6,13 @@ use Rattle.std.proofs.lemmas.Result.{err_from_is_err_and}
 use Rattle.protobuf_parse_base.specs.PathViews.{path_buf_text}
 use Rattle.protobuf_parse_model.specs.Descriptors.{Text}
 use Rattle.protobuf_parse.specs.Walks.{among}
+use Rattle.protobuf_parse.specs.Run.{MayAnswer, rows}
 use Rattle.protobuf_parse.specs.Loading.{asked_by, texts, file_at}
 use Rattle.protobuf_parse.specs.declared.run.log.ReadEntry.{ReadEntry}
 use Rattle.protobuf_parse_base.specs.declared.proto_path.path.ProtoPathBuf.{ProtoPathBuf}
 use Rattle.protobuf_parse.proofs.Steps.{Grows-trans}
-use Rattle.protobuf_parse.proofs.Leaving.{texts-length, texts-push, init-bound, leaves-cycle, leaves-tall, leaves-again, leaves-full, leaves-read, leaves-open, leaves-before, leaves-step, leaves-err, leaves-push, leaves-end, tree-known, split-at, next-at, goes-back, goes-same, low-height}
+use Rattle.protobuf_parse.proofs.Leaving.{texts-length, texts-push, init-bound, leaves-cycle, leaves-tall, leaves-again, leaves-full, leaves-read, leaves-open, leaves-before, leaves-step, leaves-err, leaves-push, leaves-end, tree-known, split-at, next-at, goes-back, goes-same, low-height, on_ok, popped}
+use Rattle.protobuf_parse.proofs.Deciding.{decided-file, decided-same}
 use Rattle.protobuf_parse.proofs.Counting.{counted, lengths, count-here, count-open, count-step, count-stop, count-end, count-again}
 use Rattle.protobuf_parse.proofs.run.loader.+load_file.Goals as goal
 use Rattle.protobuf_parse.proofs.run.loader.+load_file.Goals.{then-placed-height, else-placed-height}
@@ -95,6 +97,9 @@ loop-import-init g t c =
       grows = ([], sym (append-nil _));
       low = omega (arith, c.if-len-eq-LIMIT.false, c.len-2.ensures, c.requires.chain);
       bound = init-bound c.args.loader.now.meets (length c.args.loader.now.reads.items) (2 ^ 64) _ _ c.read_tree.ensures.meets count;
+      decided = λ d.
+          let legal = MayAnswer (λ p a. g.R.ProtoPathResolver.may_answer c.args.sources.now.resolver.now p a) (λ p a. g.I.InputReader.may_read c.args.sources.now.reader.now p a) in
+          decided-file legal (rows c.args.sources.now.bundled.now) (asked_by c.args.fs_path) (path_buf_text c.args.path.now) _ _ (Ok c.in_ok-tree.tree) c.in_ok-tree.ensures.read d;
       inside = λ files kept go good.
           let l = leaves-open _ files _ kept _ _ _ _ (path_buf_text c.args.input.now) (asked_by c.args.fs_path) _ c.len-read.result c.in_ok-tree.tree (omega (arith, c.len-read.ensures, c.args.loader.now.reads.ok.0)) go good off none r in
           let same = ap (λ m. m.entries) c.read_tree.ensures.loaded in
@@ -153,6 +158,7 @@ loop-import-preserved g t c =
       grows = Grows-trans _ _ _ c.loop-import.invariant.grows c.load_file.ensures.grows;
       low = omega (arith, m, more, c.in_ok-placed.ensures.low, c.loop-import.invariant.low);
       bound = omega (arith, c.in_ok-placed.ensures.bound, c.loop-import.invariant.bound);
+      decided = λ d. c.load_file.ensures.decided (c.loop-import.invariant.decided d);
       inside = λ files kept go good.
           let back = goes-back files _ _ _ c.load_file.ensures.grows go in
           let l = c.loop-import.invariant.inside files kept back good in
@@ -261,3 +267,32 @@ returns-clause-count g t c files kept go good =
     let known = tree-known _ files _ kept _ _ _ _ _ (asked_by c.args.fs_path) _ c.in_ok-tree.tree back c.loop-import.invariant.grows good off none c.in_ok-tree.ensures.read in
     let all = ap (map v) (take_all _ _ (omega arith) ∙ c.deref-import-items.ensures.value) ∙ c.in_ok-imports.ensures in
     counted c.settle.result _ _ (count-end _ files kept (path_buf_text c.args.input.now) (asked_by c.args.fs_path) _ _ _ l.0 _ c.loop-import.height _ _ _ _ _ _ _ _ l.1 known (omega (arith, n, c.loop-import.invariant.low)) off all (omega arith) c.settle.ensures.meets (c.loop-import.invariant.count files kept back good))
+
+pub returns-in_err-tree-clause-decided : goal.returns-in_err-tree-clause-decided
+returns-in_err-tree-clause-decided g t c d =
+    let legal = MayAnswer (λ p a. g.R.ProtoPathResolver.may_answer c.args.sources.now.resolver.now p a) (λ p a. g.I.InputReader.may_read c.args.sources.now.reader.now p a) in
+    decided-file legal (rows c.args.sources.now.bundled.now) (asked_by c.args.fs_path) (path_buf_text c.args.path.now) _ _ (Err c.in_err-tree.field-0.0) c.in_err-tree.ensures.read d
+
+pub returns-in_err-enter-clause-decided : goal.returns-in_err-enter-clause-decided
+returns-in_err-enter-clause-decided g t c d =
+    let legal = MayAnswer (λ p a. g.R.ProtoPathResolver.may_answer c.args.sources.now.resolver.now p a) (λ p a. g.I.InputReader.may_read c.args.sources.now.reader.now p a) in
+    decided-file legal (rows c.args.sources.now.bundled.now) (asked_by c.args.fs_path) (path_buf_text c.args.path.now) _ _ (Ok c.in_ok-tree.tree) c.in_ok-tree.ensures.read d
+
+pub returns-in_err-imports-clause-decided : goal.returns-in_err-imports-clause-decided
+returns-in_err-imports-clause-decided g t c d =
+    let legal = MayAnswer (λ p a. g.R.ProtoPathResolver.may_answer c.args.sources.now.resolver.now p a) (λ p a. g.I.InputReader.may_read c.args.sources.now.reader.now p a) in
+    decided-file legal (rows c.args.sources.now.bundled.now) (asked_by c.args.fs_path) (path_buf_text c.args.path.now) _ _ (Ok c.in_ok-tree.tree) c.in_ok-tree.ensures.read d
+
+pub returns-in_err-placed-clause-decided : goal.returns-in_err-placed-clause-decided
+returns-in_err-placed-clause-decided g t c d = c.in_err-placed.ensures.decided (c.loop-import.invariant.decided d)
+
+pub returns-in_err-push-clause-decided : goal.returns-in_err-push-clause-decided
+returns-in_err-push-clause-decided g t c d = c.in_ok-placed.ensures.decided (c.loop-import.invariant.decided d)
+
+pub returns-clause-decided : goal.returns-clause-decided
+returns-clause-decided g t c d = decided-same (rows c.args.sources.now.bundled.now) _ _ (ap (λ (w : Vec ReadEntry). w.items) c.settle.ensures.reads) (c.loop-import.invariant.decided d)
+
+pub returns-clause-chain : goal.returns-clause-chain
+returns-clause-chain g t c =
+    let k = c.loop-import.invariant.chain in
+    on_ok c.settle.result (ap (λ (v : Vec (String Global)). v.items) c.settle.ensures.chain ∙ popped _ _ _ k.0 c.loop-import.loader.chain.len k.1 (omega (arith, c.loop-import.loader.chain.ok.0)) c.pop.ensures.rest)

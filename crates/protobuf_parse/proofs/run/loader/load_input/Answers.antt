@@ -72,3 +72,9 @@ pub returns-in_err-check_loaded-in-At-clause-count : goal.returns-in_err-check_l
 returns-in_err-check_loaded-in-At-clause-count g c files kept go good =
     let p = err_from_is_err_and c.from_residual-in_err-check_loaded-in-At.result c.from_residual-in_err-check_loaded-in-At.ensures.1 in
     rw p.1 (count-check files.trees kept (input_view c.args.input.now) _ _ c.check_loaded.ensures.meets)
+
+pub returns-in_err-load_file-in-At-clause-decided : goal.returns-in_err-load_file-in-At-clause-decided
+returns-in_err-load_file-in-At-clause-decided g c files kept good d = c.in_err-load_file-in-At.ensures.decided (c.in_ok-check_loaded-in-At.ensures.decided files kept good d)
+
+pub returns-in_ok-load_file-in-At-clause-decided : goal.returns-in_ok-load_file-in-At-clause-decided
+returns-in_ok-load_file-in-At-clause-decided g c files kept good d = c.in_ok-load_file-in-At.ensures.decided (c.in_ok-check_loaded-in-At.ensures.decided files kept good d)

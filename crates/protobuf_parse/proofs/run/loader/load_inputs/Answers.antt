@@ -2,9 +2,10 @@ use Rattle.std.proofs.Common.{◌≡◌, [], ap, refl, map, take, arith}
 use Rattle.std.proofs.lemmas.List.{take_all}
 use Rattle.std.proofs.lemmas.Result.{err_from_is_err_and}
 use Rattle.protobuf_parse.specs.Walks.{events, statements}
-use Rattle.protobuf_parse.specs.Run.{MayAnswer, input_view}
+use Rattle.protobuf_parse.specs.Run.{MayAnswer, input_view, rows}
 use Rattle.protobuf_parse.proofs.Counting.{count-inputs, count-inputs-stop}
 use Rattle.protobuf_parse.proofs.Inputs.{inputs-step, inputs-stop, good-start, events-none}
+use Rattle.protobuf_parse.proofs.Deciding.{decided-none, files-so_far, goes-so_far}
 use Rattle.protobuf_parse.proofs.Leaving.{goes-back, split-at, next-at}
 use Rattle.protobuf_parse.proofs.run.loader.load_inputs.Goals as goal
 
@@ -12,12 +13,16 @@ pub loop-input-init : goal.loop-input-init
 loop-input-init g c = record {
   chain = c.requires.chain;
   bound = omega (arith, c.requires.meets);
+  decided = rw c.requires.reads (decided-none (rows c.args.sources.now.bundled.now));
   inside = λ files go. rw (c.requires.loaded, c.requires.reads, events-none files.trees []) (good-start _ files);
   count = λ files go. rw (c.requires.meets, events-none files.trees []) refl;
 }
 
 pub returns-in_err-load_input : goal.returns-in_err-load_input
 returns-in_err-load_input g c = record {
+  decided =
+      let d = c.loop-input.invariant.decided in
+      c.in_err-load_input.ensures.decided (files-so_far _ _ d) _ (c.loop-input.invariant.inside (files-so_far _ _ d) (goes-so_far _ _ d)) d;
   goes = λ files go.
       let xs = c.args.inputs.now in
       let back = goes-back files _ _ _ c.load_input.ensures.grows go in
@@ -40,6 +45,9 @@ loop-input-preserved g c =
     record {
       chain = c.in_ok-load_input.ensures.chain;
       bound = omega (arith, c.in_ok-load_input.ensures.bound, c.loop-input.invariant.bound);
+      decided =
+          let d = c.loop-input.invariant.decided in
+          c.in_ok-load_input.ensures.decided (files-so_far _ _ d) _ (c.loop-input.invariant.inside (files-so_far _ _ d) (goes-so_far _ _ d)) d;
       inside = λ files go.
           let back = goes-back files _ _ _ c.load_input.ensures.grows go in
           let good = c.loop-input.invariant.inside files back in
@@ -54,6 +62,7 @@ loop-input-preserved g c =
 
 pub returns : goal.returns
 returns g c = record {
+  decided = c.loop-input.invariant.decided;
   goes = λ files go.
       let whole : take c.loop-input.input-index c.args.inputs.now ≡ c.args.inputs.now = take_all _ _ (omega arith) in
       let all = ap (map input_view) whole in
