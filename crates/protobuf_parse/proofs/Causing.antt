@@ -41,12 +41,12 @@ module _ (resolve : MayResolve) (read : MayRead) where
   answers-at (r ∷ rs) (e ∷ log) (suc n) o a h = answers-at rs log n o a.2 h
 
   by-resolver : (a : Asked) (p : Text) (why : ResolveFault) → MayAnswer resolve read a p (outcome.ResolverFault why) → resolve p (Err why)
-  by-resolver the_resolver p why h = h
+  by-resolver the_resolver p why h = h.1
   by-resolver (the_reader own) p why h = absurd h
 
   by-reader : (a : Asked) (p : Text) (why : ReadInputFault) → MayAnswer resolve read a p (outcome.ReaderFault why) → (own : Text) × read own (Err why)
   by-reader the_resolver p why h = absurd h
-  by-reader (the_reader own) p why h = (own, h)
+  by-reader (the_reader own) p why h = (own, h.1)
 
   module _ (files : Files) (rs : List Read) (a : Answers (MayAnswer resolve read) rs files.reads) where
     caused-at : (event : Event) (f : RunFault) → StandsAt files event f → IsCaused resolve read f

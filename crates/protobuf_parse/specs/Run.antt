@@ -205,15 +205,16 @@ MayResolve = Text → Result (Option ResolvedProtoFile) ResolveFault → Type 0
 abbrev pub MayRead : Type 1
 MayRead = Text → Result (Vec ℕ) ReadInputFault → Type 0
 
+-- want of memory is no answer that is logged
 abbrev pub Resolved : MayResolve → Text → ReadOutcome → Type 0
 Resolved may p (outcome.Content origin content) = may p (Ok (Some (record { path = origin; content = content })))
 Resolved may p outcome.NotFound = may p (Ok None)
-Resolved may p (outcome.ResolverFault why) = may p (Err why)
+Resolved may p (outcome.ResolverFault why) = (why ≡ refused.Memory → ⊥) × may p (Err why)
 Resolved may p (outcome.ReaderFault why) = ⊥
 
 abbrev pub WasRead : MayRead → Text → ReadOutcome → Type 0
 WasRead may own (outcome.Content origin content) = (string_bytes origin ≡ own) × may own (Ok content)
-WasRead may own (outcome.ReaderFault why) = may own (Err why)
+WasRead may own (outcome.ReaderFault why) = (why ≡ unread.Memory → ⊥) × may own (Err why)
 WasRead may own _ = ⊥
 
 -- the answer is one that who is asked may give

@@ -83,8 +83,19 @@ fn tells_what_it_cannot_read(rt: HostRuntime) -> Result<(), Fail> {
     expect_failure(&rt, &run(&rt, &["no/x.proto", "d"])?, line);
     let line = "could not read file `no/x.proto`: not found\n";
     expect_failure(&rt, &run(&rt, &["no/x.proto", "."])?, line);
-    let line = "input `/`: path is absolute\n";
-    expect_failure(&rt, &run(&rt, &["/", "."])?, line);
+    // Nor is anything read where the input is no proto path.
+    for (input, why) in [
+        ("", "path is empty"),
+        ("no\\x.proto", "backslashes in path"),
+        ("/no/x.proto", "path contains empty components"),
+        ("./no/x.proto", "dot in path"),
+        ("no/../x.proto", "dot-dot in path"),
+    ] {
+        let line = format!(in rt.alloc(); "input `{input}`: {why}\n")?;
+        expect_failure(&rt, &run(&rt, &[input, "."])?, &line);
+    }
+    let line = "file `/no/x.proto` must reside in include path [\"no\"]\n";
+    expect_failure(&rt, &run(&rt, &["/no/x.proto", "no"])?, line);
     Ok(())
 }
 

@@ -7,7 +7,7 @@ use crate::run::fault::{ReadInputFault, RunFault};
 use crate::run::log::RunInput;
 use crate::run::run_inputs;
 use crate::run::source::NoReader;
-use protobuf_parse_base::proto_path::{PathError, ProtoPathBuf};
+use protobuf_parse_base::proto_path::ProtoPathBuf;
 use std::alloc::{AllocError, Global};
 use std::io::{ErrorKind, Write};
 use std::rt::Files;
@@ -30,7 +30,7 @@ enum Failure {
 ///
 /// `args` are the two arguments, without the program's own name. They are looked at first, then the input
 /// is read at its own path, and its whole listing is made before any of it is written. The one include
-/// that an input resides in is `.`; any other is L3, and then an input that names no proto path is L11. An
+/// that an input resides in is `.`; any other is L3, and then an input that is no proto path is L11. An
 /// import is found only where it is the input itself.
 pub fn program<R: Files + AllocGlobal, O: Write, E: Write>(
     rt: &R,
@@ -97,11 +97,10 @@ fn listing_of<R: Files + AllocGlobal>(
     Ok(listing(alloc, &log.result?)?)
 }
 
-/// The proto path that the input names, or L11.
+/// The input as a proto path, or L11.
 fn proto_path_of(alloc: Global, input: &str) -> Result<ProtoPathBuf, RunFault> {
-    match ProtoPathBuf::from_path(alloc, input) {
+    match ProtoPathBuf::new(String::from_str(alloc, input)?) {
         Ok(name) => Ok(name),
-        Err(PathError::Memory) => Err(RunFault::Memory),
         Err(error) => Err(RunFault::InputPath(String::from_str(alloc, input)?, error)),
     }
 }
