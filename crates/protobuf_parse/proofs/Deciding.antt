@@ -11,7 +11,7 @@ use Rattle.protobuf_parse.specs.declared.run.loader.LoadedFile.{LoadedFile}
 use Rattle.protobuf_parse.specs.declared.run.log.ReadEntry.{ReadEntry}
 use Rattle.protobuf_parse.specs.declared.run.log.ReadOutcome.{ReadOutcome}
 use Rattle.protobuf_parse.specs.Walks.{Asked, Event, among}
-use Rattle.protobuf_parse.specs.Run.{Files, HaveTrees, IsTree, first_read, text_given, text_read}
+use Rattle.protobuf_parse.specs.Run.{Files, HaveTrees, IsTree, IsTheTree, first_read, text_given, text_read}
 use Rattle.protobuf_parse.specs.Loading.{Legal, Entry, GoesOn, Good, IsDecided, ReadsTree, file_at, read_paths}
 use Rattle.protobuf_parse.proofs.Keeping.{bool_cases, text-true}
 use Rattle.protobuf_parse.proofs.Steps.{loaded-at}
@@ -21,6 +21,14 @@ use Rattle.protobuf_parse.proofs.Reading.{Noted}
 option_cases : {A : Type 0} (o : Option A) → ((a : A) × (o ≡ Some a)) ⊎ (o ≡ None)
 option_cases (Some a) = inl (a, refl)
 option_cases None = inr refl
+
+-- where there is no text there is no tree
+pub untold : IsTheTree None None
+untold = (tt, no_tree)
+  where
+    no_tree : (u : Option FileSyntax) → IsTree None u → u ≡ None
+    no_tree None h = refl
+    no_tree (Some t) h = absurd h
 
 -- the first read of a path stays, whatever is read later
 first_read-more : (q : Text) (log : List ReadEntry) (e : ReadEntry) (o : ReadOutcome) → first_read q log ≡ Some o → first_read q (log ++ e ∷ []) ≡ Some o
@@ -48,22 +56,22 @@ first_read-there q (x ∷ log) h none =
     ]
 
 -- a path that was read keeps its tree
-kept-tree : (table : List (Text × Text)) (log : List ReadEntry) (e : ReadEntry) (q : Text) (o : ReadOutcome) → IsDecided table log → first_read q log ≡ Some o → (t : Option FileSyntax) × IsTree (text_read table (log ++ e ∷ []) q) t
+kept-tree : (table : List (Text × Text)) (log : List ReadEntry) (e : ReadEntry) (q : Text) (o : ReadOutcome) → IsDecided table log → first_read q log ≡ Some o → (t : Option FileSyntax) × IsTheTree (text_read table (log ++ e ∷ []) q) t
 kept-tree table log e q o d h = ((d q).0, rw (first_read-more q log e o h) (rw h at ((d q).1)))
 
 -- a path that no entry names has no text
-no-tree : (table : List (Text × Text)) (log : List ReadEntry) (e : ReadEntry) (q : Text) → first_read q log ≡ None → bytes_eq q (path_buf_text e.path) ≡ false → (t : Option FileSyntax) × IsTree (text_read table (log ++ e ∷ []) q) t
-no-tree table log e q h w = (None, rw (first_read-last q log e h, w) tt)
+no-tree : (table : List (Text × Text)) (log : List ReadEntry) (e : ReadEntry) (q : Text) → first_read q log ≡ None → bytes_eq q (path_buf_text e.path) ≡ false → (t : Option FileSyntax) × IsTheTree (text_read table (log ++ e ∷ []) q) t
+no-tree table log e q h w = (None, rw (first_read-last q log e h, w) untold)
 
 -- one read more, whose text has this tree or none
-decided-read : (table : List (Text × Text)) (log : List ReadEntry) (e : ReadEntry) (p : Text) (t : Option FileSyntax) → path_buf_text e.path ≡ p → IsTree (text_given table p (Some e.outcome)) t → IsDecided table log → IsDecided table (log ++ e ∷ [])
+decided-read : (table : List (Text × Text)) (log : List ReadEntry) (e : ReadEntry) (p : Text) (t : Option FileSyntax) → path_buf_text e.path ≡ p → IsTheTree (text_given table p (Some e.outcome)) t → IsDecided table log → IsDecided table (log ++ e ∷ [])
 decided-read table log e p t named is d q =
     elim (option_cases (first_read q log)) [
       | inl o ↦ kept-tree table log e q o.0 d o.1
       | inr h ↦ elim (bool_cases (bytes_eq q (path_buf_text e.path))) [
         | inl w ↦
             let same : p ≡ q = sym named ∙ sym (text-true q (path_buf_text e.path) w) in
-            (t, rw (first_read-last q log e h, w) (subst (λ (z : Text). IsTree (text_given table z (Some e.outcome)) t) same is))
+            (t, rw (first_read-last q log e h, w) (subst (λ (z : Text). IsTheTree (text_given table z (Some e.outcome)) t) same is))
         | inr w ↦ no-tree table log e q h w
       ]
     ]
@@ -84,8 +92,8 @@ decided-same table old new same d = subst (λ (z : List ReadEntry). IsDecided ta
 
 -- a file was read, or not
 pub decided-file : (legal : Legal) (table : List (Text × Text)) (a : Asked) (p : Text) (old new : List ReadEntry) (r : Result FileTree RunFault) → ReadsTree legal table a p old new r → IsDecided table old → IsDecided table new
-decided-file legal table a p old new (Ok tree) r d = decided-same table (old ++ r.0 ∷ []) new r.1 (decided-read table old r.0 p (Some (file_view tree)) r.2 r.4.0 d)
-decided-file legal table a p old new (Err f) (inl r) d = decided-same table (old ++ r.0 ∷ []) new r.1 (decided-read table old r.0 p None r.2 r.4.0 d)
+decided-file legal table a p old new (Ok tree) r d = decided-same table (old ++ r.0 ∷ []) new r.1 (decided-read table old r.0 p (Some (file_view tree)) r.2 r.4 d)
+decided-file legal table a p old new (Err f) (inl r) d = decided-same table (old ++ r.0 ∷ []) new r.1 (decided-read table old r.0 p None r.2 r.4 d)
 decided-file legal table a p old new (Err f) (inr r) d = decided-same table old new r.1 d
 
 -- the file of an input that was loaded is read again
@@ -97,7 +105,7 @@ decided-check legal files table kept loaded old new p q x o is g found n d =
     decided-same table (old ++ n.0 ∷ []) new n.1 (decided-again table old n.0 there d)
 
 pub decided-none : (table : List (Text × Text)) → IsDecided table []
-decided-none table q = (None, tt)
+decided-none table q = (None, untold)
 
 pub have-trees : (table : List (Text × Text)) (log : List ReadEntry) → IsDecided table log → HaveTrees table log
 have-trees table log d = (λ p. (d p).0, λ p. (d p).1)
@@ -107,4 +115,4 @@ abbrev pub files-so_far : (table : List (Text × Text)) (log : List ReadEntry) �
 files-so_far table log d = record { bundled = table; reads = log; trees = λ p. (d p).0; sees = λ p. []; custom = λ p. no_custom }
 
 pub goes-so_far : (table : List (Text × Text)) (log : List ReadEntry) (d : IsDecided table log) → GoesOn (files-so_far table log d) table log
-goes-so_far table log d = record { bundled = refl; reads = ([], sym (append-nil log)); trees = λ p. (d p).1 }
+goes-so_far table log d = record { bundled = refl; reads = ([], sym (append-nil log)); trees = λ p. (d p).1.0 }

@@ -14,6 +14,7 @@ use Rattle.protobuf_parse.specs.declared.run.log.ReadEntry.{ReadEntry}
 use Rattle.protobuf_parse.specs.Walks.{Event, Input, Trees, events, until}
 use Rattle.protobuf_parse.specs.Run.{Files, HasTrees, AreDescriptors, IsAccepted, IsRefused, IsBroken, MayResolve, RunsByResolver, fails}
 use Rattle.protobuf_parse.specs.Loading.{Legal, Entry, GoesOn, Good, Stops, IsLoaded, paths_of}
+use Rattle.protobuf_parse.proofs.Deciding.{untold}
 use Rattle.protobuf_parse.proofs.Keeping.{bool_cases}
 
 find-after : (test : Event → Bool) (xs ys : List Event) (e : Event) → find test xs ≡ None → test e ≡ true → find test (xs ++ e ∷ ys) ≡ Some e
@@ -85,7 +86,7 @@ pub unstarted : (resolve : MayResolve) (inputs : List Input) (r : Result (Vec Fi
 unstarted resolve inputs r f is m = (
   [],
   [],
-  (λ p. None, λ p. tt),
+  (λ p. None, λ p. untold),
   λ trees sees custom has. rw is (inr (record {
     memory = m;
     done = [];

@@ -23,7 +23,7 @@ use Rattle.std.specs.Str.{IsUtf8}
 use Rattle.protobuf_parse.specs.declared.run.fault.ResolveFault.{ResolveFault}
 use Rattle.protobuf_parse.specs.declared.run.fault.ReadInputFault.{ReadInputFault}
 use Rattle.protobuf_parse.specs.declared.run.log.ReadOutcome.TheVariants as outcome
-use Rattle.protobuf_parse.specs.Run.{Files, HasTrees, IsTree, IsTheTree, text_read, environment_of, faults_of, first_read, fails, said, text_given, origin_given, Answers, StandsAt, StandsInLoad, StandsInElab, IsUnparsed}
+use Rattle.protobuf_parse.specs.Run.{Files, HasTrees, IsTheTree, text_read, environment_of, faults_of, first_read, fails, said, text_given, origin_given, Answers, StandsAt, StandsInLoad, StandsInElab, IsUnparsed}
 
 -- the answers that who is asked for a path may give
 abbrev pub Legal : Type 1
@@ -219,9 +219,9 @@ ReadsTree legal table asked p old new (Err f) =
     ((e : ReadEntry) × (new ≡ old ++ e ∷ []) × (path_buf_text e.path ≡ p) × legal asked p e.outcome × IsTheTree (text_given table p (Some e.outcome)) None × StandsInLoad asked p (Some e.outcome) (text_given table p (Some e.outcome)) f)
     ⊎ ((f ≡ fault.Memory) × (new ≡ old))
 
--- of each path it is known which tree its text has, or that it has none
+-- of each path it is known which tree alone its text has, or that it has none
 abbrev pub IsDecided : List (Text × Text) → List ReadEntry → Type 0
-IsDecided table log = (path : Text) → (t : Option FileSyntax) × IsTree (text_read table log path) t
+IsDecided table log = (path : Text) → (t : Option FileSyntax) × IsTheTree (text_read table log path) t
 
 -- The files of a run with this log and these bundled files, or of one that goes on from it.
 pub record GoesOn (files : Files) (table : List (Text × Text)) (log : List ReadEntry) : Type 0 where

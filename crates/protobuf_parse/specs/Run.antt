@@ -100,9 +100,9 @@ IsTheTree text t = IsTree text t × ((u : Option FileSyntax) → IsTree text u �
 abbrev pub HasTrees : List (Text × Text) → List ReadEntry → Trees → Type 0
 HasTrees bundled log trees = (path : Text) → IsTree (text_read bundled log path) (trees path)
 
--- Each text that was read has a tree or none, so that there are such trees.
+-- Each text that was read has one tree or none, so that there are such trees, and no others.
 abbrev pub HaveTrees : List (Text × Text) → List ReadEntry → Type 0
-HaveTrees bundled log = (trees : Trees) × HasTrees bundled log trees
+HaveTrees bundled log = (trees : Trees) × ((path : Text) → IsTheTree (text_read bundled log path) (trees path))
 
 -- ---- which event fails
 

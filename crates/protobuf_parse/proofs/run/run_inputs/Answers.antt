@@ -29,7 +29,7 @@ returns-clause-told g c trees sees custom has =
 pub returns-clause-caused : goal.returns-clause-caused
 returns-clause-caused g c =
     let t = have-trees _ _ c.load_inputs-outcome.ensures.decided in
-    let h = returns-clause-told g c t.0 (λ p. []) (λ p. no_custom) t.1 in
+    let h = returns-clause-told g c t.0 (λ p. []) (λ p. no_custom) (λ p. (t.1 p).0) in
     caused (λ p a. g.R.ProtoPathResolver.may_answer c.args.resolver.now p a) (λ p a. g.I.InputReader.may_read c.args.reader.now p a) _ _ _ h
 
 pub returns-clause-meets : goal.returns-clause-meets
