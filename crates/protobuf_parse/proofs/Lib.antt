@@ -12,3 +12,4 @@ pub mod Telling
 pub mod Counting
 pub mod Deciding
 pub mod Causing
+pub mod Reaching

@@ -41,7 +41,7 @@ first_read-new p (x ∷ log) more e h is =
       | inr w ↦ let z : among p (read_paths log) ≡ false = (rw w at h) in rw w (first_read-new p log more e z is)
     ]
 
-get-more : (xs ys : List ReadEntry) (n : ℕ) (x : ReadEntry) → slice_get xs n ≡ Some x → slice_get (xs ++ ys) n ≡ Some x
+pub get-more : {A : Type 0} (xs ys : List A) (n : ℕ) (x : A) → slice_get xs n ≡ Some x → slice_get (xs ++ ys) n ≡ Some x
 get-more [] ys n x h = cc
 get-more (y ∷ xs) ys zero x h = h
 get-more (y ∷ xs) ys (suc n) x h = get-more xs ys n x h
@@ -49,10 +49,10 @@ get-more (y ∷ xs) ys (suc n) x h = get-more xs ys n x h
 pub get-grown : (old new : List ReadEntry) (n : ℕ) (x : ReadEntry) → Grows old new → slice_get old n ≡ Some x → slice_get new n ≡ Some x
 get-grown old new n x g h = rw g.1 (get-more old g.0 n x h)
 
-pub get-seam : (xs ys : List ReadEntry) (x : ReadEntry) → slice_get (xs ++ x ∷ ys) (length xs) ≡ Some x
-get-seam xs ys x = slice_get_read (xs ++ x ∷ ys) (length (xs ++ x ∷ ys)) (length xs) x refl (longer xs) (sym (get_or-append_seam xs x ys x))
+pub get-seam : {A : Type 0} (xs ys : List A) (x : A) → slice_get (xs ++ x ∷ ys) (length xs) ≡ Some x
+get-seam {A = A} xs ys x = slice_get_read (xs ++ x ∷ ys) (length (xs ++ x ∷ ys)) (length xs) x refl (longer xs) (sym (get_or-append_seam xs x ys x))
   where
-    longer : (xs : List ReadEntry) → length xs < length (xs ++ x ∷ ys)
+    longer : (xs : List A) → length xs < length (xs ++ x ∷ ys)
     longer [] = omega arith
     longer (z ∷ zs) = let h = longer zs in omega arith
 

@@ -1,7 +1,8 @@
 -- What holds while files are loaded, for every list of reads that the log begins and any events kept so far.
-use Rattle.std.specs.Prelude.{◌≡◌, ◌⊎◌, ◌≤◌, ◌-◌, ℕ, true, false, nat_lt, List, [], ◌∷◌, ◌++◌, length, map, Option, Some, None, Result, Ok, Err, bytes_eq, String, string_bytes, slice_get, find}
+use Rattle.std.specs.Prelude.{◌≡◌, ◌⊎◌, ◌≤◌, ◌-◌, ℕ, true, false, nat_lt, List, [], ◌∷◌, ◌++◌, length, map, flat_map, Option, Some, None, Result, Ok, Err, bytes_eq, String, string_bytes, slice_get, find}
 use Rattle.std.specs.Global.{Global}
-use Rattle.std.specs.List.{AllByRecursion}
+use Rattle.std.specs.List.{AllByRecursion, Contains}
+use Rattle.std.specs.List.Sorted.{IsStrictlyIncreasing}
 use Rattle.std.specs.Map.{lookup}
 use Rattle.protobuf_parse_base.specs.PathViews.{path_buf_text}
 use Rattle.protobuf_parse_syntax.specs.Trees.{FileSyntax, file_view}
@@ -17,7 +18,7 @@ use Rattle.protobuf_parse.specs.declared.run.loader.LoadedFile.{LoadedFile}
 use Rattle.protobuf_parse.specs.declared.run.loader.Placed.{Placed}
 use Rattle.protobuf_parse.specs.declared.run.log.ReadEntry.{ReadEntry}
 use Rattle.protobuf_parse.specs.declared.run.log.ReadOutcome.{ReadOutcome}
-use Rattle.protobuf_parse.specs.Walks.{Asked, the_resolver, the_reader, Event, long, load, elab, has, keep, among, Trees, joined, walk, reads_in, elab_paths}
+use Rattle.protobuf_parse.specs.Walks.{Asked, the_resolver, the_reader, Event, long, load, elab, has, keep, among, Trees, Reaches, joined, walk, reads_in, elab_paths}
 use Rattle.std.specs.Borrow.{Bor}
 use Rattle.std.specs.Str.{IsUtf8}
 use Rattle.protobuf_parse.specs.declared.run.fault.ResolveFault.{ResolveFault}
@@ -42,6 +43,44 @@ paths_of loaded = map (λ (e : Entry). string_bytes e.0) loaded
 -- the loaded file of a path
 abbrev pub file_at : Text → List Entry → Option LoadedFile
 file_at path loaded = lookup (λ (k : String Global). bytes_eq path (string_bytes k)) loaded
+
+-- the numbers of the files that a loaded file reaches
+abbrev pub reach_of_entry : Option Entry → List ℕ
+reach_of_entry None = []
+reach_of_entry (Some e) = e.1.reach.items
+
+-- the numbers that each of these files reaches, one file after another, and then that of the next file
+abbrev pub reached_by : List Entry → List ℕ → List ℕ
+reached_by loaded files = flat_map (λ n. reach_of_entry (slice_get loaded n)) files ++ length loaded ∷ []
+
+-- these numbers are ascending, and just those
+pub record IsReachOf (loaded : List Entry) (files numbers : List ℕ) : Type 0 where
+  pub ascending : IsStrictlyIncreasing numbers
+  pub all : (n : ℕ) → Contains (reached_by loaded files) n → Contains numbers n
+  pub only : (n : ℕ) → Contains numbers n → Contains (reached_by loaded files) n
+
+-- the loaded file with this number has this path
+abbrev pub IsNumbered : List Entry → ℕ → Text → Type 0
+IsNumbered loaded n path = (e : Entry) × (slice_get loaded n ≡ Some e) × (string_bytes e.0 ≡ path)
+
+-- so have those with these numbers
+abbrev pub AreNumbered : List Entry → List ℕ → List Text → Type 0
+AreNumbered loaded [] [] = Unit {0}
+AreNumbered loaded (n ∷ ns) (path ∷ paths) = IsNumbered loaded n path × AreNumbered loaded ns paths
+AreNumbered loaded _ _ = ⊥
+
+-- these are the numbers of the files that the file of this path reaches
+pub record IsReach (trees : Trees) (loaded : List Entry) (path : Text) (numbers : List ℕ) : Type 0 where
+  pub sound : (n : ℕ) → Contains numbers n → (q : Text) × IsNumbered loaded n q × Reaches trees path q
+  pub complete : (q : Text) → Reaches trees path q → (n : ℕ) × Contains numbers n × IsNumbered loaded n q
+
+-- each loaded file has the numbers of the files that it reaches
+abbrev pub AllReach : Trees → List Entry → Type 0
+AllReach trees loaded = (n : ℕ) (e : Entry) → slice_get loaded n ≡ Some e → IsReach trees loaded (string_bytes e.0) e.1.reach.items
+
+-- these are more files than were loaded
+abbrev pub MoreLoaded : List Entry → List Entry → Type 0
+MoreLoaded old new = (more : List Entry) × (new ≡ old ++ more)
 
 abbrev pub read_paths : List ReadEntry → List Text
 read_paths log = map (λ (e : ReadEntry). path_buf_text e.path) log
@@ -232,9 +271,26 @@ pub record GoesOn (files : Files) (table : List (Text × Text)) (log : List Read
 -- the loaded file of a path, as a look-up told it
 abbrev pub IsPlaced : Text → List Entry → Option Placed → Type 0
 IsPlaced path loaded None = file_at path loaded ≡ None
-IsPlaced path loaded (Some placed) = (file : LoadedFile) × (file_at path loaded ≡ Some file) × (placed.height ≡ file.height)
+IsPlaced path loaded (Some placed) = (file : LoadedFile) × (file_at path loaded ≡ Some file) × (placed.height ≡ file.height) × IsNumbered loaded placed.number path
 
 -- what an elaboration leaves
 abbrev pub Settles : Text → FileSyntax → ℕ → ℕ → List ReadEntry → List Entry → List Entry → Result Placed RunFault → Type 0
 Settles path tree height read log old new (Ok placed) = file_at path old ≡ None → IsAdded path tree height read old new placed
 Settles path tree height read log old new (Err f) = (e : ReadEntry) → slice_get log read ≡ Some e → path_buf_text e.path ≡ path → InAnyEnvironment tree (λ env. OrMemory f (StandsInElab (origin_given path (Some e.outcome)) (faults_of env tree) f))
+
+-- the file that was added is the last one, and reaches what these files reach and itself
+abbrev pub AddsReach : Text → List ℕ → List Entry → List Entry → Placed → Type 0
+AddsReach path files old new placed = file_at path old ≡ None → (x : Entry) × (new ≡ old ++ x ∷ []) × (string_bytes x.0 ≡ path) × (placed.number ≡ length old) × IsReachOf old files x.1.reach.items
+
+-- A file of this path is loaded with that number, among these files and no fewer than before; and each of them
+-- has the numbers of what it reaches.
+pub record IsReached (trees : Trees) (path : Text) (old new : List Entry) (placed : Placed) : Type 0 where
+  pub number : IsNumbered new placed.number path
+  pub more : MoreLoaded old new
+  pub all : AllReach trees new
+
+-- the same of the imports so far
+pub record AreReached (trees : Trees) (paths : List Text) (old new : List Entry) (numbers : List ℕ) : Type 0 where
+  pub numbered : AreNumbered new numbers paths
+  pub more : MoreLoaded old new
+  pub all : AllReach trees new

@@ -1,6 +1,6 @@
 -- Walks of import trees: what happens to the files that a run's inputs reach, in which order.
 -- A walk unfolds a whole import tree and remembers nothing; of equal events the first is kept.
-use Rattle.std.specs.Prelude.{ℕ, zero, suc, ◌+◌, Bool, false, nat_eq, List, [], ◌∷◌, ◌++◌, map, length, Option, Some, None, if◌then◌else◌, bytes_eq}
+use Rattle.std.specs.Prelude.{◌≡◌, true, ℕ, zero, suc, ◌+◌, Bool, false, nat_eq, List, [], ◌∷◌, ◌++◌, map, length, Option, Some, None, if◌then◌else◌, bytes_eq}
 use Rattle.std.specs.List.{list_any}
 use Rattle.protobuf_parse_syntax.specs.Trees.{FileSyntax, ImportSyntax}
 use Rattle.protobuf_parse_model.specs.Descriptors.{Text}
@@ -61,6 +61,11 @@ Trees = Text → Option FileSyntax
 -- the paths that a file imports, in order
 abbrev pub import_paths : FileSyntax → List Text
 import_paths t = map (λ (i : ImportSyntax). i.path) (imports t.statements)
+
+-- a file reaches itself, and what the files that it imports reach
+pub data Reaches (trees : Trees) : Text → Text → Type 0 where
+  itself : (p : Text) → Reaches trees p p
+  through : (p q r : Text) (t : FileSyntax) → trees p ≡ Some t → among q (import_paths t) ≡ true → Reaches trees q r → Reaches trees p r
 
 abbrev pub joined : (Text → List Event) → List Text → List Event
 joined walk_of [] = []

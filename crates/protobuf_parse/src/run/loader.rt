@@ -13,7 +13,7 @@ ghost use Rattle.protobuf_parse.specs.declared.run.fault.RunFault.TheVariants.{M
 ghost use Rattle.protobuf_parse.specs.declared.run.log.ReadEntry.{ReadEntry};
 ghost use Rattle.protobuf_parse.specs.Walks.{Event, among, at, checks, events, import_paths, input_walk, keep, statements, walk};
 ghost use Rattle.protobuf_parse.specs.Run.{Files, IsCounted, MayAnswer, are_same_bytes, faults_of, input_view, StandsInCheck, StandsInCycle, StandsInLong, origin_given, rows, text_given};
-ghost use Rattle.protobuf_parse.specs.Loading.{Goes, GoesOn, Good, Grows, IsDecided, IsElabFault, IsPlaced, IsReaders, IsShadowed, Leaves, OrMemory, ReadsTree, Settles, asked_by, file_shape, texts};
+ghost use Rattle.protobuf_parse.specs.Loading.{AddsReach, AllReach, Goes, GoesOn, Good, Grows, IsDecided, IsElabFault, IsPlaced, IsReached, IsReaders, IsShadowed, Leaves, OrMemory, ReadsTree, Settles, asked_by, file_shape, texts};
 
 use crate::run::asking::{answer, content, opened, origin, unreadable};
 use crate::run::fault::RunFault;
@@ -80,6 +80,8 @@ pub fn load_inputs<R: ProtoPathResolver, I: InputReader>(
     ensures count { (files : Files) → GoesOn files (rows sources.now.bundled.now) loader.new.reads.items
         → IsCounted loader.new.meets (length inputs.now + statements files.trees (events files.trees (map input_view inputs.now))) result }
     ensures decided { IsDecided (rows sources.now.bundled.now) loader.new.reads.items }
+    ensures reaches { (files : Files) → GoesOn files (rows sources.now.bundled.now) loader.new.reads.items
+        → OnOk result (AllReach files.trees loader.new.loaded.entries) }
 {
     for input in inputs {
         load_input(alloc, loader, sources, input)?;
@@ -116,6 +118,12 @@ fn load_input<R: ProtoPathResolver, I: InputReader>(
         Good legal files kept loader.old.loaded.entries loader.old.reads.items []
         → IsDecided (rows sources.now.bundled.now) loader.old.reads.items
         → IsDecided (rows sources.now.bundled.now) loader.new.reads.items }
+    ensures reaches { (files : Files) (kept : List Event)
+        → let legal = MayAnswer (λ p a. R.may_answer sources.now.resolver.now p a) (λ p a. I.may_read sources.now.reader.now p a) in
+        GoesOn files (rows sources.now.bundled.now) loader.new.reads.items
+        → Good legal files kept loader.old.loaded.entries loader.old.reads.items []
+        → AllReach files.trees loader.old.loaded.entries
+        → OnOk result (AllReach files.trees loader.new.loaded.entries) }
 {
     match input {
         RunInput::Named(name) => {
@@ -275,6 +283,12 @@ fn load_file<R: ProtoPathResolver, I: InputReader>(
         (loader.old.meets + 1 + statements files.trees (keep kept (walk files.trees (path_buf_text input.now) (asked_by fs_path.entry) (LIMIT - length chain) chain (path_buf_text path.now)))) result }
     ensures decided { IsDecided (rows sources.now.bundled.now) loader.old.reads.items
         → IsDecided (rows sources.now.bundled.now) loader.new.reads.items }
+    ensures reaches { (files : Files) (kept : List Event)
+        → let legal = MayAnswer (λ p a. R.may_answer sources.now.resolver.now p a) (λ p a. I.may_read sources.now.reader.now p a) in
+        GoesOn files (rows sources.now.bundled.now) loader.new.reads.items
+        → Good legal files kept loader.old.loaded.entries loader.old.reads.items (texts loader.old.chain.items)
+        → AllReach files.trees loader.old.loaded.entries
+        → IfOk result (IsReached files.trees (path_buf_text path.now) loader.old.loaded.entries loader.new.loaded.entries) }
 {
     let _known = loader.reads.as_slice();
     loader.meets += 1;
@@ -426,6 +440,7 @@ fn settle(
     ensures chain { loader.new.chain ≡ loader.old.chain }
     ensures meets { loader.new.meets ≡ loader.old.meets }
     ensures height { IfOk result (λ placed. placed.height ≡ height) }
+    ensures reach { IfOk result (AddsReach path.now imports.now loader.old.loaded.entries loader.new.loaded.entries) }
     ensures settles { Settles path.now (file_view tree) height read loader.old.reads.items loader.old.loaded.entries loader.new.loaded.entries result }
 {
     let number = loader.loaded.len();

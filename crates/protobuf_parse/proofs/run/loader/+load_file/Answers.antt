@@ -1,4 +1,4 @@
-use Rattle.std.proofs.Common.{◌≡◌, ◌++◌, ◌∷◌, [], Ok, Err, None, length, true, false, refl, sym, ap, ◌∙◌, arith, max, subst, append-nil, map, Bor, inl, inr, ◌^◌, add-one}
+use Rattle.std.proofs.Common.{◌≡◌, ◌++◌, ◌∷◌, [], Ok, Err, None, length, true, false, refl, sym, ap, ◌∙◌, arith, max, subst, append-nil, map, take, Bor, inl, inr, ◌^◌, add-one}
 use Rattle.std.specs.Prelude.{String}
 use Rattle.std.specs.Global.{Global, Vec}
 use Rattle.std.proofs.lemmas.List.{length_push, take_all}
@@ -7,12 +7,13 @@ use Rattle.protobuf_parse_base.specs.PathViews.{path_buf_text}
 use Rattle.protobuf_parse_model.specs.Descriptors.{Text}
 use Rattle.protobuf_parse.specs.Walks.{among}
 use Rattle.protobuf_parse.specs.Run.{MayAnswer, rows}
-use Rattle.protobuf_parse.specs.Loading.{asked_by, texts, file_at}
+use Rattle.protobuf_parse.specs.Loading.{so_far, asked_by, texts, file_at}
 use Rattle.protobuf_parse.specs.declared.run.log.ReadEntry.{ReadEntry}
 use Rattle.protobuf_parse_base.specs.declared.proto_path.path.ProtoPathBuf.{ProtoPathBuf}
 use Rattle.protobuf_parse.proofs.Steps.{Grows-trans}
 use Rattle.protobuf_parse.proofs.Leaving.{texts-length, texts-push, init-bound, leaves-cycle, leaves-tall, leaves-again, leaves-full, leaves-read, leaves-open, leaves-before, leaves-step, leaves-err, leaves-push, leaves-end, tree-known, split-at, next-at, goes-back, goes-same, low-height, on_ok, popped}
 use Rattle.protobuf_parse.proofs.Deciding.{decided-file, decided-same}
+use Rattle.protobuf_parse.proofs.Reaching.{reached-again, reached-none, reached-step, reached-end}
 use Rattle.protobuf_parse.proofs.Counting.{counted, lengths, count-here, count-open, count-step, count-stop, count-end, count-again}
 use Rattle.protobuf_parse.proofs.run.loader.+load_file.Goals as goal
 use Rattle.protobuf_parse.proofs.run.loader.+load_file.Goals.{then-placed-height, else-placed-height}
@@ -104,6 +105,7 @@ loop-import-init g t c =
           let l = leaves-open _ files _ kept _ _ _ _ (path_buf_text c.args.input.now) (asked_by c.args.fs_path) _ c.len-read.result c.in_ok-tree.tree (omega (arith, c.len-read.ensures, c.args.loader.now.reads.ok.0)) go good off none r in
           let same = ap (λ m. m.entries) c.read_tree.ensures.loaded in
           (l.0, rw same l.1);
+      reaches = λ files kept go good all. reached-none files.trees _ _ _ (ap (λ m. m.entries) c.read_tree.ensures.loaded) c.new-below.ensures.items all;
       count = λ files kept go good.
           let known = tree-known _ files _ kept _ _ _ _ _ (asked_by c.args.fs_path) _ c.in_ok-tree.tree go ([], sym (append-nil _)) good off none r in
           let v = λ (b : Bor ProtoPathBuf). path_buf_text b.now in
@@ -165,6 +167,13 @@ loop-import-preserved g t c =
           let inner = ap texts k.1 ∙ texts-push c.args.loader.now.chain.items k.0 _ k.2 in
           let next = next-at v xs c.loop-import.import-index c.import-item.result (omega arith) c.import-item.is in
           (l.0, leaves-step _ files kept (path_buf_text c.args.input.now) (asked_by c.args.fs_path) _ _ _ l.0 _ _ _ _ c.loop-import.height c.if-placed-height.height c.in_ok-placed.placed _ _ _ _ inner l.1 c.load_file.ensures.grows next m (λ x. c.in_ok-placed.ensures.leaves files _ go x));
+      reaches = λ files kept go good all.
+          let back = goes-back files _ _ _ c.load_file.ensures.grows go in
+          let l = c.loop-import.invariant.inside files kept back good in
+          let inner = ap texts k.1 ∙ texts-push c.args.loader.now.chain.items k.0 _ k.2 in
+          let next = next-at v xs c.loop-import.import-index c.import-item.result (omega arith) c.import-item.is in
+          let a = c.loop-import.invariant.reaches files kept back good all in
+          reached-step files.trees _ _ _ _ _ _ _ _ c.in_ok-placed.placed a (c.in_ok-placed.ensures.reaches files (so_far files.trees kept (path_buf_text c.args.input.now) (asked_by c.args.fs_path) (path_buf_text c.args.path.now) (texts c.args.loader.now.chain.items) (map v (take c.loop-import.import-index xs))) go (rw inner l.1.good) a.all) c.in_ok-push.ensures.items next;
       count = λ files kept go good.
           let back = goes-back files _ _ _ c.load_file.ensures.grows go in
           let l = c.loop-import.invariant.inside files kept back good in
@@ -296,3 +305,21 @@ pub returns-clause-chain : goal.returns-clause-chain
 returns-clause-chain g t c =
     let k = c.loop-import.invariant.chain in
     on_ok c.settle.result (ap (λ (v : Vec (String Global)). v.items) c.settle.ensures.chain ∙ popped _ _ _ k.0 c.loop-import.loader.chain.len k.1 (omega (arith, c.loop-import.loader.chain.ok.0)) c.pop.ensures.rest)
+
+pub returns-in-Some-clause-reaches : goal.returns-in-Some-clause-reaches
+returns-in-Some-clause-reaches g t c files kept go good all =
+    reached-again files.trees _ _ _ c.in-Some.placed (c.to_str-text.ensures.text ∙ c.as_path.ensures) c.in-Some.ensures all
+
+pub returns-clause-reaches : goal.returns-clause-reaches
+returns-clause-reaches g t c files kept go good known_reach =
+    let text_is = c.to_str-text.ensures.text ∙ c.as_path.ensures in
+    let off : among (path_buf_text c.args.path.now) (texts c.args.loader.now.chain.items) ≡ false = rw (← text_is, ← c.deref.ensures.value) (sym c.is_on_chain.ensures ∙ c.if-is_on_chain.false) in
+    let none : file_at (path_buf_text c.args.path.now) c.args.loader.now.loaded.entries ≡ None = subst (λ (z : Text). file_at z c.args.loader.now.loaded.entries ≡ None) text_is c.in_default.ensures in
+    let v = λ (b : Bor ProtoPathBuf). path_buf_text b.now in
+    let reads = ap (λ (w : Vec ReadEntry). w.items) c.settle.ensures.reads in
+    let back = goes-same files _ _ _ reads go in
+    let l = c.loop-import.invariant.inside files kept back good in
+    let known = tree-known _ files _ kept _ _ _ _ _ (asked_by c.args.fs_path) _ c.in_ok-tree.tree back c.loop-import.invariant.grows good off none c.in_ok-tree.ensures.read in
+    let all = ap (map v) (take_all _ _ (omega arith) ∙ c.deref-import-items.ensures.value) ∙ c.in_ok-imports.ensures in
+    let a = c.loop-import.invariant.reaches files kept back good known_reach in
+    reached-end _ files kept (path_buf_text c.args.input.now) (asked_by c.args.fs_path) _ _ _ _ l.0 _ c.loop-import.height _ _ _ _ _ _ c.settle.result l.1 text_is all known a (rw c.deref-2.ensures.value at c.settle.ensures.reach)

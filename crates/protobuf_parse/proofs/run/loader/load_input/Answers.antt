@@ -78,3 +78,14 @@ returns-in_err-load_file-in-At-clause-decided g c files kept good d = c.in_err-l
 
 pub returns-in_ok-load_file-in-At-clause-decided : goal.returns-in_ok-load_file-in-At-clause-decided
 returns-in_ok-load_file-in-At-clause-decided g c files kept good d = c.in_ok-load_file-in-At.ensures.decided (c.in_ok-check_loaded-in-At.ensures.decided files kept good d)
+
+pub returns-in_ok-load_file-in-Named-clause-reaches : goal.returns-in_ok-load_file-in-Named-clause-reaches
+returns-in_ok-load_file-in-Named-clause-reaches g c files kept go good all =
+    (c.in_ok-load_file-in-Named.ensures.reaches files kept go (rw c.requires.chain good) all).all
+
+pub returns-in_ok-load_file-in-At-clause-reaches : goal.returns-in_ok-load_file-in-At-clause-reaches
+returns-in_ok-load_file-in-At-clause-reaches g c files kept go good all =
+    let back = goes-back files _ _ _ c.load_file-in-At.ensures.grows go in
+    let empty = ap (λ (w : Vec (String Global)). w.items) c.check_loaded.ensures.chain ∙ c.requires.chain in
+    let same = ap (λ m. m.entries) c.check_loaded.ensures.loaded in
+    (c.in_ok-load_file-in-At.ensures.reaches files (kept ++ checks kept (at (path_buf_text c.in-At.name) c.deref.result.now)) go (rw empty (c.in_ok-check_loaded-in-At.ensures.goes files kept back good)) (rw same all)).all

@@ -1,5 +1,8 @@
 use Rattle.std.proofs.Common.{refl, sym}
+use Rattle.protobuf_parse.proofs.Reaching.{key-found}
 use Rattle.protobuf_parse.proofs.run.loader.place_of.Goals as goal
 
 pub returns-in-Some : goal.returns-in-Some
-returns-in-Some c = (c.in-Some.file.now, sym c.in-Some.ensures.value, refl)
+returns-in-Some c =
+    let key = key-found c.args.path.now c.args.loaded.now.entries c.in-Some.field-0-1.now c.in-Some.ensures.key in
+    (c.in-Some.file.now, sym c.in-Some.ensures.value, refl, ((c.in-Some.field-0-1.now, c.in-Some.file.now), c.in-Some.ensures.entry, key))

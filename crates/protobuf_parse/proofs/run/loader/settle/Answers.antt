@@ -11,6 +11,18 @@ use Rattle.protobuf_parse.specs.Loading.{file_at}
 use Rattle.protobuf_parse.proofs.Leaving.{elab-stands}
 use Rattle.protobuf_parse.proofs.run.loader.settle.Goals as goal
 
+pub returns-clause-reach : goal.returns-clause-reach
+returns-clause-reach c none =
+    let added : LoadedFile = record { tree = c.args.tree; height = c.args.height; reach = c.in_ok-reach.reach; read = c.args.read; descriptor = c.in-Ok.descriptor } in
+    let new = subst (λ (q : Text). file_at q c.args.loader.now.loaded.entries ≡ None) (sym c.in_ok-key.ensures.ok) none in
+    let reach = c.in_ok-reach.ensures in (
+      (c.in_ok-key.key, added),
+      c.in_ok-insert.ensures.entries ∙ insert_entry-new string_eq c.args.loader.now.loaded c.in_ok-key.key added new,
+      c.in_ok-key.ensures.ok,
+      c.len-number.ensures.len,
+      record { ascending = reach.ascending; all = reach.all; only = reach.only },
+    )
+
 pub returns-clause-settles : goal.returns-clause-settles
 returns-clause-settles c none =
     let added : LoadedFile = record { tree = c.args.tree; height = c.args.height; reach = c.in_ok-reach.reach; read = c.args.read; descriptor = c.in-Ok.descriptor } in
