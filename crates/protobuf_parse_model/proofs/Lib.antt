@@ -4,5 +4,6 @@ pub mod Repeats
 pub mod FirstPath
 pub mod TreeViews
 pub mod Lookups
+pub mod Scopes
 mod Rows
 pub mod Levels

@@ -25,7 +25,7 @@ declared_is ds name d e =
     (f.0, (bytes_eq-Decides d.name name).0 f.1)
 
 -- the first of the scopes
-pub first_is : {A : Type 0} (ds : List (Declared A)) (name : Text) (scopes : List Scope) (d : Declared A) → declared_in_first ds name scopes ≡ Some d → IsFirst ds name scopes d
+pub first_is : {A : Type 0} (ds : List (Declared A)) (name : Text) (scopes : List Scope) (d : Declared A) → declared_in_first (declared ds) name scopes ≡ Some d → IsFirst ds name scopes d
 first_is ds name [] d e = absurd cc
 first_is {A} ds name (scope ∷ scopes) d e = at (declared ds (full_name scope name)) refl e (first_is ds name scopes d)
   where
@@ -37,15 +37,15 @@ first_is {A} ds name (scope ∷ scopes) d e = at (declared ds (full_name scope n
     later : declared ds (full_name scope name) ≡ None → IsFirst ds name scopes d → IsFirst ds name (scope ∷ scopes) d
     later h f = record { longer = scope ∷ f.longer; front = f.front; shorter = f.shorter; stands = ap (λ xs. scope ∷ xs) f.stands; is_declared = f.is_declared; is_named = f.is_named; none_longer = All-cons (λ (s : Scope). declared ds (full_name s name) ≡ None) scope f.longer h f.none_longer }
 
-    at : (o : Option (Declared A)) → declared ds (full_name scope name) ≡ o → option_or o (declared_in_first ds name scopes) ≡ Some d → (declared_in_first ds name scopes ≡ Some d → IsFirst ds name scopes d) → IsFirst ds name (scope ∷ scopes) d
+    at : (o : Option (Declared A)) → declared ds (full_name scope name) ≡ o → option_or o (declared_in_first (declared ds) name scopes) ≡ Some d → (declared_in_first (declared ds) name scopes ≡ Some d → IsFirst ds name scopes d) → IsFirst ds name (scope ∷ scopes) d
     at None h k rest = later h (rest k)
     at (Some x) h k rest = here_is x h cc
 
-pub none_is : {A : Type 0} (ds : List (Declared A)) (name : Text) (scopes : List Scope) → declared_in_first ds name scopes ≡ None → All (λ scope. declared ds (full_name scope name) ≡ None) scopes
+pub none_is : {A : Type 0} (ds : List (Declared A)) (name : Text) (scopes : List Scope) → declared_in_first (declared ds) name scopes ≡ None → All (λ scope. declared ds (full_name scope name) ≡ None) scopes
 none_is ds name [] e = All-nil (λ (s : Scope). declared ds (full_name s name) ≡ None)
 none_is {A} ds name (scope ∷ scopes) e = at (declared ds (full_name scope name)) refl e (none_is ds name scopes)
   where
-    at : (o : Option (Declared A)) → declared ds (full_name scope name) ≡ o → option_or o (declared_in_first ds name scopes) ≡ None → (declared_in_first ds name scopes ≡ None → All (λ s. declared ds (full_name s name) ≡ None) scopes) → All (λ s. declared ds (full_name s name) ≡ None) (scope ∷ scopes)
+    at : (o : Option (Declared A)) → declared ds (full_name scope name) ≡ o → option_or o (declared_in_first (declared ds) name scopes) ≡ None → (declared_in_first (declared ds) name scopes ≡ None → All (λ s. declared ds (full_name s name) ≡ None) scopes) → All (λ s. declared ds (full_name s name) ≡ None) (scope ∷ scopes)
     at None h k rest = All-cons (λ (s : Scope). declared ds (full_name s name) ≡ None) scope scopes h (rest k)
     at (Some x) h k rest = absurd cc
 
@@ -53,7 +53,7 @@ none_is {A} ds name (scope ∷ scopes) e = at (declared ds (full_name scope name
 pub meaning_declared : {A : Type 0} (ds : List (Declared A)) (scope : Scope) (name : Text) (d : Declared A) → meaning ds scope name ≡ Some d → Among ds d
 meaning_declared ds scope name d e = at (begins_with_dot name) e
   where
-    at : (b : Bool) → cond b (declared ds name) (declared_in_first ds name (fronts scope)) ≡ Some d → Among ds d
+    at : (b : Bool) → cond b (declared ds name) (declared_in_first (declared ds) name (fronts scope)) ≡ Some d → Among ds d
     at true k = (declared_is ds name d k).0
     at false k = (first_is ds name (fronts scope) d k).is_declared
 

@@ -7,8 +7,8 @@ use Rattle.protobuf_parse_model.specs.Descriptors.{Text}
 use Rattle.protobuf_parse_model.specs.Faults.{Fault}
 use Rattle.protobuf_parse_model.specs.Duplicates.{fault}
 use Rattle.protobuf_parse_model.specs.Declarations as names
-use Rattle.protobuf_parse_model.specs.Declarations.{Scope, Declared, DeclaredType}
-use Rattle.protobuf_parse_model.specs.Lookup.{begins_with_dot, meaning}
+use Rattle.protobuf_parse_model.specs.Declarations.{Scope, Declared, DeclaredType, TypeKind}
+use Rattle.protobuf_parse_model.specs.Lookup.{Meanings, begins_with_dot, meant}
 
 -- the construct whose options are set: each kind has an options message of its own
 pub data OptionsOf : Type 0 where
@@ -31,8 +31,8 @@ no_custom construct scope options = []
 
 pub record Environment : Type 0 where
   pub syntax : Syntax
-  -- the messages and the enums that the file sees
-  pub types : List DeclaredType
+  -- the messages and the enums that the file sees, by full name
+  pub types : Meanings TypeKind
   -- the package and the messages around the construct
   pub scope : Scope
   pub custom : CustomBytes
@@ -43,7 +43,7 @@ inside env name = record env { scope = names.inside env.scope name }
 
 -- what the name of a type means there
 abbrev pub type_named : Environment → Text → Option DeclaredType
-type_named env name = meaning env.types env.scope name
+type_named env name = meant env.types env.scope name
 
 -- the full name of a type
 abbrev pub type_full_name : Environment → Text → Option Text

@@ -12,6 +12,7 @@ use Rattle.protobuf_parse_model.specs.declared.error.ElabErrorKind.TheVariants.{
 use Rattle.protobuf_parse_model.specs.Descriptors.{Text, FieldDescriptor, MessageDescriptor, FileDescriptor}
 use Rattle.protobuf_parse_model.specs.Faults.{Fault}
 use Rattle.protobuf_parse_model.specs.Declarations.{DeclaredType, DeclaredExtension, file_scope, file_types, file_extensions, file_generated}
+use Rattle.protobuf_parse_model.specs.Lookup.{declared}
 use Rattle.protobuf_parse_model.specs.Duplicates.{repeats, duplicates}
 use Rattle.protobuf_parse_model.specs.Environment.{Environment, CustomBytes}
 use Rattle.protobuf_parse_model.specs.BuiltinOptions.{file_table, options_faults}
@@ -43,7 +44,7 @@ types_of_files files = flat_map file_types files
 
 -- The file's environment, where it sees these files.
 abbrev pub environment : List FileSyntax → CustomBytes → FileSyntax → Environment
-environment seen custom t = record { syntax = t.syntax; types = types_of_files seen; scope = file_scope t; custom = custom }
+environment seen custom t = record { syntax = t.syntax; types = declared (types_of_files seen); scope = file_scope t; custom = custom }
 
 -- so it is whatever the file sees, and whatever its custom options become
 abbrev pub InAnyEnvironment : FileSyntax → (Environment → Type 0) → Type 0

@@ -6,6 +6,7 @@ pub mod Declarations
 pub mod Lookup
 pub mod Duplicates
 pub mod Environment
+pub mod Contexts
 pub mod BuiltinOptions
 pub mod OptionsSet
 pub mod Fields

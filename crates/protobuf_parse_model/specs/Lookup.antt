@@ -20,13 +20,20 @@ begins_with_dot (b ∷ bs) = b == 46
 abbrev pub declared : {A : Type 0} → List (Declared A) → Text → Option (Declared A)
 declared ds name = find (λ d. bytes_eq d.name name) ds
 
+-- what each full name is declared as
+abbrev pub Meanings : Type 0 → Type 0
+Meanings A = Text → Option (Declared A)
+
 -- the declaration of the name in the first of the scopes that has one
-abbrev pub declared_in_first : {A : Type 0} → List (Declared A) → Text → List Scope → Option (Declared A)
-declared_in_first ds name [] = None
-declared_in_first ds name (scope ∷ scopes) = option_or (declared ds (full_name scope name)) (declared_in_first ds name scopes)
+abbrev pub declared_in_first : {A : Type 0} → Meanings A → Text → List Scope → Option (Declared A)
+declared_in_first of name [] = None
+declared_in_first of name (scope ∷ scopes) = option_or (of (full_name scope name)) (declared_in_first of name scopes)
+
+abbrev pub meant : {A : Type 0} → Meanings A → Scope → Text → Option (Declared A)
+meant of scope name = if begins_with_dot name then of name else declared_in_first of name (fronts scope)
 
 abbrev pub meaning : {A : Type 0} → List (Declared A) → Scope → Text → Option (Declared A)
-meaning ds scope name = if begins_with_dot name then declared ds name else declared_in_first ds name (fronts scope)
+meaning ds scope name = meant (declared ds) scope name
 
 -- ---- what the walk outward means
 

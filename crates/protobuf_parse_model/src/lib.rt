@@ -5,6 +5,7 @@ mod convert;
 mod descriptor;
 mod error;
 mod laws;
+mod scope;
 
 pub use convert::elaborate;
 pub use descriptor::{
