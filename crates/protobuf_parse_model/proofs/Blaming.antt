@@ -6,6 +6,8 @@ use Rattle.protobuf_parse_model.specs.declared.error.ElabFailure.TheVariants as 
 use Rattle.protobuf_parse_model.specs.Faults.{Among, here, there, Blames, Fault}
 use Rattle.protobuf_parse_model.specs.declared.error.ElabErrorKind.TheVariants.{Unsupported}
 use Rattle.protobuf_parse_model.specs.Unsupported.{unsupported}
+use Rattle.protobuf_parse_model.specs.Duplicates.{fault}
+use Rattle.protobuf_parse_model.specs.declared.error.ElabErrorKind.{ElabErrorKind}
 
 pub among_left : {A : Type 0} {x : A} {xs : List A} (ys : List A) → Among xs x → Among (xs ++ ys) x
 among_left ys here = here
@@ -36,3 +38,6 @@ blames_at faults view (x ∷ xs) (suc i) s e lt is h = blames_right e (faults (v
 -- a refusal by its word
 pub among_unsupported : (word what : List ℕ) → what ≡ word → Among (unsupported word) (record { kind = Unsupported; what = what })
 among_unsupported word what e = rw e here
+
+pub among_fault : (kind : ElabErrorKind) (said what : List ℕ) → what ≡ said → Among (fault kind said) (record { kind = kind; what = what })
+among_fault kind said what e = rw e here

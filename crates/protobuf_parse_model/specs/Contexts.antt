@@ -1,6 +1,6 @@
 -- The environment of a construct, by the numbers of the files that its file reaches and what each full name is declared
 -- as in which files.
-use Rattle.std.specs.Prelude.{ℕ, List, [], ◌∷◌, map, nat_eq, bytes_eq, string_bytes, String, Option, Some, None, option_map, if◌then◌else◌}
+use Rattle.std.specs.Prelude.{ℕ, List, [], ◌∷◌, map, nat_eq, bytes_eq, string_bytes, String, Option, Some, None, option_map, option_to_list, if◌then◌else◌}
 use Rattle.std.specs.Borrow.{Bor}
 use Rattle.std.specs.Global.{Global, Vec}
 use Rattle.std.specs.List.{list_any}
@@ -12,7 +12,19 @@ use Rattle.protobuf_parse_model.specs.declared.scope.seen.Declarations.{Declarat
 use Rattle.protobuf_parse_model.specs.declared.scope.seen.Seen.{Seen}
 use Rattle.protobuf_parse_model.specs.declared.scope.Context.{Context}
 use Rattle.protobuf_parse_model.specs.declared.scope.Meaning.{Meaning}
-use Rattle.protobuf_parse_model.specs.Descriptors.{Text}
+use Rattle.protobuf_parse_model.specs.declared.scope.ResolvedType.{ResolvedType}
+use Rattle.protobuf_parse_model.specs.Descriptors.{Text, FieldDescriptor, MessageDescriptor, field_view, message_view}
+use Rattle.protobuf_parse_model.specs.declared.convert.place.FieldPlace.{FieldPlace}
+use Rattle.protobuf_parse_model.specs.Fields as fields
+use Rattle.protobuf_parse_model.specs.declared.convert.field.FieldSaid.{FieldSaid}
+use Rattle.protobuf_parse_model.specs.declared.descriptor.FieldType.{FieldType}
+use Rattle.protobuf_parse_model.specs.declared.convert.statement.DeclaredField.{DeclaredField}
+use Rattle.protobuf_parse_model.specs.Messages.{messages_behind}
+use Rattle.protobuf_parse_syntax.specs.Trees.{OptionSyntax, FieldStatementSyntax}
+use Rattle.protobuf_parse_model.specs.Options.{FieldOptionsSet, field_options_view}
+use Rattle.protobuf_parse_model.specs.OptionsSet.{field_options}
+use Rattle.protobuf_parse_model.specs.OptionViews.{nowhere}
+use Rattle.protobuf_parse_model.specs.Fields.{FieldTypeOf}
 use Rattle.protobuf_parse_model.specs.Declarations as declared
 use Rattle.protobuf_parse_model.specs.Declarations.{DeclaredType, a_message, an_enum}
 use Rattle.protobuf_parse_model.specs.Environment.{Environment, no_custom}
@@ -26,6 +38,35 @@ kind_view kind.Enum = an_enum
 
 abbrev pub meaning_view : Meaning → DeclaredType
 meaning_view m = record { name = string_bytes m.name; what = kind_view m.kind }
+
+abbrev pub resolved_view : ResolvedType → FieldTypeOf
+resolved_view r = record { kind = r.kind; name = option_map string_bytes r.name }
+
+-- a field, and the message behind it, if one stands there
+pub record FieldAndMessage : Type 0 where
+  pub field : FieldDescriptor
+  pub behind : List MessageDescriptor
+
+abbrev pub declared_view : DeclaredField → FieldAndMessage
+declared_view d = record { field = field_view d.field; behind = map message_view (option_to_list d.behind) }
+
+abbrev pub declared_by : Environment → fields.FieldPlace → FieldStatementSyntax → FieldAndMessage
+declared_by env place s = record { field = fields.field_statement_of env place s; behind = messages_behind env s }
+
+-- what the options of a field say
+pub record Said : Type 0 where
+  pub default_value : Option Text
+  pub json_name : Text
+  pub options : Option FieldOptionsSet
+
+abbrev pub said_view : FieldSaid → Said
+said_view s = record { default_value = option_map string_bytes s.default_value; json_name = string_bytes s.json_name; options = option_map field_options_view s.options }
+
+abbrev pub said_by : FieldType → Text → List OptionSyntax → Said
+said_by type_ name os = record { default_value = fields.default_of type_ os; json_name = fields.json_name_of name os; options = field_options nowhere os }
+
+abbrev pub place_view : FieldPlace → fields.FieldPlace
+place_view p = record { extendee = option_map (λ (s : Bor (List ℕ)). s.now) p.extendee; oneof_index = p.oneof_index }
 
 -- what the first of the files declares that is reached
 abbrev pub first_reached : List ℕ → List Declaration → Option TypeKind

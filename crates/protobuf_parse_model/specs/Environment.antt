@@ -49,10 +49,14 @@ type_named env name = meant env.types env.scope name
 abbrev pub type_full_name : Environment → Text → Option Text
 type_full_name env name = option_map (λ (d : DeclaredType). d.name) (type_named env name)
 
--- E2 or E3 for a name that means nothing
+-- E2 or E3
+abbrev pub missing_name : Text → List Fault
+missing_name name = fault (if begins_with_dot name then NotFoundByAbsPath else NotFoundByRelPath) name
+
+-- for a name that means nothing
 abbrev pub missing : {A : Type 0} → Text → Option A → List Fault
 missing name (Some x) = []
-missing name None = fault (if begins_with_dot name then NotFoundByAbsPath else NotFoundByRelPath) name
+missing name None = missing_name name
 
 abbrev pub type_missing : Environment → Text → List Fault
 type_missing env name = missing name (type_named env name)

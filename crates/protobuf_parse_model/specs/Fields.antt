@@ -9,7 +9,7 @@
 use Rattle.std.specs.Prelude.{ℕ, ℤ, pos, Bool, true, false, List, [], ◌++◌, map, flat_map, codes, bytes_eq, slice_get, Option, Some, None, unwrap_or, option_map, if◌then◌else◌}
 use Rattle.protobuf_parse_base.specs.Cases.{json_name_text}
 use Rattle.protobuf_parse_base.specs.Escapes.{escaped_bytes}
-use Rattle.protobuf_parse_syntax.specs.Trees.{ConstantSyntax, string, OptionNameSyntax, builtin, custom, OptionSyntax, TypeSyntax, scalar, map_of, named, FieldSyntax, FieldStatementSyntax, field, group, FieldStatementList}
+use Rattle.protobuf_parse_syntax.specs.Trees.{ConstantSyntax, string, OptionNameSyntax, builtin, custom, OptionSyntax, TypeSyntax, scalar, map_of, named, FieldSyntax, FieldStatementSyntax, field, group}
 use Rattle.protobuf_parse_syntax.specs.Decoder.{decode, text_of}
 use Rattle.protobuf_parse_syntax.specs.Formats.{format}
 use Rattle.protobuf_parse_syntax.specs.declared.tree.Syntax.{Syntax}
@@ -149,6 +149,10 @@ field_option_faults value (custom parts) = []
 abbrev pub field_options_faults : List OptionSyntax → List Fault
 field_options_faults os = flat_map (λ (o : OptionSyntax). field_option_faults o.value o.name) os
 
+-- all that is wrong in the options of the field of that type and name
+abbrev pub faults_of_options : FieldType → Text → List OptionSyntax → List Fault
+faults_of_options type_ name os = default_faults type_ name os ++ json_name_faults os ++ field_options_faults os
+
 -- ---- fields
 
 -- the message that the field extends, and its place among the oneofs
@@ -196,11 +200,7 @@ field_statement_of env place (field f) = field_of env place f
 field_statement_of env place (group at label name number fields) = group_field env place label name number
 
 abbrev pub field_faults : Environment → FieldSyntax → List Fault
-field_faults env f =
-    type_faults env f.name f.type_
-    ++ default_faults (type_of env f.name f.type_).kind f.name f.options
-    ++ json_name_faults f.options
-    ++ field_options_faults f.options
+field_faults env f = type_faults env f.name f.type_ ++ faults_of_options (type_of env f.name f.type_).kind f.name f.options
 
 -- ---- groups, and where maps and groups may not stand
 
@@ -208,8 +208,8 @@ field_faults env f =
 abbrev pub names_of_fields : List FieldDescriptor → List Text
 names_of_fields fields = map (λ (f : FieldDescriptor). f.name) fields
 
-abbrev pub group_fields : Environment → FieldStatementList → List FieldDescriptor
-group_fields env fields = map (field_statement_of env plain) (group_body fields)
+abbrev pub fields_of_group : Environment → List FieldStatementSyntax → List FieldDescriptor
+fields_of_group env fields = map (field_statement_of env plain) fields
 
 -- E4 for a map
 abbrev pub map_faults : FieldSyntax → List Fault
@@ -220,10 +220,14 @@ abbrev pub grouped_faults : Environment → FieldStatementSyntax → List Fault
 grouped_faults env (field f) = map_faults f ++ field_faults env f
 grouped_faults env (group at label name number fields) = fault DanglingTypeName (group_field_name name)
 
--- in a message: E1 for two fields of a group that have one name
+-- of a group's fields: E1 for two that have one name
+abbrev pub group_faults : Environment → List FieldStatementSyntax → List Fault
+group_faults env fields = duplicates (names_of_fields (fields_of_group env fields)) ++ flat_map (grouped_faults env) fields
+
+-- in a message
 abbrev pub field_statement_faults : Environment → FieldStatementSyntax → List Fault
 field_statement_faults env (field f) = field_faults env f
-field_statement_faults env (group at label name number fields) = duplicates (names_of_fields (group_fields env fields)) ++ flat_map (grouped_faults env) (group_body fields)
+field_statement_faults env (group at label name number fields) = group_faults env (group_body fields)
 
 -- in an `extend`: E4 for a map
 abbrev pub extension_faults : Environment → FieldStatementSyntax → List Fault

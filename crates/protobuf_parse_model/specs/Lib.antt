@@ -6,13 +6,14 @@ pub mod Declarations
 pub mod Lookup
 pub mod Duplicates
 pub mod Environment
-pub mod Contexts
 pub mod BuiltinOptions
 pub mod OptionsSet
 pub mod Fields
+pub mod OptionViews
 pub mod Enums
 pub mod Services
 pub mod Messages
+pub mod Contexts
 pub mod FileDescriptor
 pub mod OptionSets
 pub mod Unsupported

@@ -7,22 +7,22 @@
 -- Protocol Buffers Language Specification (proto2), "Message definition", "Reserved", "Extensions", "Oneof and oneof
 -- field", "Group field", "Map field", "Extend"; Protocol Buffers Language Guide, "Maps", "Backwards compatibility", and
 -- "Field Presence in proto3" (https://protobuf.dev).
-use Rattle.std.specs.Prelude.{ℕ, pos, ◌+◌, ◌+ℤ◌, Bool, false, List, [], ◌∷◌, ◌++◌, map, flat_map, length, codes, Option, Some, None, if◌then◌else◌}
+use Rattle.std.specs.Prelude.{ℕ, ℤ, pos, ◌+◌, ◌+ℤ◌, Bool, false, List, [], ◌∷◌, ◌++◌, map, flat_map, length, codes, Option, Some, None, if◌then◌else◌}
 use Rattle.std.specs.Ordering.{int_eq}
-use Rattle.protobuf_parse_syntax.specs.Trees.{OptionSyntax, TypeSyntax, scalar, map_of, named, FieldStatementSyntax, field, group, FieldStatementList, RangeSyntax, ReservedSyntax, OneofSyntax, ExtendSyntax, EnumSyntax, MessageStatementSyntax, message_reserved, message_oneof, message_extend, message_message, message_enum, message_extensions, message_option, message_field, MessageStatementList, no_statements, more_statements, MessageSyntax}
+use Rattle.protobuf_parse_syntax.specs.Trees.{OptionSyntax, TypeSyntax, scalar, map_of, named, FieldStatementSyntax, field, group, RangeSyntax, ReservedSyntax, OneofSyntax, ExtendSyntax, EnumSyntax, MessageStatementSyntax, message_reserved, message_oneof, message_extend, message_message, message_enum, message_extensions, message_option, message_field, MessageStatementList, no_statements, more_statements, MessageSyntax}
 use Rattle.protobuf_parse_syntax.specs.declared.tree.field.Label.{Label}
 use Rattle.protobuf_parse_syntax.specs.declared.tree.field.Label.TheVariants.{Optional}
 use Rattle.protobuf_parse_model.specs.declared.error.ElabErrorKind.TheVariants.{RangeEndOverflow}
 use Rattle.protobuf_parse_model.specs.Options.{MessageOptionsSet}
 use Rattle.protobuf_parse_model.specs.Descriptors.{Text, Range, FieldDescriptor, OneofDescriptor, MessageDescriptor, a_message, no_messages, messages_of_list}
 use Rattle.protobuf_parse_model.specs.Faults.{Fault}
-use Rattle.protobuf_parse_model.specs.Statements.{message_body, entry_name, field_statement_name, oneof_fields}
+use Rattle.protobuf_parse_model.specs.Statements.{group_body, message_body, entry_name, field_statement_name, oneof_fields}
 use Rattle.protobuf_parse_model.specs.Statements as statements
 use Rattle.protobuf_parse_model.specs.Duplicates.{fault_when, duplicates}
 use Rattle.protobuf_parse_model.specs.Environment.{Environment, inside, type_full_name, type_missing}
 use Rattle.protobuf_parse_model.specs.BuiltinOptions.{message_table, oneof_table, options_faults}
 use Rattle.protobuf_parse_model.specs.OptionsSet.{message_options, entry_options, oneof_options}
-use Rattle.protobuf_parse_model.specs.Fields.{FieldTypeOf, type_of, says_optional, FieldPlace, plain, field_statement_of, names_of_fields, group_fields, field_statement_faults, extension_faults}
+use Rattle.protobuf_parse_model.specs.Fields.{FieldTypeOf, type_of, says_optional, FieldPlace, plain, field_statement_of, names_of_fields, fields_of_group, field_statement_faults, extension_faults}
 use Rattle.protobuf_parse_model.specs.Enums.{enum_of, enum_faults, ranges_reserved, names_reserved}
 
 -- ---- the messages behind maps and groups
@@ -42,10 +42,10 @@ message_with name fields options = a_message (record {
 }) no_messages
 
 -- `key` and `value`: the types are those of the map, looked up from where it stands
-abbrev pub entry_field : Text → ℕ → FieldTypeOf → FieldDescriptor
+abbrev pub entry_field : Text → ℤ → FieldTypeOf → FieldDescriptor
 entry_field name number type_ = record {
   name = name;
-  number = pos number;
+  number = number;
   label = Optional;
   type_ = type_.kind;
   type_name = type_.name;
@@ -57,21 +57,24 @@ entry_field name number type_ = record {
   options = None;
 }
 
+abbrev pub entry_message : Text → FieldTypeOf → FieldTypeOf → MessageDescriptor
+entry_message name key value = message_with (entry_name name) (entry_field (codes "key") (pos 1) key ∷ entry_field (codes "value") (pos 2) value ∷ []) entry_options
+
 abbrev pub entry_of : Environment → Text → TypeSyntax → TypeSyntax → MessageDescriptor
-entry_of env name key value = message_with (entry_name name) (entry_field (codes "key") 1 (type_of env name key) ∷ entry_field (codes "value") 2 (type_of env name value) ∷ []) entry_options
+entry_of env name key value = entry_message name (type_of env name key) (type_of env name value)
 
 abbrev pub entries_of : Environment → Text → TypeSyntax → List MessageDescriptor
 entries_of env name (map_of key value) = entry_of env name key value ∷ []
 entries_of env name (scalar s) = []
 entries_of env name (named n) = []
 
-abbrev pub group_of : Environment → Text → FieldStatementList → MessageDescriptor
-group_of env name fields = message_with name (group_fields env fields) None
+abbrev pub group_message : Environment → Text → List FieldStatementSyntax → MessageDescriptor
+group_message env name fields = message_with name (fields_of_group env fields) None
 
 -- the message behind a field, if one stands there
 abbrev pub messages_behind : Environment → FieldStatementSyntax → List MessageDescriptor
 messages_behind env (field f) = entries_of env f.name f.type_
-messages_behind env (group at label name number fields) = group_of env name fields ∷ []
+messages_behind env (group at label name number fields) = group_message env name (group_body fields) ∷ []
 
 -- ---- oneofs
 

@@ -9,6 +9,7 @@ ghost use Rattle.protobuf_parse_model.specs.Contexts.{environment_in, first_reac
 
 mod seen;
 
+use crate::descriptor::FieldType;
 use protobuf_parse_syntax::Syntax;
 pub use seen::{Declaration, Declarations, Seen, TypeKind};
 use std::alloc::{AllocError, Global};
@@ -28,6 +29,28 @@ pub struct Meaning {
     /// The full name, with the first dot.
     pub name: String,
     pub kind: TypeKind,
+}
+
+/// A type as a descriptor says it.
+#[derive(Debug, Drop)]
+pub struct ResolvedType {
+    pub kind: FieldType,
+    /// The full name of a message or an enum, with the first dot.
+    pub name: Option<String>,
+}
+
+impl From<TypeKind> for FieldType {
+    ghost use Rattle.protobuf_parse_model.specs.Contexts.{kind_view};
+    ghost use Rattle.protobuf_parse_model.specs.Fields.{kind_of_type};
+
+    ghost from_gives = { λ kind field_type. field_type ≡ kind_of_type (kind_view kind) };
+
+    fn from(kind: TypeKind) -> FieldType {
+        match kind {
+            TypeKind::Message => FieldType::Message,
+            TypeKind::Enum => FieldType::Enum,
+        }
+    }
 }
 
 /// The full name of what has the name in the scope.

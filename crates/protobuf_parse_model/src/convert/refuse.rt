@@ -2,7 +2,7 @@
 
 ghost use Rattle.std.specs.Prelude.{◌≡◌, ℕ, List, map};
 ghost use Rattle.std.specs.Borrow.{Bor};
-ghost use Rattle.protobuf_parse_model.specs.Duplicates.{duplicates};
+ghost use Rattle.protobuf_parse_model.specs.Duplicates.{duplicates, fault};
 ghost use Rattle.protobuf_parse_model.specs.Faults.{Blames, Elaborates};
 ghost use Rattle.protobuf_parse_model.specs.Unsupported.{unsupported};
 
@@ -37,6 +37,17 @@ pub fn unsupported(alloc: Global, word: &str) -> ElabFailure
             kind: ElabErrorKind::Unsupported,
             what,
         }),
+        Err(_) => ElabFailure::Memory,
+    }
+}
+
+/// A fault of that kind, which speaks of that text.
+#[tactic(auto, using(crate::proofs::Blaming::among_fault))]
+pub fn fault(alloc: Global, kind: ElabErrorKind, what: &str) -> ElabFailure
+    ensures { Blames result (fault kind what.now) }
+{
+    match String::from_str(alloc, what) {
+        Ok(what) => ElabFailure::Fault(ElabError { kind, what }),
         Err(_) => ElabFailure::Memory,
     }
 }

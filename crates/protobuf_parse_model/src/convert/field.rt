@@ -1,0 +1,173 @@
+//! Fields and groups.
+
+ghost use Rattle.std.specs.Prelude.{◌≡◌, ◌++◌, ◌<◌, ◌^◌, List, [], ◌∷◌, map, flat_map, IfSome, IfOk, option_map, string_bytes};
+ghost use Rattle.std.specs.Borrow.{Bor};
+ghost use Rattle.protobuf_parse_syntax.specs.Trees.{field_view, group_view, option_view, type_view};
+ghost use Rattle.protobuf_parse_model.specs.Contexts.{environment_in, place_view, said_by, said_view};
+ghost use Rattle.protobuf_parse_model.specs.OptionViews.{options_seen};
+ghost use Rattle.protobuf_parse_model.specs.Descriptors as described;
+ghost use Rattle.protobuf_parse_model.specs.Faults.{Elaborates};
+ghost use Rattle.protobuf_parse_model.specs.Fields as fields;
+ghost use Rattle.protobuf_parse_model.specs.Statements as statements;
+
+use crate::convert::options::{
+    check_field_options, default_value, field_options, json_name_of, options_of,
+};
+use crate::convert::place::FieldPlace;
+use crate::convert::refuse::fault;
+use crate::convert::types::resolved_type;
+use crate::descriptor::{FieldDescriptorProto, FieldOptions, FieldType, Label};
+use crate::error::{ElabErrorKind, ElabFailure};
+use crate::scope::{Context, full_name};
+use protobuf_parse_base::text::json_name;
+use protobuf_parse_syntax::{Field, Group, ProtobufOption, Syntax, Type};
+use std::alloc::{AllocError, Global};
+
+/// The descriptor of a field that stands there among oneofs and extensions.
+#[tactic(auto, using(crate::proofs::Blaming::blames_left, crate::proofs::Blaming::blames_right))]
+pub fn field_descriptor(
+    alloc: Global,
+    context: &Context<'_>,
+    place: &FieldPlace<'_>,
+    field: &Field,
+) -> Result<FieldDescriptorProto, ElabFailure>
+    ensures { let env = environment_in context.now in let f = field_view field.now in
+        Elaborates described.field_view result (fields.field_faults env f) (fields.field_of env (place_view place.now) f) }
+{
+    let resolved = resolved_type(alloc, context, &field.name, &field.type_)?;
+    let said = field_said(alloc, resolved.kind, &field.name, &field.options)?;
+    Ok(FieldDescriptorProto {
+        name: field.name.clone()?,
+        number: field.number,
+        label: label_of(field.label, &field.type_),
+        type_: resolved.kind,
+        type_name: resolved.name,
+        extendee: place.extendee(alloc)?,
+        default_value: said.default_value,
+        oneof_index: place.oneof_index(),
+        json_name: said.json_name,
+        proto3_optional: !is_map(&field.type_) && says_optional(context.syntax, field.label),
+        options: said.options,
+    })
+}
+
+/// What the options of a field say.
+#[derive(Debug, Drop)]
+pub struct FieldSaid {
+    pub default_value: Option<String>,
+    pub json_name: String,
+    pub options: Option<FieldOptions>,
+}
+
+/// What the options of a field of that type and name say.
+fn field_said(
+    alloc: Global,
+    kind: FieldType,
+    name: &str,
+    options: &[ProtobufOption],
+) -> Result<FieldSaid, ElabFailure>
+    ensures { let os = map option_view options.now in
+        Elaborates said_view result (fields.faults_of_options kind name.now os) (said_by kind name.now os) }
+{
+    let options = options_of(alloc, options)?;
+    said_by_options(alloc, kind, name, &options)
+}
+
+/// What these options of a field of that type and name say.
+#[tactic(auto, using(crate::proofs::Blaming::blames_left, crate::proofs::Blaming::blames_right))]
+fn said_by_options(
+    alloc: Global,
+    kind: FieldType,
+    name: &str,
+    options: &[&ProtobufOption],
+) -> Result<FieldSaid, ElabFailure>
+    ensures { let os = options_seen options.now in
+        Elaborates said_view result (fields.faults_of_options kind name.now os) (said_by kind name.now os) }
+{
+    let default_value = default_value(alloc, kind, name, options)?;
+    let json_name = json_name_of(alloc, name, options)?;
+    check_field_options(alloc, options)?;
+    let options = field_options(alloc, options)?;
+    Ok(FieldSaid {
+        default_value,
+        json_name,
+        options,
+    })
+}
+
+/// The descriptor of a group's field. The group's message stands apart from it.
+pub fn group_field(
+    alloc: Global,
+    context: &Context<'_>,
+    place: &FieldPlace<'_>,
+    group: &Group,
+) -> Result<FieldDescriptorProto, AllocError>
+    ensures { IfOk result (λ d. let g = group_view group.now in
+        described.field_view d ≡ fields.group_field (environment_in context.now) (place_view place.now) g.label g.name g.number) }
+{
+    let name = group_field_name(alloc, &group.name)?;
+    let json_name = json_name(alloc, &name)?;
+    Ok(FieldDescriptorProto {
+        name,
+        number: group.number,
+        label: group.label.unwrap_or(Label::Optional),
+        type_: FieldType::Group,
+        type_name: Some(full_name(alloc, context.scope, &group.name)?),
+        extendee: place.extendee(alloc)?,
+        default_value: None,
+        oneof_index: place.oneof_index(),
+        json_name,
+        proto3_optional: says_optional(context.syntax, group.label),
+        options: None,
+    })
+}
+
+/// Whether the type is a map's.
+pub fn is_map(type_: &Type) -> bool
+    ensures { result ≡ statements.is_map (type_view type_.now) }
+{
+    match type_ {
+        Type::Map(_, _) => true,
+        Type::Scalar(_) => false,
+        Type::Named(_) => false,
+    }
+}
+
+/// Refuses a map: E4.
+pub fn check_no_map(alloc: Global, field: &Field) -> Result<(), ElabFailure>
+    ensures { Elaborates (λ u. u) result (fields.map_faults (field_view field.now)) tt }
+{
+    if is_map(&field.type_) {
+        Err(fault(alloc, ElabErrorKind::DanglingTypeName, &field.name))
+    } else {
+        Ok(())
+    }
+}
+
+/// A map is repeated; any other field without a label is optional.
+fn label_of(label: Option<Label>, type_: &Type) -> Label
+    ensures { result ≡ fields.label_of label (type_view type_.now) }
+{
+    match type_ {
+        Type::Map(_, _) => Label::Repeated,
+        Type::Scalar(_) => label.unwrap_or(Label::Optional),
+        Type::Named(_) => label.unwrap_or(Label::Optional),
+    }
+}
+
+/// Whether the label `optional` stands there in proto3.
+pub fn says_optional(syntax: Syntax, label: Option<Label>) -> bool
+    ensures { result ≡ fields.says_optional syntax label }
+{
+    match (syntax, label) {
+        (Syntax::Proto3, Some(Label::Optional)) => true,
+        _ => false,
+    }
+}
+
+/// The name of a group's field.
+pub fn group_field_name(alloc: Global, name: &str) -> Result<String, AllocError>
+    ensures { IfOk result (λ s. string_bytes s ≡ statements.group_field_name name.now) }
+{
+    name.to_ascii_lowercase(alloc)
+}

@@ -1,0 +1,195 @@
+//! The messages that stand behind maps and groups.
+
+ghost use Rattle.std.specs.Prelude.{◌≡◌, ◌++◌, pos, ℤ, List, [], ◌∷◌, map, flat_map, option_map, option_to_list, string_bytes, IfOk};
+ghost use Rattle.protobuf_parse_syntax.specs.Trees.{field_statement_view, field_view, group_view, type_view};
+ghost use Rattle.protobuf_parse_model.specs.Contexts.{environment_in, resolved_view};
+ghost use Rattle.protobuf_parse_model.specs.Descriptors as described;
+ghost use Rattle.protobuf_parse_model.specs.Duplicates.{duplicates};
+ghost use Rattle.protobuf_parse_model.specs.Faults.{Elaborates};
+ghost use Rattle.protobuf_parse_model.specs.Fields as fields;
+ghost use Rattle.protobuf_parse_model.specs.Messages as messages;
+ghost use Rattle.protobuf_parse_model.specs.Options.{message_options_view};
+
+use crate::convert::field::{check_no_map, field_descriptor, group_field_name};
+use crate::convert::names::names_of_fields;
+use crate::convert::place::FieldPlace;
+use crate::convert::refuse::{check_unique, fault};
+use crate::convert::types::{check_type_name, entry_name, inner_type};
+use crate::descriptor::{DescriptorProto, FieldDescriptorProto, Label, MessageOptions};
+use crate::error::{ElabErrorKind, ElabFailure};
+use crate::scope::{Context, ResolvedType};
+use protobuf_parse_syntax::{Field, FieldStatement, Group, Type};
+use std::alloc::{AllocError, Global};
+
+/// The message of a map's entries, where the type of that name is a map's.
+pub fn map_entry(
+    alloc: Global,
+    context: &Context<'_>,
+    name: &str,
+    type_: &Type,
+) -> Result<Option<DescriptorProto>, ElabFailure>
+    ensures { let env = environment_in context.now in
+        Elaborates (λ m. map described.message_view (option_to_list m)) result (fields.type_faults env name.now (type_view type_.now)) (messages.entries_of env name.now (type_view type_.now)) }
+{
+    match type_ {
+        Type::Map(key, value) => Ok(Some(entry(alloc, context, name, key, value)?)),
+        Type::Scalar(_) => Ok(None),
+        Type::Named(type_name) => {
+            check_type_name(alloc, context, type_name)?;
+            Ok(None)
+        }
+    }
+}
+
+/// The message of the entries of the map of that name.
+#[tactic(auto, using(crate::proofs::Blaming::blames_left, crate::proofs::Blaming::blames_right))]
+fn entry(
+    alloc: Global,
+    context: &Context<'_>,
+    name: &str,
+    key: &Type,
+    value: &Type,
+) -> Result<DescriptorProto, ElabFailure>
+    ensures { let env = environment_in context.now in let k = type_view key.now in let v = type_view value.now in
+        Elaborates described.message_view result (fields.inner_type_faults env name.now k ++ fields.inner_type_faults env name.now v) (messages.entry_of env name.now k v) }
+{
+    let key = inner_type(alloc, context, name, key)?;
+    let value = inner_type(alloc, context, name, value)?;
+    Ok(entry_message(alloc, name, key, value)?)
+}
+
+fn entry_message(
+    alloc: Global,
+    name: &str,
+    key: ResolvedType,
+    value: ResolvedType,
+) -> Result<DescriptorProto, AllocError>
+    ensures { IfOk result (λ m. described.message_view m ≡ messages.entry_message name.now (resolved_view key) (resolved_view value)) }
+{
+    let mut field = Vec::new(alloc);
+    field.push(entry_field(alloc, "key", 1, key)?)?;
+    field.push(entry_field(alloc, "value", 2, value)?)?;
+    let name = entry_name(alloc, name)?;
+    let options = MessageOptions {
+        message_set_wire_format: None,
+        no_standard_descriptor_accessor: None,
+        deprecated: None,
+        map_entry: Some(true),
+        custom: Vec::new(alloc),
+    };
+    Ok(message_with(alloc, name, field, Some(options)))
+}
+
+fn entry_field(
+    alloc: Global,
+    name: &str,
+    number: i32,
+    type_: ResolvedType,
+) -> Result<FieldDescriptorProto, AllocError>
+    ensures { IfOk result (λ f. described.field_view f ≡ messages.entry_field name.now number (resolved_view type_)) }
+{
+    Ok(FieldDescriptorProto {
+        name: String::from_str(alloc, name)?,
+        number,
+        label: Label::Optional,
+        type_: type_.kind,
+        type_name: type_.name,
+        extendee: None,
+        default_value: None,
+        oneof_index: None,
+        json_name: String::from_str(alloc, name)?,
+        proto3_optional: false,
+        options: None,
+    })
+}
+
+/// A message with fields and options alone.
+fn message_with(
+    alloc: Global,
+    name: String,
+    field: Vec<FieldDescriptorProto>,
+    options: Option<MessageOptions>,
+) -> DescriptorProto
+    ensures { described.message_view result ≡ messages.message_with (string_bytes name) (map described.field_view field.items) (option_map message_options_view options) }
+{
+    DescriptorProto {
+        name,
+        field,
+        oneof_decl: Vec::new(alloc),
+        nested_type: Vec::new(alloc),
+        enum_type: Vec::new(alloc),
+        extension: Vec::new(alloc),
+        extension_range: Vec::new(alloc),
+        reserved_range: Vec::new(alloc),
+        reserved_name: Vec::new(alloc),
+        options,
+    }
+}
+
+/// The message of a group.
+#[tactic(auto, using(crate::proofs::Blaming::blames_left, crate::proofs::Blaming::blames_right))]
+pub fn group_message(
+    alloc: Global,
+    context: &Context<'_>,
+    group: &Group,
+) -> Result<DescriptorProto, ElabFailure>
+    ensures { let env = environment_in context.now in let g = group_view group.now in
+        Elaborates described.message_view result (fields.group_faults env g.fields) (messages.group_message env g.name g.fields) }
+{
+    let field = grouped_fields(alloc, context, &group.fields)?;
+    check_unique(alloc, &names_of_fields(alloc, &field)?)?;
+    Ok(message_with(alloc, group.name.clone()?, field, None))
+}
+
+/// The fields of a group.
+#[tactic(auto, using(crate::proofs::Blaming::blames_at))]
+fn grouped_fields(
+    alloc: Global,
+    context: &Context<'_>,
+    statements: &[FieldStatement],
+) -> Result<Vec<FieldDescriptorProto>, ElabFailure>
+    ensures { let env = environment_in context.now in let ss = map field_statement_view statements.now in
+        Elaborates (λ v. map described.field_view v.items) result (flat_map (fields.grouped_faults env) ss) (map (fields.field_statement_of env fields.plain) ss) }
+{
+    let mut fields = Vec::new(alloc);
+    for statement in statements {
+        fields.push(grouped_field(alloc, context, statement)?)?;
+    }
+    Ok(fields)
+}
+
+/// A field of a group. E4 for a map and for a group.
+fn grouped_field(
+    alloc: Global,
+    context: &Context<'_>,
+    statement: &FieldStatement,
+) -> Result<FieldDescriptorProto, ElabFailure>
+    ensures { let env = environment_in context.now in let s = field_statement_view statement.now in
+        Elaborates described.field_view result (fields.grouped_faults env s) (fields.field_statement_of env fields.plain s) }
+{
+    match statement {
+        FieldStatement::Field(field) => grouped_plain(alloc, context, field),
+        FieldStatement::Group(group) => {
+            let name = group_field_name(alloc, &group.name)?;
+            Err(fault(alloc, ElabErrorKind::DanglingTypeName, &name))
+        }
+    }
+}
+
+/// A field of a group, which is no group.
+#[tactic(auto, using(crate::proofs::Blaming::blames_left, crate::proofs::Blaming::blames_right))]
+fn grouped_plain(
+    alloc: Global,
+    context: &Context<'_>,
+    field: &Field,
+) -> Result<FieldDescriptorProto, ElabFailure>
+    ensures { let env = environment_in context.now in let f = field_view field.now in
+        Elaborates described.field_view result (fields.map_faults f ++ fields.field_faults env f) (fields.field_of env fields.plain f) }
+{
+    check_no_map(alloc, field)?;
+    let place = FieldPlace {
+        extendee: None,
+        oneof_index: None,
+    };
+    field_descriptor(alloc, context, &place, field)
+}

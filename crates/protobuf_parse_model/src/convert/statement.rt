@@ -1,0 +1,109 @@
+//! The statements that declare fields: fields with the messages behind maps, and groups.
+
+ghost use Rattle.protobuf_parse_syntax.specs.Trees as tree;
+ghost use Rattle.protobuf_parse_syntax.specs.Trees.{field_view, field_statement_view, group_of, group_view};
+ghost use Rattle.protobuf_parse_model.specs.Contexts.{declared_by, declared_view, environment_in, place_view};
+ghost use Rattle.protobuf_parse_model.specs.Faults.{Elaborates};
+ghost use Rattle.protobuf_parse_model.specs.Fields as fields;
+
+use crate::convert::field::{check_no_map, field_descriptor, group_field};
+use crate::convert::generated::{group_message, map_entry};
+use crate::convert::place::FieldPlace;
+use crate::descriptor::{DescriptorProto, FieldDescriptorProto};
+use crate::error::ElabFailure;
+use crate::scope::Context;
+use protobuf_parse_syntax::{Field, FieldStatement, Group};
+use std::alloc::Global;
+
+/// The field that a statement declares.
+#[derive(Debug, Drop)]
+pub struct DeclaredField {
+    pub field: FieldDescriptorProto,
+    /// The message of a map's entries, or that of a group.
+    pub behind: Option<DescriptorProto>,
+}
+
+/// What a statement of a message or a oneof declares.
+///
+/// Besides the faults of a field: E1 where two fields of a group have one name; E4 where a map or a
+/// group stands in a group.
+pub fn declared_field(
+    alloc: Global,
+    context: &Context<'_>,
+    place: &FieldPlace<'_>,
+    statement: &FieldStatement,
+) -> Result<DeclaredField, ElabFailure>
+    ensures { let env = environment_in context.now in let s = field_statement_view statement.now in
+        Elaborates declared_view result (fields.field_statement_faults env s) (declared_by env (place_view place.now) s) }
+{
+    match statement {
+        FieldStatement::Field(field) => declared_plain(alloc, context, place, field),
+        FieldStatement::Group(group) => declared_group(alloc, context, place, group),
+    }
+}
+
+/// What a statement of an `extend` declares. E4 for a map.
+pub fn declared_extension(
+    alloc: Global,
+    context: &Context<'_>,
+    place: &FieldPlace<'_>,
+    statement: &FieldStatement,
+) -> Result<DeclaredField, ElabFailure>
+    ensures { let env = environment_in context.now in let s = field_statement_view statement.now in
+        Elaborates declared_view result (fields.extension_faults env s) (declared_by env (place_view place.now) s) }
+{
+    match statement {
+        FieldStatement::Field(field) => declared_unless_map(alloc, context, place, field),
+        FieldStatement::Group(group) => declared_group(alloc, context, place, group),
+    }
+}
+
+/// A field that is no group.
+#[tactic(auto, using(crate::proofs::Blaming::blames_left))]
+fn declared_plain(
+    alloc: Global,
+    context: &Context<'_>,
+    place: &FieldPlace<'_>,
+    field: &Field,
+) -> Result<DeclaredField, ElabFailure>
+    ensures { let env = environment_in context.now in let s = tree.field (field_view field.now) in
+        Elaborates declared_view result (fields.field_statement_faults env s) (declared_by env (place_view place.now) s) }
+{
+    let behind = map_entry(alloc, context, &field.name, &field.type_)?;
+    let field = field_descriptor(alloc, context, place, field)?;
+    Ok(DeclaredField { field, behind })
+}
+
+/// A field that is no group and no map.
+#[tactic(auto, using(crate::proofs::Blaming::blames_left, crate::proofs::Blaming::blames_right))]
+fn declared_unless_map(
+    alloc: Global,
+    context: &Context<'_>,
+    place: &FieldPlace<'_>,
+    field: &Field,
+) -> Result<DeclaredField, ElabFailure>
+    ensures { let env = environment_in context.now in let s = tree.field (field_view field.now) in
+        Elaborates declared_view result (fields.extension_faults env s) (declared_by env (place_view place.now) s) }
+{
+    check_no_map(alloc, field)?;
+    declared_plain(alloc, context, place, field)
+}
+
+/// A group.
+#[tactic(auto, using(crate::specs::Statements::group_body_is))]
+fn declared_group(
+    alloc: Global,
+    context: &Context<'_>,
+    place: &FieldPlace<'_>,
+    group: &Group,
+) -> Result<DeclaredField, ElabFailure>
+    ensures { let env = environment_in context.now in let s = group_of (group_view group.now) in
+        Elaborates declared_view result (fields.field_statement_faults env s) (declared_by env (place_view place.now) s) }
+{
+    let message = group_message(alloc, context, group)?;
+    let field = group_field(alloc, context, place, group)?;
+    Ok(DeclaredField {
+        field,
+        behind: Some(message),
+    })
+}
