@@ -20,7 +20,10 @@ use Rattle.protobuf_parse_model.specs.declared.convert.field.FieldSaid.{FieldSai
 use Rattle.protobuf_parse_model.specs.declared.descriptor.FieldType.{FieldType}
 use Rattle.protobuf_parse_model.specs.declared.convert.statement.DeclaredField.{DeclaredField}
 use Rattle.protobuf_parse_model.specs.Messages.{messages_behind}
-use Rattle.protobuf_parse_syntax.specs.Trees.{OptionSyntax, FieldStatementSyntax}
+use Rattle.protobuf_parse_syntax.specs.Trees.{OptionSyntax, FieldStatementSyntax, ReservedSyntax, EnumValueSyntax, MethodSyntax, reserved_view, value_view, method_view}
+use Rattle.protobuf_parse_syntax.specs.declared.tree.declaration.Method.{Method}
+use Rattle.protobuf_parse_syntax.specs.declared.tree.declaration.Reserved.{Reserved}
+use Rattle.protobuf_parse_syntax.specs.declared.tree.declaration.EnumValue.{EnumValue}
 use Rattle.protobuf_parse_model.specs.Options.{FieldOptionsSet, field_options_view}
 use Rattle.protobuf_parse_model.specs.OptionsSet.{field_options}
 use Rattle.protobuf_parse_model.specs.OptionViews.{nowhere}
@@ -41,6 +44,16 @@ meaning_view m = record { name = string_bytes m.name; what = kind_view m.kind }
 
 abbrev pub resolved_view : ResolvedType → FieldTypeOf
 resolved_view r = record { kind = r.kind; name = option_map string_bytes r.name }
+
+-- what references to parts of the tree see
+abbrev pub reserves_seen : List (Bor Reserved) → List ReservedSyntax
+reserves_seen rs = map (λ (r : Bor Reserved). reserved_view r.now) rs
+
+abbrev pub values_seen : List (Bor EnumValue) → List EnumValueSyntax
+values_seen vs = map (λ (v : Bor EnumValue). value_view v.now) vs
+
+abbrev pub methods_seen : List (Bor Method) → List MethodSyntax
+methods_seen ms = map (λ (m : Bor Method). method_view m.now) ms
 
 -- a field, and the message behind it, if one stands there
 pub record FieldAndMessage : Type 0 where

@@ -60,8 +60,8 @@ abbrev pub value_faults : EnumValueSyntax → List Fault
 value_faults v = options_faults enum_value_table v.options
 
 -- E1 for two values that have one name
+abbrev pub values_faults : List EnumValueSyntax → List Fault
+values_faults values = duplicates (map (λ (v : EnumValueSyntax). v.name) values) ++ flat_map value_faults values
+
 abbrev pub enum_faults : EnumSyntax → List Fault
-enum_faults e =
-    duplicates (map (λ (v : EnumValueSyntax). v.name) (flat_map enum_values e.body))
-    ++ flat_map value_faults (flat_map enum_values e.body)
-    ++ options_faults enum_table (flat_map options_in_enum e.body)
+enum_faults e = values_faults (flat_map enum_values e.body) ++ options_faults enum_table (flat_map options_in_enum e.body)

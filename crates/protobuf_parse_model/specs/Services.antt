@@ -42,8 +42,8 @@ abbrev pub method_faults : Environment → MethodSyntax → List Fault
 method_faults env m = type_missing env m.input ++ type_missing env m.output ++ options_faults method_table (map statement_option m.options)
 
 -- E1 for two methods that have one name
+abbrev pub methods_faults : Environment → List MethodSyntax → List Fault
+methods_faults env methods = duplicates (map (λ (m : MethodSyntax). m.name) methods) ++ flat_map (method_faults env) methods
+
 abbrev pub service_faults : Environment → ServiceSyntax → List Fault
-service_faults env s =
-    duplicates (map (λ (m : MethodSyntax). m.name) (flat_map methods_in s.body))
-    ++ flat_map (method_faults env) (flat_map methods_in s.body)
-    ++ options_faults service_table (flat_map options_in_service s.body)
+service_faults env s = methods_faults env (flat_map methods_in s.body) ++ options_faults service_table (flat_map options_in_service s.body)

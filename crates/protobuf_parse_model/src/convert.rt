@@ -1,5 +1,6 @@
 //! From a file's tree to its descriptor.
 
+mod enumeration;
 mod field;
 mod generated;
 mod imports;
@@ -7,6 +8,8 @@ mod names;
 mod options;
 mod place;
 mod refuse;
+mod reserved;
+mod service;
 mod statement;
 mod types;
 

@@ -1,0 +1,171 @@
+//! Enums.
+
+ghost use Rattle.std.specs.Prelude.{◌≡◌, ◌++◌, map, flat_map, option_map, IfOk};
+ghost use Rattle.protobuf_parse_syntax.specs.Trees as tree;
+ghost use Rattle.protobuf_parse_model.specs.BuiltinOptions.{enum_table, options_faults};
+ghost use Rattle.protobuf_parse_model.specs.Contexts.{environment_in, reserves_seen, texts, values_seen};
+ghost use Rattle.protobuf_parse_model.specs.Descriptors as described;
+ghost use Rattle.protobuf_parse_model.specs.Enums as enums;
+ghost use Rattle.protobuf_parse_model.specs.Faults.{Elaborates};
+ghost use Rattle.protobuf_parse_model.specs.OptionViews.{nowhere, options_seen};
+ghost use Rattle.protobuf_parse_model.specs.Options.{enum_options_view};
+ghost use Rattle.protobuf_parse_model.specs.OptionsSet as sets;
+
+use crate::convert::options::{
+    check_enum_options, check_enum_value_options, enum_options, enum_value_options, options_of,
+};
+use crate::convert::refuse::check_unique;
+use crate::convert::reserved::{inclusive_ranges, names_reserved, ranges_reserved};
+use crate::descriptor::{EnumDescriptorProto, EnumOptions, EnumValueDescriptorProto};
+use crate::error::ElabFailure;
+use crate::scope::Context;
+use protobuf_parse_syntax::{EnumStatement, EnumValue, Enumeration, ProtobufOption, Reserved};
+use std::alloc::{AllocError, Global};
+
+/// The descriptor of an enum.
+///
+/// E1 where two of its values have one name, and the faults of its options.
+#[tactic(auto, using(crate::proofs::Blaming::blames_left, crate::proofs::Blaming::blames_right))]
+pub fn enum_descriptor(
+    alloc: Global,
+    context: &Context<'_>,
+    enumeration: &Enumeration,
+) -> Result<EnumDescriptorProto, ElabFailure>
+    ensures { let env = environment_in context.now in let e = tree.enum_view enumeration.now in
+        Elaborates described.enum_view result (enums.enum_faults e) (enums.enum_of env e) }
+{
+    let value = enum_values(alloc, context, &enumeration.body)?;
+    let options = checked_options(alloc, &enumeration.body)?;
+    let reserves = reserves(alloc, &enumeration.body)?;
+    Ok(EnumDescriptorProto {
+        name: enumeration.name.clone()?,
+        value,
+        reserved_range: inclusive_ranges(alloc, &ranges_reserved(alloc, &reserves)?)?,
+        reserved_name: names_reserved(alloc, &reserves)?,
+        options,
+    })
+}
+
+/// The descriptors of the values, whose names differ: E1.
+fn enum_values(
+    alloc: Global,
+    context: &Context<'_>,
+    body: &[EnumStatement],
+) -> Result<Vec<EnumValueDescriptorProto>, ElabFailure>
+    ensures { let env = environment_in context.now in let vs = flat_map enums.enum_values (map tree.enum_statement_view body.now) in
+        Elaborates (λ v. map described.enum_value_view v.items) result (enums.values_faults vs) (map (enums.value_of env) vs) }
+{
+    let values = values(alloc, body)?;
+    unlike_values(alloc, context, &values)
+}
+
+/// The descriptors of these values, whose names differ: E1.
+#[tactic(auto, using(crate::proofs::Blaming::blames_left, crate::proofs::Blaming::blames_right))]
+fn unlike_values(
+    alloc: Global,
+    context: &Context<'_>,
+    values: &[&EnumValue],
+) -> Result<Vec<EnumValueDescriptorProto>, ElabFailure>
+    ensures { let env = environment_in context.now in let vs = values_seen values.now in
+        Elaborates (λ v. map described.enum_value_view v.items) result (enums.values_faults vs) (map (enums.value_of env) vs) }
+{
+    check_unique(alloc, &names(alloc, values)?)?;
+    value_descriptors(alloc, context, values)
+}
+
+/// The values of an enum.
+fn values(alloc: Global, body: &[EnumStatement]) -> Result<Vec<&EnumValue>, AllocError>
+    ensures { IfOk result (λ v. values_seen v.items ≡ flat_map enums.enum_values (map tree.enum_statement_view body.now)) }
+{
+    let mut values = Vec::new(alloc);
+    for statement in body {
+        if let EnumStatement::Value(value) = statement {
+            values.push(value)?;
+        }
+    }
+    Ok(values)
+}
+
+/// Their names.
+fn names<'a>(alloc: Global, values: &[&'a EnumValue]) -> Result<Vec<&'a str>, AllocError>
+    ensures { IfOk result (λ v. texts v.items ≡ map (λ (v : tree.EnumValueSyntax). v.name) (values_seen values.now)) }
+{
+    let mut names = Vec::new(alloc);
+    for value in values {
+        names.push(value.name.as_str())?;
+    }
+    Ok(names)
+}
+
+/// Their descriptors.
+#[tactic(auto, using(crate::proofs::Blaming::blames_at))]
+fn value_descriptors(
+    alloc: Global,
+    context: &Context<'_>,
+    values: &[&EnumValue],
+) -> Result<Vec<EnumValueDescriptorProto>, ElabFailure>
+    ensures { let env = environment_in context.now in let vs = values_seen values.now in
+        Elaborates (λ v. map described.enum_value_view v.items) result (flat_map enums.value_faults vs) (map (enums.value_of env) vs) }
+{
+    let mut descriptors = Vec::new(alloc);
+    for value in values {
+        descriptors.push(value_descriptor(alloc, context, value)?)?;
+    }
+    Ok(descriptors)
+}
+
+fn value_descriptor(
+    alloc: Global,
+    context: &Context<'_>,
+    value: &EnumValue,
+) -> Result<EnumValueDescriptorProto, ElabFailure>
+    ensures { let env = environment_in context.now in let v = tree.value_view value.now in
+        Elaborates described.enum_value_view result (enums.value_faults v) (enums.value_of env v) }
+{
+    let options = options_of(alloc, &value.options)?;
+    check_enum_value_options(alloc, &options)?;
+    Ok(EnumValueDescriptorProto {
+        name: value.name.clone()?,
+        number: value.number,
+        options: enum_value_options(alloc, &options)?,
+    })
+}
+
+/// What the options of an enum say.
+fn checked_options(
+    alloc: Global,
+    body: &[EnumStatement],
+) -> Result<Option<EnumOptions>, ElabFailure>
+    ensures { let os = flat_map enums.options_in_enum (map tree.enum_statement_view body.now) in
+        Elaborates (λ o. option_map enum_options_view o) result (options_faults enum_table os) (sets.enum_options nowhere os) }
+{
+    let options = options_in(alloc, body)?;
+    check_enum_options(alloc, &options)?;
+    Ok(enum_options(alloc, &options)?)
+}
+
+/// The options of an enum.
+fn options_in(alloc: Global, body: &[EnumStatement]) -> Result<Vec<&ProtobufOption>, AllocError>
+    ensures { IfOk result (λ v. options_seen v.items ≡ flat_map enums.options_in_enum (map tree.enum_statement_view body.now)) }
+{
+    let mut options = Vec::new(alloc);
+    for statement in body {
+        if let EnumStatement::Option(statement) = statement {
+            options.push(&statement.option)?;
+        }
+    }
+    Ok(options)
+}
+
+/// What an enum reserves.
+fn reserves(alloc: Global, body: &[EnumStatement]) -> Result<Vec<&Reserved>, AllocError>
+    ensures { IfOk result (λ v. reserves_seen v.items ≡ flat_map enums.enum_reserves (map tree.enum_statement_view body.now)) }
+{
+    let mut reserves = Vec::new(alloc);
+    for statement in body {
+        if let EnumStatement::Reserved(statement) = statement {
+            reserves.push(&statement.reserved)?;
+        }
+    }
+    Ok(reserves)
+}

@@ -1,0 +1,199 @@
+//! Services.
+
+ghost use Rattle.std.specs.Prelude.{◌≡◌, ◌++◌, [], map, flat_map, option_map, string_bytes, unwrap_or, IfOk};
+ghost use Rattle.protobuf_parse_syntax.specs.Trees as tree;
+ghost use Rattle.protobuf_parse_model.specs.BuiltinOptions.{method_table, options_faults, service_table};
+ghost use Rattle.protobuf_parse_model.specs.Contexts.{environment_in, methods_seen, texts};
+ghost use Rattle.protobuf_parse_model.specs.Descriptors as described;
+ghost use Rattle.protobuf_parse_model.specs.Environment.{type_full_name, type_missing};
+ghost use Rattle.protobuf_parse_model.specs.Faults.{Elaborates};
+ghost use Rattle.protobuf_parse_model.specs.OptionViews.{nowhere, options_seen};
+ghost use Rattle.protobuf_parse_model.specs.Options.{method_options_view, service_options_view};
+ghost use Rattle.protobuf_parse_model.specs.OptionsSet as sets;
+ghost use Rattle.protobuf_parse_model.specs.Services as services;
+
+use crate::convert::options::{
+    check_method_options, check_service_options, method_options, service_options,
+};
+use crate::convert::refuse::check_unique;
+use crate::convert::types::type_full_name;
+use crate::descriptor::{
+    MethodDescriptorProto, MethodOptions, ServiceDescriptorProto, ServiceOptions,
+};
+use crate::error::ElabFailure;
+use crate::scope::Context;
+use protobuf_parse_syntax::{Method, OptionStatement, ProtobufOption, Service, ServiceStatement};
+use std::alloc::{AllocError, Global};
+
+/// The descriptor of a service.
+///
+/// E1 where two of its methods have one name, E2 and E3 where the type of one means none, and the faults
+/// of its options.
+#[tactic(auto, using(crate::proofs::Blaming::blames_left, crate::proofs::Blaming::blames_right))]
+pub fn service_descriptor(
+    alloc: Global,
+    context: &Context<'_>,
+    service: &Service,
+) -> Result<ServiceDescriptorProto, ElabFailure>
+    ensures { let env = environment_in context.now in let s = tree.service_view service.now in
+        Elaborates described.service_view result (services.service_faults env s) (services.service_of env s) }
+{
+    let method = service_methods(alloc, context, &service.body)?;
+    let options = checked_options(alloc, &service.body)?;
+    Ok(ServiceDescriptorProto {
+        name: service.name.clone()?,
+        method,
+        options,
+    })
+}
+
+/// The descriptors of the methods, whose names differ: E1.
+fn service_methods(
+    alloc: Global,
+    context: &Context<'_>,
+    body: &[ServiceStatement],
+) -> Result<Vec<MethodDescriptorProto>, ElabFailure>
+    ensures { let env = environment_in context.now in let ms = flat_map services.methods_in (map tree.service_statement_view body.now) in
+        Elaborates (λ v. map described.method_view v.items) result (services.methods_faults env ms) (map (services.method_of env) ms) }
+{
+    let methods = methods(alloc, body)?;
+    unlike_methods(alloc, context, &methods)
+}
+
+/// The descriptors of these methods, whose names differ: E1.
+#[tactic(auto, using(crate::proofs::Blaming::blames_left, crate::proofs::Blaming::blames_right))]
+fn unlike_methods(
+    alloc: Global,
+    context: &Context<'_>,
+    methods: &[&Method],
+) -> Result<Vec<MethodDescriptorProto>, ElabFailure>
+    ensures { let env = environment_in context.now in let ms = methods_seen methods.now in
+        Elaborates (λ v. map described.method_view v.items) result (services.methods_faults env ms) (map (services.method_of env) ms) }
+{
+    check_unique(alloc, &names(alloc, methods)?)?;
+    method_descriptors(alloc, context, methods)
+}
+
+/// The methods of a service.
+fn methods(alloc: Global, body: &[ServiceStatement]) -> Result<Vec<&Method>, AllocError>
+    ensures { IfOk result (λ v. methods_seen v.items ≡ flat_map services.methods_in (map tree.service_statement_view body.now)) }
+{
+    let mut methods = Vec::new(alloc);
+    for statement in body {
+        if let ServiceStatement::Method(method) = statement {
+            methods.push(method)?;
+        }
+    }
+    Ok(methods)
+}
+
+/// Their names.
+fn names<'a>(alloc: Global, methods: &[&'a Method]) -> Result<Vec<&'a str>, AllocError>
+    ensures { IfOk result (λ v. texts v.items ≡ map (λ (m : tree.MethodSyntax). m.name) (methods_seen methods.now)) }
+{
+    let mut names = Vec::new(alloc);
+    for method in methods {
+        names.push(method.name.as_str())?;
+    }
+    Ok(names)
+}
+
+/// Their descriptors.
+#[tactic(auto, using(crate::proofs::Blaming::blames_at))]
+fn method_descriptors(
+    alloc: Global,
+    context: &Context<'_>,
+    methods: &[&Method],
+) -> Result<Vec<MethodDescriptorProto>, ElabFailure>
+    ensures { let env = environment_in context.now in let ms = methods_seen methods.now in
+        Elaborates (λ v. map described.method_view v.items) result (flat_map (services.method_faults env) ms) (map (services.method_of env) ms) }
+{
+    let mut descriptors = Vec::new(alloc);
+    for method in methods {
+        descriptors.push(method_descriptor(alloc, context, method)?)?;
+    }
+    Ok(descriptors)
+}
+
+#[tactic(auto, using(crate::proofs::Blaming::blames_left, crate::proofs::Blaming::blames_right))]
+fn method_descriptor(
+    alloc: Global,
+    context: &Context<'_>,
+    method: &Method,
+) -> Result<MethodDescriptorProto, ElabFailure>
+    ensures { let env = environment_in context.now in let m = tree.method_view method.now in
+        Elaborates described.method_view result (services.method_faults env m) (services.method_of env m) }
+{
+    let input_type = method_type(alloc, context, &method.input)?;
+    let output_type = method_type(alloc, context, &method.output)?;
+    let options = checked_method_options(alloc, &method.options)?;
+    Ok(MethodDescriptorProto {
+        name: method.name.clone()?,
+        input_type,
+        output_type,
+        client_streaming: method.client_streaming,
+        server_streaming: method.server_streaming,
+        options,
+    })
+}
+
+/// The full name of a method's type. E2 or E3 where the name means none.
+fn method_type(alloc: Global, context: &Context<'_>, name: &str) -> Result<String, ElabFailure>
+    ensures { let env = environment_in context.now in
+        Elaborates string_bytes result (type_missing env name.now) (unwrap_or (type_full_name env name.now) []) }
+{
+    type_full_name(alloc, context, name)
+}
+
+/// What the options of a method say.
+fn checked_method_options(
+    alloc: Global,
+    statements: &[OptionStatement],
+) -> Result<Option<MethodOptions>, ElabFailure>
+    ensures { let os = map services.statement_option (map tree.option_statement_view statements.now) in
+        Elaborates (λ o. option_map method_options_view o) result (options_faults method_table os) (sets.method_options nowhere os) }
+{
+    let options = statement_options(alloc, statements)?;
+    check_method_options(alloc, &options)?;
+    Ok(method_options(alloc, &options)?)
+}
+
+/// The options of a method.
+fn statement_options(
+    alloc: Global,
+    statements: &[OptionStatement],
+) -> Result<Vec<&ProtobufOption>, AllocError>
+    ensures { IfOk result (λ v. options_seen v.items ≡ map services.statement_option (map tree.option_statement_view statements.now)) }
+{
+    let mut options = Vec::new(alloc);
+    for statement in statements {
+        options.push(&statement.option)?;
+    }
+    Ok(options)
+}
+
+/// What the options of a service say.
+fn checked_options(
+    alloc: Global,
+    body: &[ServiceStatement],
+) -> Result<Option<ServiceOptions>, ElabFailure>
+    ensures { let os = flat_map services.options_in_service (map tree.service_statement_view body.now) in
+        Elaborates (λ o. option_map service_options_view o) result (options_faults service_table os) (sets.service_options nowhere os) }
+{
+    let options = options_in(alloc, body)?;
+    check_service_options(alloc, &options)?;
+    Ok(service_options(alloc, &options)?)
+}
+
+/// The options of a service.
+fn options_in(alloc: Global, body: &[ServiceStatement]) -> Result<Vec<&ProtobufOption>, AllocError>
+    ensures { IfOk result (λ v. options_seen v.items ≡ flat_map services.options_in_service (map tree.service_statement_view body.now)) }
+{
+    let mut options = Vec::new(alloc);
+    for statement in body {
+        if let ServiceStatement::Option(statement) = statement {
+            options.push(&statement.option)?;
+        }
+    }
+    Ok(options)
+}
