@@ -17,3 +17,4 @@ pub mod FileDescriptor
 pub mod OptionSets
 pub mod Unsupported
 pub mod Elaboration
+pub mod OptionViews

@@ -2,6 +2,7 @@
 
 mod imports;
 mod message;
+mod options;
 mod refuse;
 
 ghost use Rattle.std.specs.Prelude.{◌≡◌, ℕ, List, ◌++◌, map, flat_map, option_map, string_bytes, IfOk};

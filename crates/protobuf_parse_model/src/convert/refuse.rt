@@ -2,7 +2,7 @@
 
 ghost use Rattle.std.specs.Prelude.{◌≡◌, ℕ, List, map};
 ghost use Rattle.std.specs.Borrow.{Bor};
-ghost use Rattle.protobuf_parse_model.specs.Duplicates.{duplicates};
+ghost use Rattle.protobuf_parse_model.specs.Duplicates.{duplicates, fault};
 ghost use Rattle.protobuf_parse_model.specs.Faults.{Blames, Elaborates};
 ghost use Rattle.protobuf_parse_model.specs.Unsupported.{unsupported};
 
@@ -28,15 +28,19 @@ pub fn check_unique(alloc: Global, names: &[&str]) -> Result<(), ElabFailure>
 }
 
 /// Refuses a construct that has no descriptor yet, by its word.
-#[tactic(auto, using(crate::proofs::Blaming::among_unsupported))]
 pub fn unsupported(alloc: Global, word: &str) -> ElabFailure
     ensures { Blames result (unsupported word.now) }
 {
-    match String::from_str(alloc, word) {
-        Ok(what) => ElabFailure::Fault(ElabError {
-            kind: ElabErrorKind::Unsupported,
-            what,
-        }),
+    fault(alloc, ElabErrorKind::Unsupported, word)
+}
+
+/// The failure that tells a fault of that kind, and the text that it speaks of.
+#[tactic(auto, using(crate::proofs::Blaming::among_fault))]
+pub fn fault(alloc: Global, kind: ElabErrorKind, what: &str) -> ElabFailure
+    ensures { Blames result (fault kind what.now) }
+{
+    match String::from_str(alloc, what) {
+        Ok(what) => ElabFailure::Fault(ElabError { kind, what }),
         Err(_) => ElabFailure::Memory,
     }
 }
