@@ -2,5 +2,34 @@
 
 mod check;
 mod said;
+mod sets;
 mod strings;
 mod tables;
+mod texts;
+
+ghost use Rattle.std.specs.Prelude.{◌≡◌, map, IfOk};
+ghost use Rattle.protobuf_parse_syntax.specs.Trees.{option_view};
+ghost use Rattle.protobuf_parse_model.specs.OptionViews.{options_seen};
+
+pub use check::{check_field_options, check_options};
+use protobuf_parse_syntax::ProtobufOption;
+pub use sets::{
+    enum_options, enum_value_options, field_options, file_options, message_options, method_options,
+    oneof_options, service_options,
+};
+use std::alloc::{AllocError, Global};
+pub use tables::{
+    enum_table, enum_value_table, file_table, message_table, method_table, oneof_table,
+    service_table,
+};
+pub use texts::{default_value, json_name_of};
+
+/// The options of a list, one by one.
+pub fn options_of(
+    alloc: Global,
+    options: &[ProtobufOption],
+) -> Result<Vec<&ProtobufOption>, AllocError>
+    ensures { IfOk result (λ v. options_seen v.items ≡ map option_view options.now) }
+{
+    options.iter().collect(alloc)
+}
