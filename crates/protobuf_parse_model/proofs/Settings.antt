@@ -1,5 +1,5 @@
 -- The last statement that sets an option, step by step.
-use Rattle.std.proofs.Common.{◌≡◌, ◌∙◌, ℕ, ◌+◌, ◌<◌, List, [], ◌∷◌, ◌++◌, append-nil, length, take, map, flat_map, string_bytes, bytes_eq, option_map, Option, Some, None, refl, sym, ap}
+use Rattle.std.proofs.Common.{◌≡◌, ◌==◌, false, ◌∙◌, ℕ, ◌+◌, ◌<◌, List, [], ◌∷◌, ◌++◌, append-nil, length, take, map, flat_map, string_bytes, bytes_eq, option_map, Option, Some, None, refl, sym, ap}
 use Rattle.std.specs.Borrow.{Bor}
 use Rattle.std.specs.Prelude.{slice_index_or, String}
 use Rattle.std.specs.Global.{Global}
@@ -11,7 +11,7 @@ use Rattle.protobuf_parse_syntax.specs.declared.tree.constant.ProtobufConstant.{
 use Rattle.protobuf_parse_syntax.specs.declared.tree.constant.ProtobufConstant.TheVariants.{Ident}
 use Rattle.protobuf_parse_syntax.specs.declared.tree.option.ProtobufOption.{ProtobufOption}
 use Rattle.protobuf_parse_model.specs.Descriptors.{Text}
-use Rattle.protobuf_parse_model.specs.BuiltinOptions.{value_if_named, values_named, last_value, Words, word_said}
+use Rattle.protobuf_parse_model.specs.BuiltinOptions.{value_if_named, values_named, last_value, Words, word_said, where_any}
 use Rattle.protobuf_parse_model.specs.OptionViews.{options_seen}
 use Rattle.protobuf_parse_model.proofs.TreeViews.{views_ident}
 
@@ -33,3 +33,8 @@ pub word_found : {A : Type 0} (words : Words A) (value : ProtobufConstant) (said
 word_found words value said text result is same found =
     let view : constant_view value ≡ dotted text = ap constant_view is ∙ views_ident said ∙ ap (λ n. dotted n) (sym same) in
     found ∙ sym (ap (word_said words) view)
+
+-- an options message that is there, since a statement stands
+pub set_where_any : {A : Type 0} (os : List (Bor ProtobufOption)) (x y : A) → (length os == 0) ≡ false → x ≡ y → Some x ≡ where_any (options_seen os) y
+set_where_any [] x y some e = absurd cc
+set_where_any (o ∷ os) x y some e = ap (λ z. Some z) e

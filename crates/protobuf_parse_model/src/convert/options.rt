@@ -31,5 +31,9 @@ pub fn options_of(
 ) -> Result<Vec<&ProtobufOption>, AllocError>
     ensures { IfOk result (λ v. options_seen v.items ≡ map option_view options.now) }
 {
-    options.iter().collect(alloc)
+    let mut list = Vec::new(alloc);
+    for option in options {
+        list.push(option)?;
+    }
+    Ok(list)
 }
