@@ -1,5 +1,5 @@
 -- What the decoder of strings answers is what the definitions of decoding say.
-use Rattle.std.proofs.Common.{◌≡◌, List, Option, Some, None, refl, subst, inl, inr, map, string_bytes}
+use Rattle.std.proofs.Common.{◌≡◌, List, Option, Some, None, refl, subst, inl, inr, string_bytes}
 use Rattle.std.specs.Prelude.{String}
 use Rattle.std.specs.Global.{Global}
 use Rattle.std.specs.Str.{IsUtf8}

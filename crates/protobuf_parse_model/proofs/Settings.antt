@@ -1,5 +1,5 @@
 -- The last statement that sets an option, step by step.
-use Rattle.std.proofs.Common.{◌≡◌, ◌==◌, false, ◌∙◌, ℕ, ◌+◌, ◌<◌, List, [], ◌∷◌, ◌++◌, append-nil, length, take, map, flat_map, string_bytes, bytes_eq, option_map, Option, Some, None, refl, sym, ap}
+use Rattle.std.proofs.Common.{◌≡◌, ◌==◌, false, ◌∙◌, ℕ, ◌+◌, ◌<◌, List, [], ◌∷◌, ◌++◌, append-nil, length, take, string_bytes, bytes_eq, option_map, Option, Some, None, refl, sym, ap}
 use Rattle.std.specs.Borrow.{Bor}
 use Rattle.std.specs.Prelude.{slice_index_or, String}
 use Rattle.std.specs.Global.{Global}
