@@ -1,4 +1,4 @@
--- The last statement that sets an option, step by step.
+-- What the statements among options set, step by step.
 use Rattle.std.proofs.Common.{◌≡◌, ◌==◌, false, ◌∙◌, ℕ, ◌+◌, ◌<◌, List, [], ◌∷◌, ◌++◌, append-nil, length, take, string_bytes, bytes_eq, option_map, Option, Some, None, refl, sym, ap}
 use Rattle.std.specs.Borrow.{Bor}
 use Rattle.std.specs.Prelude.{slice_index_or, String}
