@@ -4,10 +4,8 @@ use Rattle.std.specs.Prelude.{slice_index_or}
 use Rattle.protobuf_parse_model.specs.declared.error.ElabFailure.{ElabFailure}
 use Rattle.protobuf_parse_model.specs.declared.error.ElabFailure.TheVariants as failure
 use Rattle.protobuf_parse_model.specs.Faults.{Among, here, there, Blames, Fault}
-use Rattle.protobuf_parse_model.specs.declared.error.ElabErrorKind.TheVariants.{Unsupported}
-use Rattle.protobuf_parse_model.specs.Unsupported.{unsupported}
-use Rattle.protobuf_parse_model.specs.Duplicates.{fault}
 use Rattle.protobuf_parse_model.specs.declared.error.ElabErrorKind.{ElabErrorKind}
+use Rattle.protobuf_parse_model.specs.Duplicates.{fault}
 
 pub among_left : {A : Type 0} {x : A} {xs : List A} (ys : List A) → Among xs x → Among (xs ++ ys) x
 among_left ys here = here
@@ -35,9 +33,6 @@ blames_at faults view [] i s e lt is h = absurd (omega arith)
 blames_at faults view (x ∷ xs) zero s e lt is h = blames_left e (faults (view x)) _ (rw is at h)
 blames_at faults view (x ∷ xs) (suc i) s e lt is h = blames_right e (faults (view x)) _ (blames_at faults view xs i s e (omega arith) is h)
 
--- a refusal by its word
-pub among_unsupported : (word what : List ℕ) → what ≡ word → Among (unsupported word) (record { kind = Unsupported; what = what })
-among_unsupported word what e = rw e here
-
-pub among_fault : (kind : ElabErrorKind) (said what : List ℕ) → what ≡ said → Among (fault kind said) (record { kind = kind; what = what })
-among_fault kind said what e = rw e here
+-- a fault by its kind and its text
+pub among_fault : (kind : ElabErrorKind) (what text : List ℕ) → text ≡ what → Among (fault kind what) (record { kind = kind; what = text })
+among_fault kind what text e = rw e here

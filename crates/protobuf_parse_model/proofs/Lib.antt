@@ -7,3 +7,5 @@ pub mod Lookups
 pub mod Scopes
 mod Rows
 pub mod Levels
+pub mod Decodings
+pub mod Settings

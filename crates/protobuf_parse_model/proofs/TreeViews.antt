@@ -1,7 +1,12 @@
 -- What the views of recursive trees say of each variant.
-use Rattle.std.proofs.Common.{◌≡◌, ap, sym, ◌∙◌, rules, map}
+use Rattle.std.proofs.Common.{◌≡◌, ap, sym, ◌∙◌, rules, map, string_bytes}
+use Rattle.std.specs.Prelude.{String}
+use Rattle.std.specs.Global.{Global}
 use Rattle.protobuf_parse_syntax.specs.Trees as tree
-use Rattle.protobuf_parse_syntax.specs.Trees.{MessageStatementSyntax, MessageSyntax}
+use Rattle.protobuf_parse_syntax.specs.Trees.{ConstantSyntax, ConstantFieldSyntax, MessageStatementSyntax, MessageSyntax}
+use Rattle.protobuf_parse_syntax.specs.declared.tree.constant.ProtobufConstant.{fold-roll-ProtobufConstant}
+use Rattle.protobuf_parse_syntax.specs.declared.tree.constant.ProtobufConstant.TheOpen as constant_layer
+use Rattle.protobuf_parse_syntax.specs.declared.tree.constant.ProtobufConstant.TheVariants.{rolls-Ident, Ident as is_ident}
 use Rattle.protobuf_parse_syntax.specs.declared.tree.declaration.Message.{Message, fold_out-Message, the_lemmas}
 use Rattle.protobuf_parse_syntax.specs.declared.tree.declaration.MessageStatement.{fold-roll-MessageStatement}
 use Rattle.protobuf_parse_syntax.specs.declared.tree.declaration.MessageStatement.TheOpen as layer
@@ -13,3 +18,6 @@ views_message m = search (rules, the_lemmas, fold_out-Message)
 
 pub views_extensions : (e : Extensions) → tree.message_statement_view (is_extensions e) ≡ tree.message_extensions (tree.extensions_view e)
 views_extensions e = ap tree.message_statement_view (sym (rolls-Extensions e)) ∙ fold-roll-MessageStatement MessageStatementSyntax MessageSyntax tree.message_statement_step tree.message_step (layer.MessageStatement-F.Extensions e)
+
+pub views_ident : (name : String Global) → tree.constant_view (is_ident name) ≡ tree.dotted (string_bytes name)
+views_ident name = ap tree.constant_view (sym (rolls-Ident name)) ∙ fold-roll-ProtobufConstant ConstantSyntax ConstantFieldSyntax tree.constant_step tree.constant_field_step (constant_layer.ProtobufConstant-F.Ident name)

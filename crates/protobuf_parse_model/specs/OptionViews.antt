@@ -1,11 +1,15 @@
 -- Options and their tables as the code holds them.
-use Rattle.std.specs.Prelude.{ℕ, List, [], map, Option, Some, None}
+use Rattle.std.specs.Prelude.{ℕ, List, [], map, None}
 use Rattle.std.specs.Borrow.{Bor}
 use Rattle.protobuf_parse_syntax.specs.Trees.{ConstantSyntax, constant_view, OptionSyntax, option_view}
 use Rattle.protobuf_parse_syntax.specs.declared.tree.Syntax.TheVariants.{Proto2}
 use Rattle.protobuf_parse_syntax.specs.declared.tree.constant.ProtobufConstant.{ProtobufConstant}
 use Rattle.protobuf_parse_syntax.specs.declared.tree.option.ProtobufOption.{ProtobufOption}
-use Rattle.protobuf_parse_model.specs.BuiltinOptions.{Words}
+use Rattle.protobuf_parse_model.specs.declared.convert.options.tables.BuiltinKind.{BuiltinKind}
+use Rattle.protobuf_parse_model.specs.declared.convert.options.tables.BuiltinKind.TheVariants as kind
+use Rattle.protobuf_parse_model.specs.BuiltinOptions as spec
+use Rattle.protobuf_parse_model.specs.BuiltinOptions.{Words, a_text, a_truth, a_word, Table}
+use Rattle.protobuf_parse_model.specs.Descriptors.{Text}
 use Rattle.protobuf_parse_model.specs.Environment.{Environment, no_custom}
 
 abbrev pub options_seen : List (Bor ProtobufOption) → List OptionSyntax
@@ -19,6 +23,18 @@ abbrev pub nowhere : Environment
 nowhere = record { syntax = Proto2; types = λ name. None; scope = []; custom = no_custom }
 
 -- ---- tables
+
+-- what a built-in option is set to
+abbrev pub kind_seen : BuiltinKind → spec.BuiltinKind
+kind_seen kind.Text = a_text
+kind_seen kind.Truth = a_truth
+kind_seen (kind.Word names) = a_word (map (λ (n : Bor (List ℕ)). n.now) names.now)
+
+abbrev pub entry_seen : Bor (List ℕ) × BuiltinKind → Text × spec.BuiltinKind
+entry_seen entry = (entry.0.now, kind_seen entry.1)
+
+abbrev pub table_seen : List (Bor (List ℕ) × BuiltinKind) → Table
+table_seen table = map entry_seen table
 
 -- the values of an enum by their names
 abbrev pub words_seen : {A : Type 0} → List (Bor (List ℕ) × A) → Words A

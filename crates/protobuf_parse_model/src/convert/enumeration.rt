@@ -12,7 +12,7 @@ ghost use Rattle.protobuf_parse_model.specs.Options.{enum_options_view};
 ghost use Rattle.protobuf_parse_model.specs.OptionsSet as sets;
 
 use crate::convert::options::{
-    check_enum_options, check_enum_value_options, enum_options, enum_value_options, options_of,
+    check_options, enum_options, enum_table, enum_value_options, enum_value_table, options_of,
 };
 use crate::convert::refuse::check_unique;
 use crate::convert::reserved::{inclusive_ranges, names_reserved, ranges_reserved};
@@ -123,7 +123,7 @@ fn value_descriptor(
         Elaborates described.enum_value_view result (enums.value_faults v) (enums.value_of env v) }
 {
     let options = options_of(alloc, &value.options)?;
-    check_enum_value_options(alloc, &options)?;
+    check_options(alloc, enum_value_table(), &options)?;
     Ok(EnumValueDescriptorProto {
         name: value.name.clone()?,
         number: value.number,
@@ -140,7 +140,7 @@ fn checked_options(
         Elaborates (λ o. option_map enum_options_view o) result (options_faults enum_table os) (sets.enum_options nowhere os) }
 {
     let options = options_in(alloc, body)?;
-    check_enum_options(alloc, &options)?;
+    check_options(alloc, enum_table(), &options)?;
     Ok(enum_options(alloc, &options)?)
 }
 

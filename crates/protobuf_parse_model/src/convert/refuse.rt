@@ -28,20 +28,13 @@ pub fn check_unique(alloc: Global, names: &[&str]) -> Result<(), ElabFailure>
 }
 
 /// Refuses a construct that has no descriptor yet, by its word.
-#[tactic(auto, using(crate::proofs::Blaming::among_unsupported))]
 pub fn unsupported(alloc: Global, word: &str) -> ElabFailure
     ensures { Blames result (unsupported word.now) }
 {
-    match String::from_str(alloc, word) {
-        Ok(what) => ElabFailure::Fault(ElabError {
-            kind: ElabErrorKind::Unsupported,
-            what,
-        }),
-        Err(_) => ElabFailure::Memory,
-    }
+    fault(alloc, ElabErrorKind::Unsupported, word)
 }
 
-/// A fault of that kind, which speaks of that text.
+/// The failure that tells a fault of that kind, and the text that it speaks of.
 #[tactic(auto, using(crate::proofs::Blaming::among_fault))]
 pub fn fault(alloc: Global, kind: ElabErrorKind, what: &str) -> ElabFailure
     ensures { Blames result (fault kind what.now) }

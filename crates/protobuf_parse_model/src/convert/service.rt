@@ -13,7 +13,7 @@ ghost use Rattle.protobuf_parse_model.specs.OptionsSet as sets;
 ghost use Rattle.protobuf_parse_model.specs.Services as services;
 
 use crate::convert::options::{
-    check_method_options, check_service_options, method_options, service_options,
+    check_options, method_options, method_table, service_options, service_table,
 };
 use crate::convert::refuse::check_unique;
 use crate::convert::types::type_full_name;
@@ -154,7 +154,7 @@ fn checked_method_options(
         Elaborates (λ o. option_map method_options_view o) result (options_faults method_table os) (sets.method_options nowhere os) }
 {
     let options = statement_options(alloc, statements)?;
-    check_method_options(alloc, &options)?;
+    check_options(alloc, method_table(), &options)?;
     Ok(method_options(alloc, &options)?)
 }
 
@@ -181,7 +181,7 @@ fn checked_options(
         Elaborates (λ o. option_map service_options_view o) result (options_faults service_table os) (sets.service_options nowhere os) }
 {
     let options = options_in(alloc, body)?;
-    check_service_options(alloc, &options)?;
+    check_options(alloc, service_table(), &options)?;
     Ok(service_options(alloc, &options)?)
 }
 

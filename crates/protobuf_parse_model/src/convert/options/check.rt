@@ -1,0 +1,169 @@
+//! What is wrong in the options among statements.
+
+ghost use Rattle.std.specs.Prelude.{◌≡◌, ℕ, List, bytes_eq, map, option_map};
+ghost use Rattle.std.specs.Borrow.{Bor};
+ghost use Rattle.std.specs.List.{find};
+ghost use Rattle.protobuf_parse_syntax.specs.Trees.{constant_view, option_view};
+ghost use Rattle.protobuf_parse_model.specs.BuiltinOptions as spec;
+ghost use Rattle.protobuf_parse_model.specs.Duplicates.{stands_in};
+ghost use Rattle.protobuf_parse_model.specs.Faults.{Elaborates};
+ghost use Rattle.protobuf_parse_model.specs.Fields.{field_option_faults, field_options_faults};
+ghost use Rattle.protobuf_parse_model.specs.OptionViews.{entry_seen, kind_seen, options_seen, table_seen};
+
+use crate::convert::options::strings::text_given;
+use crate::convert::options::tables::{BuiltinKind, field_table};
+use crate::convert::refuse::fault;
+use crate::error::{ElabErrorKind, ElabFailure};
+use protobuf_parse_syntax::{ProtobufConstant, ProtobufOption, ProtobufOptionName};
+use std::alloc::Global;
+
+/// Refuses what is wrong in the built-in options of a construct that has the options of the table: E9
+/// for a string that is no text, E11 for a name that the table doesn't have, E12 for
+/// `uninterpreted_option`, E13 for a value of another kind.
+#[tactic(auto, using(crate::proofs::Blaming::blames_at))]
+pub fn check_options(
+    alloc: Global,
+    table: &[(&str, BuiltinKind)],
+    options: &[&ProtobufOption],
+) -> Result<(), ElabFailure>
+    ensures { Elaborates (λ u. u) result (spec.options_faults (table_seen table.now) (options_seen options.now)) tt }
+{
+    for option in options {
+        check_option(alloc, table, option)?;
+    }
+    Ok(())
+}
+
+fn check_option(
+    alloc: Global,
+    table: &[(&str, BuiltinKind)],
+    option: &ProtobufOption,
+) -> Result<(), ElabFailure>
+    ensures { Elaborates (λ u. u) result (spec.option_faults (table_seen table.now) (option_view option.now)) tt }
+{
+    match &option.name {
+        ProtobufOptionName::Builtin(name) => check_builtin(alloc, table, name, &option.value),
+        ProtobufOptionName::Custom(_) => Ok(()),
+    }
+}
+
+/// As [`check_options`] of the options of a field, which has `default` and `json_name` too.
+#[tactic(auto, using(crate::proofs::Blaming::blames_at))]
+pub fn check_field_options(alloc: Global, options: &[&ProtobufOption]) -> Result<(), ElabFailure>
+    ensures { Elaborates (λ u. u) result (field_options_faults (options_seen options.now)) tt }
+{
+    for option in options {
+        check_field_option(alloc, option)?;
+    }
+    Ok(())
+}
+
+fn check_field_option(alloc: Global, option: &ProtobufOption) -> Result<(), ElabFailure>
+    ensures { let o = option_view option.now in
+        Elaborates (λ u. u) result (field_option_faults o.value o.name) tt }
+{
+    let ProtobufOptionName::Builtin(name) = &option.name else {
+        return Ok(());
+    };
+    if name.as_str() == "default" || name.as_str() == "json_name" {
+        return Ok(());
+    }
+    check_builtin(alloc, field_table(), name, &option.value)
+}
+
+/// Refuses a name that the table doesn't have, and a value of another kind.
+fn check_builtin(
+    alloc: Global,
+    table: &[(&str, BuiltinKind)],
+    name: &str,
+    value: &ProtobufConstant,
+) -> Result<(), ElabFailure>
+    ensures { Elaborates (λ u. u) result (spec.builtin_faults (table_seen table.now) name.now (constant_view value.now)) tt }
+{
+    if name == "uninterpreted_option" {
+        let kind = ElabErrorKind::BuiltinOptionPointsToNonSingularField;
+        return Err(fault(alloc, kind, name));
+    }
+    match entry(table, name) {
+        Some((_, kind)) => check_value(alloc, name, *kind, value),
+        None => Err(fault(alloc, ElabErrorKind::BuiltinOptionNotFound, name)),
+    }
+}
+
+/// The entry of the option of that name.
+fn entry<'a, 'b>(
+    table: &'a [(&'b str, BuiltinKind)],
+    name: &str,
+) -> Option<&'a (&'b str, BuiltinKind)>
+    ensures { option_map (λ e. entry_seen e.now) result ≡ find (λ e. bytes_eq e.0 name.now) (table_seen table.now) }
+{
+    for entry in table {
+        if entry.0 == name {
+            return Some(entry);
+        }
+    }
+    None
+}
+
+/// Refuses a value of another kind.
+fn check_value(
+    alloc: Global,
+    name: &str,
+    kind: BuiltinKind,
+    value: &ProtobufConstant,
+) -> Result<(), ElabFailure>
+    ensures { Elaborates (λ u. u) result (spec.value_faults name.now (kind_seen kind) (constant_view value.now)) tt }
+{
+    match kind {
+        BuiltinKind::Text => check_text(alloc, name, value),
+        BuiltinKind::Truth => check_truth(alloc, name, value),
+        BuiltinKind::Word(words) => check_word(alloc, name, words, value),
+    }
+}
+
+fn check_text(alloc: Global, name: &str, value: &ProtobufConstant) -> Result<(), ElabFailure>
+    ensures { Elaborates (λ u. u) result (spec.value_faults name.now spec.a_text (constant_view value.now)) tt }
+{
+    match value {
+        ProtobufConstant::String(string) => {
+            text_given(alloc, name, string)?;
+            Ok(())
+        }
+        _ => Err(fault(alloc, ElabErrorKind::InconvertibleValue, name)),
+    }
+}
+
+fn check_truth(alloc: Global, name: &str, value: &ProtobufConstant) -> Result<(), ElabFailure>
+    ensures { Elaborates (λ u. u) result (spec.value_faults name.now spec.a_truth (constant_view value.now)) tt }
+{
+    match value {
+        ProtobufConstant::Bool(_) => Ok(()),
+        _ => Err(fault(alloc, ElabErrorKind::InconvertibleValue, name)),
+    }
+}
+
+fn check_word(
+    alloc: Global,
+    name: &str,
+    words: &[&str],
+    value: &ProtobufConstant,
+) -> Result<(), ElabFailure>
+    ensures { Elaborates (λ u. u) result (spec.value_faults name.now (spec.a_word (map (λ (w : Bor (List ℕ)). w.now) words.now)) (constant_view value.now)) tt }
+{
+    match value {
+        ProtobufConstant::Ident(word) if stands_in(word, words) => Ok(()),
+        _ => Err(fault(alloc, ElabErrorKind::InconvertibleValue, name)),
+    }
+}
+
+/// Whether the name is one of these.
+fn stands_in(name: &str, words: &[&str]) -> bool
+    ensures { result ≡ stands_in name.now (map (λ (w : Bor (List ℕ)). w.now) words.now) }
+{
+    for word in words {
+        if *word == name {
+            return true;
+        }
+    }
+    false
+}

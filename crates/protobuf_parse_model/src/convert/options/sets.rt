@@ -1,0 +1,197 @@
+//! The options message of each construct, from the statements that set its options. It is there where a
+//! statement stands, and its custom options are empty. An option that the last statement with its name
+//! sets to what it can't be is as one that isn't set.
+
+ghost use Rattle.std.specs.Prelude.{◌≡◌, option_map, IfOk};
+ghost use Rattle.protobuf_parse_model.specs.Options as seen;
+ghost use Rattle.protobuf_parse_model.specs.OptionsSet as spec;
+ghost use Rattle.protobuf_parse_model.specs.OptionViews.{nowhere, options_seen};
+
+use crate::convert::options::said::{text_option, truth_option, word_option};
+use crate::descriptor::{
+    CType, EnumOptions, EnumValueOptions, FieldOptions, FileOptions, IdempotencyLevel, JSType,
+    MessageOptions, MethodOptions, OneofOptions, OptimizeMode, ServiceOptions,
+};
+use protobuf_parse_syntax::ProtobufOption;
+use std::alloc::{AllocError, Global};
+
+const OPTIMIZE_MODES: &[(&str, OptimizeMode)] = &[
+    ("SPEED", OptimizeMode::Speed),
+    ("CODE_SIZE", OptimizeMode::CodeSize),
+    ("LITE_RUNTIME", OptimizeMode::LiteRuntime),
+];
+
+const C_TYPES: &[(&str, CType)] = &[
+    ("STRING", CType::String),
+    ("CORD", CType::Cord),
+    ("STRING_PIECE", CType::StringPiece),
+];
+
+const JS_TYPES: &[(&str, JSType)] = &[
+    ("JS_NORMAL", JSType::JsNormal),
+    ("JS_STRING", JSType::JsString),
+    ("JS_NUMBER", JSType::JsNumber),
+];
+
+const IDEMPOTENCY_LEVELS: &[(&str, IdempotencyLevel)] = &[
+    ("IDEMPOTENCY_UNKNOWN", IdempotencyLevel::IdempotencyUnknown),
+    ("NO_SIDE_EFFECTS", IdempotencyLevel::NoSideEffects),
+    ("IDEMPOTENT", IdempotencyLevel::Idempotent),
+];
+
+/// The options of a file.
+pub fn file_options(
+    alloc: Global,
+    options: &[&ProtobufOption],
+) -> Result<Option<FileOptions>, AllocError>
+    ensures { IfOk result (λ o. option_map seen.file_options_view o ≡ spec.file_options nowhere (options_seen options.now)) }
+{
+    if options.is_empty() {
+        return Ok(None);
+    }
+    Ok(Some(FileOptions {
+        java_package: text_option(alloc, options, "java_package")?,
+        java_outer_classname: text_option(alloc, options, "java_outer_classname")?,
+        optimize_for: word_option(options, "optimize_for", OPTIMIZE_MODES),
+        java_multiple_files: truth_option(options, "java_multiple_files"),
+        go_package: text_option(alloc, options, "go_package")?,
+        cc_generic_services: truth_option(options, "cc_generic_services"),
+        java_generic_services: truth_option(options, "java_generic_services"),
+        py_generic_services: truth_option(options, "py_generic_services"),
+        java_generate_equals_and_hash: truth_option(options, "java_generate_equals_and_hash"),
+        deprecated: truth_option(options, "deprecated"),
+        java_string_check_utf8: truth_option(options, "java_string_check_utf8"),
+        cc_enable_arenas: truth_option(options, "cc_enable_arenas"),
+        objc_class_prefix: text_option(alloc, options, "objc_class_prefix")?,
+        csharp_namespace: text_option(alloc, options, "csharp_namespace")?,
+        swift_prefix: text_option(alloc, options, "swift_prefix")?,
+        php_class_prefix: text_option(alloc, options, "php_class_prefix")?,
+        php_namespace: text_option(alloc, options, "php_namespace")?,
+        php_metadata_namespace: text_option(alloc, options, "php_metadata_namespace")?,
+        ruby_package: text_option(alloc, options, "ruby_package")?,
+        custom: Vec::new(alloc),
+    }))
+}
+
+/// The options of a message.
+pub fn message_options(
+    alloc: Global,
+    options: &[&ProtobufOption],
+) -> Result<Option<MessageOptions>, AllocError>
+    ensures { IfOk result (λ o. option_map seen.message_options_view o ≡ spec.message_options nowhere (options_seen options.now)) }
+{
+    if options.is_empty() {
+        return Ok(None);
+    }
+    Ok(Some(MessageOptions {
+        message_set_wire_format: truth_option(options, "message_set_wire_format"),
+        no_standard_descriptor_accessor: truth_option(options, "no_standard_descriptor_accessor"),
+        deprecated: truth_option(options, "deprecated"),
+        map_entry: truth_option(options, "map_entry"),
+        custom: Vec::new(alloc),
+    }))
+}
+
+/// The options of a field.
+pub fn field_options(
+    alloc: Global,
+    options: &[&ProtobufOption],
+) -> Result<Option<FieldOptions>, AllocError>
+    ensures { IfOk result (λ o. option_map seen.field_options_view o ≡ spec.field_options nowhere (options_seen options.now)) }
+{
+    if options.is_empty() {
+        return Ok(None);
+    }
+    Ok(Some(FieldOptions {
+        ctype: word_option(options, "ctype", C_TYPES),
+        packed: truth_option(options, "packed"),
+        deprecated: truth_option(options, "deprecated"),
+        lazy: truth_option(options, "lazy"),
+        jstype: word_option(options, "jstype", JS_TYPES),
+        weak: truth_option(options, "weak"),
+        unverified_lazy: truth_option(options, "unverified_lazy"),
+        debug_redact: truth_option(options, "debug_redact"),
+        custom: Vec::new(alloc),
+    }))
+}
+
+/// The options of a oneof.
+pub fn oneof_options(
+    alloc: Global,
+    options: &[&ProtobufOption],
+) -> Result<Option<OneofOptions>, AllocError>
+    ensures { IfOk result (λ o. option_map seen.oneof_options_view o ≡ spec.oneof_options nowhere (options_seen options.now)) }
+{
+    if options.is_empty() {
+        return Ok(None);
+    }
+    Ok(Some(OneofOptions {
+        custom: Vec::new(alloc),
+    }))
+}
+
+/// The options of an enum.
+pub fn enum_options(
+    alloc: Global,
+    options: &[&ProtobufOption],
+) -> Result<Option<EnumOptions>, AllocError>
+    ensures { IfOk result (λ o. option_map seen.enum_options_view o ≡ spec.enum_options nowhere (options_seen options.now)) }
+{
+    if options.is_empty() {
+        return Ok(None);
+    }
+    Ok(Some(EnumOptions {
+        allow_alias: truth_option(options, "allow_alias"),
+        deprecated: truth_option(options, "deprecated"),
+        custom: Vec::new(alloc),
+    }))
+}
+
+/// The options of a value of an enum.
+pub fn enum_value_options(
+    alloc: Global,
+    options: &[&ProtobufOption],
+) -> Result<Option<EnumValueOptions>, AllocError>
+    ensures { IfOk result (λ o. option_map seen.enum_value_options_view o ≡ spec.enum_value_options nowhere (options_seen options.now)) }
+{
+    if options.is_empty() {
+        return Ok(None);
+    }
+    Ok(Some(EnumValueOptions {
+        deprecated: truth_option(options, "deprecated"),
+        custom: Vec::new(alloc),
+    }))
+}
+
+/// The options of a service.
+pub fn service_options(
+    alloc: Global,
+    options: &[&ProtobufOption],
+) -> Result<Option<ServiceOptions>, AllocError>
+    ensures { IfOk result (λ o. option_map seen.service_options_view o ≡ spec.service_options nowhere (options_seen options.now)) }
+{
+    if options.is_empty() {
+        return Ok(None);
+    }
+    Ok(Some(ServiceOptions {
+        deprecated: truth_option(options, "deprecated"),
+        custom: Vec::new(alloc),
+    }))
+}
+
+/// The options of a method.
+pub fn method_options(
+    alloc: Global,
+    options: &[&ProtobufOption],
+) -> Result<Option<MethodOptions>, AllocError>
+    ensures { IfOk result (λ o. option_map seen.method_options_view o ≡ spec.method_options nowhere (options_seen options.now)) }
+{
+    if options.is_empty() {
+        return Ok(None);
+    }
+    Ok(Some(MethodOptions {
+        deprecated: truth_option(options, "deprecated"),
+        idempotency_level: word_option(options, "idempotency_level", IDEMPOTENCY_LEVELS),
+        custom: Vec::new(alloc),
+    }))
+}
