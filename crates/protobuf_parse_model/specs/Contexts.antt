@@ -1,6 +1,6 @@
 -- The environment of a construct, by the numbers of the files that its file reaches and what each full name is declared
 -- as in which files.
-use Rattle.std.specs.Prelude.{ℕ, List, [], ◌∷◌, map, nat_eq, bytes_eq, string_bytes, String, Option, Some, None, option_map, option_to_list, if◌then◌else◌}
+use Rattle.std.specs.Prelude.{ℕ, List, [], ◌∷◌, ◌++◌, map, flat_map, length, nat_eq, bytes_eq, string_bytes, String, Option, Some, None, option_map, option_to_list, if◌then◌else◌}
 use Rattle.std.specs.Borrow.{Bor}
 use Rattle.std.specs.Global.{Global, Vec}
 use Rattle.std.specs.List.{list_any}
@@ -13,14 +13,17 @@ use Rattle.protobuf_parse_model.specs.declared.scope.seen.Seen.{Seen}
 use Rattle.protobuf_parse_model.specs.declared.scope.Context.{Context}
 use Rattle.protobuf_parse_model.specs.declared.scope.Meaning.{Meaning}
 use Rattle.protobuf_parse_model.specs.declared.scope.ResolvedType.{ResolvedType}
-use Rattle.protobuf_parse_model.specs.Descriptors.{Text, FieldDescriptor, MessageDescriptor, field_view, message_view}
+use Rattle.protobuf_parse_model.specs.Descriptors.{Text, FieldDescriptor, OneofDescriptor, EnumDescriptor, MessageDescriptor, field_view, oneof_view, enum_view, message_view}
 use Rattle.protobuf_parse_model.specs.declared.convert.place.FieldPlace.{FieldPlace}
 use Rattle.protobuf_parse_model.specs.Fields as fields
 use Rattle.protobuf_parse_model.specs.declared.convert.field.FieldSaid.{FieldSaid}
 use Rattle.protobuf_parse_model.specs.declared.descriptor.FieldType.{FieldType}
 use Rattle.protobuf_parse_model.specs.declared.convert.statement.DeclaredField.{DeclaredField}
-use Rattle.protobuf_parse_model.specs.Messages.{messages_behind}
-use Rattle.protobuf_parse_syntax.specs.Trees.{OptionSyntax, FieldStatementSyntax, ReservedSyntax, EnumValueSyntax, MethodSyntax, reserved_view, value_view, method_view}
+use Rattle.protobuf_parse_model.specs.Messages.{messages_behind, oneofs_of, fields_of, fields_from, nested_of, enums_of, extensions_of}
+use Rattle.protobuf_parse_model.specs.declared.convert.lists.DeclaredFields.{DeclaredFields}
+use Rattle.protobuf_parse_model.specs.declared.convert.message.Body.{Body}
+use Rattle.protobuf_parse_syntax.specs.Trees.{OptionSyntax, FieldStatementSyntax, MessageStatementSyntax, ReservedSyntax, EnumValueSyntax, MethodSyntax, reserved_view, value_view, method_view, field_statement_view}
+use Rattle.protobuf_parse_syntax.specs.declared.tree.field.FieldStatement.{FieldStatement}
 use Rattle.protobuf_parse_syntax.specs.declared.tree.declaration.Method.{Method}
 use Rattle.protobuf_parse_syntax.specs.declared.tree.declaration.Reserved.{Reserved}
 use Rattle.protobuf_parse_syntax.specs.declared.tree.declaration.EnumValue.{EnumValue}
@@ -55,6 +58,9 @@ values_seen vs = map (λ (v : Bor EnumValue). value_view v.now) vs
 abbrev pub methods_seen : List (Bor Method) → List MethodSyntax
 methods_seen ms = map (λ (m : Bor Method). method_view m.now) ms
 
+abbrev pub statements_seen : List (Bor FieldStatement) → List FieldStatementSyntax
+statements_seen ss = map (λ (s : Bor FieldStatement). field_statement_view s.now) ss
+
 -- a field, and the message behind it, if one stands there
 pub record FieldAndMessage : Type 0 where
   pub field : FieldDescriptor
@@ -65,6 +71,35 @@ declared_view d = record { field = field_view d.field; behind = map message_view
 
 abbrev pub declared_by : Environment → fields.FieldPlace → FieldStatementSyntax → FieldAndMessage
 declared_by env place s = record { field = fields.field_statement_of env place s; behind = messages_behind env s }
+
+-- fields, and the messages behind them
+pub record FieldsAndMessages : Type 0 where
+  pub fields : List FieldDescriptor
+  pub behind : List MessageDescriptor
+
+abbrev pub fields_view : DeclaredFields → FieldsAndMessages
+fields_view d = record { fields = map field_view d.fields.items; behind = map message_view d.behind.items }
+
+abbrev pub fields_declared : Environment → fields.FieldPlace → List FieldStatementSyntax → FieldsAndMessages
+fields_declared env place ss = record { fields = map (fields.field_statement_of env place) ss; behind = flat_map (messages_behind env) ss }
+
+-- what the statements of a body declare, so far
+pub record BodyParts : Type 0 where
+  pub field : List FieldDescriptor
+  pub oneof_decl : List OneofDescriptor
+  pub nested_type : List MessageDescriptor
+  pub enum_type : List EnumDescriptor
+  pub extension : List FieldDescriptor
+
+abbrev pub body_view : Body → BodyParts
+body_view b = record { field = map field_view b.field.items; oneof_decl = map oneof_view b.oneof_decl.items; nested_type = map message_view b.nested_type.items; enum_type = map enum_view b.enum_type.items; extension = map field_view b.extension.items }
+
+-- with one statement more
+abbrev pub with_statement : Environment → BodyParts → MessageStatementSyntax → BodyParts
+with_statement env b s = record { field = b.field ++ fields_of env (length b.oneof_decl) s; oneof_decl = b.oneof_decl ++ oneofs_of env s; nested_type = b.nested_type ++ nested_of env s; enum_type = b.enum_type ++ enums_of env s; extension = b.extension ++ extensions_of env s }
+
+abbrev pub body_of : Environment → List MessageStatementSyntax → BodyParts
+body_of env ss = record { field = fields_from env 0 ss; oneof_decl = flat_map (oneofs_of env) ss; nested_type = flat_map (nested_of env) ss; enum_type = flat_map (enums_of env) ss; extension = flat_map (extensions_of env) ss }
 
 -- what the options of a field say
 pub record Said : Type 0 where

@@ -4,12 +4,12 @@
 -- Which files a file sees, and which it reaches by its imports, are given as lists, the file itself among them.
 -- Protocol Buffers Language Specification, "Proto file", "Import Statement", "Package" (https://protobuf.dev).
 use Rattle.std.specs.Prelude.{List, [], ◌∷◌, ◌++◌, map, flat_map, codes, Some}
-use Rattle.protobuf_parse_syntax.specs.Trees.{OptionSyntax, EnumSyntax, ServiceSyntax, StatementSyntax, file_option, file_message, file_enum, file_extend, file_service, FileSyntax, package_of}
+use Rattle.protobuf_parse_syntax.specs.Trees.{OptionSyntax, StatementSyntax, file_option, file_message, file_enum, file_extend, file_service, FileSyntax, package_of}
 use Rattle.protobuf_parse_syntax.specs.Dependencies.{imports, imports_of}
 use Rattle.protobuf_parse_syntax.specs.declared.tree.Syntax.{Syntax}
 use Rattle.protobuf_parse_syntax.specs.declared.tree.Syntax.TheVariants.{Proto2, Proto3}
 use Rattle.protobuf_parse_model.specs.declared.error.ElabErrorKind.TheVariants.{TypeDeclaredTwice, ExtensionDeclaredTwice}
-use Rattle.protobuf_parse_model.specs.Descriptors.{Text, FieldDescriptor, MessageDescriptor, FileDescriptor}
+use Rattle.protobuf_parse_model.specs.Descriptors.{Text, FieldDescriptor, EnumDescriptor, MessageDescriptor, ServiceDescriptor, FileDescriptor}
 use Rattle.protobuf_parse_model.specs.Faults.{Fault}
 use Rattle.protobuf_parse_model.specs.Declarations.{DeclaredType, DeclaredExtension, file_scope, file_types, file_extensions, file_generated}
 use Rattle.protobuf_parse_model.specs.Lookup.{declared}
@@ -27,14 +27,6 @@ use Rattle.protobuf_parse_model.specs.Services.{service_of, service_faults}
 abbrev pub options_in_file : StatementSyntax → List OptionSyntax
 options_in_file (file_option o) = o.option ∷ []
 options_in_file _ = []
-
-abbrev pub enums_in : StatementSyntax → List EnumSyntax
-enums_in (file_enum e) = e ∷ []
-enums_in _ = []
-
-abbrev pub services_in : StatementSyntax → List ServiceSyntax
-services_in (file_service s) = s ∷ []
-services_in _ = []
 
 -- ---- what the file sees
 
@@ -62,6 +54,14 @@ abbrev pub extensions_of : Environment → StatementSyntax → List FieldDescrip
 extensions_of env (file_extend e) = extend_fields env e
 extensions_of env _ = []
 
+abbrev pub enums_of : Environment → StatementSyntax → List EnumDescriptor
+enums_of env (file_enum e) = enum_of env e ∷ []
+enums_of env _ = []
+
+abbrev pub services_of : Environment → StatementSyntax → List ServiceDescriptor
+services_of env (file_service s) = service_of env s ∷ []
+services_of env _ = []
+
 abbrev pub syntax_text : Syntax → Text
 syntax_text Proto2 = codes "proto2"
 syntax_text Proto3 = codes "proto3"
@@ -76,8 +76,8 @@ file_of env path t = record {
   public_dependency = (imports_of (imports t.statements)).public;
   weak_dependency = (imports_of (imports t.statements)).weak;
   message_type = flat_map (messages_of env) t.statements;
-  enum_type = map (enum_of env) (flat_map enums_in t.statements);
-  service = map (service_of env) (flat_map services_in t.statements);
+  enum_type = flat_map (enums_of env) t.statements;
+  service = flat_map (services_of env) t.statements;
   extension = flat_map (extensions_of env) t.statements;
   options = file_options env (flat_map options_in_file t.statements);
 }
@@ -91,16 +91,16 @@ statement_faults env (file_extend e) = extend_faults env e
 statement_faults env (file_service s) = service_faults env s
 statement_faults env _ = []
 
-abbrev pub names_of_services : List ServiceSyntax → List Text
-names_of_services services = map (λ (s : ServiceSyntax). s.name) services
+abbrev pub names_of_services : List ServiceDescriptor → List Text
+names_of_services services = map (λ (s : ServiceDescriptor). s.name) services
 
 -- E1 for two messages, enums, extensions or services of the file that have one name
 abbrev pub file_duplicates : Environment → FileSyntax → List Fault
 file_duplicates env t =
     duplicates (names_of_messages (flat_map (messages_of env) t.statements))
-    ++ duplicates (names_of_enums (flat_map enums_in t.statements))
+    ++ duplicates (names_of_enums (flat_map (enums_of env) t.statements))
     ++ duplicates (names_of_fields (flat_map (extensions_of env) t.statements))
-    ++ duplicates (names_of_services (flat_map services_in t.statements))
+    ++ duplicates (names_of_services (flat_map (services_of env) t.statements))
 
 -- of the file alone
 abbrev pub file_faults : Environment → FileSyntax → List Fault

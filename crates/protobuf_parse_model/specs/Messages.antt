@@ -7,18 +7,18 @@
 -- Protocol Buffers Language Specification (proto2), "Message definition", "Reserved", "Extensions", "Oneof and oneof
 -- field", "Group field", "Map field", "Extend"; Protocol Buffers Language Guide, "Maps", "Backwards compatibility", and
 -- "Field Presence in proto3" (https://protobuf.dev).
-use Rattle.std.specs.Prelude.{ℕ, ℤ, pos, ◌+◌, ◌+ℤ◌, Bool, false, List, [], ◌∷◌, ◌++◌, map, flat_map, length, codes, Option, Some, None, if◌then◌else◌}
+use Rattle.std.specs.Prelude.{ℕ, ℤ, nat_lt, pos, ◌+◌, ◌+ℤ◌, Bool, false, List, [], ◌∷◌, ◌++◌, map, flat_map, length, codes, Option, Some, None, if◌then◌else◌}
 use Rattle.std.specs.Ordering.{int_eq}
-use Rattle.protobuf_parse_syntax.specs.Trees.{OptionSyntax, TypeSyntax, scalar, map_of, named, FieldStatementSyntax, field, group, RangeSyntax, ReservedSyntax, OneofSyntax, ExtendSyntax, EnumSyntax, MessageStatementSyntax, message_reserved, message_oneof, message_extend, message_message, message_enum, message_extensions, message_option, message_field, MessageStatementList, no_statements, more_statements, MessageSyntax}
+use Rattle.protobuf_parse_syntax.specs.Trees.{OptionSyntax, TypeSyntax, scalar, map_of, named, FieldStatementSyntax, field, group, RangeSyntax, ReservedSyntax, OneofSyntax, ExtendSyntax, MessageStatementSyntax, message_reserved, message_oneof, message_extend, message_message, message_enum, message_extensions, message_option, message_field, MessageStatementList, no_statements, more_statements, MessageSyntax}
 use Rattle.protobuf_parse_syntax.specs.declared.tree.field.Label.{Label}
 use Rattle.protobuf_parse_syntax.specs.declared.tree.field.Label.TheVariants.{Optional}
-use Rattle.protobuf_parse_model.specs.declared.error.ElabErrorKind.TheVariants.{RangeEndOverflow}
+use Rattle.protobuf_parse_model.specs.declared.error.ElabErrorKind.TheVariants.{RangeEndOverflow, Unsupported}
 use Rattle.protobuf_parse_model.specs.Options.{MessageOptionsSet}
-use Rattle.protobuf_parse_model.specs.Descriptors.{Text, Range, FieldDescriptor, OneofDescriptor, MessageDescriptor, a_message, no_messages, messages_of_list}
+use Rattle.protobuf_parse_model.specs.Descriptors.{Text, Range, FieldDescriptor, OneofDescriptor, EnumDescriptor, MessageDescriptor, a_message, no_messages, messages_of_list}
 use Rattle.protobuf_parse_model.specs.Faults.{Fault}
 use Rattle.protobuf_parse_model.specs.Statements.{group_body, message_body, entry_name, field_statement_name, oneof_fields}
 use Rattle.protobuf_parse_model.specs.Statements as statements
-use Rattle.protobuf_parse_model.specs.Duplicates.{fault_when, duplicates}
+use Rattle.protobuf_parse_model.specs.Duplicates.{fault, fault_when, duplicates}
 use Rattle.protobuf_parse_model.specs.Environment.{Environment, inside, type_full_name, type_missing}
 use Rattle.protobuf_parse_model.specs.BuiltinOptions.{message_table, oneof_table, options_faults}
 use Rattle.protobuf_parse_model.specs.OptionsSet.{message_options, entry_options, oneof_options}
@@ -125,8 +125,11 @@ abbrev pub extend_fields : Environment → ExtendSyntax → List FieldDescriptor
 extend_fields env e = map (field_statement_of env (extending env e.extendee)) e.fields
 
 -- E2 or E3 for an extendee that means nothing
+abbrev pub extension_faults_of : Environment → Text → FieldStatementSyntax → List Fault
+extension_faults_of env extendee f = type_missing env extendee ++ extension_faults env f
+
 abbrev pub extend_faults : Environment → ExtendSyntax → List Fault
-extend_faults env e = flat_map (λ (f : FieldStatementSyntax). type_missing env e.extendee ++ extension_faults env f) e.fields
+extend_faults env e = flat_map (extension_faults_of env e.extendee) e.fields
 
 abbrev pub extensions_of : Environment → MessageStatementSyntax → List FieldDescriptor
 extensions_of env (message_extend e) = extend_fields env e
@@ -142,12 +145,6 @@ abbrev pub reserves : MessageStatementSyntax → List ReservedSyntax
 reserves (message_reserved r) = r.reserved ∷ []
 reserves _ = []
 
-abbrev pub reserved_ranges_in : MessageStatementSyntax → List RangeSyntax
-reserved_ranges_in s = flat_map ranges_reserved (reserves s)
-
-abbrev pub reserved_names_in : MessageStatementSyntax → List Text
-reserved_names_in s = flat_map names_reserved (reserves s)
-
 -- up to before the number behind the last
 abbrev pub exclusive : RangeSyntax → Range
 exclusive r = record { start = r.from; end = r.to +ℤ pos 1 }
@@ -156,9 +153,9 @@ exclusive r = record { start = r.from; end = r.to +ℤ pos 1 }
 abbrev pub range_faults : Text → RangeSyntax → List Fault
 range_faults name r = fault_when (int_eq r.to (pos 2147483647)) RangeEndOverflow name
 
-abbrev pub enums_in : MessageStatementSyntax → List EnumSyntax
-enums_in (message_enum e) = e ∷ []
-enums_in _ = []
+abbrev pub enums_of : Environment → MessageStatementSyntax → List EnumDescriptor
+enums_of env (message_enum e) = enum_of env e ∷ []
+enums_of env _ = []
 
 abbrev pub options_in_message : MessageStatementSyntax → List OptionSyntax
 options_in_message (message_option o) = o.option ∷ []
@@ -172,11 +169,11 @@ message_from env name body nested = a_message (record {
   name = name;
   field = fields_from (inside env name) 0 body;
   oneof_decl = flat_map (oneofs_of (inside env name)) body;
-  enum_type = map (enum_of (inside env name)) (flat_map enums_in body);
+  enum_type = flat_map (enums_of (inside env name)) body;
   extension = flat_map (extensions_of (inside env name)) body;
   extension_range = map exclusive (flat_map extension_ranges body);
-  reserved_range = map exclusive (flat_map reserved_ranges_in body);
-  reserved_name = flat_map reserved_names_in body;
+  reserved_range = map exclusive (flat_map ranges_reserved (flat_map reserves body));
+  reserved_name = flat_map names_reserved (flat_map reserves body);
   options = message_options env (flat_map options_in_message body);
 }) (messages_of_list nested)
 
@@ -207,8 +204,12 @@ names_of_messages messages = map message_name messages
 abbrev pub names_of_oneofs : List OneofDescriptor → List Text
 names_of_oneofs oneofs = map (λ (o : OneofDescriptor). o.name) oneofs
 
-abbrev pub names_of_enums : List EnumSyntax → List Text
-names_of_enums enums = map (λ (e : EnumSyntax). e.name) enums
+abbrev pub names_of_enums : List EnumDescriptor → List Text
+names_of_enums enums = map (λ (e : EnumDescriptor). e.name) enums
+
+-- A position among oneofs has 31 bits. No text is so long that a body has so many statements.
+abbrev pub positions_faults : Text → ℕ → List Fault
+positions_faults name n = if nat_lt n 2147483648 then [] else fault Unsupported name
 
 -- E1 for two fields, oneofs, extensions, enums or messages of one body that have one name
 abbrev pub body_duplicates : Environment → List MessageStatementSyntax → List MessageDescriptor → List Fault
@@ -216,14 +217,16 @@ body_duplicates env body nested =
     duplicates (names_of_fields (fields_from env 0 body))
     ++ duplicates (names_of_oneofs (flat_map (oneofs_of env) body))
     ++ duplicates (names_of_fields (flat_map (extensions_of env) body))
-    ++ duplicates (names_of_enums (flat_map enums_in body))
+    ++ duplicates (names_of_enums (flat_map (enums_of env) body))
     ++ duplicates (names_of_messages nested)
 
 -- of the message of that name, but those that stand in one statement of its body
 abbrev pub whole_faults : Environment → Text → List MessageStatementSyntax → List MessageDescriptor → List Fault
 whole_faults env name body nested =
-    body_duplicates (inside env name) body nested
-    ++ flat_map (range_faults name) (flat_map extension_ranges body ++ flat_map reserved_ranges_in body)
+    positions_faults name (length body)
+    ++ body_duplicates (inside env name) body nested
+    ++ flat_map (range_faults name) (flat_map extension_ranges body)
+    ++ flat_map (range_faults name) (flat_map ranges_reserved (flat_map reserves body))
     ++ options_faults message_table (flat_map options_in_message body)
 
 abbrev pub oneof_faults : Environment → OneofSyntax → List Fault

@@ -4,6 +4,8 @@ mod enumeration;
 mod field;
 mod generated;
 mod imports;
+mod lists;
+mod message;
 mod names;
 mod options;
 mod place;

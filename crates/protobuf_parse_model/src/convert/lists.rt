@@ -1,0 +1,126 @@
+//! Several fields: those of a oneof, and those of an `extend`.
+
+ghost use Rattle.std.specs.Prelude.{◌≡◌, ◌++◌, map, flat_map, option_to_list, IfOk, OnOk};
+ghost use Rattle.protobuf_parse_syntax.specs.Trees.{field_statement_view, oneof_statement_view};
+ghost use Rattle.protobuf_parse_model.specs.Contexts.{declared_by, declared_view, environment_in, fields_declared, fields_view, place_view, statements_seen};
+ghost use Rattle.protobuf_parse_model.specs.Faults.{Elaborates};
+ghost use Rattle.protobuf_parse_model.specs.Fields.{field_statement_faults};
+ghost use Rattle.protobuf_parse_model.specs.Messages.{extending, extension_faults_of};
+ghost use Rattle.protobuf_parse_model.specs.Statements.{oneof_fields};
+
+use crate::convert::place::FieldPlace;
+use crate::convert::statement::{DeclaredField, declared_extension, declared_field};
+use crate::convert::types::type_full_name;
+use crate::descriptor::{DescriptorProto, FieldDescriptorProto};
+use crate::error::ElabFailure;
+use crate::scope::Context;
+use protobuf_parse_syntax::{FieldStatement, OneOfStatement};
+use std::alloc::{AllocError, Global};
+
+/// Fields, and the messages behind maps and groups among them, each in source order.
+#[derive(Debug, Drop)]
+pub struct DeclaredFields {
+    pub fields: Vec<FieldDescriptorProto>,
+    pub behind: Vec<DescriptorProto>,
+}
+
+/// What the statements of a oneof declare, which stands at that place among the oneofs.
+pub fn fields_of_oneof(
+    alloc: Global,
+    context: &Context<'_>,
+    place: &FieldPlace<'_>,
+    body: &[OneOfStatement],
+) -> Result<DeclaredFields, ElabFailure>
+    ensures { let env = environment_in context.now in let ss = flat_map oneof_fields (map oneof_statement_view body.now) in
+        Elaborates fields_view result (flat_map (field_statement_faults env) ss) (fields_declared env (place_view place.now) ss) }
+{
+    let statements = fields_in(alloc, body)?;
+    declared_fields(alloc, context, place, &statements)
+}
+
+/// The statements of a oneof that declare fields.
+fn fields_in(alloc: Global, body: &[OneOfStatement]) -> Result<Vec<&FieldStatement>, AllocError>
+    ensures { IfOk result (λ v. statements_seen v.items ≡ flat_map oneof_fields (map oneof_statement_view body.now)) }
+{
+    let mut fields = Vec::new(alloc);
+    for statement in body {
+        if let OneOfStatement::Field(field) = statement {
+            fields.push(field)?;
+        }
+    }
+    Ok(fields)
+}
+
+/// What these statements declare.
+#[tactic(auto, using(crate::proofs::Blaming::blames_at))]
+fn declared_fields(
+    alloc: Global,
+    context: &Context<'_>,
+    place: &FieldPlace<'_>,
+    statements: &[&FieldStatement],
+) -> Result<DeclaredFields, ElabFailure>
+    ensures { let env = environment_in context.now in let ss = statements_seen statements.now in
+        Elaborates fields_view result (flat_map (field_statement_faults env) ss) (fields_declared env (place_view place.now) ss) }
+{
+    let mut fields = Vec::new(alloc);
+    let mut behind = Vec::new(alloc);
+    for statement in statements {
+        let declared = declared_field(alloc, context, place, statement)?;
+        fields.push(declared.field)?;
+        push_behind(&mut behind, declared.behind)?;
+    }
+    Ok(DeclaredFields { fields, behind })
+}
+
+/// What the statements of an `extend` declare.
+#[tactic(auto, using(crate::proofs::Blaming::blames_at))]
+pub fn fields_of_extend(
+    alloc: Global,
+    context: &Context<'_>,
+    extendee: &str,
+    statements: &[FieldStatement],
+) -> Result<DeclaredFields, ElabFailure>
+    ensures { let env = environment_in context.now in let ss = map field_statement_view statements.now in
+        Elaborates fields_view result (flat_map (extension_faults_of env extendee.now) ss) (fields_declared env (extending env extendee.now) ss) }
+{
+    let mut fields = Vec::new(alloc);
+    let mut behind = Vec::new(alloc);
+    for statement in statements {
+        let declared = extension(alloc, context, extendee, statement)?;
+        fields.push(declared.field)?;
+        push_behind(&mut behind, declared.behind)?;
+    }
+    Ok(DeclaredFields { fields, behind })
+}
+
+/// What a statement of an `extend` declares. E2 or E3 where the name of the message that is extended
+/// means none.
+#[tactic(auto, using(crate::proofs::Blaming::blames_left, crate::proofs::Blaming::blames_right))]
+fn extension(
+    alloc: Global,
+    context: &Context<'_>,
+    extendee: &str,
+    statement: &FieldStatement,
+) -> Result<DeclaredField, ElabFailure>
+    ensures { let env = environment_in context.now in let s = field_statement_view statement.now in
+        Elaborates declared_view result (extension_faults_of env extendee.now s) (declared_by env (extending env extendee.now) s) }
+{
+    let extendee = type_full_name(alloc, context, extendee)?;
+    let place = FieldPlace {
+        extendee: Some(&extendee),
+        oneof_index: None,
+    };
+    declared_extension(alloc, context, &place, statement)
+}
+
+fn push_behind(
+    messages: &mut Vec<DescriptorProto>,
+    behind: Option<DescriptorProto>,
+) -> Result<(), AllocError>
+    ensures { OnOk result (messages.new.items ≡ messages.old.items ++ option_to_list behind) }
+{
+    if let Some(message) = behind {
+        messages.push(message)?;
+    }
+    Ok(())
+}
