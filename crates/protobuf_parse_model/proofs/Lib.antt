@@ -9,3 +9,4 @@ mod Rows
 pub mod Levels
 pub mod Decodings
 pub mod Settings
+pub mod Bodies

@@ -86,8 +86,11 @@ statement_label (group at label name number fields) = label
 abbrev pub has_own_oneof : Environment → FieldStatementSyntax → Bool
 has_own_oneof env f = says_optional env.syntax (statement_label f)
 
+abbrev pub own_oneof_of : Text → OneofDescriptor
+own_oneof_of name = record { name = codes "_" ++ name; options = None }
+
 abbrev pub own_oneof : FieldStatementSyntax → OneofDescriptor
-own_oneof f = record { name = codes "_" ++ field_statement_name f; options = None }
+own_oneof f = own_oneof_of (field_statement_name f)
 
 abbrev pub options_in_oneof : OneofSyntax → List OptionSyntax
 options_in_oneof o = flat_map statements.oneof_options o.body

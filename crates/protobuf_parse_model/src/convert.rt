@@ -1,12 +1,13 @@
 //! From a file's tree to its descriptor.
 
+mod body;
 mod enumeration;
 mod field;
 mod generated;
 mod imports;
 mod lists;
-mod message;
 mod names;
+mod oneof;
 mod options;
 mod place;
 mod refuse;

@@ -1,7 +1,7 @@
 //! Several fields: those of a oneof, and those of an `extend`.
 
 ghost use Rattle.std.specs.Prelude.{◌≡◌, ◌++◌, map, flat_map, option_to_list, IfOk, OnOk};
-ghost use Rattle.protobuf_parse_syntax.specs.Trees.{field_statement_view, oneof_statement_view};
+ghost use Rattle.protobuf_parse_syntax.specs.Trees.{field_statement_view, oneof_statement_view, oneof_view};
 ghost use Rattle.protobuf_parse_model.specs.Contexts.{declared_by, declared_view, environment_in, fields_declared, fields_view, place_view, statements_seen};
 ghost use Rattle.protobuf_parse_model.specs.Faults.{Elaborates};
 ghost use Rattle.protobuf_parse_model.specs.Fields.{field_statement_faults};
@@ -14,7 +14,7 @@ use crate::convert::types::type_full_name;
 use crate::descriptor::{DescriptorProto, FieldDescriptorProto};
 use crate::error::ElabFailure;
 use crate::scope::Context;
-use protobuf_parse_syntax::{FieldStatement, OneOfStatement};
+use protobuf_parse_syntax::{FieldStatement, OneOf, OneOfStatement};
 use std::alloc::{AllocError, Global};
 
 /// Fields, and the messages behind maps and groups among them, each in source order.
@@ -29,12 +29,12 @@ pub fn fields_of_oneof(
     alloc: Global,
     context: &Context<'_>,
     place: &FieldPlace<'_>,
-    body: &[OneOfStatement],
+    oneof: &OneOf,
 ) -> Result<DeclaredFields, ElabFailure>
-    ensures { let env = environment_in context.now in let ss = flat_map oneof_fields (map oneof_statement_view body.now) in
+    ensures { let env = environment_in context.now in let ss = flat_map oneof_fields (oneof_view oneof.now).body in
         Elaborates fields_view result (flat_map (field_statement_faults env) ss) (fields_declared env (place_view place.now) ss) }
 {
-    let statements = fields_in(alloc, body)?;
+    let statements = fields_in(alloc, &oneof.body)?;
     declared_fields(alloc, context, place, &statements)
 }
 
@@ -113,7 +113,8 @@ fn extension(
     declared_extension(alloc, context, &place, statement)
 }
 
-fn push_behind(
+/// Adds the message behind a field, if one stands there.
+pub fn push_behind(
     messages: &mut Vec<DescriptorProto>,
     behind: Option<DescriptorProto>,
 ) -> Result<(), AllocError>

@@ -1,0 +1,133 @@
+//! What the statements of a message's body declare.
+
+ghost use Rattle.std.specs.Prelude.{◌≡◌, ◌<◌, ◌^◌, true, false, length};
+ghost use Rattle.protobuf_parse_syntax.specs.Trees as tree;
+ghost use Rattle.protobuf_parse_model.specs.Contexts.{body_view, environment_in, with_statement};
+ghost use Rattle.protobuf_parse_model.specs.Faults.{Elaborates};
+ghost use Rattle.protobuf_parse_model.specs.Fields.{field_statement_faults};
+ghost use Rattle.protobuf_parse_model.specs.Messages.{extend_faults, has_own_oneof, oneof_faults};
+
+use crate::convert::lists::{fields_of_extend, fields_of_oneof, push_behind};
+use crate::convert::oneof::{has_own_oneof, oneof_descriptor, own_oneof};
+use crate::convert::place::FieldPlace;
+use crate::convert::statement::declared_field;
+use crate::descriptor::{
+    DescriptorProto, EnumDescriptorProto, FieldDescriptorProto, OneofDescriptorProto,
+};
+use crate::error::ElabFailure;
+use crate::scope::Context;
+use protobuf_parse_syntax::{Extend, FieldStatement, OneOf};
+use std::alloc::Global;
+
+/// What the statements of a message's body declare, each list in source order.
+#[derive(Debug, Drop)]
+pub struct Body {
+    pub field: Vec<FieldDescriptorProto>,
+    pub oneof_decl: Vec<OneofDescriptorProto>,
+    pub nested_type: Vec<DescriptorProto>,
+    pub enum_type: Vec<EnumDescriptorProto>,
+    pub extension: Vec<FieldDescriptorProto>,
+}
+
+/// Adds a field, with the oneof of its own and the message behind it, where there are any.
+pub fn add_field(
+    alloc: Global,
+    context: &Context<'_>,
+    body: &mut Body,
+    statement: &FieldStatement,
+) -> Result<(), ElabFailure>
+    requires { length body.old.oneof_decl.items < 2 ^ 31 }
+    ensures { let env = environment_in context.now in let s = tree.field_statement_view statement.now in
+        Elaborates (λ _. body_view body.new) result (field_statement_faults env s) (with_statement env (body_view body.old) (tree.message_field s)) }
+{
+    if has_own_oneof(context, statement) {
+        add_in_own_oneof(alloc, context, body, statement)
+    } else {
+        add_plain(alloc, context, body, statement)
+    }
+}
+
+/// Adds a field that is in no oneof.
+fn add_plain(
+    alloc: Global,
+    context: &Context<'_>,
+    body: &mut Body,
+    statement: &FieldStatement,
+) -> Result<(), ElabFailure>
+    requires { has_own_oneof (environment_in context.now) (tree.field_statement_view statement.now) ≡ false }
+    ensures { let env = environment_in context.now in let s = tree.field_statement_view statement.now in
+        Elaborates (λ _. body_view body.new) result (field_statement_faults env s) (with_statement env (body_view body.old) (tree.message_field s)) }
+{
+    let place = FieldPlace {
+        extendee: None,
+        oneof_index: None,
+    };
+    let declared = declared_field(alloc, context, &place, statement)?;
+    body.field.push(declared.field)?;
+    push_behind(&mut body.nested_type, declared.behind)?;
+    Ok(())
+}
+
+/// Adds a field that is alone in a oneof.
+fn add_in_own_oneof(
+    alloc: Global,
+    context: &Context<'_>,
+    body: &mut Body,
+    statement: &FieldStatement,
+) -> Result<(), ElabFailure>
+    requires few { length body.old.oneof_decl.items < 2 ^ 31 }
+    requires own { has_own_oneof (environment_in context.now) (tree.field_statement_view statement.now) ≡ true }
+    ensures { let env = environment_in context.now in let s = tree.field_statement_view statement.now in
+        Elaborates (λ _. body_view body.new) result (field_statement_faults env s) (with_statement env (body_view body.old) (tree.message_field s)) }
+{
+    let place = FieldPlace {
+        extendee: None,
+        oneof_index: Some(body.oneof_decl.len()),
+    };
+    let declared = declared_field(alloc, context, &place, statement)?;
+    let own = own_oneof(alloc, &declared.field.name)?;
+    body.oneof_decl.push(own)?;
+    body.field.push(declared.field)?;
+    push_behind(&mut body.nested_type, declared.behind)?;
+    Ok(())
+}
+
+/// Adds a oneof, its fields and the messages behind them.
+#[tactic(auto, using(crate::proofs::Blaming::blames_left, crate::proofs::Blaming::blames_right))]
+pub fn add_oneof(
+    alloc: Global,
+    context: &Context<'_>,
+    body: &mut Body,
+    oneof: &OneOf,
+) -> Result<(), ElabFailure>
+    requires { length body.old.oneof_decl.items < 2 ^ 31 }
+    ensures { let env = environment_in context.now in let o = tree.oneof_view oneof.now in
+        Elaborates (λ _. body_view body.new) result (oneof_faults env o) (with_statement env (body_view body.old) (tree.message_oneof o)) }
+{
+    let place = FieldPlace {
+        extendee: None,
+        oneof_index: Some(body.oneof_decl.len()),
+    };
+    let mut declared = fields_of_oneof(alloc, context, &place, oneof)?;
+    let descriptor = oneof_descriptor(alloc, context, oneof)?;
+    body.oneof_decl.push(descriptor)?;
+    body.field.append(&mut declared.fields)?;
+    body.nested_type.append(&mut declared.behind)?;
+    Ok(())
+}
+
+/// Adds the extensions of an `extend`, and the messages behind their groups.
+pub fn add_extend(
+    alloc: Global,
+    context: &Context<'_>,
+    body: &mut Body,
+    extend: &Extend,
+) -> Result<(), ElabFailure>
+    ensures { let env = environment_in context.now in let e = tree.extend_view extend.now in
+        Elaborates (λ _. body_view body.new) result (extend_faults env e) (with_statement env (body_view body.old) (tree.message_extend e)) }
+{
+    let mut declared = fields_of_extend(alloc, context, &extend.extendee, &extend.fields)?;
+    body.extension.append(&mut declared.fields)?;
+    body.nested_type.append(&mut declared.behind)?;
+    Ok(())
+}

@@ -1,0 +1,85 @@
+//! Oneofs.
+
+ghost use Rattle.std.specs.Prelude.{◌≡◌, ◌++◌, codes, map, flat_map, option_map, IfOk};
+ghost use Rattle.protobuf_parse_syntax.specs.Trees.{field_statement_view, oneof_statement_view, oneof_view};
+ghost use Rattle.protobuf_parse_model.specs.BuiltinOptions.{oneof_table, options_faults};
+ghost use Rattle.protobuf_parse_model.specs.Contexts.{environment_in};
+ghost use Rattle.protobuf_parse_model.specs.Descriptors as described;
+ghost use Rattle.protobuf_parse_model.specs.Faults.{Elaborates};
+ghost use Rattle.protobuf_parse_model.specs.Messages as messages;
+ghost use Rattle.protobuf_parse_model.specs.OptionViews.{nowhere, options_seen};
+ghost use Rattle.protobuf_parse_model.specs.Options.{oneof_options_view};
+ghost use Rattle.protobuf_parse_model.specs.OptionsSet as sets;
+ghost use Rattle.protobuf_parse_model.specs.Statements as statements;
+
+use crate::convert::field::says_optional;
+use crate::convert::options::{check_options, oneof_options, oneof_table};
+use crate::descriptor::{OneofDescriptorProto, OneofOptions};
+use crate::error::ElabFailure;
+use crate::scope::Context;
+use protobuf_parse_syntax::{FieldStatement, OneOf, OneOfStatement, ProtobufOption};
+use std::alloc::{AllocError, Global};
+
+/// The descriptor of a oneof. Its fields stand apart from it.
+pub fn oneof_descriptor(
+    alloc: Global,
+    context: &Context<'_>,
+    oneof: &OneOf,
+) -> Result<OneofDescriptorProto, ElabFailure>
+    ensures { let o = oneof_view oneof.now in
+        Elaborates described.oneof_view result (options_faults oneof_table (messages.options_in_oneof o)) (messages.oneof_of (environment_in context.now) o) }
+{
+    let options = checked_options(alloc, &oneof.body)?;
+    Ok(OneofDescriptorProto {
+        name: oneof.name.clone()?,
+        options,
+    })
+}
+
+/// What the options of a oneof say.
+fn checked_options(
+    alloc: Global,
+    body: &[OneOfStatement],
+) -> Result<Option<OneofOptions>, ElabFailure>
+    ensures { let os = flat_map statements.oneof_options (map oneof_statement_view body.now) in
+        Elaborates (λ o. option_map oneof_options_view o) result (options_faults oneof_table os) (sets.oneof_options nowhere os) }
+{
+    let options = options_in(alloc, body)?;
+    check_options(alloc, oneof_table(), &options)?;
+    Ok(oneof_options(alloc, &options)?)
+}
+
+/// The options of a oneof.
+fn options_in(alloc: Global, body: &[OneOfStatement]) -> Result<Vec<&ProtobufOption>, AllocError>
+    ensures { IfOk result (λ v. options_seen v.items ≡ flat_map statements.oneof_options (map oneof_statement_view body.now)) }
+{
+    let mut options = Vec::new(alloc);
+    for statement in body {
+        if let OneOfStatement::Option(statement) = statement {
+            options.push(&statement.option)?;
+        }
+    }
+    Ok(options)
+}
+
+/// Whether the field is alone in a oneof of its own: in proto3 with the label `optional`.
+pub fn has_own_oneof(context: &Context<'_>, statement: &FieldStatement) -> bool
+    ensures { result ≡ messages.has_own_oneof (environment_in context.now) (field_statement_view statement.now) }
+{
+    match statement {
+        FieldStatement::Field(field) => says_optional(context.syntax, field.label),
+        FieldStatement::Group(group) => says_optional(context.syntax, group.label),
+    }
+}
+
+/// The oneof that the field of that name is alone in.
+pub fn own_oneof(alloc: Global, field: &str) -> Result<OneofDescriptorProto, AllocError>
+    ensures { IfOk result (λ o. described.oneof_view o ≡ messages.own_oneof_of field.now) }
+{
+    let mut name = String::from_str(alloc, "_")?;
+    name.push_str(field)?;
+    Ok(OneofDescriptorProto {
+        name,
+        options: None,
+    })
+}
