@@ -5,5 +5,6 @@ pub mod FirstPath
 pub mod TreeViews
 pub mod Lookups
 pub mod Scopes
+pub mod Tables
 mod Rows
 pub mod Levels

@@ -14,6 +14,7 @@ pub mod Enums
 pub mod Services
 pub mod Messages
 pub mod FileDescriptor
+pub mod Tables
 pub mod OptionSets
 pub mod Unsupported
 pub mod Elaboration

@@ -1,0 +1,118 @@
+//! What files declare, by full name.
+
+ghost use Rattle.std.specs.Prelude.{◌≡◌, ℕ, List, [], ◌∷◌, ◌++◌, length, map, bytes_eq, if◌then◌else◌, string_bytes, unwrap_or, OnOk, IfOk};
+ghost use Rattle.std.specs.Borrow.{Bor};
+ghost use Rattle.protobuf_parse_base.specs.Names.{relative_idents};
+ghost use Rattle.protobuf_parse_syntax.specs.Trees.{FileSyntax, file_view, message_view, message_statement_view, package_of};
+ghost use Rattle.protobuf_parse_model.specs.Declarations as names;
+ghost use Rattle.protobuf_parse_model.specs.Descriptors.{Text};
+ghost use Rattle.protobuf_parse_model.specs.Contexts.{declared_as, kind_view, texts};
+ghost use Rattle.protobuf_parse_model.specs.Tables.{Adds, Tells};
+
+use super::full_name;
+use super::seen::{Declaration, Declarations, TypeKind};
+use indexmap::IndexMap;
+use protobuf_parse_syntax::{FileStatement, FileTree, Message, MessageStatement};
+use std::alloc::{AllocError, Global};
+
+impl Declarations {
+    /// No names.
+    pub fn new(alloc: Global) -> Self
+        ensures { Tells result [] }
+    {
+        Declarations {
+            types: IndexMap::new(alloc),
+        }
+    }
+
+    /// Adds each message and each enum that a file declares, as declared by the file with that number. The one
+    /// error is that memory is short.
+    pub fn add(&mut self, alloc: Global, file: usize, tree: &FileTree) -> Result<(), AllocError>
+        ensures { OnOk result ((files : List FileSyntax) → length files ≡ file → Tells self.old files → Tells self.new (files ++ file_view tree.now ∷ [])) }
+    {
+        let mut scope = package_scope(alloc, tree)?;
+        for statement in &tree.statements {
+            match statement {
+                FileStatement::Message(message) => {
+                    add_message(self, alloc, file, &mut scope, message)?
+                }
+                FileStatement::Enumeration(declared) => {
+                    add_type(self, alloc, file, &scope, &declared.name, TypeKind::Enum)?
+                }
+                _ => {}
+            }
+        }
+        Ok(())
+    }
+}
+
+/// The identifiers of the file's package.
+fn package_scope<'a>(alloc: Global, tree: &'a FileTree) -> Result<Vec<&'a str>, AllocError>
+    ensures { IfOk result (λ v. texts v.items ≡ names.file_scope (file_view tree.now)) }
+{
+    let mut scope = Vec::new(alloc);
+    match tree.package() {
+        Some(package) if !package.is_empty() => {
+            for part in package.split('.') {
+                scope.push(part)?;
+            }
+        }
+        _ => {}
+    }
+    Ok(scope)
+}
+
+/// Adds a message of the scope, and each message and each enum inside it.
+fn add_message<'a>(
+    table: &mut Declarations,
+    alloc: Global,
+    file: usize,
+    scope: &mut Vec<&'a str>,
+    message: &'a Message,
+) -> Result<(), AllocError>
+    ensures scope { OnOk result (texts scope.new.items ≡ texts scope.old.items) }
+    ensures adds { OnOk result (Adds table.old table.new file (names.message_types (texts scope.old.items) (message_view message.now))) }
+{
+    add_type(table, alloc, file, scope, &message.name, TypeKind::Message)?;
+    scope.push(&message.name)?;
+    for statement in &message.body {
+        match statement {
+            MessageStatement::Message(inner) => add_message(table, alloc, file, scope, inner)?,
+            MessageStatement::Enumeration(declared) => {
+                add_type(table, alloc, file, scope, &declared.name, TypeKind::Enum)?
+            }
+            _ => {}
+        }
+    }
+    scope.pop();
+    Ok(())
+}
+
+/// Adds a type that the file declares by that name in the scope.
+fn add_type(
+    table: &mut Declarations,
+    alloc: Global,
+    file: usize,
+    scope: &[&str],
+    name: &str,
+    kind: TypeKind,
+) -> Result<(), AllocError>
+    ensures { OnOk result (Adds table.old table.new file (names.declare (texts scope.now) name.now (kind_view kind) ∷ [])) }
+{
+    let name = full_name(alloc, scope, name)?;
+    put(table, alloc, name, Declaration { file, kind })
+}
+
+/// Adds a declaration at the end of the list of that full name.
+fn put(
+    table: &mut Declarations,
+    alloc: Global,
+    name: String,
+    declaration: Declaration,
+) -> Result<(), AllocError>
+    ensures { OnOk result ((text : Text) → declared_as table.new text ≡ declared_as table.old text ++ (if bytes_eq (string_bytes name) text then declaration ∷ [] else [])) }
+{
+    let declarations = table.types.entry(name)?.or_insert(Vec::new(alloc));
+    declarations.push(declaration)?;
+    Ok(())
+}
