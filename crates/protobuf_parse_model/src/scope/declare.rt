@@ -63,6 +63,7 @@ fn package_scope<'a>(alloc: Global, tree: &'a FileTree) -> Result<Vec<&'a str>, 
 }
 
 /// Adds a message of the scope, and each message and each enum inside it.
+#[cycle(declare)]
 fn add_message<'a>(
     table: &mut Declarations,
     alloc: Global,
@@ -76,16 +77,36 @@ fn add_message<'a>(
     add_type(table, alloc, file, scope, &message.name, TypeKind::Message)?;
     scope.push(&message.name)?;
     for statement in &message.body {
-        match statement {
-            MessageStatement::Message(inner) => add_message(table, alloc, file, scope, inner)?,
-            MessageStatement::Enumeration(declared) => {
-                add_type(table, alloc, file, scope, &declared.name, TypeKind::Enum)?
-            }
-            _ => {}
-        }
+        add_statement(table, alloc, file, scope, statement)?;
     }
     scope.pop();
     Ok(())
+}
+
+/// Adds what a statement inside the message that ends the scope declares.
+#[cycle(declare)]
+fn add_statement<'a>(
+    table: &mut Declarations,
+    alloc: Global,
+    file: usize,
+    scope: &mut Vec<&'a str>,
+    statement: &'a MessageStatement,
+) -> Result<(), AllocError>
+    ensures scope { OnOk result (texts scope.new.items ≡ texts scope.old.items) }
+    ensures adds { OnOk result (Adds table.old table.new file (names.types_of (texts scope.old.items) (message_statement_view statement.now))) }
+{
+    match statement {
+        MessageStatement::Message(message) => add_message(table, alloc, file, scope, message),
+        MessageStatement::Enumeration(inner) => {
+            add_type(table, alloc, file, scope, &inner.name, TypeKind::Enum)
+        }
+        MessageStatement::Reserved(_) => Ok(()),
+        MessageStatement::OneOf(_) => Ok(()),
+        MessageStatement::Extend(_) => Ok(()),
+        MessageStatement::Extensions(_) => Ok(()),
+        MessageStatement::Option(_) => Ok(()),
+        MessageStatement::Field(_) => Ok(()),
+    }
 }
 
 /// Adds a type that the file declares by that name in the scope.
