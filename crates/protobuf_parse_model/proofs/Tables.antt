@@ -1,5 +1,5 @@
 -- The table of declared types, step by step.
-use Rattle.std.proofs.Common.{◌≡◌, ℕ, zero, suc, List, [], ◌∷◌, ◌++◌, Bool, true, false, cond, if◌then◌else◌, Option, Some, None, refl, sym, ap, ◌∙◌, bytes_eq, append-nil, append_assoc, map, filter, flat_map, ◌+◌, ◌<◌, length, take, get_or, subst}
+use Rattle.std.proofs.Common.{◌≡◌, ℕ, zero, suc, List, [], ◌∷◌, ◌++◌, Bool, true, false, cond, if◌then◌else◌, Option, Some, None, refl, sym, ap, ◌∙◌, bytes_eq, append-nil, append_assoc, map, filter, flat_map, ◌+◌, ◌<◌, length, take, get_or, subst, arith}
 use Rattle.std.specs.Prelude.{String, string_bytes, unwrap_or}
 use Rattle.std.specs.Global.{Global, Vec}
 use Rattle.std.specs.String.{string_eq}
@@ -12,14 +12,14 @@ use Rattle.std.proofs.lemmas.List.Elements.{filter-append}
 use Rattle.protobuf_parse_syntax.proofs.Messages.{view_parts, views_message}
 use Rattle.protobuf_parse_syntax.specs.declared.tree.declaration.Message.{Message}
 use Rattle.protobuf_parse_syntax.specs.declared.tree.declaration.MessageStatement.TheVariants as statement
-use Rattle.protobuf_parse_syntax.specs.Trees.{MessageStatementSyntax, MessageSyntax, message_statements, message_statement_view, message_view, nested_message}
+use Rattle.protobuf_parse_syntax.specs.Trees.{FileSyntax, MessageStatementSyntax, MessageSyntax, message_statements, message_statement_view, message_view, nested_message}
 use Rattle.protobuf_parse_model.specs.declared.scope.seen.TypeKind.{TypeKind}
 use Rattle.protobuf_parse_model.specs.declared.scope.seen.TypeKind.TheVariants as kind
 use Rattle.protobuf_parse_model.specs.declared.scope.seen.Declaration.{Declaration}
 use Rattle.protobuf_parse_model.specs.declared.scope.seen.Declarations.{Declarations}
-use Rattle.protobuf_parse_model.specs.Declarations.{Scope, DeclaredType, a_message, declare, full_name, inside, message_types, types_in, types_of}
+use Rattle.protobuf_parse_model.specs.Declarations.{Scope, DeclaredType, a_message, declare, file_types, full_name, inside, message_types, types_in, types_of}
 use Rattle.protobuf_parse_model.specs.Contexts.{declared_as, kind_view}
-use Rattle.protobuf_parse_model.specs.Tables.{Adds, declaration_of, declared_by}
+use Rattle.protobuf_parse_model.specs.Tables.{Adds, Tells, declaration_of, declared_by, declared_in}
 
 -- ---- a declaration more
 
@@ -99,3 +99,19 @@ adds_next old between new file types view before xs i x lt is so_far more =
     let at : map view (take (i + 1) xs) ≡ map view (take i xs) ++ view x ∷ [] = e ∙ ap (λ z. map view (take i xs) ++ view z ∷ []) (sym is) in
     let all = flat_map_more types before (map view (take i xs)) (view x) ∙ ap (λ ys. before ++ flat_map types ys) (sym at) in
     subst (λ ds. Adds old new file ds) all (adds_more old between new file (before ++ flat_map types (map view (take i xs))) (types (view x)) so_far more)
+
+-- ---- files, one after another
+
+declared_in-push : (text : Text) (n file : ℕ) (files : List FileSyntax) (t : FileSyntax) → n + length files ≡ file → declared_in text n (files ++ t ∷ []) ≡ declared_in text n files ++ declared_by text file (file_types t)
+declared_in-push text n file [] t at =
+    let here : n ≡ file = omega arith in
+    append-nil (declared_by text n (file_types t)) ∙ ap (λ k. declared_by text k (file_types t)) here
+declared_in-push text n file (f ∷ files) t at =
+    let next : suc n + length files ≡ file = omega arith in
+    ap (λ ds. declared_by text n (file_types f) ++ ds) (declared_in-push text (suc n) file files t next)
+    ∙ sym (append_assoc (declared_by text n (file_types f)) (declared_in text (suc n) files) (declared_by text file (file_types t)))
+
+pub tells_more : (old new : Declarations) (files : List FileSyntax) (t : FileSyntax) (file : ℕ) → Adds old new file (file_types t) → length files ≡ file → Tells old files → Tells new (files ++ t ∷ [])
+tells_more old new files t file adds at tells text =
+    let number : 0 + length files ≡ file = omega arith in
+    adds text ∙ ap (λ ds. ds ++ declared_by text file (file_types t)) (tells text) ∙ sym (declared_in-push text 0 file files t number)

@@ -3,7 +3,7 @@
 ghost use Rattle.std.specs.Prelude.{◌≡◌, ℕ, List, [], ◌∷◌, ◌++◌, length, map, bytes_eq, if◌then◌else◌, string_bytes, unwrap_or, OnOk, IfOk};
 ghost use Rattle.std.specs.Borrow.{Bor};
 ghost use Rattle.protobuf_parse_base.specs.Names.{relative_idents};
-ghost use Rattle.protobuf_parse_syntax.specs.Trees.{FileSyntax, file_view, message_view, message_statement_view, package_of};
+ghost use Rattle.protobuf_parse_syntax.specs.Trees.{FileSyntax, file_view, message_statement_view, message_view, statement_view};
 ghost use Rattle.protobuf_parse_model.specs.Declarations as names;
 ghost use Rattle.protobuf_parse_model.specs.Descriptors.{Text};
 ghost use Rattle.protobuf_parse_model.specs.Contexts.{declared_as, kind_view, texts};
@@ -32,17 +32,33 @@ impl Declarations {
     {
         let mut scope = package_scope(alloc, tree)?;
         for statement in &tree.statements {
-            match statement {
-                FileStatement::Message(message) => {
-                    add_message(self, alloc, file, &mut scope, message)?
-                }
-                FileStatement::Enumeration(declared) => {
-                    add_type(self, alloc, file, &scope, &declared.name, TypeKind::Enum)?
-                }
-                _ => {}
-            }
+            add_declared(self, alloc, file, &mut scope, statement)?;
         }
         Ok(())
+    }
+}
+
+/// Adds what a statement of a file declares.
+fn add_declared<'a>(
+    table: &mut Declarations,
+    alloc: Global,
+    file: usize,
+    scope: &mut Vec<&'a str>,
+    statement: &'a FileStatement,
+) -> Result<(), AllocError>
+    ensures scope { OnOk result (texts scope.new.items ≡ texts scope.old.items) }
+    ensures adds { OnOk result (Adds table.old table.new file (names.statement_types (texts scope.old.items) (statement_view statement.now))) }
+{
+    match statement {
+        FileStatement::Message(message) => add_message(table, alloc, file, scope, message),
+        FileStatement::Enumeration(inner) => {
+            add_type(table, alloc, file, scope, &inner.name, TypeKind::Enum)
+        }
+        FileStatement::Import(_) => Ok(()),
+        FileStatement::Package(_) => Ok(()),
+        FileStatement::Option(_) => Ok(()),
+        FileStatement::Extend(_) => Ok(()),
+        FileStatement::Service(_) => Ok(()),
     }
 }
 
@@ -50,16 +66,20 @@ impl Declarations {
 fn package_scope<'a>(alloc: Global, tree: &'a FileTree) -> Result<Vec<&'a str>, AllocError>
     ensures { IfOk result (λ v. texts v.items ≡ names.file_scope (file_view tree.now)) }
 {
-    let mut scope = Vec::new(alloc);
     match tree.package() {
-        Some(package) if !package.is_empty() => {
-            for part in package.split('.') {
-                scope.push(part)?;
-            }
-        }
-        _ => {}
+        Some(package) => identifiers(alloc, package),
+        None => Ok(Vec::new(alloc)),
     }
-    Ok(scope)
+}
+
+/// The identifiers of a package's name, which may be empty.
+fn identifiers(alloc: Global, name: &str) -> Result<Vec<&str>, AllocError>
+    ensures { IfOk result (λ v. texts v.items ≡ relative_idents name.now) }
+{
+    if name.is_empty() {
+        return Ok(Vec::new(alloc));
+    }
+    name.split('.').collect(alloc)
 }
 
 /// Adds a message of the scope, and each message and each enum inside it.
