@@ -1,6 +1,9 @@
 -- The table of declared types, step by step.
-use Rattle.std.proofs.Common.{◌≡◌, ℕ, zero, suc, List, [], ◌∷◌, ◌++◌, Bool, true, false, cond, if◌then◌else◌, Option, Some, None, refl, sym, ap, ◌∙◌, bytes_eq, append-nil, append_assoc, map, filter, flat_map, ◌+◌, ◌<◌, length, take, get_or, subst, arith}
-use Rattle.std.specs.Prelude.{String, string_bytes, unwrap_or}
+use Rattle.std.proofs.Common.{◌≡◌, ℕ, zero, suc, List, [], ◌∷◌, ◌++◌, Bool, true, false, cond, if◌then◌else◌, Option, Some, None, refl, sym, ap, ◌∙◌, bytes_eq, append-nil, append_assoc, map, filter, flat_map, ◌+◌, ◌<◌, length, take, get_or, subst, arith, ◌≤◌, ◌-◌, ◌||◌, ◌⊎◌, inl, inr, nat_eq, slice_get, option_map, zero-add}
+use Rattle.std.specs.Prelude.{String, option_to_list, string_bytes, unwrap_or}
+use Rattle.std.specs.List.{find, list_any}
+use Rattle.std.specs.List.Sorted.{IsStrictlyIncreasing}
+use Rattle.std.specs.Option.{option_or}
 use Rattle.std.specs.Global.{Global, Vec}
 use Rattle.std.specs.String.{string_eq}
 use Rattle.std.specs.HashMap.{HashMap, UpdatesBy, get_by, get_by_text}
@@ -8,7 +11,10 @@ use Rattle.std.proofs.lemmas.Slice.Eq.{bytes_eq-Decides}
 use Rattle.std.proofs.lemmas.Map.Text.{hash_map_updates_text}
 use Rattle.protobuf_parse_model.specs.Descriptors.{Text}
 use Rattle.std.proofs.lemmas.List.{flat_map_more, map-append, map_more}
+use Rattle.std.proofs.Math.Path.{fun_ext}
+use Rattle.std.proofs.lemmas.Bool.{cases_eq, eq-eqb, ne_eqb}
 use Rattle.std.proofs.lemmas.List.Elements.{filter-append}
+use Rattle.std.proofs.lemmas.List.Folds.{find-append}
 use Rattle.protobuf_parse_syntax.proofs.Messages.{view_parts, views_message}
 use Rattle.protobuf_parse_syntax.specs.declared.tree.declaration.Message.{Message}
 use Rattle.protobuf_parse_syntax.specs.declared.tree.declaration.MessageStatement.TheVariants as statement
@@ -17,9 +23,13 @@ use Rattle.protobuf_parse_model.specs.declared.scope.seen.TypeKind.{TypeKind}
 use Rattle.protobuf_parse_model.specs.declared.scope.seen.TypeKind.TheVariants as kind
 use Rattle.protobuf_parse_model.specs.declared.scope.seen.Declaration.{Declaration}
 use Rattle.protobuf_parse_model.specs.declared.scope.seen.Declarations.{Declarations}
-use Rattle.protobuf_parse_model.specs.Declarations.{Scope, DeclaredType, a_message, declare, file_types, full_name, inside, message_types, types_in, types_of}
-use Rattle.protobuf_parse_model.specs.Contexts.{declared_as, kind_view}
-use Rattle.protobuf_parse_model.specs.Tables.{Adds, Tells, declaration_of, declared_by, declared_in}
+use Rattle.protobuf_parse_model.specs.declared.scope.seen.Seen.{Seen}
+use Rattle.protobuf_parse_model.specs.Declarations as declarations
+use Rattle.protobuf_parse_model.specs.Lookup.{declared}
+use Rattle.protobuf_parse_model.specs.FileDescriptor.{types_of_files}
+use Rattle.protobuf_parse_model.specs.Declarations.{Scope, DeclaredType, a_message, an_enum, declare, file_types, full_name, inside, message_types, types_in, types_of}
+use Rattle.protobuf_parse_model.specs.Contexts.{declared_as, declared_type, first_reached, kind_view, seen_types}
+use Rattle.protobuf_parse_model.specs.Tables.{Adds, Tells, declaration_of, declared_by, declared_in, kind_of, picked}
 
 -- ---- a declaration more
 
@@ -115,3 +125,124 @@ pub tells_more : (old new : Declarations) (files : List FileSyntax) (t : FileSyn
 tells_more old new files t file adds at tells text =
     let number : 0 + length files ≡ file = omega arith in
     adds text ∙ ap (λ ds. ds ++ declared_by text file (file_types t)) (tells text) ∙ sym (declared_in-push text 0 file files t number)
+
+-- ---- what a file sees
+
+-- the numbers rise, from n on
+abbrev Rises : ℕ → List ℕ → Type 0
+Rises n [] = Unit {0}
+Rises n (r ∷ rs) = (n ≤ r) × Rises (suc r) rs
+
+rises : (n : ℕ) (rs : List ℕ) → IsStrictlyIncreasing rs → (0 < length rs → n ≤ get_or rs 0 0) → Rises n rs
+rises n [] up low = tt
+rises n (r ∷ rs) up low = (low (omega arith), rises (suc r) rs later next)
+  where
+    later : IsStrictlyIncreasing rs
+    later k lt =
+        let e : suc k + 1 ≡ suc (k + 1) = omega arith in
+        let g = up (suc k) (omega (arith, lt)) in
+        subst (λ (j : ℕ). get_or rs k 0 < get_or (r ∷ rs) j 0) e g
+
+    next : 0 < length rs → suc r ≤ get_or rs 0 0
+    next some = omega (arith, up 0 (omega (arith, some)))
+
+-- a number below them all is none of them
+absent : (n : ℕ) (rs : List ℕ) → Rises (suc n) rs → list_any (nat_eq n) rs ≡ false
+absent n [] h = refl
+absent n (r ∷ rs) h =
+    ap (λ b. b || list_any (nat_eq n) rs) (ne_eqb n r (λ e. absurd (omega (arith, h.0)))) ∙ absent n rs (lower (suc n) (suc r) rs (omega (arith, h.0)) h.1)
+  where
+    lower : (m k : ℕ) (xs : List ℕ) → m ≤ k → Rises k xs → Rises m xs
+    lower m k [] le g = tt
+    lower m k (x ∷ xs) le g = (omega (arith, g.0), g.1)
+
+none_picked : (files : List FileSyntax) (n : ℕ) (rs : List ℕ) → ((k : ℕ) → n ≤ k → slice_get files k ≡ None) → Rises n rs → picked files rs ≡ []
+none_picked files n [] none h = refl
+none_picked files n (r ∷ rs) none h =
+    ap (λ o. option_to_list o ++ picked files rs) (none r h.0) ∙ none_picked files (suc r) rs (λ k le. none k (omega (arith, h.0))) h.1
+
+kind_back : (k : declarations.TypeKind) → kind_view (kind_of k) ≡ k
+kind_back a_message = refl
+kind_back an_enum = refl
+
+module _ (name : Text) where
+  abbrev is_named : DeclaredType → Bool
+  is_named d = bytes_eq d.name name
+
+  abbrev meant : Option TypeKind → Option DeclaredType
+  meant k = option_map (declared_type name) k
+
+  back : (d : DeclaredType) → d.name ≡ name → declared_type name (kind_of d.what) ≡ d
+  back d e =
+      let named : List ℕ → DeclaredType = λ text. record { name = text; what = d.what } in
+      let of_kind : declarations.TypeKind → DeclaredType = λ w. record { name = name; what = w } in
+      ap of_kind (kind_back d.what) ∙ ap named (sym e)
+
+  first_of : (reach : List ℕ) (n : ℕ) (b : Bool) → list_any (nat_eq n) reach ≡ b → (ds : List DeclaredType) (rest : List Declaration)
+      → meant (first_reached reach (declared_by name n ds ++ rest)) ≡ (if b then option_or (find is_named ds) (meant (first_reached reach rest)) else meant (first_reached reach rest))
+  first_of reach n true e [] rest = refl
+  first_of reach n false e [] rest = refl
+  first_of reach n true e (d ∷ ds) rest = at (is_named d) refl (first_of reach n true e ds rest)
+    where
+      at : (c : Bool) → is_named d ≡ c → meant (first_reached reach (declared_by name n ds ++ rest)) ≡ option_or (find is_named ds) (meant (first_reached reach rest))
+          → meant (first_reached reach (map (declaration_of n) (cond c (d ∷ filter is_named ds) (filter is_named ds)) ++ rest)) ≡ option_or (cond c (Some d) (find is_named ds)) (meant (first_reached reach rest))
+      at false h more = more
+      at true h more = ap (λ z. meant (if z then Some (kind_of d.what) else first_reached reach (declared_by name n ds ++ rest))) e ∙ ap Some (back d ((bytes_eq-Decides d.name name).0 h))
+  first_of reach n false e (d ∷ ds) rest = at (is_named d) refl (first_of reach n false e ds rest)
+    where
+      at : (c : Bool) → is_named d ≡ c → meant (first_reached reach (declared_by name n ds ++ rest)) ≡ meant (first_reached reach rest)
+          → meant (first_reached reach (map (declaration_of n) (cond c (d ∷ filter is_named ds) (filter is_named ds)) ++ rest)) ≡ meant (first_reached reach rest)
+      at false h more = more
+      at true h more = ap (λ z. meant (if z then Some (kind_of d.what) else first_reached reach (declared_by name n ds ++ rest))) e ∙ more
+
+  module _ (files : List FileSyntax) (reach : List ℕ) where
+    -- the files from the number n on, and those of the numbers that are n or more
+    record Rest (ts : List FileSyntax) (n : ℕ) (rs : List ℕ) : Type 0 where
+      stand : (i : ℕ) → slice_get files (n + i) ≡ slice_get ts i
+      same : (k : ℕ) → n ≤ k → list_any (nat_eq k) reach ≡ list_any (nat_eq k) rs
+      rise : Rises n rs
+
+    stand-next : (t : FileSyntax) (ts : List FileSyntax) (n : ℕ) → ((i : ℕ) → slice_get files (n + i) ≡ slice_get (t ∷ ts) i) → (i : ℕ) → slice_get files (suc n + i) ≡ slice_get ts i
+    stand-next t ts n stand i = let e : suc n + i ≡ n + suc i = omega arith in ap (slice_get files) e ∙ stand (suc i)
+
+    skip : (t : FileSyntax) (ts : List FileSyntax) (n : ℕ) (rs : List ℕ) → Rest (t ∷ ts) n rs → Rises (suc n) rs → Rest ts (suc n) rs
+    skip t ts n rs h rise = record { stand = stand-next t ts n h.stand; same = λ k le. h.same k (omega arith); rise = rise }
+
+    keep : (t : FileSyntax) (ts : List FileSyntax) (n r : ℕ) (rs : List ℕ) → Rest (t ∷ ts) n (r ∷ rs) → n ≡ r → Rest ts (suc n) rs
+    keep t ts n r rs h e = record {
+      stand = stand-next t ts n h.stand;
+      same = λ k le. h.same k (omega arith) ∙ ap (λ b. b || list_any (nat_eq k) rs) (ne_eqb k r (λ same. absurd (omega arith)));
+      rise = subst (λ (j : ℕ). Rises (suc j) rs) (sym e) h.rise.1;
+    }
+
+    abbrev sought : List ℕ → Option DeclaredType
+    sought rs = find is_named (types_of_files (picked files rs))
+
+    sees : (ts : List FileSyntax) (n : ℕ) (rs : List ℕ) → Rest ts n rs → meant (first_reached reach (declared_in name n ts)) ≡ sought rs
+    sees [] n rs h = ap (λ fs. find is_named (types_of_files fs)) (sym (none_picked files n rs none h.rise))
+      where
+        none : (k : ℕ) → n ≤ k → slice_get files k ≡ None
+        none k le = let e : k ≡ n + (k - n) = omega arith in ap (slice_get files) e ∙ h.stand (k - n)
+    sees (t ∷ ts) n [] h = first_of reach n false (h.same n (omega arith)) (file_types t) (declared_in name (suc n) ts) ∙ sees ts (suc n) [] (skip t ts n [] h tt)
+    sees (t ∷ ts) n (r ∷ rs) h =
+        elim (cases_eq n r) [ inl e ↦ here e (sees ts (suc n) rs (keep t ts n r rs h e)) | inr ne ↦ let up : Rises (suc n) (r ∷ rs) = (omega (arith, ne, h.rise.0), h.rise.1) in later up (sees ts (suc n) (r ∷ rs) (skip t ts n (r ∷ rs) h up)) ]
+      where
+        here : n ≡ r → meant (first_reached reach (declared_in name (suc n) ts)) ≡ sought rs → meant (first_reached reach (declared_in name n (t ∷ ts))) ≡ sought (r ∷ rs)
+        here e more =
+            let among : list_any (nat_eq n) reach ≡ true = h.same n (omega arith) ∙ ap (λ b. b || list_any (nat_eq n) rs) (eq-eqb n r e) in
+            let number : r ≡ n + 0 = omega (arith, e) in
+            let file : slice_get files r ≡ Some t = ap (slice_get files) number ∙ h.stand 0 in
+            first_of reach n true among (file_types t) (declared_in name (suc n) ts) ∙ ap (λ o. option_or (find is_named (file_types t)) o) more
+            ∙ sym (find-append is_named (file_types t) (types_of_files (picked files rs)))
+            ∙ ap (λ o. find is_named (types_of_files (option_to_list o ++ picked files rs))) (sym file)
+
+        later : Rises (suc n) (r ∷ rs) → meant (first_reached reach (declared_in name (suc n) ts)) ≡ sought (r ∷ rs) → meant (first_reached reach (declared_in name n (t ∷ ts))) ≡ sought (r ∷ rs)
+        later up more = first_of reach n false (h.same n (omega arith) ∙ absent n (r ∷ rs) up) (file_types t) (declared_in name (suc n) ts) ∙ more
+
+-- Where the table tells of the files, a file sees just the types of those that it reaches.
+pub seen_types_are : (seen : Seen) (files : List FileSyntax) → Tells seen.declarations.now files → seen_types seen ≡ declared (types_of_files (picked files seen.reach.now))
+seen_types_are seen files tells = fun_ext (λ (name : Text).
+    let reach = seen.reach.now in
+    let first = ap (λ ds. option_map (declared_type name) (first_reached reach ds)) (tells name) in
+    let rest : Rest name files reach files 0 reach = record { stand = λ i. ap (slice_get files) (zero-add i); same = λ k le. refl; rise = rises 0 reach seen.ascending (λ some. omega arith) } in
+    first ∙ sees name files reach files 0 reach rest)

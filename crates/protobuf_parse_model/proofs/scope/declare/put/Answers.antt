@@ -14,5 +14,5 @@ returns c =
     let old = c.args.table.now.types in
     let new = map_with_value c.in_ok-table.field-0 c.push.new.self in
     λ q. let e : listed (get_by_text new q) ≡ listed (get_by_text old q) ++ (if bytes_eq (string_bytes c.args.name) q then c.args.declaration ∷ [] else []) =
-        put_last old new c.args.name c.new.result c.push.new.self c.args.declaration (c.in_ok-table.ensures.update.0 c.push.new.self) c.new.ensures.items items q in
-        grind (arith, e)
+    put_last old new c.args.name c.new.result c.push.new.self c.args.declaration (c.in_ok-table.ensures.update.0 c.push.new.self) c.new.ensures.items items q in
+    grind (arith, e)
