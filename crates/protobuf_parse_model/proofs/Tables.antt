@@ -1,12 +1,12 @@
 -- The table of declared types, step by step.
-use Rattle.std.proofs.Common.{◌≡◌, ℕ, zero, suc, List, [], ◌∷◌, ◌++◌, Bool, true, false, cond, if◌then◌else◌, Option, Some, None, refl, sym, ap, ◌∙◌, bytes_eq, append-nil, append_assoc, map, filter, flat_map, ◌+◌, ◌<◌, length, take, get_or, subst, arith, ◌≤◌, ◌-◌, ◌||◌, ◌⊎◌, inl, inr, nat_eq, slice_get, option_map, zero-add}
+use Rattle.std.proofs.Common.{◌≡◌, ℕ, suc, List, [], ◌∷◌, ◌++◌, Bool, true, false, cond, if◌then◌else◌, Option, Some, None, refl, sym, ap, ◌∙◌, bytes_eq, append-nil, append_assoc, map, filter, flat_map, ◌+◌, ◌<◌, length, take, get_or, subst, arith, ◌≤◌, ◌-◌, ◌||◌, inl, inr, nat_eq, slice_get, option_map, zero-add}
 use Rattle.std.specs.Prelude.{String, option_to_list, string_bytes, unwrap_or}
 use Rattle.std.specs.List.{find, list_any}
 use Rattle.std.specs.List.Sorted.{IsStrictlyIncreasing}
 use Rattle.std.specs.Option.{option_or}
 use Rattle.std.specs.Global.{Global, Vec}
 use Rattle.std.specs.String.{string_eq}
-use Rattle.std.specs.HashMap.{HashMap, UpdatesBy, get_by, get_by_text}
+use Rattle.std.specs.HashMap.{HashMap, UpdatesBy, get_by_text}
 use Rattle.std.proofs.lemmas.Slice.Eq.{bytes_eq-Decides}
 use Rattle.std.proofs.lemmas.Map.Text.{hash_map_updates_text}
 use Rattle.protobuf_parse_model.specs.Descriptors.{Text}

@@ -1,7 +1,6 @@
 //! What files declare, by full name.
 
-ghost use Rattle.std.specs.Prelude.{◌≡◌, ℕ, List, [], ◌∷◌, ◌++◌, length, map, bytes_eq, if◌then◌else◌, string_bytes, unwrap_or, OnOk, IfOk};
-ghost use Rattle.std.specs.Borrow.{Bor};
+ghost use Rattle.std.specs.Prelude.{◌≡◌, List, [], ◌∷◌, ◌++◌, length, bytes_eq, if◌then◌else◌, string_bytes, IfOk, OnOk};
 ghost use Rattle.protobuf_parse_base.specs.Names.{relative_idents};
 ghost use Rattle.protobuf_parse_syntax.specs.Trees.{FileSyntax, file_view, message_statement_view, message_view, statement_view};
 ghost use Rattle.protobuf_parse_model.specs.Declarations as names;
@@ -25,8 +24,8 @@ impl Declarations {
         }
     }
 
-    /// Adds each message and each enum that a file declares, as declared by the file with that number. The one
-    /// error is that memory is short.
+    /// Adds each message and each enum that a file declares, as declared by the file with that number.
+    /// The one error is that memory is short: nothing is known of the table then.
     pub fn add(&mut self, alloc: Global, file: usize, tree: &FileTree) -> Result<(), AllocError>
         ensures { OnOk result ((files : List FileSyntax) → length files ≡ file → Tells self.old files → Tells self.new (files ++ file_view tree.now ∷ [])) }
     {
@@ -54,11 +53,11 @@ fn add_declared<'a>(
         FileStatement::Enumeration(inner) => {
             add_type(table, alloc, file, scope, &inner.name, TypeKind::Enum)
         }
-        FileStatement::Import(_) => Ok(()),
-        FileStatement::Package(_) => Ok(()),
-        FileStatement::Option(_) => Ok(()),
-        FileStatement::Extend(_) => Ok(()),
-        FileStatement::Service(_) => Ok(()),
+        FileStatement::Import(_)
+        | FileStatement::Package(_)
+        | FileStatement::Option(_)
+        | FileStatement::Extend(_)
+        | FileStatement::Service(_) => Ok(()),
     }
 }
 
@@ -120,12 +119,12 @@ fn add_statement<'a>(
         MessageStatement::Enumeration(inner) => {
             add_type(table, alloc, file, scope, &inner.name, TypeKind::Enum)
         }
-        MessageStatement::Reserved(_) => Ok(()),
-        MessageStatement::OneOf(_) => Ok(()),
-        MessageStatement::Extend(_) => Ok(()),
-        MessageStatement::Extensions(_) => Ok(()),
-        MessageStatement::Option(_) => Ok(()),
-        MessageStatement::Field(_) => Ok(()),
+        MessageStatement::Reserved(_)
+        | MessageStatement::OneOf(_)
+        | MessageStatement::Extend(_)
+        | MessageStatement::Extensions(_)
+        | MessageStatement::Option(_)
+        | MessageStatement::Field(_) => Ok(()),
     }
 }
 

@@ -1,8 +1,8 @@
-use Rattle.std.proofs.Common.{◌≡◌, ◌∙◌, ◌∷◌, [], ap, sym, subst, string_bytes, List, map, flat_map}
+use Rattle.std.proofs.Common.{◌∙◌, ◌∷◌, [], ap, sym, subst, string_bytes, List, map, flat_map}
 use Rattle.std.proofs.lemmas.List.{take_all}
 use Rattle.std.proofs.lemmas.Result.{on_ok_weaker}
 use Rattle.protobuf_parse_syntax.specs.declared.tree.declaration.MessageStatement.{MessageStatement}
-use Rattle.protobuf_parse_syntax.specs.Trees.{MessageStatementSyntax, message_statement_view}
+use Rattle.protobuf_parse_syntax.specs.Trees.{message_statement_view}
 use Rattle.protobuf_parse_model.specs.Declarations.{DeclaredType, Scope, a_message, declare, inside, types_of}
 use Rattle.protobuf_parse_model.specs.Contexts.{texts}
 use Rattle.protobuf_parse_model.specs.Tables.{Adds}

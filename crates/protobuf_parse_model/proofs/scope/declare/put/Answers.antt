@@ -1,9 +1,8 @@
-use Rattle.std.proofs.Common.{◌≡◌, ◌∙◌, ap, ◌++◌, ◌∷◌, [], unwrap_or, String, string_bytes, arith, bytes_eq, if◌then◌else◌}
-use Rattle.std.specs.Global.{Global, Vec}
+use Rattle.std.proofs.Common.{◌≡◌, ◌∙◌, ap, ◌++◌, ◌∷◌, [], unwrap_or, string_bytes, arith, bytes_eq, if◌then◌else◌}
+use Rattle.std.specs.Global.{Vec}
 use Rattle.std.specs.HashMap.{get_by_text}
 use Rattle.indexmap.specs.Entry.{map_with_value}
 use Rattle.protobuf_parse_model.specs.declared.scope.seen.Declaration.{Declaration}
-use Rattle.protobuf_parse_model.specs.Descriptors.{Text}
 use Rattle.protobuf_parse_model.proofs.Tables.{put_last, listed}
 use Rattle.protobuf_parse_model.proofs.scope.declare.put.Goals as goal
 

@@ -1,4 +1,4 @@
-use Rattle.std.proofs.Common.{◌≡◌, ◌∙◌, List, ap, map, flat_map, subst}
+use Rattle.std.proofs.Common.{◌∙◌, List, ap, map, flat_map, subst}
 use Rattle.std.proofs.lemmas.List.{take_all}
 use Rattle.protobuf_parse_syntax.specs.declared.tree.FileStatement.{FileStatement}
 use Rattle.protobuf_parse_syntax.specs.Trees.{file_view, statement_view}
