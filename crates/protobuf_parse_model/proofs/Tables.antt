@@ -6,6 +6,7 @@ use Rattle.std.specs.List.Sorted.{IsStrictlyIncreasing}
 use Rattle.std.specs.Option.{option_or}
 use Rattle.std.specs.Global.{Global, Vec}
 use Rattle.std.specs.String.{string_eq}
+use Rattle.std.specs.Map.{lookup}
 use Rattle.std.specs.HashMap.{HashMap, UpdatesBy, get_by_text}
 use Rattle.std.proofs.lemmas.Slice.Eq.{bytes_eq-Decides}
 use Rattle.std.proofs.lemmas.Map.Text.{hash_map_updates_text}
@@ -111,6 +112,10 @@ adds_next old between new file types view before xs i x lt is so_far more =
     subst (λ ds. Adds old new file ds) all (adds_more old between new file (before ++ flat_map types (map view (take i xs))) (types (view x)) so_far more)
 
 -- ---- files, one after another
+
+-- a table with no name tells of no file
+pub tells_none : (table : Declarations) → table.types.entries ≡ [] → Tells table []
+tells_none table none text = ap (λ (es : List (String Global × Vec Declaration)). listed (lookup (λ (s : String Global). bytes_eq text (string_bytes s)) es)) none
 
 declared_in-push : (text : Text) (n file : ℕ) (files : List FileSyntax) (t : FileSyntax) → n + length files ≡ file → declared_in text n (files ++ t ∷ []) ≡ declared_in text n files ++ declared_by text file (file_types t)
 declared_in-push text n file [] t at =
