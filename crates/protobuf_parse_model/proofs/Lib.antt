@@ -5,6 +5,7 @@ pub mod FirstPath
 pub mod TreeViews
 pub mod Lookups
 pub mod Scopes
+pub mod Tables
 mod Rows
 pub mod Levels
 pub mod Decodings

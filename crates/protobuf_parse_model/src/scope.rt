@@ -7,6 +7,7 @@ ghost use Rattle.protobuf_parse_model.specs.Declarations as names;
 ghost use Rattle.protobuf_parse_model.specs.Environment.{type_named};
 ghost use Rattle.protobuf_parse_model.specs.Contexts.{environment_in, first_reached, meaning_view, seen_types, texts};
 
+mod declare;
 mod seen;
 
 use crate::descriptor::FieldType;
