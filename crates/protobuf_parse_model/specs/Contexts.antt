@@ -13,13 +13,18 @@ use Rattle.protobuf_parse_model.specs.declared.scope.seen.Seen.{Seen}
 use Rattle.protobuf_parse_model.specs.declared.scope.Context.{Context}
 use Rattle.protobuf_parse_model.specs.declared.scope.Meaning.{Meaning}
 use Rattle.protobuf_parse_model.specs.declared.scope.ResolvedType.{ResolvedType}
-use Rattle.protobuf_parse_model.specs.Descriptors.{Text, FieldDescriptor, OneofDescriptor, EnumDescriptor, MessageDescriptor, field_view, oneof_view, enum_view, message_view}
+use Rattle.protobuf_parse_model.specs.Descriptors.{Text, Range, extension_range_view, reserved_range_view, FieldDescriptor, OneofDescriptor, EnumDescriptor, MessageDescriptor, field_view, oneof_view, enum_view, message_view}
 use Rattle.protobuf_parse_model.specs.declared.convert.place.FieldPlace.{FieldPlace}
 use Rattle.protobuf_parse_model.specs.Fields as fields
 use Rattle.protobuf_parse_model.specs.declared.convert.field.FieldSaid.{FieldSaid}
 use Rattle.protobuf_parse_model.specs.declared.descriptor.FieldType.{FieldType}
 use Rattle.protobuf_parse_model.specs.declared.convert.statement.DeclaredField.{DeclaredField}
-use Rattle.protobuf_parse_model.specs.Messages.{messages_behind, oneofs_of, fields_of, fields_from, nested_of, enums_of, extensions_of}
+use Rattle.protobuf_parse_model.specs.Messages.{messages_behind, oneofs_of, fields_of, fields_from, nested_of, enums_of, extensions_of, extension_ranges, reserves, options_in_message, exclusive, names_of_oneofs, names_of_enums, names_of_messages}
+use Rattle.protobuf_parse_model.specs.Enums.{names_reserved, ranges_reserved}
+use Rattle.protobuf_parse_model.specs.Faults.{Fault}
+use Rattle.protobuf_parse_model.specs.Duplicates.{duplicates}
+use Rattle.protobuf_parse_model.specs.Fields.{names_of_fields}
+use Rattle.protobuf_parse_model.specs.declared.convert.rest.Rest.{Rest}
 use Rattle.protobuf_parse_model.specs.declared.convert.lists.DeclaredFields.{DeclaredFields}
 use Rattle.protobuf_parse_model.specs.declared.convert.body.Body.{Body}
 use Rattle.protobuf_parse_syntax.specs.Trees.{OptionSyntax, FieldStatementSyntax, MessageStatementSyntax, ReservedSyntax, EnumValueSyntax, MethodSyntax, reserved_view, value_view, method_view, field_statement_view}
@@ -27,8 +32,8 @@ use Rattle.protobuf_parse_syntax.specs.declared.tree.field.FieldStatement.{Field
 use Rattle.protobuf_parse_syntax.specs.declared.tree.declaration.Method.{Method}
 use Rattle.protobuf_parse_syntax.specs.declared.tree.declaration.Reserved.{Reserved}
 use Rattle.protobuf_parse_syntax.specs.declared.tree.declaration.EnumValue.{EnumValue}
-use Rattle.protobuf_parse_model.specs.Options.{FieldOptionsSet, field_options_view}
-use Rattle.protobuf_parse_model.specs.OptionsSet.{field_options}
+use Rattle.protobuf_parse_model.specs.Options.{FieldOptionsSet, MessageOptionsSet, field_options_view, message_options_view}
+use Rattle.protobuf_parse_model.specs.OptionsSet.{field_options, message_options}
 use Rattle.protobuf_parse_model.specs.OptionViews.{nowhere}
 use Rattle.protobuf_parse_model.specs.Fields.{FieldTypeOf}
 use Rattle.protobuf_parse_model.specs.Declarations as declared
@@ -100,6 +105,28 @@ with_statement env b s = record { field = b.field ++ fields_of env (length b.one
 
 abbrev pub body_of : Environment → List MessageStatementSyntax → BodyParts
 body_of env ss = record { field = fields_from env 0 ss; oneof_decl = flat_map (oneofs_of env) ss; nested_type = flat_map (nested_of env) ss; enum_type = flat_map (enums_of env) ss; extension = flat_map (extensions_of env) ss }
+
+-- E1 for two of a kind that have one name
+abbrev pub names_faults : BodyParts → List Fault
+names_faults b =
+    duplicates (names_of_fields b.field)
+    ++ duplicates (names_of_oneofs b.oneof_decl)
+    ++ duplicates (names_of_fields b.extension)
+    ++ duplicates (names_of_enums b.enum_type)
+    ++ duplicates (names_of_messages b.nested_type)
+
+-- the ranges and the options of a message
+pub record RestParts : Type 0 where
+  pub extension_range : List Range
+  pub reserved_range : List Range
+  pub reserved_name : List Text
+  pub options : Option MessageOptionsSet
+
+abbrev pub rest_view : Rest → RestParts
+rest_view r = record { extension_range = map extension_range_view r.extension_range.items; reserved_range = map reserved_range_view r.reserved_range.items; reserved_name = map string_bytes r.reserved_name.items; options = option_map message_options_view r.options }
+
+abbrev pub rest_of : List MessageStatementSyntax → RestParts
+rest_of body = record { extension_range = map exclusive (flat_map extension_ranges body); reserved_range = map exclusive (flat_map ranges_reserved (flat_map reserves body)); reserved_name = flat_map names_reserved (flat_map reserves body); options = message_options nowhere (flat_map options_in_message body) }
 
 -- what the options of a field say
 pub record Said : Type 0 where

@@ -223,14 +223,17 @@ body_duplicates env body nested =
     ++ duplicates (names_of_enums (flat_map (enums_of env) body))
     ++ duplicates (names_of_messages nested)
 
+-- in its ranges and its options
+abbrev pub rest_faults : Text → List MessageStatementSyntax → List Fault
+rest_faults name body =
+    flat_map (range_faults name) (flat_map extension_ranges body)
+    ++ flat_map (range_faults name) (flat_map ranges_reserved (flat_map reserves body))
+    ++ options_faults message_table (flat_map options_in_message body)
+
 -- of the message of that name, but those that stand in one statement of its body
 abbrev pub whole_faults : Environment → Text → List MessageStatementSyntax → List MessageDescriptor → List Fault
 whole_faults env name body nested =
-    positions_faults name (length body)
-    ++ body_duplicates (inside env name) body nested
-    ++ flat_map (range_faults name) (flat_map extension_ranges body)
-    ++ flat_map (range_faults name) (flat_map ranges_reserved (flat_map reserves body))
-    ++ options_faults message_table (flat_map options_in_message body)
+    positions_faults name (length body) ++ body_duplicates (inside env name) body nested ++ rest_faults name body
 
 abbrev pub oneof_faults : Environment → OneofSyntax → List Fault
 oneof_faults env o = flat_map (field_statement_faults env) (flat_map oneof_fields o.body) ++ options_faults oneof_table (options_in_oneof o)

@@ -12,6 +12,7 @@ mod options;
 mod place;
 mod refuse;
 mod reserved;
+mod rest;
 mod service;
 mod statement;
 mod types;
