@@ -1,5 +1,6 @@
 //! From a file's tree to its descriptor.
 
+mod customs;
 mod enumeration;
 mod field;
 mod generated;
