@@ -42,11 +42,19 @@ fn refuse_in_statement(alloc: Global, statement: &FileStatement) -> Result<(), E
 
 /// In a message, and in those inside it.
 #[cycle(message)]
-#[tactic(auto, using(crate::proofs::Blaming::blames_at))]
+#[tactic(auto, using(crate::proofs::TreeViews::views_message))]
 fn refuse_in_message(alloc: Global, message: &Message) -> Result<(), ElabFailure>
     ensures { Elaborates (λ u. u) result (spec.unsupported_message (tree.message_view message.now)) tt }
 {
-    for statement in &message.body {
+    refuse_in_body(alloc, &message.body)
+}
+
+#[cycle(message)]
+#[tactic(auto, using(crate::proofs::Blaming::blames_at))]
+fn refuse_in_body(alloc: Global, body: &[MessageStatement]) -> Result<(), ElabFailure>
+    ensures { Elaborates (λ u. u) result (flat_map spec.unsupported_of (map tree.message_statement_view body.now)) tt }
+{
+    for statement in body {
         refuse_in_message_statement(alloc, statement)?;
     }
     Ok(())
@@ -99,7 +107,6 @@ fn refuse_in_extend(alloc: Global, extend: &Extend) -> Result<(), ElabFailure>
     Ok(())
 }
 
-#[tactic(auto, using(crate::specs::Statements::group_body_is))]
 fn refuse_in_field_statement(alloc: Global, statement: &FieldStatement) -> Result<(), ElabFailure>
     ensures { Elaborates (λ u. u) result (spec.unsupported_field_statement (tree.field_statement_view statement.now)) tt }
 {
@@ -110,11 +117,18 @@ fn refuse_in_field_statement(alloc: Global, statement: &FieldStatement) -> Resul
 }
 
 /// In the fields of a group. What a group inside it sets is not looked at: no group may stand there.
-#[tactic(auto, using(crate::proofs::Blaming::blames_at))]
+#[tactic(auto, using(crate::specs::Statements::group_body_is))]
 fn refuse_in_group(alloc: Global, group: &Group) -> Result<(), ElabFailure>
-    ensures { Elaborates (λ u. u) result (flat_map spec.unsupported_in_group (tree.group_view group.now).fields) tt }
+    ensures { Elaborates (λ u. u) result (spec.unsupported_field_statement (tree.group_of (tree.group_view group.now))) tt }
 {
-    for statement in &group.fields {
+    refuse_in_fields(alloc, &group.fields)
+}
+
+#[tactic(auto, using(crate::proofs::Blaming::blames_at))]
+fn refuse_in_fields(alloc: Global, statements: &[FieldStatement]) -> Result<(), ElabFailure>
+    ensures { Elaborates (λ u. u) result (flat_map spec.unsupported_in_group (map tree.field_statement_view statements.now)) tt }
+{
+    for statement in statements {
         refuse_in_grouped(alloc, statement)?;
     }
     Ok(())
