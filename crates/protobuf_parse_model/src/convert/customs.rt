@@ -1,6 +1,6 @@
 //! Custom options, which have no bytes yet: where one is set, the file is refused.
 
-ghost use Rattle.std.specs.Prelude.{◌≡◌, map, flat_map};
+ghost use Rattle.std.specs.Prelude.{map, flat_map};
 ghost use Rattle.protobuf_parse_syntax.specs.Trees as tree;
 ghost use Rattle.protobuf_parse_model.specs.Faults.{Elaborates};
 ghost use Rattle.protobuf_parse_model.specs.Unsupported as spec;
