@@ -12,6 +12,7 @@ use Rattle.protobuf_parse_model.specs.Environment.{Environment}
 use Rattle.protobuf_parse_model.specs.BuiltinOptions.{value_if_named, values_named, last_value}
 use Rattle.protobuf_parse_model.specs.Messages.{oneofs_of, fields_of, fields_from, nested_of, nested_in, message_of, statement_faults, faults_in, message_faults}
 use Rattle.protobuf_parse_model.specs.OptionSets.{sets_of, sets_in, message_sets}
+use Rattle.protobuf_parse_model.specs.Unsupported.{unsupported_of, unsupported_inside, unsupported_message}
 
 -- ---- declarations
 
@@ -60,6 +61,15 @@ sets_in_is scope (s ∷ ss) = rw (sets_in_is scope ss) refl
 
 pub sets_of_message : (scope : Scope) (m : MessageSyntax) → sets_of scope (nested_message m) ≡ message_sets scope m
 sets_of_message scope m = rw (message_body_is m.body, sets_in_is (inside scope m.name) m.body) refl
+
+-- ---- what has no descriptor yet
+
+pub unsupported_inside_is : (ss : List MessageStatementSyntax) → unsupported_inside (message_statements ss) ≡ flat_map unsupported_of ss
+unsupported_inside_is [] = refl
+unsupported_inside_is (s ∷ ss) = rw (unsupported_inside_is ss) refl
+
+pub unsupported_of_message : (m : MessageSyntax) → unsupported_of (nested_message m) ≡ unsupported_message m
+unsupported_of_message m = unsupported_inside_is m.body
 
 -- ---- places among oneofs
 

@@ -25,6 +25,7 @@ use Rattle.protobuf_parse_model.specs.Faults.{Fault}
 use Rattle.protobuf_parse_model.specs.Duplicates.{duplicates}
 use Rattle.protobuf_parse_model.specs.Fields.{names_of_fields}
 use Rattle.protobuf_parse_model.specs.declared.convert.rest.Rest.{Rest}
+use Rattle.protobuf_parse_model.specs.declared.descriptor.ReservedRange.{ReservedRange}
 use Rattle.protobuf_parse_model.specs.declared.convert.lists.DeclaredFields.{DeclaredFields}
 use Rattle.protobuf_parse_model.specs.declared.convert.body.Body.{Body}
 use Rattle.protobuf_parse_syntax.specs.Trees.{OptionSyntax, FieldStatementSyntax, MessageStatementSyntax, ReservedSyntax, EnumValueSyntax, MethodSyntax, reserved_view, value_view, method_view, field_statement_view}
@@ -124,6 +125,9 @@ pub record RestParts : Type 0 where
 
 abbrev pub rest_view : Rest → RestParts
 rest_view r = record { extension_range = map extension_range_view r.extension_range.items; reserved_range = map reserved_range_view r.reserved_range.items; reserved_name = map string_bytes r.reserved_name.items; options = option_map message_options_view r.options }
+
+abbrev pub reserved_parts : Vec ReservedRange × Vec (String Global) → List Range × List Text
+reserved_parts p = (map reserved_range_view p.0.items, map string_bytes p.1.items)
 
 abbrev pub rest_of : List MessageStatementSyntax → RestParts
 rest_of body = record { extension_range = map exclusive (flat_map extension_ranges body); reserved_range = map exclusive (flat_map ranges_reserved (flat_map reserves body)); reserved_name = flat_map names_reserved (flat_map reserves body); options = message_options nowhere (flat_map options_in_message body) }

@@ -1,14 +1,12 @@
 -- The constructs that have no descriptor yet. Each is told by its word.
-use Rattle.std.specs.Prelude.{ℕ, nat_lt, List, [], ◌∷◌, ◌++◌, map, flat_map, length, codes, if◌then◌else◌}
+use Rattle.std.specs.Prelude.{ℕ, nat_lt, List, [], ◌++◌, flat_map, length, codes, if◌then◌else◌}
 use Rattle.protobuf_parse_syntax.specs.Dependencies.{imports}
-use Rattle.protobuf_parse_syntax.specs.Trees.{OptionNameSyntax, builtin, custom, OptionSyntax, FieldSyntax, FieldStatementSyntax, field, group, OneofSyntax, ExtendSyntax, EnumValueSyntax, EnumSyntax, MessageStatementSyntax, message_oneof, message_extend, message_message, message_enum, message_option, message_field, MessageStatementList, no_statements, more_statements, MessageSyntax, MethodSyntax, ServiceSyntax, StatementSyntax, file_option, file_message, file_enum, file_extend, file_service, FileSyntax}
+use Rattle.protobuf_parse_syntax.specs.Trees.{OptionNameSyntax, builtin, custom, OptionSyntax, OptionStatementSyntax, FieldSyntax, FieldStatementSyntax, field, group, OneofStatementSyntax, oneof_option, oneof_field, OneofSyntax, ExtendSyntax, EnumValueSyntax, EnumStatementSyntax, enum_option, enum_value, EnumSyntax, MessageStatementSyntax, message_oneof, message_extend, message_message, message_enum, message_option, message_field, MessageStatementList, no_statements, more_statements, MessageSyntax, MethodSyntax, ServiceStatementSyntax, service_method, service_option, ServiceSyntax, StatementSyntax, file_option, file_message, file_enum, file_extend, file_service, FileSyntax}
 use Rattle.protobuf_parse_model.specs.declared.error.ElabErrorKind.TheVariants.{Unsupported}
 use Rattle.protobuf_parse_model.specs.Descriptors.{Text}
 use Rattle.protobuf_parse_model.specs.Faults.{Fault}
 use Rattle.protobuf_parse_model.specs.Duplicates.{fault}
-use Rattle.protobuf_parse_model.specs.Statements.{group_body, oneof_fields, oneof_options}
-use Rattle.protobuf_parse_model.specs.Enums.{enum_values, options_in_enum}
-use Rattle.protobuf_parse_model.specs.Services.{methods_in, options_in_service, statement_option}
+use Rattle.protobuf_parse_model.specs.Statements.{group_body}
 
 abbrev pub unsupported : Text → List Fault
 unsupported word = fault Unsupported word
@@ -18,8 +16,14 @@ abbrev pub unsupported_name : OptionNameSyntax → List Fault
 unsupported_name (builtin name) = []
 unsupported_name (custom parts) = unsupported (codes "option")
 
+abbrev pub unsupported_option : OptionSyntax → List Fault
+unsupported_option o = unsupported_name o.name
+
 abbrev pub unsupported_options : List OptionSyntax → List Fault
-unsupported_options os = flat_map (λ (o : OptionSyntax). unsupported_name o.name) os
+unsupported_options os = flat_map unsupported_option os
+
+abbrev pub unsupported_option_statement : OptionStatementSyntax → List Fault
+unsupported_option_statement s = unsupported_option s.option
 
 -- ---- fields
 
@@ -34,8 +38,12 @@ abbrev pub unsupported_field_statement : FieldStatementSyntax → List Fault
 unsupported_field_statement (field f) = unsupported_field f
 unsupported_field_statement (group place label name number fields) = flat_map unsupported_in_group (group_body fields)
 
+abbrev pub unsupported_in_oneof : OneofStatementSyntax → List Fault
+unsupported_in_oneof (oneof_option o) = unsupported_option_statement o
+unsupported_in_oneof (oneof_field f) = unsupported_field_statement f
+
 abbrev pub unsupported_oneof : OneofSyntax → List Fault
-unsupported_oneof o = flat_map unsupported_field_statement (flat_map oneof_fields o.body) ++ unsupported_options (flat_map oneof_options o.body)
+unsupported_oneof o = flat_map unsupported_in_oneof o.body
 
 abbrev pub unsupported_extend : ExtendSyntax → List Fault
 unsupported_extend e = flat_map unsupported_field_statement e.fields
@@ -45,14 +53,23 @@ unsupported_extend e = flat_map unsupported_field_statement e.fields
 abbrev pub unsupported_value : EnumValueSyntax → List Fault
 unsupported_value v = unsupported_options v.options
 
+abbrev pub unsupported_in_enum : EnumStatementSyntax → List Fault
+unsupported_in_enum (enum_option o) = unsupported_option_statement o
+unsupported_in_enum (enum_value v) = unsupported_value v
+unsupported_in_enum _ = []
+
 abbrev pub unsupported_enum : EnumSyntax → List Fault
-unsupported_enum e = flat_map unsupported_value (flat_map enum_values e.body) ++ unsupported_options (flat_map options_in_enum e.body)
+unsupported_enum e = flat_map unsupported_in_enum e.body
 
 abbrev pub unsupported_method : MethodSyntax → List Fault
-unsupported_method m = unsupported_options (map statement_option m.options)
+unsupported_method m = flat_map unsupported_option_statement m.options
+
+abbrev pub unsupported_in_service : ServiceStatementSyntax → List Fault
+unsupported_in_service (service_method m) = unsupported_method m
+unsupported_in_service (service_option o) = unsupported_option_statement o
 
 abbrev pub unsupported_service : ServiceSyntax → List Fault
-unsupported_service s = flat_map unsupported_method (flat_map methods_in s.body) ++ unsupported_options (flat_map options_in_service s.body)
+unsupported_service s = flat_map unsupported_in_service s.body
 
 -- ---- messages
 
@@ -64,7 +81,7 @@ abbrev mutual
   unsupported_of (message_extend e) = unsupported_extend e
   unsupported_of (message_message place name body) = unsupported_inside body
   unsupported_of (message_enum e) = unsupported_enum e
-  unsupported_of (message_option o) = unsupported_options (o.option ∷ [])
+  unsupported_of (message_option o) = unsupported_option_statement o
   unsupported_of _ = []
 
   pub unsupported_inside : MessageStatementList → List Fault
@@ -81,7 +98,7 @@ unsupported_statement (file_message m) = unsupported_message m
 unsupported_statement (file_enum e) = unsupported_enum e
 unsupported_statement (file_extend e) = unsupported_extend e
 unsupported_statement (file_service s) = unsupported_service s
-unsupported_statement (file_option o) = unsupported_options (o.option ∷ [])
+unsupported_statement (file_option o) = unsupported_option_statement o
 unsupported_statement _ = []
 
 -- of so many imports: more than have a position. No text is so long, so that this stands in no file that was read

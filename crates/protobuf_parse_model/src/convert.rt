@@ -1,6 +1,7 @@
 //! From a file's tree to its descriptor.
 
 mod body;
+mod customs;
 mod enumeration;
 mod field;
 mod generated;

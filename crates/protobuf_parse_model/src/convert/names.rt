@@ -40,10 +40,7 @@ pub fn names_of_oneofs(
 }
 
 /// The names of enums.
-pub fn names_of_enums(
-    alloc: Global,
-    enums: &[EnumDescriptorProto],
-) -> Result<Vec<&str>, AllocError>
+pub fn names_of_enums(alloc: Global, enums: &[EnumDescriptorProto]) -> Result<Vec<&str>, AllocError>
     ensures { IfOk result (λ v. texts v.items ≡ bodies.names_of_enums (map described.enum_view enums.now)) }
 {
     let mut names = Vec::new(alloc);

@@ -3,7 +3,9 @@
 ghost use Rattle.std.specs.Prelude.{◌≡◌, ◌++◌, map, flat_map, option_map, IfOk};
 ghost use Rattle.protobuf_parse_syntax.specs.Trees.{message_statement_view, range_view};
 ghost use Rattle.protobuf_parse_model.specs.BuiltinOptions.{message_table, options_faults};
-ghost use Rattle.protobuf_parse_model.specs.Contexts.{reserves_seen, rest_of, rest_view};
+ghost use Rattle.protobuf_parse_model.specs.Contexts.{reserved_parts, reserves_seen, rest_of, rest_view};
+ghost use Rattle.protobuf_parse_model.specs.Descriptors as described;
+ghost use Rattle.protobuf_parse_model.specs.Enums as enums;
 ghost use Rattle.protobuf_parse_model.specs.Faults.{Elaborates};
 ghost use Rattle.protobuf_parse_model.specs.Messages as messages;
 ghost use Rattle.protobuf_parse_model.specs.OptionViews.{nowhere, options_seen};
@@ -11,7 +13,9 @@ ghost use Rattle.protobuf_parse_model.specs.Options.{message_options_view};
 ghost use Rattle.protobuf_parse_model.specs.OptionsSet as sets;
 
 use crate::convert::options::{check_options, message_options, message_table};
-use crate::convert::reserved::{extension_ranges, names_reserved, ranges_reserved, reserved_ranges};
+use crate::convert::reserved::{
+    extension_ranges, names_reserved, ranges_reserved, reserved_ranges,
+};
 use crate::descriptor::{ExtensionRange, MessageOptions, ReservedRange};
 use crate::error::ElabFailure;
 use protobuf_parse_syntax::{FieldNumberRange, MessageStatement, ProtobufOption, Reserved};
@@ -47,4 +51,99 @@ pub fn rest_of_message(
         reserved_name,
         options,
     })
+}
+
+/// The ranges of extensions. E7 where one ends at the largest number.
+fn extensions(
+    alloc: Global,
+    name: &str,
+    body: &[MessageStatement],
+) -> Result<Vec<ExtensionRange>, ElabFailure>
+    ensures { let rs = flat_map messages.extension_ranges (map message_statement_view body.now) in
+        Elaborates (λ v. map described.extension_range_view v.items) result (flat_map (messages.range_faults name.now) rs) (map messages.exclusive rs) }
+{
+    let ranges = ranges_of_extensions(alloc, body)?;
+    extension_ranges(alloc, name, &ranges)
+}
+
+/// The ranges as they are written.
+fn ranges_of_extensions(
+    alloc: Global,
+    body: &[MessageStatement],
+) -> Result<Vec<FieldNumberRange>, AllocError>
+    ensures { IfOk result (λ v. map range_view v.items ≡ flat_map messages.extension_ranges (map message_statement_view body.now)) }
+{
+    let mut ranges = Vec::new(alloc);
+    for statement in body {
+        if let MessageStatement::Extensions(extensions) = statement {
+            ranges.extend_from_slice(&extensions.ranges)?;
+        }
+    }
+    Ok(ranges)
+}
+
+/// The reserved ranges and names. E7 where a range ends at the largest number.
+fn reserved(
+    alloc: Global,
+    name: &str,
+    body: &[MessageStatement],
+) -> Result<(Vec<ReservedRange>, Vec<String>), ElabFailure>
+    ensures { let rs = flat_map messages.reserves (map message_statement_view body.now) in
+        Elaborates reserved_parts result (flat_map (messages.range_faults name.now) (flat_map enums.ranges_reserved rs)) (map messages.exclusive (flat_map enums.ranges_reserved rs), flat_map enums.names_reserved rs) }
+{
+    let reserves = reserves(alloc, body)?;
+    reserved_by(alloc, name, &reserves)
+}
+
+/// The ranges and names that these statements reserve.
+fn reserved_by(
+    alloc: Global,
+    name: &str,
+    reserves: &[&Reserved],
+) -> Result<(Vec<ReservedRange>, Vec<String>), ElabFailure>
+    ensures { let rs = reserves_seen reserves.now in
+        Elaborates reserved_parts result (flat_map (messages.range_faults name.now) (flat_map enums.ranges_reserved rs)) (map messages.exclusive (flat_map enums.ranges_reserved rs), flat_map enums.names_reserved rs) }
+{
+    let names = names_reserved(alloc, reserves)?;
+    let ranges = ranges_reserved(alloc, reserves)?;
+    Ok((reserved_ranges(alloc, name, &ranges)?, names))
+}
+
+/// What a message reserves.
+fn reserves(alloc: Global, body: &[MessageStatement]) -> Result<Vec<&Reserved>, AllocError>
+    ensures { IfOk result (λ v. reserves_seen v.items ≡ flat_map messages.reserves (map message_statement_view body.now)) }
+{
+    let mut reserves = Vec::new(alloc);
+    for statement in body {
+        if let MessageStatement::Reserved(statement) = statement {
+            reserves.push(&statement.reserved)?;
+        }
+    }
+    Ok(reserves)
+}
+
+/// What the options of a message say.
+fn checked_options(
+    alloc: Global,
+    body: &[MessageStatement],
+) -> Result<Option<MessageOptions>, ElabFailure>
+    ensures { let os = flat_map messages.options_in_message (map message_statement_view body.now) in
+        Elaborates (λ o. option_map message_options_view o) result (options_faults message_table os) (sets.message_options nowhere os) }
+{
+    let options = options_in(alloc, body)?;
+    check_options(alloc, message_table(), &options)?;
+    Ok(message_options(alloc, &options)?)
+}
+
+/// The options of a message.
+fn options_in(alloc: Global, body: &[MessageStatement]) -> Result<Vec<&ProtobufOption>, AllocError>
+    ensures { IfOk result (λ v. options_seen v.items ≡ flat_map messages.options_in_message (map message_statement_view body.now)) }
+{
+    let mut options = Vec::new(alloc);
+    for statement in body {
+        if let MessageStatement::Option(statement) = statement {
+            options.push(&statement.option)?;
+        }
+    }
+    Ok(options)
 }
