@@ -92,13 +92,23 @@ pub fn extension_ranges(
 {
     let mut found = Vec::new(alloc);
     for range in ranges {
-        let end = end_behind(alloc, name, *range)?;
-        found.push(ExtensionRange {
-            start: range.from,
-            end,
-        })?;
+        found.push(extension_range(alloc, name, range)?)?;
     }
     Ok(found)
+}
+
+fn extension_range(
+    alloc: Global,
+    name: &str,
+    range: &FieldNumberRange,
+) -> Result<ExtensionRange, ElabFailure>
+    ensures { Elaborates described.extension_range_view result (range_faults name.now (range_view range.now)) (exclusive (range_view range.now)) }
+{
+    let end = end_behind(alloc, name, range)?;
+    Ok(ExtensionRange {
+        start: range.from,
+        end,
+    })
 }
 
 /// The reserved ranges of the message of that name. E7 where one ends at the largest number.
@@ -113,18 +123,28 @@ pub fn reserved_ranges(
 {
     let mut found = Vec::new(alloc);
     for range in ranges {
-        let end = end_behind(alloc, name, *range)?;
-        found.push(ReservedRange {
-            start: range.from,
-            end,
-        })?;
+        found.push(reserved_range(alloc, name, range)?)?;
     }
     Ok(found)
 }
 
+fn reserved_range(
+    alloc: Global,
+    name: &str,
+    range: &FieldNumberRange,
+) -> Result<ReservedRange, ElabFailure>
+    ensures { Elaborates described.reserved_range_view result (range_faults name.now (range_view range.now)) (exclusive (range_view range.now)) }
+{
+    let end = end_behind(alloc, name, range)?;
+    Ok(ReservedRange {
+        start: range.from,
+        end,
+    })
+}
+
 /// The number behind the last. E7 where the last is the largest.
-fn end_behind(alloc: Global, name: &str, range: FieldNumberRange) -> Result<i32, ElabFailure>
-    ensures { Elaborates (λ n. n) result (range_faults name.now (range_view range)) ((exclusive (range_view range)).end) }
+fn end_behind(alloc: Global, name: &str, range: &FieldNumberRange) -> Result<i32, ElabFailure>
+    ensures { Elaborates (λ n. n) result (range_faults name.now (range_view range.now)) ((exclusive (range_view range.now)).end) }
 {
     if range.to == i32::MAX {
         Err(fault(alloc, ElabErrorKind::RangeEndOverflow, name))
