@@ -13,7 +13,7 @@ use Rattle.protobuf_parse_model.specs.declared.scope.seen.Seen.{Seen}
 use Rattle.protobuf_parse_model.specs.declared.scope.Context.{Context}
 use Rattle.protobuf_parse_model.specs.declared.scope.Meaning.{Meaning}
 use Rattle.protobuf_parse_model.specs.declared.scope.ResolvedType.{ResolvedType}
-use Rattle.protobuf_parse_model.specs.Descriptors.{Text, Range, extension_range_view, reserved_range_view, FieldDescriptor, OneofDescriptor, EnumDescriptor, MessageDescriptor, field_view, oneof_view, enum_view, message_view}
+use Rattle.protobuf_parse_model.specs.Descriptors.{a_message as message_descriptor, messages_of_list, Text, Range, extension_range_view, reserved_range_view, FieldDescriptor, OneofDescriptor, EnumDescriptor, MessageDescriptor, field_view, oneof_view, enum_view, message_view}
 use Rattle.protobuf_parse_model.specs.declared.convert.place.FieldPlace.{FieldPlace}
 use Rattle.protobuf_parse_model.specs.Fields as fields
 use Rattle.protobuf_parse_model.specs.declared.convert.field.FieldSaid.{FieldSaid}
@@ -128,6 +128,9 @@ rest_view r = record { extension_range = map extension_range_view r.extension_ra
 
 abbrev pub reserved_parts : Vec ReservedRange × Vec (String Global) → List Range × List Text
 reserved_parts p = (map reserved_range_view p.0.items, map string_bytes p.1.items)
+
+abbrev pub message_with : Text → BodyParts → RestParts → MessageDescriptor
+message_with name b r = message_descriptor (record { name = name; field = b.field; oneof_decl = b.oneof_decl; enum_type = b.enum_type; extension = b.extension; extension_range = r.extension_range; reserved_range = r.reserved_range; reserved_name = r.reserved_name; options = r.options }) (messages_of_list b.nested_type)
 
 abbrev pub rest_of : List MessageStatementSyntax → RestParts
 rest_of body = record { extension_range = map exclusive (flat_map extension_ranges body); reserved_range = map exclusive (flat_map ranges_reserved (flat_map reserves body)); reserved_name = flat_map names_reserved (flat_map reserves body); options = message_options nowhere (flat_map options_in_message body) }

@@ -7,6 +7,7 @@ mod field;
 mod generated;
 mod imports;
 mod lists;
+mod message;
 mod names;
 mod oneof;
 mod options;

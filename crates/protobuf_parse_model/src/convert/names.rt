@@ -3,12 +3,16 @@
 ghost use Rattle.std.specs.Prelude.{◌≡◌, map, IfOk};
 ghost use Rattle.protobuf_parse_model.specs.Contexts.{texts};
 ghost use Rattle.protobuf_parse_model.specs.Descriptors as described;
+ghost use Rattle.protobuf_parse_model.specs.Duplicates.{duplicates};
+ghost use Rattle.protobuf_parse_model.specs.Faults.{Elaborates};
 ghost use Rattle.protobuf_parse_model.specs.Fields as spec;
 ghost use Rattle.protobuf_parse_model.specs.Messages as bodies;
 
+use crate::convert::refuse::check_unique;
 use crate::descriptor::{
     DescriptorProto, EnumDescriptorProto, FieldDescriptorProto, OneofDescriptorProto,
 };
+use crate::error::ElabFailure;
 use std::alloc::{AllocError, Global};
 
 /// The names of fields.
@@ -62,4 +66,32 @@ pub fn names_of_messages(
         names.push(message.name.as_str())?;
     }
     Ok(names)
+}
+
+/// Refuses two fields that have one name: E1.
+pub fn unlike_fields(alloc: Global, fields: &[FieldDescriptorProto]) -> Result<(), ElabFailure>
+    ensures { Elaborates (λ u. u) result (duplicates (spec.names_of_fields (map described.field_view fields.now))) tt }
+{
+    check_unique(alloc, &names_of_fields(alloc, fields)?)
+}
+
+/// Refuses two oneofs that have one name: E1.
+pub fn unlike_oneofs(alloc: Global, oneofs: &[OneofDescriptorProto]) -> Result<(), ElabFailure>
+    ensures { Elaborates (λ u. u) result (duplicates (bodies.names_of_oneofs (map described.oneof_view oneofs.now))) tt }
+{
+    check_unique(alloc, &names_of_oneofs(alloc, oneofs)?)
+}
+
+/// Refuses two enums that have one name: E1.
+pub fn unlike_enums(alloc: Global, enums: &[EnumDescriptorProto]) -> Result<(), ElabFailure>
+    ensures { Elaborates (λ u. u) result (duplicates (bodies.names_of_enums (map described.enum_view enums.now))) tt }
+{
+    check_unique(alloc, &names_of_enums(alloc, enums)?)
+}
+
+/// Refuses two messages that have one name: E1.
+pub fn unlike_messages(alloc: Global, messages: &[DescriptorProto]) -> Result<(), ElabFailure>
+    ensures { Elaborates (λ u. u) result (duplicates (bodies.names_of_messages (map described.message_view messages.now))) tt }
+{
+    check_unique(alloc, &names_of_messages(alloc, messages)?)
 }

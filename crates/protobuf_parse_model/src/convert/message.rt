@@ -1,0 +1,176 @@
+//! Messages.
+
+ghost use Rattle.std.specs.Prelude.{◌≡◌, ◌++◌, ◌<◌, ◌^◌, List, [], ◌∷◌, length, map, flat_map, string_bytes, IfOk};
+ghost use Rattle.protobuf_parse_syntax.specs.Trees.{message_statement_view, message_view};
+ghost use Rattle.protobuf_parse_model.specs.Contexts as contexts;
+ghost use Rattle.protobuf_parse_model.specs.Contexts.{body_view, environment_in, names_faults, texts, with_statement};
+ghost use Rattle.protobuf_parse_model.specs.Declarations as names;
+ghost use Rattle.protobuf_parse_model.specs.Descriptors as described;
+ghost use Rattle.protobuf_parse_model.specs.Environment.{inside};
+ghost use Rattle.protobuf_parse_model.specs.Faults.{Elaborates};
+ghost use Rattle.protobuf_parse_model.specs.Messages as messages;
+
+use crate::convert::body::{Body, add_extend, add_field, add_oneof};
+use crate::convert::enumeration::enum_descriptor;
+use crate::convert::names::{unlike_enums, unlike_fields, unlike_messages, unlike_oneofs};
+use crate::convert::refuse::fault;
+use crate::convert::rest::{Rest, rest_of_message};
+use crate::descriptor::DescriptorProto;
+use crate::error::{ElabErrorKind, ElabFailure};
+use crate::scope::Context;
+use protobuf_parse_syntax::{Message, MessageStatement};
+use std::alloc::{AllocError, Global};
+
+/// The descriptor of a message, with all that stands inside it.
+///
+/// E1 where two fields, oneofs, extensions, enums or messages of one body have one name, E7 where a range
+/// ends at the largest number, and the faults of what stands in it.
+#[cycle(message)]
+#[tactic(auto, using(crate::proofs::Blaming::blames_left, crate::proofs::Blaming::blames_right))]
+pub fn message_descriptor(
+    alloc: Global,
+    context: &Context<'_>,
+    message: &Message,
+) -> Result<DescriptorProto, ElabFailure>
+    ensures { let env = environment_in context.now in let m = message_view message.now in
+        Elaborates described.message_view result (messages.message_faults env m) (messages.message_of env m) }
+{
+    check_positions(alloc, &message.name, &message.body)?;
+    let body = body_inside(alloc, context, &message.name, &message.body)?;
+    check_names(alloc, &body)?;
+    let rest = rest_of_message(alloc, &message.name, &message.body)?;
+    let name = message.name.clone()?;
+    Ok(assembled(name, body, rest))
+}
+
+/// A message of these parts.
+fn assembled(name: String, body: Body, rest: Rest) -> DescriptorProto
+    ensures { described.message_view result ≡ contexts.message_with (string_bytes name) (body_view body) (contexts.rest_view rest) }
+{
+    DescriptorProto {
+        name,
+        field: body.field,
+        oneof_decl: body.oneof_decl,
+        nested_type: body.nested_type,
+        enum_type: body.enum_type,
+        extension: body.extension,
+        extension_range: rest.extension_range,
+        reserved_range: rest.reserved_range,
+        reserved_name: rest.reserved_name,
+        options: rest.options,
+    }
+}
+
+/// Refuses a body of more statements than a oneof has positions.
+fn check_positions(alloc: Global, name: &str, body: &[MessageStatement]) -> Result<(), ElabFailure>
+    ensures told { Elaborates (λ u. u) result (messages.positions_faults name.now (length body.now)) tt }
+    ensures small { IfOk result (λ _. length body.now < 2 ^ 31) }
+{
+    if body.len() < 0x8000_0000 {
+        Ok(())
+    } else {
+        Err(fault(alloc, ElabErrorKind::Unsupported, name))
+    }
+}
+
+/// Refuses two of a kind that have one name: E1.
+#[tactic(auto, using(crate::proofs::Blaming::blames_left, crate::proofs::Blaming::blames_right))]
+fn check_names(alloc: Global, body: &Body) -> Result<(), ElabFailure>
+    ensures { Elaborates (λ u. u) result (names_faults (body_view body.now)) tt }
+{
+    unlike_fields(alloc, &body.field)?;
+    unlike_oneofs(alloc, &body.oneof_decl)?;
+    unlike_fields(alloc, &body.extension)?;
+    unlike_enums(alloc, &body.enum_type)?;
+    unlike_messages(alloc, &body.nested_type)
+}
+
+/// The scope inside the message of that name.
+fn scope_inside<'a>(
+    alloc: Global,
+    scope: &[&'a str],
+    name: &'a str,
+) -> Result<Vec<&'a str>, AllocError>
+    ensures { IfOk result (λ v. texts v.items ≡ names.inside (texts scope.now) name.now) }
+{
+    let mut inner = Vec::new(alloc);
+    inner.extend_from_slice(scope)?;
+    inner.push(name)?;
+    Ok(inner)
+}
+
+/// What the statements inside the message of that name declare.
+#[cycle(message)]
+fn body_inside(
+    alloc: Global,
+    context: &Context<'_>,
+    name: &str,
+    body: &[MessageStatement],
+) -> Result<Body, ElabFailure>
+    requires { length body.now < 2 ^ 31 }
+    ensures { let env = inside (environment_in context.now) name.now in let ss = map message_statement_view body.now in
+        Elaborates body_view result (flat_map (messages.statement_faults env) ss) (contexts.body_of env ss) }
+{
+    let scope = scope_inside(alloc, context.scope, name)?;
+    let inner = Context {
+        syntax: context.syntax,
+        seen: context.seen,
+        scope: &scope,
+    };
+    body_of(alloc, &inner, body)
+}
+
+/// What the statements of a body declare, seen from there.
+#[cycle(message)]
+#[tactic(auto, using(crate::proofs::Blaming::blames_at))]
+fn body_of(
+    alloc: Global,
+    context: &Context<'_>,
+    statements: &[MessageStatement],
+) -> Result<Body, ElabFailure>
+    requires { length statements.now < 2 ^ 31 }
+    ensures { let env = environment_in context.now in let ss = map message_statement_view statements.now in
+        Elaborates body_view result (flat_map (messages.statement_faults env) ss) (contexts.body_of env ss) }
+{
+    let mut body = Body {
+        field: Vec::new(alloc),
+        oneof_decl: Vec::new(alloc),
+        nested_type: Vec::new(alloc),
+        enum_type: Vec::new(alloc),
+        extension: Vec::new(alloc),
+    };
+    for statement in statements {
+        add_statement(alloc, context, &mut body, statement)?;
+    }
+    Ok(body)
+}
+
+/// Adds what a statement declares.
+#[cycle(message)]
+fn add_statement(
+    alloc: Global,
+    context: &Context<'_>,
+    body: &mut Body,
+    statement: &MessageStatement,
+) -> Result<(), ElabFailure>
+    requires { length body.old.oneof_decl.items < 2 ^ 31 }
+    ensures { let env = environment_in context.now in let s = message_statement_view statement.now in
+        Elaborates (λ _. body_view body.new) result (messages.statement_faults env s) (with_statement env (body_view body.old) s) }
+{
+    match statement {
+        MessageStatement::Field(field) => add_field(alloc, context, body, field),
+        MessageStatement::OneOf(oneof) => add_oneof(alloc, context, body, oneof),
+        MessageStatement::Extend(extend) => add_extend(alloc, context, body, extend),
+        MessageStatement::Message(message) => {
+            let nested = message_descriptor(alloc, context, message)?;
+            Ok(body.nested_type.push(nested)?)
+        }
+        MessageStatement::Enumeration(inner) => {
+            let described = enum_descriptor(alloc, context, inner)?;
+            Ok(body.enum_type.push(described)?)
+        }
+        MessageStatement::Reserved(_)
+        | MessageStatement::Extensions(_)
+        | MessageStatement::Option(_) => Ok(()),
+    }
+}
