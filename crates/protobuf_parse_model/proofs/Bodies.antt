@@ -1,14 +1,20 @@
 -- A body with one statement more.
-use Rattle.std.proofs.Common.{◌≡◌, ℕ, true, List, [], ◌∷◌, ◌++◌, flat_map, length, map, refl, sym, ◌∙◌, ap}
-use Rattle.std.proofs.lemmas.List.{append-nil, length-map}
-use Rattle.protobuf_parse_syntax.specs.Trees.{FieldStatementSyntax, field, group, OneofSyntax, message_field, message_oneof}
-use Rattle.protobuf_parse_model.specs.Contexts.{FieldAndMessage, FieldsAndMessages, body_view, declared_by, fields_declared, with_statement}
+use Rattle.std.proofs.Common.{◌≡◌, ℕ, ◌+◌, ◌^◌, ◌<◌, ◌≤◌, Bool, true, false, cond, List, [], ◌∷◌, ◌++◌, flat_map, length, length-append, map, take, Result, refl, sym, ◌∙◌, ap, arith}
+use Rattle.std.proofs.lemmas.Grind.{flat_map-append}
+use Rattle.std.proofs.lemmas.List.{append-nil, length-map, length-take}
+use Rattle.protobuf_parse_syntax.specs.Trees.{FieldStatementSyntax, field, group, OneofSyntax, MessageStatementSyntax, message_reserved, message_oneof, message_extend, message_message, message_enum, message_extensions, message_option, message_field, MessageSyntax, nested_message, message_statement_view}
+use Rattle.protobuf_parse_syntax.specs.declared.tree.declaration.MessageStatement.{MessageStatement}
+use Rattle.protobuf_parse_model.specs.Contexts.{BodyParts, FieldAndMessage, FieldsAndMessages, body_of, body_view, declared_by, fields_declared, with_message, with_statement}
 use Rattle.protobuf_parse_model.specs.Descriptors.{OneofDescriptor, enum_view, field_view, message_view, oneof_view}
 use Rattle.protobuf_parse_model.specs.Environment.{Environment}
+use Rattle.protobuf_parse_model.specs.Faults.{Elaborates, Fault}
 use Rattle.protobuf_parse_model.specs.Fields.{FieldPlace, field_statement_of}
-use Rattle.protobuf_parse_model.specs.Messages.{has_own_oneof, in_oneof, oneof_of, own_oneof_of}
+use Rattle.protobuf_parse_model.specs.Messages.{enums_of, extensions_of, fields_of, has_own_oneof, in_oneof, message_of, nested_of, oneof_of, oneofs_of, own_oneof, own_oneof_of}
 use Rattle.protobuf_parse_model.specs.Statements.{field_statement_name, oneof_fields}
 use Rattle.protobuf_parse_model.specs.declared.convert.body.Body.{Body}
+use Rattle.protobuf_parse_model.specs.declared.descriptor.OneofDescriptorProto.{OneofDescriptorProto}
+use Rattle.protobuf_parse_model.specs.declared.error.ElabFailure.{ElabFailure}
+use Rattle.protobuf_parse_model.proofs.Levels.{fields_from-append, nested_of_message}
 
 name_is : (env : Environment) (place : FieldPlace) (s : FieldStatementSyntax) → (field_statement_of env place s).name ≡ field_statement_name s
 name_is env place (field f) = refl
@@ -25,3 +31,57 @@ module _ (env : Environment) (old new : Body) (index : ℕ) (one : OneofDescript
   pub with_own : (s : FieldStatementSyntax) (d : FieldAndMessage) → has_own_oneof env s ≡ true → d ≡ declared_by env (in_oneof index) s → one ≡ own_oneof_of d.field.name → map field_view new.field.items ≡ map field_view old.field.items ++ d.field ∷ [] → map message_view new.nested_type.items ≡ map message_view old.nested_type.items ++ d.behind → body_view new ≡ with_statement env (body_view old) (message_field s)
   with_own s d own is one_is fields nested =
       rw (fields, nested, oneofs, enums, extensions, one_is, is, name_is env (in_oneof index) s, own, place_is, append-nil (map enum_view old.enum_type.items), append-nil (map field_view old.extension.items)) refl
+
+-- ---- a body, statement by statement
+
+pub body_more : (env : Environment) (ss : List MessageStatementSyntax) (s : MessageStatementSyntax) → with_statement env (body_of env ss) s ≡ body_of env (ss ++ s ∷ [])
+body_more env ss s =
+    let n = length (flat_map (oneofs_of env) ss) in
+    let same : 0 + n ≡ n = omega arith in
+    rw (fields_from-append env 0 ss (s ∷ []), same, flat_map-append (oneofs_of env) ss (s ∷ []), flat_map-append (nested_of env) ss (s ∷ []), flat_map-append (enums_of env) ss (s ∷ []), flat_map-append (extensions_of env) ss (s ∷ []), append-nil (fields_of env n s), append-nil (oneofs_of env s), append-nil (nested_of env s), append-nil (enums_of env s), append-nil (extensions_of env s)) refl
+
+oneofs_few : (env : Environment) (ss : List MessageStatementSyntax) → length (flat_map (oneofs_of env) ss) ≤ length ss
+oneofs_few env [] = omega arith
+oneofs_few env (s ∷ ss) =
+    let h = oneofs_few env ss in
+    let one = at_most s in
+    let both = length-append (oneofs_of env s) (flat_map (oneofs_of env) ss) in
+    omega (arith, h, one, both)
+  where
+    own : (b : Bool) (o : OneofDescriptor) → length (cond b (o ∷ []) []) ≤ 1
+    own true o = omega arith
+    own false o = omega arith
+
+    at_most : (s : MessageStatementSyntax) → length (oneofs_of env s) ≤ 1
+    at_most (message_oneof o) = omega arith
+    at_most (message_field f) = own (has_own_oneof env f) (own_oneof f)
+    at_most (message_reserved r) = omega arith
+    at_most (message_extend e) = omega arith
+    at_most (message_message at name body) = omega arith
+    at_most (message_enum e) = omega arith
+    at_most (message_extensions e) = omega arith
+    at_most (message_option o) = omega arith
+
+-- the oneofs of a body's first statements are no more than these
+pub few : (env : Environment) (os : List OneofDescriptorProto) (xs : List MessageStatement) (i n : ℕ) → map oneof_view os ≡ flat_map (oneofs_of env) (map message_statement_view (take i xs)) → i < length xs → length xs < n → length os < n
+few env os xs i n is lt small =
+    let a = length-map os oneof_view in
+    let b = oneofs_few env (map message_statement_view (take i xs)) in
+    let c = length-map (take i xs) message_statement_view in
+    let d = length-take i xs in
+    let e = ap length is in
+    omega (arith, a, b, c, d, e)
+
+pub few-body : (env : Environment) (b : Body) (xs : List MessageStatement) (i : ℕ) → body_view b ≡ body_of env (map message_statement_view (take i xs)) → i < length xs → length xs < 2 ^ 31 → length b.oneof_decl.items < 2 ^ 31
+few-body env b xs i is lt small = few env b.oneof_decl.items xs i (2 ^ 31) (ap (λ (p : BodyParts). p.oneof_decl) is) lt small
+
+-- a message inside is a statement
+pub with_nested : (env : Environment) (b : BodyParts) (m : MessageSyntax) → with_message b (message_of env m) ≡ with_statement env b (nested_message m)
+with_nested env b m = rw (nested_of_message env m, append-nil b.field, append-nil b.oneof_decl, append-nil b.enum_type, append-nil b.extension) refl
+
+-- a message whose positions and statements are right
+pub whole : {X Y : Type 0} (view : X → Y) (r : Result X ElabFailure) (positions middle statements : List Fault) (value : Y) → positions ≡ [] → statements ≡ [] → Elaborates view r middle value → Elaborates view r ((positions ++ middle) ++ statements) value
+whole view r positions middle statements value p s h = rw (p, s, append-nil middle) h
+
+pub nil-both : (xs ys : List Fault) → xs ≡ [] → ys ≡ [] → xs ++ (ys ++ []) ≡ []
+nil-both xs ys p q = rw (p, q) refl

@@ -104,6 +104,10 @@ body_view b = record { field = map field_view b.field.items; oneof_decl = map on
 abbrev pub with_statement : Environment → BodyParts → MessageStatementSyntax → BodyParts
 with_statement env b s = record { field = b.field ++ fields_of env (length b.oneof_decl) s; oneof_decl = b.oneof_decl ++ oneofs_of env s; nested_type = b.nested_type ++ nested_of env s; enum_type = b.enum_type ++ enums_of env s; extension = b.extension ++ extensions_of env s }
 
+-- with a message more
+abbrev pub with_message : BodyParts → MessageDescriptor → BodyParts
+with_message b m = record { field = b.field; oneof_decl = b.oneof_decl; nested_type = b.nested_type ++ m ∷ []; enum_type = b.enum_type; extension = b.extension }
+
 abbrev pub body_of : Environment → List MessageStatementSyntax → BodyParts
 body_of env ss = record { field = fields_from env 0 ss; oneof_decl = flat_map (oneofs_of env) ss; nested_type = flat_map (nested_of env) ss; enum_type = flat_map (enums_of env) ss; extension = flat_map (extensions_of env) ss }
 

@@ -193,8 +193,11 @@ abbrev mutual
   nested_in env no_statements = []
   nested_in env (more_statements s ss) = nested_of env s ++ nested_in env ss
 
+abbrev pub message_of_body : Environment → Text → List MessageStatementSyntax → MessageDescriptor
+message_of_body env name body = message_from env name body (flat_map (nested_of (inside env name)) body)
+
 abbrev pub message_of : Environment → MessageSyntax → MessageDescriptor
-message_of env m = message_from env m.name m.body (flat_map (nested_of (inside env m.name)) m.body)
+message_of env m = message_of_body env m.name m.body
 
 -- ---- faults
 
@@ -233,7 +236,7 @@ rest_faults name body =
 -- of the message of that name, but those that stand in one statement of its body
 abbrev pub whole_faults : Environment → Text → List MessageStatementSyntax → List MessageDescriptor → List Fault
 whole_faults env name body nested =
-    positions_faults name (length body) ++ body_duplicates (inside env name) body nested ++ rest_faults name body
+    positions_faults name (length body) ++ (body_duplicates (inside env name) body nested ++ rest_faults name body)
 
 abbrev pub oneof_faults : Environment → OneofSyntax → List Fault
 oneof_faults env o = flat_map (field_statement_faults env) (flat_map oneof_fields o.body) ++ options_faults oneof_table (options_in_oneof o)
@@ -252,5 +255,8 @@ abbrev mutual
   faults_in env no_statements = []
   faults_in env (more_statements s ss) = statement_faults env s ++ faults_in env ss
 
+abbrev pub faults_of_body : Environment → Text → List MessageStatementSyntax → List Fault
+faults_of_body env name body = whole_faults env name body (flat_map (nested_of (inside env name)) body) ++ flat_map (statement_faults (inside env name)) body
+
 abbrev pub message_faults : Environment → MessageSyntax → List Fault
-message_faults env m = whole_faults env m.name m.body (flat_map (nested_of (inside env m.name)) m.body) ++ flat_map (statement_faults (inside env m.name)) m.body
+message_faults env m = faults_of_body env m.name m.body

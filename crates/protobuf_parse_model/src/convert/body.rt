@@ -3,10 +3,12 @@
 ghost use Rattle.std.specs.Prelude.{◌≡◌, ◌<◌, ◌^◌, true, false, length};
 ghost use Rattle.protobuf_parse_syntax.specs.Trees as tree;
 ghost use Rattle.protobuf_parse_model.specs.Contexts.{body_view, environment_in, with_statement};
+ghost use Rattle.protobuf_parse_model.specs.Enums.{enum_faults};
 ghost use Rattle.protobuf_parse_model.specs.Faults.{Elaborates};
 ghost use Rattle.protobuf_parse_model.specs.Fields.{field_statement_faults};
 ghost use Rattle.protobuf_parse_model.specs.Messages.{extend_faults, has_own_oneof, oneof_faults};
 
+use crate::convert::enumeration::enum_descriptor;
 use crate::convert::lists::{fields_of_extend, fields_of_oneof, push_behind};
 use crate::convert::oneof::{has_own_oneof, oneof_descriptor, own_oneof};
 use crate::convert::place::FieldPlace;
@@ -16,7 +18,7 @@ use crate::descriptor::{
 };
 use crate::error::ElabFailure;
 use crate::scope::Context;
-use protobuf_parse_syntax::{Extend, FieldStatement, OneOf};
+use protobuf_parse_syntax::{Enumeration, Extend, FieldStatement, OneOf};
 use std::alloc::Global;
 
 /// What the statements of a message's body declare, each list in source order.
@@ -129,5 +131,20 @@ pub fn add_extend(
     let mut declared = fields_of_extend(alloc, context, &extend.extendee, &extend.fields)?;
     body.extension.append(&mut declared.fields)?;
     body.nested_type.append(&mut declared.behind)?;
+    Ok(())
+}
+
+/// Adds an enum.
+pub fn add_enum(
+    alloc: Global,
+    context: &Context<'_>,
+    body: &mut Body,
+    enumeration: &Enumeration,
+) -> Result<(), ElabFailure>
+    ensures { let env = environment_in context.now in let e = tree.enum_view enumeration.now in
+        Elaborates (λ _. body_view body.new) result (enum_faults e) (with_statement env (body_view body.old) (tree.message_enum e)) }
+{
+    let descriptor = enum_descriptor(alloc, context, enumeration)?;
+    body.enum_type.push(descriptor)?;
     Ok(())
 }

@@ -10,8 +10,7 @@ ghost use Rattle.protobuf_parse_model.specs.Environment.{inside};
 ghost use Rattle.protobuf_parse_model.specs.Faults.{Elaborates};
 ghost use Rattle.protobuf_parse_model.specs.Messages as messages;
 
-use crate::convert::body::{Body, add_extend, add_field, add_oneof};
-use crate::convert::enumeration::enum_descriptor;
+use crate::convert::body::{Body, add_enum, add_extend, add_field, add_oneof};
 use crate::convert::names::{unlike_enums, unlike_fields, unlike_messages, unlike_oneofs};
 use crate::convert::refuse::fault;
 use crate::convert::rest::{Rest, rest_of_message};
@@ -26,7 +25,6 @@ use std::alloc::{AllocError, Global};
 /// E1 where two fields, oneofs, extensions, enums or messages of one body have one name, E7 where a range
 /// ends at the largest number, and the faults of what stands in it.
 #[cycle(message)]
-#[tactic(auto, using(crate::proofs::Blaming::blames_left, crate::proofs::Blaming::blames_right))]
 pub fn message_descriptor(
     alloc: Global,
     context: &Context<'_>,
@@ -35,12 +33,40 @@ pub fn message_descriptor(
     ensures { let env = environment_in context.now in let m = message_view message.now in
         Elaborates described.message_view result (messages.message_faults env m) (messages.message_of env m) }
 {
-    check_positions(alloc, &message.name, &message.body)?;
-    let body = body_inside(alloc, context, &message.name, &message.body)?;
-    check_names(alloc, &body)?;
-    let rest = rest_of_message(alloc, &message.name, &message.body)?;
-    let name = message.name.clone()?;
-    Ok(assembled(name, body, rest))
+    message_of_body(alloc, context, &message.name, &message.body)
+}
+
+/// The descriptor of the message of that name and body.
+#[cycle(message)]
+fn message_of_body(
+    alloc: Global,
+    context: &Context<'_>,
+    name: &str,
+    body: &[MessageStatement],
+) -> Result<DescriptorProto, ElabFailure>
+    ensures { let env = environment_in context.now in let ss = map message_statement_view body.now in
+        Elaborates described.message_view result (messages.faults_of_body env name.now ss) (messages.message_of_body env name.now ss) }
+{
+    check_positions(alloc, name, body)?;
+    let parts = body_inside(alloc, context, name, body)?;
+    finished(alloc, name, body, parts)
+}
+
+/// The message of that name, body and parts, once its names, ranges and options are checked.
+#[tactic(auto, using(crate::proofs::Blaming::blames_left, crate::proofs::Blaming::blames_right))]
+fn finished(
+    alloc: Global,
+    name: &str,
+    body: &[MessageStatement],
+    parts: Body,
+) -> Result<DescriptorProto, ElabFailure>
+    ensures { let ss = map message_statement_view body.now in
+        Elaborates described.message_view result (names_faults (body_view parts) ++ messages.rest_faults name.now ss) (contexts.message_with name.now (body_view parts) (contexts.rest_of ss)) }
+{
+    check_names(alloc, &parts)?;
+    let rest = rest_of_message(alloc, name, body)?;
+    let name = String::from_str(alloc, name)?;
+    Ok(assembled(name, parts, rest))
 }
 
 /// A message of these parts.
@@ -161,16 +187,25 @@ fn add_statement(
         MessageStatement::Field(field) => add_field(alloc, context, body, field),
         MessageStatement::OneOf(oneof) => add_oneof(alloc, context, body, oneof),
         MessageStatement::Extend(extend) => add_extend(alloc, context, body, extend),
-        MessageStatement::Message(message) => {
-            let nested = message_descriptor(alloc, context, message)?;
-            Ok(body.nested_type.push(nested)?)
-        }
-        MessageStatement::Enumeration(inner) => {
-            let described = enum_descriptor(alloc, context, inner)?;
-            Ok(body.enum_type.push(described)?)
-        }
+        MessageStatement::Message(message) => add_message(alloc, context, body, message),
+        MessageStatement::Enumeration(inner) => add_enum(alloc, context, body, inner),
         MessageStatement::Reserved(_)
         | MessageStatement::Extensions(_)
         | MessageStatement::Option(_) => Ok(()),
     }
+}
+
+/// Adds a message inside this one.
+#[cycle(message)]
+fn add_message(
+    alloc: Global,
+    context: &Context<'_>,
+    body: &mut Body,
+    message: &Message,
+) -> Result<(), ElabFailure>
+    ensures { let env = environment_in context.now in let m = message_view message.now in
+        Elaborates (λ _. body_view body.new) result (messages.message_faults env m) (contexts.with_message (body_view body.old) (messages.message_of env m)) }
+{
+    let nested = message_descriptor(alloc, context, message)?;
+    Ok(body.nested_type.push(nested)?)
 }
