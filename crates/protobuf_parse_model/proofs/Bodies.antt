@@ -1,7 +1,7 @@
 -- A body with one statement more.
-use Rattle.std.proofs.Common.{◌≡◌, ℕ, ◌+◌, ◌^◌, ◌<◌, ◌≤◌, Bool, true, false, cond, List, [], ◌∷◌, ◌++◌, flat_map, length, length-append, map, take, Result, refl, sym, ◌∙◌, ap, arith}
+use Rattle.std.proofs.Common.{◌≡◌, ℕ, ◌+◌, ◌≤◌, Bool, true, false, cond, List, [], ◌∷◌, ◌++◌, flat_map, length, length-append, map, Result, refl, sym, ◌∙◌, ap, arith}
 use Rattle.std.proofs.lemmas.Grind.{flat_map-append}
-use Rattle.std.proofs.lemmas.List.{append-nil, length-map, length-take}
+use Rattle.std.proofs.lemmas.List.{append-nil, length-map}
 use Rattle.protobuf_parse_syntax.specs.Trees.{FieldStatementSyntax, field, group, OneofSyntax, MessageStatementSyntax, message_reserved, message_oneof, message_extend, message_message, message_enum, message_extensions, message_option, message_field, MessageSyntax, nested_message, message_statement_view}
 use Rattle.protobuf_parse_syntax.specs.declared.tree.declaration.MessageStatement.{MessageStatement}
 use Rattle.protobuf_parse_model.specs.Contexts.{BodyParts, FieldAndMessage, FieldsAndMessages, body_of, body_view, declared_by, fields_declared, with_message, with_statement}
@@ -40,13 +40,15 @@ body_more env ss s =
     let same : 0 + n ≡ n = omega arith in
     rw (fields_from-append env 0 ss (s ∷ []), same, flat_map-append (oneofs_of env) ss (s ∷ []), flat_map-append (nested_of env) ss (s ∷ []), flat_map-append (enums_of env) ss (s ∷ []), flat_map-append (extensions_of env) ss (s ∷ []), append-nil (fields_of env n s), append-nil (oneofs_of env s), append-nil (nested_of env s), append-nil (enums_of env s), append-nil (extensions_of env s)) refl
 
-oneofs_few : (env : Environment) (ss : List MessageStatementSyntax) → length (flat_map (oneofs_of env) ss) ≤ length ss
-oneofs_few env [] = omega arith
-oneofs_few env (s ∷ ss) =
-    let h = oneofs_few env ss in
-    let one = at_most s in
-    let both = length-append (oneofs_of env s) (flat_map (oneofs_of env) ss) in
-    omega (arith, h, one, both)
+-- no statement has more than one oneof
+pub few_more : (env : Environment) (old new : Body) (s : MessageStatementSyntax) (n : ℕ) → body_view new ≡ with_statement env (body_view old) s → length old.oneof_decl.items ≤ n → length new.oneof_decl.items ≤ n + 1
+few_more env old new s n is few =
+    let a = length-map new.oneof_decl.items oneof_view in
+    let b = length-map old.oneof_decl.items oneof_view in
+    let c = ap (λ (p : BodyParts). length p.oneof_decl) is in
+    let d = length-append (map oneof_view old.oneof_decl.items) (oneofs_of env s) in
+    let e = at_most s in
+    omega (arith, a, b, c, d, e, few)
   where
     own : (b : Bool) (o : OneofDescriptor) → length (cond b (o ∷ []) []) ≤ 1
     own true o = omega arith
@@ -61,19 +63,6 @@ oneofs_few env (s ∷ ss) =
     at_most (message_enum e) = omega arith
     at_most (message_extensions e) = omega arith
     at_most (message_option o) = omega arith
-
--- the oneofs of a body's first statements are no more than these
-pub few : (env : Environment) (os : List OneofDescriptorProto) (xs : List MessageStatement) (i n : ℕ) → map oneof_view os ≡ flat_map (oneofs_of env) (map message_statement_view (take i xs)) → i < length xs → length xs < n → length os < n
-few env os xs i n is lt small =
-    let a = length-map os oneof_view in
-    let b = oneofs_few env (map message_statement_view (take i xs)) in
-    let c = length-map (take i xs) message_statement_view in
-    let d = length-take i xs in
-    let e = ap length is in
-    omega (arith, a, b, c, d, e)
-
-pub few-body : (env : Environment) (b : Body) (xs : List MessageStatement) (i : ℕ) → body_view b ≡ body_of env (map message_statement_view (take i xs)) → i < length xs → length xs < 2 ^ 31 → length b.oneof_decl.items < 2 ^ 31
-few-body env b xs i is lt small = few env b.oneof_decl.items xs i (2 ^ 31) (ap (λ (p : BodyParts). p.oneof_decl) is) lt small
 
 -- a message inside is a statement
 pub with_nested : (env : Environment) (b : BodyParts) (m : MessageSyntax) → with_message b (message_of env m) ≡ with_statement env b (nested_message m)

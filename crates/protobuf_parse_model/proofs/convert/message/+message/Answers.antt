@@ -1,4 +1,4 @@
-use Rattle.std.proofs.Common.{rules, ◌≡◌, ◌∙◌, ◌+◌, ◌++◌, [], ◌∷◌, ℕ, List, ap, flat_map, length, map, sym, subst, string_bytes, take}
+use Rattle.std.proofs.Common.{◌≡◌, ◌∙◌, ◌+◌, ◌++◌, [], ◌∷◌, ℕ, List, ap, flat_map, length, map, sym, subst, string_bytes, take}
 use Rattle.std.proofs.lemmas.Grind.{flat_map-append}
 use Rattle.std.proofs.lemmas.List.{length-map, map_more}
 use Rattle.std.proofs.lemmas.Result.{err_from_is_err_and}
@@ -11,7 +11,7 @@ use Rattle.protobuf_parse_model.specs.Environment.{Environment, no_custom}
 use Rattle.protobuf_parse_model.specs.Faults.{Blames, Elaborates, Fault}
 use Rattle.protobuf_parse_model.specs.Messages.{faults_of_body, message_of, message_of_body, positions_faults, statement_faults}
 use Rattle.protobuf_parse_model.proofs.Blaming.{blames_left, blames_right}
-use Rattle.protobuf_parse_model.proofs.Bodies.{body_more, few-body, nil-both, with_nested}
+use Rattle.protobuf_parse_model.proofs.Bodies.{body_more, few_more, nil-both, with_nested}
 use Rattle.protobuf_parse_model.proofs.Levels.{faults_of_message}
 use Rattle.protobuf_parse_model.proofs.TreeViews.{views_nested}
 use Rattle.protobuf_parse_model.proofs.convert.message.+message.Goals as goal
@@ -44,10 +44,6 @@ body_inside-returns t c =
     let at : Scope → Environment = λ s. record { syntax = seen.syntax; types = seen_types seen.seen; scope = s; custom = no_custom } in
     subst (λ (s : Scope). Elaborates body_view c.body_of.result (flat_map (statement_faults (at s)) ss) (body_of (at s) ss)) (ap texts c.deref.ensures.value ∙ c.in_ok-scope.ensures) c.body_of.ensures
 
-pub body_of-add_statement-requires : goal.body_of-add_statement-requires
-body_of-add_statement-requires t c =
-    (search rules, few-body (environment_in c.args.context.now) c.loop-statement.body c.args.statements.now c.loop-statement.statement-index c.loop-statement.invariant.all c.loop-statement-test.true c.requires)
-
 pub body_of-loop-statement-preserved : goal.body_of-loop-statement-preserved
 body_of-loop-statement-preserved t c =
     let env = environment_in c.args.context.now in
@@ -59,6 +55,7 @@ body_of-loop-statement-preserved t c =
     let added = c.in_ok-add_statement.ensures in
     record {
       no_fault = ap (flat_map (statement_faults env)) more ∙ flat_map-append (statement_faults env) seen (message_statement_view s ∷ []) ∙ nil-both _ _ c.loop-statement.invariant.no_fault added.0;
+      few = few_more env c.loop-statement.body c.add_statement.new.body (message_statement_view s) i added.1 c.loop-statement.invariant.few;
       all = added.1 ∙ (ap (λ b. with_statement env b (message_statement_view s)) c.loop-statement.invariant.all ∙ (body_more env seen (message_statement_view s) ∙ sym (ap (body_of env) more)));
     }
 

@@ -1,4 +1,4 @@
-use Rattle.std.proofs.Common.{◌≡◌, [], map, take, flat_map}
+use Rattle.std.proofs.Common.{◌≡◌, ◌≤◌, [], length, map, take, flat_map}
 use Rattle.protobuf_parse_syntax.specs.Trees.{message_statement_view}
 use Rattle.protobuf_parse_model.specs.Contexts.{body_of, body_view, environment_in}
 use Rattle.protobuf_parse_model.specs.Messages.{statement_faults}
@@ -11,4 +11,5 @@ invariant-body_of-loop-statement l =
     record {
       no_fault : flat_map (statement_faults env) seen ≡ [];
       all : body_view l.body ≡ body_of env seen;
+      few : length l.body.oneof_decl.items ≤ l.statement-index;
     }
