@@ -1,7 +1,6 @@
 pub mod Blaming
 pub mod OrTests
 pub mod Repeats
-pub mod FirstPath
 pub mod TreeViews
 pub mod Lookups
 pub mod Scopes

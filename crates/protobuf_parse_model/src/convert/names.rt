@@ -4,10 +4,12 @@ ghost use Rattle.std.specs.Prelude.{◌≡◌, map, IfOk};
 ghost use Rattle.protobuf_parse_model.specs.Contexts.{texts};
 ghost use Rattle.protobuf_parse_model.specs.Descriptors as described;
 ghost use Rattle.protobuf_parse_model.specs.Fields as spec;
+ghost use Rattle.protobuf_parse_model.specs.FileDescriptor as files;
 ghost use Rattle.protobuf_parse_model.specs.Messages as bodies;
 
 use crate::descriptor::{
     DescriptorProto, EnumDescriptorProto, FieldDescriptorProto, OneofDescriptorProto,
+    ServiceDescriptorProto,
 };
 use std::alloc::{AllocError, Global};
 
@@ -60,6 +62,20 @@ pub fn names_of_messages(
     let mut names = Vec::new(alloc);
     for message in messages {
         names.push(message.name.as_str())?;
+    }
+    Ok(names)
+}
+
+/// The names of services.
+pub fn names_of_services(
+    alloc: Global,
+    services: &[ServiceDescriptorProto],
+) -> Result<Vec<&str>, AllocError>
+    ensures { IfOk result (λ v. texts v.items ≡ files.names_of_services (map described.service_view services.now)) }
+{
+    let mut names = Vec::new(alloc);
+    for service in services {
+        names.push(service.name.as_str())?;
     }
     Ok(names)
 }
