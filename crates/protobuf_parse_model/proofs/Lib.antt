@@ -10,3 +10,4 @@ pub mod Levels
 pub mod Decodings
 pub mod Settings
 pub mod Bodies
+pub mod Files
