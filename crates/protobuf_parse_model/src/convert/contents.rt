@@ -75,10 +75,7 @@ fn check_enums(alloc: Global, enums: &[EnumDescriptorProto]) -> Result<(), ElabF
     check_unique(alloc, &names_of_enums(alloc, enums)?)
 }
 
-fn check_extensions(
-    alloc: Global,
-    extensions: &[FieldDescriptorProto],
-) -> Result<(), ElabFailure>
+fn check_extensions(alloc: Global, extensions: &[FieldDescriptorProto]) -> Result<(), ElabFailure>
     ensures { Elaborates (λ u. u) result (duplicates (names_of_fields (map described.field_view extensions.now))) tt }
 {
     check_unique(alloc, &names_of_fields(alloc, extensions)?)
