@@ -45,11 +45,18 @@ use std::alloc::Global;
 /// `Declarations::add` made of files one after the other, the answer is what the language says of a file
 /// that sees the files with these numbers.
 ///
-/// Where no fault stands in the file it gives the descriptor. Else it tells a fault that stands, and any one
-/// of them where there are several: E1 where two things of one kind have one name in one place; E2 and E3
-/// where the name of a type means none; E4 and E7 to E13 of `ElabErrorKind`, for what a field, an extension,
-/// an enum or an option may not be; and Unsupported where a custom option is set. E5 and E6, for full names
-/// that several files declare, are not looked for here. It may also answer that memory is short.
+/// Where no fault stands in the file it gives the descriptor. Else it tells one that stands, whichever it
+/// meets first, unless memory runs out:
+///
+/// - E1: two things of one kind have one name in one scope;
+/// - E2, E3: the name of a type means none;
+/// - E4: a map or a group stands where none may;
+/// - E7: a range of a message has no end behind it;
+/// - E8 to E13: what a built-in option is set to, or its name, is wrong;
+/// - Unsupported: a custom option is set, or a file has 2147483648 imports or more, or a message as many
+///   statements.
+///
+/// E5 and E6, for full names that the reached files declare twice, are not looked for here.
 pub fn elaborate(
     alloc: Global,
     name: &str,

@@ -107,8 +107,8 @@ pub enum ElabErrorKind {
     /// The name of an option goes on from `uninterpreted_option`.
     #[error("E28 UninterpretedOptionName")]
     UninterpretedOptionName,
-    /// What has no descriptor. Its word is `option` for a custom option, or `import` where the imports
-    /// are 2147483648 or more.
+    /// What has no descriptor. Its word is `option` for a custom option, `import` where the imports are
+    /// 2147483648 or more, and the name of a message where the statements of its body are.
     #[error("Unsupported")]
     Unsupported,
 }

@@ -1,4 +1,4 @@
-use Rattle.std.proofs.Common.{◌≡◌, ◌++◌, ◌∙◌, [], List, Some, ap, flat_map, length, map, subst, sym}
+use Rattle.std.proofs.Common.{◌≡◌, ◌++◌, ◌∙◌, [], Some, ap, flat_map, length, map, subst, sym}
 use Rattle.protobuf_parse_syntax.specs.Dependencies as dependencies
 use Rattle.protobuf_parse_syntax.specs.Trees.{ImportSyntax, file_view, import_view, statement_view}
 use Rattle.protobuf_parse_model.specs.BuiltinOptions.{file_table, options_faults}
