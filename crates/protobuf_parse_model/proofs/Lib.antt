@@ -1,7 +1,6 @@
 pub mod Blaming
 pub mod OrTests
 pub mod Repeats
-pub mod FirstPath
 pub mod TreeViews
 pub mod Lookups
 pub mod Scopes
@@ -11,3 +10,4 @@ pub mod Levels
 pub mod Decodings
 pub mod Settings
 pub mod Bodies
+pub mod Files

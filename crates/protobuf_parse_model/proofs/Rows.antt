@@ -106,7 +106,7 @@ map_is_repeated : map (λ m. (parts m).field) (messages_in with_map) ≡ (map_fi
 unfolding chars lib.Utf8.encode
 map_is_repeated = refl
 
-map_has_an_entry : map nested (messages_in with_map) ≡ (messages.message_with (codes "FooBarEntry") (messages.entry_field (codes "key") 1 (record { kind = kind.String; name = None }) ∷ messages.entry_field (codes "value") 2 (record { kind = kind.Int32; name = None }) ∷ []) entry_options ∷ []) ∷ []
+map_has_an_entry : map nested (messages_in with_map) ≡ (messages.message_with (codes "FooBarEntry") (messages.entry_field (codes "key") (pos 1) (record { kind = kind.String; name = None }) ∷ messages.entry_field (codes "value") (pos 2) (record { kind = kind.Int32; name = None }) ∷ []) entry_options ∷ []) ∷ []
 unfolding chars lib.Utf8.encode
 map_has_an_entry = refl
 

@@ -28,7 +28,7 @@ use Rattle.protobuf_parse_model.specs.declared.convert.rest.Rest.{Rest}
 use Rattle.protobuf_parse_model.specs.declared.descriptor.ReservedRange.{ReservedRange}
 use Rattle.protobuf_parse_model.specs.declared.convert.lists.DeclaredFields.{DeclaredFields}
 use Rattle.protobuf_parse_model.specs.declared.convert.body.Body.{Body}
-use Rattle.protobuf_parse_syntax.specs.Trees.{OptionSyntax, FieldStatementSyntax, MessageStatementSyntax, ReservedSyntax, EnumValueSyntax, MethodSyntax, reserved_view, value_view, method_view, field_statement_view}
+use Rattle.protobuf_parse_syntax.specs.Trees.{FileSyntax, OptionSyntax, FieldStatementSyntax, MessageStatementSyntax, ReservedSyntax, EnumValueSyntax, MethodSyntax, reserved_view, value_view, method_view, field_statement_view}
 use Rattle.protobuf_parse_syntax.specs.declared.tree.field.FieldStatement.{FieldStatement}
 use Rattle.protobuf_parse_syntax.specs.declared.tree.declaration.Method.{Method}
 use Rattle.protobuf_parse_syntax.specs.declared.tree.declaration.Reserved.{Reserved}
@@ -38,7 +38,7 @@ use Rattle.protobuf_parse_model.specs.OptionsSet.{field_options, message_options
 use Rattle.protobuf_parse_model.specs.OptionViews.{nowhere}
 use Rattle.protobuf_parse_model.specs.Fields.{FieldTypeOf}
 use Rattle.protobuf_parse_model.specs.Declarations as declared
-use Rattle.protobuf_parse_model.specs.Declarations.{DeclaredType, a_message, an_enum}
+use Rattle.protobuf_parse_model.specs.Declarations.{DeclaredType, a_message, an_enum, file_scope}
 use Rattle.protobuf_parse_model.specs.Environment.{Environment, no_custom}
 
 abbrev pub texts : List (Bor (List ℕ)) → List Text
@@ -175,3 +175,7 @@ seen_types seen name = option_map (declared_type name) (first_reached seen.reach
 
 abbrev pub environment_in : Context → Environment
 environment_in c = record { syntax = c.syntax; types = seen_types c.seen; scope = texts c.scope.now; custom = no_custom }
+
+-- the same for a whole file, by what it sees
+abbrev pub environment_of_file : Seen → FileSyntax → Environment
+environment_of_file seen t = record { syntax = t.syntax; types = seen_types seen; scope = file_scope t; custom = no_custom }

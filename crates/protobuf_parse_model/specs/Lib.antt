@@ -15,7 +15,7 @@ pub mod Services
 pub mod Messages
 pub mod Contexts
 pub mod FileDescriptor
+pub mod FileParts
 pub mod Tables
 pub mod OptionSets
 pub mod Unsupported
-pub mod Elaboration

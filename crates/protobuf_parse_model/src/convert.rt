@@ -1,9 +1,11 @@
 //! From a file's tree to its descriptor.
 
 mod body;
+mod contents;
 mod customs;
 mod enumeration;
 mod field;
+mod file;
 mod generated;
 mod imports;
 mod lists;
@@ -19,15 +21,53 @@ mod service;
 mod statement;
 mod types;
 
+ghost use Rattle.std.specs.Prelude.{List, ◌++◌};
+ghost use Rattle.protobuf_parse_syntax.specs.Trees.{FileSyntax, file_view};
+ghost use Rattle.protobuf_parse_model.specs.Contexts.{environment_of_file};
+ghost use Rattle.protobuf_parse_model.specs.Descriptors as described;
+ghost use Rattle.protobuf_parse_model.specs.Environment.{no_custom};
+ghost use Rattle.protobuf_parse_model.specs.Faults.{Elaborates};
+ghost use Rattle.protobuf_parse_model.specs.FileDescriptor.{environment, file_faults, file_of};
+ghost use Rattle.protobuf_parse_model.specs.Tables.{Tells, picked};
+ghost use Rattle.protobuf_parse_model.specs.Unsupported.{unsupported_in};
+
+use crate::convert::file::file_descriptor;
 use crate::descriptor::FileDescriptorProto;
 use crate::error::ElabFailure;
+use crate::scope::Seen;
 use protobuf_parse_syntax::FileTree;
 use std::alloc::Global;
 
+/// The descriptor of a file.
+///
+/// Takes the path that the file is known by, its tree, and what it sees: the declarations of files, and the
+/// numbers of those among them that it reaches, itself with them. Where the declarations are those that
+/// `Declarations::add` made of files one after the other, the answer is what the language says of a file
+/// that sees the files with these numbers.
+///
+/// Where no fault stands in the file it gives the descriptor. Else it tells one that stands, whichever it
+/// meets first, unless memory runs out:
+///
+/// - E1: two things of one kind have one name in one scope;
+/// - E2, E3: the name of a type means none;
+/// - E4: a map or a group stands where none may;
+/// - E7: a range of a message has no end behind it;
+/// - E8 to E13: what a built-in option is set to, or its name, is wrong;
+/// - Unsupported: a custom option is set, or a file has 2147483648 imports or more, or a message as many
+///   statements.
+///
+/// E5 and E6, for full names that the reached files declare twice, are not looked for here.
 pub fn elaborate(
     alloc: Global,
     name: &str,
     tree: &FileTree,
-) -> Result<FileDescriptorProto, ElabFailure> {
-    Err(ElabFailure::Memory)
+    seen: &Seen<'_>,
+) -> Result<FileDescriptorProto, ElabFailure>
+    ensures by_table { let t = file_view tree.now in let env = environment_of_file seen.now t in
+        Elaborates described.file_view result (unsupported_in t ++ file_faults env t) (file_of env name.now t) }
+    ensures by_files { (files : List FileSyntax) → Tells seen.now.declarations.now files →
+        let t = file_view tree.now in let env = environment (picked files seen.now.reach.now) no_custom t in
+        Elaborates described.file_view result (unsupported_in t ++ file_faults env t) (file_of env name.now t) }
+{
+    file_descriptor(alloc, name, tree, seen)
 }

@@ -107,10 +107,8 @@ pub enum ElabErrorKind {
     /// The name of an option goes on from `uninterpreted_option`.
     #[error("E28 UninterpretedOptionName")]
     UninterpretedOptionName,
-    /// A construct of the language that has no descriptor yet. Its word is `option`, `enum`,
-    /// `extend` or `service` in a file, or `import` where the imports are 2147483648 or more; `reserved`, `oneof`, `extend`, `message`, `enum`, `extensions`,
-    /// `option` or `group` in a message; and at a field `map`, `type` for a type that is named, `optional`
-    /// for that label in proto3, or `option` for its options.
+    /// What has no descriptor. Its word is `option` for a custom option, `import` where the imports are
+    /// 2147483648 or more, and the name of a message where the statements of its body are.
     #[error("Unsupported")]
     Unsupported,
 }

@@ -17,3 +17,4 @@ pub use descriptor::{
 };
 pub use error::{ElabError, ElabErrorKind, ElabFailure};
 pub use laws::types_are_looked_up;
+pub use scope::{Declaration, Declarations, Seen, TypeKind};

@@ -11,6 +11,7 @@ mod declare;
 mod seen;
 
 use crate::descriptor::FieldType;
+pub use declare::package_scope;
 use protobuf_parse_syntax::Syntax;
 pub use seen::{Declaration, Declarations, Seen, TypeKind};
 use std::alloc::{AllocError, Global};

@@ -6,11 +6,13 @@ ghost use Rattle.protobuf_parse_model.specs.Descriptors as described;
 ghost use Rattle.protobuf_parse_model.specs.Duplicates.{duplicates};
 ghost use Rattle.protobuf_parse_model.specs.Faults.{Elaborates};
 ghost use Rattle.protobuf_parse_model.specs.Fields as spec;
+ghost use Rattle.protobuf_parse_model.specs.FileDescriptor as files;
 ghost use Rattle.protobuf_parse_model.specs.Messages as bodies;
 
 use crate::convert::refuse::check_unique;
 use crate::descriptor::{
     DescriptorProto, EnumDescriptorProto, FieldDescriptorProto, OneofDescriptorProto,
+    ServiceDescriptorProto,
 };
 use crate::error::ElabFailure;
 use std::alloc::{AllocError, Global};
@@ -94,4 +96,17 @@ pub fn unlike_messages(alloc: Global, messages: &[DescriptorProto]) -> Result<()
     ensures { Elaborates (λ u. u) result (duplicates (bodies.names_of_messages (map described.message_view messages.now))) tt }
 {
     check_unique(alloc, &names_of_messages(alloc, messages)?)
+
+/// The names of services.
+pub fn names_of_services(
+    alloc: Global,
+    services: &[ServiceDescriptorProto],
+) -> Result<Vec<&str>, AllocError>
+    ensures { IfOk result (λ v. texts v.items ≡ files.names_of_services (map described.service_view services.now)) }
+{
+    let mut names = Vec::new(alloc);
+    for service in services {
+        names.push(service.name.as_str())?;
+    }
+    Ok(names)
 }

@@ -62,7 +62,7 @@ fn add_declared<'a>(
 }
 
 /// The identifiers of the file's package.
-fn package_scope<'a>(alloc: Global, tree: &'a FileTree) -> Result<Vec<&'a str>, AllocError>
+pub fn package_scope<'a>(alloc: Global, tree: &'a FileTree) -> Result<Vec<&'a str>, AllocError>
     ensures { IfOk result (λ v. texts v.items ≡ names.file_scope (file_view tree.now)) }
 {
     match tree.package() {

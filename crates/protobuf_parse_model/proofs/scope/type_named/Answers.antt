@@ -1,4 +1,4 @@
-use Rattle.std.proofs.Common.{◌≡◌, ◌∙◌, sym, ap, arith, option_map}
+use Rattle.std.proofs.Common.{◌∙◌, sym, ap, arith, option_map}
 use Rattle.protobuf_parse_model.specs.Contexts.{meaning_view, seen_types}
 use Rattle.protobuf_parse_model.proofs.Scopes.{found-here, none-here}
 use Rattle.protobuf_parse_model.proofs.scope.type_named.Goals as goal

@@ -1,4 +1,4 @@
-use Rattle.std.proofs.Common.{◌≡◌, ◌≤◌, false, length, take}
+use Rattle.std.proofs.Common.{◌≡◌, ◌≤◌, length, take}
 use Rattle.protobuf_parse_base.specs.Names.{fronts}
 use Rattle.protobuf_parse_model.specs.Environment.{type_named}
 use Rattle.protobuf_parse_model.specs.Lookup.{declared_in_first}

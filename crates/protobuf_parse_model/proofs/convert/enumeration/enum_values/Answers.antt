@@ -1,5 +1,5 @@
 use Rattle.std.proofs.Common.{◌∙◌, List, ap, map, subst}
-use Rattle.std.specs.Global.{Global, Vec}
+use Rattle.std.specs.Global.{Vec}
 use Rattle.protobuf_parse_syntax.specs.Trees.{EnumValueSyntax}
 use Rattle.protobuf_parse_model.specs.Contexts.{environment_in, values_seen}
 use Rattle.protobuf_parse_model.specs.Descriptors.{enum_value_view}

@@ -1,5 +1,5 @@
 use Rattle.std.proofs.Common.{◌∙◌, List, ap, map, subst}
-use Rattle.std.specs.Global.{Global, Vec}
+use Rattle.std.specs.Global.{Vec}
 use Rattle.protobuf_parse_syntax.specs.Trees.{MethodSyntax}
 use Rattle.protobuf_parse_model.specs.Contexts.{environment_in, methods_seen}
 use Rattle.protobuf_parse_model.specs.Descriptors.{method_view}

@@ -1,0 +1,155 @@
+//! What the statements of a file declare.
+
+ghost use Rattle.std.specs.Prelude.{◌++◌, map, flat_map};
+ghost use Rattle.protobuf_parse_syntax.specs.Trees.{extend_view, file_extend, statement_view};
+ghost use Rattle.protobuf_parse_model.specs.Contexts.{environment_in};
+ghost use Rattle.protobuf_parse_model.specs.Descriptors as described;
+ghost use Rattle.protobuf_parse_model.specs.Duplicates.{duplicates};
+ghost use Rattle.protobuf_parse_model.specs.Faults.{Elaborates};
+ghost use Rattle.protobuf_parse_model.specs.Fields.{names_of_fields};
+ghost use Rattle.protobuf_parse_model.specs.FileDescriptor.{names_of_services, statement_faults};
+ghost use Rattle.protobuf_parse_model.specs.FileParts.{parts_faults, parts_of, parts_view, with_file_statement};
+ghost use Rattle.protobuf_parse_model.specs.Messages.{extend_faults, names_of_enums, names_of_messages};
+
+use crate::convert::enumeration::enum_descriptor;
+use crate::convert::lists::fields_of_extend;
+use crate::convert::message::message_descriptor;
+use crate::convert::names::{
+    names_of_enums, names_of_fields, names_of_messages, names_of_services,
+};
+use crate::convert::refuse::check_unique;
+use crate::convert::service::service_descriptor;
+use crate::descriptor::{
+    DescriptorProto, EnumDescriptorProto, FieldDescriptorProto, ServiceDescriptorProto,
+};
+use crate::error::ElabFailure;
+use crate::scope::Context;
+use protobuf_parse_syntax::{Extend, FileStatement};
+use std::alloc::Global;
+
+/// What the statements of a file declare, each list in source order.
+#[derive(Debug, Drop)]
+pub struct Contents {
+    pub message_type: Vec<DescriptorProto>,
+    pub enum_type: Vec<EnumDescriptorProto>,
+    pub service: Vec<ServiceDescriptorProto>,
+    pub extension: Vec<FieldDescriptorProto>,
+}
+
+/// What these statements declare, of which no two of a kind have one name: E1. The faults inside each
+/// are told too.
+#[tactic(auto, using(crate::proofs::Blaming::blames_left, crate::proofs::Blaming::blames_right))]
+pub fn contents_of(
+    alloc: Global,
+    context: &Context<'_>,
+    statements: &[FileStatement],
+) -> Result<Contents, ElabFailure>
+    ensures { let env = environment_in context.now in let ss = map statement_view statements.now in
+        Elaborates parts_view result (parts_faults (parts_of env ss) ++ flat_map (statement_faults env) ss) (parts_of env ss) }
+{
+    let contents = declared(alloc, context, statements)?;
+    check_names(alloc, &contents)?;
+    Ok(contents)
+}
+
+/// Refuses two messages, enums, extensions or services that have one name: E1.
+#[tactic(auto, using(crate::proofs::Blaming::blames_left, crate::proofs::Blaming::blames_right))]
+fn check_names(alloc: Global, contents: &Contents) -> Result<(), ElabFailure>
+    ensures { Elaborates (λ u. u) result (parts_faults (parts_view contents.now)) tt }
+{
+    check_messages(alloc, &contents.message_type)?;
+    check_enums(alloc, &contents.enum_type)?;
+    check_extensions(alloc, &contents.extension)?;
+    check_services(alloc, &contents.service)
+}
+
+fn check_messages(alloc: Global, messages: &[DescriptorProto]) -> Result<(), ElabFailure>
+    ensures { Elaborates (λ u. u) result (duplicates (names_of_messages (map described.message_view messages.now))) tt }
+{
+    check_unique(alloc, &names_of_messages(alloc, messages)?)
+}
+
+fn check_enums(alloc: Global, enums: &[EnumDescriptorProto]) -> Result<(), ElabFailure>
+    ensures { Elaborates (λ u. u) result (duplicates (names_of_enums (map described.enum_view enums.now))) tt }
+{
+    check_unique(alloc, &names_of_enums(alloc, enums)?)
+}
+
+fn check_extensions(alloc: Global, extensions: &[FieldDescriptorProto]) -> Result<(), ElabFailure>
+    ensures { Elaborates (λ u. u) result (duplicates (names_of_fields (map described.field_view extensions.now))) tt }
+{
+    check_unique(alloc, &names_of_fields(alloc, extensions)?)
+}
+
+fn check_services(alloc: Global, services: &[ServiceDescriptorProto]) -> Result<(), ElabFailure>
+    ensures { Elaborates (λ u. u) result (duplicates (names_of_services (map described.service_view services.now))) tt }
+{
+    check_unique(alloc, &names_of_services(alloc, services)?)
+}
+
+/// What these statements declare.
+#[tactic(auto, using(crate::proofs::Blaming::blames_at))]
+fn declared(
+    alloc: Global,
+    context: &Context<'_>,
+    statements: &[FileStatement],
+) -> Result<Contents, ElabFailure>
+    ensures { let env = environment_in context.now in let ss = map statement_view statements.now in
+        Elaborates parts_view result (flat_map (statement_faults env) ss) (parts_of env ss) }
+{
+    let mut contents = Contents {
+        message_type: Vec::new(alloc),
+        enum_type: Vec::new(alloc),
+        service: Vec::new(alloc),
+        extension: Vec::new(alloc),
+    };
+    for statement in statements {
+        add_statement(alloc, context, &mut contents, statement)?;
+    }
+    Ok(contents)
+}
+
+/// Adds what a statement declares.
+fn add_statement(
+    alloc: Global,
+    context: &Context<'_>,
+    contents: &mut Contents,
+    statement: &FileStatement,
+) -> Result<(), ElabFailure>
+    ensures { let env = environment_in context.now in let s = statement_view statement.now in
+        Elaborates (λ _. parts_view contents.new) result (statement_faults env s) (with_file_statement env (parts_view contents.old) s) }
+{
+    match statement {
+        FileStatement::Message(message) => {
+            let descriptor = message_descriptor(alloc, context, message)?;
+            contents.message_type.push(descriptor)?;
+        }
+        FileStatement::Enumeration(enumeration) => {
+            let descriptor = enum_descriptor(alloc, context, enumeration)?;
+            contents.enum_type.push(descriptor)?;
+        }
+        FileStatement::Service(service) => {
+            let descriptor = service_descriptor(alloc, context, service)?;
+            contents.service.push(descriptor)?;
+        }
+        FileStatement::Extend(extend) => add_extensions(alloc, context, contents, extend)?,
+        FileStatement::Import(_) | FileStatement::Package(_) | FileStatement::Option(_) => {}
+    }
+    Ok(())
+}
+
+/// Adds the extensions of an `extend`, and the messages behind their groups.
+fn add_extensions(
+    alloc: Global,
+    context: &Context<'_>,
+    contents: &mut Contents,
+    extend: &Extend,
+) -> Result<(), ElabFailure>
+    ensures { let env = environment_in context.now in let e = extend_view extend.now in
+        Elaborates (λ _. parts_view contents.new) result (extend_faults env e) (with_file_statement env (parts_view contents.old) (file_extend e)) }
+{
+    let mut declared = fields_of_extend(alloc, context, &extend.extendee, &extend.fields)?;
+    contents.extension.append(&mut declared.fields)?;
+    contents.message_type.append(&mut declared.behind)?;
+    Ok(())
+}

@@ -1,0 +1,146 @@
+//! Files.
+
+ghost use Rattle.std.specs.Prelude.{◌≡◌, ◌++◌, ◌<◌, ◌^◌, length, map, flat_map, option_map, string_bytes, IfOk};
+ghost use Rattle.std.specs.Borrow.{Bor};
+ghost use Rattle.protobuf_parse_syntax.specs.Dependencies as dependencies;
+ghost use Rattle.protobuf_parse_syntax.specs.Trees.{file_view, import_view, package_of, statement_view};
+ghost use Rattle.protobuf_parse_syntax.specs.declared.tree.Import.{Import};
+ghost use Rattle.protobuf_parse_model.specs.BuiltinOptions.{file_table, options_faults};
+ghost use Rattle.protobuf_parse_model.specs.Contexts.{environment_in, environment_of_file};
+ghost use Rattle.protobuf_parse_model.specs.Descriptors as described;
+ghost use Rattle.protobuf_parse_model.specs.Faults.{Elaborates};
+ghost use Rattle.protobuf_parse_model.specs.FileDescriptor.{file_faults, file_of, options_in_file, syntax_text};
+ghost use Rattle.protobuf_parse_model.specs.OptionViews.{nowhere, options_seen};
+ghost use Rattle.protobuf_parse_model.specs.Options.{file_options_view};
+ghost use Rattle.protobuf_parse_model.specs.OptionsSet as sets;
+ghost use Rattle.protobuf_parse_model.specs.Unsupported.{imports_beyond_positions, unsupported_in, unsupported_statement};
+
+use crate::convert::contents::contents_of;
+use crate::convert::customs::refuse_customs;
+use crate::convert::imports::{check_number, imports, paths, public_positions, weak_positions};
+use crate::convert::options::{check_options, file_options, file_table};
+use crate::descriptor::{FileDescriptorProto, FileOptions};
+use crate::error::ElabFailure;
+use crate::scope::{Context, Seen, package_scope};
+use protobuf_parse_syntax::{FileStatement, FileTree, Import, ProtobufOption, Syntax};
+use std::alloc::{AllocError, Global};
+
+/// The descriptor of a file that is known by the path `name`, by what it sees.
+///
+/// E1 where two messages, enums, extensions or services of the file have one name, the faults of its options
+/// and those inside what it declares; Unsupported where it sets a custom option. Where several faults stand,
+/// any one of them is told.
+pub fn file_descriptor(
+    alloc: Global,
+    name: &str,
+    tree: &FileTree,
+    seen: &Seen<'_>,
+) -> Result<FileDescriptorProto, ElabFailure>
+    ensures { let t = file_view tree.now in let env = environment_of_file seen.now t in
+        Elaborates described.file_view result (unsupported_in t ++ file_faults env t) (file_of env name.now t) }
+{
+    let scope = package_scope(alloc, tree)?;
+    let context = Context {
+        syntax: tree.syntax,
+        seen: *seen,
+        scope: &scope,
+    };
+    descriptor_in(alloc, &context, name, tree)
+}
+
+/// The descriptor of a file, of which each construct is seen from the context.
+#[tactic(auto, using(crate::proofs::Blaming::blames_left, crate::proofs::Blaming::blames_right))]
+fn descriptor_in(
+    alloc: Global,
+    context: &Context<'_>,
+    name: &str,
+    tree: &FileTree,
+) -> Result<FileDescriptorProto, ElabFailure>
+    ensures { let t = file_view tree.now in let env = environment_in context.now in
+        Elaborates described.file_view result (unsupported_in t ++ file_faults env t) (file_of env name.now t) }
+{
+    let imports = supported_imports(alloc, &tree.statements)?;
+    let contents = contents_of(alloc, context, &tree.statements)?;
+    let options = checked_options(alloc, &tree.statements)?;
+    let name = String::from_str(alloc, name)?;
+    let syntax = String::from_str(alloc, syntax_text(tree.syntax))?;
+    let package = package_of(alloc, tree)?;
+    Ok(FileDescriptorProto {
+        name: Some(name),
+        package,
+        syntax: Some(syntax),
+        dependency: paths(alloc, &imports)?,
+        public_dependency: public_positions(alloc, &imports)?,
+        weak_dependency: weak_positions(alloc, &imports)?,
+        message_type: contents.message_type,
+        enum_type: contents.enum_type,
+        service: contents.service,
+        extension: contents.extension,
+        options,
+    })
+}
+
+/// The imports of a file, each of which has a position, where the file sets no custom option.
+#[tactic(auto, using(crate::proofs::Blaming::blames_left, crate::proofs::Blaming::blames_right))]
+fn supported_imports(
+    alloc: Global,
+    statements: &[FileStatement],
+) -> Result<Vec<&Import>, ElabFailure>
+    ensures told { let ss = map statement_view statements.now in
+        Elaborates (λ v. map (λ (i : Bor Import). import_view i.now) v.items) result (imports_beyond_positions (length (dependencies.imports ss)) ++ flat_map unsupported_statement ss) (dependencies.imports ss) }
+    ensures few { IfOk result (λ v. length v.items < 2 ^ 31) }
+{
+    let imports = imports(alloc, statements)?;
+    check_number(alloc, &imports)?;
+    refuse_customs(alloc, statements)?;
+    Ok(imports)
+}
+
+/// What the options of a file set, and the faults in them.
+#[tactic(auto, using(crate::proofs::Blaming::blames_left, crate::proofs::Blaming::blames_right))]
+fn checked_options(
+    alloc: Global,
+    statements: &[FileStatement],
+) -> Result<Option<FileOptions>, ElabFailure>
+    ensures { let os = flat_map options_in_file (map statement_view statements.now) in
+        Elaborates (λ o. option_map file_options_view o) result (options_faults file_table os) (sets.file_options nowhere os) }
+{
+    let options = options_in(alloc, statements)?;
+    check_options(alloc, file_table(), &options)?;
+    Ok(file_options(alloc, &options)?)
+}
+
+/// The options of a file.
+fn options_in(
+    alloc: Global,
+    statements: &[FileStatement],
+) -> Result<Vec<&ProtobufOption>, AllocError>
+    ensures { IfOk result (λ v. options_seen v.items ≡ flat_map options_in_file (map statement_view statements.now)) }
+{
+    let mut options = Vec::new(alloc);
+    for statement in statements {
+        if let FileStatement::Option(statement) = statement {
+            options.push(&statement.option)?;
+        }
+    }
+    Ok(options)
+}
+
+fn syntax_text(syntax: Syntax) -> &'static str
+    ensures { result.now ≡ syntax_text syntax }
+{
+    match syntax {
+        Syntax::Proto2 => "proto2",
+        Syntax::Proto3 => "proto3",
+    }
+}
+
+/// The package of a file, in a text of its own.
+fn package_of(alloc: Global, tree: &FileTree) -> Result<Option<String>, AllocError>
+    ensures { IfOk result (λ p. option_map string_bytes p ≡ package_of (file_view tree.now)) }
+{
+    match tree.package() {
+        Some(name) => Ok(Some(String::from_str(alloc, name)?)),
+        None => Ok(None),
+    }
+}
