@@ -4,20 +4,15 @@ ghost use Rattle.std.specs.Prelude.{◌++◌, map, flat_map};
 ghost use Rattle.protobuf_parse_syntax.specs.Trees.{extend_view, file_extend, statement_view};
 ghost use Rattle.protobuf_parse_model.specs.Contexts.{environment_in};
 ghost use Rattle.protobuf_parse_model.specs.Descriptors as described;
-ghost use Rattle.protobuf_parse_model.specs.Duplicates.{duplicates};
 ghost use Rattle.protobuf_parse_model.specs.Faults.{Elaborates};
-ghost use Rattle.protobuf_parse_model.specs.Fields.{names_of_fields};
-ghost use Rattle.protobuf_parse_model.specs.FileDescriptor.{names_of_services, statement_faults};
+ghost use Rattle.protobuf_parse_model.specs.FileDescriptor.{statement_faults};
 ghost use Rattle.protobuf_parse_model.specs.FileParts.{parts_faults, parts_of, parts_view, with_file_statement};
-ghost use Rattle.protobuf_parse_model.specs.Messages.{extend_faults, names_of_enums, names_of_messages};
+ghost use Rattle.protobuf_parse_model.specs.Messages.{extend_faults};
 
 use crate::convert::enumeration::enum_descriptor;
 use crate::convert::lists::fields_of_extend;
 use crate::convert::message::message_descriptor;
-use crate::convert::names::{
-    names_of_enums, names_of_fields, names_of_messages, names_of_services,
-};
-use crate::convert::refuse::check_unique;
+use crate::convert::names::{unlike_enums, unlike_fields, unlike_messages, unlike_services};
 use crate::convert::service::service_descriptor;
 use crate::descriptor::{
     DescriptorProto, EnumDescriptorProto, FieldDescriptorProto, ServiceDescriptorProto,
@@ -57,34 +52,10 @@ pub fn contents_of(
 fn check_names(alloc: Global, contents: &Contents) -> Result<(), ElabFailure>
     ensures { Elaborates (λ u. u) result (parts_faults (parts_view contents.now)) tt }
 {
-    check_messages(alloc, &contents.message_type)?;
-    check_enums(alloc, &contents.enum_type)?;
-    check_extensions(alloc, &contents.extension)?;
-    check_services(alloc, &contents.service)
-}
-
-fn check_messages(alloc: Global, messages: &[DescriptorProto]) -> Result<(), ElabFailure>
-    ensures { Elaborates (λ u. u) result (duplicates (names_of_messages (map described.message_view messages.now))) tt }
-{
-    check_unique(alloc, &names_of_messages(alloc, messages)?)
-}
-
-fn check_enums(alloc: Global, enums: &[EnumDescriptorProto]) -> Result<(), ElabFailure>
-    ensures { Elaborates (λ u. u) result (duplicates (names_of_enums (map described.enum_view enums.now))) tt }
-{
-    check_unique(alloc, &names_of_enums(alloc, enums)?)
-}
-
-fn check_extensions(alloc: Global, extensions: &[FieldDescriptorProto]) -> Result<(), ElabFailure>
-    ensures { Elaborates (λ u. u) result (duplicates (names_of_fields (map described.field_view extensions.now))) tt }
-{
-    check_unique(alloc, &names_of_fields(alloc, extensions)?)
-}
-
-fn check_services(alloc: Global, services: &[ServiceDescriptorProto]) -> Result<(), ElabFailure>
-    ensures { Elaborates (λ u. u) result (duplicates (names_of_services (map described.service_view services.now))) tt }
-{
-    check_unique(alloc, &names_of_services(alloc, services)?)
+    unlike_messages(alloc, &contents.message_type)?;
+    unlike_enums(alloc, &contents.enum_type)?;
+    unlike_fields(alloc, &contents.extension)?;
+    unlike_services(alloc, &contents.service)
 }
 
 /// What these statements declare.

@@ -70,6 +70,20 @@ pub fn names_of_messages(
     Ok(names)
 }
 
+/// The names of services.
+pub fn names_of_services(
+    alloc: Global,
+    services: &[ServiceDescriptorProto],
+) -> Result<Vec<&str>, AllocError>
+    ensures { IfOk result (λ v. texts v.items ≡ files.names_of_services (map described.service_view services.now)) }
+{
+    let mut names = Vec::new(alloc);
+    for service in services {
+        names.push(service.name.as_str())?;
+    }
+    Ok(names)
+}
+
 /// Refuses two fields that have one name: E1.
 pub fn unlike_fields(alloc: Global, fields: &[FieldDescriptorProto]) -> Result<(), ElabFailure>
     ensures { Elaborates (λ u. u) result (duplicates (spec.names_of_fields (map described.field_view fields.now))) tt }
@@ -96,17 +110,14 @@ pub fn unlike_messages(alloc: Global, messages: &[DescriptorProto]) -> Result<()
     ensures { Elaborates (λ u. u) result (duplicates (bodies.names_of_messages (map described.message_view messages.now))) tt }
 {
     check_unique(alloc, &names_of_messages(alloc, messages)?)
+}
 
-/// The names of services.
-pub fn names_of_services(
+/// Refuses two services that have one name: E1.
+pub fn unlike_services(
     alloc: Global,
     services: &[ServiceDescriptorProto],
-) -> Result<Vec<&str>, AllocError>
-    ensures { IfOk result (λ v. texts v.items ≡ files.names_of_services (map described.service_view services.now)) }
+) -> Result<(), ElabFailure>
+    ensures { Elaborates (λ u. u) result (duplicates (files.names_of_services (map described.service_view services.now))) tt }
 {
-    let mut names = Vec::new(alloc);
-    for service in services {
-        names.push(service.name.as_str())?;
-    }
-    Ok(names)
+    check_unique(alloc, &names_of_services(alloc, services)?)
 }
