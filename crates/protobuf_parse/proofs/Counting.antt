@@ -1,5 +1,5 @@
 -- How often files are met: once for each input and each import statement of the files that are loaded.
-use Rattle.std.proofs.Common.{◌≡◌, ℕ, ◌+◌, ◌-◌, ◌<◌, ◌≤◌, true, false, cond, List, [], ◌∷◌, ◌++◌, map, Some, Result, Ok, Err, refl, sym, ◌∙◌, ap, subst, append-nil, append_assoc, length, arith}
+use Rattle.std.proofs.Common.{◌≡◌, ℕ, ◌+◌, ◌-◌, ◌<◌, ◌≤◌, true, false, cond, List, [], ◌∷◌, ◌++◌, Some, Result, Ok, Err, refl, sym, ◌∙◌, ap, subst, append-nil, append_assoc, length, arith}
 use Rattle.std.specs.Prelude.{String}
 use Rattle.std.specs.Global.{Global}
 use Rattle.protobuf_parse_syntax.specs.Trees.{FileSyntax}
@@ -17,10 +17,6 @@ use Rattle.protobuf_parse.proofs.Steps.{so_far-append, opened, loaded-again}
 pub counted : {X E : Type 0} (r : Result X E) (meets count : ℕ) → meets ≡ count → IsCounted meets count r
 counted (Ok x) meets count e = e
 counted (Err f) meets count e = omega (arith, e)
-
-pub lengths : {A B : Type 0} (f : A → B) (xs : List A) → length (map f xs) ≡ length xs
-lengths f [] = refl
-lengths f (x ∷ xs) = let h = lengths f xs in omega arith
 
 pub statements-append : (trees : Trees) (xs ys : List Event) → statements trees (xs ++ ys) ≡ statements trees xs + statements trees ys
 statements-append trees [] ys = omega arith

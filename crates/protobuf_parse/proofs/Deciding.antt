@@ -5,13 +5,13 @@ use Rattle.protobuf_parse_base.specs.PathViews.{path_buf_text}
 use Rattle.protobuf_parse_syntax.specs.Trees.{FileSyntax, file_view}
 use Rattle.protobuf_parse_syntax.specs.declared.tree.FileTree.{FileTree}
 use Rattle.protobuf_parse_model.specs.Descriptors.{Text}
-use Rattle.protobuf_parse_model.specs.Environment.{no_custom}
+use Rattle.protobuf_parse_model.specs.Environment.{no_custom, CustomBytes}
 use Rattle.protobuf_parse.specs.declared.run.fault.RunFault.{RunFault}
 use Rattle.protobuf_parse.specs.declared.run.loader.LoadedFile.{LoadedFile}
 use Rattle.protobuf_parse.specs.declared.run.log.ReadEntry.{ReadEntry}
 use Rattle.protobuf_parse.specs.declared.run.log.ReadOutcome.{ReadOutcome}
-use Rattle.protobuf_parse.specs.Walks.{Asked, Event, among}
-use Rattle.protobuf_parse.specs.Run.{Files, HaveTrees, IsTree, IsTheTree, first_read, text_given, text_read}
+use Rattle.protobuf_parse.specs.Walks.{Asked, Event, among, Trees}
+use Rattle.protobuf_parse.specs.Run.{Files, HaveTrees, IsTree, IsTheTree, first_read, text_given, text_read, HasTrees}
 use Rattle.protobuf_parse.specs.Loading.{Legal, Entry, GoesOn, Good, IsDecided, ReadsTree, file_at, read_paths}
 use Rattle.protobuf_parse.proofs.Keeping.{bool_cases, text-true}
 use Rattle.protobuf_parse.proofs.Steps.{loaded-at}
@@ -110,9 +110,16 @@ decided-none table q = (None, untold)
 pub have-trees : (table : List (Text × Text)) (log : List ReadEntry) → IsDecided table log → HaveTrees table log
 have-trees table log d = (λ p. (d p).0, λ p. (d p).1)
 
+-- the files of a run with this log
+abbrev pub run-files : List (Text × Text) → List ReadEntry → Trees → (Text → List FileSyntax) → (Text → CustomBytes) → Files
+run-files table log trees sees custom = record { bundled = table; reads = log; trees = trees; sees = sees; custom = custom }
+
+pub goes-on : (table : List (Text × Text)) (log : List ReadEntry) (trees : Trees) (sees : Text → List FileSyntax) (custom : Text → CustomBytes) → HasTrees table log trees → GoesOn (run-files table log trees sees custom) table log
+goes-on table log trees sees custom h = record { bundled = refl; reads = ([], sym (append-nil log)); trees = h }
+
 -- the files of a run that read this log and no more
 abbrev pub files-so_far : (table : List (Text × Text)) (log : List ReadEntry) → IsDecided table log → Files
-files-so_far table log d = record { bundled = table; reads = log; trees = λ p. (d p).0; sees = λ p. []; custom = λ p. no_custom }
+files-so_far table log d = run-files table log (λ p. (d p).0) (λ p. []) (λ p. no_custom)
 
 pub goes-so_far : (table : List (Text × Text)) (log : List ReadEntry) (d : IsDecided table log) → GoesOn (files-so_far table log d) table log
-goes-so_far table log d = record { bundled = refl; reads = ([], sym (append-nil log)); trees = λ p. (d p).1.0 }
+goes-so_far table log d = goes-on table log (λ p. (d p).0) (λ p. []) (λ p. no_custom) (λ p. (d p).1.0)

@@ -2,7 +2,7 @@
 use Rattle.std.proofs.Common.{◌≡◌, ℕ, suc, ◌+◌, ◌-◌, ◌*◌, ◌<◌, ◌≤◌, true, false, inl, inr, List, [], ◌∷◌, ◌++◌, map, Option, Some, None, Result, Ok, Err, refl, sym, ◌∙◌, ap, subst, append_assoc, append-nil, length, max, arith, take, drop, get_or, drop-cons, not}
 use Rattle.std.specs.Prelude.{String, string_bytes, IfOk, OnOk}
 use Rattle.std.specs.Global.{Global}
-use Rattle.std.proofs.lemmas.List.{length_push, take_at, take_more, take-append-drop}
+use Rattle.std.proofs.lemmas.List.{length-map, map-append, length_push, take_at, take_more, take-append-drop}
 use Rattle.protobuf_parse_syntax.specs.Trees.{FileSyntax, file_view}
 use Rattle.protobuf_parse_syntax.specs.declared.tree.FileTree.{FileTree}
 use Rattle.protobuf_parse_model.specs.Descriptors.{Text}
@@ -20,19 +20,13 @@ use Rattle.protobuf_parse.proofs.Keeping.{has-elab, among-last}
 use Rattle.protobuf_parse.proofs.Steps.{Grows-trans, room-is, good-load, breaks-now, stops-cycle, stops-no_room, stops-tall, loaded-again, halts-load, unread-first, loop-step, loop-stops, loop-breaks, loop-end, loop-refused, tree-read, none-file}
 
 pub texts-length : (chain : List (String Global)) → length (texts chain) ≡ length chain
-texts-length [] = refl
-texts-length (s ∷ chain) = let h = texts-length chain in omega arith
+texts-length chain = length-map chain string_bytes
 
 pub texts-push : (chain : List (String Global)) (s : String Global) (p : Text) → string_bytes s ≡ p → texts (chain ++ s ∷ []) ≡ texts chain ++ p ∷ []
-texts-push [] s p h = ap (λ z. z ∷ []) h
-texts-push (x ∷ chain) s p h = ap (λ z. string_bytes x ∷ z) (texts-push chain s p h)
+texts-push chain s p h = map-append string_bytes chain (s ∷ []) ∙ ap (λ z. texts chain ++ z ∷ []) h
 
 pub init-bound : (m n k x y : ℕ) → x ≡ m + 1 → y ≡ n + 1 → x + (n + 1) * k ≤ m + 1 + 0 + y * k
 init-bound m n k x y e f = rw (e, f) (omega arith)
-
-map-append : {A B : Type 0} (f : A → B) (xs ys : List A) → map f (xs ++ ys) ≡ map f xs ++ map f ys
-map-append f [] ys = refl
-map-append f (x ∷ xs) ys = ap (λ z. f x ∷ z) (map-append f xs ys)
 
 -- the elements before one, it, and those after it
 pub split-at : {A B : Type 0} (f : A → B) (xs : List A) (n : ℕ) (b : A) → n < length xs → b ≡ get_or xs n b → map f xs ≡ map f (take n xs) ++ f b ∷ map f (drop (suc n) xs)

@@ -4,7 +4,7 @@ use Rattle.std.specs.Prelude.{bytes_eq, string_bytes, slice_get}
 use Rattle.std.specs.List.{AllByRecursion}
 use Rattle.std.proofs.lemmas.Bool.{or_from}
 use Rattle.std.proofs.lemmas.Bool.Decides.{nat_tests}
-use Rattle.std.proofs.lemmas.List.{length_push}
+use Rattle.std.proofs.lemmas.List.{map-append, length_push}
 use Rattle.std.proofs.lemmas.Option.{slice_get_read}
 use Rattle.std.proofs.Math.Seq.{get_or-append_seam}
 use Rattle.protobuf_parse_base.specs.PathViews.{path_buf_text}
@@ -26,12 +26,10 @@ use Rattle.protobuf_parse.proofs.Walking.{walk-on_chain, walk-no_room, walk-load
 -- ** lists of what was read and loaded
 
 pub read_paths-append : (xs ys : List ReadEntry) → read_paths (xs ++ ys) ≡ read_paths xs ++ read_paths ys
-read_paths-append [] ys = refl
-read_paths-append (x ∷ xs) ys = ap (λ z. path_buf_text x.path ∷ z) (read_paths-append xs ys)
+read_paths-append xs ys = map-append (λ (e : ReadEntry). path_buf_text e.path) xs ys
 
 pub paths_of-append : (xs ys : List Entry) → paths_of (xs ++ ys) ≡ paths_of xs ++ paths_of ys
-paths_of-append [] ys = refl
-paths_of-append (x ∷ xs) ys = ap (λ z. string_bytes x.0 ∷ z) (paths_of-append xs ys)
+paths_of-append xs ys = map-append (λ (e : Entry). string_bytes e.0) xs ys
 
 first_read-new : (p : Text) (log more : List ReadEntry) (e : ReadEntry) → among p (read_paths log) ≡ false → path_buf_text e.path ≡ p → first_read p (log ++ e ∷ more) ≡ Some e.outcome
 first_read-new p [] more e h is = rw (is, text-same p) refl

@@ -1,20 +1,19 @@
 -- What a run promises, from what its loading left.
-use Rattle.std.proofs.Common.{◌≡◌, Bool, true, ◌⊎◌, inl, inr, List, [], ◌∷◌, ◌++◌, map, Some, None, Result, Err, refl, sym, ◌∙◌, ap, append-nil, find}
+use Rattle.std.proofs.Common.{◌≡◌, Bool, true, ◌⊎◌, inl, inr, List, [], ◌∷◌, ◌++◌, map, Some, None, Result, Err, refl, sym, ◌∙◌, ap, append-nil, find, subst}
 use Rattle.std.specs.Prelude.{string_bytes}
 use Rattle.std.specs.Global.{Vec}
 use Rattle.std.specs.List.{AllByRecursion}
 use Rattle.protobuf_parse_model.specs.Descriptors.{Text}
 use Rattle.protobuf_parse_model.specs.declared.descriptor.FileDescriptorProto.{FileDescriptorProto}
-use Rattle.protobuf_parse_syntax.specs.Trees.{FileSyntax, file_view}
-use Rattle.protobuf_parse_model.specs.Environment.{CustomBytes}
+use Rattle.protobuf_parse_syntax.specs.Trees.{file_view}
 use Rattle.protobuf_parse.specs.declared.run.fault.RunFault.{RunFault}
 use Rattle.protobuf_parse.specs.declared.run.fault.RunFault.TheVariants as fault
 use Rattle.protobuf_parse.specs.declared.run.loader.LoadedFile.{LoadedFile}
 use Rattle.protobuf_parse.specs.declared.run.log.ReadEntry.{ReadEntry}
-use Rattle.protobuf_parse.specs.Walks.{Event, Input, Trees, events, until}
-use Rattle.protobuf_parse.specs.Run.{Files, HasTrees, AreDescriptors, IsAccepted, IsRefused, IsBroken, MayResolve, RunsByResolver, fails}
-use Rattle.protobuf_parse.specs.Loading.{Legal, Entry, GoesOn, Good, Stops, IsLoaded, paths_of}
-use Rattle.protobuf_parse.proofs.Deciding.{untold}
+use Rattle.protobuf_parse.specs.Walks.{Event, Input, events, until}
+use Rattle.protobuf_parse.specs.Run.{Files, AreDescriptors, IsAccepted, IsRefused, IsBroken, MayResolve, RunsByResolver, fails, shipped, HaveTrees, RunsAsTold, MayAnswer, FindsNothing}
+use Rattle.protobuf_parse.specs.Loading.{Legal, Entry, Good, Stops, IsLoaded, paths_of}
+use Rattle.protobuf_parse.proofs.Deciding.{untold, run-files}
 use Rattle.protobuf_parse.proofs.Keeping.{bool_cases}
 
 find-after : (test : Event → Bool) (xs ys : List Event) (e : Event) → find test xs ≡ None → test e ≡ true → find test (xs ++ e ∷ ys) ≡ Some e
@@ -74,24 +73,21 @@ module _ (legal : Legal) (files : Files) (told : List Event) where
     reads = h.answers;
   })
 
--- the files of a run with this log
-abbrev pub run-files : List (Text × Text) → List ReadEntry → Trees → (Text → List FileSyntax) → (Text → CustomBytes) → Files
-run-files table log trees sees custom = record { bundled = table; reads = log; trees = trees; sees = sees; custom = custom }
-
-pub goes-on : (table : List (Text × Text)) (log : List ReadEntry) (trees : Trees) (sees : Text → List FileSyntax) (custom : Text → CustomBytes) → HasTrees table log trees → GoesOn (run-files table log trees sees custom) table log
-goes-on table log trees sees custom h = record { bundled = refl; reads = ([], sym (append-nil log)); trees = h }
-
 -- memory runs out before the first input
 pub unstarted : (resolve : MayResolve) (inputs : List Input) (r : Result (Vec FileDescriptorProto) RunFault) (f : RunFault) → r ≡ Err f → f ≡ fault.Memory → RunsByResolver resolve inputs r
 unstarted resolve inputs r f is m = (
-  [],
   [],
   (λ p. None, λ p. untold),
   λ trees sees custom has. rw is (inr (record {
     memory = m;
     done = [];
-    rest = until (fails (run-files [] [] trees sees custom)) (events trees inputs);
+    rest = until (fails (run-files shipped [] trees sees custom)) (events trees inputs);
     beginning = refl;
     reads = tt;
   })),
 )
+
+-- a run with the files that this library brings
+pub by-resolver : (resolve : MayResolve) (log : List ReadEntry) (given inputs : List Input) (table : List (Text × Text)) (r : Result (Vec FileDescriptorProto) RunFault) → given ≡ inputs → table ≡ shipped → HaveTrees table log → RunsAsTold (MayAnswer resolve FindsNothing) given table log r → RunsByResolver resolve inputs r
+by-resolver resolve log given inputs table r is same trees told =
+    (log, (rw same at trees), subst (λ (z : List Input). RunsAsTold (MayAnswer resolve FindsNothing) z shipped log r) is (rw same at told))

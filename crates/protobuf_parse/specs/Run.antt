@@ -38,6 +38,10 @@ input_view (given.At name fs_path) = at (path_buf_text name) (string_bytes fs_pa
 abbrev pub rows : List (Bor (List ℕ) × Bor (List ℕ)) → List (Text × Text)
 rows table = map (λ (r : Bor (List ℕ) × Bor (List ℕ)). (r.0.now, r.1.now)) table
 
+-- the files that this library brings: none yet
+abbrev pub shipped : List (Text × Text)
+shipped = []
+
 -- ---- what was read
 
 -- the text of the first row with this path
@@ -263,7 +267,8 @@ abbrev pub Ends : (Asked → Text → ReadOutcome → Type 0) → Files → List
 Ends legal files events (Ok ds) = IsAccepted legal files events ds.items
 Ends legal files events (Err f) = IsRefused legal files events f ⊎ IsBroken legal files events f
 
--- L5 comes only where the resolver may give such a fault for the path, and L4 only where the reader may give one.
+-- L5 comes only where the resolver may give such a fault for the path, and L4 only where the reader may give that
+-- fault for some path.
 abbrev pub IsCaused : MayResolve → MayRead → RunFault → Type 0
 IsCaused resolve read (fault.Resolver path why) = (given : ResolveFault) × resolve (string_bytes path) (Err given) × (said why ≡ said given)
 IsCaused resolve read (fault.CouldNotReadFile path why) = (own : Text) × read own (Err why)
@@ -292,7 +297,7 @@ RunsAsTold legal inputs bundled log result =
 abbrev pub FindsNothing : MayRead
 FindsNothing own answer = answer ≡ Err unread.NotFound
 
--- A run over these inputs, by such a resolver and with some bundled files, read some log and ended so.
+-- A run over these inputs, by such a resolver and with the files that this library brings, read some log and ended so.
 abbrev pub RunsByResolver : MayResolve → List Input → Result (Vec FileDescriptorProto) RunFault → Type 0
 RunsByResolver resolve inputs result =
-    (bundled : List (Text × Text)) × (log : List ReadEntry) × HaveTrees bundled log × RunsAsTold (MayAnswer resolve FindsNothing) inputs bundled log result
+    (log : List ReadEntry) × HaveTrees shipped log × RunsAsTold (MayAnswer resolve FindsNothing) inputs shipped log result

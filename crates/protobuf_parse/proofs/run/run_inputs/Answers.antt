@@ -3,9 +3,9 @@ use Rattle.std.proofs.Common.{[], inr, refl, map, arith}
 use Rattle.protobuf_parse.specs.Walks.{events}
 use Rattle.protobuf_parse.specs.Run.{MayAnswer, input_view, rows}
 use Rattle.protobuf_parse.proofs.Causing.{caused}
-use Rattle.protobuf_parse.proofs.Counting.{lengths}
-use Rattle.protobuf_parse.proofs.Deciding.{have-trees}
-use Rattle.protobuf_parse.proofs.Telling.{accepted, broken, stopped, run-files, goes-on}
+use Rattle.std.proofs.lemmas.List.{length-map}
+use Rattle.protobuf_parse.proofs.Deciding.{goes-on, have-trees, run-files}
+use Rattle.protobuf_parse.proofs.Telling.{accepted, broken, stopped}
 use Rattle.protobuf_parse.proofs.run.run_inputs.Goals as goal
 use Rattle.protobuf_parse.proofs.run.run_inputs.Goals.{in-Ok+in-Ok-descriptors, in-Ok+in-Err-descriptors, in-Err}
 
@@ -38,7 +38,7 @@ returns-clause-meets g c trees has =
     let log = c.load_inputs-outcome.new.loader.reads.items in
     let files = run-files table log trees (λ p. []) (λ p. no_custom) in
     let go = goes-on table log trees (λ p. []) (λ p. no_custom) has in
-    let same = lengths input_view c.args.inputs.now in
+    let same = length-map c.args.inputs.now input_view in
     elim c.match-outcome.branch [
       | in-Ok+in-Ok-descriptors w ↦ rw w.result-is (omega (arith, same, w.in-Ok.ensures.count files go))
       | in-Ok+in-Err-descriptors w ↦ rw w.result-is (omega (arith, same, w.in-Ok.ensures.count files go))

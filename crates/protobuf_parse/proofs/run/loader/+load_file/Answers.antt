@@ -1,7 +1,7 @@
 use Rattle.std.proofs.Common.{◌≡◌, ◌++◌, ◌∷◌, [], Ok, Err, None, length, true, false, refl, sym, ap, ◌∙◌, arith, max, subst, append-nil, map, take, Bor, inl, inr, ◌^◌, add-one}
 use Rattle.std.specs.Prelude.{String}
 use Rattle.std.specs.Global.{Global, Vec}
-use Rattle.std.proofs.lemmas.List.{length_push, take_all}
+use Rattle.std.proofs.lemmas.List.{length_push, take_all, length-map}
 use Rattle.std.proofs.lemmas.Result.{err_from_is_err_and}
 use Rattle.protobuf_parse_base.specs.PathViews.{path_buf_text}
 use Rattle.protobuf_parse_model.specs.Descriptors.{Text}
@@ -14,7 +14,7 @@ use Rattle.protobuf_parse.proofs.Steps.{Grows-trans}
 use Rattle.protobuf_parse.proofs.Leaving.{texts-length, texts-push, init-bound, leaves-cycle, leaves-tall, leaves-again, leaves-full, leaves-read, leaves-open, leaves-before, leaves-step, leaves-err, leaves-push, leaves-end, tree-known, split-at, next-at, goes-back, goes-same, low-height, on_ok, popped}
 use Rattle.protobuf_parse.proofs.Deciding.{decided-file, decided-same}
 use Rattle.protobuf_parse.proofs.Reaching.{reached-again, reached-none, reached-step, reached-end}
-use Rattle.protobuf_parse.proofs.Counting.{counted, lengths, count-here, count-open, count-step, count-stop, count-end, count-again}
+use Rattle.protobuf_parse.proofs.Counting.{counted, count-here, count-open, count-step, count-stop, count-end, count-again}
 use Rattle.protobuf_parse.proofs.run.loader.+load_file.Goals as goal
 use Rattle.protobuf_parse.proofs.run.loader.+load_file.Goals.{then-placed-height, else-placed-height}
 
@@ -109,7 +109,7 @@ loop-import-init g t c =
       count = λ files kept go good.
           let known = tree-known _ files _ kept _ _ _ _ _ (asked_by c.args.fs_path) _ c.in_ok-tree.tree go ([], sym (append-nil _)) good off none r in
           let v = λ (b : Bor ProtoPathBuf). path_buf_text b.now in
-          let all = ap length (sym (ap (map v) c.deref-import-items.ensures.value ∙ c.in_ok-imports.ensures)) ∙ lengths v c.deref-import-items.result.now in
+          let all = ap length (sym (ap (map v) c.deref-import-items.ensures.value ∙ c.in_ok-imports.ensures)) ∙ length-map c.deref-import-items.result.now v in
           count-open files.trees kept (path_buf_text c.args.input.now) (asked_by c.args.fs_path) _ (texts c.args.loader.now.chain.items) _ _ _ _ 0 known all c.read_tree.ensures.meets refl;
     }
 
