@@ -8,10 +8,10 @@ use Rattle.protobuf_parse_syntax.specs.Trees as tree
 use Rattle.protobuf_parse_syntax.specs.Trees.{message_statement_view, MessageStatementSyntax}
 use Rattle.protobuf_parse_syntax.specs.Nested as nest
 use Rattle.protobuf_parse_syntax.specs.Nested.{message_zero, message_more}
-use Rattle.protobuf_parse_syntax.specs.Code.{left, seen_by, too_deep}
+use Rattle.protobuf_parse_syntax.specs.Code.{left, seen_by, too_deep, fails_first}
 use Rattle.protobuf_parse_syntax.proofs.Loops.{pushed, fails}
 use Rattle.protobuf_parse_syntax.proofs.Messages.{views_reserved, views_oneof, views_extend, views_message, views_enum, views_extensions, views_option, views_field}
-use Rattle.protobuf_parse_syntax.proofs.Versions.{says, made_fails, made_reads, message_items_run, message_reserved, message_oneof, message_extend, message_message, message_enum, message_extensions, message_option, message_field}
+use Rattle.protobuf_parse_syntax.proofs.Versions.{says, made_fails, made_reads, message_items_run, message_in_runs, message_reserved, message_oneof, message_extend, message_message, message_enum, message_extensions, message_option, message_field}
 use Rattle.protobuf_parse_syntax.specs.declared.tree.Syntax.TheVariants.{Proto2}
 use Rattle.protobuf_parse_syntax.proofs.parser.message.+message.Goals as goal
 use Rattle.protobuf_parse_syntax.proofs.parser.message.+message.Goals.{message_statement-in-Proto2, message_statement-in_default, message_statement-else-matches-via-then-matches+else-sees_word-6, message_statement-else-matches-via-else-matches}
@@ -128,3 +128,28 @@ message_statement-returns t c =
         | message_statement-else-matches-via-else-matches w ↦ elim c.match-matches.branch [ message_statement-in-Proto2 v ↦ absurd cc | message_statement-in_default v ↦ absurd (v.in_default.not-Proto2 e) ]
         ] in
     made_reads tree.message_field _ _ _ ((nest.field c.args.syntax c.args.levels).run (left c.args.tokens.now)) _ (message_field c.args.syntax c.args.levels (left c.args.tokens.now) (sym c.sees_word.ensures ∙ c.if-sees_word.false) (sym c.sees_word-2.ensures ∙ c.if-sees_word-2.false) (sym c.sees_word-3.ensures ∙ c.if-sees_word-3.false) (sym c.sees_word-4.ensures ∙ c.if-sees_word-4.false) (sym c.sees_word-5.ensures ∙ c.if-sees_word-5.false) f (sym c.sees_word-6.ensures ∙ c.if-sees_word-7.false)) c.in_ok-field.ensures (views_field c.in_ok-field.field-0)
+
+pub message_of-returns-in_err-word : goal.message_of-returns-in_err-word
+message_of-returns-in_err-word t c =
+    let p = err_from_is_err_and c.from_residual.result c.from_residual.ensures.1 in
+    rw (p.1, p.2, message_in_runs c.args.syntax c.args.levels (left c.args.tokens.now)) (fails_first c.in_err-word.field-0.0 _ _ _ c.in_err-word.ensures)
+
+pub message_of-returns-in_err-name : goal.message_of-returns-in_err-name
+message_of-returns-in_err-name t c =
+    let p = err_from_is_err_and c.from_residual-in_err-name.result c.from_residual-in_err-name.ensures.1 in
+    rw (p.1, p.2, message_in_runs c.args.syntax c.args.levels (left c.args.tokens.now), c.in_ok-word.ensures) (fails_first c.in_err-name.field-0.0 _ _ _ c.in_err-name.ensures)
+
+pub message_of-returns-in_err-symbol : goal.message_of-returns-in_err-symbol
+message_of-returns-in_err-symbol t c =
+    let p = err_from_is_err_and c.from_residual-in_err-symbol.result c.from_residual-in_err-symbol.ensures.1 in
+    rw (p.1, p.2, message_in_runs c.args.syntax c.args.levels (left c.args.tokens.now), c.in_ok-word.ensures, c.in_ok-name.ensures) (fails_first c.in_err-symbol.field-0.0 _ _ _ (fails_first c.in_err-symbol.field-0.0 _ _ _ c.in_err-symbol.ensures))
+
+pub message_of-returns-in_err-body : goal.message_of-returns-in_err-body
+message_of-returns-in_err-body t c =
+    let p = err_from_is_err_and c.from_residual-in_err-body.result c.from_residual-in_err-body.ensures.1 in
+    rw (p.1, p.2, message_in_runs c.args.syntax c.args.levels (left c.args.tokens.now), c.in_ok-word.ensures, c.in_ok-name.ensures, c.in_ok-symbol.ensures) (fails_first c.in_err-body.field-0.0 _ _ _ (fails_first c.in_err-body.field-0.0 _ _ _ c.in_err-body.ensures))
+
+pub message_of-returns-in_err-symbol_or : goal.message_of-returns-in_err-symbol_or
+message_of-returns-in_err-symbol_or t c =
+    let p = err_from_is_err_and c.from_residual-in_err-symbol_or.result c.from_residual-in_err-symbol_or.ensures.1 in
+    rw (p.1, p.2, message_in_runs c.args.syntax c.args.levels (left c.args.tokens.now), c.in_ok-word.ensures, c.in_ok-name.ensures, c.in_ok-symbol.ensures, c.in_ok-body.ensures) (fails_first c.in_err-symbol_or.field-0.0 _ _ _ (fails_first c.in_err-symbol_or.field-0.0 _ _ _ c.in_err-symbol_or.ensures))
