@@ -43,6 +43,7 @@ constant_fields-fields-preserved t c =
 
 pub constant_fields-returns : goal.constant_fields-returns
 constant_fields-returns t c = stops_here (nest.constant_field_of (both (nest.constant c.args.levels))).low refl (λ (v : List ConstantFieldSyntax). v) shows_themselves (λ (v : List ConstantFieldSyntax). v) (map constant_field_view c.fields.fields.items) (left c.fields.tokens) _ (sym c.begins_constant_name.ensures ∙ c.fields-test.false) c.fields.invariant
+
 -- x
 
 pub message_constant-returns-in_err-symbol : goal.message_constant-returns-in_err-symbol

@@ -94,39 +94,39 @@ message_statement-returns-then-sees_word-6 t c =
 pub message_statement-returns-in_err-option : goal.message_statement-returns-in_err-option
 message_statement-returns-in_err-option t c =
     let f : c.args.syntax ≡ Proto2 → says (codes "extensions") (left c.args.tokens.now) ≡ false = λ e.
-        elim c.else-matches.branch [
-          message_statement-else-matches-via-then-matches+else-sees_word-6 w ↦ sym w.sees_word-then-matches.ensures ∙ w.if-sees_word-6.false
-        | message_statement-else-matches-via-else-matches w ↦ elim c.match-matches.branch [ message_statement-in-Proto2 v ↦ absurd cc | message_statement-in_default v ↦ absurd (v.in_default.not-Proto2 e) ]
-        ] in
+    elim c.else-matches.branch [
+      | message_statement-else-matches-via-then-matches+else-sees_word-6 w ↦ sym w.sees_word-then-matches.ensures ∙ w.if-sees_word-6.false
+      | message_statement-else-matches-via-else-matches w ↦ elim c.match-matches.branch [ message_statement-in-Proto2 v ↦ absurd cc | message_statement-in_default v ↦ absurd (v.in_default.not-Proto2 e) ]
+    ] in
     let p = err_from_is_err_and c.from_residual-in_err-option.result c.from_residual-in_err-option.ensures.1 in
     rw (p.1, p.2) (made_fails tree.message_option c.in_err-option.field-0.0 _ ((nest.option c.args.levels).low.run (left c.args.tokens.now)) _ (message_option c.args.syntax c.args.levels (left c.args.tokens.now) (sym c.sees_word.ensures ∙ c.if-sees_word.false) (sym c.sees_word-2.ensures ∙ c.if-sees_word-2.false) (sym c.sees_word-3.ensures ∙ c.if-sees_word-3.false) (sym c.sees_word-4.ensures ∙ c.if-sees_word-4.false) (sym c.sees_word-5.ensures ∙ c.if-sees_word-5.false) f (sym c.sees_word-6.ensures ∙ c.if-sees_word-7.true)) c.in_err-option.ensures)
 
 pub message_statement-returns-then-sees_word-7 : goal.message_statement-returns-then-sees_word-7
 message_statement-returns-then-sees_word-7 t c =
     let f : c.args.syntax ≡ Proto2 → says (codes "extensions") (left c.args.tokens.now) ≡ false = λ e.
-        elim c.else-matches.branch [
-          message_statement-else-matches-via-then-matches+else-sees_word-6 w ↦ sym w.sees_word-then-matches.ensures ∙ w.if-sees_word-6.false
-        | message_statement-else-matches-via-else-matches w ↦ elim c.match-matches.branch [ message_statement-in-Proto2 v ↦ absurd cc | message_statement-in_default v ↦ absurd (v.in_default.not-Proto2 e) ]
-        ] in
+    elim c.else-matches.branch [
+      | message_statement-else-matches-via-then-matches+else-sees_word-6 w ↦ sym w.sees_word-then-matches.ensures ∙ w.if-sees_word-6.false
+      | message_statement-else-matches-via-else-matches w ↦ elim c.match-matches.branch [ message_statement-in-Proto2 v ↦ absurd cc | message_statement-in_default v ↦ absurd (v.in_default.not-Proto2 e) ]
+    ] in
     made_reads tree.message_option _ _ _ ((nest.option c.args.levels).low.run (left c.args.tokens.now)) _ (message_option c.args.syntax c.args.levels (left c.args.tokens.now) (sym c.sees_word.ensures ∙ c.if-sees_word.false) (sym c.sees_word-2.ensures ∙ c.if-sees_word-2.false) (sym c.sees_word-3.ensures ∙ c.if-sees_word-3.false) (sym c.sees_word-4.ensures ∙ c.if-sees_word-4.false) (sym c.sees_word-5.ensures ∙ c.if-sees_word-5.false) f (sym c.sees_word-6.ensures ∙ c.if-sees_word-7.true)) c.in_ok-option.ensures (views_option c.in_ok-option.field-0)
 
 pub message_statement-returns-in_err-field : goal.message_statement-returns-in_err-field
 message_statement-returns-in_err-field t c =
     let f : c.args.syntax ≡ Proto2 → says (codes "extensions") (left c.args.tokens.now) ≡ false = λ e.
-        elim c.else-matches.branch [
-          message_statement-else-matches-via-then-matches+else-sees_word-6 w ↦ sym w.sees_word-then-matches.ensures ∙ w.if-sees_word-6.false
-        | message_statement-else-matches-via-else-matches w ↦ elim c.match-matches.branch [ message_statement-in-Proto2 v ↦ absurd cc | message_statement-in_default v ↦ absurd (v.in_default.not-Proto2 e) ]
-        ] in
+    elim c.else-matches.branch [
+      | message_statement-else-matches-via-then-matches+else-sees_word-6 w ↦ sym w.sees_word-then-matches.ensures ∙ w.if-sees_word-6.false
+      | message_statement-else-matches-via-else-matches w ↦ elim c.match-matches.branch [ message_statement-in-Proto2 v ↦ absurd cc | message_statement-in_default v ↦ absurd (v.in_default.not-Proto2 e) ]
+    ] in
     let p = err_from_is_err_and c.from_residual-in_err-field.result c.from_residual-in_err-field.ensures.1 in
     rw (p.1, p.2) (made_fails tree.message_field c.in_err-field.field-0.0 _ ((nest.field c.args.syntax c.args.levels).run (left c.args.tokens.now)) _ (message_field c.args.syntax c.args.levels (left c.args.tokens.now) (sym c.sees_word.ensures ∙ c.if-sees_word.false) (sym c.sees_word-2.ensures ∙ c.if-sees_word-2.false) (sym c.sees_word-3.ensures ∙ c.if-sees_word-3.false) (sym c.sees_word-4.ensures ∙ c.if-sees_word-4.false) (sym c.sees_word-5.ensures ∙ c.if-sees_word-5.false) f (sym c.sees_word-6.ensures ∙ c.if-sees_word-7.false)) c.in_err-field.ensures)
 
 pub message_statement-returns : goal.message_statement-returns
 message_statement-returns t c =
     let f : c.args.syntax ≡ Proto2 → says (codes "extensions") (left c.args.tokens.now) ≡ false = λ e.
-        elim c.else-matches.branch [
-          message_statement-else-matches-via-then-matches+else-sees_word-6 w ↦ sym w.sees_word-then-matches.ensures ∙ w.if-sees_word-6.false
-        | message_statement-else-matches-via-else-matches w ↦ elim c.match-matches.branch [ message_statement-in-Proto2 v ↦ absurd cc | message_statement-in_default v ↦ absurd (v.in_default.not-Proto2 e) ]
-        ] in
+    elim c.else-matches.branch [
+      | message_statement-else-matches-via-then-matches+else-sees_word-6 w ↦ sym w.sees_word-then-matches.ensures ∙ w.if-sees_word-6.false
+      | message_statement-else-matches-via-else-matches w ↦ elim c.match-matches.branch [ message_statement-in-Proto2 v ↦ absurd cc | message_statement-in_default v ↦ absurd (v.in_default.not-Proto2 e) ]
+    ] in
     made_reads tree.message_field _ _ _ ((nest.field c.args.syntax c.args.levels).run (left c.args.tokens.now)) _ (message_field c.args.syntax c.args.levels (left c.args.tokens.now) (sym c.sees_word.ensures ∙ c.if-sees_word.false) (sym c.sees_word-2.ensures ∙ c.if-sees_word-2.false) (sym c.sees_word-3.ensures ∙ c.if-sees_word-3.false) (sym c.sees_word-4.ensures ∙ c.if-sees_word-4.false) (sym c.sees_word-5.ensures ∙ c.if-sees_word-5.false) f (sym c.sees_word-6.ensures ∙ c.if-sees_word-7.false)) c.in_ok-field.ensures (views_field c.in_ok-field.field-0)
 
 pub message_of-returns-in_err-word : goal.message_of-returns-in_err-word
