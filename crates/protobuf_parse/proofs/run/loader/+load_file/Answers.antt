@@ -126,7 +126,7 @@ returns-in_err-placed-clause-leaves g t c files kept go good =
     let k = c.loop-import.invariant.chain in
     let inner = ap texts k.1 ∙ texts-push c.args.loader.now.chain.items k.0 _ k.2 in
     let known = tree-known _ files _ kept _ _ _ _ _ (asked_by c.args.fs_path) _ c.in_ok-tree.tree back c.loop-import.invariant.grows good off none c.in_ok-tree.ensures.read in
-    let is = sym (c.in_ok-imports.ensures) ∙ (ap (map v) (sym c.deref-import-items.ensures.value) ∙ split-at v xs c.loop-import.import-index c.import-item.result (omega arith) c.import-item.is) in
+    let is = sym (c.in_ok-imports.ensures) ∙ (ap (map v) (sym c.deref-import-items.ensures.value) ∙ split-at v xs c.loop-import.import-index c.import-item.result c.loop-import-test.true c.import-item.is) in
     let p = err_from_is_err_and c.from_residual-in_err-placed.result c.from_residual-in_err-placed.ensures.1 in
     rw (p.1, p.2) (leaves-err _ files kept (path_buf_text c.args.input.now) (asked_by c.args.fs_path) _ _ _ _ l.0 _ _ _ _ c.loop-import.height _ _ _ c.in_err-placed.field-0.0 inner l.1 known (omega (arith, n, c.loop-import.invariant.low)) off is (λ x. c.in_err-placed.ensures.leaves files _ go x))
 
@@ -143,7 +143,7 @@ returns-in_err-push-clause-leaves g t c files kept go good =
     let k = c.loop-import.invariant.chain in
     let inner = ap texts k.1 ∙ texts-push c.args.loader.now.chain.items k.0 _ k.2 in
     let known = tree-known _ files _ kept _ _ _ _ _ (asked_by c.args.fs_path) _ c.in_ok-tree.tree back c.loop-import.invariant.grows good off none c.in_ok-tree.ensures.read in
-    let is = sym (c.in_ok-imports.ensures) ∙ (ap (map v) (sym c.deref-import-items.ensures.value) ∙ split-at v xs c.loop-import.import-index c.import-item.result (omega arith) c.import-item.is) in
+    let is = sym (c.in_ok-imports.ensures) ∙ (ap (map v) (sym c.deref-import-items.ensures.value) ∙ split-at v xs c.loop-import.import-index c.import-item.result c.loop-import-test.true c.import-item.is) in
     let y = leaves-step _ files kept (path_buf_text c.args.input.now) (asked_by c.args.fs_path) _ _ _ l.0 _ _ _ _ c.loop-import.height (max c.loop-import.height c.in_ok-placed.placed.height) c.in_ok-placed.placed _ _ _ _ inner l.1 c.load_file.ensures.grows refl refl (λ x. c.in_ok-placed.ensures.leaves files _ go x) in
     let p = err_from_is_err_and c.from_residual-in_err-push.result c.from_residual-in_err-push.ensures.1 in
     rw p.1 (leaves-push _ files kept (path_buf_text c.args.input.now) (asked_by c.args.fs_path) _ _ _ l.0 _ _ _ _ c.loop-import.height _ _ _ p.0 y known (omega (arith, n, c.loop-import.invariant.low)) off is p.2)
@@ -152,7 +152,7 @@ pub loop-import-preserved : goal.loop-import-preserved
 loop-import-preserved g t c =
     let v = λ (b : Bor ProtoPathBuf). path_buf_text b.now in
     let xs = c.deref-import-items.result.now in
-    let m : c.if-placed-height.height ≡ max c.loop-import.height c.in_ok-placed.placed.height = elim c.if-placed-height.branch [ then-placed-height w ↦ omega arith | else-placed-height w ↦ omega arith ] in
+    let m : c.if-placed-height.height ≡ max c.loop-import.height c.in_ok-placed.placed.height = elim c.if-placed-height.branch [ then-placed-height w ↦ omega (arith, w) | else-placed-height w ↦ omega (arith, w) ] in
     let k = c.loop-import.invariant.chain in
     let more = ap length k.1 ∙ length_push c.args.loader.now.chain.items k.0 in
     record {
@@ -165,20 +165,20 @@ loop-import-preserved g t c =
           let back = goes-back files _ _ _ c.load_file.ensures.grows go in
           let l = c.loop-import.invariant.inside files kept back good in
           let inner = ap texts k.1 ∙ texts-push c.args.loader.now.chain.items k.0 _ k.2 in
-          let next = next-at v xs c.loop-import.import-index c.import-item.result (omega arith) c.import-item.is in
+          let next = next-at v xs c.loop-import.import-index c.import-item.result c.loop-import-test.true c.import-item.is in
           (l.0, leaves-step _ files kept (path_buf_text c.args.input.now) (asked_by c.args.fs_path) _ _ _ l.0 _ _ _ _ c.loop-import.height c.if-placed-height.height c.in_ok-placed.placed _ _ _ _ inner l.1 c.load_file.ensures.grows next m (λ x. c.in_ok-placed.ensures.leaves files _ go x));
       reaches = λ files kept go good all.
           let back = goes-back files _ _ _ c.load_file.ensures.grows go in
           let l = c.loop-import.invariant.inside files kept back good in
           let inner = ap texts k.1 ∙ texts-push c.args.loader.now.chain.items k.0 _ k.2 in
-          let next = next-at v xs c.loop-import.import-index c.import-item.result (omega arith) c.import-item.is in
+          let next = next-at v xs c.loop-import.import-index c.import-item.result c.loop-import-test.true c.import-item.is in
           let a = c.loop-import.invariant.reaches files kept back good all in
           reached-step files.trees _ _ _ _ _ _ _ _ c.in_ok-placed.placed a (c.in_ok-placed.ensures.reaches files (so_far files.trees kept (path_buf_text c.args.input.now) (asked_by c.args.fs_path) (path_buf_text c.args.path.now) (texts c.args.loader.now.chain.items) (map v (take c.loop-import.import-index xs))) go (rw inner l.1.good) a.all) c.in_ok-push.ensures.items next;
       count = λ files kept go good.
           let back = goes-back files _ _ _ c.load_file.ensures.grows go in
           let l = c.loop-import.invariant.inside files kept back good in
           let inner = ap texts k.1 ∙ texts-push c.args.loader.now.chain.items k.0 _ k.2 in
-          let next = next-at v xs c.loop-import.import-index c.import-item.result (omega arith) c.import-item.is in
+          let next = next-at v xs c.loop-import.import-index c.import-item.result c.loop-import-test.true c.import-item.is in
           count-step _ files kept (path_buf_text c.args.input.now) (asked_by c.args.fs_path) _ _ _ l.0 _ c.loop-import.height _ _ _ _ _ _ _ _ _ _ inner next l.1 (c.loop-import.invariant.count files kept back good) (λ x. c.in_ok-placed.ensures.count files _ go x);
     }
 
@@ -196,7 +196,7 @@ returns-clause-leaves g t c files kept go good =
     let back = goes-same files _ _ _ reads go in
     let l = c.loop-import.invariant.inside files kept back good in
     let known = tree-known _ files _ kept _ _ _ _ _ (asked_by c.args.fs_path) _ c.in_ok-tree.tree back c.loop-import.invariant.grows good off none c.in_ok-tree.ensures.read in
-    let all = ap (map v) (take_all _ _ (omega arith) ∙ c.deref-import-items.ensures.value) ∙ c.in_ok-imports.ensures in
+    let all = ap (map v) (take_all _ _ c.loop-import-test.false ∙ c.deref-import-items.ensures.value) ∙ c.in_ok-imports.ensures in
     leaves-end _ files kept (path_buf_text c.args.input.now) (asked_by c.args.fs_path) _ _ _ _ l.0 _ _ c.loop-import.height _ _ _ _ _ c.settle.result text_is reads (add-one c.loop-import.height) all l.1 known (omega (arith, n, c.loop-import.invariant.low)) (omega (arith, c.loop-import.invariant.low)) off c.settle.ensures.settles
 
 pub returns-then-is_on_chain-clause-count : goal.returns-then-is_on_chain-clause-count
@@ -236,9 +236,9 @@ returns-in_err-placed-clause-count g t c files kept go good =
     let k = c.loop-import.invariant.chain in
     let inner = ap texts k.1 ∙ texts-push c.args.loader.now.chain.items k.0 _ k.2 in
     let known = tree-known _ files _ kept _ _ _ _ _ (asked_by c.args.fs_path) _ c.in_ok-tree.tree back c.loop-import.invariant.grows good off none c.in_ok-tree.ensures.read in
-    let is = sym (c.in_ok-imports.ensures) ∙ (ap (map v) (sym c.deref-import-items.ensures.value) ∙ split-at v xs c.loop-import.import-index c.import-item.result (omega arith) c.import-item.is) in
+    let is = sym (c.in_ok-imports.ensures) ∙ (ap (map v) (sym c.deref-import-items.ensures.value) ∙ split-at v xs c.loop-import.import-index c.import-item.result c.loop-import-test.true c.import-item.is) in
     let p = err_from_is_err_and c.from_residual-in_err-placed.result c.from_residual-in_err-placed.ensures.1 in
-    rw p.1 (count-stop _ files kept (path_buf_text c.args.input.now) (asked_by c.args.fs_path) _ _ _ _ l.0 _ c.loop-import.height _ _ _ _ _ _ _ _ _ _ inner l.1 known (omega (arith, n, c.loop-import.invariant.low)) off is (omega arith) (c.loop-import.invariant.count files kept back good) (λ x. c.in_err-placed.ensures.count files _ go x))
+    rw p.1 (count-stop _ files kept (path_buf_text c.args.input.now) (asked_by c.args.fs_path) _ _ _ _ l.0 _ c.loop-import.height _ _ _ _ _ _ _ _ _ _ inner l.1 known (omega (arith, n, c.loop-import.invariant.low)) off is c.loop-import-test.true (c.loop-import.invariant.count files kept back good) (λ x. c.in_err-placed.ensures.count files _ go x))
 
 pub returns-in_err-push-clause-count : goal.returns-in_err-push-clause-count
 returns-in_err-push-clause-count g t c files kept go good =
@@ -253,9 +253,9 @@ returns-in_err-push-clause-count g t c files kept go good =
     let k = c.loop-import.invariant.chain in
     let inner = ap texts k.1 ∙ texts-push c.args.loader.now.chain.items k.0 _ k.2 in
     let known = tree-known _ files _ kept _ _ _ _ _ (asked_by c.args.fs_path) _ c.in_ok-tree.tree back c.loop-import.invariant.grows good off none c.in_ok-tree.ensures.read in
-    let is = sym (c.in_ok-imports.ensures) ∙ (ap (map v) (sym c.deref-import-items.ensures.value) ∙ split-at v xs c.loop-import.import-index c.import-item.result (omega arith) c.import-item.is) in
+    let is = sym (c.in_ok-imports.ensures) ∙ (ap (map v) (sym c.deref-import-items.ensures.value) ∙ split-at v xs c.loop-import.import-index c.import-item.result c.loop-import-test.true c.import-item.is) in
     let p = err_from_is_err_and c.from_residual-in_err-push.result c.from_residual-in_err-push.ensures.1 in
-    rw p.1 (count-stop _ files kept (path_buf_text c.args.input.now) (asked_by c.args.fs_path) _ _ _ _ l.0 _ c.loop-import.height _ _ _ _ _ _ _ _ _ _ inner l.1 known (omega (arith, n, c.loop-import.invariant.low)) off is (omega arith) (c.loop-import.invariant.count files kept back good) (λ x. omega (arith, c.in_ok-placed.ensures.count files _ go x)))
+    rw p.1 (count-stop _ files kept (path_buf_text c.args.input.now) (asked_by c.args.fs_path) _ _ _ _ l.0 _ c.loop-import.height _ _ _ _ _ _ _ _ _ _ inner l.1 known (omega (arith, n, c.loop-import.invariant.low)) off is c.loop-import-test.true (c.loop-import.invariant.count files kept back good) (λ x. omega (arith, c.in_ok-placed.ensures.count files _ go x)))
 
 pub returns-in-Some-clause-count : goal.returns-in-Some-clause-count
 returns-in-Some-clause-count g t c files kept go good =
@@ -274,7 +274,7 @@ returns-clause-count g t c files kept go good =
     let back = goes-same files _ _ _ reads go in
     let l = c.loop-import.invariant.inside files kept back good in
     let known = tree-known _ files _ kept _ _ _ _ _ (asked_by c.args.fs_path) _ c.in_ok-tree.tree back c.loop-import.invariant.grows good off none c.in_ok-tree.ensures.read in
-    let all = ap (map v) (take_all _ _ (omega arith) ∙ c.deref-import-items.ensures.value) ∙ c.in_ok-imports.ensures in
+    let all = ap (map v) (take_all _ _ c.loop-import-test.false ∙ c.deref-import-items.ensures.value) ∙ c.in_ok-imports.ensures in
     counted c.settle.result _ _ (count-end _ files kept (path_buf_text c.args.input.now) (asked_by c.args.fs_path) _ _ _ l.0 _ c.loop-import.height _ _ _ _ _ _ _ _ l.1 known (omega (arith, n, c.loop-import.invariant.low)) off all (omega arith) c.settle.ensures.meets (c.loop-import.invariant.count files kept back good))
 
 pub returns-in_err-tree-clause-decided : goal.returns-in_err-tree-clause-decided
@@ -320,6 +320,6 @@ returns-clause-reaches g t c files kept go good known_reach =
     let back = goes-same files _ _ _ reads go in
     let l = c.loop-import.invariant.inside files kept back good in
     let known = tree-known _ files _ kept _ _ _ _ _ (asked_by c.args.fs_path) _ c.in_ok-tree.tree back c.loop-import.invariant.grows good off none c.in_ok-tree.ensures.read in
-    let all = ap (map v) (take_all _ _ (omega arith) ∙ c.deref-import-items.ensures.value) ∙ c.in_ok-imports.ensures in
+    let all = ap (map v) (take_all _ _ c.loop-import-test.false ∙ c.deref-import-items.ensures.value) ∙ c.in_ok-imports.ensures in
     let a = c.loop-import.invariant.reaches files kept back good known_reach in
     reached-end _ files kept (path_buf_text c.args.input.now) (asked_by c.args.fs_path) _ _ _ _ l.0 _ c.loop-import.height _ _ _ _ _ _ c.settle.result l.1 text_is all known a (rw c.deref-2.ensures.value at c.settle.ensures.reach)
