@@ -1,8 +1,9 @@
 -- Which files a loaded file reaches, by the numbers of the loaded files.
-use Rattle.std.proofs.Common.{append-nil, append_assoc, Result, Ok, Err, ◌≡◌, ◌⊎◌, ℕ, zero, suc, Bool, true, false, ◌||◌, inl, inr, List, [], ◌∷◌, ◌++◌, flat_map, length, Option, Some, None, Contains, refl, sym, ◌∙◌, ap, subst, arith}
+use Rattle.std.proofs.Common.{append-nil, append_assoc, Result, Ok, Err, ◌≡◌, ◌⊎◌, ℕ, zero, suc, ◌+◌, ◌<◌, get_or, take, Bool, true, false, ◌||◌, inl, inr, List, [], ◌∷◌, ◌++◌, flat_map, length, Option, Some, None, Contains, refl, sym, ◌∙◌, ap, subst, arith}
 use Rattle.std.specs.Prelude.{IfOk, String, bytes_eq, slice_get, string_bytes}
 use Rattle.std.specs.Global.{Global}
 use Rattle.std.specs.Map.{lookup_key}
+use Rattle.std.proofs.lemmas.List.{flat_map_more, take_more}
 use Rattle.std.proofs.lemmas.List.Elements.{Contains-append_left, Contains-append_right, Contains-append_cases, Contains-push}
 use Rattle.protobuf_parse_syntax.specs.Trees.{FileSyntax}
 use Rattle.protobuf_parse_model.specs.Descriptors.{Text}
@@ -98,6 +99,10 @@ into f (m ∷ ns) b n there c =
       | inl w ↦ Contains-append_left (f m) (flat_map f ns) n (subst (λ (z : ℕ). Contains (f z) n) (only-one m b w) c)
       | inr w ↦ Contains-append_right (f m) (flat_map f ns) n (into f ns b n w c)
     ]
+
+-- one number more
+pub gathered-next : (f : ℕ → List ℕ) (ns : List ℕ) (k : ℕ) (old new more : List ℕ) → k < length ns → old ≡ flat_map f (take k ns) → more ≡ f (get_or ns k 0) → new ≡ old ++ more → new ≡ flat_map f (take (k + 1) ns)
+gathered-next f ns k old new more lt before one is = is ∙ (rw (before, one) (flat_map_more f [] (take k ns) (get_or ns k 0) ∙ ap (flat_map f) (sym (take_more ns k 0 lt))))
 
 -- ** reach
 
