@@ -25,3 +25,6 @@ appended_all f v xs k start text le h = h ∙ ap (λ z. start ++ flat_map f (map
 -- three texts with a space between two of them, and two more behind
 pub appended_spaced : (a b c d e t u v : List ℕ) → t ≡ a ++ 32 ∷ (b ++ 32 ∷ c) → u ≡ t ++ d → v ≡ u ++ e → v ≡ a ++ (32 ∷ []) ++ b ++ (32 ∷ []) ++ c ++ d ++ e
 appended_spaced a b c d e t u v p q r = rw (r, q, p) (simp append_assoc refl)
+
+pub appended_two : (t u v a b : List ℕ) → u ≡ t ++ a → v ≡ u ++ b → v ≡ t ++ (a ++ b)
+appended_two t u v a b p q = q ∙ (ap (λ z. z ++ b) p ∙ append_assoc t a b)

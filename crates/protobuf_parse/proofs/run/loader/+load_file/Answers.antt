@@ -12,7 +12,7 @@ use Rattle.protobuf_parse.specs.Loading.{Grows, so_far, asked_by, texts, file_at
 use Rattle.protobuf_parse.specs.declared.run.log.ReadEntry.{ReadEntry}
 use Rattle.protobuf_parse_base.specs.declared.proto_path.path.ProtoPathBuf.{ProtoPathBuf}
 use Rattle.protobuf_parse.proofs.Steps.{Grows-trans}
-use Rattle.protobuf_parse.proofs.Leaving.{texts-length, texts-push, init-bound, leaves-cycle, leaves-tall, leaves-again, leaves-full, leaves-read, leaves-open, leaves-before, leaves-step, leaves-err, leaves-push, leaves-end, tree-known, split-at, next-at, goes-back, goes-same, low-height, on_ok, popped}
+use Rattle.protobuf_parse.proofs.Leaving.{chain-told, texts-length, texts-push, init-bound, leaves-cycle, leaves-tall, leaves-again, leaves-full, leaves-read, leaves-open, leaves-before, leaves-step, leaves-err, leaves-push, leaves-end, tree-known, split-at, next-at, goes-back, goes-same, low-height, on_ok, popped}
 use Rattle.protobuf_parse.proofs.Deciding.{decided-file, decided-same}
 use Rattle.protobuf_parse.proofs.Reaching.{reached-again, reached-none, reached-step, reached-end}
 use Rattle.protobuf_parse.proofs.Counting.{counted, count-here, count-open, count-step, count-stop, count-end, count-again}
@@ -25,7 +25,7 @@ returns-then-is_on_chain-clause-grows g t c = ([], sym (append-nil _))
 pub returns-then-is_on_chain-clause-leaves : goal.returns-then-is_on_chain-clause-leaves
 returns-then-is_on_chain-clause-leaves g t c files kept go good =
     let text_is : c.to_str-text.result.now ≡ path_buf_text c.args.path.now = c.to_str-text.ensures.text ∙ c.as_path.ensures in
-    let on : among c.to_str-text.result.now (texts c.args.loader.now.chain.items) ≡ true = rw (← c.deref.ensures.value) (sym c.is_on_chain.ensures ∙ c.if-is_on_chain.true) in
+    let on : among c.to_str-text.result.now (texts c.args.loader.now.chain.items) ≡ true = chain-told _ _ _ _ c.is_on_chain.result true refl c.deref.ensures.value c.is_on_chain.ensures c.if-is_on_chain.true in
     leaves-cycle _ files kept _ _ _ (path_buf_text c.args.input.now) (asked_by c.args.fs_path) _ _ _ _ text_is good on c.cycle.ensures
 
 pub returns-then-placed-len-clause-grows : goal.returns-then-placed-len-clause-grows
@@ -53,7 +53,7 @@ pub returns-then-len-eq-LIMIT-clause-leaves : goal.returns-then-len-eq-LIMIT-cla
 returns-then-len-eq-LIMIT-clause-leaves g t c files kept go good =
     let text_is : c.to_str-text.result.now ≡ path_buf_text c.args.path.now = c.to_str-text.ensures.text ∙ c.as_path.ensures in
     let n = texts-length c.args.loader.now.chain.items in
-    let off : among c.to_str-text.result.now (texts c.args.loader.now.chain.items) ≡ false = rw (← c.deref.ensures.value) (sym c.is_on_chain.ensures ∙ c.if-is_on_chain.false) in
+    let off : among c.to_str-text.result.now (texts c.args.loader.now.chain.items) ≡ false = chain-told _ _ _ _ c.is_on_chain.result false refl c.deref.ensures.value c.is_on_chain.ensures c.if-is_on_chain.false in
     leaves-full _ files kept _ _ _ (path_buf_text c.args.input.now) (asked_by c.args.fs_path) _ _ _ _ text_is (omega (arith, n, c.if-len-eq-LIMIT.true, c.len-2.ensures)) good off c.too_long-then-len-eq-LIMIT.ensures
 
 pub returns-in_err-tree-clause-grows : goal.returns-in_err-tree-clause-grows
@@ -63,7 +63,7 @@ pub returns-in_err-tree-clause-leaves : goal.returns-in_err-tree-clause-leaves
 returns-in_err-tree-clause-leaves g t c files kept go good =
     let text_is : c.to_str-text.result.now ≡ path_buf_text c.args.path.now = c.to_str-text.ensures.text ∙ c.as_path.ensures in
     let n = texts-length c.args.loader.now.chain.items in
-    let off : among (path_buf_text c.args.path.now) (texts c.args.loader.now.chain.items) ≡ false = rw (← text_is, ← c.deref.ensures.value) (sym c.is_on_chain.ensures ∙ c.if-is_on_chain.false) in
+    let off : among (path_buf_text c.args.path.now) (texts c.args.loader.now.chain.items) ≡ false = chain-told _ _ _ _ c.is_on_chain.result false text_is c.deref.ensures.value c.is_on_chain.ensures c.if-is_on_chain.false in
     let none : file_at (path_buf_text c.args.path.now) c.args.loader.now.loaded.entries ≡ None = subst (λ (z : Text). file_at z c.args.loader.now.loaded.entries ≡ None) text_is c.in_default.ensures in
     let p = err_from_is_err_and c.from_residual.result c.from_residual.ensures.1 in
     rw (p.1, p.2) (leaves-read _ files _ kept _ _ _ _ (path_buf_text c.args.input.now) (asked_by c.args.fs_path) _ c.in_err-tree.field-0.0 go good off none (omega (arith, n, c.if-len-eq-LIMIT.false, c.len-2.ensures, c.requires.chain)) c.in_err-tree.ensures.read)
@@ -72,7 +72,7 @@ pub returns-in_err-enter-clause-leaves : goal.returns-in_err-enter-clause-leaves
 returns-in_err-enter-clause-leaves g t c files kept go good =
     let text_is : c.to_str-text.result.now ≡ path_buf_text c.args.path.now = c.to_str-text.ensures.text ∙ c.as_path.ensures in
     let n = texts-length c.args.loader.now.chain.items in
-    let off : among (path_buf_text c.args.path.now) (texts c.args.loader.now.chain.items) ≡ false = rw (← text_is, ← c.deref.ensures.value) (sym c.is_on_chain.ensures ∙ c.if-is_on_chain.false) in
+    let off : among (path_buf_text c.args.path.now) (texts c.args.loader.now.chain.items) ≡ false = chain-told _ _ _ _ c.is_on_chain.result false text_is c.deref.ensures.value c.is_on_chain.ensures c.if-is_on_chain.false in
     let none : file_at (path_buf_text c.args.path.now) c.args.loader.now.loaded.entries ≡ None = subst (λ (z : Text). file_at z c.args.loader.now.loaded.entries ≡ None) text_is c.in_default.ensures in
     let p = err_from_is_err_and c.from_residual-in_err-enter.result c.from_residual-in_err-enter.ensures.1 in
     rw p.1 (leaves-before _ files _ kept _ _ _ _ (path_buf_text c.args.input.now) (asked_by c.args.fs_path) _ c.in_ok-tree.tree p.0 go good off none (omega (arith, n, c.if-len-eq-LIMIT.false, c.len-2.ensures, c.requires.chain)) c.in_ok-tree.ensures.read p.2)
@@ -81,7 +81,7 @@ pub returns-in_err-imports-clause-leaves : goal.returns-in_err-imports-clause-le
 returns-in_err-imports-clause-leaves g t c files kept go good =
     let text_is : c.to_str-text.result.now ≡ path_buf_text c.args.path.now = c.to_str-text.ensures.text ∙ c.as_path.ensures in
     let n = texts-length c.args.loader.now.chain.items in
-    let off : among (path_buf_text c.args.path.now) (texts c.args.loader.now.chain.items) ≡ false = rw (← text_is, ← c.deref.ensures.value) (sym c.is_on_chain.ensures ∙ c.if-is_on_chain.false) in
+    let off : among (path_buf_text c.args.path.now) (texts c.args.loader.now.chain.items) ≡ false = chain-told _ _ _ _ c.is_on_chain.result false text_is c.deref.ensures.value c.is_on_chain.ensures c.if-is_on_chain.false in
     let none : file_at (path_buf_text c.args.path.now) c.args.loader.now.loaded.entries ≡ None = subst (λ (z : Text). file_at z c.args.loader.now.loaded.entries ≡ None) text_is c.in_default.ensures in
     let p = err_from_is_err_and c.from_residual-in_err-imports.result c.from_residual-in_err-imports.ensures.1 in
     rw p.1 (leaves-before _ files _ kept _ _ _ _ (path_buf_text c.args.input.now) (asked_by c.args.fs_path) _ c.in_ok-tree.tree p.0 go good off none (omega (arith, n, c.if-len-eq-LIMIT.false, c.len-2.ensures, c.requires.chain)) c.in_ok-tree.ensures.read p.2)
@@ -89,7 +89,7 @@ returns-in_err-imports-clause-leaves g t c files kept go good =
 pub loop-import-init : goal.loop-import-init
 loop-import-init g t c =
     let text_is : c.to_str-text.result.now ≡ path_buf_text c.args.path.now = c.to_str-text.ensures.text ∙ c.as_path.ensures in
-    let off : among (path_buf_text c.args.path.now) (texts c.args.loader.now.chain.items) ≡ false = rw (← text_is, ← c.deref.ensures.value) (sym c.is_on_chain.ensures ∙ c.if-is_on_chain.false) in
+    let off : among (path_buf_text c.args.path.now) (texts c.args.loader.now.chain.items) ≡ false = chain-told _ _ _ _ c.is_on_chain.result false text_is c.deref.ensures.value c.is_on_chain.ensures c.if-is_on_chain.false in
     let none : file_at (path_buf_text c.args.path.now) c.args.loader.now.loaded.entries ≡ None = subst (λ (z : Text). file_at z c.args.loader.now.loaded.entries ≡ None) text_is c.in_default.ensures in
     let s = c.in_ok-enter.ensures in
     let r = c.in_ok-tree.ensures.read in
@@ -118,7 +118,7 @@ pub returns-in_err-placed-clause-leaves : goal.returns-in_err-placed-clause-leav
 returns-in_err-placed-clause-leaves g t c files kept go good =
     let text_is : c.to_str-text.result.now ≡ path_buf_text c.args.path.now = c.to_str-text.ensures.text ∙ c.as_path.ensures in
     let n = texts-length c.args.loader.now.chain.items in
-    let off : among (path_buf_text c.args.path.now) (texts c.args.loader.now.chain.items) ≡ false = rw (← text_is, ← c.deref.ensures.value) (sym c.is_on_chain.ensures ∙ c.if-is_on_chain.false) in
+    let off : among (path_buf_text c.args.path.now) (texts c.args.loader.now.chain.items) ≡ false = chain-told _ _ _ _ c.is_on_chain.result false text_is c.deref.ensures.value c.is_on_chain.ensures c.if-is_on_chain.false in
     let none : file_at (path_buf_text c.args.path.now) c.args.loader.now.loaded.entries ≡ None = subst (λ (z : Text). file_at z c.args.loader.now.loaded.entries ≡ None) text_is c.in_default.ensures in
     let v = λ (b : Bor ProtoPathBuf). path_buf_text b.now in
     let xs = c.deref-import-items.result.now in
@@ -135,7 +135,7 @@ pub returns-in_err-push-clause-leaves : goal.returns-in_err-push-clause-leaves
 returns-in_err-push-clause-leaves g t c files kept go good =
     let text_is : c.to_str-text.result.now ≡ path_buf_text c.args.path.now = c.to_str-text.ensures.text ∙ c.as_path.ensures in
     let n = texts-length c.args.loader.now.chain.items in
-    let off : among (path_buf_text c.args.path.now) (texts c.args.loader.now.chain.items) ≡ false = rw (← text_is, ← c.deref.ensures.value) (sym c.is_on_chain.ensures ∙ c.if-is_on_chain.false) in
+    let off : among (path_buf_text c.args.path.now) (texts c.args.loader.now.chain.items) ≡ false = chain-told _ _ _ _ c.is_on_chain.result false text_is c.deref.ensures.value c.is_on_chain.ensures c.if-is_on_chain.false in
     let none : file_at (path_buf_text c.args.path.now) c.args.loader.now.loaded.entries ≡ None = subst (λ (z : Text). file_at z c.args.loader.now.loaded.entries ≡ None) text_is c.in_default.ensures in
     let v = λ (b : Bor ProtoPathBuf). path_buf_text b.now in
     let xs = c.deref-import-items.result.now in
@@ -190,7 +190,7 @@ pub returns-clause-leaves : goal.returns-clause-leaves
 returns-clause-leaves g t c files kept go good =
     let text_is : c.to_str-text.result.now ≡ path_buf_text c.args.path.now = c.to_str-text.ensures.text ∙ c.as_path.ensures in
     let n = texts-length c.args.loader.now.chain.items in
-    let off : among (path_buf_text c.args.path.now) (texts c.args.loader.now.chain.items) ≡ false = rw (← text_is, ← c.deref.ensures.value) (sym c.is_on_chain.ensures ∙ c.if-is_on_chain.false) in
+    let off : among (path_buf_text c.args.path.now) (texts c.args.loader.now.chain.items) ≡ false = chain-told _ _ _ _ c.is_on_chain.result false text_is c.deref.ensures.value c.is_on_chain.ensures c.if-is_on_chain.false in
     let none : file_at (path_buf_text c.args.path.now) c.args.loader.now.loaded.entries ≡ None = subst (λ (z : Text). file_at z c.args.loader.now.loaded.entries ≡ None) text_is c.in_default.ensures in
     let v = λ (b : Bor ProtoPathBuf). path_buf_text b.now in
     let reads = ap (λ (w : Vec ReadEntry). w.items) c.settle.ensures.reads in
@@ -228,7 +228,7 @@ pub returns-in_err-placed-clause-count : goal.returns-in_err-placed-clause-count
 returns-in_err-placed-clause-count g t c files kept go good =
     let text_is : c.to_str-text.result.now ≡ path_buf_text c.args.path.now = c.to_str-text.ensures.text ∙ c.as_path.ensures in
     let n = texts-length c.args.loader.now.chain.items in
-    let off : among (path_buf_text c.args.path.now) (texts c.args.loader.now.chain.items) ≡ false = rw (← text_is, ← c.deref.ensures.value) (sym c.is_on_chain.ensures ∙ c.if-is_on_chain.false) in
+    let off : among (path_buf_text c.args.path.now) (texts c.args.loader.now.chain.items) ≡ false = chain-told _ _ _ _ c.is_on_chain.result false text_is c.deref.ensures.value c.is_on_chain.ensures c.if-is_on_chain.false in
     let none : file_at (path_buf_text c.args.path.now) c.args.loader.now.loaded.entries ≡ None = subst (λ (z : Text). file_at z c.args.loader.now.loaded.entries ≡ None) text_is c.in_default.ensures in
     let v = λ (b : Bor ProtoPathBuf). path_buf_text b.now in
     let xs = c.deref-import-items.result.now in
@@ -245,7 +245,7 @@ pub returns-in_err-push-clause-count : goal.returns-in_err-push-clause-count
 returns-in_err-push-clause-count g t c files kept go good =
     let text_is : c.to_str-text.result.now ≡ path_buf_text c.args.path.now = c.to_str-text.ensures.text ∙ c.as_path.ensures in
     let n = texts-length c.args.loader.now.chain.items in
-    let off : among (path_buf_text c.args.path.now) (texts c.args.loader.now.chain.items) ≡ false = rw (← text_is, ← c.deref.ensures.value) (sym c.is_on_chain.ensures ∙ c.if-is_on_chain.false) in
+    let off : among (path_buf_text c.args.path.now) (texts c.args.loader.now.chain.items) ≡ false = chain-told _ _ _ _ c.is_on_chain.result false text_is c.deref.ensures.value c.is_on_chain.ensures c.if-is_on_chain.false in
     let none : file_at (path_buf_text c.args.path.now) c.args.loader.now.loaded.entries ≡ None = subst (λ (z : Text). file_at z c.args.loader.now.loaded.entries ≡ None) text_is c.in_default.ensures in
     let v = λ (b : Bor ProtoPathBuf). path_buf_text b.now in
     let xs = c.deref-import-items.result.now in
@@ -268,7 +268,7 @@ pub returns-clause-count : goal.returns-clause-count
 returns-clause-count g t c files kept go good =
     let text_is : c.to_str-text.result.now ≡ path_buf_text c.args.path.now = c.to_str-text.ensures.text ∙ c.as_path.ensures in
     let n = texts-length c.args.loader.now.chain.items in
-    let off : among (path_buf_text c.args.path.now) (texts c.args.loader.now.chain.items) ≡ false = rw (← text_is, ← c.deref.ensures.value) (sym c.is_on_chain.ensures ∙ c.if-is_on_chain.false) in
+    let off : among (path_buf_text c.args.path.now) (texts c.args.loader.now.chain.items) ≡ false = chain-told _ _ _ _ c.is_on_chain.result false text_is c.deref.ensures.value c.is_on_chain.ensures c.if-is_on_chain.false in
     let none : file_at (path_buf_text c.args.path.now) c.args.loader.now.loaded.entries ≡ None = subst (λ (z : Text). file_at z c.args.loader.now.loaded.entries ≡ None) text_is c.in_default.ensures in
     let v = λ (b : Bor ProtoPathBuf). path_buf_text b.now in
     let reads = ap (λ (w : Vec ReadEntry). w.items) c.settle.ensures.reads in
@@ -314,7 +314,7 @@ returns-in-Some-clause-reaches g t c files kept go good all =
 pub returns-clause-reaches : goal.returns-clause-reaches
 returns-clause-reaches g t c files kept go good known_reach =
     let text_is : c.to_str-text.result.now ≡ path_buf_text c.args.path.now = c.to_str-text.ensures.text ∙ c.as_path.ensures in
-    let off : among (path_buf_text c.args.path.now) (texts c.args.loader.now.chain.items) ≡ false = rw (← text_is, ← c.deref.ensures.value) (sym c.is_on_chain.ensures ∙ c.if-is_on_chain.false) in
+    let off : among (path_buf_text c.args.path.now) (texts c.args.loader.now.chain.items) ≡ false = chain-told _ _ _ _ c.is_on_chain.result false text_is c.deref.ensures.value c.is_on_chain.ensures c.if-is_on_chain.false in
     let none : file_at (path_buf_text c.args.path.now) c.args.loader.now.loaded.entries ≡ None = subst (λ (z : Text). file_at z c.args.loader.now.loaded.entries ≡ None) text_is c.in_default.ensures in
     let v = λ (b : Bor ProtoPathBuf). path_buf_text b.now in
     let reads = ap (λ (w : Vec ReadEntry). w.items) c.settle.ensures.reads in
