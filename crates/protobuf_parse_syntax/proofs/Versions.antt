@@ -120,8 +120,6 @@ module _ (s : Syntax) (n : ℕ) (ts : Rest Lexeme Place) where
               pub message_field : says (codes "option") ts ≡ false → (nest.message_statement s n).low.run ts ≡ made tree.message_field ((nest.field s n).run ts)
               message_field h = message_statement_runs s n ts ∙ rw (a, b, c, d, e, no_extensions s ts f, h) refl
 
-pub ruleset message_alternatives = (message_reserved, message_oneof, message_extend, message_message, message_enum, message_extensions, message_option, message_field)
-
 pub message_item_runs : (s : Syntax) (n : ℕ) (ts : Rest Lexeme Place) → (nest.message_item s n).low.run ts ≡ (nest.item (nest.message_statement s n)).low.run ts
 unfolding nest.message_item_of
 message_item_runs Proto2 n ts = refl
