@@ -1,6 +1,6 @@
 -- An input at a path of its own, held against what was loaded for its name.
-use Rattle.std.proofs.Common.{◌≡◌, ℕ, zero, suc, Bool, true, false, not, ◌||◌, inl, inr, List, [], ◌∷◌, ◌++◌, Option, Some, refl, sym, ◌∙◌, ap, subst, append-nil, length, arith}
-use Rattle.std.specs.Prelude.{slice_get}
+use Rattle.std.proofs.Common.{◌≡◌, ℕ, zero, suc, Bool, true, false, not, ◌||◌, inl, inr, List, [], ◌∷◌, ◌++◌, Option, Some, Result, Ok, Err, refl, sym, ◌∙◌, ap, subst, append-nil, length, arith}
+use Rattle.std.specs.Prelude.{IfErr, OnOk, slice_get}
 use Rattle.protobuf_parse_base.specs.PathViews.{path_buf_text}
 use Rattle.protobuf_parse_model.specs.Descriptors.{Text}
 use Rattle.protobuf_parse.specs.declared.run.fault.RunFault.{RunFault}
@@ -10,11 +10,11 @@ use Rattle.protobuf_parse.specs.declared.run.log.ReadEntry.{ReadEntry}
 use Rattle.protobuf_parse.specs.declared.run.log.ReadOutcome.{ReadOutcome}
 use Rattle.protobuf_parse.specs.Walks.{the_resolver, the_reader, Event, load, check, elab, has, among, at, checks, Read, reads_in}
 use Rattle.protobuf_parse.specs.Run.{Files, Answers, StandsInCheck, answer_at, are_same_bytes, fails, first_read, text_for, text_given}
-use Rattle.protobuf_parse.specs.Loading.{Legal, Entry, file_at, read_paths, GoesOn, Good, Stops}
+use Rattle.protobuf_parse.specs.Loading.{Legal, Entry, file_at, read_paths, Goes, GoesOn, Good, OrMemory, Stops}
 use Rattle.protobuf_parse.proofs.Keeping.{text-same, or_left, has-in, has-left, has-one, reads_in-append, elab_paths-append, among-in, find-none}
 use Rattle.protobuf_parse.proofs.Steps.{read_paths-append, answers-more, get-seam, get-grown, loaded-more, loaded-at, all-into}
 use Rattle.protobuf_parse.proofs.Walking.{settled-more}
-use Rattle.protobuf_parse.proofs.Reading.{Noted}
+use Rattle.protobuf_parse.proofs.Reading.{Noted, but_memory}
 
 answers-length : (legal : Legal) (rs : List Read) (log : List ReadEntry) → Answers legal rs log → length rs ≡ length log
 answers-length legal [] [] a = refl
@@ -99,3 +99,8 @@ module _ (legal : Legal) (files : Files) (table : List (Text × Text)) (kept : L
       answers = checked;
       stands = subst (λ (a : Option ReadOutcome). StandsInCheck own p a f) (sym answered) s;
     })
+
+    -- what comparing them gave, unless memory ran out
+    pub check-ends : (r : Result (Unit {0}) RunFault) → (r ≡ Err fault.Memory → ⊥) → OnOk r (are_same_bytes (text_given [] [] (Some o)) text ≡ true) → IfErr r (λ f. OrMemory f (are_same_bytes (text_given [] [] (Some o)) text ≡ false)) → IfErr r (λ f. OrMemory f (StandsInCheck own p (Some o) f)) → Goes legal files (kept ++ checks kept (at p own)) loaded new r
+    check-ends (Ok _) n s d t = check-good s
+    check-ends (Err f) n s d t = check-halts f (but_memory f (λ m. n (ap Err m)) d) (but_memory f (λ m. n (ap Err m)) t)

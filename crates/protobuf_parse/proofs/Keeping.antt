@@ -1,5 +1,5 @@
 -- On events, and on keeping the first of equal ones.
-use Rattle.std.proofs.Common.{◌≡◌, Bool, true, false, cond, ◌||◌, ◌⊎◌, inl, inr, List, [], ◌∷◌, ◌++◌, Some, None, refl, sym, ◌∙◌, ap, append_assoc, append-nil, find}
+use Rattle.std.proofs.Common.{◌≡◌, Bool, true, false, cond, ◌||◌, ◌⊎◌, inl, inr, List, [], ◌∷◌, ◌++◌, Option, Some, None, refl, sym, ◌∙◌, ap, append_assoc, append-nil, find}
 use Rattle.std.proofs.lemmas.Bool.{eqb-true, eq-eqb}
 use Rattle.std.proofs.lemmas.List.Folds.{list_any-append}
 use Rattle.std.proofs.lemmas.Slice.Eq.{bytes_eq-Decides}
@@ -13,6 +13,19 @@ text-true p q h = (bytes_eq-Decides p q).0 h
 
 pub text-same : (p : Text) → bytes_eq p p ≡ true
 text-same p = (bytes_eq-Decides p p).1 refl
+
+-- facts on plain values, for proofs that have many hypotheses
+pub never_both : (b : Bool) → b ≡ true → b ≡ false → ⊥
+never_both b h k = cc
+
+pub false_true : false ≡ true → ⊥
+false_true h = cc
+
+pub some_same : {A : Type 0} (a b : A) → Some a ≡ Some b → a ≡ b
+some_same a b h = cc
+
+pub none_some : {A : Type 0} (a : A) → ◌≡◌ {A = Option A} None (Some a) → ⊥
+none_some a h = cc
 
 pub same-refl : (x : Event) → same x x ≡ true
 same-refl (cycle p) = text-same p

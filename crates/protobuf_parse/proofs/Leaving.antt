@@ -1,5 +1,5 @@
 -- What a call that loads a file leaves, at each of its ends.
-use Rattle.std.proofs.Common.{◌≡◌, ℕ, suc, ◌+◌, ◌-◌, ◌*◌, ◌<◌, ◌≤◌, true, false, inl, inr, List, [], ◌∷◌, ◌++◌, map, Option, Some, None, Result, Ok, Err, refl, sym, ◌∙◌, ap, subst, append_assoc, append-nil, length, max, arith, take, drop, get_or, drop-cons, not}
+use Rattle.std.proofs.Common.{◌≡◌, ℕ, suc, ◌+◌, ◌-◌, ◌*◌, ◌<◌, ◌≤◌, Bool, true, false, inl, inr, List, [], ◌∷◌, ◌++◌, map, Option, Some, None, Result, Ok, Err, refl, sym, ◌∙◌, ap, subst, append_assoc, append-nil, length, max, arith, take, drop, get_or, drop-cons, not}
 use Rattle.std.specs.Prelude.{String, string_bytes, IfOk, OnOk}
 use Rattle.std.specs.Global.{Global}
 use Rattle.std.proofs.lemmas.List.{length-map, map-append, length_push, take_at, take_more, take-append-drop}
@@ -24,6 +24,10 @@ texts-length chain = length-map chain string_bytes
 
 pub texts-push : (chain : List (String Global)) (s : String Global) (p : Text) → string_bytes s ≡ p → texts (chain ++ s ∷ []) ≡ texts chain ++ p ∷ []
 texts-push chain s p h = map-append string_bytes chain (s ∷ []) ∙ ap (λ z. texts chain ++ z ∷ []) h
+
+-- what a look at the chain told
+pub chain-told : (p q : Text) (chain held : List (String Global)) (r b : Bool) → q ≡ p → held ≡ chain → r ≡ among q (texts held) → r ≡ b → among p (texts chain) ≡ b
+chain-told p q chain held r b e same is at = rw (← e, ← same) (sym is ∙ at)
 
 pub init-bound : (m n k x y : ℕ) → x ≡ m + 1 → y ≡ n + 1 → x + (n + 1) * k ≤ m + 1 + 0 + y * k
 init-bound m n k x y e f = rw (e, f) (omega arith)

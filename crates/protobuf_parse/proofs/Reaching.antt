@@ -1,8 +1,9 @@
 -- Which files a loaded file reaches, by the numbers of the loaded files.
-use Rattle.std.proofs.Common.{append-nil, append_assoc, Result, Ok, Err, ◌≡◌, ◌⊎◌, ℕ, zero, suc, Bool, true, false, ◌||◌, inl, inr, List, [], ◌∷◌, ◌++◌, flat_map, length, Option, Some, None, Contains, refl, sym, ◌∙◌, ap, subst, arith}
+use Rattle.std.proofs.Common.{append-nil, append_assoc, Result, Ok, Err, ◌≡◌, ◌⊎◌, ℕ, zero, suc, ◌+◌, ◌<◌, get_or, take, Bool, true, false, ◌||◌, inl, inr, List, [], ◌∷◌, ◌++◌, flat_map, length, Option, Some, None, Contains, refl, sym, ◌∙◌, ap, subst, arith}
 use Rattle.std.specs.Prelude.{IfOk, String, bytes_eq, slice_get, string_bytes}
 use Rattle.std.specs.Global.{Global}
 use Rattle.std.specs.Map.{lookup_key}
+use Rattle.std.proofs.lemmas.List.{flat_map_more, take_more}
 use Rattle.std.proofs.lemmas.List.Elements.{Contains-append_left, Contains-append_right, Contains-append_cases, Contains-push}
 use Rattle.protobuf_parse_syntax.specs.Trees.{FileSyntax}
 use Rattle.protobuf_parse_model.specs.Descriptors.{Text}
@@ -12,7 +13,7 @@ use Rattle.protobuf_parse.specs.declared.run.fault.RunFault.{RunFault}
 use Rattle.protobuf_parse.specs.declared.run.loader.Placed.{Placed}
 use Rattle.protobuf_parse.specs.declared.run.log.ReadEntry.{ReadEntry}
 use Rattle.protobuf_parse.specs.Run.{Files}
-use Rattle.protobuf_parse.proofs.Keeping.{among-last, bool_cases, has-elab, or_left, text-same, text-true}
+use Rattle.protobuf_parse.proofs.Keeping.{some_same, among-last, bool_cases, has-elab, or_left, text-same, text-true}
 use Rattle.protobuf_parse.proofs.Steps.{get-more, get-seam, none-file}
 
 -- a key that was found is the one that was looked for
@@ -41,13 +42,19 @@ are-push loaded (m ∷ ns) (q ∷ ps) n p h is = (h.0, are-push loaded ns ps n p
 are-push loaded [] (q ∷ ps) n p h is = absurd h
 are-push loaded (m ∷ ns) [] n p h is = absurd h
 
+none-in : (n : ℕ) → Contains [] n → ⊥
+none-in n (k, lt, is) = omega (arith, lt)
+
+one-in : (n : ℕ) → Contains (n ∷ []) n
+one-in n = (0, omega arith, refl)
+
 only-one : (x n : ℕ) → Contains (x ∷ []) n → n ≡ x
 only-one x n (zero, lt, is) = sym is
 only-one x n (suc k, lt, is) = absurd (omega (arith, lt))
 
 -- each of these numbers is that of one of the paths
 numbered-in : (loaded : List Entry) (ns : List ℕ) (ps : List Text) (b : ℕ) → AreNumbered loaded ns ps → Contains ns b → (q : Text) × (among q ps ≡ true) × IsNumbered loaded b q
-numbered-in loaded [] [] b h (k, lt, is) = absurd (omega (arith, lt))
+numbered-in loaded [] [] b h c = absurd (none-in b c)
 numbered-in loaded (n ∷ ns) (p ∷ ps) b h c =
     elim (Contains-append_cases (n ∷ []) ns b c) [
       | inl w ↦ (p, or_left _ _ (text-same p), subst (λ (m : ℕ). IsNumbered loaded m p) (sym (only-one n b w)) h.0)
@@ -67,7 +74,7 @@ path-in : (loaded : List Entry) (ns : List ℕ) (ps : List Text) (q : Text) → 
 path-in loaded [] [] q h a = cc
 path-in loaded (n ∷ ns) (p ∷ ps) q h a =
     elim (bool_cases (bytes_eq q p)) [
-      | inl w ↦ (n, Contains-append_left (n ∷ []) ns n (0, omega arith, refl), subst (λ (z : Text). IsNumbered loaded n z) (sym (text-true q p w)) h.0)
+      | inl w ↦ (n, Contains-append_left (n ∷ []) ns n (one-in n), subst (λ (z : Text). IsNumbered loaded n z) (sym (text-true q p w)) h.0)
       | inr w ↦
           let r = path-in loaded ns ps q h.1 (rw w at a) in
           (r.0, Contains-append_right (n ∷ []) ns r.0 r.1, r.2)
@@ -78,20 +85,24 @@ path-in loaded (n ∷ ns) [] q h a = absurd h
 -- ** lists of lists
 
 out-of : (f : ℕ → List ℕ) (ns : List ℕ) (n : ℕ) → Contains (flat_map f ns) n → (b : ℕ) × Contains ns b × Contains (f b) n
-out-of f [] n (k, lt, is) = absurd (omega (arith, lt))
+out-of f [] n c = absurd (none-in n c)
 out-of f (b ∷ ns) n c =
     elim (Contains-append_cases (f b) (flat_map f ns) n c) [
-      | inl w ↦ (b, Contains-append_left (b ∷ []) ns b (0, omega arith, refl), w)
+      | inl w ↦ (b, Contains-append_left (b ∷ []) ns b (one-in b), w)
       | inr w ↦ let r = out-of f ns n w in (r.0, Contains-append_right (b ∷ []) ns r.0 r.1, r.2)
     ]
 
 into : (f : ℕ → List ℕ) (ns : List ℕ) (b n : ℕ) → Contains ns b → Contains (f b) n → Contains (flat_map f ns) n
-into f [] b n (k, lt, is) c = absurd (omega (arith, lt))
+into f [] b n there c = absurd (none-in b there)
 into f (m ∷ ns) b n there c =
     elim (Contains-append_cases (m ∷ []) ns b there) [
       | inl w ↦ Contains-append_left (f m) (flat_map f ns) n (subst (λ (z : ℕ). Contains (f z) n) (only-one m b w) c)
       | inr w ↦ Contains-append_right (f m) (flat_map f ns) n (into f ns b n w c)
     ]
+
+-- one number more
+pub gathered-next : (f : ℕ → List ℕ) (ns : List ℕ) (k : ℕ) (old new more : List ℕ) → k < length ns → old ≡ flat_map f (take k ns) → more ≡ f (get_or ns k 0) → new ≡ old ++ more → new ≡ flat_map f (take (k + 1) ns)
+gathered-next f ns k old new more lt before one is = is ∙ (rw (before, one) (flat_map_more f [] (take k ns) (get_or ns k 0) ∙ ap (flat_map f) (sym (take_more ns k 0 lt))))
 
 -- ** reach
 
@@ -121,7 +132,7 @@ module _ (trees : Trees) (loaded : List Entry) (all : AllReach trees loaded) (x 
       ]
 
   same-tree : (u : FileSyntax) → trees p ≡ Some u → u ≡ t
-  same-tree u h = let z : Some u ≡ Some t = sym h ∙ is in cc
+  same-tree u h = some_same u t (sym h ∙ is)
 
   complete-new : (q : Text) → Reaches trees p q → (n : ℕ) × Contains ns n × IsNumbered (loaded ++ x ∷ []) n q
   complete-new q (itself _) = (length loaded, reach.all (length loaded) (Contains-push (flat_map reached below) (length loaded)), last)

@@ -1,5 +1,6 @@
 -- What one read leaves.
-use Rattle.std.proofs.Common.{◌≡◌, inl, inr, List, [], ◌∷◌, ◌++◌, Option, Some, None, Ok, Err, sym, subst}
+use Rattle.std.proofs.Common.{◌≡◌, inl, inr, List, [], ◌∷◌, ◌++◌, Option, Some, None, Result, Ok, Err, sym, subst, ap}
+use Rattle.std.specs.Prelude.{IfOk, IfErr}
 use Rattle.protobuf_parse_base.specs.PathViews.{path_buf_text}
 use Rattle.protobuf_parse_syntax.specs.Trees.{FileSyntax, file_view}
 use Rattle.protobuf_parse_syntax.specs.declared.tree.FileTree.{FileTree}
@@ -45,3 +46,12 @@ read_refused legal table asked p q old new o f e n ok other t s =
       tree_moved table p q n.0.outcome o None e n.3 (but_memory f other t),
       subst (λ (y : ReadOutcome). StandsInLoad asked p (Some y) (text_given table p (Some y)) f) (sym n.3) (subst (λ (z : Text). StandsInLoad asked z (Some o) (text_given table z (Some o)) f) e (but_memory f other s)),
     )
+
+-- what opening the file that was read gave, unless memory ran out
+pub read_ends : (legal : Legal) (table : List (Text × Text)) (asked : Asked) (p q : Text) (old new : List ReadEntry) (o : ReadOutcome) (r : Result FileTree RunFault) → q ≡ p → Noted p o old new → legal asked p o → (r ≡ Err fault.Memory → ⊥) → IfOk r (λ t. IsTheTree (text_given table q (Some o)) (Some (file_view t))) → IfErr r (λ f. OrMemory f (IsTheTree (text_given table q (Some o)) None)) → IfErr r (λ f. OrMemory f (StandsInLoad asked q (Some o) (text_given table q (Some o)) f)) → ReadsTree legal table asked p old new r
+read_ends legal table asked p q old new o (Ok tree) e n ok other found t s = read_found legal table asked p q old new o tree e n ok found
+read_ends legal table asked p q old new o (Err f) e n ok other found t s = read_refused legal table asked p q old new o f e n ok (λ m. other (ap Err m)) t s
+
+-- memory ran out before the read was noted
+pub read_breaks : (legal : Legal) (table : List (Text × Text)) (asked : Asked) (p : Text) (old new : List ReadEntry) (f : RunFault) → f ≡ fault.Memory → new ≡ old → ReadsTree legal table asked p old new (Err f)
+read_breaks legal table asked p old new f m same = inr (m, same)

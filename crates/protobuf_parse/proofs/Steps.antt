@@ -3,7 +3,6 @@ use Rattle.std.proofs.Common.{◌≡◌, ℕ, zero, suc, ◌-◌, ◌<◌, ◌�
 use Rattle.std.specs.Prelude.{bytes_eq, string_bytes, slice_get}
 use Rattle.std.specs.List.{AllByRecursion}
 use Rattle.std.proofs.lemmas.Bool.{or_from}
-use Rattle.std.proofs.lemmas.Bool.Decides.{nat_tests}
 use Rattle.std.proofs.lemmas.List.{map-append, length_push}
 use Rattle.std.proofs.lemmas.Option.{slice_get_read}
 use Rattle.std.proofs.Math.Seq.{get_or-append_seam}
@@ -20,8 +19,8 @@ use Rattle.protobuf_parse.specs.declared.run.log.ReadOutcome.{ReadOutcome}
 use Rattle.protobuf_parse.specs.Walks.{Asked, the_resolver, Event, cycle, long, load, elab, has, keep, among, import_paths, joined, walk, Read, reads_in}
 use Rattle.protobuf_parse.specs.Run.{Files, HasTrees, environment_of, faults_in, IsTree, IsTheTree, text_given, first_read, fails, Answers, StandsAt}
 use Rattle.protobuf_parse.specs.Loading.{Legal, Entry, paths_of, file_at, read_paths, Grows, Settled, file_shape, imports_shape, IsLoaded, IsAdded, Good, Halts, Stops, OrMemory, so_far, InLoop}
-use Rattle.protobuf_parse.proofs.Keeping.{text-true, text-same, cycle-same, long-same, or_left, bool_cases, not_true, has-append, has-in, has-left, has-right, has-one, has-last, has-like, keep-append, keep-extends, keep-within, keep-all, keep-but_long, keep-fresh, reads_in-append, elab_paths-append, has-elab, among-last, among-left, among-in, find-none, clean-has, Apart-within}
-use Rattle.protobuf_parse.proofs.Walking.{walk-on_chain, walk-no_room, walk-load, joined-append, settled-nil, settled-join, settled-more, settled-same, settled-file}
+use Rattle.protobuf_parse.proofs.Keeping.{never_both, false_true, some_same, none_some, text-true, text-same, cycle-same, long-same, or_left, bool_cases, not_true, has-append, has-in, has-left, has-right, has-one, has-last, has-like, keep-append, keep-extends, keep-within, keep-all, keep-but_long, keep-fresh, reads_in-append, elab_paths-append, has-elab, among-last, among-left, among-in, find-none, clean-has, Apart-within}
+use Rattle.protobuf_parse.proofs.Walking.{lt_yes, lt_no, walk-on_chain, walk-no_room, walk-load, joined-append, settled-nil, settled-join, settled-more, settled-same, settled-file}
 
 -- ** lists of what was read and loaded
 
@@ -73,8 +72,8 @@ none-file p (x ∷ loaded) h =
 entry-in : (q : Text) (n : Entry) (e : LoadedFile) (loaded : List Entry) → file_at q (loaded ++ n ∷ []) ≡ Some e → (file_at q loaded ≡ Some e) ⊎ ((q ≡ string_bytes n.0) × (n.1 ≡ e))
 entry-in q n e [] h =
     elim (bool_cases (bytes_eq q (string_bytes n.0))) [
-      | inl w ↦ let z : Some n.1 ≡ Some e = (rw w at h) in inr (text-true q (string_bytes n.0) w, cc)
-      | inr w ↦ absurd (let z : ◌≡◌ {A = Option LoadedFile} None (Some e) = (rw w at h) in cc)
+      | inl w ↦ let z : Some n.1 ≡ Some e = (rw w at h) in inr (text-true q (string_bytes n.0) w, some_same n.1 e z)
+      | inr w ↦ absurd (none_some e (rw w at h))
     ]
 entry-in q n e (x ∷ loaded) h =
     elim (bool_cases (bytes_eq q (string_bytes x.0))) [
@@ -120,10 +119,10 @@ module _ (legal : Legal) (files : Files) where
   }
 
   pub loaded-at : (p : Text) (e : LoadedFile) (log : List ReadEntry) (loaded : List Entry) → file_at p loaded ≡ Some e → AllByRecursion (λ (x : Entry). IsLoaded files log (string_bytes x.0) x.1) loaded → IsLoaded files log p e
-  loaded-at p e log [] h a = cc
+  loaded-at p e log [] h a = absurd (none_some e h)
   loaded-at p e log (x ∷ loaded) h a =
       elim (bool_cases (bytes_eq p (string_bytes x.0))) [
-        | inl w ↦ let z : Some x.1 ≡ Some e = (rw w at h) in let y : x.1 ≡ e = cc in rw (← y, text-true p (string_bytes x.0) w) a.0
+        | inl w ↦ let z : Some x.1 ≡ Some e = (rw w at h) in let y = some_same x.1 e z in rw (← y, text-true p (string_bytes x.0) w) a.0
         | inr w ↦ let z : file_at p loaded ≡ Some e = (rw w at h) in loaded-at p e log loaded z a.1
       ]
 
@@ -131,8 +130,8 @@ module _ (legal : Legal) (files : Files) where
   unread : (kept : List Event) (loaded : List Entry) (log : List ReadEntry) (chain : List Text) (p : Text) → Good legal files kept loaded log chain → among p chain ≡ false → file_at p loaded ≡ None → (has (load the_resolver p) kept ≡ false) × (has (elab p) kept ≡ false) × (among p (read_paths log) ≡ false)
   unread kept loaded log chain p g off none =
       let e : has (elab p) kept ≡ false = has-elab p kept ∙ (rw g.elabs (file-none p loaded none)) in
-      let l : has (load the_resolver p) kept ≡ false = not_true _ (λ v. elim (g.known p v) [ inl w ↦ cc | inr w ↦ cc ]) in
-      (l, e, not_true _ (λ v. let w = g.read p v in cc))
+      let l : has (load the_resolver p) kept ≡ false = not_true _ (λ v. elim (g.known p v) [ inl w ↦ never_both _ w off | inr w ↦ never_both _ w e ]) in
+      (l, e, not_true _ (λ v. never_both _ (g.read p v) l))
 
   first-is : (log : List ReadEntry) (e : ReadEntry) (p : Text) → among p (read_paths log) ≡ false → path_buf_text e.path ≡ p → Grows (log ++ e ∷ []) files.reads → first_read p files.reads ≡ Some e.outcome
   first-is log e p n is g = rw (g.1, append_assoc log (e ∷ []) g.0) (first_read-new p log g.0 e n is)
@@ -184,10 +183,10 @@ module _ (legal : Legal) (files : Files) where
               | inl y ↦ elim (among-in q p chain y) [ inl z ↦ inl z | inr z ↦ inr (rw z (has-last (elab p) kept)) ]
               | inr y ↦ inr (has-left (elab q) kept (elab p ∷ []) y)
             ]
-            | inr w ↦ absurd (let y = has-one (load the_resolver q) (elab p) w in cc)
+            | inr w ↦ absurd (false_true (has-one (load the_resolver q) (elab p) w))
           ];
           read = λ q v. has-left (load the_resolver q) kept (elab p ∷ []) (g.read q v);
-          apart = λ q v. rw (has-append (elab q) kept (elab p ∷ [])) (or_from _ _ (g.apart q (among-left q chain (p ∷ []) v)) (not_true _ (λ w. let z : q ≡ p = text-true q p (has-one (elab q) (elab p) w) in let x : among p chain ≡ true = (rw z at v) in cc)));
+          apart = λ q v. rw (has-append (elab q) kept (elab p ∷ [])) (or_from _ _ (g.apart q (among-left q chain (p ∷ []) v)) (not_true _ (λ w. let z : q ≡ p = text-true q p (has-one (elab q) (elab p) w) in let x : among p chain ≡ true = (rw z at v) in never_both _ x off)));
         },
         set,
       )
@@ -229,7 +228,7 @@ module _ (legal : Legal) (files : Files) where
   stops-tall kept loaded log chain i a room p e f g w lt (inl stands) =
       let s = g.settled p e w in
       let apart = Apart-within s.before kept chain s.within g.apart in
-      let t : has (long i) (walk files.trees i a room chain p) ≡ true = s.tall i a room chain apart ∙ grind (arith, nat_tests) in
+      let t : has (long i) (walk files.trees i a room chain p) ≡ true = s.tall i a room chain apart ∙ lt_yes room e.height lt in
       inl (halts-at kept loaded log chain _ (long i) f g refl refl
       (keep-but_long kept (walk files.trees i a room chain p) i (clean-has (fails files) kept (long i) (long-same i) g.clean refl) t (s.only i a room chain apart)) stands)
   stops-tall kept loaded log chain i a room p e f g w lt (inr m) = breaks-now kept (walk files.trees i a room chain p) loaded log chain f g m
@@ -239,8 +238,8 @@ module _ (legal : Legal) (files : Files) where
   loaded-again kept loaded log chain i a room p e g w le =
       let s = g.settled p e w in
       let apart = Apart-within s.before kept chain s.within g.apart in
-      let t : has (long i) (walk files.trees i a room chain p) ≡ false = s.tall i a room chain apart ∙ grind (arith, nat_tests) in
-      keep-all kept (walk files.trees i a room chain p) (λ x v. elim (s.only i a room chain apart x v) [ inl y ↦ y | inr y ↦ absurd (let z : has (long i) (walk files.trees i a room chain p) ≡ true = (rw (← y) v) in cc) ])
+      let t : has (long i) (walk files.trees i a room chain p) ≡ false = s.tall i a room chain apart ∙ lt_no room e.height le in
+      keep-all kept (walk files.trees i a room chain p) (λ x v. elim (s.only i a room chain apart x v) [ inl y ↦ y | inr y ↦ absurd (never_both _ (subst (λ (d : Event). has d (walk files.trees i a room chain p) ≡ true) y v) t) ])
 
   pub halts-load : (kept : List Event) (loaded : List Entry) (log : List ReadEntry) (chain : List Text) (i : Text) (a : Asked) (room : ℕ) (p : Text) (e : ReadEntry) (f : RunFault) → Good legal files kept loaded log chain → among p chain ≡ false → file_at p loaded ≡ None → path_buf_text e.path ≡ p → legal a p e.outcome → files.trees p ≡ None → StandsAt files (load a p) f → Halts legal files (keep kept (walk files.trees i a (suc room) chain p)) (log ++ e ∷ []) f
   halts-load kept loaded log chain i a room p e f g off none named ok is s =
@@ -344,7 +343,7 @@ module _ (legal : Legal) (files : Files) where
       let fresh : has (elab p) s ≡ false = l.good.apart p (among-last p chain) in
       let r : has (load the_resolver p) s ≡ true = sym (has-asked a p s) ∙ keep-within (kept ++ load a p ∷ []) (joined (walk files.trees i the_resolver (100 - length (chain ++ p ∷ [])) (chain ++ p ∷ [])) (import_paths t)) (load a p) (has-last (load a p) kept) in
       let m : IsLoaded files log p d.file = record {
-        low = rw d.height_is (omega arith);
+        low = rw d.height_is (omega (arith, low));
         is = tree_is ∙ ap Some (sym d.tree_is);
         descriptor = d.descriptor (files.sees p) (files.custom p) ∙ ap (λ u. file_of (environment_of files p u) p u) (sym d.tree_is);
         entry = x;

@@ -1,5 +1,5 @@
 -- What the loader's steps do to the events kept so far.
-use Rattle.std.proofs.Common.{◌≡◌, ℕ, zero, suc, true, false, ◌||◌, ◌⊎◌, inl, inr, List, [], ◌∷◌, ◌++◌, Some, refl, sym, ◌∙◌, ap, append_assoc, max, arith, nat_lt}
+use Rattle.std.proofs.Common.{◌≡◌, ℕ, zero, suc, true, false, ◌||◌, ◌<◌, ◌≤◌, ◌⊎◌, inl, inr, List, [], ◌∷◌, ◌++◌, Some, refl, sym, ◌∙◌, ap, append_assoc, max, arith, nat_lt}
 use Rattle.std.proofs.lemmas.Bool.Decides.{nat_tests}
 use Rattle.protobuf_parse_syntax.specs.Trees.{FileSyntax}
 use Rattle.protobuf_parse_model.specs.Descriptors.{Text}
@@ -34,6 +34,13 @@ settled-nil kept = record {
   only = λ i a room c s e h. cc;
   tall = λ i a room c s. sym (grind (arith, nat_tests));
 }
+
+-- a test of two numbers
+pub lt_yes : (r h : ℕ) → r < h → nat_lt r h ≡ true
+lt_yes r h lt = grind (arith, nat_tests)
+
+pub lt_no : (r h : ℕ) → h ≤ r → nat_lt r h ≡ false
+lt_no r h le = grind (arith, nat_tests)
 
 lt_max : (r m h : ℕ) → (nat_lt r m || nat_lt r h) ≡ nat_lt r (max m h)
 lt_max r m h = grind (arith, nat_tests)

@@ -2,7 +2,7 @@
 
 ghost use Rattle.std.specs.Prelude.{◌≡◌, ◌⊎◌, IfOk, IfErr};
 ghost use Rattle.protobuf_parse_syntax.specs.Cut.{out_of_memory, place_of};
-ghost use Rattle.protobuf_parse_syntax.specs.Dependencies.{dependencies_of};
+ghost use Rattle.protobuf_parse_syntax.specs.Dependencies.{dependencies_of, dependencies_view};
 ghost use Rattle.protobuf_parse_syntax.specs.Parsing.{HasTree, IsFaultOf, TellsFaults};
 ghost use Rattle.protobuf_parse_syntax.specs.Trees.{FileSyntax};
 ghost use Rattle.protobuf_parse_model.specs.Descriptors as described;
@@ -10,7 +10,7 @@ ghost use Rattle.protobuf_parse.specs.Imports.{imports_alone};
 
 pub use crate::run::parse_and_typecheck_custom;
 use protobuf_parse_model::FileDescriptorProto;
-use protobuf_parse_syntax::ParserErrorWithLocation;
+use protobuf_parse_syntax::{Dependencies, ParserErrorWithLocation};
 use std::alloc::Global;
 
 /// What a file's text imports: a descriptor with the paths of its `import` statements in source order and
@@ -39,7 +39,14 @@ pub fn parse_dependencies(
     ensures tells { TellsFaults text.now result }
 {
     let found = protobuf_parse_syntax::parse_dependencies(alloc, text)?;
-    Ok(FileDescriptorProto {
+    Ok(with_imports(alloc, found))
+}
+
+/// A descriptor with these imports and nothing else.
+fn with_imports(alloc: Global, found: Dependencies) -> FileDescriptorProto
+    ensures { described.file_view result ≡ imports_alone (dependencies_view found) }
+{
+    FileDescriptorProto {
         name: None,
         package: None,
         syntax: None,
@@ -51,5 +58,5 @@ pub fn parse_dependencies(
         service: Vec::new(alloc),
         extension: Vec::new(alloc),
         options: None,
-    })
+    }
 }

@@ -40,6 +40,3 @@ views_option x = ap tree.message_statement_view (sym (statement.rolls-Option x))
 
 pub views_field : (x : FieldStatement) → tree.message_statement_view (statement.Field x) ≡ tree.message_field (tree.field_statement_view x)
 views_field x = ap tree.message_statement_view (sym (statement.rolls-Field x)) ∙ fold-roll-MessageStatement MessageStatementSyntax MessageSyntax tree.message_statement_step tree.message_step (layer.Field x)
-
--- of each statement
-pub ruleset statement_views = (views_reserved, views_oneof, views_extend, views_message, views_enum, views_extensions, views_option, views_field)

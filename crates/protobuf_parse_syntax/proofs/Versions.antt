@@ -10,7 +10,9 @@ use Rattle.protobuf_parse_syntax.specs.Trees as tree
 use Rattle.protobuf_parse_syntax.specs.Classes.{word, lexicon}
 use Rattle.protobuf_parse_syntax.specs.Productions as parse
 use Rattle.protobuf_parse_syntax.specs.Nested as nest
+use Rattle.protobuf_parse_syntax.specs.Code.{Fails, fails_first}
 use Rattle.protobuf_parse_syntax.specs.declared.lexer.token.Place.{Place}
+use Rattle.protobuf_parse_syntax.specs.declared.parser.refusal.Refusal.{Refusal}
 use Rattle.protobuf_parse_syntax.specs.declared.tree.Syntax.{Syntax}
 use Rattle.protobuf_parse_syntax.specs.declared.tree.Syntax.TheVariants.{Proto2, Proto3}
 
@@ -32,6 +34,14 @@ says_in_proto2 Proto3 w ts = false
 -- a value made of what is read
 abbrev pub made : {A B : Type 0} → (A → B) → Read Lexeme Place A → Read Lexeme Place B
 made f r = bind r (λ a rest. read (f a) rest)
+
+-- what fails first fails
+pub made_fails : {A B : Type 0} (f : A → B) (e : Refusal) (after : Rest Lexeme Place) (r : Read Lexeme Place A) (total : Read Lexeme Place B) → total ≡ made f r → Fails e after r → Fails e after total
+made_fails f e after r total h g = rw h (fails_first e after r (λ a rest. read (f a) rest) g)
+
+-- what is read is seen so
+pub made_reads : {A B : Type 0} (f : A → B) (a : A) (b : B) (after : Rest Lexeme Place) (r : Read Lexeme Place A) (total : Read Lexeme Place B) → total ≡ made f r → r ≡ read a after → b ≡ f a → total ≡ read b after
+made_reads f a b after r total h e v = h ∙ rw (e, v) refl
 
 -- ---- services
 
@@ -109,8 +119,6 @@ module _ (s : Syntax) (n : ℕ) (ts : Rest Lexeme Place) where
 
               pub message_field : says (codes "option") ts ≡ false → (nest.message_statement s n).low.run ts ≡ made tree.message_field ((nest.field s n).run ts)
               message_field h = message_statement_runs s n ts ∙ rw (a, b, c, d, e, no_extensions s ts f, h) refl
-
-pub ruleset message_alternatives = (message_reserved, message_oneof, message_extend, message_message, message_enum, message_extensions, message_option, message_field)
 
 pub message_item_runs : (s : Syntax) (n : ℕ) (ts : Rest Lexeme Place) → (nest.message_item s n).low.run ts ≡ (nest.item (nest.message_statement s n)).low.run ts
 unfolding nest.message_item_of

@@ -1,28 +1,19 @@
-//! Tests that cross crates: worked examples of the language, faults with their places, and the program
-//! on files. Nothing but tests stands here.
+//! Tests of what is no text: names and paths as values, descriptors made by hand, values of entries, a
+//! resolver that is called by the library's own way, and the program on files. Nothing but tests stands
+//! here; the tables of texts are cases of `protobuf_parse_cases`.
 #![tactic(auto)]
 
 #[cfg(test)]
-mod asking;
+mod encoding;
 #[cfg(test)]
-mod base;
-#[cfg(test)]
-mod chains;
-#[cfg(test)]
-mod formats;
-#[cfg(test)]
-mod lexing;
+mod hashing;
 #[cfg(test)]
 mod listed;
 #[cfg(test)]
-mod loading;
-#[cfg(test)]
-mod memory;
-#[cfg(test)]
-mod parsing;
+mod names;
 #[cfg(test)]
 mod program;
 #[cfg(test)]
-mod texts;
+mod proto_path;
 #[cfg(test)]
-mod wire;
+mod resolving;

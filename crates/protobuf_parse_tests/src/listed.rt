@@ -108,33 +108,36 @@ fn full_enum(alloc: Global) -> Result<EnumDescriptorProto, AllocError> {
 }
 
 fn full_message(alloc: Global) -> Result<DescriptorProto, AllocError> {
-    let mut message = no_message(alloc, "M")?;
-    message.field.push(full_field(alloc)?)?;
-    message.oneof_decl.push(OneofDescriptorProto {
+    let oneof = OneofDescriptorProto {
         name: text(alloc, "o")?,
         options: Some(OneofOptions {
             custom: vec![in alloc; 1]?,
         }),
-    })?;
-    message.nested_type.push(no_message(alloc, "N")?)?;
-    message.enum_type.push(full_enum(alloc)?)?;
-    message.extension.push(plain_field(alloc, "y")?)?;
-    message.extension_range.push(ExtensionRange {
-        start: 100,
-        end: 536870912,
-    })?;
-    message
-        .reserved_range
-        .push(ReservedRange { start: 4, end: 5 })?;
-    message.reserved_name.push(text(alloc, "foo")?)?;
-    message.options = Some(MessageOptions {
+    };
+    let options = MessageOptions {
         message_set_wire_format: None,
         no_standard_descriptor_accessor: None,
         deprecated: None,
         map_entry: Some(true),
         custom: Vec::new(alloc),
-    });
-    Ok(message)
+    };
+    Ok(DescriptorProto {
+        name: text(alloc, "M")?,
+        field: vec![in alloc; full_field(alloc)?]?,
+        oneof_decl: vec![in alloc; oneof]?,
+        nested_type: vec![in alloc; no_message(alloc, "N")?]?,
+        enum_type: vec![in alloc; full_enum(alloc)?]?,
+        extension: vec![in alloc; plain_field(alloc, "y")?]?,
+        extension_range: vec![in alloc;
+            ExtensionRange {
+                start: 100,
+                end: 536870912
+            },
+        ]?,
+        reserved_range: vec![in alloc; ReservedRange { start: 4, end: 5 }]?,
+        reserved_name: vec![in alloc; text(alloc, "foo")?]?,
+        options: Some(options),
+    })
 }
 
 fn full_service(alloc: Global) -> Result<ServiceDescriptorProto, AllocError> {

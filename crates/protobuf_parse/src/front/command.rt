@@ -83,17 +83,27 @@ fn listing_of<R: Files + AllocGlobal>(
         return Err(outside_include(alloc, input, include)?);
     }
     let name = proto_path_of(alloc, input)?;
-    let content = match fs::read(rt, input) {
-        Ok(content) => content,
-        Err(error) => return Err(read_fault(alloc, input, error.kind())?),
-    };
-    let resolver = OneFile {
+    let content = content_of(rt, input)?;
+    let file = OneFile {
         name: name.as_path(),
         file: input,
         content: &content,
     };
-    let named = RunInput::Named(name.as_path().to_proto_path_buf(alloc)?);
-    let log = run_inputs(alloc, &[named], &resolver, &NoReader, bundled_files());
+    listing_of_file(alloc, &file)
+}
+
+/// The bytes of the input, or L4.
+fn content_of<R: Files + AllocGlobal>(rt: &R, input: &str) -> Result<Vec<u8>, RunFault> {
+    match fs::read(rt, input) {
+        Ok(content) => Ok(content),
+        Err(error) => Err(read_fault(rt.alloc(), input, error.kind())?),
+    }
+}
+
+/// The listing of the run over this file alone.
+fn listing_of_file(alloc: Global, file: &OneFile<'_>) -> Result<String, RunFault> {
+    let named = RunInput::Named(file.name.to_proto_path_buf(alloc)?);
+    let log = run_inputs(alloc, &[named], file, &NoReader, bundled_files());
     Ok(listing(alloc, &log.result?)?)
 }
 

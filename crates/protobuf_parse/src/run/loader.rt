@@ -12,8 +12,8 @@ ghost use Rattle.protobuf_parse_model.specs.Faults.{Elaborates, fault_view};
 ghost use Rattle.protobuf_parse.specs.declared.run.fault.RunFault.TheVariants.{Memory};
 ghost use Rattle.protobuf_parse.specs.declared.run.log.ReadEntry.{ReadEntry};
 ghost use Rattle.protobuf_parse.specs.Walks.{Event, among, at, checks, events, import_paths, input_walk, keep, statements, walk};
-ghost use Rattle.protobuf_parse.specs.Run.{Files, IsCounted, MayAnswer, are_same_bytes, faults_of, input_view, StandsInCheck, StandsInCycle, StandsInLong, origin_given, rows, text_given};
-ghost use Rattle.protobuf_parse.specs.Loading.{AddsReach, AllReach, Goes, GoesOn, Good, Grows, IsDecided, IsElabFault, IsPlaced, IsReached, IsReaders, IsShadowed, Leaves, OrMemory, ReadsTree, Settles, asked_by, file_shape, texts};
+ghost use Rattle.protobuf_parse.specs.Run.{Files, IsCounted, MayAnswer, are_same_bytes, faults_of, input_view, StandsInCheck, StandsInCycle, StandsInElab, StandsInLong, origin_given, rows, text_given};
+ghost use Rattle.protobuf_parse.specs.Loading.{AddsReach, AllReach, Goes, GoesOn, Good, Grows, IsDecided, IsElabFault, IsPlaced, IsReached, IsReaders, IsShadowed, Leaves, OrMemory, ReadsTree, Settles, asked_by, file_at, file_shape, texts};
 
 use crate::run::asking::{answer, content, opened, origin, unreadable};
 use crate::run::fault::RunFault;
@@ -169,15 +169,12 @@ fn check_loaded<R: ProtoPathResolver, I: InputReader>(
     };
     let outcome = answer(alloc, sources, name, Some(fs_path))?;
     let loaded = content_of(&loader.reads, read, sources.bundled);
-    if let Err(fault) = compared(alloc, name, fs_path, &outcome, loaded) {
-        if is_memory(&fault) {
-            return Err(fault);
-        }
-        note(alloc, loader, name, outcome)?;
-        return Err(fault);
+    let same = compared(alloc, name, fs_path, &outcome, loaded);
+    if ran_out(&same) {
+        return same;
     }
     note(alloc, loader, name, outcome)?;
-    Ok(())
+    same
 }
 
 /// The content that the read with this number gave.
@@ -401,18 +398,22 @@ fn read_tree<R: ProtoPathResolver, I: InputReader>(
     ensures read { ReadsTree (MayAnswer (λ p a. R.may_answer sources.now.resolver.now p a) (λ p a. I.may_read sources.now.reader.now p a)) (rows sources.now.bundled.now) (asked_by fs_path.entry) (path_buf_text path.now) loader.old.reads.items loader.new.reads.items result }
 {
     let outcome = answer(alloc, sources, path, fs_path)?;
-    match opened(alloc, sources, path.as_path().to_str(), fs_path, &outcome) {
-        Ok(tree) => {
-            note(alloc, loader, path, outcome)?;
-            Ok(tree)
-        }
-        Err(fault) => {
-            if is_memory(&fault) {
-                return Err(fault);
-            }
-            note(alloc, loader, path, outcome)?;
-            Err(fault)
-        }
+    let tree = opened(alloc, sources, path.as_path().to_str(), fs_path, &outcome);
+    if ran_out(&tree) {
+        return tree;
+    }
+    note(alloc, loader, path, outcome)?;
+    tree
+}
+
+/// Whether memory ran out before there was an answer.
+fn ran_out<T>(answer: &Result<T, RunFault>) -> bool
+    ensures memory { result ≡ true → answer.now ≡ Err Memory }
+    ensures other { result ≡ false → answer.now ≡ Err Memory → ⊥ }
+{
+    match answer {
+        Ok(_) => false,
+        Err(fault) => is_memory(fault),
     }
 }
 
@@ -443,16 +444,8 @@ fn settle(
     ensures reach { IfOk result (AddsReach path.now imports.now loader.old.loaded.entries loader.new.loaded.entries) }
     ensures settles { Settles path.now (file_view tree) height read loader.old.reads.items loader.old.loaded.entries loader.new.loaded.entries result }
 {
-    let number = loader.loaded.len();
     let reach = reach_of(alloc, &loader.loaded, imports)?;
-    let descriptor = match elaborated(alloc, &loader.loaded, &reach, path, &tree) {
-        Ok(descriptor) => descriptor,
-        Err(ElabFailure::Memory) => return Err(RunFault::Memory),
-        Err(ElabFailure::Fault(error)) => {
-            return Err(refused(alloc, &loader.reads, read, path, error));
-        }
-    };
-    let key = String::from_str(alloc, path)?;
+    let descriptor = descriptor_of(alloc, loader, &reach, path, &tree, read)?;
     let file = LoadedFile {
         tree,
         height,
@@ -460,8 +453,48 @@ fn settle(
         read,
         descriptor,
     };
-    loader.loaded.insert(key, file)?;
+    let placed = add(alloc, &mut loader.loaded, path, file)?;
+    Ok(placed)
+}
+
+/// Adds a file to the loaded ones.
+fn add(
+    alloc: Global,
+    loaded: &mut LoadedFiles,
+    path: &str,
+    file: LoadedFile,
+) -> Result<Placed, AllocError>
+    ensures height { IfOk result (λ placed. placed.height ≡ file.height) }
+    ensures added { IfOk result (λ placed. file_at path.now loaded.old.entries ≡ None
+        → (key : String Global) × (loaded.new.entries ≡ loaded.old.entries ++ (key, file) ∷ []) × (string_bytes key ≡ path.now) × (placed.number ≡ length loaded.old.entries)) }
+{
+    let number = loaded.len();
+    let height = file.height;
+    let key = String::from_str(alloc, path)?;
+    loaded.insert(key, file)?;
     Ok(Placed { number, height })
+}
+
+/// What a file becomes over the loaded files with these numbers, or L10 of this read.
+fn descriptor_of(
+    alloc: Global,
+    loader: &Loader,
+    reach: &[usize],
+    path: &str,
+    tree: &FileTree,
+    read: usize,
+) -> Result<FileDescriptorProto, RunFault>
+    ensures ok { let t = file_view tree.now in
+        IfOk result (λ d. InAnyEnvironment t (λ env. (faults_of env t ≡ []) × (described.file_view d ≡ file_of env path.now t))) }
+    ensures err { let t = file_view tree.now in
+        IfErr result (λ f. (e : ReadEntry) → slice_get loader.now.reads.items read ≡ Some e → path_buf_text e.path ≡ path.now
+        → InAnyEnvironment t (λ env. OrMemory f (StandsInElab (origin_given path.now (Some e.outcome)) (faults_of env t) f))) }
+{
+    match elaborated(alloc, &loader.loaded, reach, path, tree) {
+        Ok(descriptor) => Ok(descriptor),
+        Err(ElabFailure::Memory) => Err(RunFault::Memory),
+        Err(ElabFailure::Fault(error)) => Err(refused(alloc, &loader.reads, read, path, error)),
+    }
 }
 
 /// L10 of the file that this read gave.

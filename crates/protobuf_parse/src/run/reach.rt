@@ -1,8 +1,8 @@
 //! Which files a file reaches, as ascending numbers of loaded files.
 
-ghost use Rattle.std.specs.Prelude.{◌≡◌, ℕ, Contains, IfOk};
+ghost use Rattle.std.specs.Prelude.{◌≡◌, ℕ, Contains, IfOk, slice_get};
 ghost use Rattle.std.specs.List.Sorted.{IsStrictlyIncreasing};
-ghost use Rattle.protobuf_parse.specs.Loading.{reached_by};
+ghost use Rattle.protobuf_parse.specs.Loading.{reach_of_entry, reached_by};
 
 use crate::run::loader::LoadedFiles;
 use std::alloc::{AllocError, Global};
@@ -29,10 +29,18 @@ fn gathered(alloc: Global, loaded: &LoadedFiles, files: &[usize]) -> Result<Vec<
 {
     let mut reach = Vec::new(alloc);
     for number in files {
-        if let Some((_, file)) = loaded.get_index(*number) {
-            reach.extend_from_slice(&file.reach)?;
-        }
+        reach.extend_from_slice(reach_at(loaded, *number))?;
     }
     reach.push(loaded.len())?;
     Ok(reach)
+}
+
+/// The numbers that the file with this number reaches.
+fn reach_at(loaded: &LoadedFiles, number: usize) -> &[usize]
+    ensures { result.now ≡ reach_of_entry (slice_get loaded.now.entries number) }
+{
+    match loaded.get_index(number) {
+        Some((_, file)) => file.reach.as_slice(),
+        None => &[],
+    }
 }

@@ -97,7 +97,6 @@ fn message_item(
 /// `reserved | oneof | extend | message | enum | extensions | option | field`, where `extensions` stand in proto2
 /// alone.
 #[cycle(message)]
-#[tactic(auto, using(crate::specs::Code::fails_first, crate::proofs::Versions::message_alternatives, crate::proofs::Messages::statement_views))]
 fn message_statement(
     alloc: Global,
     tokens: &mut Cursor<'_, '_>,

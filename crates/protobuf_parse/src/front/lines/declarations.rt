@@ -439,15 +439,11 @@ fn put_method(
 }
 
 /// `NAME INPUT OUTPUT`, and on which side the method streams.
-#[tactic(auto, unfolding(crate::specs::Listing::method_words))]
 fn method_words(alloc: Global, method: &MethodDescriptorProto) -> Result<String, AllocError>
     ensures { IfOk result (λ s. string_bytes s ≡ spec.method_words (method_view method.now)) }
 {
-    let mut words = String::from_str(alloc, &method.name)?;
-    words.push_str(" ")?;
-    words.push_str(&method.input_type)?;
-    words.push_str(" ")?;
-    words.push_str(&method.output_type)?;
+    let (name, input, output) = (&method.name, &method.input_type, &method.output_type);
+    let mut words = format!(in alloc; "{name} {input} {output}")?;
     put_words_if(&mut words, method.client_streaming, " client_streaming")?;
     put_words_if(&mut words, method.server_streaming, " server_streaming")?;
     Ok(words)

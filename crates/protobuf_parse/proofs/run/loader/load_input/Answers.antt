@@ -1,10 +1,11 @@
-use Rattle.std.proofs.Common.{Ok, Err, ◌∙◌, ◌++◌, ap, refl, sym, append-nil}
+use Rattle.std.proofs.Common.{Ok, Err, ◌∙◌, ◌++◌, ap, arith, refl, sym, append-nil}
 use Rattle.std.proofs.lemmas.Result.{err_from_is_err_and}
 use Rattle.protobuf_parse_base.specs.PathViews.{path_buf_text}
 use Rattle.protobuf_parse.specs.Walks.{named, at, checks}
 use Rattle.protobuf_parse.specs.Run.{input_view}
 use Rattle.protobuf_parse.proofs.Inputs.{input-stops, input-goes, check-stops}
 use Rattle.protobuf_parse.proofs.Leaving.{goes-back}
+use Rattle.protobuf_parse.proofs.Steps.{Grows-trans}
 use Rattle.std.specs.Prelude.{String}
 use Rattle.std.specs.Global.{Global, Vec}
 use Rattle.protobuf_parse.proofs.Counting.{count-check, count-input}
@@ -89,3 +90,12 @@ returns-in_ok-load_file-in-At-clause-reaches g c files kept go good all =
     let empty = ap (λ (w : Vec (String Global)). w.items) c.check_loaded.ensures.chain ∙ c.requires.chain in
     let same = ap (λ m. m.entries) c.check_loaded.ensures.loaded in
     (c.in_ok-load_file-in-At.ensures.reaches files (kept ++ checks kept (at (path_buf_text c.in-At.name) c.deref.result.now)) go (rw empty (c.in_ok-check_loaded-in-At.ensures.goes files kept back good)) (rw same all)).all
+
+pub returns-in_err-load_file-in-At-clause-grows : goal.returns-in_err-load_file-in-At-clause-grows
+returns-in_err-load_file-in-At-clause-grows g c = Grows-trans _ _ _ c.check_loaded.ensures.grows c.load_file-in-At.ensures.grows
+
+pub returns-in_ok-load_file-in-At-clause-grows : goal.returns-in_ok-load_file-in-At-clause-grows
+returns-in_ok-load_file-in-At-clause-grows g c = Grows-trans _ _ _ c.check_loaded.ensures.grows c.load_file-in-At.ensures.grows
+
+pub returns-in_ok-load_file-in-At-clause-bound : goal.returns-in_ok-load_file-in-At-clause-bound
+returns-in_ok-load_file-in-At-clause-bound g c = omega (arith, c.in_ok-load_file-in-At.ensures.bound, c.check_loaded.ensures.meets, c.check_loaded.ensures.more)

@@ -5,7 +5,7 @@ use Rattle.protobuf_parse_base.specs.Pairs.{both}
 use Rattle.protobuf_parse_base.specs.Loops.{shows_themselves, goes_on, stops_here}
 use Rattle.protobuf_parse_syntax.specs.Trees.{ConstantFieldSyntax, constant_view, constant_field_view}
 use Rattle.protobuf_parse_syntax.specs.Nested as nest
-use Rattle.protobuf_parse_syntax.specs.Code.{left}
+use Rattle.protobuf_parse_syntax.specs.Code.{left, fails_first}
 use Rattle.protobuf_parse_syntax.proofs.Loops.{fails, put_behind, listed_fails_comma, listed_fails, listed_smaller, listed_goes_on, listed_stops}
 use Rattle.protobuf_parse_syntax.proofs.parser.constant.+constant.Goals as goal
 
@@ -43,3 +43,41 @@ constant_fields-fields-preserved t c =
 
 pub constant_fields-returns : goal.constant_fields-returns
 constant_fields-returns t c = stops_here (nest.constant_field_of (both (nest.constant c.args.levels))).low refl (λ (v : List ConstantFieldSyntax). v) shows_themselves (λ (v : List ConstantFieldSyntax). v) (map constant_field_view c.fields.fields.items) (left c.fields.tokens) _ (sym c.begins_constant_name.ensures ∙ c.fields-test.false) c.fields.invariant
+
+-- x
+
+pub message_constant-returns-in_err-symbol : goal.message_constant-returns-in_err-symbol
+unfolding nest.message_constant_of
+message_constant-returns-in_err-symbol t c =
+    let p = err_from_is_err_and c.from_residual.result c.from_residual.ensures.1 in
+    rw (p.1, p.2) (fails_first c.in_err-symbol.field-0.0 _ _ _ c.in_err-symbol.ensures)
+
+pub message_constant-returns-in_err-fields : goal.message_constant-returns-in_err-fields
+unfolding nest.message_constant_of
+message_constant-returns-in_err-fields t c =
+    let p = err_from_is_err_and c.from_residual-in_err-fields.result c.from_residual-in_err-fields.ensures.1 in
+    rw (p.1, p.2, c.in_ok-symbol.ensures) (fails_first c.in_err-fields.field-0.0 _ _ _ c.in_err-fields.ensures)
+
+pub message_constant-returns-in_err-symbol-2 : goal.message_constant-returns-in_err-symbol-2
+unfolding nest.message_constant_of
+message_constant-returns-in_err-symbol-2 t c =
+    let p = err_from_is_err_and c.from_residual-in_err-symbol-2.result c.from_residual-in_err-symbol-2.ensures.1 in
+    rw (p.1, p.2, c.in_ok-symbol.ensures, c.in_ok-fields.ensures) (fails_first c.in_err-symbol-2.field-0.0 _ _ _ c.in_err-symbol-2.ensures)
+
+pub constant_field-returns-in_err-name : goal.constant_field-returns-in_err-name
+unfolding nest.constant_field_of
+constant_field-returns-in_err-name t c =
+    let p = err_from_is_err_and c.from_residual.result c.from_residual.ensures.1 in
+    rw (p.1, p.2) (fails_first c.in_err-name.field-0.0 _ _ _ c.in_err-name.ensures)
+
+pub constant_field-returns-in_err-value : goal.constant_field-returns-in_err-value
+unfolding nest.constant_field_of
+constant_field-returns-in_err-value t c =
+    let p = err_from_is_err_and c.from_residual-in_err-value.result c.from_residual-in_err-value.ensures.1 in
+    rw (p.1, p.2, c.in_ok-name.ensures) (fails_first c.in_err-value.field-0.0 _ _ _ c.in_err-value.ensures)
+
+pub constant_field-returns-in_err-field_end : goal.constant_field-returns-in_err-field_end
+unfolding nest.constant_field_of
+constant_field-returns-in_err-field_end t c =
+    let p = err_from_is_err_and c.from_residual-in_err-field_end.result c.from_residual-in_err-field_end.ensures.1 in
+    rw (p.1, p.2, c.in_ok-name.ensures, c.in_ok-value.ensures) (fails_first c.in_err-field_end.field-0.0 _ _ _ c.in_err-field_end.ensures)

@@ -5,9 +5,9 @@ use Rattle.protobuf_parse_base.specs.Readers.{shorter, run_many}
 use Rattle.protobuf_parse_base.specs.Loops.{with_rest, shows_somes, goes_on, stops_here}
 use Rattle.protobuf_parse_syntax.specs.Trees.{FieldStatementSyntax, field_statement_view}
 use Rattle.protobuf_parse_syntax.specs.Nested as nest
-use Rattle.protobuf_parse_syntax.specs.Code.{left, seen_by, Gives}
+use Rattle.protobuf_parse_syntax.specs.Code.{left, seen_by, Gives, fails_first}
 use Rattle.protobuf_parse_syntax.proofs.Loops.{pushed, fails}
-use Rattle.protobuf_parse_syntax.proofs.Fields.{field_absent, field_labelled, field_mapped, field_unlabelled, field_items_law}
+use Rattle.protobuf_parse_syntax.proofs.Fields.{field_absent, field_labelled, field_mapped, field_unlabelled, field_items_law, field_block_law}
 use Rattle.protobuf_parse_syntax.proofs.parser.field.+field.Goals as goal
 
 pub field_of-returns-then-not-begins_field : goal.field_of-returns-then-not-begins_field
@@ -41,3 +41,60 @@ field_statements-items-preserved t c =
 
 pub field_statements-returns : goal.field_statements-returns
 field_statements-returns t c = stops_here (nest.field_item_of c.args.syntax (nest.fields c.args.syntax c.args.levels)).low refl somes shows_somes (λ (v : List FieldStatementSyntax). v) (map field_statement_view c.items.fields.items) (left c.items.tokens) _ (sym c.begins_field_item.ensures ∙ c.items-test.false) c.items.invariant
+
+pub group-returns-in_err-word : goal.group-returns-in_err-word
+unfolding nest.group_of
+group-returns-in_err-word t c =
+    let p = err_from_is_err_and c.from_residual.result c.from_residual.ensures.1 in
+    rw (p.1, p.2) (fails_first c.in_err-word.field-0.0 _ _ _ c.in_err-word.ensures)
+
+pub group-returns-in_err-name : goal.group-returns-in_err-name
+unfolding nest.group_of
+group-returns-in_err-name t c =
+    let p = err_from_is_err_and c.from_residual-in_err-name.result c.from_residual-in_err-name.ensures.1 in
+    rw (p.1, p.2, c.in_ok-word.ensures) (fails_first c.in_err-name.field-0.0 _ _ _ c.in_err-name.ensures)
+
+pub group-returns-in_err-symbol : goal.group-returns-in_err-symbol
+unfolding nest.group_of
+group-returns-in_err-symbol t c =
+    let p = err_from_is_err_and c.from_residual-in_err-symbol.result c.from_residual-in_err-symbol.ensures.1 in
+    rw (p.1, p.2, c.in_ok-word.ensures, c.in_ok-name.ensures) (fails_first c.in_err-symbol.field-0.0 _ _ _ c.in_err-symbol.ensures)
+
+pub group-returns-in_err-number : goal.group-returns-in_err-number
+unfolding nest.group_of
+group-returns-in_err-number t c =
+    let p = err_from_is_err_and c.from_residual-in_err-number.result c.from_residual-in_err-number.ensures.1 in
+    rw (p.1, p.2, c.in_ok-word.ensures, c.in_ok-name.ensures, c.in_ok-symbol.ensures) (fails_first c.in_err-number.field-0.0 _ _ _ c.in_err-number.ensures)
+
+pub group-returns-in_err-fields : goal.group-returns-in_err-fields
+unfolding nest.group_of
+group-returns-in_err-fields t c =
+    let p = err_from_is_err_and c.from_residual-in_err-fields.result c.from_residual-in_err-fields.ensures.1 in
+    rw (p.1, p.2, c.in_ok-word.ensures, c.in_ok-name.ensures, c.in_ok-symbol.ensures, c.in_ok-number.ensures) (fails_first c.in_err-fields.field-0.0 _ _ _ c.in_err-fields.ensures)
+
+pub after_label-returns-in_err-group : goal.after_label-returns-in_err-group
+unfolding nest.after_label
+after_label-returns-in_err-group t c =
+    let p = err_from_is_err_and c.from_residual.result c.from_residual.ensures.1 in
+    rw (p.1, p.2, sym c.sees_word.ensures ∙ c.if-sees_word.true) c.in_err-group.ensures
+
+pub after_label-returns-in_err-field : goal.after_label-returns-in_err-field
+unfolding nest.after_label
+after_label-returns-in_err-field t c =
+    let p = err_from_is_err_and c.from_residual-in_err-field.result c.from_residual-in_err-field.ensures.1 in
+    rw (p.1, p.2, sym c.sees_word.ensures ∙ c.if-sees_word.false) c.in_err-field.ensures
+
+pub group_body-returns-in_err-symbol : goal.group_body-returns-in_err-symbol
+group_body-returns-in_err-symbol t c =
+    let p = err_from_is_err_and c.from_residual.result c.from_residual.ensures.1 in
+    rw (p.1, p.2, field_block_law c.args.syntax c.args.levels (left c.args.tokens.now)) (fails_first c.in_err-symbol.field-0.0 _ _ _ c.in_err-symbol.ensures)
+
+pub group_body-returns-in_err-fields : goal.group_body-returns-in_err-fields
+group_body-returns-in_err-fields t c =
+    let p = err_from_is_err_and c.from_residual-in_err-fields.result c.from_residual-in_err-fields.ensures.1 in
+    rw (p.1, p.2, field_block_law c.args.syntax c.args.levels (left c.args.tokens.now), c.in_ok-symbol.ensures) (fails_first c.in_err-fields.field-0.0 _ _ _ c.in_err-fields.ensures)
+
+pub group_body-returns-in_err-symbol_or : goal.group_body-returns-in_err-symbol_or
+group_body-returns-in_err-symbol_or t c =
+    let p = err_from_is_err_and c.from_residual-in_err-symbol_or.result c.from_residual-in_err-symbol_or.ensures.1 in
+    rw (p.1, p.2, field_block_law c.args.syntax c.args.levels (left c.args.tokens.now), c.in_ok-symbol.ensures, c.in_ok-fields.ensures) (fails_first c.in_err-symbol_or.field-0.0 _ _ _ c.in_err-symbol_or.ensures)

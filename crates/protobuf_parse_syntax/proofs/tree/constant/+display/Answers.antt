@@ -1,5 +1,5 @@
 -- Each arm writes the text of its kind, and each turn of a list its next item.
-use Rattle.std.proofs.Common.{map, ap, ◌∙◌, rules}
+use Rattle.std.proofs.Common.{map, ap, refl, ◌∙◌, rules}
 use Rattle.std.proofs.Output.{has_written_of_eq}
 use Rattle.std.proofs.lemmas.Grind.{put_three}
 use Rattle.protobuf_parse_syntax.specs.Formats.{format, list_text, message_text}
@@ -42,3 +42,17 @@ write_items-loop-i-preserved g t c = λ plain.
     let item = c.write_constant.ensures between.plain (is_ok-from c.write_constant.result _ c.in_ok-write_constant.was) in
     put_three _ _ _ _ _ _ _ _ _ before between item
     (join-take format constant_view 44 c.args.items.now c.loop-i.i c.index-items-i.result (search rules) c.index-items-i.is)
+
+pub write_list-returns : goal.write_list-returns
+write_list-returns g t c = λ plain ok.
+    let before = c.write.ensures.writes plain (is_ok-from c.write.result _ c.in_ok-write.was) in
+    let items = c.write_items.ensures before.plain (is_ok-from c.write_items.result _ c.in_ok-write_items.was) in
+    let after = c.write-2.ensures.writes items.plain ok in
+    put_three _ _ _ _ _ _ _ _ _ before items after refl
+
+pub write_message-returns : goal.write_message-returns
+write_message-returns g t c = λ plain ok.
+    let before = c.write.ensures.writes plain (is_ok-from c.write.result _ c.in_ok-write.was) in
+    let fields = c.write_fields.ensures before.plain (is_ok-from c.write_fields.result _ c.in_ok-write_fields.was) in
+    let after = c.write-2.ensures.writes fields.plain ok in
+    put_three _ _ _ _ _ _ _ _ _ before fields after refl

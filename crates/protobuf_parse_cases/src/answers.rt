@@ -1,0 +1,96 @@
+//! What is run, by its word.
+
+mod bytes;
+mod names;
+mod runs;
+mod texts;
+
+use crate::cases::{Case, Row};
+use crate::notation::text_of;
+use crate::report::{Answers, report_of};
+use anyhow::{Result, bail};
+use protobuf_parse_syntax::unquoted;
+use std::alloc::{AllocError, Global};
+
+/// Answers all but files of cases.
+#[derive(Clone, Copy)]
+pub struct Plain;
+
+impl Answers for Plain {
+    fn answer(&self, alloc: Global, case: &Case, row: &Row) -> Result<Vec<u8>> {
+        let given = given_of(case, row);
+        if case.verb.as_str() == "string" {
+            return Ok(texts::string(alloc, text_of(given)?)?);
+        }
+        let text = match case.verb.as_str() {
+            "run" => runs::run(alloc, case, given),
+            "reads" => runs::reads(alloc, case, given),
+            "list" => runs::list(alloc, case, row),
+            "answers" => runs::answers(alloc, given),
+            "read" => bytes::read(alloc, case, given),
+            "write" => bytes::write(alloc, case, given),
+            "escape" => names::escape(alloc, given),
+            _ => text_answer(alloc, case, given),
+        };
+        Ok(text?.into_bytes())
+    }
+}
+
+/// What a run is given: what stands in its row, or behind the verb, or else the first file.
+fn given_of<'a>(case: &'a Case, row: &'a Row) -> &'a [u8] {
+    match (&row.given, case.files.first()) {
+        (Some(given), _) => given.as_slice(),
+        (None, Some(file)) if case.argument.is_empty() => file.content.as_slice(),
+        (None, _) => case.argument.as_bytes(),
+    }
+}
+
+/// The answer of what looks at one text.
+fn text_answer(alloc: Global, case: &Case, given: &[u8]) -> Result<String> {
+    let text = text_of(given)?;
+    if case.verb.as_str() == "constant" {
+        return texts::constant(alloc, text);
+    }
+    match answer_by_memory(alloc, &case.verb, text) {
+        Some(answer) => Ok(answer?),
+        None => bail!("nothing is called {:?}", case.verb),
+    }
+}
+
+/// The answer of what fails by want of memory alone.
+fn answer_by_memory(alloc: Global, verb: &str, text: &str) -> Option<Result<String, AllocError>> {
+    Some(match verb {
+        "tokens" => texts::tokens(alloc, text),
+        "unquoted" => String::from_str(alloc, unquoted(text)),
+        "parse" => texts::parse(alloc, text),
+        "fronts" => texts::fronts(alloc, text),
+        "trees" => texts::trees(alloc, text),
+        "imports" => texts::imports(alloc, text),
+        "package" => texts::package(alloc, text),
+        "identifier" => names::identifier(alloc, text),
+        "relative" => names::relative(alloc, text),
+        "absolute" => names::absolute(alloc, text),
+        "path" => names::path(alloc, text),
+        "host_path" => names::host_path(alloc, text),
+        "camel_case" => protobuf_parse::camel_case(alloc, text),
+        "snake_case" => protobuf_parse::snake_case(alloc, text),
+        "json_name" => protobuf_parse_base::text::json_name(alloc, text),
+        _ => return None,
+    })
+}
+
+/// Answers files of cases too, by what is printed for them and the status that the program ends with.
+#[derive(Clone, Copy)]
+pub struct Nested;
+
+impl Answers for Nested {
+    fn answer(&self, alloc: Global, case: &Case, row: &Row) -> Result<Vec<u8>> {
+        if case.verb.as_str() != "cases" {
+            return Plain.answer(alloc, case, row);
+        }
+        let report = report_of(alloc, "inner.cases", given_of(case, row), &Plain)?;
+        let status = if report.is_well { 0 } else { 1 };
+        let text = report.text;
+        Ok(format!(in alloc; "{text}status {status}")?.into_bytes())
+    }
+}

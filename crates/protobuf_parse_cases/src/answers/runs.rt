@@ -1,0 +1,159 @@
+//! Runs over the files of a case.
+
+use super::texts::{listed, without_last_feed};
+use crate::cases::{Case, CaseFile, Row};
+use crate::files::{Files, InTurn};
+use crate::notation::{shown, text_of};
+use anyhow::{Result, anyhow};
+use protobuf_parse::{
+    FileDescriptorProto, InputReader, ProtoPathBuf, ProtoPathResolver, ReadEntry, ReadOutcome,
+    RunInput, RunLog, run_inputs,
+};
+use std::alloc::{AllocError, Global};
+use std::cell::Cell;
+use std::slice;
+
+/// What stands before the path of a file that comes with the library.
+const BUNDLED: &str = "bundled:";
+
+fn path_of(alloc: Global, text: &str) -> Result<ProtoPathBuf> {
+    match ProtoPathBuf::new(String::from_str(alloc, text)?) {
+        Ok(path) => Ok(path),
+        Err(error) => Err(anyhow!("{text:?}: {error}")),
+    }
+}
+
+/// The inputs that the words name: a proto path, or a proto path, `=` and the path of the input's own file.
+fn inputs_of(alloc: Global, words: &str) -> Result<Vec<RunInput>> {
+    let mut inputs = Vec::new(alloc);
+    for word in words.split_whitespace() {
+        inputs.push(match word.split_once('=') {
+            Some((name, fs_path)) => RunInput::At {
+                name: path_of(alloc, name)?,
+                fs_path: String::from_str(alloc, fs_path)?,
+            },
+            None => RunInput::Named(path_of(alloc, word)?),
+        })?;
+    }
+    Ok(inputs)
+}
+
+fn bundled_of<'a>(alloc: Global, files: &'a [CaseFile]) -> Result<Vec<(&'a str, &'a str)>> {
+    let mut bundled = Vec::new(alloc);
+    for file in files {
+        if let Some(path) = file.path.strip_prefix(BUNDLED) {
+            bundled.push((path, text_of(&file.content)?))?;
+        }
+    }
+    Ok(bundled)
+}
+
+/// What a run over these inputs did that asks the source for files.
+fn log_of<S: ProtoPathResolver + InputReader>(
+    alloc: Global,
+    words: &str,
+    source: &S,
+    bundled: &[(&str, &str)],
+) -> Result<RunLog> {
+    let inputs = inputs_of(alloc, words)?;
+    Ok(run_inputs(alloc, &inputs, source, source, bundled))
+}
+
+/// What a run over the inputs did.
+pub fn run(alloc: Global, case: &Case, words: &[u8]) -> Result<String> {
+    let bundled = bundled_of(alloc, &case.files)?;
+    let files = Files { files: &case.files };
+    let log = log_of(alloc, text_of(words)?, &files, &bundled)?;
+    Ok(told(alloc, &log)?)
+}
+
+/// Each read of a run, with where the file lies and its whole content.
+pub fn reads(alloc: Global, case: &Case, words: &[u8]) -> Result<String> {
+    let files = Files { files: &case.files };
+    let log = log_of(alloc, text_of(words)?, &files, &[])?;
+    let mut text = String::new(alloc);
+    for entry in &log.reads {
+        put_read(alloc, &mut text, entry)?;
+    }
+    Ok(without_last_feed(alloc, &text)?)
+}
+
+fn put_read(alloc: Global, text: &mut String, entry: &ReadEntry) -> Result<(), AllocError> {
+    let path = &entry.path;
+    match &entry.outcome {
+        ReadOutcome::Content { origin, content } => {
+            let content = shown(alloc, content)?;
+            write!(text, "{path} at {origin}: {content}\n")
+        }
+        outcome => write!(text, "{path}: {outcome:?}\n"),
+    }
+}
+
+/// The listing of a run over the inputs behind the verb, or its fault. A row's text is the file `f.proto`,
+/// which is then the input.
+pub fn list(alloc: Global, case: &Case, row: &Row) -> Result<String> {
+    let Some(content) = &row.given else {
+        return list_of(alloc, &case.argument, &case.files);
+    };
+    let file = CaseFile {
+        path: String::from_str(alloc, "f.proto")?,
+        content: Vec::from_slice(alloc, content)?,
+    };
+    list_of(alloc, "f.proto", slice::from_ref(&file))
+}
+
+fn list_of(alloc: Global, words: &str, files: &[CaseFile]) -> Result<String> {
+    let log = log_of(alloc, words, &Files { files }, &[])?;
+    Ok(match &log.result {
+        Ok(files) => listed(alloc, files)?,
+        Err(fault) => format!(in alloc; "{fault}")?,
+    })
+}
+
+/// What a run did whose answers are given in turn: the inputs, and behind each ` | ` an answer.
+pub fn answers(alloc: Global, given: &[u8]) -> Result<String> {
+    let text = text_of(given)?;
+    let (words, rest) = text.split_once(" | ").unwrap_or((text, "none"));
+    let answers = rest.split(" | ").collect::<Vec<_>>(alloc)?;
+    let source = InTurn {
+        answers: &answers,
+        calls: Cell::new(0),
+    };
+    Ok(told(alloc, &log_of(alloc, words, &source, &[])?)?)
+}
+
+/// The names of the descriptors in order, or the fault; then the reads with what was answered; and how often
+/// a file was met.
+fn told(alloc: Global, log: &RunLog) -> Result<String, AllocError> {
+    let mut text = String::new(alloc);
+    match &log.result {
+        Ok(files) => put_names(&mut text, files)?,
+        Err(fault) => write!(&mut text, "{fault} ")?,
+    }
+    text.push('|')?;
+    for entry in &log.reads {
+        put_answer(&mut text, entry)?;
+    }
+    let meets = log.meets;
+    write!(&mut text, " | {meets}")?;
+    Ok(text)
+}
+
+fn put_names(text: &mut String, files: &[FileDescriptorProto]) -> Result<(), AllocError> {
+    for file in files {
+        text.push_str(file.name.as_deref().unwrap_or("?"))?;
+        text.push(' ')?;
+    }
+    Ok(())
+}
+
+fn put_answer(text: &mut String, entry: &ReadEntry) -> Result<(), AllocError> {
+    let path = &entry.path;
+    let word = match &entry.outcome {
+        ReadOutcome::Content { origin, .. } => origin.as_str(),
+        ReadOutcome::NotFound => "none",
+        ReadOutcome::ResolverFault(_) => "refused",
+        ReadOutcome::ReaderFault(_) => "unread",
+    };
+    write!(text, " {path}={word}")
+}

@@ -1,5 +1,0 @@
-//! Known bytes, read and written.
-
-mod encoding;
-mod files;
-mod reading;
