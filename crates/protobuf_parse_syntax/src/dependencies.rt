@@ -14,7 +14,7 @@ use crate::tree::{FileStatement, Import, ImportVis};
 use std::alloc::{AllocError, Global};
 
 /// What a file imports.
-#[derive(Debug, PartialEq, Eq, Drop)]
+#[derive(Drop)]
 pub struct Dependencies {
     /// The paths of the imports, in source order.
     pub dependency: Vec<String>,

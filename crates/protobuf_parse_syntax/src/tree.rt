@@ -29,7 +29,7 @@ pub enum Syntax {
 }
 
 /// A file.
-#[derive(Debug, Drop)]
+#[derive(Drop)]
 pub struct FileTree {
     /// As the `syntax` statement says; proto2 in a file without one.
     pub syntax: Syntax,
@@ -62,7 +62,7 @@ fn package_behind<'a>(statement: &'a FileStatement, before: Option<&'a str>) -> 
 }
 
 /// A statement of a file.
-#[derive(Debug, Drop)]
+#[derive(Drop)]
 pub enum FileStatement {
     Import(Import),
     Package(Package),
@@ -82,7 +82,7 @@ pub enum ImportVis {
 }
 
 /// `import "PATH";`, `import public "PATH";` or `import weak "PATH";`.
-#[derive(Debug, Drop)]
+#[derive(Drop)]
 pub struct Import {
     pub place: Place,
     pub vis: ImportVis,
@@ -90,7 +90,7 @@ pub struct Import {
 }
 
 /// `package NAME;`.
-#[derive(Debug, Drop)]
+#[derive(Drop)]
 pub struct Package {
     pub place: Place,
     /// Identifiers with dots between them.

@@ -262,7 +262,8 @@ fn lists_each_construct(rt: HostRuntime) -> Result<(), Fail> {
     file.enum_type.push(full_enum(alloc)?)?;
     file.service.push(full_service(alloc)?)?;
     file.extension.push(full_field(alloc)?)?;
-    let listed = listing(alloc, &[file, no_file(alloc)])?;
+    let files = vec![in alloc; file, no_file(alloc)]?;
+    let listed = listing(alloc, &files)?;
     assert_eq!(rt; listed.as_str(), FULL);
     Ok(())
 }

@@ -58,7 +58,7 @@ fn path(alloc: Global, text: &str) -> Result<ProtoPathBuf, Fail> {
 #[test]
 fn describes_what_a_resolver_finds(rt: HostRuntime) -> Result<(), Fail> {
     let alloc = rt.alloc();
-    let paths = [path(alloc, "b.proto")?];
+    let paths = vec![in alloc; path(alloc, "b.proto")?]?;
     let described = parse_and_typecheck_custom(alloc, &paths, &Fruit)?;
     let want = "file a.proto\n  syntax proto3\n  message Apple\n\
         file b.proto\n  syntax proto3\n  import public a.proto\n  message Banana\n    \
@@ -70,7 +70,7 @@ fn describes_what_a_resolver_finds(rt: HostRuntime) -> Result<(), Fail> {
 #[test]
 fn tells_what_no_resolver_finds(rt: HostRuntime) -> Result<(), Fail> {
     let alloc = rt.alloc();
-    let paths = [path(alloc, "b.proto")?, path(alloc, "c")?];
+    let paths = vec![in alloc; path(alloc, "b.proto")?, path(alloc, "c")?]?;
     let refused = parse_and_typecheck_custom(alloc, &paths, &Fruit);
     let fault = RunFault::FileNotFoundInImportPath(
         String::from_str(alloc, "c")?,

@@ -11,7 +11,7 @@ use protobuf_parse_base::proto_path::ProtoPathBuf;
 use std::alloc::{AllocError, Global};
 use std::io::{ErrorKind, Write};
 use std::rt::Files;
-use std::{fs, io};
+use std::{fs, io, slice};
 use thiserror::Error;
 
 /// Why the program ends with status 1.
@@ -103,7 +103,13 @@ fn content_of<R: Files + AllocGlobal>(rt: &R, input: &str) -> Result<Vec<u8>, Ru
 /// The listing of the run over this file alone.
 fn listing_of_file(alloc: Global, file: &OneFile<'_>) -> Result<String, RunFault> {
     let named = RunInput::Named(file.name.to_proto_path_buf(alloc)?);
-    let log = run_inputs(alloc, &[named], file, &NoReader, bundled_files());
+    let log = run_inputs(
+        alloc,
+        slice::from_ref(&named),
+        file,
+        &NoReader,
+        bundled_files(),
+    );
     Ok(listing(alloc, &log.result?)?)
 }
 

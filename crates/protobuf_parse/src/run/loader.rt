@@ -30,7 +30,7 @@ use std::alloc::{AllocError, Global};
 pub const LIMIT: usize = 100;
 
 /// A file whose imports are loaded, and which became a descriptor.
-#[derive(Debug, Drop)]
+#[derive(Drop)]
 pub struct LoadedFile {
     pub tree: FileTree,
     /// How many files the longest import chain from it has, itself counted.
@@ -43,7 +43,7 @@ pub struct LoadedFile {
 }
 
 /// The number and the height of a loaded file.
-#[derive(Clone, Copy, Debug)]
+#[derive(Clone, Copy)]
 pub struct Placed {
     pub number: usize,
     pub height: usize,

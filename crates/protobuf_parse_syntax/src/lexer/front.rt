@@ -11,7 +11,7 @@ use crate::lexer::number::number_piece;
 use crate::lexer::token::TokenKind;
 
 /// What stands at the front of a text, and how many bytes it has.
-#[derive(Clone, Copy, Debug)]
+#[derive(Clone, Copy)]
 pub enum Piece {
     End,
     Blank(usize),

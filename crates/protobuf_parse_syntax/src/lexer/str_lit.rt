@@ -13,7 +13,7 @@ use std::alloc::{AllocError, AllocFailed, Global};
 use thiserror::Error;
 
 /// Neighbouring string tokens, which are one string.
-#[derive(Debug, Drop)]
+#[derive(Drop)]
 pub struct StrLit {
     /// The source text of each token between its quotes.
     pub pieces: Vec<String>,
@@ -67,14 +67,14 @@ pub fn unquoted(text: &str) -> &str
 }
 
 /// What a part of a string stands for.
-#[derive(Clone, Copy, Debug)]
+#[derive(Clone, Copy)]
 enum Meaning {
     Byte(u8),
     Char(char),
 }
 
 /// A part at the front of a string, a byte or an escape: how many bytes it has, and what it stands for.
-#[derive(Clone, Copy, Debug)]
+#[derive(Clone, Copy)]
 struct Part {
     len: usize,
     meaning: Meaning,

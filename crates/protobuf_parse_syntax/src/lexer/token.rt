@@ -23,7 +23,7 @@ pub enum TokenKind {
 }
 
 /// A token of a text.
-#[derive(Clone, Copy, Debug)]
+#[derive(Clone, Copy)]
 pub struct Token<'a> {
     pub kind: TokenKind,
     /// The part of the text that the token is; a string's has its quotes.
@@ -33,7 +33,7 @@ pub struct Token<'a> {
 }
 
 /// The tokens of a text.
-#[derive(Debug, Drop)]
+#[derive(Drop)]
 pub struct TokenStream<'a> {
     pub tokens: Vec<Token<'a>>,
     /// The place after the text's last character.

@@ -19,7 +19,7 @@ use crate::parser::refusal::Refusal;
 use std::alloc::Global;
 
 /// The tokens that are not read yet. A call that refuses a token leaves the cursor before it.
-#[derive(Clone, Copy, Debug)]
+#[derive(Clone, Copy)]
 pub struct Cursor<'t, 'text> {
     rest: &'t [Token<'text>],
     end: Place,

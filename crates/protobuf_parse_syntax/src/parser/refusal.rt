@@ -8,7 +8,7 @@ use crate::lexer::token::Place;
 use std::alloc::{AllocError, AllocFailed};
 
 /// Why a part of a text cannot be read.
-#[derive(Clone, Copy, Debug, PartialEq, Eq)]
+#[derive(Clone, Copy)]
 pub enum Refusal {
     Memory,
     /// What stands next, a token or the end of the text, cannot stand there.

@@ -12,7 +12,7 @@ use std::alloc::{AllocError, Global};
 use std::fmt;
 
 /// The value of an option.
-#[derive(Debug, Drop)]
+#[derive(Drop)]
 #[cycle(constant)]
 pub enum ProtobufConstant {
     /// A number without a minus sign.
@@ -28,7 +28,7 @@ pub enum ProtobufConstant {
 }
 
 /// A field of a message constant.
-#[derive(Debug, Drop)]
+#[derive(Drop)]
 #[cycle(constant)]
 pub struct ConstantField {
     pub name: ConstantFieldName,
@@ -36,7 +36,7 @@ pub struct ConstantField {
 }
 
 /// The name of a field in a message constant.
-#[derive(Debug, Drop)]
+#[derive(Drop)]
 pub enum ConstantFieldName {
     Regular(String),
     /// The name of an extension, which stands in brackets.

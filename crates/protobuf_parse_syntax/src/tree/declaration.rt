@@ -5,7 +5,7 @@ use crate::tree::field::FieldStatement;
 use crate::tree::option::{OptionStatement, ProtobufOption};
 
 /// `message NAME { .. }`.
-#[derive(Debug, Drop)]
+#[derive(Drop)]
 #[cycle(message)]
 pub struct Message {
     /// The place of the word `message`.
@@ -15,7 +15,7 @@ pub struct Message {
 }
 
 /// A statement of a message's body.
-#[derive(Debug, Drop)]
+#[derive(Drop)]
 #[cycle(message)]
 pub enum MessageStatement {
     Reserved(ReservedStatement),
@@ -29,7 +29,7 @@ pub enum MessageStatement {
 }
 
 /// `oneof NAME { .. }`.
-#[derive(Debug, Drop)]
+#[derive(Drop)]
 pub struct OneOf {
     /// The place of the word `oneof`.
     pub place: Place,
@@ -38,14 +38,14 @@ pub struct OneOf {
 }
 
 /// A statement of a oneof's body.
-#[derive(Debug, Drop)]
+#[derive(Drop)]
 pub enum OneOfStatement {
     Option(OptionStatement),
     Field(FieldStatement),
 }
 
 /// `extend NAME { .. }`.
-#[derive(Debug, Drop)]
+#[derive(Drop)]
 pub struct Extend {
     /// The place of the word `extend`.
     pub place: Place,
@@ -56,14 +56,14 @@ pub struct Extend {
 
 /// Numbers of fields or of enum values, from the first to the last with both.
 /// The first may be above the last.
-#[derive(Clone, Copy, Debug, PartialEq, Eq)]
+#[derive(Clone, Copy)]
 pub struct FieldNumberRange {
     pub from: i32,
     pub to: i32,
 }
 
 /// `extensions RANGES`.
-#[derive(Debug, Drop)]
+#[derive(Drop)]
 pub struct Extensions {
     /// The place of the word `extensions`.
     pub place: Place,
@@ -71,7 +71,7 @@ pub struct Extensions {
 }
 
 /// What is reserved.
-#[derive(Debug, Drop)]
+#[derive(Drop)]
 pub enum Reserved {
     Ranges(Vec<FieldNumberRange>),
     /// The texts that the strings stand for.
@@ -79,7 +79,7 @@ pub enum Reserved {
 }
 
 /// `reserved RANGES;` or `reserved NAMES;`.
-#[derive(Debug, Drop)]
+#[derive(Drop)]
 pub struct ReservedStatement {
     /// The place of the word `reserved`.
     pub place: Place,
@@ -87,7 +87,7 @@ pub struct ReservedStatement {
 }
 
 /// `enum NAME { .. }`.
-#[derive(Debug, Drop)]
+#[derive(Drop)]
 pub struct Enumeration {
     /// The place of the word `enum`.
     pub place: Place,
@@ -96,7 +96,7 @@ pub struct Enumeration {
 }
 
 /// A statement of an enum's body.
-#[derive(Debug, Drop)]
+#[derive(Drop)]
 pub enum EnumStatement {
     Reserved(ReservedStatement),
     Option(OptionStatement),
@@ -104,7 +104,7 @@ pub enum EnumStatement {
 }
 
 /// `NAME = NUMBER [OPTIONS]`.
-#[derive(Debug, Drop)]
+#[derive(Drop)]
 pub struct EnumValue {
     /// The place of the name.
     pub place: Place,
@@ -114,7 +114,7 @@ pub struct EnumValue {
 }
 
 /// `service NAME { .. }`.
-#[derive(Debug, Drop)]
+#[derive(Drop)]
 pub struct Service {
     /// The place of the word `service`.
     pub place: Place,
@@ -123,7 +123,7 @@ pub struct Service {
 }
 
 /// A statement of a service's body.
-#[derive(Debug, Drop)]
+#[derive(Drop)]
 pub enum ServiceStatement {
     Method(Method),
     Option(OptionStatement),
@@ -131,7 +131,7 @@ pub enum ServiceStatement {
 
 /// `rpc NAME ([stream] INPUT) returns ([stream] OUTPUT)`, or `stream NAME (INPUT, OUTPUT)`, which streams
 /// both ways.
-#[derive(Debug, Drop)]
+#[derive(Drop)]
 pub struct Method {
     /// The place of the word `rpc` or `stream`.
     pub place: Place,

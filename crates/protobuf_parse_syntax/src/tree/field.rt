@@ -32,7 +32,7 @@ pub enum Scalar {
 }
 
 /// The type of a field's values.
-#[derive(Debug, Drop)]
+#[derive(Drop)]
 pub enum Type {
     Scalar(Scalar),
     /// `map<KEY, VALUE>`.
@@ -43,7 +43,7 @@ pub enum Type {
 }
 
 /// `[LABEL] TYPE NAME = NUMBER [OPTIONS];`.
-#[derive(Debug, Drop)]
+#[derive(Drop)]
 pub struct Field {
     /// The place of the label, or of the type where there is none.
     pub place: Place,
@@ -56,7 +56,7 @@ pub struct Field {
 }
 
 /// `[LABEL] group NAME = NUMBER { .. }`.
-#[derive(Debug, Drop)]
+#[derive(Drop)]
 #[cycle(field)]
 pub struct Group {
     /// The place of the label, or of the word `group` where there is none.
@@ -69,7 +69,7 @@ pub struct Group {
 }
 
 /// A statement that declares a field.
-#[derive(Debug, Drop)]
+#[derive(Drop)]
 #[cycle(field)]
 pub enum FieldStatement {
     Field(Field),

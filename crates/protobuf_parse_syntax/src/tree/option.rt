@@ -4,7 +4,7 @@ use crate::lexer::token::Place;
 use crate::tree::constant::ProtobufConstant;
 
 /// A part of an option's name.
-#[derive(Debug, Drop)]
+#[derive(Drop)]
 pub enum ProtobufOptionNamePart {
     /// A field's name.
     Direct(String),
@@ -14,7 +14,7 @@ pub enum ProtobufOptionNamePart {
 }
 
 /// The name of an option.
-#[derive(Debug, Drop)]
+#[derive(Drop)]
 pub enum ProtobufOptionName {
     /// One part without parentheses.
     Builtin(String),
@@ -23,14 +23,14 @@ pub enum ProtobufOptionName {
 }
 
 /// `NAME = VALUE`.
-#[derive(Debug, Drop)]
+#[derive(Drop)]
 pub struct ProtobufOption {
     pub name: ProtobufOptionName,
     pub value: ProtobufConstant,
 }
 
 /// `option NAME = VALUE;`.
-#[derive(Debug, Drop)]
+#[derive(Drop)]
 pub struct OptionStatement {
     /// The place of the word `option`.
     pub place: Place,

@@ -14,14 +14,14 @@ use protobuf_parse_model::{
 use std::alloc::{AllocError, Global};
 
 /// A built-in option and its value, where it is set.
-#[derive(Clone, Copy, Debug)]
+#[derive(Clone, Copy)]
 pub struct Setting<'a> {
     pub name: &'static str,
     pub value: Option<Value<'a>>,
 }
 
 /// The value of a built-in option.
-#[derive(Clone, Copy, Debug)]
+#[derive(Clone, Copy)]
 pub enum Value<'a> {
     Text(&'a str),
     Word(&'static str),
