@@ -19,7 +19,7 @@ pub struct FileDescriptorSet {
 }
 
 /// A file.
-#[derive(Debug, PartialEq, Eq, Drop)]
+#[derive(Debug, PartialEq, Eq)]
 pub struct FileDescriptorProto {
     /// The path by which the file is known.
     pub name: Option<String>,
@@ -38,6 +38,25 @@ pub struct FileDescriptorProto {
     pub service: Vec<ServiceDescriptorProto>,
     pub extension: Vec<FieldDescriptorProto>,
     pub options: Option<FileOptions>,
+}
+
+// Written out: a crate above calls it, and need not prove anew how each kind of descriptor is dropped.
+impl Drop for FileDescriptorProto {
+    fn drop(self) {
+        let FileDescriptorProto {
+            name: _,
+            package: _,
+            syntax: _,
+            dependency: _,
+            public_dependency: _,
+            weak_dependency: _,
+            message_type: _,
+            enum_type: _,
+            service: _,
+            extension: _,
+            options: _,
+        } = self;
+    }
 }
 
 /// A message.
