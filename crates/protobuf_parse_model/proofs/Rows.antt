@@ -23,7 +23,8 @@ use Rattle.protobuf_parse_model.specs.OptionsSet.{entry_options}
 use Rattle.protobuf_parse_model.specs.Fields.{plain, field_of, field_faults, names_of_fields}
 use Rattle.protobuf_parse_model.specs.Enums.{enum_of}
 use Rattle.protobuf_parse_model.specs.Messages as messages
-use Rattle.protobuf_parse_model.specs.FileDescriptor.{environment, reach_faults, file_of, file_faults}
+use Rattle.protobuf_parse_model.specs.FileDescriptor.{environment, file_of, file_faults}
+use Rattle.protobuf_parse_model.specs.Linking.{link_faults}
 
 -- ---- trees; where their parts stand says nothing
 
@@ -264,7 +265,7 @@ packaged_has_no_fault : file_faults (alone packaged) packaged ≡ []
 packaged_has_no_fault = refl
 
 -- the same file twice among those that are reached
-declared_twice : reach_faults (scopes ∷ with_group [] ∷ with_group [] ∷ []) ≡ record { kind = error.TypeDeclaredTwice; what = codes ".M" } ∷ record { kind = error.TypeDeclaredTwice; what = codes ".M.Item" } ∷ []
+declared_twice : link_faults (scopes ∷ with_group [] ∷ with_group [] ∷ []) ≡ map (λ (name : Text). record { kind = error.TypeDeclaredTwice; what = name }) (codes ".M" ∷ codes ".M.Item" ∷ codes ".M" ∷ codes ".M.Item" ∷ [])
 declared_twice = refl
 
 -- message M { optional int32 a = 1; optional int32 a = 2; }

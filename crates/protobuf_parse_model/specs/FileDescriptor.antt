@@ -8,12 +8,11 @@ use Rattle.protobuf_parse_syntax.specs.Trees.{OptionSyntax, StatementSyntax, fil
 use Rattle.protobuf_parse_syntax.specs.Dependencies.{imports, imports_of}
 use Rattle.protobuf_parse_syntax.specs.declared.tree.Syntax.{Syntax}
 use Rattle.protobuf_parse_syntax.specs.declared.tree.Syntax.TheVariants.{Proto2, Proto3}
-use Rattle.protobuf_parse_model.specs.declared.error.ElabErrorKind.TheVariants.{TypeDeclaredTwice, ExtensionDeclaredTwice}
 use Rattle.protobuf_parse_model.specs.Descriptors.{Text, FieldDescriptor, EnumDescriptor, MessageDescriptor, ServiceDescriptor, FileDescriptor}
 use Rattle.protobuf_parse_model.specs.Faults.{Fault}
-use Rattle.protobuf_parse_model.specs.Declarations.{DeclaredType, DeclaredExtension, file_scope, file_types, file_extensions, file_generated}
+use Rattle.protobuf_parse_model.specs.Declarations.{DeclaredType, file_scope, file_types}
 use Rattle.protobuf_parse_model.specs.Lookup.{declared}
-use Rattle.protobuf_parse_model.specs.Duplicates.{repeats, duplicates}
+use Rattle.protobuf_parse_model.specs.Duplicates.{duplicates}
 use Rattle.protobuf_parse_model.specs.Environment.{Environment, CustomBytes}
 use Rattle.protobuf_parse_model.specs.BuiltinOptions.{file_table, options_faults}
 use Rattle.protobuf_parse_model.specs.OptionsSet.{file_options}
@@ -108,14 +107,3 @@ file_faults env t =
     file_duplicates env t
     ++ options_faults file_table (flat_map options_in_file t.statements)
     ++ flat_map (statement_faults env) t.statements
-
--- the full names of messages and enums, also of those behind maps and groups; and of extensions
-abbrev pub type_names : FileSyntax → List Text
-type_names t = map (λ (d : DeclaredType). d.name) (file_types t) ++ file_generated t
-
-abbrev pub extension_names : FileSyntax → List Text
-extension_names t = map (λ (d : DeclaredExtension). d.name) (file_extensions t)
-
--- of the files that it reaches: E5 and E6 for a full name that is declared twice
-abbrev pub reach_faults : List FileSyntax → List Fault
-reach_faults reached = repeats TypeDeclaredTwice (flat_map type_names reached) ++ repeats ExtensionDeclaredTwice (flat_map extension_names reached)

@@ -15,6 +15,7 @@ pub mod Services
 pub mod Messages
 pub mod Contexts
 pub mod FileDescriptor
+pub mod Linking
 pub mod FileParts
 pub mod Tables
 pub mod OptionSets

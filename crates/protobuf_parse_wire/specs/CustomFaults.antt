@@ -11,7 +11,8 @@ use Rattle.protobuf_parse_model.specs.Lookup.{meaning}
 use Rattle.protobuf_parse_model.specs.Duplicates.{fault, fault_when, stands_in}
 use Rattle.protobuf_parse_model.specs.Environment.{OptionsOf, of_file, of_message, of_field, of_oneof, of_enum, of_enum_value, of_service, of_method, no_custom}
 use Rattle.protobuf_parse_model.specs.BuiltinOptions.{Table, BuiltinKind, string_faults, file_table, message_table, field_table, oneof_table, enum_table, enum_value_table, service_table, method_table}
-use Rattle.protobuf_parse_model.specs.FileDescriptor.{environment, file_faults, reach_faults}
+use Rattle.protobuf_parse_model.specs.FileDescriptor.{environment, file_faults}
+use Rattle.protobuf_parse_model.specs.Linking.{before_others, link_faults}
 use Rattle.protobuf_parse_model.specs.OptionSets.{OptionSet, option_sets}
 use Rattle.protobuf_parse_wire.specs.Kinds.{shape}
 use Rattle.protobuf_parse_wire.specs.Declarations.{extends}
@@ -162,7 +163,7 @@ statement_faults at construct os = flat_map (λ (o : OptionSyntax). named_faults
 abbrev pub option_faults : List FileDescriptor → List (Declared FieldDescriptor) → FileSyntax → List Fault
 option_faults files extensions t = flat_map (λ (s : OptionSet). statement_faults (scope_of files extensions s) s.construct s.statements) (option_sets t)
 
--- All faults that stand in a file: its own, those of names that are declared twice in the files that it reaches, and those
--- of its custom options.
+-- All faults that stand in a file: those of names that are declared twice in the files that it reaches, or else its own and
+-- those of its custom options.
 abbrev pub elaboration_faults : (reached seen : List FileSyntax) → List FileDescriptor → List (Declared FieldDescriptor) → FileSyntax → List Fault
-elaboration_faults reached seen files extensions t = file_faults (environment seen no_custom t) t ++ reach_faults reached ++ option_faults files extensions t
+elaboration_faults reached seen files extensions t = before_others (link_faults reached) (file_faults (environment seen no_custom t) t ++ option_faults files extensions t)
