@@ -16,6 +16,7 @@ pub mod Messages
 pub mod Contexts
 pub mod FileDescriptor
 pub mod Linking
+pub mod FilesByPath
 pub mod FileParts
 pub mod Tables
 pub mod OptionSets
