@@ -97,11 +97,9 @@ decided-file legal table a p old new (Err f) (inl r) d = decided-same table (old
 decided-file legal table a p old new (Err f) (inr r) d = decided-same table old new r.1 d
 
 -- the file of an input that was loaded is read again
-pub decided-check : (legal : Legal) (files : Files) (table : List (Text × Text)) (kept : List Event) (loaded : List Entry) (old new : List ReadEntry) (p q : Text) (x : LoadedFile) (o : ReadOutcome) → q ≡ p → Good legal files kept loaded old [] → file_at q loaded ≡ Some x → Noted p o old new → IsDecided table old → IsDecided table new
-decided-check legal files table kept loaded old new p q x o is g found n d =
-    let at : file_at p loaded ≡ Some x = subst (λ (z : Text). file_at z loaded ≡ Some x) is found in
-    let l = loaded-at legal files p x old loaded at g.made in
-    let there : among (path_buf_text n.0.path) (read_paths old) ≡ true = subst (λ (z : Text). among z (read_paths old) ≡ true) (l.named ∙ sym n.2) (among-at old x.read l.entry l.read) in
+pub decided-check : (table : List (Text × Text)) (loaded : List Entry) (names : Declarations) (old new : List ReadEntry) (p q : Text) (x : LoadedFile) (o : ReadOutcome) → q ≡ p → AreKnown loaded names old → file_at q loaded ≡ Some x → Noted p o old new → IsDecided table old → IsDecided table new
+decided-check table loaded names old new p q x o is known found n d =
+    let there : among (path_buf_text n.0.path) (read_paths old) ≡ true = subst (λ (z : Text). among z (read_paths old) ≡ true) (is ∙ sym n.2) (known.read q x found) in
     decided-same table (old ++ n.0 ∷ []) new n.1 (decided-again table old n.0 there d)
 
 pub decided-none : (table : List (Text × Text)) → IsDecided table []
@@ -111,15 +109,8 @@ pub have-trees : (table : List (Text × Text)) (log : List ReadEntry) → IsDeci
 have-trees table log d = (λ p. (d p).0, λ p. (d p).1)
 
 -- the files of a run with this log
-abbrev pub run-files : List (Text × Text) → List ReadEntry → Trees → (Text → List FileSyntax) → (Text → CustomBytes) → Files
-run-files table log trees sees custom = record { bundled = table; reads = log; trees = trees; sees = sees; custom = custom }
+abbrev pub run-files : List (Text × Text) → List ReadEntry → Trees → (Text → List Text) → (Text → List Text) → Files
+run-files table log trees reached seen = record { bundled = table; reads = log; trees = trees; reached = reached; seen = seen }
 
-pub goes-on : (table : List (Text × Text)) (log : List ReadEntry) (trees : Trees) (sees : Text → List FileSyntax) (custom : Text → CustomBytes) → HasTrees table log trees → GoesOn (run-files table log trees sees custom) table log
-goes-on table log trees sees custom h = record { bundled = refl; reads = ([], sym (append-nil log)); trees = h }
-
--- the files of a run that read this log and no more
-abbrev pub files-so_far : (table : List (Text × Text)) (log : List ReadEntry) → IsDecided table log → Files
-files-so_far table log d = run-files table log (λ p. (d p).0) (λ p. []) (λ p. no_custom)
-
-pub goes-so_far : (table : List (Text × Text)) (log : List ReadEntry) (d : IsDecided table log) → GoesOn (files-so_far table log d) table log
-goes-so_far table log d = goes-on table log (λ p. (d p).0) (λ p. []) (λ p. no_custom) (λ p. (d p).1.0)
+pub goes-on : (table : List (Text × Text)) (log : List ReadEntry) (trees : Trees) (reached seen : Text → List Text) → HasTrees table log trees → AreListed trees reached seen → GoesOn (run-files table log trees reached seen) table log
+goes-on table log trees reached seen h listed = record { bundled = refl; reads = ([], sym (append-nil log)); trees = h; listed = listed }

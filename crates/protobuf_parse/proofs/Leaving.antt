@@ -137,15 +137,15 @@ module _ (legal : Legal) (files : Files) where
   leaves-push kept i a p chain t x n done rest q h m loaded log f l tree_is lt off is memory =
       loop-breaks legal files kept i a p chain t x n (done ++ q ∷ []) rest m loaded log f l tree_is lt off (is ∙ sym (append_assoc done (q ∷ []) rest)) memory
 
-  pub leaves-end : (kept : List Event) (i : Text) (a : Asked) (p q : Text) (chain : List Text) (t : FileSyntax) (x : ReadEntry) (n : ℕ) (done : List Text) (h m : ℕ) (loaded later : List Entry) (log after : List ReadEntry) (r : Result Placed RunFault) → q ≡ p → after ≡ log → m ≡ suc h → done ≡ import_paths t → InLoop legal files kept i a p chain x n done h loaded log → files.trees p ≡ Some t → length chain < 100 → h < 100 → among p chain ≡ false → Settles q t m n log loaded later r → Leaves legal files (keep kept (walk files.trees i a (100 - length chain) chain p)) (file_shape files.trees p) later after chain r
+  pub leaves-end : (kept : List Event) (i : Text) (a : Asked) (p q : Text) (chain : List Text) (t : FileSyntax) (x : ReadEntry) (n : ℕ) (done : List Text) (h m : ℕ) (loaded later : List Entry) (log after : List ReadEntry) (r : Result Placed RunFault) → q ≡ p → after ≡ log → m ≡ suc h → done ≡ import_paths t → InLoop legal files kept i a p chain x n done h loaded log → files.trees p ≡ Some t → length chain < 100 → h < 100 → among p chain ≡ false → Settles files q t m n log loaded later r → Leaves legal files (keep kept (walk files.trees i a (100 - length chain) chain p)) (file_shape files.trees p) later after chain r
   leaves-end kept i a p q chain t x n done h m loaded later log after (Ok placed) e same tall all l tree_is lt low off settles =
       let whole : InLoop legal files kept i a p chain x n (import_paths t) h loaded log = (rw all at l) in
       let none : file_at p loaded ≡ None = none-file p loaded (subst (λ (z : List Text). among p z ≡ false) whole.good.elabs (sym (has-elab p (so_far files.trees kept i a p chain (import_paths t))) ∙ whole.good.apart p (among-last p chain))) in
-      let d = subst (λ (k : ℕ). IsAdded p t k n loaded later placed) tall (subst (λ (z : Text). IsAdded z t m n loaded later placed) e (settles (subst (λ (z : Text). file_at z loaded ≡ None) (sym e) none))) in
+      let d = subst (λ (k : ℕ). IsAdded files p t k n loaded later placed) tall (subst (λ (z : Text). IsAdded files z t m n loaded later placed) e (settles (subst (λ (z : Text). file_at z loaded ≡ None) (sym e) none))) in
       rw same (loop-end legal files kept i a p chain t x n h loaded later log placed whole tree_is lt low off d)
   leaves-end kept i a p q chain t x n done h m loaded later log after (Err f) e same tall all l tree_is lt low off settles =
       let whole : InLoop legal files kept i a p chain x n (import_paths t) h loaded log = (rw all at l) in
-      let s : OrMemory f (StandsInElab (origin_given p (Some x.outcome)) (faults_in files p (Some t)) f) = subst (λ (z : Text). OrMemory f (StandsInElab (origin_given z (Some x.outcome)) (faults_in files p (Some t)) f)) e (settles x whole.found (whole.named ∙ sym e) (files.sees p) (files.custom p)) in
+      let s : OrMemory f (StandsInElab (origin_given p (Some x.outcome)) (faults_in files p (Some t)) f) = subst (λ (z : Text). OrMemory f (StandsInElab (origin_given z (Some x.outcome)) (faults_in files z (Some t)) f)) e (settles x whole.found (whole.named ∙ sym e)) in
       rw same (elim s [
         | inl stands ↦
             let here : StandsInElab (origin_given p (first_read p files.reads)) (faults_in files p (files.trees p)) f =

@@ -12,4 +12,6 @@ pub mod Telling
 pub mod Counting
 pub mod Deciding
 pub mod Causing
-pub mod Reaching
+pub mod Numbers
+pub mod Knowing
+pub mod Settling

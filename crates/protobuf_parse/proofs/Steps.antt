@@ -337,7 +337,7 @@ module _ (legal : Legal) (files : Files) where
       let y : Stops legal files (keep (keep s (joined w rest)) (elab p ∷ [])) log f = stops-more _ (elab p ∷ []) log f (breaks-now s (joined w rest) loaded log (chain ++ p ∷ []) f l.good m) in
       rw (opened kept i a p chain t lt off l.fresh tree_is, e) y
 
-  pub loop-end : (kept : List Event) (i : Text) (a : Asked) (p : Text) (chain : List Text) (t : FileSyntax) (x : ReadEntry) (n : ℕ) (h : ℕ) (loaded later : List Entry) (log : List ReadEntry) (placed : Placed) → InLoop legal files kept i a p chain x n (import_paths t) h loaded log → files.trees p ≡ Some t → length chain < 100 → h < 100 → among p chain ≡ false → IsAdded p t (suc h) n loaded later placed → Good legal files (keep kept (walk files.trees i a (100 - length chain) chain p)) later log chain × Settled (keep kept (walk files.trees i a (100 - length chain) chain p)) placed.height (file_shape files.trees p)
+  pub loop-end : (kept : List Event) (i : Text) (a : Asked) (p : Text) (chain : List Text) (t : FileSyntax) (x : ReadEntry) (n : ℕ) (h : ℕ) (loaded later : List Entry) (log : List ReadEntry) (placed : Placed) → InLoop legal files kept i a p chain x n (import_paths t) h loaded log → files.trees p ≡ Some t → length chain < 100 → h < 100 → among p chain ≡ false → IsAdded files p t (suc h) n loaded later placed → Good legal files (keep kept (walk files.trees i a (100 - length chain) chain p)) later log chain × Settled (keep kept (walk files.trees i a (100 - length chain) chain p)) placed.height (file_shape files.trees p)
   loop-end kept i a p chain t x n h loaded later log placed l tree_is lt low off d =
       let s = so_far files.trees kept i a p chain (import_paths t) in
       let fresh : has (elab p) s ≡ false = l.good.apart p (among-last p chain) in
@@ -345,13 +345,13 @@ module _ (legal : Legal) (files : Files) where
       let m : IsLoaded files log p d.file = record {
         low = rw d.height_is (omega (arith, low));
         is = tree_is ∙ ap Some (sym d.tree_is);
-        descriptor = d.descriptor (files.sees p) (files.custom p) ∙ ap (λ u. file_of (environment_of files p u) p u) (sym d.tree_is);
+        descriptor = d.descriptor ∙ ap (λ u. file_of (environment_of files p u) p u) (sym d.tree_is);
         entry = x;
         read = rw d.read_is l.found;
         named = l.named;
         first = l.first;
       } in
-      let g = good-elab s loaded log chain p t h (d.key, d.file) l.good off r tree_is (d.faultless (files.sees p) (files.custom p)) l.settled d.named d.height_is m in
+      let g = good-elab s loaded log chain p t h (d.key, d.file) l.good off r tree_is d.faultless l.settled d.named d.height_is m in
       rw (opened kept i a p chain t lt off l.fresh tree_is, keep-fresh s [] (elab p) fresh, d.entries, d.placed_is) g
 
   -- the file is refused

@@ -5,26 +5,33 @@ use Rattle.std.specs.List.{AllByRecursion, Contains}
 use Rattle.std.specs.List.Sorted.{IsStrictlyIncreasing}
 use Rattle.std.specs.Map.{lookup}
 use Rattle.protobuf_parse_base.specs.PathViews.{path_buf_text}
-use Rattle.protobuf_parse_syntax.specs.Trees.{FileSyntax, file_view}
+use Rattle.protobuf_parse_syntax.specs.Trees.{FileSyntax, StatementSyntax, file_view}
 use Rattle.protobuf_parse_syntax.specs.declared.tree.FileTree.{FileTree}
 use Rattle.protobuf_parse_model.specs.Descriptors as described
-use Rattle.protobuf_parse_model.specs.Descriptors.{Text}
-use Rattle.protobuf_parse_model.specs.FileDescriptor.{InAnyEnvironment, file_of}
+use Rattle.protobuf_parse_model.specs.Descriptors.{Text, FileDescriptor}
+use Rattle.protobuf_parse_model.specs.Environment.{no_custom}
+use Rattle.protobuf_parse_model.specs.FileDescriptor.{environment, file_of}
+use Rattle.protobuf_parse_model.specs.FilesByPath.{AreDistinct}
+use Rattle.protobuf_parse_model.specs.Linking.{before_others, link_faults}
+use Rattle.protobuf_parse_model.specs.Tables.{Tells, picked}
+use Rattle.protobuf_parse_model.specs.declared.scope.seen.Declarations.{Declarations}
 use Rattle.protobuf_parse_model.specs.Faults as elaborating
 use Rattle.protobuf_parse_model.specs.Faults.{fault_view}
 use Rattle.protobuf_parse.specs.declared.run.fault.RunFault.{RunFault}
 use Rattle.protobuf_parse.specs.declared.run.fault.RunFault.TheVariants as fault
 use Rattle.protobuf_parse.specs.declared.run.loader.LoadedFile.{LoadedFile}
 use Rattle.protobuf_parse.specs.declared.run.loader.Placed.{Placed}
+use Rattle.protobuf_parse.specs.declared.run.reach.Held.{Held}
+use Rattle.protobuf_parse.specs.declared.run.reach.Held.TheVariants as held_as
 use Rattle.protobuf_parse.specs.declared.run.log.ReadEntry.{ReadEntry}
 use Rattle.protobuf_parse.specs.declared.run.log.ReadOutcome.{ReadOutcome}
-use Rattle.protobuf_parse.specs.Walks.{Asked, the_resolver, the_reader, Event, long, load, elab, has, keep, among, Trees, Reaches, joined, walk, reads_in, elab_paths}
+use Rattle.protobuf_parse.specs.Walks.{Asked, the_resolver, the_reader, Event, long, load, elab, has, keep, among, Trees, Reaches, HandsOn, Sees, import_paths, public_paths, public_paths_of, joined, walk, reads_in, elab_paths}
 use Rattle.std.specs.Borrow.{Bor}
 use Rattle.std.specs.Str.{IsUtf8}
 use Rattle.protobuf_parse.specs.declared.run.fault.ResolveFault.{ResolveFault}
 use Rattle.protobuf_parse.specs.declared.run.fault.ReadInputFault.{ReadInputFault}
 use Rattle.protobuf_parse.specs.declared.run.log.ReadOutcome.TheVariants as outcome
-use Rattle.protobuf_parse.specs.Run.{Files, HasTrees, IsTheTree, text_read, environment_of, faults_of, first_read, fails, said, text_given, origin_given, Answers, StandsAt, StandsInLoad, StandsInElab, IsUnparsed}
+use Rattle.protobuf_parse.specs.Run.{Files, AreListed, HasTrees, faults_in, IsTheTree, text_read, environment_of, faults_of, first_read, fails, said, text_given, origin_given, Answers, StandsAt, StandsInLoad, StandsInElab, IsUnparsed}
 
 -- the answers that who is asked for a path may give
 abbrev pub Legal : Type 1
@@ -44,46 +51,99 @@ paths_of loaded = map (λ (e : Entry). string_bytes e.0) loaded
 abbrev pub file_at : Text → List Entry → Option LoadedFile
 file_at path loaded = lookup (λ (k : String Global). bytes_eq path (string_bytes k)) loaded
 
--- the numbers of the files that a loaded file reaches
-abbrev pub reach_of_entry : Option Entry → List ℕ
-reach_of_entry None = []
-reach_of_entry (Some e) = e.1.reach.items
+abbrev pub read_paths : List ReadEntry → List Text
+read_paths log = map (λ (e : ReadEntry). path_buf_text e.path) log
 
--- the numbers that each of these files reaches, one file after another, and then that of the next file
-abbrev pub reached_by : List Entry → List ℕ → List ℕ
-reached_by loaded files = flat_map (λ n. reach_of_entry (slice_get loaded n)) files ++ length loaded ∷ []
+-- ---- the numbers of loaded files
 
--- these numbers are ascending, and just those
-pub record IsReachOf (loaded : List Entry) (files numbers : List ℕ) : Type 0 where
-  pub ascending : IsStrictlyIncreasing numbers
-  pub all : (n : ℕ) → Contains (reached_by loaded files) n → Contains numbers n
-  pub only : (n : ℕ) → Contains numbers n → Contains (reached_by loaded files) n
+-- the paths and the trees of the loaded files, in their order
+abbrev pub Named : Type 0
+Named = Text × FileSyntax
 
--- the loaded file with this number has this path
-abbrev pub IsNumbered : List Entry → ℕ → Text → Type 0
-IsNumbered loaded n path = (e : Entry) × (slice_get loaded n ≡ Some e) × (string_bytes e.0 ≡ path)
+abbrev pub named_trees : List Entry → List Named
+named_trees loaded = map (λ (e : Entry). (string_bytes e.0, file_view e.1.tree)) loaded
+
+abbrev pub trees_of : List Named → List FileSyntax
+trees_of files = map (λ (f : Named). f.1) files
+
+abbrev pub paths_in : List Named → List Text
+paths_in files = map (λ (f : Named). f.0) files
+
+-- the file with this number has this path
+abbrev pub IsNumbered : List Named → ℕ → Text → Type 0
+IsNumbered files n path = (t : FileSyntax) × (slice_get files n ≡ Some (path, t))
 
 -- so have those with these numbers
-abbrev pub AreNumbered : List Entry → List ℕ → List Text → Type 0
-AreNumbered loaded [] [] = Unit {0}
-AreNumbered loaded (n ∷ ns) (path ∷ paths) = IsNumbered loaded n path × AreNumbered loaded ns paths
-AreNumbered loaded _ _ = ⊥
+abbrev pub AreNumbered : List Named → List ℕ → List Text → Type 0
+AreNumbered files [] [] = Unit {0}
+AreNumbered files (n ∷ ns) (path ∷ paths) = IsNumbered files n path × AreNumbered files ns paths
+AreNumbered files _ _ = ⊥
 
--- these are the numbers of the files that the file of this path reaches
-pub record IsReach (trees : Trees) (loaded : List Entry) (path : Text) (numbers : List ℕ) : Type 0 where
-  pub sound : (n : ℕ) → Contains numbers n → (q : Text) × IsNumbered loaded n q × Reaches trees path q
-  pub complete : (q : Text) → Reaches trees path q → (n : ℕ) × Contains numbers n × IsNumbered loaded n q
+-- these are the numbers of just the files that have the property
+pub record AreNumbersOf (Has : Text → Type 0) (files : List Named) (numbers : List ℕ) : Type 0 where
+  pub sound : (n : ℕ) → Contains numbers n → (q : Text) × IsNumbered files n q × Has q
+  pub complete : (q : Text) → Has q → (n : ℕ) × Contains numbers n × IsNumbered files n q
 
--- each loaded file has the numbers of the files that it reaches
-abbrev pub AllReach : Trees → List Entry → Type 0
-AllReach trees loaded = (n : ℕ) (e : Entry) → slice_get loaded n ≡ Some e → IsReach trees loaded (string_bytes e.0) e.1.reach.items
+-- each of the files has its tree
+abbrev pub Agrees : Trees → List Named → Type 0
+Agrees trees files = (n : ℕ) (p : Text) (t : FileSyntax) → slice_get files n ≡ Some (p, t) → trees p ≡ Some t
+
+-- which numbers of a loaded file: those of the files that it reaches, or those of the files that it hands on
+abbrev pub held : Held → LoadedFile → List ℕ
+held held_as.Reach file = file.reach.items
+held held_as.HandedOn file = file.handed_on.items
+
+-- whatever the trees of other files are, each loaded file holds the numbers of just the files to which it stands so
+abbrev pub AllHold : (Trees → Text → Text → Type 0) → Held → List Entry → Type 0
+AllHold R which loaded =
+    (trees : Trees) → Agrees trees (named_trees loaded) → (n : ℕ) (e : Entry) → slice_get loaded n ≡ Some e
+    → AreNumbersOf (R trees (string_bytes e.0)) (named_trees loaded) (held which e.1)
+
+-- what is known of loaded files: the table has their names, each path stands once and was read, and each file knows what
+-- it reaches and hands on
+pub record AreKnown (loaded : List Entry) (names : Declarations) (log : List ReadEntry) : Type 0 where
+  pub tells : Tells names (trees_of (named_trees loaded))
+  pub once : AreDistinct (paths_in (named_trees loaded))
+  pub reach : AllHold Reaches held_as.Reach loaded
+  pub handed_on : AllHold HandsOn held_as.HandedOn loaded
+  pub read : (p : Text) (file : LoadedFile) → file_at p loaded ≡ Some file → among p (read_paths log) ≡ true
+
+abbrev pub held_at : Held → Option Entry → List ℕ
+held_at which None = []
+held_at which (Some e) = held which e.1
+
+-- the numbers that each of these files holds, one file after another, and then that of the next file
+abbrev pub held_by : Held → List Entry → List ℕ → List ℕ
+held_by which loaded files = flat_map (λ n. held_at which (slice_get loaded n)) files ++ length loaded ∷ []
+
+-- these numbers are ascending, and just those
+pub record AreJoined (which : Held) (loaded : List Entry) (files numbers : List ℕ) : Type 0 where
+  pub ascending : IsStrictlyIncreasing numbers
+  pub all : (n : ℕ) → Contains (held_by which loaded files) n → Contains numbers n
+  pub only : (n : ℕ) → Contains numbers n → Contains (held_by which loaded files) n
+
+-- these are the numbers that the files hold which a file imports publicly, where those of its imports are these
+pub record AreHandedOn (loaded : List Entry) (tree : FileSyntax) (imports numbers : List ℕ) : Type 0 where
+  pub public : List ℕ
+  pub numbered : AreNumbered (named_trees loaded) imports (import_paths tree) → AreNumbered (named_trees loaded) public (public_paths tree)
+  pub joined : AreJoined held_as.HandedOn loaded public numbers
+
+-- what a statement imports publicly has this number, if it imports anything so
+abbrev pub IsPublicImport : List Entry → StatementSyntax → Option ℕ → Type 0
+IsPublicImport loaded s number =
+    ((q : Text) → among q (public_paths_of s) ≡ true → (n : ℕ) × IsNumbered (named_trees loaded) n q)
+    → AreNumbered (named_trees loaded) (option_to_list number) (public_paths_of s)
+
+-- the faults of a file, and what it becomes, over the files with the numbers that it reaches and sees
+abbrev pub faults_over : List FileSyntax → List ℕ → List ℕ → FileSyntax → List elaborating.Fault
+faults_over files reach sight t = before_others (link_faults (picked files reach)) (faults_of (environment (picked files sight) no_custom t) t)
+
+abbrev pub file_over : List FileSyntax → List ℕ → Text → FileSyntax → FileDescriptor
+file_over files sight path t = file_of (environment (picked files sight) no_custom t) path t
 
 -- these are more files than were loaded
 abbrev pub MoreLoaded : List Entry → List Entry → Type 0
 MoreLoaded old new = (more : List Entry) × (new ≡ old ++ more)
-
-abbrev pub read_paths : List ReadEntry → List Text
-read_paths log = map (λ (e : ReadEntry). path_buf_text e.path) log
 
 -- these are more of what was there
 abbrev pub Grows : List ReadEntry → List ReadEntry → Type 0
@@ -225,7 +285,7 @@ so_far trees kept input asked path chain done =
     keep (kept ++ load asked path ∷ []) (joined (walk trees input the_resolver (100 - length (chain ++ path ∷ [])) (chain ++ path ∷ [])) done)
 
 -- A file was added for this path: it has this tree, in which no fault stands, and is what that becomes.
-pub record IsAdded (path : Text) (tree : FileSyntax) (height read : ℕ) (old new : List Entry) (placed : Placed) : Type 0 where
+pub record IsAdded (files : Files) (path : Text) (tree : FileSyntax) (height read : ℕ) (old new : List Entry) (placed : Placed) : Type 0 where
   pub key : String Global
   pub file : LoadedFile
   pub entries : new ≡ old ++ (key, file) ∷ []
@@ -233,8 +293,8 @@ pub record IsAdded (path : Text) (tree : FileSyntax) (height read : ℕ) (old ne
   pub tree_is : file_view file.tree ≡ tree
   pub height_is : file.height ≡ height
   pub read_is : file.read ≡ read
-  pub faultless : InAnyEnvironment tree (λ env. faults_of env tree ≡ [])
-  pub descriptor : InAnyEnvironment tree (λ env. described.file_view file.descriptor ≡ file_of env path tree)
+  pub faultless : faults_in files path (Some tree) ≡ []
+  pub descriptor : described.file_view file.descriptor ≡ file_of (environment_of files path tree) path tree
   pub placed_is : placed.height ≡ height
 
 -- between two imports of a file
@@ -267,30 +327,61 @@ pub record GoesOn (files : Files) (table : List (Text × Text)) (log : List Read
   pub bundled : files.bundled ≡ table
   pub reads : Grows log files.reads
   pub trees : HasTrees files.bundled files.reads files.trees
+  pub listed : AreListed files.trees files.reached files.seen
 
 -- the loaded file of a path, as a look-up told it
 abbrev pub IsPlaced : Text → List Entry → Option Placed → Type 0
 IsPlaced path loaded None = file_at path loaded ≡ None
-IsPlaced path loaded (Some placed) = (file : LoadedFile) × (file_at path loaded ≡ Some file) × (placed.height ≡ file.height) × IsNumbered loaded placed.number path
+IsPlaced path loaded (Some placed) = (file : LoadedFile) × (file_at path loaded ≡ Some file) × (placed.height ≡ file.height) × IsNumbered (named_trees loaded) placed.number path
 
 -- what an elaboration leaves
-abbrev pub Settles : Text → FileSyntax → ℕ → ℕ → List ReadEntry → List Entry → List Entry → Result Placed RunFault → Type 0
-Settles path tree height read log old new (Ok placed) = file_at path old ≡ None → IsAdded path tree height read old new placed
-Settles path tree height read log old new (Err f) = (e : ReadEntry) → slice_get log read ≡ Some e → path_buf_text e.path ≡ path → InAnyEnvironment tree (λ env. OrMemory f (StandsInElab (origin_given path (Some e.outcome)) (faults_of env tree) f))
+abbrev pub Settles : Files → Text → FileSyntax → ℕ → ℕ → List ReadEntry → List Entry → List Entry → Result Placed RunFault → Type 0
+Settles files path tree height read log old new (Ok placed) = file_at path old ≡ None → IsAdded files path tree height read old new placed
+Settles files path tree height read log old new (Err f) = (e : ReadEntry) → slice_get log read ≡ Some e → path_buf_text e.path ≡ path → OrMemory f (StandsInElab (origin_given path (Some e.outcome)) (faults_in files path (Some tree)) f)
 
--- the file that was added is the last one, and reaches what these files reach and itself
-abbrev pub AddsReach : Text → List ℕ → List Entry → List Entry → Placed → Type 0
-AddsReach path files old new placed = file_at path old ≡ None → (x : Entry) × (new ≡ old ++ x ∷ []) × (string_bytes x.0 ≡ path) × (placed.number ≡ length old) × IsReachOf old files x.1.reach.items
+-- the trees of the loaded files, and behind them that of the next
+abbrev pub with_next : List Entry → FileSyntax → List FileSyntax
+with_next loaded tree = trees_of (named_trees loaded) ++ tree ∷ []
 
--- A file of this path is loaded with that number, among these files and no fewer than before; and each of them
--- has the numbers of what it reaches.
-pub record IsReached (trees : Trees) (path : Text) (old new : List Entry) (placed : Placed) : Type 0 where
-  pub number : IsNumbered new placed.number path
+-- A file was added behind those that were loaded, whose imports have these numbers. By the numbers of the files that it
+-- reaches and sees, no fault stands in it, and it has become its descriptor.
+pub record IsAddedOver (path : Text) (tree : FileSyntax) (height read : ℕ) (imports : List ℕ) (old new : List Entry) (names : Declarations) (placed : Placed) : Type 0 where
+  pub key : String Global
+  pub file : LoadedFile
+  pub sight : List ℕ
+  pub entries : new ≡ old ++ (key, file) ∷ []
+  pub named : string_bytes key ≡ path
+  pub tree_is : file_view file.tree ≡ tree
+  pub height_is : file.height ≡ height
+  pub read_is : file.read ≡ read
+  pub reaches : AreJoined held_as.Reach old imports file.reach.items
+  pub sees : AreJoined held_as.HandedOn old imports sight
+  pub hands_on : AreHandedOn old tree imports file.handed_on.items
+  pub faultless : faults_over (with_next old tree) file.reach.items sight tree ≡ []
+  pub descriptor : described.file_view file.descriptor ≡ file_over (with_next old tree) sight path tree
+  pub tells : Tells names (with_next old tree)
+  pub height_placed : placed.height ≡ height
+  pub number_placed : placed.number ≡ length old
+
+-- By the numbers of the files that a file reaches and sees, this fault stands in it, or memory ran out.
+abbrev pub IsRefusedOver : Text → Text → FileSyntax → List ℕ → List Entry → RunFault → Type 0
+IsRefusedOver origin path tree imports old f =
+    OrMemory f ((reach : List ℕ) × (sight : List ℕ) × AreJoined held_as.Reach old imports reach × AreJoined held_as.HandedOn old imports sight × StandsInElab origin (faults_over (with_next old tree) reach sight tree) f)
+
+abbrev pub SettlesOver : Text → FileSyntax → ℕ → ℕ → List ℕ → List ReadEntry → List Entry → List Entry → Declarations → Result Placed RunFault → Type 0
+SettlesOver path tree height read imports log old new names (Ok placed) = file_at path old ≡ None → IsAddedOver path tree height read imports old new names placed
+SettlesOver path tree height read imports log old new names (Err f) = (e : ReadEntry) → slice_get log read ≡ Some e → path_buf_text e.path ≡ path → IsRefusedOver (origin_given path (Some e.outcome)) path tree imports old f
+
+-- no file on the chain is loaded
+abbrev pub AreUnloaded : List Text → List Entry → Type 0
+AreUnloaded chain loaded = (p : Text) → among p chain ≡ true → file_at p loaded ≡ None
+
+-- A file of this path is loaded with that number, among these files and no fewer than before.
+pub record IsMetAt (path : Text) (old new : List Entry) (placed : Placed) : Type 0 where
+  pub number : IsNumbered (named_trees new) placed.number path
   pub more : MoreLoaded old new
-  pub all : AllReach trees new
 
 -- the same of the imports so far
-pub record AreReached (trees : Trees) (paths : List Text) (old new : List Entry) (numbers : List ℕ) : Type 0 where
-  pub numbered : AreNumbered new numbers paths
+pub record AreMetAt (paths : List Text) (old new : List Entry) (numbers : List ℕ) : Type 0 where
+  pub numbered : AreNumbered (named_trees new) numbers paths
   pub more : MoreLoaded old new
-  pub all : AllReach trees new

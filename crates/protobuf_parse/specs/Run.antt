@@ -10,8 +10,10 @@ use Rattle.protobuf_parse_syntax.specs.Trees.{FileSyntax}
 use Rattle.protobuf_parse_syntax.specs.declared.error.ParserErrorWithLocation.{ParserErrorWithLocation}
 use Rattle.protobuf_parse_model.specs.Descriptors as described
 use Rattle.protobuf_parse_model.specs.Descriptors.{Text, FileDescriptor}
-use Rattle.protobuf_parse_model.specs.Environment.{Environment, CustomBytes}
+use Rattle.protobuf_parse_model.specs.Environment.{Environment, no_custom}
 use Rattle.protobuf_parse_model.specs.FileDescriptor.{environment, file_faults, file_of}
+use Rattle.protobuf_parse_model.specs.FilesByPath.{AreJust, trees_at}
+use Rattle.protobuf_parse_model.specs.Linking.{before_others, link_faults}
 use Rattle.protobuf_parse_model.specs.Unsupported.{unsupported_in}
 use Rattle.protobuf_parse_model.specs.Faults as elaborating
 use Rattle.protobuf_parse_model.specs.Faults.{Among, fault_view}
@@ -28,7 +30,7 @@ use Rattle.protobuf_parse.specs.declared.run.log.RunInput.TheVariants as given
 use Rattle.protobuf_parse.specs.declared.run.log.ReadEntry.{ReadEntry}
 use Rattle.protobuf_parse.specs.declared.run.log.ReadOutcome.{ReadOutcome}
 use Rattle.protobuf_parse.specs.declared.run.log.ReadOutcome.TheVariants as outcome
-use Rattle.protobuf_parse.specs.Walks.{Input, named, at, Asked, the_resolver, the_reader, Event, cycle, long, load, check, elab, Trees, Read, reads_in, elab_paths, events, statements, until}
+use Rattle.protobuf_parse.specs.Walks.{Input, named, at, Asked, the_resolver, the_reader, Event, cycle, long, load, check, elab, Trees, Reaches, Sees, Read, reads_in, elab_paths, events, statements, until}
 
 abbrev pub input_view : RunInput → Input
 input_view (given.Named name) = named (path_buf_text name)
@@ -69,14 +71,19 @@ origin_given path _ = path
 abbrev pub text_read : List (Text × Text) → List ReadEntry → Text → Option Text
 text_read bundled log path = text_given bundled path (first_read path log)
 
--- What a run read, with the bundled files; the tree of each path, as far as it has one; which files each file
--- sees, and what its custom options become.
+-- What a run read, with the bundled files; the tree of each path, as far as it has one; the paths that each file
+-- reaches, and those that it sees.
 pub record Files : Type 0 where
   pub bundled : List (Text × Text)
   pub reads : List ReadEntry
   pub trees : Trees
-  pub sees : Text → List FileSyntax
-  pub custom : Text → CustomBytes
+  pub reached : Text → List Text
+  pub seen : Text → List Text
+
+-- these are just the files that each file reaches and sees, each once, in any order
+pub record AreListed (trees : Trees) (reached seen : Text → List Text) : Type 0 where
+  pub reaches : (p : Text) → AreJust (Reaches trees p) (reached p)
+  pub sees : (p : Text) → AreJust (Sees trees p) (seen p)
 
 -- what the first read of a path gave
 abbrev pub answer_for : Files → Text → Option ReadOutcome
@@ -118,16 +125,17 @@ abbrev pub are_same_bytes : Option Text → Option Text → Bool
 are_same_bytes (Some a) (Some b) = bytes_eq a b
 are_same_bytes _ _ = false
 
--- from where the file of this path and tree is seen
+-- from where the file of this path and tree is seen: its names are looked up over the files that it sees
 abbrev pub environment_of : Files → Text → FileSyntax → Environment
-environment_of files p t = environment (files.sees p) (files.custom p) t
+environment_of files p t = environment (trees_at files.trees (files.seen p)) no_custom t
 
 -- the faults that stand in a file, and the constructs of it that have no descriptor yet
 abbrev pub faults_of : Environment → FileSyntax → List elaborating.Fault
 faults_of env t = unsupported_in t ++ file_faults env t
 
+-- and before those the names that are declared twice in the files that it reaches
 abbrev pub faults_in : Files → Text → Option FileSyntax → List elaborating.Fault
-faults_in files p (Some t) = faults_of (environment_of files p t) t
+faults_in files p (Some t) = before_others (link_faults (trees_at files.trees (files.reached p))) (faults_of (environment_of files p t) t)
 faults_in files p None = []
 
 -- the bytes of the read with this number, which an input's own path was read by
@@ -285,13 +293,12 @@ abbrev pub IsMet : List Input → List (Text × Text) → List ReadEntry → ℕ
 IsMet inputs bundled log meets result =
     (trees : Trees) → HasTrees bundled log trees → IsCounted meets (length inputs + statements trees (events trees inputs)) result
 
--- A run over these inputs and bundled files read this log and ended so, whichever trees the texts have. Nothing that
--- has a descriptor yet asks other files or for custom options, so this holds whatever each file sees of the others,
--- and whatever its custom options become.
+-- A run over these inputs and bundled files read this log and ended so, whichever trees the texts have; each file is
+-- elaborated over the trees of just the files that it sees, in whatever order these are listed.
 abbrev pub RunsAsTold : (Asked → Text → ReadOutcome → Type 0) → List Input → List (Text × Text) → List ReadEntry → Result (Vec FileDescriptorProto) RunFault → Type 0
 RunsAsTold legal inputs bundled log result =
-    (trees : Trees) (sees : Text → List FileSyntax) (custom : Text → CustomBytes) → HasTrees bundled log trees
-    → Ends legal (record { bundled = bundled; reads = log; trees = trees; sees = sees; custom = custom }) (events trees inputs) result
+    (trees : Trees) (reached seen : Text → List Text) → HasTrees bundled log trees → AreListed trees reached seen
+    → Ends legal (record { bundled = bundled; reads = log; trees = trees; reached = reached; seen = seen }) (events trees inputs) result
 
 -- a reader that finds nothing
 abbrev pub FindsNothing : MayRead

@@ -1,10 +1,11 @@
 -- Walks of import trees: what happens to the files that a run's inputs reach, in which order.
 -- A walk unfolds a whole import tree and remembers nothing; of equal events the first is kept.
-use Rattle.std.specs.Prelude.{◌≡◌, true, ℕ, zero, suc, ◌+◌, Bool, false, nat_eq, List, [], ◌∷◌, ◌++◌, map, length, Option, Some, None, if◌then◌else◌, bytes_eq}
+use Rattle.std.specs.Prelude.{◌≡◌, true, ℕ, zero, suc, ◌+◌, Bool, false, nat_eq, List, [], ◌∷◌, ◌++◌, map, flat_map, length, Option, Some, None, if◌then◌else◌, bytes_eq}
 use Rattle.std.specs.List.{list_any}
-use Rattle.protobuf_parse_syntax.specs.Trees.{FileSyntax, ImportSyntax}
+use Rattle.protobuf_parse_syntax.specs.Trees.{FileSyntax, ImportSyntax, StatementSyntax}
 use Rattle.protobuf_parse_model.specs.Descriptors.{Text}
-use Rattle.protobuf_parse_syntax.specs.Dependencies.{imports}
+pub use Rattle.protobuf_parse_model.specs.FilesByPath.{Trees, among}
+use Rattle.protobuf_parse_syntax.specs.Dependencies.{imported, imports, is_public}
 
 -- an input: found by the resolver, or a file at a path of its own
 pub data Input : Type 0 where
@@ -51,13 +52,6 @@ abbrev pub keep : List Event → List Event → List Event
 keep kept [] = kept
 keep kept (event ∷ events) = keep (if has event kept then kept else kept ++ event ∷ []) events
 
-abbrev pub among : Text → List Text → Bool
-among path paths = list_any (λ x. bytes_eq path x) paths
-
--- the tree of each path that names a file with a tree
-abbrev pub Trees : Type 0
-Trees = Text → Option FileSyntax
-
 -- the paths that a file imports, in order
 abbrev pub import_paths : FileSyntax → List Text
 import_paths t = map (λ (i : ImportSyntax). i.path) (imports t.statements)
@@ -66,6 +60,27 @@ import_paths t = map (λ (i : ImportSyntax). i.path) (imports t.statements)
 pub data Reaches (trees : Trees) : Text → Text → Type 0 where
   itself : (p : Text) → Reaches trees p p
   through : (p q r : Text) (t : FileSyntax) → trees p ≡ Some t → among q (import_paths t) ≡ true → Reaches trees q r → Reaches trees p r
+
+abbrev pub public_path : ImportSyntax → List Text
+public_path i = if is_public i.vis then i.path ∷ [] else []
+
+abbrev pub public_paths_of : StatementSyntax → List Text
+public_paths_of s = flat_map public_path (imported s)
+
+-- the paths that it imports publicly
+abbrev pub public_paths : FileSyntax → List Text
+public_paths t = flat_map public_paths_of t.statements
+
+-- a file hands on itself, and what the files hand on that it imports publicly
+pub data HandsOn (trees : Trees) : Text → Text → Type 0 where
+  hands_itself : (p : Text) → HandsOn trees p p
+  publicly : (p q r : Text) (t : FileSyntax) → trees p ≡ Some t → among q (public_paths t) ≡ true → HandsOn trees q r → HandsOn trees p r
+
+-- A file sees itself, and what the files hand on that it imports: the names that these declare may be written in it.
+-- Protocol Buffers Language Guide, "Importing Definitions" (https://protobuf.dev).
+pub data Sees (trees : Trees) : Text → Text → Type 0 where
+  sees_itself : (p : Text) → Sees trees p p
+  by_import : (p q r : Text) (t : FileSyntax) → trees p ≡ Some t → among q (import_paths t) ≡ true → HandsOn trees q r → Sees trees p r
 
 abbrev pub joined : (Text → List Event) → List Text → List Event
 joined walk_of [] = []

@@ -21,7 +21,7 @@ use crate::run::log::{RunInput, RunLog};
 use crate::run::source::{InputReader, NoReader, ProtoPathResolver, Sources};
 use indexmap::IndexMap;
 use protobuf_parse_base::proto_path::ProtoPathBuf;
-use protobuf_parse_model::FileDescriptorProto;
+use protobuf_parse_model::{Declarations, FileDescriptorProto};
 use std::alloc::{AllocError, Global};
 
 /// Loads the inputs in turn, each file that they reach once and after its imports, and gives the
@@ -43,6 +43,7 @@ pub fn run_inputs<'a, R: ProtoPathResolver, I: InputReader>(
 {
     let mut loader = Loader {
         loaded: IndexMap::new(alloc),
+        names: Declarations::new(alloc),
         reads: Vec::new(alloc),
         chain: Vec::new(alloc),
         meets: 0,
@@ -57,6 +58,7 @@ pub fn run_inputs<'a, R: ProtoPathResolver, I: InputReader>(
         loaded,
         reads,
         meets,
+        names: _,
         chain: _,
     } = loader;
     let result = match outcome {

@@ -11,3 +11,4 @@ pub mod Decodings
 pub mod Settings
 pub mod Bodies
 pub mod Files
+pub mod Orders

@@ -245,9 +245,9 @@ module _ (name : Text) where
         later up more = first_of reach n false (h.same n (omega arith) ∙ absent n (r ∷ rs) up) (file_types t) (declared_in name (suc n) ts) ∙ more
 
 -- Where the table tells of the files, a file sees just the types of those that it reaches.
-pub seen_types_are : (seen : Seen) (files : List FileSyntax) → Tells seen.declarations.now files → seen_types seen ≡ declared (types_of_files (picked files seen.reach.now))
+pub seen_types_are : (seen : Seen) (files : List FileSyntax) → Tells seen.declarations.now files → seen_types seen ≡ declared (types_of_files (picked files seen.sight.now))
 seen_types_are seen files tells = fun_ext (λ (name : Text).
-    let reach = seen.reach.now in
+    let reach = seen.sight.now in
     let first = ap (λ ds. option_map (declared_type name) (first_reached reach ds)) (tells name) in
-    let rest : Rest name files reach files 0 reach = record { stand = λ i. ap (slice_get files) (zero-add i); same = λ k le. refl; rise = rises 0 reach seen.ascending (λ some. omega arith) } in
+    let rest : Rest name files reach files 0 reach = record { stand = λ i. ap (slice_get files) (zero-add i); same = λ k le. refl; rise = rises 0 reach seen.sight_ascends (λ some. omega arith) } in
     first ∙ sees name files reach files 0 reach rest)

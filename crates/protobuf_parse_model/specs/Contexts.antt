@@ -171,7 +171,7 @@ abbrev pub declared_type : Text → TypeKind → DeclaredType
 declared_type name k = record { name = name; what = kind_view k }
 
 abbrev pub seen_types : Seen → Text → Option DeclaredType
-seen_types seen name = option_map (declared_type name) (first_reached seen.reach.now (declared_as seen.declarations.now name))
+seen_types seen name = option_map (declared_type name) (first_reached seen.sight.now (declared_as seen.declarations.now name))
 
 abbrev pub environment_in : Context → Environment
 environment_in c = record { syntax = c.syntax; types = seen_types c.seen; scope = texts c.scope.now; custom = no_custom }

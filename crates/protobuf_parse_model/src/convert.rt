@@ -66,7 +66,7 @@ pub fn elaborate(
     ensures by_table { let t = file_view tree.now in let env = environment_of_file seen.now t in
         Elaborates described.file_view result (unsupported_in t ++ file_faults env t) (file_of env name.now t) }
     ensures by_files { (files : List FileSyntax) → Tells seen.now.declarations.now files →
-        let t = file_view tree.now in let env = environment (picked files seen.now.reach.now) no_custom t in
+        let t = file_view tree.now in let env = environment (picked files seen.now.sight.now) no_custom t in
         Elaborates described.file_view result (unsupported_in t ++ file_faults env t) (file_of env name.now t) }
 {
     file_descriptor(alloc, name, tree, seen)

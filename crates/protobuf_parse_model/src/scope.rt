@@ -104,7 +104,7 @@ fn declared(seen: &Seen<'_>, name: String) -> Option<Meaning>
 
 /// What the first of these files that is reached declares.
 fn first_reached(seen: &Seen<'_>, declarations: &[Declaration]) -> Option<TypeKind>
-    ensures { result ≡ first_reached seen.now.reach.now declarations.now }
+    ensures { result ≡ first_reached seen.now.sight.now declarations.now }
 {
     for declaration in declarations {
         if is_reached(seen, declaration.file) {
@@ -116,7 +116,7 @@ fn first_reached(seen: &Seen<'_>, declarations: &[Declaration]) -> Option<TypeKi
 
 /// Whether the file is reached.
 fn is_reached(seen: &Seen<'_>, file: usize) -> bool
-    ensures { result ≡ list_any (nat_eq file) seen.now.reach.now }
+    ensures { result ≡ list_any (nat_eq file) seen.now.sight.now }
 {
-    seen.reach.binary_search(&file).is_ok()
+    seen.sight.binary_search(&file).is_ok()
 }

@@ -3,26 +3,30 @@
 ghost use Rattle.std.specs.Prelude.{◌≡◌, true, false, ◌≤◌, ◌+◌, ◌-◌, ◌*◌, ◌^◌, ◌++◌, ◌∷◌, [], ℕ, List, map, length, Result, Option, Some, option_map, IfOk, IfErr, OnOk, OnErr, String, slice_get, string_bytes};
 ghost use Rattle.std.specs.Borrow.{Bor};
 ghost use Rattle.std.specs.Global.{Global};
+ghost use Rattle.std.specs.List.Sorted.{IsStrictlyIncreasing};
 ghost use Rattle.protobuf_parse_base.specs.declared.proto_path.path.ProtoPathBuf.{ProtoPathBuf};
 ghost use Rattle.protobuf_parse_base.specs.PathViews.{path_buf_text};
 ghost use Rattle.protobuf_parse_syntax.specs.Trees.{file_view};
+ghost use Rattle.protobuf_parse_syntax.specs.Trees.{FileSyntax};
 ghost use Rattle.protobuf_parse_model.specs.Descriptors as described;
-ghost use Rattle.protobuf_parse_model.specs.FileDescriptor.{InAnyEnvironment, file_of};
 ghost use Rattle.protobuf_parse_model.specs.Faults.{Elaborates, fault_view};
+ghost use Rattle.protobuf_parse_model.specs.Tables.{Tells};
 ghost use Rattle.protobuf_parse.specs.declared.run.fault.RunFault.TheVariants.{Memory};
 ghost use Rattle.protobuf_parse.specs.declared.run.log.ReadEntry.{ReadEntry};
 ghost use Rattle.protobuf_parse.specs.Walks.{Event, among, at, checks, events, import_paths, input_walk, keep, statements, walk};
-ghost use Rattle.protobuf_parse.specs.Run.{Files, IsCounted, MayAnswer, are_same_bytes, faults_of, input_view, StandsInCheck, StandsInCycle, StandsInElab, StandsInLong, origin_given, rows, text_given};
-ghost use Rattle.protobuf_parse.specs.Loading.{AddsReach, AllReach, Goes, GoesOn, Good, Grows, IsDecided, IsElabFault, IsPlaced, IsReached, IsReaders, IsShadowed, Leaves, OrMemory, ReadsTree, Settles, asked_by, file_at, file_shape, texts};
+ghost use Rattle.protobuf_parse.specs.Run.{Files, IsCounted, MayAnswer, are_same_bytes, input_view, StandsInCheck, StandsInCycle, StandsInElab, StandsInLong, origin_given, rows, text_given};
+ghost use Rattle.protobuf_parse.specs.Loading.{AreKnown, AreJoined, AreNumbered, AreUnloaded, Goes, GoesOn, Good, Grows, IsDecided, IsElabFault, IsMetAt, IsPlaced, IsReaders, IsShadowed, Leaves, OrMemory, ReadsTree, SettlesOver, asked_by, faults_over, file_at, file_over, file_shape, named_trees, texts, trees_of, with_next};
 
 use crate::run::asking::{answer, content, opened, origin, unreadable};
 use crate::run::fault::RunFault;
 use crate::run::log::{ReadEntry, ReadOutcome, RunInput};
-use crate::run::reach::reach_of;
+use crate::run::reach::{Sights, sights_of};
 use crate::run::source::{InputReader, ProtoPathResolver, Sources};
 use indexmap::IndexMap;
 use protobuf_parse_base::proto_path::ProtoPathBuf;
-use protobuf_parse_model::{ElabError, ElabFailure, FileDescriptorProto, elaborate};
+use protobuf_parse_model::{
+    Declarations, ElabError, ElabFailure, FileDescriptorProto, Seen, elaborate, link,
+};
 use protobuf_parse_syntax::{FileStatement, FileTree};
 use std::alloc::{AllocError, Global};
 
@@ -37,6 +41,8 @@ pub struct LoadedFile {
     pub height: usize,
     /// The numbers of the files that it reaches, its own among them, ascending.
     pub reach: Vec<usize>,
+    /// The numbers of the files that it hands on to those that import it, likewise.
+    pub handed_on: Vec<usize>,
     /// Which read gave it.
     pub read: usize,
     pub descriptor: FileDescriptorProto,
@@ -56,6 +62,8 @@ pub type LoadedFiles = IndexMap<String, LoadedFile>;
 #[derive(Drop)]
 pub struct Loader {
     pub loaded: LoadedFiles,
+    /// What the loaded files declare, by their numbers.
+    pub names: Declarations,
     pub reads: Vec<ReadEntry>,
     /// The files whose imports are being loaded, each imported by the one before it.
     pub chain: Vec<String>,
@@ -70,6 +78,7 @@ pub fn load_inputs<R: ProtoPathResolver, I: InputReader>(
     inputs: &[RunInput],
 ) -> Result<(), RunFault>
     requires loaded { loader.old.loaded.entries ≡ [] }
+    requires names { Tells loader.old.names [] }
     requires reads { loader.old.reads.items ≡ [] }
     requires chain { loader.old.chain.items ≡ [] }
     requires meets { loader.old.meets ≡ 0 }
@@ -80,8 +89,7 @@ pub fn load_inputs<R: ProtoPathResolver, I: InputReader>(
     ensures count { (files : Files) → GoesOn files (rows sources.now.bundled.now) loader.new.reads.items
         → IsCounted loader.new.meets (length inputs.now + statements files.trees (events files.trees (map input_view inputs.now))) result }
     ensures decided { IsDecided (rows sources.now.bundled.now) loader.new.reads.items }
-    ensures reaches { (files : Files) → GoesOn files (rows sources.now.bundled.now) loader.new.reads.items
-        → OnOk result (AllReach files.trees loader.new.loaded.entries) }
+    ensures known { OnOk result (AreKnown loader.new.loaded.entries loader.new.names loader.new.reads.items) }
 {
     for input in inputs {
         load_input(alloc, loader, sources, input)?;
@@ -97,6 +105,7 @@ fn load_input<R: ProtoPathResolver, I: InputReader>(
     input: &RunInput,
 ) -> Result<(), RunFault>
     requires chain { loader.old.chain.items ≡ [] }
+    requires known { AreKnown loader.old.loaded.entries loader.old.names loader.old.reads.items }
     requires room { loader.old.meets + 1 ≤ 2 ^ 65 + length loader.old.reads.items * 2 ^ 64 }
     ensures grows { Grows loader.old.reads.items loader.new.reads.items }
     ensures chain { OnOk result (loader.new.chain.items ≡ []) }
@@ -113,17 +122,9 @@ fn load_input<R: ProtoPathResolver, I: InputReader>(
         → Good legal files kept loader.old.loaded.entries loader.old.reads.items []
         → IsCounted (loader.new.meets + statements files.trees kept)
         (loader.old.meets + 1 + statements files.trees (keep (kept ++ checks kept (input_view input.now)) (input_walk files.trees (input_view input.now)))) result }
-    ensures decided { (files : Files) (kept : List Event)
-        → let legal = MayAnswer (λ p a. R.may_answer sources.now.resolver.now p a) (λ p a. I.may_read sources.now.reader.now p a) in
-        Good legal files kept loader.old.loaded.entries loader.old.reads.items []
-        → IsDecided (rows sources.now.bundled.now) loader.old.reads.items
+    ensures decided { IsDecided (rows sources.now.bundled.now) loader.old.reads.items
         → IsDecided (rows sources.now.bundled.now) loader.new.reads.items }
-    ensures reaches { (files : Files) (kept : List Event)
-        → let legal = MayAnswer (λ p a. R.may_answer sources.now.resolver.now p a) (λ p a. I.may_read sources.now.reader.now p a) in
-        GoesOn files (rows sources.now.bundled.now) loader.new.reads.items
-        → Good legal files kept loader.old.loaded.entries loader.old.reads.items []
-        → AllReach files.trees loader.old.loaded.entries
-        → OnOk result (AllReach files.trees loader.new.loaded.entries) }
+    ensures known { OnOk result (AreKnown loader.new.loaded.entries loader.new.names loader.new.reads.items) }
 {
     match input {
         RunInput::Named(name) => {
@@ -147,8 +148,10 @@ fn check_loaded<R: ProtoPathResolver, I: InputReader>(
     name: &ProtoPathBuf,
     fs_path: &str,
 ) -> Result<(), RunFault>
+    requires known { AreKnown loader.old.loaded.entries loader.old.names loader.old.reads.items }
     ensures chain { loader.new.chain ≡ loader.old.chain }
     ensures loaded { loader.new.loaded ≡ loader.old.loaded }
+    ensures names { loader.new.names ≡ loader.old.names }
     ensures meets { loader.new.meets ≡ loader.old.meets }
     ensures grows { Grows loader.old.reads.items loader.new.reads.items }
     ensures more { length loader.old.reads.items ≤ length loader.new.reads.items }
@@ -157,10 +160,7 @@ fn check_loaded<R: ProtoPathResolver, I: InputReader>(
         GoesOn files (rows sources.now.bundled.now) loader.new.reads.items
         → Good legal files kept loader.old.loaded.entries loader.old.reads.items []
         → Goes legal files (kept ++ checks kept (at (path_buf_text name.now) fs_path.now)) loader.new.loaded.entries loader.new.reads.items result }
-    ensures decided { (files : Files) (kept : List Event)
-        → let legal = MayAnswer (λ p a. R.may_answer sources.now.resolver.now p a) (λ p a. I.may_read sources.now.reader.now p a) in
-        Good legal files kept loader.old.loaded.entries loader.old.reads.items []
-        → IsDecided (rows sources.now.bundled.now) loader.old.reads.items
+    ensures decided { IsDecided (rows sources.now.bundled.now) loader.old.reads.items
         → IsDecided (rows sources.now.bundled.now) loader.new.reads.items }
 {
     let read = match loader.loaded.get(name.as_path().to_str()) {
@@ -235,6 +235,7 @@ fn note(
     outcome: ReadOutcome,
 ) -> Result<(), AllocError>
     ensures loaded { loader.new.loaded ≡ loader.old.loaded }
+    ensures names { loader.new.names ≡ loader.old.names }
     ensures chain { loader.new.chain ≡ loader.old.chain }
     ensures meets { loader.new.meets ≡ loader.old.meets }
     ensures ok { OnOk result ((e : ReadEntry) × (loader.new.reads.items ≡ loader.old.reads.items ++ e ∷ []) × (path_buf_text e.path ≡ path_buf_text path.now) × (e.outcome ≡ outcome)) }
@@ -256,6 +257,8 @@ fn load_file<R: ProtoPathResolver, I: InputReader>(
     fs_path: Option<&str>,
 ) -> Result<Placed, RunFault>
     requires chain { length loader.old.chain.items ≤ LIMIT }
+    requires known { AreKnown loader.old.loaded.entries loader.old.names loader.old.reads.items }
+    requires unloaded { AreUnloaded (texts loader.old.chain.items) loader.old.loaded.entries }
     requires room { loader.old.meets + 1 ≤ 2 ^ 65 + length loader.old.reads.items * 2 ^ 64 }
     ensures grows { Grows loader.old.reads.items loader.new.reads.items }
     ensures chain { OnOk result (loader.new.chain.items ≡ loader.old.chain.items) }
@@ -280,12 +283,9 @@ fn load_file<R: ProtoPathResolver, I: InputReader>(
         (loader.old.meets + 1 + statements files.trees (keep kept (walk files.trees (path_buf_text input.now) (asked_by fs_path.entry) (LIMIT - length chain) chain (path_buf_text path.now)))) result }
     ensures decided { IsDecided (rows sources.now.bundled.now) loader.old.reads.items
         → IsDecided (rows sources.now.bundled.now) loader.new.reads.items }
-    ensures reaches { (files : Files) (kept : List Event)
-        → let legal = MayAnswer (λ p a. R.may_answer sources.now.resolver.now p a) (λ p a. I.may_read sources.now.reader.now p a) in
-        GoesOn files (rows sources.now.bundled.now) loader.new.reads.items
-        → Good legal files kept loader.old.loaded.entries loader.old.reads.items (texts loader.old.chain.items)
-        → AllReach files.trees loader.old.loaded.entries
-        → IfOk result (IsReached files.trees (path_buf_text path.now) loader.old.loaded.entries loader.new.loaded.entries) }
+    ensures known { OnOk result (AreKnown loader.new.loaded.entries loader.new.names loader.new.reads.items) }
+    ensures unloaded { OnOk result (AreUnloaded (texts loader.old.chain.items) loader.new.loaded.entries) }
+    ensures met { IfOk result (IsMetAt (path_buf_text path.now) loader.old.loaded.entries loader.new.loaded.entries) }
 {
     let _known = loader.reads.as_slice();
     loader.meets += 1;
@@ -351,7 +351,8 @@ fn is_on_chain(chain: &[String], path: &str) -> bool
     false
 }
 
-fn place_of(loaded: &LoadedFiles, path: &str) -> Option<Placed>
+/// Where the file of this path stands, if it is loaded.
+pub fn place_of(loaded: &LoadedFiles, path: &str) -> Option<Placed>
     ensures { IsPlaced path.now loaded.now.entries result }
 {
     match loaded.get_full(path) {
@@ -393,6 +394,7 @@ fn read_tree<R: ProtoPathResolver, I: InputReader>(
     fs_path: Option<&str>,
 ) -> Result<FileTree, RunFault>
     ensures loaded { loader.new.loaded ≡ loader.old.loaded }
+    ensures names { loader.new.names ≡ loader.old.names }
     ensures chain { loader.new.chain ≡ loader.old.chain }
     ensures meets { loader.new.meets ≡ loader.old.meets }
     ensures read { ReadsTree (MayAnswer (λ p a. R.may_answer sources.now.resolver.now p a) (λ p a. I.may_read sources.now.reader.now p a)) (rows sources.now.bundled.now) (asked_by fs_path.entry) (path_buf_text path.now) loader.old.reads.items loader.new.reads.items result }
@@ -441,15 +443,22 @@ fn settle(
     ensures chain { loader.new.chain ≡ loader.old.chain }
     ensures meets { loader.new.meets ≡ loader.old.meets }
     ensures height { IfOk result (λ placed. placed.height ≡ height) }
-    ensures reach { IfOk result (AddsReach path.now imports.now loader.old.loaded.entries loader.new.loaded.entries) }
-    ensures settles { Settles path.now (file_view tree) height read loader.old.reads.items loader.old.loaded.entries loader.new.loaded.entries result }
+    ensures settles { Tells loader.old.names (trees_of (named_trees loader.old.loaded.entries))
+        → SettlesOver path.now (file_view tree) height read imports.now loader.old.reads.items loader.old.loaded.entries loader.new.loaded.entries loader.new.names result }
 {
-    let reach = reach_of(alloc, &loader.loaded, imports)?;
-    let descriptor = descriptor_of(alloc, loader, &reach, path, &tree, read)?;
+    let sights = sights_of(alloc, &loader.loaded, &tree, imports)?;
+    loader.names.add(alloc, loader.loaded.len(), &tree)?;
+    let descriptor = descriptor_of(alloc, loader, &sights, path, &tree, read)?;
+    let Sights {
+        reach,
+        handed_on,
+        ..
+    } = sights;
     let file = LoadedFile {
         tree,
         height,
         reach,
+        handed_on,
         read,
         descriptor,
     };
@@ -475,22 +484,24 @@ fn add(
     Ok(Placed { number, height })
 }
 
-/// What a file becomes over the loaded files with these numbers, or L10 of this read.
+/// What a file becomes over the files that it reaches and sees, or L10 of this read.
 fn descriptor_of(
     alloc: Global,
     loader: &Loader,
-    reach: &[usize],
+    sights: &Sights,
     path: &str,
     tree: &FileTree,
     read: usize,
 ) -> Result<FileDescriptorProto, RunFault>
-    ensures ok { let t = file_view tree.now in
-        IfOk result (λ d. InAnyEnvironment t (λ env. (faults_of env t ≡ []) × (described.file_view d ≡ file_of env path.now t))) }
-    ensures err { let t = file_view tree.now in
+    requires reach { IsStrictlyIncreasing sights.now.reach.items }
+    requires sight { IsStrictlyIncreasing sights.now.sight.items }
+    ensures ok { (files : List FileSyntax) → Tells loader.now.names files → let t = file_view tree.now in
+        IfOk result (λ d. (faults_over files sights.now.reach.items sights.now.sight.items t ≡ []) × (described.file_view d ≡ file_over files sights.now.sight.items path.now t)) }
+    ensures err { (files : List FileSyntax) → Tells loader.now.names files → let t = file_view tree.now in
         IfErr result (λ f. (e : ReadEntry) → slice_get loader.now.reads.items read ≡ Some e → path_buf_text e.path ≡ path.now
-        → InAnyEnvironment t (λ env. OrMemory f (StandsInElab (origin_given path.now (Some e.outcome)) (faults_of env t) f))) }
+        → OrMemory f (StandsInElab (origin_given path.now (Some e.outcome)) (faults_over files sights.now.reach.items sights.now.sight.items t) f)) }
 {
-    match elaborated(alloc, &loader.loaded, reach, path, tree) {
+    match elaborated(alloc, &loader.names, sights, path, tree) {
         Ok(descriptor) => Ok(descriptor),
         Err(ElabFailure::Memory) => Err(RunFault::Memory),
         Err(ElabFailure::Fault(error)) => Err(refused(alloc, &loader.reads, read, path, error)),
@@ -517,16 +528,24 @@ fn refused(
     }
 }
 
-/// What a file becomes over the loaded files with these numbers.
+/// What a file becomes over the files that it reaches and sees, if none of their names is declared twice.
 fn elaborated(
     alloc: Global,
-    _loaded: &LoadedFiles,
-    _reach: &[usize],
+    names: &Declarations,
+    sights: &Sights,
     path: &str,
     tree: &FileTree,
 ) -> Result<FileDescriptorProto, ElabFailure>
-    ensures { let t = file_view tree.now in
-        InAnyEnvironment t (λ env. Elaborates described.file_view result (faults_of env t) (file_of env path.now t)) }
+    requires reach { IsStrictlyIncreasing sights.now.reach.items }
+    requires sight { IsStrictlyIncreasing sights.now.sight.items }
+    ensures { (files : List FileSyntax) → Tells names.now files → let t = file_view tree.now in
+        Elaborates described.file_view result (faults_over files sights.now.reach.items sights.now.sight.items t) (file_over files sights.now.sight.items path.now t) }
 {
-    elaborate(alloc, path, tree)
+    let seen = Seen {
+        declarations: names,
+        sight: &sights.sight,
+        reach: &sights.reach,
+    };
+    link(alloc, &seen)?;
+    elaborate(alloc, path, tree, &seen)
 }

@@ -1,46 +1,140 @@
-//! Which files a file reaches, as ascending numbers of loaded files.
+//! Which of the loaded files a file reaches, sees and hands on, as ascending numbers.
 
-ghost use Rattle.std.specs.Prelude.{◌≡◌, ℕ, Contains, IfOk, slice_get};
-ghost use Rattle.std.specs.List.Sorted.{IsStrictlyIncreasing};
-ghost use Rattle.protobuf_parse.specs.Loading.{reach_of_entry, reached_by};
+ghost use Rattle.std.specs.Prelude.{◌≡◌, ℕ, List, Contains, IfOk, slice_get};
+ghost use Rattle.protobuf_parse_syntax.specs.Trees.{file_view, statement_view};
+ghost use Rattle.protobuf_parse.specs.Walks.{import_paths, public_paths};
+ghost use Rattle.protobuf_parse.specs.declared.run.reach.Held.TheVariants as held_as;
+ghost use Rattle.protobuf_parse.specs.Loading as loading;
+ghost use Rattle.protobuf_parse.specs.Loading.{AreHandedOn, AreJoined, AreNumbered, IsPublicImport, held_by, named_trees};
 
-use crate::run::loader::LoadedFiles;
+use crate::run::loader::{LoadedFile, LoadedFiles, place_of};
+use protobuf_parse_syntax::{FileStatement, FileTree, Import, ImportVis};
 use std::alloc::{AllocError, Global};
 
-/// The numbers of all that these files reach, and of the next file that will be loaded, each once.
-pub fn reach_of(
+/// Which numbers of a loaded file.
+#[derive(Clone, Copy)]
+pub enum Held {
+    /// Of the files that it reaches.
+    Reach,
+    /// Of the files that it hands on to those that import it.
+    HandedOn,
+}
+
+/// The numbers of the files that a file reaches, sees and hands on, each list ascending and with its own.
+#[derive(Drop)]
+pub struct Sights {
+    pub reach: Vec<usize>,
+    pub sight: Vec<usize>,
+    pub handed_on: Vec<usize>,
+}
+
+/// What the next file to be loaded reaches, sees and hands on, where its imports have these numbers.
+pub fn sights_of(
+    alloc: Global,
+    loaded: &LoadedFiles,
+    tree: &FileTree,
+    imports: &[usize],
+) -> Result<Sights, AllocError>
+    ensures reach { IfOk result (λ s. AreJoined held_as.Reach loaded.now.entries imports.now s.reach.items) }
+    ensures sight { IfOk result (λ s. AreJoined held_as.HandedOn loaded.now.entries imports.now s.sight.items) }
+    ensures handed_on { IfOk result (λ s. AreHandedOn loaded.now.entries (file_view tree.now) imports.now s.handed_on.items) }
+{
+    let reach = joined(alloc, loaded, imports, Held::Reach)?;
+    let sight = joined(alloc, loaded, imports, Held::HandedOn)?;
+    let public = public_imports(alloc, loaded, tree)?;
+    let handed_on = joined(alloc, loaded, &public, Held::HandedOn)?;
+    Ok(Sights {
+        reach,
+        sight,
+        handed_on,
+    })
+}
+
+/// The numbers of the files that a file imports publicly, which are loaded.
+fn public_imports(
+    alloc: Global,
+    loaded: &LoadedFiles,
+    tree: &FileTree,
+) -> Result<Vec<usize>, AllocError>
+    ensures { (numbers : List ℕ) → AreNumbered (named_trees loaded.now.entries) numbers (import_paths (file_view tree.now))
+        → IfOk result (λ v. AreNumbered (named_trees loaded.now.entries) v.items (public_paths (file_view tree.now))) }
+{
+    let mut public = Vec::new(alloc);
+    for statement in &tree.statements {
+        if let Some(number) = public_import(loaded, statement) {
+            public.push(number)?;
+        }
+    }
+    Ok(public)
+}
+
+/// The number of the file that a statement imports publicly.
+fn public_import(loaded: &LoadedFiles, statement: &FileStatement) -> Option<usize>
+    ensures { IsPublicImport loaded.now.entries (statement_view statement.now) result }
+{
+    match statement {
+        FileStatement::Import(
+            Import {
+                vis: ImportVis::Public,
+                path,
+                ..
+            },
+        ) => match place_of(loaded, path.as_path().to_str()) {
+            Some(placed) => Some(placed.number),
+            None => None,
+        },
+        _ => None,
+    }
+}
+
+/// The numbers that these files hold, and that of the next file, each once.
+fn joined(
     alloc: Global,
     loaded: &LoadedFiles,
     files: &[usize],
+    which: Held,
 ) -> Result<Vec<usize>, AllocError>
-    ensures ascending { IfOk result (λ v. IsStrictlyIncreasing v.items) }
-    ensures all { IfOk result (λ v. (n : ℕ) → Contains (reached_by loaded.now.entries files.now) n → Contains v.items n) }
-    ensures only { IfOk result (λ v. (n : ℕ) → Contains v.items n → Contains (reached_by loaded.now.entries files.now) n) }
+    ensures { IfOk result (λ v. AreJoined which loaded.now.entries files.now v.items) }
 {
-    let mut reach = gathered(alloc, loaded, files)?;
-    reach.sort_unstable();
-    reach.dedup();
-    Ok(reach)
+    let mut numbers = gathered(alloc, loaded, files, which)?;
+    numbers.sort_unstable();
+    numbers.dedup();
+    Ok(numbers)
 }
 
-/// The numbers that each of these files reaches, one file after another, and then that of the next file.
-fn gathered(alloc: Global, loaded: &LoadedFiles, files: &[usize]) -> Result<Vec<usize>, AllocError>
-    ensures { IfOk result (λ v. v.items ≡ reached_by loaded.now.entries files.now) }
+/// The numbers that each of these files holds, one file after another, and then that of the next file.
+fn gathered(
+    alloc: Global,
+    loaded: &LoadedFiles,
+    files: &[usize],
+    which: Held,
+) -> Result<Vec<usize>, AllocError>
+    ensures { IfOk result (λ v. v.items ≡ held_by which loaded.now.entries files.now) }
 {
-    let mut reach = Vec::new(alloc);
-    for number in files {
-        reach.extend_from_slice(reach_at(loaded, *number))?;
+    let mut numbers = Vec::new(alloc);
+    for file in files {
+        numbers.extend_from_slice(held_at(loaded, *file, which))?;
     }
-    reach.push(loaded.len())?;
-    Ok(reach)
+    numbers.push(loaded.len())?;
+    Ok(numbers)
 }
 
-/// The numbers that the file with this number reaches.
-fn reach_at(loaded: &LoadedFiles, number: usize) -> &[usize]
-    ensures { result.now ≡ reach_of_entry (slice_get loaded.now.entries number) }
+/// The numbers that the file with this number holds.
+fn held_at(loaded: &LoadedFiles, number: usize, which: Held) -> &[usize]
+    ensures { result.now ≡ loading.held_at which (slice_get loaded.now.entries number) }
 {
     match loaded.get_index(number) {
-        Some((_, file)) => file.reach.as_slice(),
+        Some((_, file)) => held(file, which),
         None => &[],
+    }
+}
+
+/// Those numbers of a loaded file.
+fn held(file: &LoadedFile, which: Held) -> &[usize]
+    ensures { result.now ≡ loading.held which file.now }
+{
+    match which {
+        Held::Reach => file.reach.as_slice(),
+        Held::HandedOn => file.handed_on.as_slice(),
     }
 }

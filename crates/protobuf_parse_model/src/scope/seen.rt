@@ -26,11 +26,14 @@ pub struct Declarations {
     pub types: IndexMap<String, Vec<Declaration>>,
 }
 
-/// What a file sees: the declarations of the files that it reaches, of all that were made.
+/// What a file sees and reaches, of the declarations of all files that were loaded.
 #[derive(Clone, Copy)]
 pub struct Seen<'a> {
     pub declarations: &'a Declarations,
+    /// The numbers of the files whose names it sees, ascending.
+    pub sight: &'a [usize],
     /// The numbers of the files that it reaches, ascending.
     pub reach: &'a [usize],
-    pub ghost ascending: { IsStrictlyIncreasing reach.now },
+    pub ghost sight_ascends: { IsStrictlyIncreasing sight.now },
+    pub ghost reach_ascends: { IsStrictlyIncreasing reach.now },
 }

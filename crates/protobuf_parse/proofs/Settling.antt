@@ -1,0 +1,317 @@
+-- What a file becomes over numbered files is what it becomes over the files that it reaches and sees, however these are listed.
+use Rattle.std.proofs.Common.{◌≡◌, ◌⊎◌, ℕ, zero, suc, ◌+◌, ◌<◌, ◌≤◌, Bool, true, false, ◌||◌, inl, inr, List, [], ◌∷◌, ◌++◌, flat_map, map, length, get_or, Option, Some, None, option_map, refl, sym, ◌∙◌, ap, subst, arith, Result, Ok, Err, append_assoc, Contains}
+use Rattle.std.specs.Prelude.{bytes_eq, slice_get, option_to_list, string_bytes}
+use Rattle.std.specs.List.Sorted.{IsStrictlyIncreasing}
+use Rattle.std.proofs.lemmas.Option.{slice_get-map}
+use Rattle.std.proofs.lemmas.List.Elements.{Contains-append_left, Contains-append_right, Contains-append_cases}
+use Rattle.protobuf_parse_syntax.specs.Trees.{FileSyntax, file_view}
+use Rattle.protobuf_parse_base.specs.PathViews.{path_buf_text}
+use Rattle.protobuf_parse_model.specs.Descriptors.{Text, FileDescriptor}
+use Rattle.protobuf_parse_model.specs.Descriptors as described
+use Rattle.protobuf_parse_model.specs.Declarations.{DeclaredType, file_scope}
+use Rattle.protobuf_parse_model.specs.Environment.{Environment, no_custom}
+use Rattle.protobuf_parse_model.specs.Faults.{Among, here, there, fault_view}
+use Rattle.protobuf_parse_model.specs.Faults as elaborating
+use Rattle.protobuf_parse_model.specs.FileDescriptor.{environment, file_of, types_of_files}
+use Rattle.protobuf_parse_model.specs.FilesByPath.{AreDistinct, AreJust, trees_at}
+use Rattle.protobuf_parse_model.specs.Linking.{before_others, link_faults}
+use Rattle.protobuf_parse_model.specs.Lookup.{declared}
+use Rattle.protobuf_parse_model.specs.Tables.{picked}
+use Rattle.protobuf_parse_model.specs.declared.scope.seen.Declarations.{Declarations}
+use Rattle.protobuf_parse_model.proofs.Orders.{SameMembers, just-same, link-none, link-told, types-same}
+use Rattle.protobuf_parse.specs.Walks.{Trees, Reaches, itself, through, HandsOn, Sees, sees_itself, by_import, among, import_paths}
+use Rattle.protobuf_parse.specs.Run.{Files, AreListed, StandsInElab, environment_of, faults_in, faults_of, origin_given}
+use Rattle.protobuf_parse.specs.Loading.{Agrees, AreJoined, AreKnown, AreNumbered, AreNumbersOf, Entry, IsAdded, IsAddedOver, IsNumbered, Named, OrMemory, Settles, SettlesOver, faults_over, file_at, file_over, named_trees, paths_in, trees_of, with_next}
+use Rattle.protobuf_parse.specs.declared.run.fault.RunFault.{RunFault}
+use Rattle.protobuf_parse.specs.declared.run.fault.RunFault.TheVariants as fault
+use Rattle.protobuf_parse.specs.declared.run.loader.Placed.{Placed}
+use Rattle.protobuf_parse.specs.declared.run.log.ReadEntry.{ReadEntry}
+use Rattle.protobuf_parse.specs.declared.run.reach.Held.TheVariants as held_as
+use Rattle.protobuf_parse.proofs.Keeping.{some_same, or_cases, or_left, or_right, among-append, text-same, text-true}
+use Rattle.protobuf_parse.proofs.Knowing.{agrees-push, next-trees, once-push, reaches-out, sees-out, sees-reaches}
+use Rattle.protobuf_parse.proofs.Numbers.{numbers-joined, only-one}
+
+-- ** files by numbers and by paths
+
+abbrev path_of : Option Named → List Text
+path_of o = map (λ (f : Named). f.0) (option_to_list o)
+
+-- the paths of the files with these numbers
+abbrev pub paths_by : List Named → List ℕ → List Text
+paths_by files ns = flat_map (λ (n : ℕ). path_of (slice_get files n)) ns
+
+one-tree : (trees : Trees) (o : Option Named) → ((q : Text) (u : FileSyntax) → o ≡ Some (q, u) → trees q ≡ Some u) → option_to_list (option_map (λ (f : Named). f.1) o) ≡ trees_at trees (path_of o)
+one-tree trees None agrees = refl
+one-tree trees (Some f) agrees = sym (ap (λ (o : Option FileSyntax). option_to_list o ++ []) (agrees f.0 f.1 refl))
+
+trees_at-append : (trees : Trees) (ps qs : List Text) → trees_at trees (ps ++ qs) ≡ trees_at trees ps ++ trees_at trees qs
+trees_at-append trees [] qs = refl
+trees_at-append trees (p ∷ ps) qs = ap (λ ts. option_to_list (trees p) ++ ts) (trees_at-append trees ps qs) ∙ sym (append_assoc (option_to_list (trees p)) (trees_at trees ps) (trees_at trees qs))
+
+pub picked-are : (trees : Trees) (files : List Named) (ns : List ℕ) → Agrees trees files → picked (trees_of files) ns ≡ trees_at trees (paths_by files ns)
+picked-are trees files [] agrees = refl
+picked-are trees files (n ∷ ns) agrees =
+    let first : option_to_list (slice_get (trees_of files) n) ≡ trees_at trees (path_of (slice_get files n)) = ap option_to_list (slice_get-map (λ (f : Named). f.1) files n) ∙ one-tree trees (slice_get files n) (λ q u h. agrees n q u h) in
+    ap (λ ts. ts ++ picked (trees_of files) ns) first ∙ ap (λ ts. trees_at trees (path_of (slice_get files n)) ++ ts) (picked-are trees files ns agrees)
+    ∙ sym (trees_at-append trees (path_of (slice_get files n)) (paths_by files ns))
+
+-- ** each of them once
+
+or_false : (b : Bool) → (b || false) ≡ true → b ≡ true
+or_false true h = refl
+or_false false h = h
+
+path-is : (p : Text) (o : Option Named) → among p (path_of o) ≡ true → (u : FileSyntax) × (o ≡ Some (p, u))
+path-is p None h = cc
+path-is p (Some f) h = (f.1, ap (λ (z : Text). Some (z, f.1)) (sym (text-true p f.0 (or_false (bytes_eq p f.0) h))))
+
+path-there : (p : Text) (u : FileSyntax) (o : Option Named) → o ≡ Some (p, u) → among p (path_of o) ≡ true
+path-there p u o h = rw h (or_left _ _ (text-same p))
+
+one-in : (n : ℕ) → Contains (n ∷ []) n
+one-in n = (0, omega arith, refl)
+
+none-in : (n : ℕ) → Contains [] n → ⊥
+none-in n (k, lt, is) = omega (arith, lt)
+
+-- a path among them has one of the numbers
+pub by-number : (files : List Named) (ns : List ℕ) (p : Text) → among p (paths_by files ns) ≡ true → (n : ℕ) × Contains ns n × IsNumbered files n p
+by-number files [] p h = cc
+by-number files (n ∷ ns) p h =
+    elim (or_cases (among p (path_of (slice_get files n))) (among p (paths_by files ns)) (sym (among-append p (path_of (slice_get files n)) (paths_by files ns)) ∙ h)) [
+      | inl w ↦ (n, Contains-append_left (n ∷ []) ns n (one-in n), path-is p (slice_get files n) w)
+      | inr w ↦ let r = by-number files ns p w in (r.0, Contains-append_right (n ∷ []) ns r.0 r.1, r.2)
+    ]
+
+by-path : (files : List Named) (ns : List ℕ) (p : Text) (n : ℕ) → Contains ns n → IsNumbered files n p → among p (paths_by files ns) ≡ true
+by-path files [] p n c i = absurd (none-in n c)
+by-path files (m ∷ ns) p n c i =
+    among-append p (path_of (slice_get files m)) (paths_by files ns)
+    ∙ elim (Contains-append_cases (m ∷ []) ns n c) [
+      | inl w ↦ or_left _ _ (path-there p i.0 (slice_get files m) (subst (λ (k : ℕ). slice_get files k ≡ Some (p, i.0)) (only-one m n w) i.1))
+      | inr w ↦ or_right _ _ (by-path files ns p n w i)
+    ]
+
+-- a path has one number, where each stands once
+among-at : (files : List Named) (n : ℕ) (p : Text) → IsNumbered files n p → among p (paths_in files) ≡ true
+among-at [] n p i = cc
+among-at (f ∷ files) zero p i = or_left _ _ (let same : f ≡ (p, i.0) = some_is f (p, i.0) i.1 in rw same (text-same p))
+  where
+    some_is : (a b : Named) → Some a ≡ Some b → a ≡ b
+    some_is a b h = cc
+among-at (f ∷ files) (suc n) p i = or_right _ _ (among-at files n p i)
+
+one-number : (files : List Named) (n m : ℕ) (p : Text) → AreDistinct (paths_in files) → IsNumbered files n p → IsNumbered files m p → n ≡ m
+one-number [] n m p d i j = cc
+one-number (f ∷ files) zero zero p d i j = refl
+one-number (f ∷ files) (suc n) (suc m) p d i j = ap suc (one-number files n m p d.1 i j)
+one-number (f ∷ files) zero (suc m) p d i j =
+    let same : f ≡ (p, i.0) = some_is f (p, i.0) i.1 in
+    let path : f.0 ≡ p = ap (λ (g : Named). g.0) same in
+    let there : among f.0 (paths_in files) ≡ true = subst (λ (z : Text). among z (paths_in files) ≡ true) (sym path) (among-at files m p j) in
+    let apart = d.0 in cc
+  where
+    some_is : (a b : Named) → Some a ≡ Some b → a ≡ b
+    some_is a b h = cc
+one-number (f ∷ files) (suc n) zero p d i j = sym (one-number (f ∷ files) zero (suc n) p d j i)
+
+-- the numbers rise, from n on
+abbrev Rises : ℕ → List ℕ → Type 0
+Rises n [] = Unit {0}
+Rises n (r ∷ rs) = (n ≤ r) × Rises (suc r) rs
+
+rises : (n : ℕ) (rs : List ℕ) → IsStrictlyIncreasing rs → (0 < length rs → n ≤ get_or rs 0 0) → Rises n rs
+rises n [] up low = tt
+rises n (r ∷ rs) up low = (low (omega arith), rises (suc r) rs later next)
+  where
+    later : IsStrictlyIncreasing rs
+    later k lt =
+        let e : suc k + 1 ≡ suc (k + 1) = omega arith in
+        let g = up (suc k) (omega (arith, lt)) in
+        subst (λ (j : ℕ). get_or rs k 0 < get_or (r ∷ rs) j 0) e g
+
+    next : 0 < length rs → suc r ≤ get_or rs 0 0
+    next some = omega (arith, up 0 (omega (arith, some)))
+
+above : (n : ℕ) (rs : List ℕ) (m : ℕ) → Rises n rs → Contains rs m → n ≤ m
+above n [] m h c = absurd (none-in m c)
+above n (r ∷ rs) m h c =
+    elim (Contains-append_cases (r ∷ []) rs m c) [
+      | inl w ↦ let same = only-one r m w in omega (arith, same, h.0)
+      | inr w ↦ let more = above (suc r) rs m h.1 w in omega (arith, h.0, more)
+    ]
+
+distinct-by : (files : List Named) (n : ℕ) (ns : List ℕ) → AreDistinct (paths_in files) → Rises n ns → AreDistinct (paths_by files ns)
+distinct-by files n [] d h = tt
+distinct-by files n (m ∷ ns) d h = with-first (slice_get files m) refl
+  where
+    rest : AreDistinct (paths_by files ns)
+    rest = distinct-by files (suc m) ns d h.1
+
+    apart : (p : Text) (u : FileSyntax) (b : Bool) → slice_get files m ≡ Some (p, u) → among p (paths_by files ns) ≡ b → b ≡ false
+    apart p u false at e = refl
+    apart p u true at e =
+        let r = by-number files ns p e in
+        let same = one-number files m r.0 p d (u, at) r.2 in
+        let more = above (suc m) ns r.0 h.1 r.1 in
+        absurd (omega (arith, same, more))
+
+    with-first : (o : Option Named) → slice_get files m ≡ o → AreDistinct (path_of o ++ paths_by files ns)
+    with-first None at = rest
+    with-first (Some f) at = (apart f.0 f.1 (among f.0 (paths_by files ns)) at refl, rest)
+
+pub just-by : (Has : Text → Type 0) (files : List Named) (ns : List ℕ) → AreDistinct (paths_in files) → IsStrictlyIncreasing ns → AreNumbersOf Has files ns → AreJust Has (paths_by files ns)
+just-by Has files ns d up are = record {
+  once = distinct-by files 0 ns d (rises 0 ns up (λ some. omega arith));
+  only = λ p h.
+      let r = by-number files ns p h in
+      let s = are.sound r.0 r.1 in
+      let same : s.0 ≡ p = one-path (slice_get files r.0) s.0 p s.1.0 r.2.0 s.1.1 r.2.1 in
+      subst Has same s.2;
+  all = λ p h. let s = are.complete p h in by-path files ns p s.0 s.1 s.2;
+}
+  where
+    one-path : (o : Option Named) (q p : Text) (u v : FileSyntax) → o ≡ Some (q, u) → o ≡ Some (p, v) → q ≡ p
+    one-path o q p u v h k = some_is (q, u) (p, v) (sym h ∙ k)
+      where
+        some_is : (a b : Named) → Some a ≡ Some b → a.0 ≡ b.0
+        some_is a b h = ap (λ (o : Option Named). name (path_of o)) h
+          where
+            name : List Text → Text
+            name [] = []
+            name (z ∷ zs) = z
+
+-- ** faults
+
+none-before : (firsts others : List elaborating.Fault) → before_others firsts others ≡ [] → firsts ≡ []
+none-before [] others h = refl
+none-before (a ∷ firsts) others h = h
+
+none-after : (firsts others : List elaborating.Fault) → before_others firsts others ≡ [] → others ≡ []
+none-after [] others h = h
+none-after (a ∷ firsts) others h = cc
+
+no-others : (firsts others : List elaborating.Fault) → firsts ≡ [] → others ≡ [] → before_others firsts others ≡ []
+no-others firsts others h k = rw (h, k) refl
+
+told-before : (firsts others : List elaborating.Fault) (f : elaborating.Fault) → Among firsts f → Among (before_others firsts others) f
+told-before [] others f m = absurd (no-member f m)
+  where
+    no-member : (f : elaborating.Fault) → Among [] f → ⊥
+    no-member f m = elim m [ ]
+told-before (a ∷ firsts) others f m = m
+
+told-after : (firsts others : List elaborating.Fault) (f : elaborating.Fault) → firsts ≡ [] → Among others f → Among (before_others firsts others) f
+told-after firsts others f h m = rw h m
+
+which-told : (firsts others : List elaborating.Fault) (f : elaborating.Fault) → Among (before_others firsts others) f → Among firsts f ⊎ ((firsts ≡ []) × Among others f)
+which-told [] others f m = inr (refl, m)
+which-told (a ∷ firsts) others f m = inl m
+
+-- ** the next file
+
+module _ (files : Files) (listed : AreListed files.trees files.reached files.seen) (loaded : List Entry) (names : Declarations) (known : AreKnown loaded names) (agrees : Agrees files.trees (named_trees loaded)) (p : Text) (t : FileSyntax) (is : files.trees p ≡ Some t) (none : file_at p loaded ≡ None) (below : List ℕ) (numbered : AreNumbered (named_trees loaded) below (import_paths t)) (reach sight : List ℕ) (reaches : AreJoined held_as.Reach loaded below reach) (sees : AreJoined held_as.HandedOn loaded below sight) where
+  abbrev with_p : List Named
+  with_p = named_trees loaded ++ (p, t) ∷ []
+
+  agrees-p : Agrees files.trees with_p
+  agrees-p = agrees-push files.trees (named_trees loaded) p t agrees is
+
+  once-p : AreDistinct (paths_in with_p)
+  once-p = once-push loaded p t known.once none
+
+  reached-by : AreJust (Reaches files.trees p) (paths_by with_p reach)
+  reached-by = just-by (Reaches files.trees p) with_p reach once-p reaches.ascending
+      (numbers-joined held_as.Reach loaded p t (Reaches files.trees p) (λ r q. Reaches files.trees r q) (import_paths t) below reach (known.reach files.trees agrees) (itself p) (λ r q i rest. through p r q t is i rest) (λ q h. reaches-out files.trees p q t is h) numbered reaches)
+
+  seen-by : AreJust (Sees files.trees p) (paths_by with_p sight)
+  seen-by = just-by (Sees files.trees p) with_p sight once-p sees.ascending
+      (numbers-joined held_as.HandedOn loaded p t (Sees files.trees p) (λ r q. HandsOn files.trees r q) (import_paths t) below sight (known.handed_on files.trees agrees) (sees_itself p) (λ r q i rest. by_import p r q t is i rest) (λ q h. sees-out files.trees p q t is h) numbered sees)
+
+  abbrev linked : List elaborating.Fault
+  linked = link_faults (trees_at files.trees (paths_by with_p reach))
+
+  abbrev linked_in : List elaborating.Fault
+  linked_in = link_faults (trees_at files.trees (files.reached p))
+
+  abbrev sees_types : (Text → Option DeclaredType) → Environment
+  sees_types types = record { syntax = t.syntax; types = types; scope = file_scope t; custom = no_custom }
+
+  same-reach : SameMembers (paths_by with_p reach) (files.reached p)
+  same-reach = just-same (Reaches files.trees p) (paths_by with_p reach) (files.reached p) reached-by (listed.reaches p)
+
+  same-sight : SameMembers (paths_by with_p sight) (files.seen p)
+  same-sight = just-same (Sees files.trees p) (paths_by with_p sight) (files.seen p) seen-by (listed.sees p)
+
+  linked-is : link_faults (picked (with_next loaded t) reach) ≡ linked
+  linked-is = ap link_faults (ap (λ (ts : List FileSyntax). picked ts reach) (next-trees loaded p t) ∙ picked-are files.trees with_p reach agrees-p)
+
+  sight-is : picked (with_next loaded t) sight ≡ trees_at files.trees (paths_by with_p sight)
+  sight-is = ap (λ (ts : List FileSyntax). picked ts sight) (next-trees loaded p t) ∙ picked-are files.trees with_p sight agrees-p
+
+  same-types : linked ≡ [] → environment (picked (with_next loaded t) sight) no_custom t ≡ environment_of files p t
+  same-types h =
+      ap (λ (ts : List FileSyntax). environment ts no_custom t) sight-is
+      ∙ ap sees_types (types-same files.trees (paths_by with_p reach) (paths_by with_p sight) (files.seen p) reached-by.once same-sight (λ q m. reached-by.all q (sees-reaches files.trees p q (seen-by.only q m))) h)
+
+  told-over : List elaborating.Fault
+  told-over = faults_of (environment (picked (with_next loaded t) sight) no_custom t) t
+
+  over-is : faults_over (with_next loaded t) reach sight t ≡ before_others linked told-over
+  over-is = ap (λ (fs : List elaborating.Fault). before_others fs told-over) linked-is
+
+  others-same : linked ≡ [] → told-over ≡ faults_of (environment_of files p t) t
+  others-same h = ap (λ (env : Environment). faults_of env t) (same-types h)
+
+  pub over-faultless : faults_over (with_next loaded t) reach sight t ≡ [] → faults_in files p (Some t) ≡ []
+  over-faultless h =
+      let e = sym over-is ∙ h in
+      let first = none-before linked told-over e in
+      no-others linked_in (faults_of (environment_of files p t) t)
+      (link-none files.trees (paths_by with_p reach) (files.reached p) reached-by.once (listed.reaches p).once same-reach first)
+      (sym (others-same first) ∙ none-after linked told-over e)
+
+  pub over-descriptor : faults_over (with_next loaded t) reach sight t ≡ [] → file_over (with_next loaded t) sight p t ≡ file_of (environment_of files p t) p t
+  over-descriptor h = ap (λ (env : Environment). file_of env p t) (same-types (none-before linked told-over (sym over-is ∙ h)))
+
+  pub over-told : (f : elaborating.Fault) → Among (faults_over (with_next loaded t) reach sight t) f → Among (faults_in files p (Some t)) f
+  over-told f m =
+      elim (which-told linked told-over f (subst (λ (fs : List elaborating.Fault). Among fs f) over-is m)) [
+        | inl w ↦ told-before linked_in (faults_of (environment_of files p t) t) f (link-told files.trees (paths_by with_p reach) (files.reached p) f reached-by.once (listed.reaches p).once same-reach w)
+        | inr w ↦
+            let first = w.0 in
+            told-after linked_in (faults_of (environment_of files p t) t) f (link-none files.trees (paths_by with_p reach) (files.reached p) reached-by.once (listed.reaches p).once same-reach first)
+            (subst (λ (fs : List elaborating.Fault). Among fs f) (others-same first) w.1)
+      ]
+
+-- a fault of elaboration stands wherever its fault does
+stands-more : (origin : Text) (firsts others : List elaborating.Fault) (f : RunFault) → ((g : elaborating.Fault) → Among firsts g → Among others g) → StandsInElab origin firsts f → StandsInElab origin others f
+stands-more origin firsts others (fault.Elaborate file error) more s = (s.0, more (fault_view error) s.1)
+stands-more origin firsts others (fault.Memory) more s = absurd s
+stands-more origin firsts others _ more s = absurd s
+
+-- what an elaboration over numbered files leaves
+pub settled-in : (files : Files) (loaded new : List Entry) (names after : Declarations) (q p : Text) (t : FileSyntax) (height read : ℕ) (below : List ℕ) (log : List ReadEntry) (r : Result Placed RunFault)
+    → q ≡ p → AreListed files.trees files.reached files.seen → AreKnown loaded names → Agrees files.trees (named_trees loaded) → files.trees p ≡ Some t → file_at p loaded ≡ None → AreNumbered (named_trees loaded) below (import_paths t)
+    → SettlesOver q t height read below log loaded new after r → Settles files p t height read log loaded new r
+settled-in files loaded new names after q p t height read below log (Ok placed) same listed known agrees is none numbered over missing =
+    let a = subst (λ (z : Text). file_at z loaded ≡ None → IsAddedOver z t height read below loaded new after placed) same over missing in
+    record {
+      key = a.key;
+      file = a.file;
+      entries = a.entries;
+      named = a.named;
+      tree_is = a.tree_is;
+      height_is = a.height_is;
+      read_is = a.read_is;
+      faultless = over-faultless files listed loaded names known agrees p t is none below numbered a.file.reach.items a.sight a.reaches a.sees a.faultless;
+      descriptor = a.descriptor ∙ over-descriptor files listed loaded names known agrees p t is none below numbered a.file.reach.items a.sight a.reaches a.sees a.faultless;
+      placed_is = a.height_placed;
+    }
+settled-in files loaded new names after q p t height read below log (Err f) same listed known agrees is none numbered over e found named =
+    elim (over e found (named ∙ sym same)) [
+      | inl w ↦
+          let stands : StandsInElab (origin_given p (Some e.outcome)) (faults_over (with_next loaded t) w.0 w.1 t) f = subst (λ (z : Text). StandsInElab (origin_given z (Some e.outcome)) (faults_over (with_next loaded t) w.0 w.1 t) f) same w.4 in
+          inl (stands-more (origin_given p (Some e.outcome)) (faults_over (with_next loaded t) w.0 w.1 t) (faults_in files p (Some t)) f (λ g m. over-told files listed loaded names known agrees p t is none below numbered w.0 w.1 w.2 w.3 g m) stands)
+      | inr w ↦ inr w
+    ]
