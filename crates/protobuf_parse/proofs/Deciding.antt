@@ -5,17 +5,15 @@ use Rattle.protobuf_parse_base.specs.PathViews.{path_buf_text}
 use Rattle.protobuf_parse_syntax.specs.Trees.{FileSyntax, file_view}
 use Rattle.protobuf_parse_syntax.specs.declared.tree.FileTree.{FileTree}
 use Rattle.protobuf_parse_model.specs.Descriptors.{Text}
-use Rattle.protobuf_parse_model.specs.Environment.{no_custom, CustomBytes}
+use Rattle.protobuf_parse_model.specs.declared.scope.seen.Declarations.{Declarations}
 use Rattle.protobuf_parse.specs.declared.run.fault.RunFault.{RunFault}
 use Rattle.protobuf_parse.specs.declared.run.loader.LoadedFile.{LoadedFile}
 use Rattle.protobuf_parse.specs.declared.run.log.ReadEntry.{ReadEntry}
 use Rattle.protobuf_parse.specs.declared.run.log.ReadOutcome.{ReadOutcome}
-use Rattle.protobuf_parse.specs.Walks.{Asked, Event, among, Trees}
-use Rattle.protobuf_parse.specs.Run.{Files, HaveTrees, IsTree, IsTheTree, first_read, text_given, text_read, HasTrees}
-use Rattle.protobuf_parse.specs.Loading.{Legal, Entry, GoesOn, Good, IsDecided, ReadsTree, file_at, read_paths}
+use Rattle.protobuf_parse.specs.Walks.{Asked, among, Trees}
+use Rattle.protobuf_parse.specs.Run.{AreListed, Files, HaveTrees, IsTree, IsTheTree, first_read, text_given, text_read, HasTrees}
+use Rattle.protobuf_parse.specs.Loading.{AreKnown, Legal, Entry, GoesOn, IsDecided, ReadsTree, file_at, read_paths}
 use Rattle.protobuf_parse.proofs.Keeping.{bool_cases, text-true}
-use Rattle.protobuf_parse.proofs.Steps.{loaded-at}
-use Rattle.protobuf_parse.proofs.Checking.{among-at}
 use Rattle.protobuf_parse.proofs.Reading.{Noted}
 
 option_cases : {A : Type 0} (o : Option A) → ((a : A) × (o ≡ Some a)) ⊎ (o ≡ None)

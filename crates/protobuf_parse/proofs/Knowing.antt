@@ -1,26 +1,29 @@
 -- What is known of the loaded files, when one more is loaded.
-use Rattle.std.proofs.Common.{◌≡◌, ◌⊎◌, ℕ, zero, suc, Bool, true, false, ◌||◌, inl, inr, List, [], ◌∷◌, ◌++◌, flat_map, map, length, Option, Some, None, refl, sym, ◌∙◌, ap, subst, if◌then◌else◌, append-nil, append_assoc, Result, Ok, Err}
-use Rattle.std.specs.Prelude.{bytes_eq, slice_get, String, string_bytes, IfOk, OnOk}
+use Rattle.std.proofs.Common.{◌≡◌, ◌⊎◌, ℕ, zero, suc, ◌+◌, ◌<◌, take, get_or, option_map, Bool, true, false, ◌||◌, inl, inr, List, [], ◌∷◌, ◌++◌, flat_map, map, length, Option, Some, None, refl, sym, ◌∙◌, ap, subst, if◌then◌else◌, append-nil, append_assoc, Result, Ok, Err}
+use Rattle.std.specs.Prelude.{bytes_eq, slice_get, String, string_bytes, option_to_list, IfOk, OnOk}
 use Rattle.std.specs.Global.{Global}
 use Rattle.std.specs.Map.{lookup_key}
-use Rattle.std.proofs.lemmas.List.{map-append}
+use Rattle.std.proofs.lemmas.List.{flat_map_more, map-append, map_more}
+use Rattle.std.proofs.lemmas.Option.{slice_get-map, slice_get_read}
+use Rattle.protobuf_parse_syntax.specs.declared.tree.FileStatement.{FileStatement}
+use Rattle.protobuf_parse_base.specs.PathViews.{path_buf_text}
 use Rattle.protobuf_parse_syntax.specs.Dependencies.{imported, imports}
-use Rattle.protobuf_parse_syntax.specs.Trees.{FileSyntax, ImportSyntax, StatementSyntax, file_view}
+use Rattle.protobuf_parse_syntax.specs.Trees.{FileSyntax, ImportSyntax, StatementSyntax, file_view, statement_view}
 use Rattle.protobuf_parse_model.specs.Descriptors.{Text}
-use Rattle.protobuf_parse_model.specs.FilesByPath.{AreDistinct}
+use Rattle.protobuf_parse_model.specs.FilesByPath.{AreDistinct, Leads, leads, stays}
 use Rattle.protobuf_parse_model.specs.Tables.{Tells}
 use Rattle.protobuf_parse_model.specs.declared.scope.seen.Declarations.{Declarations}
-use Rattle.protobuf_parse.specs.Walks.{Trees, Reaches, itself, through, HandsOn, hands_itself, publicly, Sees, sees_itself, by_import, among, import_paths, public_path, public_paths, public_paths_of}
-use Rattle.protobuf_parse.specs.Loading.{Agrees, AllHold, AreJoined, AreKnown, AreMetAt, AreNumbered, AreNumbersOf, AreUnloaded, Entry, IsAddedOver, IsMetAt, IsNumbered, IsPlaced, MoreLoaded, Named, SettlesOver, file_at, held, named_trees, paths_in, trees_of, with_next}
+use Rattle.protobuf_parse.specs.Walks.{Trees, Reaches, HandsOn, Sees, sees_itself, by_import, among, import_paths, public_path, public_paths, public_paths_of}
+use Rattle.protobuf_parse.specs.Loading.{Agrees, AllHold, AreJoined, AreKnown, AreMetAt, AreNumbered, AreNumbersOf, AreUnloaded, Entry, Grows, IsAddedOver, IsMetAt, IsNumbered, IsPlaced, IsPublicImport, MoreLoaded, Named, SettlesOver, file_at, held, named_trees, paths_in, read_paths, trees_of, with_next}
 use Rattle.protobuf_parse.specs.declared.run.fault.RunFault.{RunFault}
 use Rattle.protobuf_parse.specs.declared.run.loader.LoadedFile.{LoadedFile}
 use Rattle.protobuf_parse.specs.declared.run.loader.Placed.{Placed}
 use Rattle.protobuf_parse.specs.declared.run.log.ReadEntry.{ReadEntry}
 use Rattle.protobuf_parse.specs.declared.run.reach.Held.{Held}
 use Rattle.protobuf_parse.specs.declared.run.reach.Held.TheVariants as held_as
-use Rattle.protobuf_parse.proofs.Keeping.{some_same, bool_cases, or_cases, or_left, or_right, among-append, text-same, text-true}
+use Rattle.protobuf_parse.proofs.Keeping.{some_same, bool_cases, or_cases, or_left, or_right, among-append, among-in, among-last, among-left, text-same, text-true}
 use Rattle.protobuf_parse.proofs.Numbers.{are-append, are-more, name-at, name_of, named-length, named-push, numbered-more, numbers-joined, numbers-more, path-in}
-use Rattle.protobuf_parse.proofs.Steps.{get-more, get-seam}
+use Rattle.protobuf_parse.proofs.Steps.{entry-in, get-more, get-seam}
 
 -- a key that was found is the one that was looked for
 pub key-found : (p : Text) (es : List Entry) (k : String Global) → Some k ≡ lookup_key (λ (s : String Global). bytes_eq p (string_bytes s)) es → string_bytes k ≡ p
@@ -33,13 +36,9 @@ key-found p (e ∷ es) k h =
 
 -- ** what a file stands to
 
-pub reaches-out : (trees : Trees) (p q : Text) (t : FileSyntax) → trees p ≡ Some t → Reaches trees p q → (p ≡ q) ⊎ ((r : Text) × (among r (import_paths t) ≡ true) × Reaches trees r q)
-reaches-out trees p q t is (itself _) = inl refl
-reaches-out trees p q t is (through _ r _ u h a rest) = inr (r, subst (λ (z : FileSyntax). among r (import_paths z) ≡ true) (some_same u t (sym h ∙ is)) a, rest)
-
-pub hands-out : (trees : Trees) (p q : Text) (t : FileSyntax) → trees p ≡ Some t → HandsOn trees p q → (p ≡ q) ⊎ ((r : Text) × (among r (public_paths t) ≡ true) × HandsOn trees r q)
-hands-out trees p q t is (hands_itself _) = inl refl
-hands-out trees p q t is (publicly _ r _ u h a rest) = inr (r, subst (λ (z : FileSyntax). among r (public_paths z) ≡ true) (some_same u t (sym h ∙ is)) a, rest)
+pub leads-out : (next : FileSyntax → List Text) (trees : Trees) (p q : Text) (t : FileSyntax) → trees p ≡ Some t → Leads next trees p q → (p ≡ q) ⊎ ((r : Text) × (among r (next t) ≡ true) × Leads next trees r q)
+leads-out next trees p q t is (stays _) = inl refl
+leads-out next trees p q t is (leads _ r _ u h a rest) = inr (r, subst (λ (z : FileSyntax). among r (next z) ≡ true) (some_same u t (sym h ∙ is)) a, rest)
 
 pub sees-out : (trees : Trees) (p q : Text) (t : FileSyntax) → trees p ≡ Some t → Sees trees p q → (p ≡ q) ⊎ ((r : Text) × (among r (import_paths t) ≡ true) × HandsOn trees r q)
 sees-out trees p q t is (sees_itself _) = inl refl
@@ -78,13 +77,13 @@ pub public-imported : (r : Text) (t : FileSyntax) → among r (public_paths t) �
 public-imported r t h = statements-in r t.statements h
 
 hands-reaches : (trees : Trees) (p q : Text) → HandsOn trees p q → Reaches trees p q
-hands-reaches trees p q (hands_itself _) = itself p
-hands-reaches trees p q (publicly _ r _ t h a rest) = through p r q t h (public-imported r t a) (hands-reaches trees r q rest)
+hands-reaches trees p q (stays _) = stays p
+hands-reaches trees p q (leads _ r _ t h a rest) = leads p r q t h (public-imported r t a) (hands-reaches trees r q rest)
 
 -- a file reaches what it sees
 pub sees-reaches : (trees : Trees) (p q : Text) → Sees trees p q → Reaches trees p q
-sees-reaches trees p q (sees_itself _) = itself p
-sees-reaches trees p q (by_import _ r _ t h a rest) = through p r q t h a (hands-reaches trees r q rest)
+sees-reaches trees p q (sees_itself _) = stays p
+sees-reaches trees p q (by_import _ r _ t h a rest) = leads p r q t h a (hands-reaches trees r q rest)
 
 -- ** one file more
 
@@ -159,7 +158,7 @@ once-push loaded p t once none =
 pub next-trees : (loaded : List Entry) (p : Text) (t : FileSyntax) → with_next loaded t ≡ trees_of (named_trees loaded ++ (p, t) ∷ [])
 next-trees loaded p t = sym (map-append (λ (f : Named). f.1) (named_trees loaded) ((p, t) ∷ []))
 
-module _ (path : Text) (tree : FileSyntax) (height read : ℕ) (imports : List ℕ) (old new : List Entry) (before after : Declarations) (placed : Placed) (known : AreKnown old before) (numbered : AreNumbered (named_trees old) imports (import_paths tree)) (none : file_at path old ≡ None) (a : IsAddedOver path tree height read imports old new after placed) where
+module _ (path : Text) (tree : FileSyntax) (height read : ℕ) (imports : List ℕ) (old new : List Entry) (before after : Declarations) (log : List ReadEntry) (placed : Placed) (known : AreKnown old before log) (was_read : among path (read_paths log) ≡ true) (numbered : AreNumbered (named_trees old) imports (import_paths tree)) (none : file_at path old ≡ None) (a : IsAddedOver path tree height read imports old new after placed) where
   abbrev x : Entry
   x = (a.key, a.file)
 
@@ -175,11 +174,11 @@ module _ (path : Text) (tree : FileSyntax) (height read : ℕ) (imports : List �
 
     reach-is : AreNumbersOf (Reaches trees path) (named_trees old ++ (path, tree) ∷ []) a.file.reach.items
     reach-is = numbers-joined held_as.Reach old path tree (Reaches trees path) (λ r q. Reaches trees r q) (import_paths tree) imports a.file.reach.items
-        (known.reach trees before_it) (itself path) (λ r q i rest. through path r q tree is i rest) (λ q h. reaches-out trees path q tree is h) numbered a.reaches
+        (known.reach trees before_it) (stays path) (λ r q i rest. leads path r q tree is i rest) (λ q h. leads-out import_paths trees path q tree is h) numbered a.reaches
 
     handed-is : AreNumbersOf (HandsOn trees path) (named_trees old ++ (path, tree) ∷ []) a.file.handed_on.items
     handed-is = numbers-joined held_as.HandedOn old path tree (HandsOn trees path) (λ r q. HandsOn trees r q) (public_paths tree) a.hands_on.public a.file.handed_on.items
-        (known.handed_on trees before_it) (hands_itself path) (λ r q i rest. publicly path r q tree is i rest) (λ q h. hands-out trees path q tree is h) (a.hands_on.numbered numbered) a.hands_on.joined
+        (known.handed_on trees before_it) (stays path) (λ r q i rest. leads path r q tree is i rest) (λ q h. leads-out public_paths trees path q tree is h) (a.hands_on.numbered numbered) a.hands_on.joined
 
   -- the same of the entry
   of-entry : (R : Trees → Text → Text → Type 0) (which : Held)
@@ -196,12 +195,13 @@ module _ (path : Text) (tree : FileSyntax) (height read : ℕ) (imports : List �
   paths-are : paths_in (named_trees (old ++ x ∷ [])) ≡ paths_in (named_trees old ++ (path, tree) ∷ [])
   paths-are = ap paths_in (named-push old x ∙ ap (λ (f : Named). named_trees old ++ f ∷ []) name-is)
 
-  pub known-push : AreKnown new after
+  pub known-push : AreKnown new after log
   known-push = rw a.entries (record {
     tells = subst (Tells after) (sym trees-are) a.tells;
     once = subst AreDistinct (sym paths-are) (once-push old path tree known.once none);
     reach = all-hold-push Reaches held_as.Reach old x known.reach (of-entry Reaches held_as.Reach reach-is);
     handed_on = all-hold-push HandsOn held_as.HandedOn old x known.handed_on (of-entry HandsOn held_as.HandedOn handed-is);
+    read = λ p e h. elim (entry-in p x e old h) [ inl w ↦ known.read p e w | inr w ↦ subst (λ (z : Text). among z (read_paths log) ≡ true) (sym (w.0 ∙ a.named)) was_read ];
   })
 
   pub met-push : IsMetAt path old new placed
@@ -209,6 +209,19 @@ module _ (path : Text) (tree : FileSyntax) (height read : ℕ) (imports : List �
     number = rw a.number_placed (rw (named-push old x, name-is) (tree, subst (λ (k : ℕ). slice_get (named_trees old ++ (path, tree) ∷ []) k ≡ Some (path, tree)) (named-length old) (get-seam (named_trees old) [] (path, tree))));
     more = (x ∷ [], refl);
   })
+
+-- a log that grew has all that was read
+pub known-grows : (loaded : List Entry) (names : Declarations) (old new : List ReadEntry) → Grows old new → AreKnown loaded names old → AreKnown loaded names new
+known-grows loaded names old new grows known = record {
+  tells = known.tells;
+  once = known.once;
+  reach = known.reach;
+  handed_on = known.handed_on;
+  read = λ p e h. rw grows.1 (read-more p (known.read p e h));
+}
+  where
+    read-more : (p : Text) → among p (read_paths old) ≡ true → among p (read_paths (old ++ grows.0)) ≡ true
+    read-more p h = ap (among p) (map-append (λ (e : ReadEntry). path_buf_text e.path) old grows.0) ∙ among-left p (read_paths old) (read_paths grows.0) h
 
 -- ** files that aren't loaded
 
@@ -229,12 +242,13 @@ unloaded-push chain loaded x q u is off p on = still-none p loaded x (u p on) (r
 
 -- ** no file
 
-pub known-none : (loaded : List Entry) (names : Declarations) → loaded ≡ [] → Tells names [] → AreKnown loaded names
-known-none loaded names none tells = rw none (record {
+pub known-none : (loaded : List Entry) (names : Declarations) (log : List ReadEntry) → loaded ≡ [] → Tells names [] → AreKnown loaded names log
+known-none loaded names log none tells = rw none (record {
   tells = tells;
   once = tt;
   reach = λ trees agrees n e h. cc;
   handed_on = λ trees agrees n e h. cc;
+  read = λ p e h. cc;
 })
 
 -- ** what a file imports publicly
@@ -278,3 +292,89 @@ pub public-missing : (loaded : List Entry) (p q : Text) → q ≡ p → IsPlaced
 public-missing loaded p q same is all =
     let n = all p (or_left _ _ (text-same p)) in
     loaded-at p loaded n.0 (subst (λ (z : Text). file_at z loaded ≡ None) same is) n.1
+
+-- ** a call of the loader
+
+pub unloaded-enter : (chain : List Text) (loaded : List Entry) (q : Text) → AreUnloaded chain loaded → file_at q loaded ≡ None → AreUnloaded (chain ++ q ∷ []) loaded
+unloaded-enter chain loaded q u none p on =
+    elim (among-in p q chain on) [
+      | inl w ↦ u p w
+      | inr w ↦ subst (λ (z : Text). file_at z loaded ≡ None) (sym w) none
+    ]
+
+pub unloaded-none : (chain : List Text) (loaded : List Entry) → chain ≡ [] → AreUnloaded chain loaded
+unloaded-none chain loaded none p on = absurd (nothing (subst (λ (z : List Text). among p z ≡ true) none on))
+  where
+    nothing : among p [] ≡ true → ⊥
+    nothing h = cc
+
+pub met-again : (p q : Text) (loaded : List Entry) (placed : Placed) → q ≡ p → IsPlaced q loaded (Some placed) → IsMetAt p loaded loaded placed
+met-again p q loaded placed is there = record {
+  number = subst (λ (z : Text). IsNumbered (named_trees loaded) placed.number z) is there.3;
+  more = ([], sym (append-nil loaded));
+}
+
+pub met-none : (old new : List Entry) (below : List ℕ) → new ≡ old → below ≡ [] → AreMetAt [] old new below
+met-none old new below same none = rw (same, none) (record { numbered = tt; more = ([], sym (append-nil old)) })
+
+pub met-step : (old mid new : List Entry) (below next_below : List ℕ) (done next : List Text) (q : Text) (placed : Placed) → AreMetAt done old mid below → IsMetAt q mid new placed → next_below ≡ below ++ placed.number ∷ [] → next ≡ done ++ q ∷ [] → AreMetAt next old new next_below
+met-step old mid new below next_below done next q placed a r pushed is =
+    let longer : named_trees new ≡ named_trees mid ++ named_trees r.more.0 = ap named_trees r.more.1 ∙ map-append name_of mid r.more.0 in
+    let numbered : AreNumbered (named_trees new) below done = subst (λ (z : List Named). AreNumbered z below done) (sym longer) (are-more (named_trees mid) (named_trees r.more.0) below done a.numbered) in
+    rw (pushed, is) (record {
+      numbered = are-append (named_trees new) below (placed.number ∷ []) done (q ∷ []) numbered (r.number, tt);
+      more = (a.more.0 ++ r.more.0, r.more.1 ∙ (ap (λ z. z ++ r.more.0) a.more.1 ∙ append_assoc old a.more.0 r.more.0));
+    })
+
+-- a path that was read stands in a log that grew since
+pub read-since : (p : Text) (old first now : List ReadEntry) (e : ReadEntry) → first ≡ old ++ e ∷ [] → path_buf_text e.path ≡ p → Grows first now → among p (read_paths now) ≡ true
+read-since p old first now e read_now named grows =
+    let same : bytes_eq p (path_buf_text e.path) ≡ true = rw named (text-same p) in
+    let last : among p (path_buf_text e.path ∷ []) ≡ true = or_left (bytes_eq p (path_buf_text e.path)) false same in
+    let here : among p (read_paths (old ++ e ∷ [])) ≡ true = ap (among p) (map-append (λ (e : ReadEntry). path_buf_text e.path) old (e ∷ [])) ∙ (among-append p (read_paths old) (path_buf_text e.path ∷ []) ∙ or_right (among p (read_paths old)) (among p (path_buf_text e.path ∷ [])) last) in
+    let there : among p (read_paths first) ≡ true = subst (λ (z : List ReadEntry). among p (read_paths z) ≡ true) (sym read_now) here in
+    rw grows.1 (ap (among p) (map-append (λ (e : ReadEntry). path_buf_text e.path) first grows.0) ∙ among-left p (read_paths first) (read_paths grows.0) there)
+
+module _ (p q : Text) (tree : FileSyntax) (height read : ℕ) (below : List ℕ) (old loaded new : List Entry) (before after : Declarations) (log : List ReadEntry) (same : q ≡ p) (none : file_at p loaded ≡ None) where
+  abbrev Added : Placed → Type 0
+  Added placed = IsAddedOver p tree height read below loaded new after placed
+
+  added-is : (placed : Placed) → (file_at q loaded ≡ None → IsAddedOver q tree height read below loaded new after placed) → Added placed
+  added-is placed over = subst (λ (z : Text). file_at z loaded ≡ None → IsAddedOver z tree height read below loaded new after placed) same over none
+
+  pub settled-known : (r : Result Placed RunFault) → AreKnown loaded before log → among p (read_paths log) ≡ true → AreMetAt (import_paths tree) old loaded below → (AreKnown loaded before log → SettlesOver q tree height read below log loaded new after r) → OnOk r (AreKnown new after log)
+  settled-known (Err f) known was_read met settles = tt
+  settled-known (Ok placed) known was_read met settles = known-push p tree height read below loaded new before after log placed known was_read met.numbered none (added-is placed (settles known))
+
+  pub settled-met : (r : Result Placed RunFault) → AreKnown loaded before log → among p (read_paths log) ≡ true → AreMetAt (import_paths tree) old loaded below → (AreKnown loaded before log → SettlesOver q tree height read below log loaded new after r) → IfOk r (IsMetAt p old new)
+  settled-met (Err f) known was_read met settles = tt
+  settled-met (Ok placed) known was_read met settles =
+      let m = met-push p tree height read below loaded new before after log placed known was_read met.numbered none (added-is placed (settles known)) in
+      record {
+        number = m.number;
+        more = (met.more.0 ++ m.more.0, m.more.1 ∙ (ap (λ z. z ++ m.more.0) met.more.1 ∙ append_assoc old met.more.0 m.more.0));
+      }
+
+  pub settled-unloaded : (r : Result Placed RunFault) (chain : List Text) → AreKnown loaded before log → AreUnloaded chain loaded → among p chain ≡ false → (AreKnown loaded before log → SettlesOver q tree height read below log loaded new after r) → OnOk r (AreUnloaded chain new)
+  settled-unloaded (Err f) chain known u off settles = tt
+  settled-unloaded (Ok placed) chain known u off settles =
+      let a = added-is placed (settles known) in
+      rw a.entries (unloaded-push chain loaded (a.key, a.file) p u a.named off)
+
+pub unloaded-front : (chain : List Text) (q : Text) (loaded : List Entry) → AreUnloaded (chain ++ q ∷ []) loaded → AreUnloaded chain loaded
+unloaded-front chain q loaded u p on = u p (among-left p chain (q ∷ []) on)
+
+pub unloaded-last : (chain : List Text) (q : Text) (loaded : List Entry) → AreUnloaded (chain ++ q ∷ []) loaded → file_at q loaded ≡ None
+unloaded-last chain q loaded u = u q (among-last q chain)
+
+-- one statement more of a file
+pub public-next : (loaded : List Entry) (t : FileSyntax) (ns : List ℕ) (xs : List FileStatement) (i : ℕ) (x : FileStatement) (before after : List ℕ) (number : Option ℕ) → t.statements ≡ map statement_view xs → i < length xs → x ≡ get_or xs i x → AreNumbered (named_trees loaded) ns (import_paths t)
+    → AreNumbered (named_trees loaded) before (flat_map public_paths_of (map statement_view (take i xs))) → IsPublicImport loaded (statement_view x) number → after ≡ before ++ option_to_list number
+    → AreNumbered (named_trees loaded) after (flat_map public_paths_of (map statement_view (take (i + 1) xs)))
+public-next loaded t ns xs i x before after number whole lt item numbered so_far one pushed =
+    let there : slice_get xs i ≡ Some x = slice_get_read xs (length xs) i x refl lt item in
+    let at : slice_get t.statements i ≡ Some (statement_view x) = ap (λ (ss : List StatementSyntax). slice_get ss i) whole ∙ (slice_get-map statement_view xs i ∙ ap (option_map statement_view) there) in
+    let more : map statement_view (take (i + 1) xs) ≡ map statement_view (take i xs) ++ statement_view x ∷ [] = map_more statement_view xs i x lt ∙ ap (λ (z : FileStatement). map statement_view (take i xs) ++ statement_view z ∷ []) (sym item) in
+    let all : flat_map public_paths_of (map statement_view (take i xs)) ++ public_paths_of (statement_view x) ≡ flat_map public_paths_of (map statement_view (take (i + 1) xs)) = flat_map_more public_paths_of [] (map statement_view (take i xs)) (statement_view x) ∙ ap (flat_map public_paths_of) (sym more) in
+    let these = one (public-loaded loaded t ns i (statement_view x) at numbered) in
+    rw pushed (subst (λ (ps : List Text). AreNumbered (named_trees loaded) (before ++ option_to_list number) ps) all (are-append (named_trees loaded) before (option_to_list number) (flat_map public_paths_of (map statement_view (take i xs))) (public_paths_of (statement_view x)) so_far these))

@@ -53,7 +53,7 @@ popped xs ys zs x n pushed is rest =
     rest ∙ (rw (e, pushed) (take_at xs (x ∷ []) (length xs) refl))
 
 pub goes-back : (files : Files) (table : List (Text × Text)) (old new : List ReadEntry) → Grows old new → GoesOn files table new → GoesOn files table old
-goes-back files table old new g go = record { bundled = go.bundled; reads = Grows-trans old new files.reads g go.reads; trees = go.trees }
+goes-back files table old new g go = record { bundled = go.bundled; reads = Grows-trans old new files.reads g go.reads; trees = go.trees; listed = go.listed }
 
 pub goes-same : (files : Files) (table : List (Text × Text)) (old new : List ReadEntry) → new ≡ old → GoesOn files table new → GoesOn files table old
 goes-same files table old new e go = subst (λ (z : List ReadEntry). GoesOn files table z) e go

@@ -15,3 +15,4 @@ pub mod Causing
 pub mod Numbers
 pub mod Knowing
 pub mod Settling
+pub mod Listed

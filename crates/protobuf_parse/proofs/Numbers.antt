@@ -22,7 +22,7 @@ pub named-push : (loaded : List Entry) (x : Entry) → named_trees (loaded ++ x 
 named-push loaded x = map-append name_of loaded (x ∷ [])
 
 pub named-length : (loaded : List Entry) → length (named_trees loaded) ≡ length loaded
-named-length loaded = length-map name_of loaded
+named-length loaded = length-map loaded name_of
 
 entry-of : (o : Option Entry) (f : Named) → option_map name_of o ≡ Some f → (e : Entry) × (o ≡ Some e) × (name_of e ≡ f)
 entry-of None f h = cc
@@ -39,6 +39,9 @@ pub name-at : (loaded : List Entry) (n : ℕ) (e : Entry) → slice_get loaded n
 name-at loaded n e h = slice_get-map name_of loaded n ∙ ap (option_map name_of) h
 
 -- ** numbers
+
+pub numbered-at : (loaded : List Entry) (n : ℕ) (e : Entry) (p : Text) → slice_get loaded n ≡ Some e → string_bytes e.0 ≡ p → IsNumbered (named_trees loaded) n p
+numbered-at loaded n e p there is = (file_view e.1.tree, name-at loaded n e there ∙ ap (λ (z : Text). Some (z, file_view e.1.tree)) is)
 
 pub numbered-more : (files more : List Named) (n : ℕ) (q : Text) → IsNumbered files n q → IsNumbered (files ++ more) n q
 numbered-more files more n q h = (h.0, get-more files more n (q, h.0) h.1)

@@ -1,6 +1,7 @@
 -- What a file becomes over numbered files is what it becomes over the files that it reaches and sees, however these are listed.
 use Rattle.std.proofs.Common.{◌≡◌, ◌⊎◌, ℕ, zero, suc, ◌+◌, ◌<◌, ◌≤◌, Bool, true, false, ◌||◌, inl, inr, List, [], ◌∷◌, ◌++◌, flat_map, map, length, get_or, Option, Some, None, option_map, refl, sym, ◌∙◌, ap, subst, arith, Result, Ok, Err, append_assoc, Contains}
 use Rattle.std.specs.Prelude.{bytes_eq, slice_get, option_to_list, string_bytes}
+use Rattle.std.specs.List.{AllByRecursion}
 use Rattle.std.specs.List.Sorted.{IsStrictlyIncreasing}
 use Rattle.std.proofs.lemmas.Option.{slice_get-map}
 use Rattle.std.proofs.lemmas.List.Elements.{Contains-append_left, Contains-append_right, Contains-append_cases}
@@ -13,22 +14,22 @@ use Rattle.protobuf_parse_model.specs.Environment.{Environment, no_custom}
 use Rattle.protobuf_parse_model.specs.Faults.{Among, here, there, fault_view}
 use Rattle.protobuf_parse_model.specs.Faults as elaborating
 use Rattle.protobuf_parse_model.specs.FileDescriptor.{environment, file_of, types_of_files}
-use Rattle.protobuf_parse_model.specs.FilesByPath.{AreDistinct, AreJust, trees_at}
+use Rattle.protobuf_parse_model.specs.FilesByPath.{AreDistinct, AreJust, leads, stays, trees_at}
 use Rattle.protobuf_parse_model.specs.Linking.{before_others, link_faults}
 use Rattle.protobuf_parse_model.specs.Lookup.{declared}
 use Rattle.protobuf_parse_model.specs.Tables.{picked}
 use Rattle.protobuf_parse_model.specs.declared.scope.seen.Declarations.{Declarations}
 use Rattle.protobuf_parse_model.proofs.Orders.{SameMembers, just-same, link-none, link-told, types-same}
-use Rattle.protobuf_parse.specs.Walks.{Trees, Reaches, itself, through, HandsOn, Sees, sees_itself, by_import, among, import_paths}
+use Rattle.protobuf_parse.specs.Walks.{Trees, Reaches, HandsOn, Sees, sees_itself, by_import, among, import_paths}
 use Rattle.protobuf_parse.specs.Run.{Files, AreListed, StandsInElab, environment_of, faults_in, faults_of, origin_given}
-use Rattle.protobuf_parse.specs.Loading.{Agrees, AreJoined, AreKnown, AreNumbered, AreNumbersOf, Entry, IsAdded, IsAddedOver, IsNumbered, Named, OrMemory, Settles, SettlesOver, faults_over, file_at, file_over, named_trees, paths_in, trees_of, with_next}
+use Rattle.protobuf_parse.specs.Loading.{Agrees, AreJoined, AreKnown, AreNumbered, AreNumbersOf, Entry, IsAdded, IsAddedOver, IsLoaded, IsNumbered, Named, OrMemory, Settles, SettlesOver, faults_over, file_at, file_over, named_trees, paths_in, trees_of, with_next}
 use Rattle.protobuf_parse.specs.declared.run.fault.RunFault.{RunFault}
 use Rattle.protobuf_parse.specs.declared.run.fault.RunFault.TheVariants as fault
 use Rattle.protobuf_parse.specs.declared.run.loader.Placed.{Placed}
 use Rattle.protobuf_parse.specs.declared.run.log.ReadEntry.{ReadEntry}
 use Rattle.protobuf_parse.specs.declared.run.reach.Held.TheVariants as held_as
 use Rattle.protobuf_parse.proofs.Keeping.{some_same, or_cases, or_left, or_right, among-append, text-same, text-true}
-use Rattle.protobuf_parse.proofs.Knowing.{agrees-push, next-trees, once-push, reaches-out, sees-out, sees-reaches}
+use Rattle.protobuf_parse.proofs.Knowing.{agrees-push, next-trees, leads-out, once-push, sees-out, sees-reaches}
 use Rattle.protobuf_parse.proofs.Numbers.{numbers-joined, only-one}
 
 -- ** files by numbers and by paths
@@ -95,25 +96,29 @@ by-path files (m ∷ ns) p n c i =
 -- a path has one number, where each stands once
 among-at : (files : List Named) (n : ℕ) (p : Text) → IsNumbered files n p → among p (paths_in files) ≡ true
 among-at [] n p i = cc
-among-at (f ∷ files) zero p i = or_left _ _ (let same : f ≡ (p, i.0) = some_is f (p, i.0) i.1 in rw same (text-same p))
+among-at (f ∷ files) zero p i = or_left (bytes_eq p f.0) (among p (paths_in files)) (let same : f ≡ (p, i.0) = some_is f (p, i.0) i.1 in let path : f.0 ≡ p = ap (λ (g : Named). g.0) same in rw path (text-same p))
   where
     some_is : (a b : Named) → Some a ≡ Some b → a ≡ b
     some_is a b h = cc
-among-at (f ∷ files) (suc n) p i = or_right _ _ (among-at files n p i)
+among-at (f ∷ files) (suc n) p i = or_right (bytes_eq p f.0) (among p (paths_in files)) (among-at files n p i)
+
+-- the first path is none of the others
+first-apart : (f : Named) (files : List Named) (m : ℕ) (p : Text) → among f.0 (paths_in files) ≡ false → IsNumbered (f ∷ files) 0 p → IsNumbered files m p → ⊥
+first-apart f files m p apart i j =
+    let same : f ≡ (p, i.0) = some_is f (p, i.0) i.1 in
+    let path : f.0 ≡ p = ap (λ (g : Named). g.0) same in
+    let there : among f.0 (paths_in files) ≡ true = subst (λ (z : Text). among z (paths_in files) ≡ true) (sym path) (among-at files m p j) in
+    cc
+  where
+    some_is : (a b : Named) → Some a ≡ Some b → a ≡ b
+    some_is a b h = cc
 
 one-number : (files : List Named) (n m : ℕ) (p : Text) → AreDistinct (paths_in files) → IsNumbered files n p → IsNumbered files m p → n ≡ m
 one-number [] n m p d i j = cc
 one-number (f ∷ files) zero zero p d i j = refl
 one-number (f ∷ files) (suc n) (suc m) p d i j = ap suc (one-number files n m p d.1 i j)
-one-number (f ∷ files) zero (suc m) p d i j =
-    let same : f ≡ (p, i.0) = some_is f (p, i.0) i.1 in
-    let path : f.0 ≡ p = ap (λ (g : Named). g.0) same in
-    let there : among f.0 (paths_in files) ≡ true = subst (λ (z : Text). among z (paths_in files) ≡ true) (sym path) (among-at files m p j) in
-    let apart = d.0 in cc
-  where
-    some_is : (a b : Named) → Some a ≡ Some b → a ≡ b
-    some_is a b h = cc
-one-number (f ∷ files) (suc n) zero p d i j = sym (one-number (f ∷ files) zero (suc n) p d j i)
+one-number (f ∷ files) zero (suc m) p d i j = absurd (first-apart f files m p d.0 i j)
+one-number (f ∷ files) (suc n) zero p d i j = absurd (first-apart f files n p d.0 j i)
 
 -- the numbers rise, from n on
 abbrev Rises : ℕ → List ℕ → Type 0
@@ -141,24 +146,22 @@ above n (r ∷ rs) m h c =
       | inr w ↦ let more = above (suc r) rs m h.1 w in omega (arith, h.0, more)
     ]
 
+-- a file whose number is below theirs is none of them
+apart-from : (files : List Named) (m : ℕ) (ns : List ℕ) → AreDistinct (paths_in files) → Rises (suc m) ns → (p : Text) (u : FileSyntax) (b : Bool) → slice_get files m ≡ Some (p, u) → among p (paths_by files ns) ≡ b → b ≡ false
+apart-from files m ns d h p u false at e = refl
+apart-from files m ns d h p u true at e =
+    let r = by-number files ns p e in
+    let same = one-number files m r.0 p d (u, at) r.2 in
+    let more = above (suc m) ns r.0 h r.1 in
+    absurd (omega (arith, same, more))
+
+with-first : (files : List Named) (m : ℕ) (ns : List ℕ) → AreDistinct (paths_in files) → Rises (suc m) ns → AreDistinct (paths_by files ns) → (o : Option Named) → slice_get files m ≡ o → AreDistinct (path_of o ++ paths_by files ns)
+with-first files m ns d h rest None at = rest
+with-first files m ns d h rest (Some f) at = (apart-from files m ns d h f.0 f.1 (among f.0 (paths_by files ns)) at refl, rest)
+
 distinct-by : (files : List Named) (n : ℕ) (ns : List ℕ) → AreDistinct (paths_in files) → Rises n ns → AreDistinct (paths_by files ns)
 distinct-by files n [] d h = tt
-distinct-by files n (m ∷ ns) d h = with-first (slice_get files m) refl
-  where
-    rest : AreDistinct (paths_by files ns)
-    rest = distinct-by files (suc m) ns d h.1
-
-    apart : (p : Text) (u : FileSyntax) (b : Bool) → slice_get files m ≡ Some (p, u) → among p (paths_by files ns) ≡ b → b ≡ false
-    apart p u false at e = refl
-    apart p u true at e =
-        let r = by-number files ns p e in
-        let same = one-number files m r.0 p d (u, at) r.2 in
-        let more = above (suc m) ns r.0 h.1 r.1 in
-        absurd (omega (arith, same, more))
-
-    with-first : (o : Option Named) → slice_get files m ≡ o → AreDistinct (path_of o ++ paths_by files ns)
-    with-first None at = rest
-    with-first (Some f) at = (apart f.0 f.1 (among f.0 (paths_by files ns)) at refl, rest)
+distinct-by files n (m ∷ ns) d h = with-first files m ns d h.1 (distinct-by files (suc m) ns d h.1) (slice_get files m) refl
 
 pub just-by : (Has : Text → Type 0) (files : List Named) (ns : List ℕ) → AreDistinct (paths_in files) → IsStrictlyIncreasing ns → AreNumbersOf Has files ns → AreJust Has (paths_by files ns)
 just-by Has files ns d up are = record {
@@ -210,7 +213,7 @@ which-told (a ∷ firsts) others f m = inl m
 
 -- ** the next file
 
-module _ (files : Files) (listed : AreListed files.trees files.reached files.seen) (loaded : List Entry) (names : Declarations) (known : AreKnown loaded names) (agrees : Agrees files.trees (named_trees loaded)) (p : Text) (t : FileSyntax) (is : files.trees p ≡ Some t) (none : file_at p loaded ≡ None) (below : List ℕ) (numbered : AreNumbered (named_trees loaded) below (import_paths t)) (reach sight : List ℕ) (reaches : AreJoined held_as.Reach loaded below reach) (sees : AreJoined held_as.HandedOn loaded below sight) where
+module _ (files : Files) (listed : AreListed files.trees files.reached files.seen) (loaded : List Entry) (names : Declarations) (log : List ReadEntry) (known : AreKnown loaded names log) (agrees : Agrees files.trees (named_trees loaded)) (p : Text) (t : FileSyntax) (is : files.trees p ≡ Some t) (none : file_at p loaded ≡ None) (below : List ℕ) (numbered : AreNumbered (named_trees loaded) below (import_paths t)) (reach sight : List ℕ) (reaches : AreJoined held_as.Reach loaded below reach) (sees : AreJoined held_as.HandedOn loaded below sight) where
   abbrev with_p : List Named
   with_p = named_trees loaded ++ (p, t) ∷ []
 
@@ -222,7 +225,7 @@ module _ (files : Files) (listed : AreListed files.trees files.reached files.see
 
   reached-by : AreJust (Reaches files.trees p) (paths_by with_p reach)
   reached-by = just-by (Reaches files.trees p) with_p reach once-p reaches.ascending
-      (numbers-joined held_as.Reach loaded p t (Reaches files.trees p) (λ r q. Reaches files.trees r q) (import_paths t) below reach (known.reach files.trees agrees) (itself p) (λ r q i rest. through p r q t is i rest) (λ q h. reaches-out files.trees p q t is h) numbered reaches)
+      (numbers-joined held_as.Reach loaded p t (Reaches files.trees p) (λ r q. Reaches files.trees r q) (import_paths t) below reach (known.reach files.trees agrees) (stays p) (λ r q i rest. leads p r q t is i rest) (λ q h. leads-out import_paths files.trees p q t is h) numbered reaches)
 
   seen-by : AreJust (Sees files.trees p) (paths_by with_p sight)
   seen-by = just-by (Sees files.trees p) with_p sight once-p sees.ascending
@@ -254,7 +257,7 @@ module _ (files : Files) (listed : AreListed files.trees files.reached files.see
       ap (λ (ts : List FileSyntax). environment ts no_custom t) sight-is
       ∙ ap sees_types (types-same files.trees (paths_by with_p reach) (paths_by with_p sight) (files.seen p) reached-by.once same-sight (λ q m. reached-by.all q (sees-reaches files.trees p q (seen-by.only q m))) h)
 
-  told-over : List elaborating.Fault
+  abbrev told-over : List elaborating.Fault
   told-over = faults_of (environment (picked (with_next loaded t) sight) no_custom t) t
 
   over-is : faults_over (with_next loaded t) reach sight t ≡ before_others linked told-over
@@ -292,9 +295,9 @@ stands-more origin firsts others _ more s = absurd s
 
 -- what an elaboration over numbered files leaves
 pub settled-in : (files : Files) (loaded new : List Entry) (names after : Declarations) (q p : Text) (t : FileSyntax) (height read : ℕ) (below : List ℕ) (log : List ReadEntry) (r : Result Placed RunFault)
-    → q ≡ p → AreListed files.trees files.reached files.seen → AreKnown loaded names → Agrees files.trees (named_trees loaded) → files.trees p ≡ Some t → file_at p loaded ≡ None → AreNumbered (named_trees loaded) below (import_paths t)
+    → q ≡ p → AreListed files.trees files.reached files.seen → AreKnown loaded names log → Agrees files.trees (named_trees loaded) → files.trees p ≡ Some t → file_at p loaded ≡ None → AreNumbered (named_trees loaded) below (import_paths t)
     → SettlesOver q t height read below log loaded new after r → Settles files p t height read log loaded new r
-settled-in files loaded new names after q p t height read below log (Ok placed) same listed known agrees is none numbered over missing =
+settled-in files loaded new names after q p t height read below log (Ok placed) same listed known agrees is none numbered over = λ missing.
     let a = subst (λ (z : Text). file_at z loaded ≡ None → IsAddedOver z t height read below loaded new after placed) same over missing in
     record {
       key = a.key;
@@ -304,14 +307,25 @@ settled-in files loaded new names after q p t height read below log (Ok placed) 
       tree_is = a.tree_is;
       height_is = a.height_is;
       read_is = a.read_is;
-      faultless = over-faultless files listed loaded names known agrees p t is none below numbered a.file.reach.items a.sight a.reaches a.sees a.faultless;
-      descriptor = a.descriptor ∙ over-descriptor files listed loaded names known agrees p t is none below numbered a.file.reach.items a.sight a.reaches a.sees a.faultless;
+      faultless = over-faultless files listed loaded names log known agrees p t is none below numbered a.file.reach.items a.sight a.reaches a.sees a.faultless;
+      descriptor = a.descriptor ∙ over-descriptor files listed loaded names log known agrees p t is none below numbered a.file.reach.items a.sight a.reaches a.sees a.faultless;
       placed_is = a.height_placed;
     }
-settled-in files loaded new names after q p t height read below log (Err f) same listed known agrees is none numbered over e found named =
+settled-in files loaded new names after q p t height read below log (Err f) same listed known agrees is none numbered over = λ e found named.
     elim (over e found (named ∙ sym same)) [
       | inl w ↦
           let stands : StandsInElab (origin_given p (Some e.outcome)) (faults_over (with_next loaded t) w.0 w.1 t) f = subst (λ (z : Text). StandsInElab (origin_given z (Some e.outcome)) (faults_over (with_next loaded t) w.0 w.1 t) f) same w.4 in
-          inl (stands-more (origin_given p (Some e.outcome)) (faults_over (with_next loaded t) w.0 w.1 t) (faults_in files p (Some t)) f (λ g m. over-told files listed loaded names known agrees p t is none below numbered w.0 w.1 w.2 w.3 g m) stands)
+          inl (stands-more (origin_given p (Some e.outcome)) (faults_over (with_next loaded t) w.0 w.1 t) (faults_in files p (Some t)) f (λ g m. over-told files listed loaded names log known agrees p t is none below numbered w.0 w.1 w.2 w.3 g m) stands)
       | inr w ↦ inr w
     ]
+
+-- the loaded files have the trees of their paths
+pub agrees-made : (files : Files) (log : List ReadEntry) (loaded : List Entry) → AllByRecursion (λ (e : Entry). IsLoaded files log (string_bytes e.0) e.1) loaded → Agrees files.trees (named_trees loaded)
+agrees-made files log [] made n q u h = cc
+agrees-made files log (e ∷ loaded) made zero q u h =
+    let same : (string_bytes e.0, file_view e.1.tree) ≡ (q, u) = some_is (string_bytes e.0, file_view e.1.tree) (q, u) h in
+    subst (λ (f : Named). files.trees f.0 ≡ Some f.1) same made.0.is
+  where
+    some_is : (a b : Named) → Some a ≡ Some b → a ≡ b
+    some_is a b h = cc
+agrees-made files log (e ∷ loaded) made (suc n) q u h = agrees-made files log loaded made.1 n q u h

@@ -69,7 +69,7 @@ none-file p (x ∷ loaded) h =
       | inr w ↦ let z : among p (paths_of loaded) ≡ false = (rw w at h) in rw w (none-file p loaded z)
     ]
 
-entry-in : (q : Text) (n : Entry) (e : LoadedFile) (loaded : List Entry) → file_at q (loaded ++ n ∷ []) ≡ Some e → (file_at q loaded ≡ Some e) ⊎ ((q ≡ string_bytes n.0) × (n.1 ≡ e))
+pub entry-in : (q : Text) (n : Entry) (e : LoadedFile) (loaded : List Entry) → file_at q (loaded ++ n ∷ []) ≡ Some e → (file_at q loaded ≡ Some e) ⊎ ((q ≡ string_bytes n.0) × (n.1 ≡ e))
 entry-in q n e [] h =
     elim (bool_cases (bytes_eq q (string_bytes n.0))) [
       | inl w ↦ let z : Some n.1 ≡ Some e = (rw w at h) in inr (text-true q (string_bytes n.0) w, some_same n.1 e z)

@@ -78,10 +78,10 @@ pub unstarted : (resolve : MayResolve) (inputs : List Input) (r : Result (Vec Fi
 unstarted resolve inputs r f is m = (
   [],
   (λ p. None, λ p. untold),
-  λ trees sees custom has. rw is (inr (record {
+  λ trees reached seen has listed. rw is (inr (record {
     memory = m;
     done = [];
-    rest = until (fails (run-files shipped [] trees sees custom)) (events trees inputs);
+    rest = until (fails (run-files shipped [] trees reached seen)) (events trees inputs);
     beginning = refl;
     reads = tt;
   })),

@@ -4,7 +4,7 @@ use Rattle.std.specs.Prelude.{◌≡◌, true, ℕ, zero, suc, ◌+◌, Bool, fa
 use Rattle.std.specs.List.{list_any}
 use Rattle.protobuf_parse_syntax.specs.Trees.{FileSyntax, ImportSyntax, StatementSyntax}
 use Rattle.protobuf_parse_model.specs.Descriptors.{Text}
-pub use Rattle.protobuf_parse_model.specs.FilesByPath.{Trees, among}
+pub use Rattle.protobuf_parse_model.specs.FilesByPath.{Trees, among, Leads}
 use Rattle.protobuf_parse_syntax.specs.Dependencies.{imported, imports, is_public}
 
 -- an input: found by the resolver, or a file at a path of its own
@@ -56,10 +56,9 @@ keep kept (event ∷ events) = keep (if has event kept then kept else kept ++ ev
 abbrev pub import_paths : FileSyntax → List Text
 import_paths t = map (λ (i : ImportSyntax). i.path) (imports t.statements)
 
--- a file reaches itself, and what the files that it imports reach
-pub data Reaches (trees : Trees) : Text → Text → Type 0 where
-  itself : (p : Text) → Reaches trees p p
-  through : (p q r : Text) (t : FileSyntax) → trees p ≡ Some t → among q (import_paths t) ≡ true → Reaches trees q r → Reaches trees p r
+-- a file reaches itself, and what the files reach that it imports
+abbrev pub Reaches : Trees → Text → Text → Type 0
+Reaches = Leads import_paths
 
 abbrev pub public_path : ImportSyntax → List Text
 public_path i = if is_public i.vis then i.path ∷ [] else []
@@ -72,9 +71,8 @@ abbrev pub public_paths : FileSyntax → List Text
 public_paths t = flat_map public_paths_of t.statements
 
 -- a file hands on itself, and what the files hand on that it imports publicly
-pub data HandsOn (trees : Trees) : Text → Text → Type 0 where
-  hands_itself : (p : Text) → HandsOn trees p p
-  publicly : (p q r : Text) (t : FileSyntax) → trees p ≡ Some t → among q (public_paths t) ≡ true → HandsOn trees q r → HandsOn trees p r
+abbrev pub HandsOn : Trees → Text → Text → Type 0
+HandsOn = Leads public_paths
 
 -- A file sees itself, and what the files hand on that it imports: the names that these declare may be written in it.
 -- Protocol Buffers Language Guide, "Importing Definitions" (https://protobuf.dev).

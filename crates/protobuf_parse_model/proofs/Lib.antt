@@ -12,3 +12,4 @@ pub mod Settings
 pub mod Bodies
 pub mod Files
 pub mod Orders
+pub mod Closing

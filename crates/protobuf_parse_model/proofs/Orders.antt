@@ -31,7 +31,7 @@ SameMembers xs ys = (p : Text) → among p xs ≡ among p ys
 -- ---- texts
 
 -- texts that are equal by the test are one
-same-text : (p q : Text) → bytes_eq p q ≡ true → p ≡ q
+pub same-text : (p q : Text) → bytes_eq p q ≡ true → p ≡ q
 same-text p q h = (bytes_eq-Decides p q).0 h
 
 -- a text is equal to itself
@@ -39,7 +39,7 @@ text-itself : (p : Text) → bytes_eq p p ≡ true
 text-itself p = (bytes_eq-Decides p p).1 refl
 
 -- no test passes and fails
-true-false : (b : Bool) → b ≡ true → b ≡ false → ⊥
+pub true-false : (b : Bool) → b ≡ true → b ≡ false → ⊥
 true-false b h k = cc
 
 -- which of two texts comes first makes no difference
@@ -142,12 +142,12 @@ repeated-same names others same n h = repeated-from others n (subst (λ (k : ℕ
 -- ---- a path taken out of a list
 
 -- the paths but for the first that is p
-abbrev without : Text → List Text → List Text
+abbrev pub without : Text → List Text → List Text
 without p [] = []
 without p (y ∷ ys) = cond (bytes_eq p y) ys (y ∷ without p ys)
 
 -- the first path is one of them
-first-among : (p : Text) (ps : List Text) → among p (p ∷ ps) ≡ true
+pub first-among : (p : Text) (ps : List Text) → among p (p ∷ ps) ≡ true
 first-among p ps = or_left (bytes_eq p p) (among p ps) (text-itself p)
 
 -- a list with the members of the empty one is empty
@@ -156,7 +156,7 @@ empty-from [] same = refl
 empty-from (y ∷ ys) same = absurd (true-false (among y (y ∷ ys)) (first-among y ys) (sym (same y)))
 
 -- the other paths stand there as before
-without-other : (q p : Text) (ys : List Text) → bytes_eq q p ≡ false → among q (without p ys) ≡ among q ys
+pub without-other : (q p : Text) (ys : List Text) → bytes_eq q p ≡ false → among q (without p ys) ≡ among q ys
 without-other q p [] h = refl
 without-other q p (y ∷ ys) h = at (bytes_eq p y) refl (without-other q p ys h)
   where

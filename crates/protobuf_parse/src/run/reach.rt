@@ -1,6 +1,6 @@
 //! Which of the loaded files a file reaches, sees and hands on, as ascending numbers.
 
-ghost use Rattle.std.specs.Prelude.{◌≡◌, ℕ, List, Contains, IfOk, slice_get};
+ghost use Rattle.std.specs.Prelude.{◌≡◌, ◌++◌, ℕ, List, IfOk, OnOk, option_to_list, slice_get};
 ghost use Rattle.protobuf_parse_syntax.specs.Trees.{file_view, statement_view};
 ghost use Rattle.protobuf_parse.specs.Walks.{import_paths, public_paths};
 ghost use Rattle.protobuf_parse.specs.declared.run.reach.Held.TheVariants as held_as;
@@ -61,11 +61,19 @@ fn public_imports(
 {
     let mut public = Vec::new(alloc);
     for statement in &tree.statements {
-        if let Some(number) = public_import(loaded, statement) {
-            public.push(number)?;
-        }
+        push_some(&mut public, public_import(loaded, statement))?;
     }
     Ok(public)
+}
+
+/// Puts a number behind the others, if there is one.
+fn push_some(numbers: &mut Vec<usize>, number: Option<usize>) -> Result<(), AllocError>
+    ensures { OnOk result (numbers.new.items ≡ numbers.old.items ++ option_to_list number) }
+{
+    if let Some(number) = number {
+        numbers.push(number)?;
+    }
+    Ok(())
 }
 
 /// The number of the file that a statement imports publicly.
@@ -124,13 +132,13 @@ fn held_at(loaded: &LoadedFiles, number: usize, which: Held) -> &[usize]
     ensures { result.now ≡ loading.held_at which (slice_get loaded.now.entries number) }
 {
     match loaded.get_index(number) {
-        Some((_, file)) => held(file, which),
+        Some((_, file)) => numbers_in(file, which),
         None => &[],
     }
 }
 
 /// Those numbers of a loaded file.
-fn held(file: &LoadedFile, which: Held) -> &[usize]
+fn numbers_in(file: &LoadedFile, which: Held) -> &[usize]
     ensures { result.now ≡ loading.held which file.now }
 {
     match which {

@@ -1,10 +1,10 @@
-use Rattle.protobuf_parse_model.specs.Environment.{no_custom}
 use Rattle.std.proofs.Common.{[], inr, refl, map, arith}
 use Rattle.protobuf_parse.specs.Walks.{events}
 use Rattle.protobuf_parse.specs.Run.{MayAnswer, input_view, rows}
 use Rattle.protobuf_parse.proofs.Causing.{caused}
 use Rattle.std.proofs.lemmas.List.{length-map}
 use Rattle.protobuf_parse.proofs.Deciding.{goes-on, have-trees, run-files}
+use Rattle.protobuf_parse.proofs.Listed.{have-lists}
 use Rattle.protobuf_parse.proofs.Telling.{accepted, broken, stopped}
 use Rattle.protobuf_parse.proofs.run.run_inputs.Goals as goal
 use Rattle.protobuf_parse.proofs.run.run_inputs.Goals.{in-Ok+in-Ok-descriptors, in-Ok+in-Err-descriptors, in-Err}
@@ -13,13 +13,13 @@ pub returns-clause-trees : goal.returns-clause-trees
 returns-clause-trees g c = have-trees _ _ c.load_inputs-outcome.ensures.decided
 
 pub returns-clause-told : goal.returns-clause-told
-returns-clause-told g c trees sees custom has =
+returns-clause-told g c trees reached seen has listed =
     let legal = MayAnswer (λ p a. g.R.ProtoPathResolver.may_answer c.args.resolver.now p a) (λ p a. g.I.InputReader.may_read c.args.reader.now p a) in
     let table = rows c.args.bundled.now in
     let log = c.load_inputs-outcome.new.loader.reads.items in
-    let files = run-files table log trees sees custom in
+    let files = run-files table log trees reached seen in
     let told = events trees (map input_view c.args.inputs.now) in
-    let go = goes-on table log trees sees custom has in
+    let go = goes-on table log trees reached seen has listed in
     elim c.match-outcome.branch [
       | in-Ok+in-Ok-descriptors w ↦ rw w.result-is (accepted legal files told _ _ (w.in-Ok.ensures.goes files go) w.in-Ok-descriptors.ensures)
       | in-Ok+in-Err-descriptors w ↦ rw w.result-is (inr (broken legal files told _ _ (w.in-Ok.ensures.goes files go) refl))
@@ -29,15 +29,17 @@ returns-clause-told g c trees sees custom has =
 pub returns-clause-caused : goal.returns-clause-caused
 returns-clause-caused g c =
     let t = have-trees _ _ c.load_inputs-outcome.ensures.decided in
-    let h = returns-clause-told g c t.0 (λ p. []) (λ p. no_custom) (λ p. (t.1 p).0) in
+    let l = have-lists _ _ t.0 (λ p. (t.1 p).0) in
+    let h = returns-clause-told g c t.0 l.0 l.1 (λ p. (t.1 p).0) l.2 in
     caused (λ p a. g.R.ProtoPathResolver.may_answer c.args.resolver.now p a) (λ p a. g.I.InputReader.may_read c.args.reader.now p a) _ _ _ h
 
 pub returns-clause-meets : goal.returns-clause-meets
 returns-clause-meets g c trees has =
     let table = rows c.args.bundled.now in
     let log = c.load_inputs-outcome.new.loader.reads.items in
-    let files = run-files table log trees (λ p. []) (λ p. no_custom) in
-    let go = goes-on table log trees (λ p. []) (λ p. no_custom) has in
+    let l = have-lists table log trees has in
+    let files = run-files table log trees l.0 l.1 in
+    let go = goes-on table log trees l.0 l.1 has l.2 in
     let same = length-map c.args.inputs.now input_view in
     elim c.match-outcome.branch [
       | in-Ok+in-Ok-descriptors w ↦ rw w.result-is (omega (arith, same, w.in-Ok.ensures.count files go))

@@ -1,4 +1,4 @@
-use Rattle.std.proofs.Common.{◌≡◌, ◌++◌, ◌∷◌, [], Ok, Err, None, Some, suc, drop, length, true, false, refl, sym, ap, ◌∙◌, arith, max, subst, append-nil, map, take, Bor, inl, inr, ◌^◌, add-one}
+use Rattle.std.proofs.Common.{List, ◌≡◌, ◌++◌, ◌∷◌, [], Ok, Err, None, Some, suc, drop, length, true, false, refl, sym, ap, ◌∙◌, arith, max, subst, append-nil, map, take, Bor, inl, inr, ◌^◌, add-one}
 use Rattle.std.specs.Prelude.{String}
 use Rattle.std.specs.Global.{Global, Vec}
 use Rattle.std.proofs.lemmas.List.{length_push, take_all, length-map}
@@ -8,13 +8,14 @@ use Rattle.protobuf_parse_syntax.specs.Trees.{file_view}
 use Rattle.protobuf_parse_model.specs.Descriptors.{Text}
 use Rattle.protobuf_parse.specs.Walks.{among, import_paths}
 use Rattle.protobuf_parse.specs.Run.{MayAnswer, rows}
-use Rattle.protobuf_parse.specs.Loading.{Grows, so_far, asked_by, texts, file_at}
+use Rattle.protobuf_parse.specs.Loading.{AreMetAt, AreUnloaded, Grows, so_far, asked_by, texts, file_at}
 use Rattle.protobuf_parse.specs.declared.run.log.ReadEntry.{ReadEntry}
 use Rattle.protobuf_parse_base.specs.declared.proto_path.path.ProtoPathBuf.{ProtoPathBuf}
 use Rattle.protobuf_parse.proofs.Steps.{Grows-trans}
 use Rattle.protobuf_parse.proofs.Leaving.{chain-told, texts-length, texts-push, init-bound, leaves-cycle, leaves-tall, leaves-again, leaves-full, leaves-read, leaves-open, leaves-before, leaves-step, leaves-err, leaves-push, leaves-end, tree-known, split-at, next-at, goes-back, goes-same, low-height, on_ok, popped}
 use Rattle.protobuf_parse.proofs.Deciding.{decided-file, decided-same}
-use Rattle.protobuf_parse.proofs.Reaching.{reached-again, reached-none, reached-step, reached-end}
+use Rattle.protobuf_parse.proofs.Knowing.{known-grows, met-again, met-none, met-step, read-since, settled-known, settled-met, settled-unloaded, unloaded-enter, unloaded-front, unloaded-last}
+use Rattle.protobuf_parse.proofs.Settling.{agrees-made, settled-in}
 use Rattle.protobuf_parse.proofs.Counting.{counted, count-here, count-open, count-step, count-stop, count-end, count-again}
 use Rattle.protobuf_parse.proofs.run.loader.+load_file.Goals as goal
 use Rattle.protobuf_parse.proofs.run.loader.+load_file.Goals.{then-placed-height, else-placed-height}
@@ -106,7 +107,14 @@ loop-import-init g t c =
           let l = leaves-open _ files _ kept _ _ _ _ (path_buf_text c.args.input.now) (asked_by c.args.fs_path) _ c.len-read.result c.in_ok-tree.tree (omega (arith, c.len-read.ensures, c.args.loader.now.reads.ok.0)) go good off none r in
           let same = ap (λ m. m.entries) c.read_tree.ensures.loaded in
           (l.0, rw same l.1);
-      reaches = λ files kept go good all. reached-none files.trees _ _ _ (ap (λ m. m.entries) c.read_tree.ensures.loaded) c.new-below.ensures.items all;
+      known =
+          let same = ap (λ m. m.entries) c.read_tree.ensures.loaded in
+          known-grows _ _ c.args.loader.now.reads.items _ (r.0 ∷ [], r.1) (rw (same, c.read_tree.ensures.names) c.requires.known);
+      unloaded =
+          let same = ap (λ m. m.entries) c.read_tree.ensures.loaded in
+          let chain = texts-push c.args.loader.now.chain.items s.0 (path_buf_text c.args.path.now) (s.2 ∙ text_is) in
+          rw (same, s.1, c.read_tree.ensures.chain, chain) (unloaded-enter _ _ _ c.requires.unloaded none);
+      met = met-none _ _ _ (ap (λ m. m.entries) c.read_tree.ensures.loaded) c.new-below.ensures.items;
       count = λ files kept go good.
           let known : files.trees (path_buf_text c.args.path.now) ≡ Some (file_view c.in_ok-tree.tree) = tree-known _ files _ kept _ _ _ _ _ (asked_by c.args.fs_path) _ c.in_ok-tree.tree go ([], sym (append-nil _)) good off none r in
           let v = λ (b : Bor ProtoPathBuf). path_buf_text b.now in
@@ -168,13 +176,11 @@ loop-import-preserved g t c =
           let inner : texts c.loop-import.loader.chain.items ≡ texts c.args.loader.now.chain.items ++ path_buf_text c.args.path.now ∷ [] = ap texts k.1 ∙ texts-push c.args.loader.now.chain.items k.0 _ k.2 in
           let next = next-at v xs c.loop-import.import-index c.import-item.result c.loop-import-test.true c.import-item.is in
           (l.0, leaves-step _ files kept (path_buf_text c.args.input.now) (asked_by c.args.fs_path) _ _ _ l.0 _ _ _ _ c.loop-import.height c.if-placed-height.height c.in_ok-placed.placed _ _ _ _ inner l.1 c.load_file.ensures.grows next m (λ x. c.in_ok-placed.ensures.leaves files _ go x));
-      reaches = λ files kept go good all.
-          let back = goes-back files _ _ _ c.load_file.ensures.grows go in
-          let l = c.loop-import.invariant.inside files kept back good in
-          let inner : texts c.loop-import.loader.chain.items ≡ texts c.args.loader.now.chain.items ++ path_buf_text c.args.path.now ∷ [] = ap texts k.1 ∙ texts-push c.args.loader.now.chain.items k.0 _ k.2 in
+      known = c.in_ok-placed.ensures.known;
+      unloaded = rw c.in_ok-placed.ensures.chain c.in_ok-placed.ensures.unloaded;
+      met =
           let next = next-at v xs c.loop-import.import-index c.import-item.result c.loop-import-test.true c.import-item.is in
-          let a = c.loop-import.invariant.reaches files kept back good all in
-          reached-step files.trees _ _ _ _ _ _ _ _ c.in_ok-placed.placed a (c.in_ok-placed.ensures.reaches files (so_far files.trees kept (path_buf_text c.args.input.now) (asked_by c.args.fs_path) (path_buf_text c.args.path.now) (texts c.args.loader.now.chain.items) (map v (take c.loop-import.import-index xs))) go (rw inner l.1.good) a.all) c.in_ok-push.ensures.items next;
+          met-step _ _ _ _ _ _ _ _ c.in_ok-placed.placed c.loop-import.invariant.met c.in_ok-placed.ensures.met c.in_ok-push.ensures.items next;
       count = λ files kept go good.
           let back = goes-back files _ _ _ c.load_file.ensures.grows go in
           let l = c.loop-import.invariant.inside files kept back good in
@@ -198,7 +204,14 @@ returns-clause-leaves g t c files kept go good =
     let l = c.loop-import.invariant.inside files kept back good in
     let known : files.trees (path_buf_text c.args.path.now) ≡ Some (file_view c.in_ok-tree.tree) = tree-known _ files _ kept _ _ _ _ _ (asked_by c.args.fs_path) _ c.in_ok-tree.tree back c.loop-import.invariant.grows good off none c.in_ok-tree.ensures.read in
     let all = ap (map v) (take_all _ _ c.loop-import-test.false ∙ c.deref-import-items.ensures.value) ∙ c.in_ok-imports.ensures in
-    leaves-end _ files kept (path_buf_text c.args.input.now) (asked_by c.args.fs_path) _ _ _ _ l.0 _ _ c.loop-import.height _ _ _ _ _ c.settle.result text_is reads (add-one c.loop-import.height) all l.1 known (omega (arith, n, c.loop-import.invariant.low)) (omega (arith, c.loop-import.invariant.low)) off c.settle.ensures.settles
+    let k = c.loop-import.invariant.chain in
+    let inner : texts c.loop-import.loader.chain.items ≡ texts c.args.loader.now.chain.items ++ path_buf_text c.args.path.now ∷ [] = ap texts k.1 ∙ texts-push c.args.loader.now.chain.items k.0 _ k.2 in
+    let apart : AreUnloaded (texts c.args.loader.now.chain.items ++ path_buf_text c.args.path.now ∷ []) c.loop-import.loader.loaded.entries = (rw inner at c.loop-import.invariant.unloaded) in
+    let met : AreMetAt (import_paths (file_view c.in_ok-tree.tree)) c.args.loader.now.loaded.entries c.loop-import.loader.loaded.entries c.loop-import.below.items = subst (λ (z : List Text). AreMetAt z c.args.loader.now.loaded.entries c.loop-import.loader.loaded.entries c.loop-import.below.items) all c.loop-import.invariant.met in
+    let agrees = agrees-made files _ _ l.1.good.made in
+    let over = (rw c.deref-2.ensures.value at c.settle.ensures.settles) c.loop-import.invariant.known.tells in
+    let settles = settled-in files _ _ _ _ _ _ _ _ _ _ _ c.settle.result text_is go.listed c.loop-import.invariant.known agrees known (unloaded-last _ _ _ apart) met.numbered over in
+    leaves-end _ files kept (path_buf_text c.args.input.now) (asked_by c.args.fs_path) _ _ _ _ l.0 _ _ c.loop-import.height _ _ _ _ _ c.settle.result refl reads (add-one c.loop-import.height) all l.1 known (omega (arith, n, c.loop-import.invariant.low)) (omega (arith, c.loop-import.invariant.low)) off settles
 
 pub returns-then-is_on_chain-clause-count : goal.returns-then-is_on_chain-clause-count
 returns-then-is_on_chain-clause-count g t c files kept go good = count-here files.trees kept (path_buf_text c.args.input.now) (asked_by c.args.fs_path) _ (texts c.args.loader.now.chain.items) (path_buf_text c.args.path.now) _ _ refl
@@ -307,23 +320,51 @@ returns-clause-chain g t c =
     let k = c.loop-import.invariant.chain in
     on_ok c.settle.result (ap (λ (v : Vec (String Global)). v.items) c.settle.ensures.chain ∙ popped _ _ _ k.0 c.loop-import.loader.chain.len k.1 (omega (arith, c.loop-import.loader.chain.ok.0)) c.pop.ensures.rest)
 
-pub returns-in-Some-clause-reaches : goal.returns-in-Some-clause-reaches
-returns-in-Some-clause-reaches g t c files kept go good all =
-    reached-again files.trees _ _ _ c.in-Some.placed (c.to_str-text.ensures.text ∙ c.as_path.ensures) c.in-Some.ensures all
+pub returns-in-Some-clause-met : goal.returns-in-Some-clause-met
+returns-in-Some-clause-met g t c = met-again _ _ _ c.in-Some.placed (c.to_str-text.ensures.text ∙ c.as_path.ensures) c.in-Some.ensures
 
-pub returns-clause-reaches : goal.returns-clause-reaches
-returns-clause-reaches g t c files kept go good known_reach =
+pub returns-clause-known : goal.returns-clause-known
+returns-clause-known g t c =
     let text_is : c.to_str-text.result.now ≡ path_buf_text c.args.path.now = c.to_str-text.ensures.text ∙ c.as_path.ensures in
-    let off : among (path_buf_text c.args.path.now) (texts c.args.loader.now.chain.items) ≡ false = chain-told _ _ _ _ c.is_on_chain.result false text_is c.deref.ensures.value c.is_on_chain.ensures c.if-is_on_chain.false in
-    let none : file_at (path_buf_text c.args.path.now) c.args.loader.now.loaded.entries ≡ None = subst (λ (z : Text). file_at z c.args.loader.now.loaded.entries ≡ None) text_is c.in_default.ensures in
+    let k = c.loop-import.invariant.chain in
+    let inner : texts c.loop-import.loader.chain.items ≡ texts c.args.loader.now.chain.items ++ path_buf_text c.args.path.now ∷ [] = ap texts k.1 ∙ texts-push c.args.loader.now.chain.items k.0 _ k.2 in
+    let apart : AreUnloaded (texts c.args.loader.now.chain.items ++ path_buf_text c.args.path.now ∷ []) c.loop-import.loader.loaded.entries = (rw inner at c.loop-import.invariant.unloaded) in
     let v = λ (b : Bor ProtoPathBuf). path_buf_text b.now in
-    let reads = ap (λ (w : Vec ReadEntry). w.items) c.settle.ensures.reads in
-    let back = goes-same files _ _ _ reads go in
-    let l = c.loop-import.invariant.inside files kept back good in
-    let known : files.trees (path_buf_text c.args.path.now) ≡ Some (file_view c.in_ok-tree.tree) = tree-known _ files _ kept _ _ _ _ _ (asked_by c.args.fs_path) _ c.in_ok-tree.tree back c.loop-import.invariant.grows good off none c.in_ok-tree.ensures.read in
     let all = ap (map v) (take_all _ _ c.loop-import-test.false ∙ c.deref-import-items.ensures.value) ∙ c.in_ok-imports.ensures in
-    let a = c.loop-import.invariant.reaches files kept back good known_reach in
-    reached-end _ files kept (path_buf_text c.args.input.now) (asked_by c.args.fs_path) _ _ _ _ l.0 _ c.loop-import.height _ _ _ _ _ _ c.settle.result l.1 text_is all known a (rw c.deref-2.ensures.value at c.settle.ensures.reach)
+    let met : AreMetAt (import_paths (file_view c.in_ok-tree.tree)) c.args.loader.now.loaded.entries c.loop-import.loader.loaded.entries c.loop-import.below.items = subst (λ (z : List Text). AreMetAt z c.args.loader.now.loaded.entries c.loop-import.loader.loaded.entries c.loop-import.below.items) all c.loop-import.invariant.met in
+    let none = unloaded-last _ _ _ apart in
+    let r = c.in_ok-tree.ensures.read in
+    let was_read = read-since (path_buf_text c.args.path.now) _ _ _ r.0 r.1 r.2 c.loop-import.invariant.grows in
+    rw (ap (λ (w : Vec ReadEntry). w.items) c.settle.ensures.reads) (settled-known (path_buf_text c.args.path.now) _ (file_view c.in_ok-tree.tree) _ _ _ c.args.loader.now.loaded.entries _ _ c.loop-import.loader.names _ _ text_is none c.settle.result c.loop-import.invariant.known was_read met (λ h. (rw c.deref-2.ensures.value at c.settle.ensures.settles) h.tells))
+
+pub returns-clause-unloaded : goal.returns-clause-unloaded
+returns-clause-unloaded g t c =
+    let text_is : c.to_str-text.result.now ≡ path_buf_text c.args.path.now = c.to_str-text.ensures.text ∙ c.as_path.ensures in
+    let k = c.loop-import.invariant.chain in
+    let inner : texts c.loop-import.loader.chain.items ≡ texts c.args.loader.now.chain.items ++ path_buf_text c.args.path.now ∷ [] = ap texts k.1 ∙ texts-push c.args.loader.now.chain.items k.0 _ k.2 in
+    let apart : AreUnloaded (texts c.args.loader.now.chain.items ++ path_buf_text c.args.path.now ∷ []) c.loop-import.loader.loaded.entries = (rw inner at c.loop-import.invariant.unloaded) in
+    let v = λ (b : Bor ProtoPathBuf). path_buf_text b.now in
+    let all = ap (map v) (take_all _ _ c.loop-import-test.false ∙ c.deref-import-items.ensures.value) ∙ c.in_ok-imports.ensures in
+    let met : AreMetAt (import_paths (file_view c.in_ok-tree.tree)) c.args.loader.now.loaded.entries c.loop-import.loader.loaded.entries c.loop-import.below.items = subst (λ (z : List Text). AreMetAt z c.args.loader.now.loaded.entries c.loop-import.loader.loaded.entries c.loop-import.below.items) all c.loop-import.invariant.met in
+    let none = unloaded-last _ _ _ apart in
+    let r = c.in_ok-tree.ensures.read in
+    let was_read = read-since (path_buf_text c.args.path.now) _ _ _ r.0 r.1 r.2 c.loop-import.invariant.grows in
+    let off : among (path_buf_text c.args.path.now) (texts c.args.loader.now.chain.items) ≡ false = chain-told _ _ _ _ c.is_on_chain.result false text_is c.deref.ensures.value c.is_on_chain.ensures c.if-is_on_chain.false in
+    settled-unloaded (path_buf_text c.args.path.now) _ (file_view c.in_ok-tree.tree) _ _ _ c.args.loader.now.loaded.entries _ _ c.loop-import.loader.names _ _ text_is none c.settle.result (texts c.args.loader.now.chain.items) c.loop-import.invariant.known (unloaded-front _ _ _ apart) off (λ h. (rw c.deref-2.ensures.value at c.settle.ensures.settles) h.tells)
+
+pub returns-clause-met : goal.returns-clause-met
+returns-clause-met g t c =
+    let text_is : c.to_str-text.result.now ≡ path_buf_text c.args.path.now = c.to_str-text.ensures.text ∙ c.as_path.ensures in
+    let k = c.loop-import.invariant.chain in
+    let inner : texts c.loop-import.loader.chain.items ≡ texts c.args.loader.now.chain.items ++ path_buf_text c.args.path.now ∷ [] = ap texts k.1 ∙ texts-push c.args.loader.now.chain.items k.0 _ k.2 in
+    let apart : AreUnloaded (texts c.args.loader.now.chain.items ++ path_buf_text c.args.path.now ∷ []) c.loop-import.loader.loaded.entries = (rw inner at c.loop-import.invariant.unloaded) in
+    let v = λ (b : Bor ProtoPathBuf). path_buf_text b.now in
+    let all = ap (map v) (take_all _ _ c.loop-import-test.false ∙ c.deref-import-items.ensures.value) ∙ c.in_ok-imports.ensures in
+    let met : AreMetAt (import_paths (file_view c.in_ok-tree.tree)) c.args.loader.now.loaded.entries c.loop-import.loader.loaded.entries c.loop-import.below.items = subst (λ (z : List Text). AreMetAt z c.args.loader.now.loaded.entries c.loop-import.loader.loaded.entries c.loop-import.below.items) all c.loop-import.invariant.met in
+    let none = unloaded-last _ _ _ apart in
+    let r = c.in_ok-tree.ensures.read in
+    let was_read = read-since (path_buf_text c.args.path.now) _ _ _ r.0 r.1 r.2 c.loop-import.invariant.grows in
+    settled-met (path_buf_text c.args.path.now) _ (file_view c.in_ok-tree.tree) _ _ _ c.args.loader.now.loaded.entries _ _ c.loop-import.loader.names _ _ text_is none c.settle.result c.loop-import.invariant.known was_read met (λ h. (rw c.deref-2.ensures.value at c.settle.ensures.settles) h.tells)
 
 pub returns-in_err-enter-clause-grows : goal.returns-in_err-enter-clause-grows
 returns-in_err-enter-clause-grows g t c = (c.in_ok-tree.ensures.read.0 ∷ [], c.in_ok-tree.ensures.read.1)

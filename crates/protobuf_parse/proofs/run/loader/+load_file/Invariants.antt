@@ -22,7 +22,7 @@ invariant-loop-import g l =
       bound : l.loader.meets + (length l.fn.loader.reads.items + 1) * 2 ^ 64 ≤ l.fn.loader.meets + 1 + l.import-index + length l.loader.reads.items * 2 ^ 64;
       decided : IsDecided (rows l.sources.bundled.now) l.fn.loader.reads.items → IsDecided (rows l.sources.bundled.now) l.loader.reads.items;
       inside : (files : Files) (kept : List Event) → GoesOn files (rows l.sources.bundled.now) l.loader.reads.items → Good legal files kept l.fn.loader.loaded.entries l.fn.loader.reads.items (texts l.fn.loader.chain.items) → (x : ReadEntry) × InLoop legal files kept (path_buf_text l.input) (asked_by l.fs_path) (path_buf_text l.path) (texts l.fn.loader.chain.items) x l.read (map (λ (p : Bor ProtoPathBuf). path_buf_text p.now) (take l.import-index l.import-items)) l.height l.loader.loaded.entries l.loader.reads.items;
-      known : AreKnown l.loader.loaded.entries l.loader.names;
+      known : AreKnown l.loader.loaded.entries l.loader.names l.loader.reads.items;
       unloaded : AreUnloaded (texts l.loader.chain.items) l.loader.loaded.entries;
       met : AreMetAt (map (λ (p : Bor ProtoPathBuf). path_buf_text p.now) (take l.import-index l.import-items)) l.fn.loader.loaded.entries l.loader.loaded.entries l.below.items;
       count : (files : Files) (kept : List Event) → GoesOn files (rows l.sources.bundled.now) l.loader.reads.items → Good legal files kept l.fn.loader.loaded.entries l.fn.loader.reads.items (texts l.fn.loader.chain.items) → l.loader.meets + statements files.trees kept + length l.import-items ≡ l.fn.loader.meets + 1 + l.import-index + statements files.trees (so_far files.trees kept (path_buf_text l.input) (asked_by l.fs_path) (path_buf_text l.path) (texts l.fn.loader.chain.items) (map (λ (p : Bor ProtoPathBuf). path_buf_text p.now) (take l.import-index l.import-items)));

@@ -31,11 +31,11 @@ returns-clause-goes g c files kept go good =
     rw (ap (λ m. m.entries) c.in_ok-note.ensures.loaded) (check-ends _ files (rows c.args.sources.now.bundled.now) kept _ _ (path_buf_text c.args.name.now) _ c.args.fs_path.now c.in-Some.file.now (c.to_str.ensures.text ∙ c.as_path.ensures) good (sym c.in-Some.ensures.value) _ _ _ (λ e h. c.content_of-loaded.ensures e (rw c.deref.ensures.value h)) c.in_ok-note.ensures.ok go c.in_ok-outcome.ensures c.compared-same.result (c.ran_out.ensures.other c.if-ran_out.false) c.compared-same.ensures.same c.compared-same.ensures.other c.compared-same.ensures.stands)
 
 pub returns-in_err-note-clause-decided : goal.returns-in_err-note-clause-decided
-returns-in_err-note-clause-decided g c files kept good d = decided-same (rows c.args.sources.now.bundled.now) _ _ c.in_err-note.ensures.err d
+returns-in_err-note-clause-decided g c d = decided-same (rows c.args.sources.now.bundled.now) _ _ c.in_err-note.ensures.err d
 
 pub returns-clause-decided : goal.returns-clause-decided
-returns-clause-decided g c files kept good d =
-    decided-check _ files (rows c.args.sources.now.bundled.now) kept _ _ _ (path_buf_text c.args.name.now) _ c.in-Some.file.now _ (c.to_str.ensures.text ∙ c.as_path.ensures) good (sym c.in-Some.ensures.value) c.in_ok-note.ensures.ok d
+returns-clause-decided g c d =
+    decided-check (rows c.args.sources.now.bundled.now) _ c.args.loader.now.names _ _ (path_buf_text c.args.name.now) _ c.in-Some.file.now _ (c.to_str.ensures.text ∙ c.as_path.ensures) c.requires.known (sym c.in-Some.ensures.value) c.in_ok-note.ensures.ok d
 
 pub returns-in-None-clause-grows : goal.returns-in-None-clause-grows
 returns-in-None-clause-grows g c = ([], sym (append-nil _))

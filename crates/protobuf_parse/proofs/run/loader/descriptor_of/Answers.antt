@@ -1,8 +1,8 @@
 use Rattle.std.proofs.Common.{inr, refl, Some}
 use Rattle.protobuf_parse_syntax.specs.Trees.{file_view}
 use Rattle.protobuf_parse_model.specs.Faults.{fault_view}
-use Rattle.protobuf_parse_model.specs.FileDescriptor.{environment}
-use Rattle.protobuf_parse.specs.Run.{faults_of, origin_given}
+use Rattle.protobuf_parse.specs.Run.{origin_given}
+use Rattle.protobuf_parse.specs.Loading.{faults_over}
 use Rattle.protobuf_parse.proofs.Leaving.{elab-stands}
 use Rattle.protobuf_parse.proofs.run.loader.descriptor_of.Goals as goal
 
@@ -10,9 +10,9 @@ pub returns-in-Ok-clause-ok : goal.returns-in-Ok-clause-ok
 returns-in-Ok-clause-ok c = c.in-Ok.ensures
 
 pub returns-in-Err-Memory-clause-err : goal.returns-in-Err-Memory-clause-err
-returns-in-Err-Memory-clause-err c e found named seen custom = inr refl
+returns-in-Err-Memory-clause-err c files told e found named = inr refl
 
 pub returns-in-Err-Fault-clause-err : goal.returns-in-Err-Fault-clause-err
-returns-in-Err-Fault-clause-err c e found named seen custom =
+returns-in-Err-Fault-clause-err c files told e found named =
     let t = file_view c.args.tree.now in
-    elab-stands (origin_given c.args.path.now (Some e.outcome)) (faults_of (environment seen custom t) t) (fault_view c.in-Err-Fault.error) c.refused.result (rw c.in-Err-Fault.field-0-is at (c.in-Err-Fault.ensures seen custom)) (c.refused.ensures e (rw c.deref.ensures.value found) named)
+    elab-stands (origin_given c.args.path.now (Some e.outcome)) (faults_over files c.args.sights.now.reach.items c.args.sights.now.sight.items t) (fault_view c.in-Err-Fault.error) c.refused.result (rw c.in-Err-Fault.field-0-is at (c.in-Err-Fault.ensures files told)) (c.refused.ensures e (rw c.deref.ensures.value found) named)

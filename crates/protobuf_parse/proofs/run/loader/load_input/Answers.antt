@@ -3,6 +3,7 @@ use Rattle.std.proofs.lemmas.Result.{err_from_is_err_and}
 use Rattle.protobuf_parse_base.specs.PathViews.{path_buf_text}
 use Rattle.protobuf_parse.specs.Walks.{named, at, checks}
 use Rattle.protobuf_parse.specs.Run.{input_view}
+use Rattle.protobuf_parse.proofs.Knowing.{known-grows, unloaded-none}
 use Rattle.protobuf_parse.proofs.Inputs.{input-stops, input-goes, check-stops}
 use Rattle.protobuf_parse.proofs.Leaving.{goes-back}
 use Rattle.protobuf_parse.proofs.Steps.{Grows-trans}
@@ -75,21 +76,10 @@ returns-in_err-check_loaded-in-At-clause-count g c files kept go good =
     rw p.1 (count-check files.trees kept (input_view c.args.input.now) _ _ c.check_loaded.ensures.meets)
 
 pub returns-in_err-load_file-in-At-clause-decided : goal.returns-in_err-load_file-in-At-clause-decided
-returns-in_err-load_file-in-At-clause-decided g c files kept good d = c.in_err-load_file-in-At.ensures.decided (c.in_ok-check_loaded-in-At.ensures.decided files kept good d)
+returns-in_err-load_file-in-At-clause-decided g c d = c.in_err-load_file-in-At.ensures.decided (c.in_ok-check_loaded-in-At.ensures.decided d)
 
 pub returns-in_ok-load_file-in-At-clause-decided : goal.returns-in_ok-load_file-in-At-clause-decided
-returns-in_ok-load_file-in-At-clause-decided g c files kept good d = c.in_ok-load_file-in-At.ensures.decided (c.in_ok-check_loaded-in-At.ensures.decided files kept good d)
-
-pub returns-in_ok-load_file-in-Named-clause-reaches : goal.returns-in_ok-load_file-in-Named-clause-reaches
-returns-in_ok-load_file-in-Named-clause-reaches g c files kept go good all =
-    (c.in_ok-load_file-in-Named.ensures.reaches files kept go (rw c.requires.chain good) all).all
-
-pub returns-in_ok-load_file-in-At-clause-reaches : goal.returns-in_ok-load_file-in-At-clause-reaches
-returns-in_ok-load_file-in-At-clause-reaches g c files kept go good all =
-    let back = goes-back files _ _ _ c.load_file-in-At.ensures.grows go in
-    let empty = ap (λ (w : Vec (String Global)). w.items) c.check_loaded.ensures.chain ∙ c.requires.chain in
-    let same = ap (λ m. m.entries) c.check_loaded.ensures.loaded in
-    (c.in_ok-load_file-in-At.ensures.reaches files (kept ++ checks kept (at (path_buf_text c.in-At.name) c.deref.result.now)) go (rw empty (c.in_ok-check_loaded-in-At.ensures.goes files kept back good)) (rw same all)).all
+returns-in_ok-load_file-in-At-clause-decided g c d = c.in_ok-load_file-in-At.ensures.decided (c.in_ok-check_loaded-in-At.ensures.decided d)
 
 pub returns-in_err-load_file-in-At-clause-grows : goal.returns-in_err-load_file-in-At-clause-grows
 returns-in_err-load_file-in-At-clause-grows g c = Grows-trans _ _ _ c.check_loaded.ensures.grows c.load_file-in-At.ensures.grows
@@ -99,3 +89,7 @@ returns-in_ok-load_file-in-At-clause-grows g c = Grows-trans _ _ _ c.check_loade
 
 pub returns-in_ok-load_file-in-At-clause-bound : goal.returns-in_ok-load_file-in-At-clause-bound
 returns-in_ok-load_file-in-At-clause-bound g c = omega (arith, c.in_ok-load_file-in-At.ensures.bound, c.check_loaded.ensures.meets, c.check_loaded.ensures.more)
+
+pub load_file-requires-in-At-clause-known : goal.load_file-requires-in-At-clause-known
+load_file-requires-in-At-clause-known g c =
+    known-grows _ _ c.args.loader.now.reads.items _ c.check_loaded.ensures.grows (rw (ap (λ m. m.entries) c.check_loaded.ensures.loaded, c.check_loaded.ensures.names) c.requires.known)

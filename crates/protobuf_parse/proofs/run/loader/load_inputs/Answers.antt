@@ -5,8 +5,8 @@ use Rattle.protobuf_parse.specs.Walks.{events, statements}
 use Rattle.protobuf_parse.specs.Run.{MayAnswer, input_view, rows}
 use Rattle.protobuf_parse.proofs.Counting.{count-inputs, count-inputs-stop}
 use Rattle.protobuf_parse.proofs.Inputs.{inputs-step, inputs-stop, good-start, events-none}
-use Rattle.protobuf_parse.proofs.Deciding.{decided-none, files-so_far, goes-so_far}
-use Rattle.protobuf_parse.proofs.Reaching.{all-reach-none}
+use Rattle.protobuf_parse.proofs.Deciding.{decided-none}
+use Rattle.protobuf_parse.proofs.Knowing.{known-none}
 use Rattle.protobuf_parse.proofs.Leaving.{goes-back, split-at, next-at}
 use Rattle.protobuf_parse.proofs.run.loader.load_inputs.Goals as goal
 
@@ -16,16 +16,14 @@ loop-input-init g c = record {
   bound = omega (arith, c.requires.meets);
   decided = rw c.requires.reads (decided-none (rows c.args.sources.now.bundled.now));
   inside = λ files go. rw (c.requires.loaded, c.requires.reads, events-none files.trees []) (good-start _ files);
-  reaches = λ files go. rw c.requires.loaded (all-reach-none files.trees);
+  known = known-none _ _ _ c.requires.loaded c.requires.names;
   count = λ files go. rw (c.requires.meets, events-none files.trees []) refl;
 }
 
 pub returns-in_err-load_input : goal.returns-in_err-load_input
 returns-in_err-load_input g c = record {
-  reaches = λ files go. let p = err_from_is_err_and c.from_residual.result c.from_residual.ensures.1 in rw p.1 tt;
-  decided =
-      let d = c.loop-input.invariant.decided in
-      c.in_err-load_input.ensures.decided (files-so_far _ _ d) _ (c.loop-input.invariant.inside (files-so_far _ _ d) (goes-so_far _ _ d)) d;
+  known = let p = err_from_is_err_and c.from_residual.result c.from_residual.ensures.1 in rw p.1 tt;
+  decided = c.in_err-load_input.ensures.decided c.loop-input.invariant.decided;
   goes = λ files go.
       let xs = c.args.inputs.now in
       let back = goes-back files _ _ _ c.load_input.ensures.grows go in
@@ -48,17 +46,13 @@ loop-input-preserved g c =
     record {
       chain = c.in_ok-load_input.ensures.chain;
       bound = omega (arith, c.in_ok-load_input.ensures.bound, c.loop-input.invariant.bound);
-      decided =
-          let d = c.loop-input.invariant.decided in
-          c.in_ok-load_input.ensures.decided (files-so_far _ _ d) _ (c.loop-input.invariant.inside (files-so_far _ _ d) (goes-so_far _ _ d)) d;
+      decided = c.in_ok-load_input.ensures.decided c.loop-input.invariant.decided;
       inside = λ files go.
           let back = goes-back files _ _ _ c.load_input.ensures.grows go in
           let good = c.loop-input.invariant.inside files back in
           let next = next-at input_view xs c.loop-input.input-index c.input-item.result (omega arith) c.input-item.is in
           inputs-step _ files _ _ _ _ _ next (c.in_ok-load_input.ensures.goes files _ go good);
-      reaches = λ files go.
-          let back = goes-back files _ _ _ c.load_input.ensures.grows go in
-          c.in_ok-load_input.ensures.reaches files _ go (c.loop-input.invariant.inside files back) (c.loop-input.invariant.reaches files back);
+      known = c.in_ok-load_input.ensures.known;
       count = λ files go.
           let back = goes-back files _ _ _ c.load_input.ensures.grows go in
           let good = c.loop-input.invariant.inside files back in
@@ -68,7 +62,7 @@ loop-input-preserved g c =
 
 pub returns : goal.returns
 returns g c = record {
-  reaches = λ files go. c.loop-input.invariant.reaches files go;
+  known = c.loop-input.invariant.known;
   decided = c.loop-input.invariant.decided;
   goes = λ files go.
       let whole : take c.loop-input.input-index c.args.inputs.now ≡ c.args.inputs.now = take_all _ _ (omega arith) in
