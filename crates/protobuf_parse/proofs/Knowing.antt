@@ -14,7 +14,7 @@ use Rattle.protobuf_parse_model.specs.FilesByPath.{AreDistinct, Leads, leads, st
 use Rattle.protobuf_parse_model.specs.Tables.{Tells}
 use Rattle.protobuf_parse_model.specs.declared.scope.seen.Declarations.{Declarations}
 use Rattle.protobuf_parse.specs.Walks.{Trees, Reaches, HandsOn, Sees, sees_itself, by_import, among, import_paths, public_path, public_paths, public_paths_of}
-use Rattle.protobuf_parse.specs.Loading.{Agrees, AllHold, AreJoined, AreKnown, AreMetAt, AreNumbered, AreNumbersOf, AreUnloaded, Entry, Grows, IsAddedOver, IsMetAt, IsNumbered, IsPlaced, IsPublicImport, MoreLoaded, Named, SettlesOver, file_at, held, named_trees, paths_in, read_paths, trees_of, with_next}
+use Rattle.protobuf_parse.specs.Loading.{Agrees, AllHold, AreJoined, ArePublic, AreKnown, AreMetAt, AreNumbered, AreNumbersOf, AreUnloaded, Entry, Grows, IsAddedOver, IsMetAt, IsNumbered, IsPlaced, MoreLoaded, Named, SettlesOver, file_at, held, named_trees, paths_in, read_paths, trees_of, with_next}
 use Rattle.protobuf_parse.specs.declared.run.fault.RunFault.{RunFault}
 use Rattle.protobuf_parse.specs.declared.run.loader.LoadedFile.{LoadedFile}
 use Rattle.protobuf_parse.specs.declared.run.loader.Placed.{Placed}
@@ -285,13 +285,10 @@ loaded-at p (e ∷ loaded) (suc n) h i =
       | inr w ↦ loaded-at p loaded n (rw w at h) i
     ]
 
-pub public-placed : (loaded : List Entry) (p q : Text) (placed : Placed) → q ≡ p → IsPlaced q loaded (Some placed) → AreNumbered (named_trees loaded) (placed.number ∷ []) (p ∷ [])
-public-placed loaded p q placed same is = (subst (λ (z : Text). IsNumbered (named_trees loaded) placed.number z) same is.3, tt)
-
-pub public-missing : (loaded : List Entry) (p q : Text) → q ≡ p → IsPlaced q loaded None → ((r : Text) → among r (p ∷ []) ≡ true → (n : ℕ) × IsNumbered (named_trees loaded) n r) → ⊥
-public-missing loaded p q same is all =
-    let n = all p (or_left _ _ (text-same p)) in
-    loaded-at p loaded n.0 (subst (λ (z : Text). file_at z loaded ≡ None) same is) n.1
+pub public-missing : (loaded : List Entry) (p : Text) → file_at p loaded ≡ None → ((r : Text) → among r (p ∷ []) ≡ true → (n : ℕ) × IsNumbered (named_trees loaded) n r) → ⊥
+public-missing loaded p none all =
+    let n = all p (or_left (bytes_eq p p) false (text-same p)) in
+    loaded-at p loaded n.0 none n.1
 
 -- ** a call of the loader
 
@@ -369,7 +366,7 @@ unloaded-last chain q loaded u = u q (among-last q chain)
 
 -- one statement more of a file
 pub public-next : (loaded : List Entry) (t : FileSyntax) (ns : List ℕ) (xs : List FileStatement) (i : ℕ) (x : FileStatement) (before after : List ℕ) (number : Option ℕ) → t.statements ≡ map statement_view xs → i < length xs → x ≡ get_or xs i x → AreNumbered (named_trees loaded) ns (import_paths t)
-    → AreNumbered (named_trees loaded) before (flat_map public_paths_of (map statement_view (take i xs))) → IsPublicImport loaded (statement_view x) number → after ≡ before ++ option_to_list number
+    → AreNumbered (named_trees loaded) before (flat_map public_paths_of (map statement_view (take i xs))) → ArePublic loaded (public_paths_of (statement_view x)) number → after ≡ before ++ option_to_list number
     → AreNumbered (named_trees loaded) after (flat_map public_paths_of (map statement_view (take (i + 1) xs)))
 public-next loaded t ns xs i x before after number whole lt item numbered so_far one pushed =
     let there : slice_get xs i ≡ Some x = slice_get_read xs (length xs) i x refl lt item in

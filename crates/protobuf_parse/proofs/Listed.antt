@@ -7,7 +7,7 @@ use Rattle.protobuf_parse_model.specs.Descriptors.{Text}
 use Rattle.protobuf_parse_model.specs.FilesByPath.{AreJust, Leads, leads, stays}
 use Rattle.protobuf_parse_model.proofs.Closing.{closed}
 use Rattle.protobuf_parse.specs.Walks.{Trees, Reaches, HandsOn, Sees, sees_itself, by_import, among, import_paths, public_paths}
-use Rattle.protobuf_parse.specs.Run.{AreListed, HasTrees, IsTree, first_read, text_given, text_read}
+use Rattle.protobuf_parse.specs.Run.{AreListed, HasTrees, HaveLists, IsTree, first_read, text_given, text_read}
 use Rattle.protobuf_parse.specs.Loading.{read_paths}
 use Rattle.protobuf_parse.specs.declared.run.log.ReadEntry.{ReadEntry}
 use Rattle.protobuf_parse.proofs.Keeping.{bool_cases, or_cases, or_left, or_right, some_same, text-same, text-true}
@@ -71,7 +71,7 @@ module _ (table : List (Text × Text)) (log : List ReadEntry) (trees : Trees) (h
         },
       )
 
-pub have-lists : (table : List (Text × Text)) (log : List ReadEntry) (trees : Trees) → HasTrees table log trees → (reached : Text → List Text) × (seen : Text → List Text) × AreListed trees reached seen
+pub have-lists : (table : List (Text × Text)) (log : List ReadEntry) → HaveLists table log
 have-lists table log trees has = (
   (λ p. (reached-of table log trees has p).0),
   (λ p. (seen-of table log trees has p).0),

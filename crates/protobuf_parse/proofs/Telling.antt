@@ -14,6 +14,7 @@ use Rattle.protobuf_parse.specs.Walks.{Event, Input, events, until}
 use Rattle.protobuf_parse.specs.Run.{Files, AreDescriptors, IsAccepted, IsRefused, IsBroken, MayResolve, RunsByResolver, fails, shipped, HaveTrees, RunsAsTold, MayAnswer, FindsNothing}
 use Rattle.protobuf_parse.specs.Loading.{Legal, Entry, Good, Stops, IsLoaded, paths_of}
 use Rattle.protobuf_parse.proofs.Deciding.{untold, run-files}
+use Rattle.protobuf_parse.proofs.Listed.{have-lists}
 use Rattle.protobuf_parse.proofs.Keeping.{bool_cases}
 
 find-after : (test : Event → Bool) (xs ys : List Event) (e : Event) → find test xs ≡ None → test e ≡ true → find test (xs ++ e ∷ ys) ≡ Some e
@@ -78,6 +79,7 @@ pub unstarted : (resolve : MayResolve) (inputs : List Input) (r : Result (Vec Fi
 unstarted resolve inputs r f is m = (
   [],
   (λ p. None, λ p. untold),
+  have-lists shipped [],
   λ trees reached seen has listed. rw is (inr (record {
     memory = m;
     done = [];
@@ -90,4 +92,4 @@ unstarted resolve inputs r f is m = (
 -- a run with the files that this library brings
 pub by-resolver : (resolve : MayResolve) (log : List ReadEntry) (given inputs : List Input) (table : List (Text × Text)) (r : Result (Vec FileDescriptorProto) RunFault) → given ≡ inputs → table ≡ shipped → HaveTrees table log → RunsAsTold (MayAnswer resolve FindsNothing) given table log r → RunsByResolver resolve inputs r
 by-resolver resolve log given inputs table r is same trees told =
-    (log, (rw same at trees), subst (λ (z : List Input). RunsAsTold (MayAnswer resolve FindsNothing) z shipped log r) is (rw same at told))
+    (log, (rw same at trees), have-lists shipped log, subst (λ (z : List Input). RunsAsTold (MayAnswer resolve FindsNothing) z shipped log r) is (rw same at told))

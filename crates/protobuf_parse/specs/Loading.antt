@@ -5,7 +5,7 @@ use Rattle.std.specs.List.{AllByRecursion, Contains}
 use Rattle.std.specs.List.Sorted.{IsStrictlyIncreasing}
 use Rattle.std.specs.Map.{lookup}
 use Rattle.protobuf_parse_base.specs.PathViews.{path_buf_text}
-use Rattle.protobuf_parse_syntax.specs.Trees.{FileSyntax, StatementSyntax, file_view}
+use Rattle.protobuf_parse_syntax.specs.Trees.{FileSyntax, file_view}
 use Rattle.protobuf_parse_syntax.specs.declared.tree.FileTree.{FileTree}
 use Rattle.protobuf_parse_model.specs.Descriptors as described
 use Rattle.protobuf_parse_model.specs.Descriptors.{Text, FileDescriptor}
@@ -25,7 +25,7 @@ use Rattle.protobuf_parse.specs.declared.run.reach.Held.{Held}
 use Rattle.protobuf_parse.specs.declared.run.reach.Held.TheVariants as held_as
 use Rattle.protobuf_parse.specs.declared.run.log.ReadEntry.{ReadEntry}
 use Rattle.protobuf_parse.specs.declared.run.log.ReadOutcome.{ReadOutcome}
-use Rattle.protobuf_parse.specs.Walks.{Asked, the_resolver, the_reader, Event, long, load, elab, has, keep, among, Trees, Reaches, HandsOn, Sees, import_paths, public_paths, public_paths_of, joined, walk, reads_in, elab_paths}
+use Rattle.protobuf_parse.specs.Walks.{Asked, the_resolver, the_reader, Event, long, load, elab, has, keep, among, Trees, Reaches, HandsOn, Sees, import_paths, public_paths, joined, walk, reads_in, elab_paths}
 use Rattle.std.specs.Borrow.{Bor}
 use Rattle.std.specs.Str.{IsUtf8}
 use Rattle.protobuf_parse.specs.declared.run.fault.ResolveFault.{ResolveFault}
@@ -128,11 +128,11 @@ pub record AreHandedOn (loaded : List Entry) (tree : FileSyntax) (imports number
   pub numbered : AreNumbered (named_trees loaded) imports (import_paths tree) → AreNumbered (named_trees loaded) public (public_paths tree)
   pub joined : AreJoined held_as.HandedOn loaded public numbers
 
--- what a statement imports publicly has this number, if it imports anything so
-abbrev pub IsPublicImport : List Entry → StatementSyntax → Option ℕ → Type 0
-IsPublicImport loaded s number =
-    ((q : Text) → among q (public_paths_of s) ≡ true → (n : ℕ) × IsNumbered (named_trees loaded) n q)
-    → AreNumbered (named_trees loaded) (option_to_list number) (public_paths_of s)
+-- the number, if there is one, is that of the path, if there is one; where files of the paths are loaded
+abbrev pub ArePublic : List Entry → List Text → Option ℕ → Type 0
+ArePublic loaded paths number =
+    ((q : Text) → among q paths ≡ true → (n : ℕ) × IsNumbered (named_trees loaded) n q)
+    → AreNumbered (named_trees loaded) (option_to_list number) paths
 
 -- the faults of a file, and what it becomes, over the files with the numbers that it reaches and sees
 abbrev pub faults_over : List FileSyntax → List ℕ → List ℕ → FileSyntax → List elaborating.Fault

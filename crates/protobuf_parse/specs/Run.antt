@@ -115,6 +115,10 @@ HasTrees bundled log trees = (path : Text) → IsTree (text_read bundled log pat
 abbrev pub HaveTrees : List (Text × Text) → List ReadEntry → Type 0
 HaveTrees bundled log = (trees : Trees) × ((path : Text) → IsTheTree (text_read bundled log path) (trees path))
 
+-- There are lists of just the files that each file reaches and sees, since only files that were read have trees.
+abbrev pub HaveLists : List (Text × Text) → List ReadEntry → Type 0
+HaveLists bundled log = (trees : Trees) → HasTrees bundled log trees → (reached : Text → List Text) × (seen : Text → List Text) × AreListed trees reached seen
+
 -- ---- which event fails
 
 abbrev pub is_nothing : {A : Type 0} → List A → Bool
@@ -307,4 +311,4 @@ FindsNothing own answer = answer ≡ Err unread.NotFound
 -- A run over these inputs, by such a resolver and with the files that this library brings, read some log and ended so.
 abbrev pub RunsByResolver : MayResolve → List Input → Result (Vec FileDescriptorProto) RunFault → Type 0
 RunsByResolver resolve inputs result =
-    (log : List ReadEntry) × HaveTrees shipped log × RunsAsTold (MayAnswer resolve FindsNothing) inputs shipped log result
+    (log : List ReadEntry) × HaveTrees shipped log × HaveLists shipped log × RunsAsTold (MayAnswer resolve FindsNothing) inputs shipped log result

@@ -1,14 +1,14 @@
 //! Which of the loaded files a file reaches, sees and hands on, as ascending numbers.
 
-ghost use Rattle.std.specs.Prelude.{◌≡◌, ◌++◌, ℕ, List, IfOk, OnOk, option_to_list, slice_get};
+ghost use Rattle.std.specs.Prelude.{◌≡◌, ◌++◌, [], ◌∷◌, ℕ, List, IfOk, OnOk, option_to_list, slice_get};
 ghost use Rattle.protobuf_parse_syntax.specs.Trees.{file_view, statement_view};
-ghost use Rattle.protobuf_parse.specs.Walks.{import_paths, public_paths};
+ghost use Rattle.protobuf_parse.specs.Walks.{import_paths, public_paths, public_paths_of};
 ghost use Rattle.protobuf_parse.specs.declared.run.reach.Held.TheVariants as held_as;
 ghost use Rattle.protobuf_parse.specs.Loading as loading;
-ghost use Rattle.protobuf_parse.specs.Loading.{AreHandedOn, AreJoined, AreNumbered, IsPublicImport, held_by, named_trees};
+ghost use Rattle.protobuf_parse.specs.Loading.{AreHandedOn, AreJoined, AreNumbered, ArePublic, held_by, named_trees};
 
 use crate::run::loader::{LoadedFile, LoadedFiles, place_of};
-use protobuf_parse_syntax::{FileStatement, FileTree, Import, ImportVis};
+use protobuf_parse_syntax::{FileStatement, FileTree, ImportVis};
 use std::alloc::{AllocError, Global};
 
 /// Which numbers of a loaded file.
@@ -78,20 +78,24 @@ fn push_some(numbers: &mut Vec<usize>, number: Option<usize>) -> Result<(), Allo
 
 /// The number of the file that a statement imports publicly.
 fn public_import(loaded: &LoadedFiles, statement: &FileStatement) -> Option<usize>
-    ensures { IsPublicImport loaded.now.entries (statement_view statement.now) result }
+    ensures { ArePublic loaded.now.entries (public_paths_of (statement_view statement.now)) result }
 {
     match statement {
-        FileStatement::Import(
-            Import {
-                vis: ImportVis::Public,
-                path,
-                ..
-            },
-        ) => match place_of(loaded, path.as_path().to_str()) {
-            Some(placed) => Some(placed.number),
-            None => None,
+        FileStatement::Import(import) => match import.vis {
+            ImportVis::Public => number_of(loaded, import.path.as_path().to_str()),
+            ImportVis::Default | ImportVis::Weak => None,
         },
         _ => None,
+    }
+}
+
+/// The number of the loaded file of this path.
+fn number_of(loaded: &LoadedFiles, path: &str) -> Option<usize>
+    ensures { ArePublic loaded.now.entries (path.now ∷ []) result }
+{
+    match place_of(loaded, path) {
+        Some(placed) => Some(placed.number),
+        None => None,
     }
 }
 

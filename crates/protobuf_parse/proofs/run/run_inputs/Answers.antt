@@ -12,6 +12,9 @@ use Rattle.protobuf_parse.proofs.run.run_inputs.Goals.{in-Ok+in-Ok-descriptors, 
 pub returns-clause-trees : goal.returns-clause-trees
 returns-clause-trees g c = have-trees _ _ c.load_inputs-outcome.ensures.decided
 
+pub returns-clause-lists : goal.returns-clause-lists
+returns-clause-lists g c = have-lists _ _
+
 pub returns-clause-told : goal.returns-clause-told
 returns-clause-told g c trees reached seen has listed =
     let legal = MayAnswer (λ p a. g.R.ProtoPathResolver.may_answer c.args.resolver.now p a) (λ p a. g.I.InputReader.may_read c.args.reader.now p a) in
