@@ -5,6 +5,7 @@ mod convert;
 mod descriptor;
 mod error;
 mod laws;
+mod linking;
 mod scope;
 
 pub use convert::elaborate;
@@ -17,4 +18,5 @@ pub use descriptor::{
 };
 pub use error::{ElabError, ElabErrorKind, ElabFailure};
 pub use laws::types_are_looked_up;
-pub use scope::{Declaration, Declarations, Seen, TypeKind};
+pub use linking::link;
+pub use scope::{Declaration, DeclarationKind, Declarations, Seen, TypeKind};

@@ -1,0 +1,12 @@
+use Rattle.std.proofs.Common.{◌∙◌, ap, subst, List, map}
+use Rattle.std.proofs.lemmas.List.{take_all}
+use Rattle.protobuf_parse_syntax.specs.declared.tree.field.FieldStatement.{FieldStatement}
+use Rattle.protobuf_parse_syntax.specs.Trees.{extend_view, field_statement_view}
+use Rattle.protobuf_parse_model.specs.Declarations.{DeclaredExtension, extend_extensions}
+use Rattle.protobuf_parse_model.specs.Contexts.{texts}
+use Rattle.protobuf_parse_model.specs.Tables.{Adds, extension_entry}
+use Rattle.protobuf_parse_model.proofs.Tables.{adds_extension}
+use Rattle.protobuf_parse_model.proofs.scope.extensions.add_in_extend.Goals as goal
+
+pub loop-statement-preserved : goal.loop-statement-preserved
+loop-statement-preserved c = adds_extension c.args.table.now c.loop-statement.table c.add_extension.new.table c.args.file (texts c.args.scope.now) (extend_view c.args.extend.now) c.deref-statement-items.result.now c.loop-statement.statement-index c.statement-item.result c.loop-statement-test.true c.statement-item.is c.loop-statement.invariant c.in_ok-add_extension.ensures
