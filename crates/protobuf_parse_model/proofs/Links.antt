@@ -1,10 +1,10 @@
 -- What files declare more than once, by the table of declarations.
-use Rattle.std.proofs.Common.{◌≡◌, ℕ, zero, suc, ◌+◌, ◌<◌, ◌≤◌, List, [], ◌∷◌, ◌++◌, Bool, true, false, not, ◌&&◌, cond, if◌then◌else◌, refl, sym, ap, ◌∙◌, bytes_eq, map, filter, flat_map, length, length-append, get_or, subst, arith, nat_eq, Result, Ok, Err, ◌⊎◌, inl, inr}
+use Rattle.std.proofs.Common.{◌≡◌, ℕ, zero, suc, ◌+◌, ◌<◌, List, [], ◌∷◌, ◌++◌, Bool, true, false, not, ◌&&◌, cond, if◌then◌else◌, refl, sym, ap, ◌∙◌, bytes_eq, map, filter, flat_map, length, length-append, get_or, subst, arith, nat_eq, Result, Ok, Err, ◌⊎◌, inl, inr}
 use Rattle.std.specs.Prelude.{nat_lt, Contains}
 use Rattle.std.specs.List.{list_any}
-use Rattle.std.proofs.lemmas.Bool.{ltb-true, lt-ltb}
+use Rattle.std.proofs.lemmas.Bool.{ltb-true}
 use Rattle.std.proofs.lemmas.Slice.Eq.{bytes_eq-Decides}
-use Rattle.std.proofs.lemmas.List.{map-append, map-id}
+use Rattle.std.proofs.lemmas.List.{map-id}
 use Rattle.std.proofs.lemmas.List.Elements.{filter-append}
 use Rattle.std.proofs.lemmas.List.Sums.{length-filter, count_by-le-length}
 use Rattle.protobuf_parse_syntax.specs.Trees.{FileSyntax}
@@ -15,10 +15,10 @@ use Rattle.protobuf_parse_model.specs.declared.error.ElabFailure.TheVariants as 
 use Rattle.protobuf_parse_model.specs.declared.scope.seen.Declaration.{Declaration}
 use Rattle.protobuf_parse_model.specs.declared.scope.seen.Seen.{Seen}
 use Rattle.protobuf_parse_model.specs.Descriptors.{Text}
-use Rattle.protobuf_parse_model.specs.Declarations.{DeclaredExtension, DeclaredType, a_message, an_enum, file_extensions, file_generated, file_types}
+use Rattle.protobuf_parse_model.specs.Declarations.{DeclaredType, a_message, an_enum, file_extensions, file_generated, file_types}
 use Rattle.protobuf_parse_model.specs.Contexts.{declared_as}
 use Rattle.protobuf_parse_model.specs.Duplicates.{fault, fault_when}
-use Rattle.protobuf_parse_model.specs.Faults.{Among, here, there, Blames, Elaborates, Fault}
+use Rattle.protobuf_parse_model.specs.Faults.{Among, here, there, Elaborates, Fault}
 use Rattle.protobuf_parse_model.specs.Linking.{extension_names, link_faults, occurrences, repeated, type_names}
 use Rattle.protobuf_parse_model.specs.Tables.{Entry, Tells, declared_by, declared_in, declared_in_file, extension_entry, generated_entry, is_of, kind_of, listed_names, name_faults, picked, times, times_declared, type_entry}
 use Rattle.protobuf_parse_model.proofs.Blaming.{among_left, among_right}

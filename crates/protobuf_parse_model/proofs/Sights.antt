@@ -14,8 +14,8 @@ use Rattle.protobuf_parse_model.specs.Declarations as declarations
 use Rattle.protobuf_parse_model.specs.Declarations.{DeclaredType, a_message, an_enum, file_extensions, file_generated, file_types}
 use Rattle.protobuf_parse_model.specs.Lookup.{declared}
 use Rattle.protobuf_parse_model.specs.FileDescriptor.{types_of_files}
-use Rattle.protobuf_parse_model.specs.Contexts.{declared_as, declared_type, first_type, kind_view, seen_types, type_kind}
-use Rattle.protobuf_parse_model.specs.Tables.{Entry, Tells, declared_by, declared_in, declared_in_file, extension_entry, generated_entry, kind_of, picked, type_entry}
+use Rattle.protobuf_parse_model.specs.Contexts.{declared_type, first_type, seen_types, type_kind}
+use Rattle.protobuf_parse_model.specs.Tables.{Entry, Tells, declared_by, declared_in, extension_entry, generated_entry, kind_of, picked, type_entry}
 use Rattle.protobuf_parse_model.proofs.Picks.{among, picked_among}
 
 module _ (name : Text) where

@@ -1,5 +1,5 @@
 -- The table of declarations, step by step.
-use Rattle.std.proofs.Common.{◌≡◌, ◌≢◌, ℕ, suc, List, [], ◌∷◌, ◌++◌, Bool, true, false, cond, if◌then◌else◌, Option, Some, None, refl, sym, ap, ◌∙◌, bytes_eq, append-nil, append_assoc, map, filter, flat_map, ◌+◌, ◌<◌, length, length-append, take, get_or, subst, arith, nat_eq}
+use Rattle.std.proofs.Common.{◌≡◌, ℕ, suc, List, [], ◌∷◌, ◌++◌, Bool, true, false, cond, if◌then◌else◌, Option, Some, None, refl, sym, ap, ◌∙◌, bytes_eq, append-nil, append_assoc, map, filter, flat_map, ◌+◌, ◌<◌, length, length-append, take, get_or, subst, arith, nat_eq}
 use Rattle.std.specs.Prelude.{String, string_bytes, unwrap_or, Contains}
 use Rattle.std.specs.Global.{Global, Vec}
 use Rattle.std.specs.Cmp.Lexicographic.{slice_cmp}
@@ -16,7 +16,7 @@ use Rattle.protobuf_parse_syntax.proofs.Messages.{view_parts, views_message}
 use Rattle.protobuf_parse_syntax.specs.declared.tree.declaration.Message.{Message}
 use Rattle.protobuf_parse_syntax.specs.declared.tree.declaration.MessageStatement.TheVariants as statement
 use Rattle.protobuf_parse_syntax.specs.declared.tree.field.FieldStatement.{FieldStatement}
-use Rattle.protobuf_parse_syntax.specs.Trees.{ExtendSyntax, FieldStatementSyntax, FileSyntax, field_statement_view, MessageStatementSyntax, MessageSyntax, message_statements, message_statement_view, message_view, nested_message}
+use Rattle.protobuf_parse_syntax.specs.Trees.{ExtendSyntax, FieldStatementSyntax, FileSyntax, field_statement_view, MessageSyntax, message_statement_view, message_view}
 use Rattle.protobuf_parse_model.specs.declared.scope.seen.DeclarationKind.TheVariants as kind
 use Rattle.protobuf_parse_model.specs.declared.scope.seen.Declaration.{Declaration}
 use Rattle.protobuf_parse_model.specs.declared.scope.seen.Declarations.{Declarations}

@@ -1,10 +1,10 @@
 -- The environment of a construct, by the numbers of the files that its file sees and what each full name is declared
 -- as in which files.
-use Rattle.std.specs.Prelude.{ℕ, List, [], ◌∷◌, ◌++◌, map, flat_map, length, nat_eq, bytes_eq, string_bytes, String, Option, Some, None, option_map, option_to_list, if◌then◌else◌}
+use Rattle.std.specs.Prelude.{ℕ, List, [], ◌∷◌, ◌++◌, map, flat_map, length, nat_eq, string_bytes, String, Option, Some, None, option_map, option_to_list, if◌then◌else◌}
 use Rattle.std.specs.Borrow.{Bor}
 use Rattle.std.specs.Global.{Global, Vec}
 use Rattle.std.specs.List.{list_any}
-use Rattle.std.specs.BTreeMap.{BTreeMap, get_by_text}
+use Rattle.std.specs.BTreeMap.{get_by_text}
 use Rattle.std.specs.Option.{option_or}
 use Rattle.protobuf_parse_model.specs.declared.scope.seen.TypeKind.{TypeKind}
 use Rattle.protobuf_parse_model.specs.declared.scope.seen.TypeKind.TheVariants as kind

@@ -1,4 +1,4 @@
-use Rattle.std.proofs.Common.{◌≡◌, ◌∙◌, ◌++◌, ◌∷◌, [], ap, bytes_eq, if◌then◌else◌, length, map, nat_eq, string_bytes, subst}
+use Rattle.std.proofs.Common.{◌≡◌, ◌∙◌, ◌++◌, ◌∷◌, [], ap, bytes_eq, if◌then◌else◌, length, nat_eq, string_bytes, subst}
 use Rattle.std.proofs.lemmas.Result.{on_ok_weaker}
 use Rattle.std.specs.BTreeMap.{get_by_text}
 use Rattle.protobuf_parse_model.specs.declared.scope.seen.Declarations.{Declarations}

@@ -1,10 +1,5 @@
-use Rattle.std.proofs.Common.{◌∙◌, ap, subst, List, map}
-use Rattle.std.proofs.lemmas.List.{take_all}
-use Rattle.protobuf_parse_syntax.specs.declared.tree.field.FieldStatement.{FieldStatement}
-use Rattle.protobuf_parse_syntax.specs.Trees.{extend_view, field_statement_view}
-use Rattle.protobuf_parse_model.specs.Declarations.{DeclaredExtension, extend_extensions}
+use Rattle.protobuf_parse_syntax.specs.Trees.{extend_view}
 use Rattle.protobuf_parse_model.specs.Contexts.{texts}
-use Rattle.protobuf_parse_model.specs.Tables.{Adds, extension_entry}
 use Rattle.protobuf_parse_model.proofs.Tables.{adds_extension}
 use Rattle.protobuf_parse_model.proofs.scope.extensions.add_in_extend.Goals as goal
 

@@ -1,7 +1,6 @@
-use Rattle.std.proofs.Common.{◌≡◌, List, flat_map, refl, subst}
+use Rattle.std.proofs.Common.{◌≡◌, List, refl, subst}
 use Rattle.std.proofs.lemmas.Result.{on_ok_weaker}
 use Rattle.protobuf_parse_syntax.specs.Trees.{extend_view, statement_view}
-use Rattle.protobuf_parse_model.specs.Descriptors.{Text}
 use Rattle.protobuf_parse_model.specs.Declarations.{DeclaredExtension, extend_extensions, statement_extensions}
 use Rattle.protobuf_parse_model.specs.Contexts.{texts}
 use Rattle.protobuf_parse_model.specs.Tables.{Adds, extension_entry}

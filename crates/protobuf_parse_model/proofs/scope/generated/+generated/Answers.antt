@@ -4,7 +4,7 @@ use Rattle.std.proofs.lemmas.Result.{on_ok_weaker}
 use Rattle.protobuf_parse_syntax.specs.declared.tree.declaration.MessageStatement.{MessageStatement}
 use Rattle.protobuf_parse_syntax.specs.Trees.{message_statement_view}
 use Rattle.protobuf_parse_model.specs.Descriptors.{Text}
-use Rattle.protobuf_parse_model.specs.Declarations.{DeclaredExtension, Scope, inside, generated_of}
+use Rattle.protobuf_parse_model.specs.Declarations.{Scope, inside, generated_of}
 use Rattle.protobuf_parse_model.specs.Contexts.{texts}
 use Rattle.protobuf_parse_model.specs.Tables.{Adds, generated_entry}
 use Rattle.protobuf_parse_model.proofs.Tables.{adds_next, generated_of-view, generated-view}

@@ -1,11 +1,8 @@
-use Rattle.std.proofs.Common.{◌∙◌, [], ap, subst, List, map, flat_map}
-use Rattle.std.proofs.lemmas.List.{take_all}
-use Rattle.protobuf_parse_syntax.specs.declared.tree.field.FieldStatement.{FieldStatement}
+use Rattle.std.proofs.Common.{[]}
 use Rattle.protobuf_parse_syntax.specs.Trees.{field_statement_view}
-use Rattle.protobuf_parse_model.specs.Descriptors.{Text}
 use Rattle.protobuf_parse_model.specs.Declarations.{generated_by}
 use Rattle.protobuf_parse_model.specs.Contexts.{texts}
-use Rattle.protobuf_parse_model.specs.Tables.{Adds, generated_entry}
+use Rattle.protobuf_parse_model.specs.Tables.{generated_entry}
 use Rattle.protobuf_parse_model.proofs.Tables.{adds_next}
 use Rattle.protobuf_parse_model.proofs.scope.generated.add_in_extend.Goals as goal
 

@@ -1,4 +1,4 @@
-use Rattle.std.proofs.Common.{List, map, flat_map, take}
+use Rattle.std.proofs.Common.{map, flat_map, take}
 use Rattle.protobuf_parse_syntax.specs.Trees.{OneofStatementSyntax, oneof_statement_view}
 use Rattle.protobuf_parse_model.specs.Declarations.{generated_by}
 use Rattle.protobuf_parse_model.specs.Statements.{oneof_fields}
