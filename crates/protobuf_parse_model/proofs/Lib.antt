@@ -5,6 +5,9 @@ pub mod TreeViews
 pub mod Lookups
 pub mod Scopes
 pub mod Tables
+pub mod Picks
+pub mod Sights
+pub mod Links
 mod Rows
 pub mod Levels
 pub mod Decodings

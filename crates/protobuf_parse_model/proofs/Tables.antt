@@ -1,45 +1,35 @@
--- The table of declared types, step by step.
-use Rattle.std.proofs.Common.{◌≡◌, ℕ, suc, List, [], ◌∷◌, ◌++◌, Bool, true, false, cond, if◌then◌else◌, Option, Some, None, refl, sym, ap, ◌∙◌, bytes_eq, append-nil, append_assoc, map, filter, flat_map, ◌+◌, ◌<◌, length, take, get_or, subst, arith, ◌≤◌, ◌-◌, ◌||◌, inl, inr, nat_eq, slice_get, option_map, zero-add}
-use Rattle.std.specs.Prelude.{String, option_to_list, string_bytes, unwrap_or}
-use Rattle.std.specs.List.{find, list_any}
-use Rattle.std.specs.List.Sorted.{IsStrictlyIncreasing}
-use Rattle.std.specs.Option.{option_or}
+-- The table of declarations, step by step.
+use Rattle.std.proofs.Common.{◌≡◌, ℕ, suc, List, [], ◌∷◌, ◌++◌, Bool, true, false, cond, if◌then◌else◌, Option, Some, None, refl, sym, ap, ◌∙◌, bytes_eq, append-nil, append_assoc, map, filter, flat_map, ◌+◌, ◌<◌, length, length-append, take, get_or, subst, arith, nat_eq}
+use Rattle.std.specs.Prelude.{String, string_bytes, unwrap_or, Contains}
 use Rattle.std.specs.Global.{Global, Vec}
-use Rattle.std.specs.String.{string_eq}
+use Rattle.std.specs.Cmp.Lexicographic.{slice_cmp}
+use Rattle.std.specs.Ordering.{nat_cmp}
+use Rattle.std.specs.String.{string_cmp}
+use Rattle.std.specs.BTreeMap.{BTreeMap, UpdatesBy, get_by_text, is_at}
 use Rattle.std.specs.Map.{lookup}
-use Rattle.std.specs.HashMap.{HashMap, UpdatesBy, get_by_text}
 use Rattle.std.proofs.lemmas.Slice.Eq.{bytes_eq-Decides}
-use Rattle.std.proofs.lemmas.Map.Text.{hash_map_updates_text}
-use Rattle.protobuf_parse_model.specs.Descriptors.{Text}
+use Rattle.std.proofs.lemmas.Map.Text.{btree_map_updates_text}
+use Rattle.std.proofs.lemmas.Grind.{flat_map-append}
 use Rattle.std.proofs.lemmas.List.{flat_map_more, map-append, map_more}
-use Rattle.std.proofs.Math.Path.{fun_ext}
-use Rattle.std.proofs.lemmas.Bool.{cases_eq, eq-eqb, ne_eqb}
-use Rattle.std.proofs.lemmas.List.Elements.{filter-append}
-use Rattle.std.proofs.lemmas.List.Folds.{find-append}
+use Rattle.std.proofs.lemmas.List.Elements.{filter-append, Contains-append_left, Contains-push}
 use Rattle.protobuf_parse_syntax.proofs.Messages.{view_parts, views_message}
 use Rattle.protobuf_parse_syntax.specs.declared.tree.declaration.Message.{Message}
 use Rattle.protobuf_parse_syntax.specs.declared.tree.declaration.MessageStatement.TheVariants as statement
-use Rattle.protobuf_parse_syntax.specs.Trees.{FileSyntax, MessageStatementSyntax, MessageSyntax, message_statements, message_statement_view, message_view, nested_message}
-use Rattle.protobuf_parse_model.specs.declared.scope.seen.TypeKind.{TypeKind}
-use Rattle.protobuf_parse_model.specs.declared.scope.seen.TypeKind.TheVariants as kind
+use Rattle.protobuf_parse_syntax.specs.declared.tree.field.FieldStatement.{FieldStatement}
+use Rattle.protobuf_parse_syntax.specs.Trees.{ExtendSyntax, FieldStatementSyntax, FileSyntax, field_statement_view, MessageSyntax, message_statement_view, message_view}
+use Rattle.protobuf_parse_model.specs.declared.scope.seen.DeclarationKind.TheVariants as kind
 use Rattle.protobuf_parse_model.specs.declared.scope.seen.Declaration.{Declaration}
 use Rattle.protobuf_parse_model.specs.declared.scope.seen.Declarations.{Declarations}
-use Rattle.protobuf_parse_model.specs.declared.scope.seen.Seen.{Seen}
-use Rattle.protobuf_parse_model.specs.Declarations as declarations
-use Rattle.protobuf_parse_model.specs.Lookup.{declared}
-use Rattle.protobuf_parse_model.specs.FileDescriptor.{types_of_files}
-use Rattle.protobuf_parse_model.specs.Declarations.{Scope, DeclaredType, a_message, an_enum, declare, file_types, full_name, inside, message_types, types_in, types_of}
-use Rattle.protobuf_parse_model.specs.Contexts.{declared_as, declared_type, first_reached, kind_view, seen_types}
-use Rattle.protobuf_parse_model.specs.Tables.{Adds, Tells, declaration_of, declared_by, declared_in, kind_of, picked}
+use Rattle.protobuf_parse_model.specs.Descriptors.{Text}
+use Rattle.protobuf_parse_model.specs.Declarations.{DeclaredExtension, Scope, a_message, declare, extend_extensions, extensions_of, file_extensions, file_generated, file_types, full_name, generated_of, inside, message_types, types_of}
+use Rattle.protobuf_parse_model.specs.Statements.{field_statement_name}
+use Rattle.protobuf_parse_model.specs.Contexts.{declared_as, listed}
+use Rattle.protobuf_parse_model.specs.Tables.{Adds, AddsOne, Entry, ListsRepeated, Tells, declared_by, declared_in, declared_in_file, extension_entry, generated_entry, listed_names, type_entry}
+use Rattle.protobuf_parse_model.proofs.Levels.{extensions_of_message, generated_of_message, types_of_message}
 
 -- ---- a declaration more
 
--- the declarations of a list that may be there
-abbrev pub listed : Option (Vec Declaration) → List Declaration
-listed None = []
-listed (Some v) = v.items
-
-module _ {S : Type 0} (old new : HashMap (String Global) (Vec Declaration) S) (name : String Global) (empty list : Vec Declaration) (d : Declaration) where
+module _ (old new : BTreeMap (String Global) (Vec Declaration)) (name : String Global) (empty list : Vec Declaration) (d : Declaration) where
   abbrev before : Text → List Declaration
   before text = listed (get_by_text old text)
 
@@ -52,202 +42,147 @@ module _ {S : Type 0} (old new : HashMap (String Global) (Vec Declaration) S) (n
   or_empty None e = e
   or_empty (Some v) e = refl
 
-  pub put_last : UpdatesBy string_eq (λ k. bytes_eq (string_bytes name) (string_bytes k)) old new (Some list) → empty.items ≡ []
+  pub put_last : UpdatesBy string_cmp (λ k. slice_cmp nat_cmp (string_bytes name) (string_bytes k)) old new (Some list) → empty.items ≡ []
       → list.items ≡ (unwrap_or (get_by_text old (string_bytes name)) empty).items ++ d ∷ []
       → (text : Text) → listed (get_by_text new text) ≡ listed (get_by_text old text) ++ (if bytes_eq (string_bytes name) text then d ∷ [] else [])
   put_last updates nil is text =
-      ap listed (hash_map_updates_text (string_bytes name) old new (Some list) updates text)
+      ap listed (btree_map_updates_text (string_bytes name) old new (Some list) updates text)
       ∙ here text (bytes_eq (string_bytes name) text) refl (is ∙ ap (λ l. l ++ d ∷ []) (or_empty (get_by_text old (string_bytes name)) nil))
+
+-- a name that gets its second declaration is listed
+pub adds_one : (old new : Declarations) (full : Text) (d : Declaration)
+    → ((text : Text) → declared_as new text ≡ declared_as old text ++ (if bytes_eq full text then d ∷ [] else []))
+    → listed_names new ≡ listed_names old ++ (if nat_eq (length (declared_as old full)) 1 then full ∷ [] else [])
+    → AddsOne old new full d
+adds_one old new full d adds lists = record { declares = adds; lists = λ was text more. at was text more (bytes_eq full text) refl }
+  where
+    kept : (text : Text) → Contains (listed_names old) text → Contains (listed_names new) text
+    kept text h = subst (λ (names : List Text). Contains names text) (sym lists) (Contains-append_left (listed_names old) (if nat_eq (length (declared_as old full)) 1 then full ∷ [] else []) text h)
+
+    second : ListsRepeated old → 0 < length (declared_as old full) → (b : Bool) → nat_eq (length (declared_as old full)) 1 ≡ b → Contains (listed_names new) full
+    second was some true e = subst (λ (names : List Text). Contains names full) (sym (lists ∙ ap (λ b. listed_names old ++ (if b then full ∷ [] else [])) e)) (Contains-push (listed_names old) full)
+    second was some false e = kept full (was full (grind (arith, e, some)))
+
+    at : ListsRepeated old → (text : Text) → 1 < length (declared_as new text) → (b : Bool) → bytes_eq full text ≡ b → Contains (listed_names new) text
+    at was text more false e =
+        let same : declared_as new text ≡ declared_as old text = adds text ∙ ap (λ b. declared_as old text ++ (if b then d ∷ [] else [])) e ∙ append-nil (declared_as old text) in
+        kept text (was text (subst (λ (ds : List Declaration). 1 < length ds) same more))
+    at was text more true e =
+        let is : full ≡ text = (bytes_eq-Decides full text).0 e in
+        let one : declared_as new text ≡ declared_as old text ++ d ∷ [] = adds text ∙ ap (λ b. declared_as old text ++ (if b then d ∷ [] else [])) e in
+        let long : length (declared_as new text) ≡ length (declared_as old text) + 1 = ap length one ∙ length-append (declared_as old text) (d ∷ []) in
+        let some : 0 < length (declared_as old text) = omega (arith, long, more) in
+        subst (λ (t : Text). Contains (listed_names new) t) is (second was (subst (λ (t : Text). 0 < length (declared_as old t)) (sym is) some) (nat_eq (length (declared_as old full)) 1) refl)
 
 -- ---- declarations of a file, one after another
 
-abbrev one : Text → ℕ → TypeKind → Text → Bool → List Declaration
-one name file k text b = map (declaration_of file) (cond b (record { name = name; what = kind_view k } ∷ []) [])
+module _ {A : Type 0} (entry : A → Entry) where
+  abbrev made : ℕ → A → Declaration
+  made file d = record { file = file; kind = (entry d).what }
 
-one_is : (name : Text) (file : ℕ) (k : TypeKind) (text : Text) (b : Bool) → (if b then record { file = file; kind = k } ∷ [] else []) ≡ one name file k text b
-one_is name file k text false = refl
-one_is name file kind.Message text true = refl
-one_is name file kind.Enum text true = refl
+  one_is : (d : A) (file : ℕ) (b : Bool) → (if b then made file d ∷ [] else []) ≡ map (made file) (cond b (d ∷ []) [])
+  one_is d file false = refl
+  one_is d file true = refl
 
-pub adds_put : (old new : Declarations) (scope : Scope) (name : Text) (file : ℕ) (k : TypeKind) (full : Text) → full ≡ full_name scope name
-    → ((text : Text) → declared_as new text ≡ declared_as old text ++ (if bytes_eq full text then record { file = file; kind = k } ∷ [] else []))
-    → Adds old new file (declare scope name (kind_view k) ∷ [])
-adds_put old new scope name file k full is put text =
-    put text ∙ ap (λ s. declared_as old text ++ (if bytes_eq s text then record { file = file; kind = k } ∷ [] else [])) is
-    ∙ ap (λ ds. declared_as old text ++ ds) (one_is (full_name scope name) file k text (bytes_eq (full_name scope name) text))
+  pub adds_single : (old new : Declarations) (full : Text) (file : ℕ) (d : A) → AddsOne old new full (made file d) → full ≡ (entry d).name → Adds entry old new file (d ∷ [])
+  adds_single old new full file d adds is = record {
+    declares = λ text. adds.declares text ∙ ap (λ s. declared_as old text ++ (if bytes_eq s text then made file d ∷ [] else [])) is ∙ ap (λ ds. declared_as old text ++ ds) (one_is d file (bytes_eq (entry d).name text));
+    lists = adds.lists;
+  }
 
-declared_by-append : (text : Text) (file : ℕ) (xs ys : List DeclaredType) → declared_by text file (xs ++ ys) ≡ declared_by text file xs ++ declared_by text file ys
-declared_by-append text file xs ys = ap (map (declaration_of file)) (filter-append (λ (d : DeclaredType). bytes_eq d.name text) xs ys) ∙ map-append (declaration_of file) (filter (λ (d : DeclaredType). bytes_eq d.name text) xs) (filter (λ (d : DeclaredType). bytes_eq d.name text) ys)
+  declared_by-append : (text : Text) (file : ℕ) (xs ys : List A) → declared_by entry text file (xs ++ ys) ≡ declared_by entry text file xs ++ declared_by entry text file ys
+  declared_by-append text file xs ys =
+      ap (map (made file)) (filter-append (λ (d : A). bytes_eq (entry d).name text) xs ys)
+      ∙ map-append (made file) (filter (λ (d : A). bytes_eq (entry d).name text) xs) (filter (λ (d : A). bytes_eq (entry d).name text) ys)
 
-pub adds_none : (table : Declarations) (file : ℕ) → Adds table table file []
-adds_none table file text = sym (append-nil (declared_as table text))
+  pub adds_none : (table : Declarations) (file : ℕ) → Adds entry table table file []
+  adds_none table file = record { declares = λ text. sym (append-nil (declared_as table text)); lists = λ h. h }
 
-pub adds_more : (old between new : Declarations) (file : ℕ) (xs ys : List DeclaredType) → Adds old between file xs → Adds between new file ys → Adds old new file (xs ++ ys)
-adds_more old between new file xs ys before after text =
-    after text ∙ ap (λ ds. ds ++ declared_by text file ys) (before text) ∙ append_assoc (declared_as old text) (declared_by text file xs) (declared_by text file ys) ∙ ap (λ ds. declared_as old text ++ ds) (sym (declared_by-append text file xs ys))
+  pub adds_more : (old between new : Declarations) (file : ℕ) (xs ys : List A) → Adds entry old between file xs → Adds entry between new file ys → Adds entry old new file (xs ++ ys)
+  adds_more old between new file xs ys before after = record {
+    declares = λ text. after.declares text ∙ ap (λ ds. ds ++ declared_by entry text file ys) (before.declares text) ∙ append_assoc (declared_as old text) (declared_by entry text file xs) (declared_by entry text file ys) ∙ ap (λ ds. declared_as old text ++ ds) (sym (declared_by-append text file xs ys));
+    lists = λ h. after.lists (before.lists h);
+  }
 
--- ---- types inside messages
+  -- one statement more
+  pub adds_next : {S X : Type 0} (old between new : Declarations) (file : ℕ) (declares : X → List A) (view : S → X) (before : List A) (xs : List S) (i : ℕ) (x : S) → i < length xs → x ≡ get_or xs i x
+      → Adds entry old between file (before ++ flat_map declares (map view (take i xs))) → Adds entry between new file (declares (view x))
+      → Adds entry old new file (before ++ flat_map declares (map view (take (i + 1) xs)))
+  adds_next old between new file declares view before xs i x lt is so_far more =
+      let e = map_more view xs i x lt in
+      let at : map view (take (i + 1) xs) ≡ map view (take i xs) ++ view x ∷ [] = e ∙ ap (λ z. map view (take i xs) ++ view z ∷ []) (sym is) in
+      let all = flat_map_more declares before (map view (take i xs)) (view x) ∙ ap (λ ys. before ++ flat_map declares ys) (sym at) in
+      subst (λ ds. Adds entry old new file ds) all (adds_more old between new file (before ++ flat_map declares (map view (take i xs))) (declares (view x)) so_far more)
 
-types_in-statements : (scope : Scope) (ss : List MessageStatementSyntax) → types_in scope (message_statements ss) ≡ flat_map (types_of scope) ss
-types_in-statements scope [] = refl
-types_in-statements scope (s ∷ ss) = ap (λ ds. types_of scope s ++ ds) (types_in-statements scope ss)
+-- what the statements that declare fields in statements stand for
+pub flat_map-inside : {A B C : Type 0} (f : B → List C) (g : A → List B) (xs : List A) → flat_map (λ (x : A). flat_map f (g x)) xs ≡ flat_map f (flat_map g xs)
+flat_map-inside f g [] = refl
+flat_map-inside f g (x ∷ xs) = ap (λ ys. flat_map f (g x) ++ ys) (flat_map-inside f g xs) ∙ sym (flat_map-append f (g x) (flat_map g xs))
 
-pub types_of-message : (scope : Scope) (m : MessageSyntax) → types_of scope (nested_message m) ≡ message_types scope m
-types_of-message scope m = ap (λ ds. declare scope m.name a_message ∷ ds) (types_in-statements (inside scope m.name) m.body)
+-- one extension more
+pub adds_extension : (old between new : Declarations) (file : ℕ) (scope : Scope) (e : ExtendSyntax) (xs : List FieldStatement) (i : ℕ) (x : FieldStatement) → i < length xs → x ≡ get_or xs i x
+    → Adds extension_entry old between file (extend_extensions scope (record e { fields = map field_statement_view (take i xs) }))
+    → AddsOne between new (full_name scope (field_statement_name (field_statement_view x))) (record { file = file; kind = kind.Extension })
+    → Adds extension_entry old new file (extend_extensions scope (record e { fields = map field_statement_view (take (i + 1) xs) }))
+adds_extension old between new file scope e xs i x lt is so_far more =
+    let made = map_more field_statement_view xs i x lt in
+    let at : map field_statement_view (take (i + 1) xs) ≡ map field_statement_view (take i xs) ++ field_statement_view x ∷ [] = made ∙ ap (λ z. map field_statement_view (take i xs) ++ field_statement_view z ∷ []) (sym is) in
+    let all = sym (map-append make (map field_statement_view (take i xs)) (field_statement_view x ∷ [])) ∙ ap (map make) (sym at) in
+    subst (λ (ds : List DeclaredExtension). Adds extension_entry old new file ds) all
+    (adds_more extension_entry old between new file (map make (map field_statement_view (take i xs))) (make (field_statement_view x) ∷ []) so_far (adds_single extension_entry between new (full_name scope (field_statement_name (field_statement_view x))) file (make (field_statement_view x)) more refl))
+  where
+    make : FieldStatementSyntax → DeclaredExtension
+    make f = declare scope (field_statement_name f) (record { extendee = e.extendee; scope = scope; field = f })
+
+-- ---- messages inside messages
 
 pub types_of-view : (scope : Scope) (m : Message) → types_of scope (message_statement_view (statement.Message m)) ≡ message_types scope (message_view m)
-types_of-view scope m = ap (types_of scope) (views_message m) ∙ types_of-message scope (message_view m)
+types_of-view scope m = ap (types_of scope) (views_message m) ∙ types_of_message scope (message_view m)
+
+pub generated_of-view : (scope : Scope) (m : Message) → generated_of scope (message_statement_view (statement.Message m)) ≡ flat_map (generated_of (inside scope (message_view m).name)) (message_view m).body
+generated_of-view scope m = ap (generated_of scope) (views_message m) ∙ generated_of_message scope (message_view m)
+
+pub extensions_of-view : (scope : Scope) (m : Message) → extensions_of scope (message_statement_view (statement.Message m)) ≡ flat_map (extensions_of (inside scope (message_view m).name)) (message_view m).body
+extensions_of-view scope m = ap (extensions_of scope) (views_message m) ∙ extensions_of_message scope (message_view m)
 
 pub message_types-view : (scope : Scope) (m : Message) → message_types scope (message_view m) ≡ declare scope (string_bytes m.name) a_message ∷ flat_map (types_of (inside scope (string_bytes m.name))) (map message_statement_view m.body.items)
 message_types-view scope m = ap (message_types scope) (view_parts m)
 
--- one statement more
-pub adds_next : {S X : Type 0} (old between new : Declarations) (file : ℕ) (types : X → List DeclaredType) (view : S → X) (before : List DeclaredType) (xs : List S) (i : ℕ) (x : S) → i < length xs → x ≡ get_or xs i x
-    → Adds old between file (before ++ flat_map types (map view (take i xs))) → Adds between new file (types (view x))
-    → Adds old new file (before ++ flat_map types (map view (take (i + 1) xs)))
-adds_next old between new file types view before xs i x lt is so_far more =
-    let e = map_more view xs i x lt in
-    let at : map view (take (i + 1) xs) ≡ map view (take i xs) ++ view x ∷ [] = e ∙ ap (λ z. map view (take i xs) ++ view z ∷ []) (sym is) in
-    let all = flat_map_more types before (map view (take i xs)) (view x) ∙ ap (λ ys. before ++ flat_map types ys) (sym at) in
-    subst (λ ds. Adds old new file ds) all (adds_more old between new file (before ++ flat_map types (map view (take i xs))) (types (view x)) so_far more)
+pub generated-view : (scope : Scope) (m : Message) → flat_map (generated_of (inside scope (message_view m).name)) (message_view m).body ≡ flat_map (generated_of (inside scope (string_bytes m.name))) (map message_statement_view m.body.items)
+generated-view scope m = ap (λ (x : MessageSyntax). flat_map (generated_of (inside scope x.name)) x.body) (view_parts m)
+
+pub extensions-view : (scope : Scope) (m : Message) → flat_map (extensions_of (inside scope (message_view m).name)) (message_view m).body ≡ flat_map (extensions_of (inside scope (string_bytes m.name))) (map message_statement_view m.body.items)
+extensions-view scope m = ap (λ (x : MessageSyntax). flat_map (extensions_of (inside scope x.name)) x.body) (view_parts m)
 
 -- ---- files, one after another
 
 -- a table with no name tells of no file
-pub tells_none : (table : Declarations) → table.types.entries ≡ [] → Tells table []
-tells_none table none text = ap (λ (es : List (String Global × Vec Declaration)). listed (lookup (λ (s : String Global). bytes_eq text (string_bytes s)) es)) none
+pub tells_none : (table : Declarations) → table.by_name.entries ≡ [] → Tells table []
+tells_none table none = record { declares = nothing; lists = λ text more. let long : length (declared_as table text) ≡ 0 = ap length (nothing text) in absurd (omega (arith, long, more)) }
+  where
+    nothing : (text : Text) → declared_as table text ≡ []
+    nothing text = ap (λ (es : List (String Global × Vec Declaration)). listed (lookup (is_at (λ (k : String Global). slice_cmp nat_cmp text (string_bytes k))) es)) none
 
-declared_in-push : (text : Text) (n file : ℕ) (files : List FileSyntax) (t : FileSyntax) → n + length files ≡ file → declared_in text n (files ++ t ∷ []) ≡ declared_in text n files ++ declared_by text file (file_types t)
+declared_in-push : (text : Text) (n file : ℕ) (files : List FileSyntax) (t : FileSyntax) → n + length files ≡ file → declared_in text n (files ++ t ∷ []) ≡ declared_in text n files ++ declared_in_file text file t
 declared_in-push text n file [] t at =
     let here : n ≡ file = omega arith in
-    append-nil (declared_by text n (file_types t)) ∙ ap (λ k. declared_by text k (file_types t)) here
+    append-nil (declared_in_file text n t) ∙ ap (λ k. declared_in_file text k t) here
 declared_in-push text n file (f ∷ files) t at =
     let next : suc n + length files ≡ file = omega arith in
-    ap (λ ds. declared_by text n (file_types f) ++ ds) (declared_in-push text (suc n) file files t next)
-    ∙ sym (append_assoc (declared_by text n (file_types f)) (declared_in text (suc n) files) (declared_by text file (file_types t)))
+    ap (λ ds. declared_in_file text n f ++ ds) (declared_in-push text (suc n) file files t next)
+    ∙ sym (append_assoc (declared_in_file text n f) (declared_in text (suc n) files) (declared_in_file text file t))
 
-pub tells_more : (old new : Declarations) (files : List FileSyntax) (t : FileSyntax) (file : ℕ) → Adds old new file (file_types t) → length files ≡ file → Tells old files → Tells new (files ++ t ∷ [])
-tells_more old new files t file adds at tells text =
-    let number : 0 + length files ≡ file = omega arith in
-    adds text ∙ ap (λ ds. ds ++ declared_by text file (file_types t)) (tells text) ∙ sym (declared_in-push text 0 file files t number)
-
--- ---- what a file sees
-
--- the numbers rise, from n on
-abbrev Rises : ℕ → List ℕ → Type 0
-Rises n [] = Unit {0}
-Rises n (r ∷ rs) = (n ≤ r) × Rises (suc r) rs
-
-rises : (n : ℕ) (rs : List ℕ) → IsStrictlyIncreasing rs → (0 < length rs → n ≤ get_or rs 0 0) → Rises n rs
-rises n [] up low = tt
-rises n (r ∷ rs) up low = (low (omega arith), rises (suc r) rs later next)
+pub tells_more : (old first second new : Declarations) (files : List FileSyntax) (t : FileSyntax) (file : ℕ)
+    → Adds type_entry old first file (file_types t) → Adds generated_entry first second file (file_generated t) → Adds extension_entry second new file (file_extensions t)
+    → length files ≡ file → Tells old files → Tells new (files ++ t ∷ [])
+tells_more old first second new files t file types generated extensions at tells = record { declares = all; lists = extensions.lists (generated.lists (types.lists tells.lists)) }
   where
-    later : IsStrictlyIncreasing rs
-    later k lt =
-        let e : suc k + 1 ≡ suc (k + 1) = omega arith in
-        let g = up (suc k) (omega (arith, lt)) in
-        subst (λ (j : ℕ). get_or rs k 0 < get_or (r ∷ rs) j 0) e g
-
-    next : 0 < length rs → suc r ≤ get_or rs 0 0
-    next some = omega (arith, up 0 (omega (arith, some)))
-
--- a number below them all is none of them
-absent : (n : ℕ) (rs : List ℕ) → Rises (suc n) rs → list_any (nat_eq n) rs ≡ false
-absent n [] h = refl
-absent n (r ∷ rs) h =
-    ap (λ b. b || list_any (nat_eq n) rs) (ne_eqb n r (λ e. absurd (omega (arith, h.0)))) ∙ absent n rs (lower (suc n) (suc r) rs (omega (arith, h.0)) h.1)
-  where
-    lower : (m k : ℕ) (xs : List ℕ) → m ≤ k → Rises k xs → Rises m xs
-    lower m k [] le g = tt
-    lower m k (x ∷ xs) le g = (omega (arith, g.0), g.1)
-
-none_picked : (files : List FileSyntax) (n : ℕ) (rs : List ℕ) → ((k : ℕ) → n ≤ k → slice_get files k ≡ None) → Rises n rs → picked files rs ≡ []
-none_picked files n [] none h = refl
-none_picked files n (r ∷ rs) none h =
-    ap (λ o. option_to_list o ++ picked files rs) (none r h.0) ∙ none_picked files (suc r) rs (λ k le. none k (omega (arith, h.0))) h.1
-
-kind_back : (k : declarations.TypeKind) → kind_view (kind_of k) ≡ k
-kind_back a_message = refl
-kind_back an_enum = refl
-
-module _ (name : Text) where
-  abbrev is_named : DeclaredType → Bool
-  is_named d = bytes_eq d.name name
-
-  abbrev meant : Option TypeKind → Option DeclaredType
-  meant k = option_map (declared_type name) k
-
-  back : (d : DeclaredType) → d.name ≡ name → declared_type name (kind_of d.what) ≡ d
-  back d e =
-      let named : List ℕ → DeclaredType = λ text. record { name = text; what = d.what } in
-      let of_kind : declarations.TypeKind → DeclaredType = λ w. record { name = name; what = w } in
-      ap of_kind (kind_back d.what) ∙ ap named (sym e)
-
-  first_of : (reach : List ℕ) (n : ℕ) (b : Bool) → list_any (nat_eq n) reach ≡ b → (ds : List DeclaredType) (rest : List Declaration)
-      → meant (first_reached reach (declared_by name n ds ++ rest)) ≡ (if b then option_or (find is_named ds) (meant (first_reached reach rest)) else meant (first_reached reach rest))
-  first_of reach n true e [] rest = refl
-  first_of reach n false e [] rest = refl
-  first_of reach n true e (d ∷ ds) rest = at (is_named d) refl (first_of reach n true e ds rest)
-    where
-      at : (c : Bool) → is_named d ≡ c → meant (first_reached reach (declared_by name n ds ++ rest)) ≡ option_or (find is_named ds) (meant (first_reached reach rest))
-          → meant (first_reached reach (map (declaration_of n) (cond c (d ∷ filter is_named ds) (filter is_named ds)) ++ rest)) ≡ option_or (cond c (Some d) (find is_named ds)) (meant (first_reached reach rest))
-      at false h more = more
-      at true h more = ap (λ z. meant (if z then Some (kind_of d.what) else first_reached reach (declared_by name n ds ++ rest))) e ∙ ap Some (back d ((bytes_eq-Decides d.name name).0 h))
-  first_of reach n false e (d ∷ ds) rest = at (is_named d) refl (first_of reach n false e ds rest)
-    where
-      at : (c : Bool) → is_named d ≡ c → meant (first_reached reach (declared_by name n ds ++ rest)) ≡ meant (first_reached reach rest)
-          → meant (first_reached reach (map (declaration_of n) (cond c (d ∷ filter is_named ds) (filter is_named ds)) ++ rest)) ≡ meant (first_reached reach rest)
-      at false h more = more
-      at true h more = ap (λ z. meant (if z then Some (kind_of d.what) else first_reached reach (declared_by name n ds ++ rest))) e ∙ more
-
-  module _ (files : List FileSyntax) (reach : List ℕ) where
-    -- the files from the number n on, and those of the numbers that are n or more
-    record Rest (ts : List FileSyntax) (n : ℕ) (rs : List ℕ) : Type 0 where
-      stand : (i : ℕ) → slice_get files (n + i) ≡ slice_get ts i
-      same : (k : ℕ) → n ≤ k → list_any (nat_eq k) reach ≡ list_any (nat_eq k) rs
-      rise : Rises n rs
-
-    stand-next : (t : FileSyntax) (ts : List FileSyntax) (n : ℕ) → ((i : ℕ) → slice_get files (n + i) ≡ slice_get (t ∷ ts) i) → (i : ℕ) → slice_get files (suc n + i) ≡ slice_get ts i
-    stand-next t ts n stand i = let e : suc n + i ≡ n + suc i = omega arith in ap (slice_get files) e ∙ stand (suc i)
-
-    skip : (t : FileSyntax) (ts : List FileSyntax) (n : ℕ) (rs : List ℕ) → Rest (t ∷ ts) n rs → Rises (suc n) rs → Rest ts (suc n) rs
-    skip t ts n rs h rise = record { stand = stand-next t ts n h.stand; same = λ k le. h.same k (omega arith); rise = rise }
-
-    keep : (t : FileSyntax) (ts : List FileSyntax) (n r : ℕ) (rs : List ℕ) → Rest (t ∷ ts) n (r ∷ rs) → n ≡ r → Rest ts (suc n) rs
-    keep t ts n r rs h e = record {
-      stand = stand-next t ts n h.stand;
-      same = λ k le. h.same k (omega arith) ∙ ap (λ b. b || list_any (nat_eq k) rs) (ne_eqb k r (λ same. absurd (omega arith)));
-      rise = subst (λ (j : ℕ). Rises (suc j) rs) (sym e) h.rise.1;
-    }
-
-    abbrev sought : List ℕ → Option DeclaredType
-    sought rs = find is_named (types_of_files (picked files rs))
-
-    sees : (ts : List FileSyntax) (n : ℕ) (rs : List ℕ) → Rest ts n rs → meant (first_reached reach (declared_in name n ts)) ≡ sought rs
-    sees [] n rs h = ap (λ fs. find is_named (types_of_files fs)) (sym (none_picked files n rs none h.rise))
-      where
-        none : (k : ℕ) → n ≤ k → slice_get files k ≡ None
-        none k le = let e : k ≡ n + (k - n) = omega arith in ap (slice_get files) e ∙ h.stand (k - n)
-    sees (t ∷ ts) n [] h = first_of reach n false (h.same n (omega arith)) (file_types t) (declared_in name (suc n) ts) ∙ sees ts (suc n) [] (skip t ts n [] h tt)
-    sees (t ∷ ts) n (r ∷ rs) h =
-        elim (cases_eq n r) [ inl e ↦ here e (sees ts (suc n) rs (keep t ts n r rs h e)) | inr ne ↦ let up : Rises (suc n) (r ∷ rs) = (omega (arith, ne, h.rise.0), h.rise.1) in later up (sees ts (suc n) (r ∷ rs) (skip t ts n (r ∷ rs) h up)) ]
-      where
-        here : n ≡ r → meant (first_reached reach (declared_in name (suc n) ts)) ≡ sought rs → meant (first_reached reach (declared_in name n (t ∷ ts))) ≡ sought (r ∷ rs)
-        here e more =
-            let among : list_any (nat_eq n) reach ≡ true = h.same n (omega arith) ∙ ap (λ b. b || list_any (nat_eq n) rs) (eq-eqb n r e) in
-            let number : r ≡ n + 0 = omega (arith, e) in
-            let file : slice_get files r ≡ Some t = ap (slice_get files) number ∙ h.stand 0 in
-            first_of reach n true among (file_types t) (declared_in name (suc n) ts) ∙ ap (λ o. option_or (find is_named (file_types t)) o) more
-            ∙ sym (find-append is_named (file_types t) (types_of_files (picked files rs)))
-            ∙ ap (λ o. find is_named (types_of_files (option_to_list o ++ picked files rs))) (sym file)
-
-        later : Rises (suc n) (r ∷ rs) → meant (first_reached reach (declared_in name (suc n) ts)) ≡ sought (r ∷ rs) → meant (first_reached reach (declared_in name n (t ∷ ts))) ≡ sought (r ∷ rs)
-        later up more = first_of reach n false (h.same n (omega arith) ∙ absent n (r ∷ rs) up) (file_types t) (declared_in name (suc n) ts) ∙ more
-
--- Where the table tells of the files, a file sees just the types of those that it reaches.
-pub seen_types_are : (seen : Seen) (files : List FileSyntax) → Tells seen.declarations.now files → seen_types seen ≡ declared (types_of_files (picked files seen.sight.now))
-seen_types_are seen files tells = fun_ext (λ (name : Text).
-    let reach = seen.sight.now in
-    let first = ap (λ ds. option_map (declared_type name) (first_reached reach ds)) (tells name) in
-    let rest : Rest name files reach files 0 reach = record { stand = λ i. ap (slice_get files) (zero-add i); same = λ k le. refl; rise = rises 0 reach seen.sight_ascends (λ some. omega arith) } in
-    first ∙ sees name files reach files 0 reach rest)
+    all : (text : Text) → declared_as new text ≡ declared_in text 0 (files ++ t ∷ [])
+    all text =
+        let number : 0 + length files ≡ file = omega arith in
+        let ts = declared_by type_entry text file (file_types t) in
+        let gs = declared_by generated_entry text file (file_generated t) in
+        let es = declared_by extension_entry text file (file_extensions t) in
+        let after : declared_as new text ≡ ((declared_as old text ++ ts) ++ gs) ++ es = extensions.declares text ∙ ap (λ ds. ds ++ es) (generated.declares text ∙ ap (λ ds. ds ++ gs) (types.declares text)) in
+        let flat : declared_as new text ≡ declared_as old text ++ declared_in_file text file t = after ∙ append_assoc (declared_as old text ++ ts) gs es ∙ append_assoc (declared_as old text) ts (gs ++ es) in
+        flat ∙ ap (λ ds. ds ++ declared_in_file text file t) (tells.declares text) ∙ sym (declared_in-push text 0 file files t number)

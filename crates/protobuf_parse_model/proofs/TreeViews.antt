@@ -10,7 +10,8 @@ use Rattle.protobuf_parse_syntax.specs.declared.tree.constant.ProtobufConstant.T
 use Rattle.protobuf_parse_syntax.specs.declared.tree.declaration.Message.{Message, fold_out-Message, the_lemmas}
 use Rattle.protobuf_parse_syntax.specs.declared.tree.declaration.MessageStatement.{fold-roll-MessageStatement}
 use Rattle.protobuf_parse_syntax.specs.declared.tree.declaration.MessageStatement.TheOpen as layer
-use Rattle.protobuf_parse_syntax.specs.declared.tree.declaration.MessageStatement.TheVariants.{rolls-Extensions, Extensions as is_extensions, rolls-Message, Message as is_message}
+use Rattle.protobuf_parse_syntax.specs.declared.tree.declaration.MessageStatement.TheVariants.{rolls-Extend, Extend as is_extend, rolls-Extensions, Extensions as is_extensions, rolls-Message, Message as is_message}
+use Rattle.protobuf_parse_syntax.specs.declared.tree.declaration.Extend.{Extend}
 use Rattle.protobuf_parse_syntax.specs.declared.tree.declaration.Extensions.{Extensions}
 
 pub views_message : (m : Message) → (tree.message_view m).body ≡ map tree.message_statement_view m.body.items
@@ -21,6 +22,9 @@ views_nested m = ap tree.message_statement_view (sym (rolls-Message m)) ∙ fold
 
 pub views_extensions : (e : Extensions) → tree.message_statement_view (is_extensions e) ≡ tree.message_extensions (tree.extensions_view e)
 views_extensions e = ap tree.message_statement_view (sym (rolls-Extensions e)) ∙ fold-roll-MessageStatement MessageStatementSyntax MessageSyntax tree.message_statement_step tree.message_step (layer.MessageStatement-F.Extensions e)
+
+pub views_extend : (e : Extend) → tree.message_statement_view (is_extend e) ≡ tree.message_extend (tree.extend_view e)
+views_extend e = ap tree.message_statement_view (sym (rolls-Extend e)) ∙ fold-roll-MessageStatement MessageStatementSyntax MessageSyntax tree.message_statement_step tree.message_step (layer.MessageStatement-F.Extend e)
 
 pub views_ident : (name : String Global) → tree.constant_view (is_ident name) ≡ tree.dotted (string_bytes name)
 views_ident name = ap tree.constant_view (sym (rolls-Ident name)) ∙ fold-roll-ProtobufConstant ConstantSyntax ConstantFieldSyntax tree.constant_step tree.constant_field_step (constant_layer.ProtobufConstant-F.Ident name)

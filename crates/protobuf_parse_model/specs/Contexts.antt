@@ -1,12 +1,15 @@
--- The environment of a construct, by the numbers of the files that its file reaches and what each full name is declared
+-- The environment of a construct, by the numbers of the files that its file sees and what each full name is declared
 -- as in which files.
-use Rattle.std.specs.Prelude.{ℕ, List, [], ◌∷◌, ◌++◌, map, flat_map, length, nat_eq, bytes_eq, string_bytes, String, Option, Some, None, option_map, option_to_list, if◌then◌else◌}
+use Rattle.std.specs.Prelude.{ℕ, List, [], ◌∷◌, ◌++◌, map, flat_map, length, nat_eq, string_bytes, String, Option, Some, None, option_map, option_to_list, if◌then◌else◌}
 use Rattle.std.specs.Borrow.{Bor}
 use Rattle.std.specs.Global.{Global, Vec}
 use Rattle.std.specs.List.{list_any}
-use Rattle.indexmap.specs.IndexMap.{get_by}
+use Rattle.std.specs.BTreeMap.{get_by_text}
+use Rattle.std.specs.Option.{option_or}
 use Rattle.protobuf_parse_model.specs.declared.scope.seen.TypeKind.{TypeKind}
 use Rattle.protobuf_parse_model.specs.declared.scope.seen.TypeKind.TheVariants as kind
+use Rattle.protobuf_parse_model.specs.declared.scope.seen.DeclarationKind.{DeclarationKind}
+use Rattle.protobuf_parse_model.specs.declared.scope.seen.DeclarationKind.TheVariants as declaration
 use Rattle.protobuf_parse_model.specs.declared.scope.seen.Declaration.{Declaration}
 use Rattle.protobuf_parse_model.specs.declared.scope.seen.Declarations.{Declarations}
 use Rattle.protobuf_parse_model.specs.declared.scope.seen.Seen.{Seen}
@@ -154,24 +157,32 @@ said_by type_ name os = record { default_value = fields.default_of type_ os; jso
 abbrev pub place_view : FieldPlace → fields.FieldPlace
 place_view p = record { extendee = option_map (λ (s : Bor (List ℕ)). s.now) p.extendee; oneof_index = p.oneof_index }
 
--- what the first of the files declares that is reached
-abbrev pub first_reached : List ℕ → List Declaration → Option TypeKind
-first_reached reach [] = None
-first_reached reach (d ∷ ds) = if list_any (nat_eq d.file) reach then Some d.kind else first_reached reach ds
+-- what kind of type is declared, where a written name may mean it
+abbrev pub type_kind : DeclarationKind → Option TypeKind
+type_kind declaration.Message = Some kind.Message
+type_kind declaration.Enum = Some kind.Enum
+type_kind declaration.Generated = None
+type_kind declaration.Extension = None
+
+-- the type that the first declaration declares that is of one and stands in a file with one of these numbers
+abbrev pub first_type : List ℕ → List Declaration → Option TypeKind
+first_type sight [] = None
+first_type sight (d ∷ ds) = if list_any (nat_eq d.file) sight then option_or (type_kind d.kind) (first_type sight ds) else first_type sight ds
+
+-- the declarations of a list that may be there
+abbrev pub listed : Option (Vec Declaration) → List Declaration
+listed None = []
+listed (Some v) = v.items
 
 -- the declarations of the full name
 abbrev pub declared_as : Declarations → Text → List Declaration
-declared_as ds name = declarations_or_none (get_by (λ (s : String Global). bytes_eq name (string_bytes s)) ds.types)
-  where
-    declarations_or_none : Option (Vec Declaration) → List Declaration
-    declarations_or_none None = []
-    declarations_or_none (Some v) = v.items
+declared_as ds name = listed (get_by_text ds.by_name name)
 
 abbrev pub declared_type : Text → TypeKind → DeclaredType
 declared_type name k = record { name = name; what = kind_view k }
 
 abbrev pub seen_types : Seen → Text → Option DeclaredType
-seen_types seen name = option_map (declared_type name) (first_reached seen.sight.now (declared_as seen.declarations.now name))
+seen_types seen name = option_map (declared_type name) (first_type seen.sight.now (declared_as seen.declarations.now name))
 
 abbrev pub environment_in : Context → Environment
 environment_in c = record { syntax = c.syntax; types = seen_types c.seen; scope = texts c.scope.now; custom = no_custom }

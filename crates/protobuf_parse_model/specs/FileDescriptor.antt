@@ -37,10 +37,6 @@ types_of_files files = flat_map file_types files
 abbrev pub environment : List FileSyntax → CustomBytes → FileSyntax → Environment
 environment seen custom t = record { syntax = t.syntax; types = declared (types_of_files seen); scope = file_scope t; custom = custom }
 
--- so it is whatever the file sees, and whatever its custom options become
-abbrev pub InAnyEnvironment : FileSyntax → (Environment → Type 0) → Type 0
-InAnyEnvironment t P = (seen : List FileSyntax) (custom : CustomBytes) → P (environment seen custom t)
-
 -- ---- the descriptor
 
 -- the messages of a statement: those written there, and those behind the groups of an `extend`

@@ -1,40 +1,98 @@
--- What a table of declared types tells of files.
-use Rattle.std.specs.Prelude.{◌≡◌, ℕ, suc, List, [], ◌∷◌, ◌++◌, map, flat_map, filter, bytes_eq, option_to_list, slice_get}
+-- What a table of declarations tells of files.
+use Rattle.std.specs.Prelude.{◌≡◌, ℕ, ◌<◌, suc, Bool, true, false, not, ◌&&◌, List, [], ◌∷◌, ◌++◌, map, flat_map, filter, length, bytes_eq, nat_eq, nat_lt, string_bytes, option_to_list, slice_get, if◌then◌else◌, Contains}
+use Rattle.std.specs.List.{list_any}
 use Rattle.protobuf_parse_syntax.specs.Trees.{FileSyntax}
-use Rattle.protobuf_parse_model.specs.declared.scope.seen.TypeKind.{TypeKind}
-use Rattle.protobuf_parse_model.specs.declared.scope.seen.TypeKind.TheVariants as kind
+use Rattle.protobuf_parse_model.specs.declared.error.ElabErrorKind.TheVariants.{TypeDeclaredTwice, ExtensionDeclaredTwice}
+use Rattle.protobuf_parse_model.specs.declared.scope.seen.DeclarationKind.{DeclarationKind}
+use Rattle.protobuf_parse_model.specs.declared.scope.seen.DeclarationKind.TheVariants as kind
 use Rattle.protobuf_parse_model.specs.declared.scope.seen.Declaration.{Declaration}
 use Rattle.protobuf_parse_model.specs.declared.scope.seen.Declarations.{Declarations}
+use Rattle.protobuf_parse_model.specs.declared.scope.seen.Seen.{Seen}
 use Rattle.protobuf_parse_model.specs.Descriptors.{Text}
+use Rattle.protobuf_parse_model.specs.Faults.{Fault}
+use Rattle.protobuf_parse_model.specs.Duplicates.{fault_when}
 use Rattle.protobuf_parse_model.specs.Declarations as declared
-use Rattle.protobuf_parse_model.specs.Declarations.{DeclaredType, a_message, an_enum, file_types}
+use Rattle.protobuf_parse_model.specs.Declarations.{Declared, DeclaredType, DeclaredExtension, a_message, an_enum, file_types, file_generated, file_extensions}
 use Rattle.protobuf_parse_model.specs.Contexts.{declared_as}
 
-abbrev pub kind_of : declared.TypeKind → TypeKind
+-- a full name, and what it is declared as
+abbrev pub Entry : Type 0
+Entry = Declared DeclarationKind
+
+abbrev pub kind_of : declared.TypeKind → DeclarationKind
 kind_of a_message = kind.Message
 kind_of an_enum = kind.Enum
 
--- what the file with that number declares
-abbrev pub declaration_of : ℕ → DeclaredType → Declaration
-declaration_of file d = record { file = file; kind = kind_of d.what }
+abbrev pub type_entry : DeclaredType → Entry
+type_entry d = record { name = d.name; what = kind_of d.what }
 
--- the declarations of the name among those of a file
-abbrev pub declared_by : Text → ℕ → List DeclaredType → List Declaration
-declared_by name file ds = map (declaration_of file) (filter (λ (d : DeclaredType). bytes_eq d.name name) ds)
+abbrev pub generated_entry : Text → Entry
+generated_entry name = record { name = name; what = kind.Generated }
 
--- the same among those of files, of which the first has the number n and each next one the next number
+abbrev pub extension_entry : DeclaredExtension → Entry
+extension_entry d = record { name = d.name; what = kind.Extension }
+
+-- the declarations of the name among things that the file with that number declares
+abbrev pub declared_by : {A : Type 0} → (A → Entry) → Text → ℕ → List A → List Declaration
+declared_by entry name file ds = map (λ d. record { file = file; kind = (entry d).what }) (filter (λ d. bytes_eq (entry d).name name) ds)
+
+-- the declarations of the name in a file
+abbrev pub declared_in_file : Text → ℕ → FileSyntax → List Declaration
+declared_in_file name file t =
+    declared_by type_entry name file (file_types t)
+    ++ (declared_by generated_entry name file (file_generated t) ++ declared_by extension_entry name file (file_extensions t))
+
+-- the same in files, of which the first has the number n and each next one the next number
 abbrev pub declared_in : Text → ℕ → List FileSyntax → List Declaration
 declared_in name n [] = []
-declared_in name n (t ∷ ts) = declared_by name n (file_types t) ++ declared_in name (suc n) ts
+declared_in name n (t ∷ ts) = declared_in_file name n t ++ declared_in name (suc n) ts
+
+-- the full names that the table lists as declared more than once
+abbrev pub listed_names : Declarations → List Text
+listed_names table = map string_bytes table.repeated.items
+
+-- Each name that is declared more than once is listed.
+abbrev pub ListsRepeated : Declarations → Type 0
+ListsRepeated table = (name : Text) → 1 < length (declared_as table name) → Contains (listed_names table) name
 
 -- Each name is declared in the table as the files declare it, in their order.
-abbrev pub Tells : Declarations → List FileSyntax → Type 0
-Tells table files = (name : Text) → declared_as table name ≡ declared_in name 0 files
+pub record Tells (table : Declarations) (files : List FileSyntax) : Type 0 where
+  pub declares : (name : Text) → declared_as table name ≡ declared_in name 0 files
+  pub lists : ListsRepeated table
 
 -- what the file declares was added at the end of each name's declarations
-abbrev pub Adds : Declarations → Declarations → ℕ → List DeclaredType → Type 0
-Adds old new file ds = (name : Text) → declared_as new name ≡ declared_as old name ++ declared_by name file ds
+pub record Adds {A : Type 0} (entry : A → Entry) (old new : Declarations) (file : ℕ) (ds : List A) : Type 0 where
+  pub declares : (name : Text) → declared_as new name ≡ declared_as old name ++ declared_by entry name file ds
+  pub lists : ListsRepeated old → ListsRepeated new
+
+-- the same of one declaration, by its full name
+pub record AddsOne (old new : Declarations) (full : Text) (d : Declaration) : Type 0 where
+  pub declares : (name : Text) → declared_as new name ≡ declared_as old name ++ (if bytes_eq full name then d ∷ [] else [])
+  pub lists : ListsRepeated old → ListsRepeated new
 
 -- the files with these numbers
 abbrev pub picked : List FileSyntax → List ℕ → List FileSyntax
 picked files numbers = flat_map (λ (n : ℕ). option_to_list (slice_get files n)) numbers
+
+-- ---- what is declared twice
+
+-- whether this is what an extension is declared as, or else what a message or an enum is
+abbrev pub is_of : Bool → DeclarationKind → Bool
+is_of extension kind.Message = not extension
+is_of extension kind.Enum = not extension
+is_of extension kind.Generated = not extension
+is_of extension kind.Extension = extension
+
+-- how many of the declarations, of extensions or else of types, stand in files with these numbers
+abbrev pub times : Bool → List ℕ → List Declaration → ℕ
+times extension reach ds = length (filter (λ (d : Declaration). is_of extension d.kind && list_any (nat_eq d.file) reach) ds)
+
+-- how often the files that are reached declare the name
+abbrev pub times_declared : Bool → Seen → Text → ℕ
+times_declared extension seen name = times extension seen.reach.now (declared_as seen.declarations.now name)
+
+-- E5 and E6 for the name
+abbrev pub name_faults : Seen → Text → List Fault
+name_faults seen name =
+    fault_when (nat_lt 1 (times_declared false seen name)) TypeDeclaredTwice name
+    ++ fault_when (nat_lt 1 (times_declared true seen name)) ExtensionDeclaredTwice name

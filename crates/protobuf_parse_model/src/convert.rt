@@ -4,7 +4,7 @@ mod body;
 mod contents;
 mod customs;
 mod enumeration;
-mod field;
+pub mod field;
 mod file;
 mod generated;
 mod imports;
@@ -14,12 +14,12 @@ mod names;
 mod oneof;
 mod options;
 mod place;
-mod refuse;
+pub mod refuse;
 mod reserved;
 mod rest;
 mod service;
 mod statement;
-mod types;
+pub mod types;
 
 ghost use Rattle.std.specs.Prelude.{List, ◌++◌};
 ghost use Rattle.protobuf_parse_syntax.specs.Trees.{FileSyntax, file_view};
@@ -41,7 +41,7 @@ use std::alloc::Global;
 /// The descriptor of a file.
 ///
 /// Takes the path that the file is known by, its tree, and what it sees: the declarations of files, and the
-/// numbers of those among them that it reaches, itself with them. Where the declarations are those that
+/// numbers of those among them whose names it sees, itself with them. Where the declarations are those that
 /// `Declarations::add` made of files one after the other, the answer is what the language says of a file
 /// that sees the files with these numbers.
 ///
@@ -56,7 +56,8 @@ use std::alloc::Global;
 /// - Unsupported: a custom option is set, or a file has 2147483648 imports or more, or a message as many
 ///   statements.
 ///
-/// E5 and E6, for full names that the reached files declare twice, are not looked for here.
+/// E5 and E6, for full names that the reached files declare twice, are no part of this: `link` tells them,
+/// and is to be called first.
 pub fn elaborate(
     alloc: Global,
     name: &str,

@@ -19,4 +19,4 @@ pub use descriptor::{
 pub use error::{ElabError, ElabErrorKind, ElabFailure};
 pub use laws::types_are_looked_up;
 pub use linking::link;
-pub use scope::{Declaration, Declarations, Seen, TypeKind};
+pub use scope::{Declaration, DeclarationKind, Declarations, Seen, TypeKind};

@@ -5,15 +5,17 @@ ghost use Rattle.std.specs.Borrow.{Bor};
 ghost use Rattle.std.specs.List.{list_any};
 ghost use Rattle.protobuf_parse_model.specs.Declarations as names;
 ghost use Rattle.protobuf_parse_model.specs.Environment.{type_named};
-ghost use Rattle.protobuf_parse_model.specs.Contexts.{environment_in, first_reached, meaning_view, seen_types, texts};
+ghost use Rattle.protobuf_parse_model.specs.Contexts.{declared_as, environment_in, first_type, meaning_view, seen_types, texts, type_kind};
 
 mod declare;
+mod extensions;
+mod generated;
 mod seen;
 
 use crate::descriptor::FieldType;
 pub use declare::package_scope;
 use protobuf_parse_syntax::Syntax;
-pub use seen::{Declaration, Declarations, Seen, TypeKind};
+pub use seen::{Declaration, DeclarationKind, Declarations, Seen, TypeKind};
 use std::alloc::{AllocError, Global};
 
 /// From where a construct is seen.
@@ -26,7 +28,7 @@ pub struct Context<'a> {
 }
 
 /// The type that a name means.
-#[derive(Debug, Drop)]
+#[derive(Drop)]
 pub struct Meaning {
     /// The full name, with the first dot.
     pub name: String,
@@ -34,7 +36,7 @@ pub struct Meaning {
 }
 
 /// A type as a descriptor says it.
-#[derive(Debug, Drop)]
+#[derive(Drop)]
 pub struct ResolvedType {
     pub kind: FieldType,
     /// The full name of a message or an enum, with the first dot.
@@ -97,25 +99,47 @@ pub fn type_named(
 fn declared(seen: &Seen<'_>, name: String) -> Option<Meaning>
     ensures { option_map meaning_view result ≡ seen_types seen.now (string_bytes name) }
 {
-    let declarations = seen.declarations.types.get(name.as_str())?;
-    let kind = first_reached(seen, declarations)?;
+    let kind = first_type(seen, declarations_of(seen.declarations, &name))?;
     Some(Meaning { name, kind })
 }
 
-/// What the first of these files that is reached declares.
-fn first_reached(seen: &Seen<'_>, declarations: &[Declaration]) -> Option<TypeKind>
-    ensures { result ≡ first_reached seen.now.sight.now declarations.now }
+/// The declarations of that full name.
+pub fn declarations_of<'a>(table: &'a Declarations, name: &str) -> &'a [Declaration]
+    ensures { result.now ≡ declared_as table.now name.now }
+{
+    match table.by_name.get(name) {
+        Some(declarations) => declarations,
+        None => &[],
+    }
+}
+
+/// The type that the first of these declarations declares that is of one and that the file sees.
+fn first_type(seen: &Seen<'_>, declarations: &[Declaration]) -> Option<TypeKind>
+    ensures { result ≡ first_type seen.now.sight.now declarations.now }
 {
     for declaration in declarations {
-        if is_reached(seen, declaration.file) {
-            return Some(declaration.kind);
+        if is_seen(seen, declaration.file) {
+            if let Some(kind) = type_kind(declaration.kind) {
+                return Some(kind);
+            }
         }
     }
     None
 }
 
-/// Whether the file is reached.
-fn is_reached(seen: &Seen<'_>, file: usize) -> bool
+/// What kind of type is declared, where a written name may mean it.
+fn type_kind(kind: DeclarationKind) -> Option<TypeKind>
+    ensures { result ≡ type_kind kind }
+{
+    match kind {
+        DeclarationKind::Message => Some(TypeKind::Message),
+        DeclarationKind::Enum => Some(TypeKind::Enum),
+        DeclarationKind::Generated | DeclarationKind::Extension => None,
+    }
+}
+
+/// Whether the names of the file with that number are seen.
+fn is_seen(seen: &Seen<'_>, file: usize) -> bool
     ensures { result ≡ list_any (nat_eq file) seen.now.sight.now }
 {
     seen.sight.binary_search(&file).is_ok()

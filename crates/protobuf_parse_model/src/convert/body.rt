@@ -22,7 +22,7 @@ use protobuf_parse_syntax::{Enumeration, Extend, FieldStatement, OneOf};
 use std::alloc::Global;
 
 /// What the statements of a message's body declare, each list in source order.
-#[derive(Debug, Drop)]
+#[derive(Drop)]
 pub struct Body {
     pub field: Vec<FieldDescriptorProto>,
     pub oneof_decl: Vec<OneofDescriptorProto>,

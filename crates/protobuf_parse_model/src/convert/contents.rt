@@ -23,7 +23,7 @@ use protobuf_parse_syntax::{Extend, FileStatement};
 use std::alloc::Global;
 
 /// What the statements of a file declare, each list in source order.
-#[derive(Debug, Drop)]
+#[derive(Drop)]
 pub struct Contents {
     pub message_type: Vec<DescriptorProto>,
     pub enum_type: Vec<EnumDescriptorProto>,

@@ -52,7 +52,7 @@ pub fn field_descriptor(
 }
 
 /// What the options of a field say.
-#[derive(Debug, Drop)]
+#[derive(Drop)]
 pub struct FieldSaid {
     pub default_value: Option<String>,
     pub json_name: String,

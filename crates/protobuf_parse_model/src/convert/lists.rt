@@ -18,7 +18,7 @@ use protobuf_parse_syntax::{FieldStatement, OneOf, OneOfStatement};
 use std::alloc::{AllocError, Global};
 
 /// Fields, and the messages behind maps and groups among them, each in source order.
-#[derive(Debug, Drop)]
+#[derive(Drop)]
 pub struct DeclaredFields {
     pub fields: Vec<FieldDescriptorProto>,
     pub behind: Vec<DescriptorProto>,

@@ -22,7 +22,7 @@ use protobuf_parse_syntax::{FieldNumberRange, MessageStatement, ProtobufOption, 
 use std::alloc::{AllocError, Global};
 
 /// The ranges and the options of a message.
-#[derive(Debug, Drop)]
+#[derive(Drop)]
 pub struct Rest {
     pub extension_range: Vec<ExtensionRange>,
     pub reserved_range: Vec<ReservedRange>,

@@ -16,7 +16,7 @@ use protobuf_parse_syntax::{Field, FieldStatement, Group};
 use std::alloc::Global;
 
 /// The field that a statement declares.
-#[derive(Debug, Drop)]
+#[derive(Drop)]
 pub struct DeclaredField {
     pub field: FieldDescriptorProto,
     /// The message of a map's entries, or that of a group.

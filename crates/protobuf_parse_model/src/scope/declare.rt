@@ -1,18 +1,21 @@
 //! What files declare, by full name.
 
-ghost use Rattle.std.specs.Prelude.{◌≡◌, List, [], ◌∷◌, ◌++◌, length, bytes_eq, if◌then◌else◌, string_bytes, IfOk, OnOk};
+ghost use Rattle.std.specs.Prelude.{◌≡◌, List, [], ◌∷◌, ◌++◌, map, flat_map, length, nat_eq, bytes_eq, if◌then◌else◌, string_bytes, IfOk, OnOk};
+ghost use Rattle.std.specs.BTreeMap.{get_by_text};
 ghost use Rattle.protobuf_parse_base.specs.Names.{relative_idents};
 ghost use Rattle.protobuf_parse_syntax.specs.Trees.{FileSyntax, file_view, message_statement_view, message_view, statement_view};
 ghost use Rattle.protobuf_parse_model.specs.Declarations as names;
 ghost use Rattle.protobuf_parse_model.specs.Descriptors.{Text};
-ghost use Rattle.protobuf_parse_model.specs.Contexts.{declared_as, kind_view, texts};
-ghost use Rattle.protobuf_parse_model.specs.Tables.{Adds, Tells};
+ghost use Rattle.protobuf_parse_model.specs.Contexts.{declared_as, kind_view, listed, texts};
+ghost use Rattle.protobuf_parse_model.specs.Tables.{Adds, AddsOne, Tells, listed_names, type_entry};
 
-use super::full_name;
-use super::seen::{Declaration, Declarations, TypeKind};
-use indexmap::IndexMap;
+use super::extensions::add_extensions;
+use super::generated::add_generated;
+use super::seen::{Declaration, DeclarationKind, Declarations, TypeKind};
+use super::{declarations_of, full_name};
 use protobuf_parse_syntax::{FileStatement, FileTree, Message, MessageStatement};
 use std::alloc::{AllocError, Global};
+use std::collections::BTreeMap;
 
 impl Declarations {
     /// No names.
@@ -20,21 +23,41 @@ impl Declarations {
         ensures { Tells result [] }
     {
         Declarations {
-            types: IndexMap::new(alloc),
+            by_name: BTreeMap::new(alloc),
+            repeated: Vec::new(alloc),
         }
     }
 
-    /// Adds each message and each enum that a file declares, as declared by the file with that number.
+    /// Adds each message, enum and extension that a file declares, also the messages behind its maps and
+    /// groups, as declared by the file with that number.
     /// The one error is that memory is short: nothing is known of the table then.
     pub fn add(&mut self, alloc: Global, file: usize, tree: &FileTree) -> Result<(), AllocError>
-        ensures { OnOk result ((files : List FileSyntax) → length files ≡ file → Tells self.old files → Tells self.new (files ++ file_view tree.now ∷ [])) }
+        ensures { OnOk result ((files : List FileSyntax) → length files ≡ file →
+            Tells self.old files → Tells self.new (files ++ file_view tree.now ∷ [])) }
     {
         let mut scope = package_scope(alloc, tree)?;
-        for statement in &tree.statements {
-            add_declared(self, alloc, file, &mut scope, statement)?;
-        }
-        Ok(())
+        add_types(self, alloc, file, &mut scope, &tree.statements)?;
+        add_generated(self, alloc, file, &mut scope, &tree.statements)?;
+        add_extensions(self, alloc, file, &mut scope, &tree.statements)
     }
+}
+
+/// Adds each message and each enum that statements of a file declare.
+fn add_types<'a>(
+    table: &mut Declarations,
+    alloc: Global,
+    file: usize,
+    scope: &mut Vec<&'a str>,
+    statements: &'a [FileStatement],
+) -> Result<(), AllocError>
+    ensures scope { OnOk result (texts scope.new.items ≡ texts scope.old.items) }
+    ensures adds { OnOk result (Adds type_entry table.old table.new file
+        (flat_map (names.statement_types (texts scope.old.items)) (map statement_view statements.now))) }
+{
+    for statement in statements {
+        add_declared(table, alloc, file, scope, statement)?;
+    }
+    Ok(())
 }
 
 /// Adds what a statement of a file declares.
@@ -46,7 +69,8 @@ fn add_declared<'a>(
     statement: &'a FileStatement,
 ) -> Result<(), AllocError>
     ensures scope { OnOk result (texts scope.new.items ≡ texts scope.old.items) }
-    ensures adds { OnOk result (Adds table.old table.new file (names.statement_types (texts scope.old.items) (statement_view statement.now))) }
+    ensures adds { OnOk result (Adds type_entry table.old table.new file
+        (names.statement_types (texts scope.old.items) (statement_view statement.now))) }
 {
     match statement {
         FileStatement::Message(message) => add_message(table, alloc, file, scope, message),
@@ -91,7 +115,8 @@ fn add_message<'a>(
     message: &'a Message,
 ) -> Result<(), AllocError>
     ensures scope { OnOk result (texts scope.new.items ≡ texts scope.old.items) }
-    ensures adds { OnOk result (Adds table.old table.new file (names.message_types (texts scope.old.items) (message_view message.now))) }
+    ensures adds { OnOk result (Adds type_entry table.old table.new file
+        (names.message_types (texts scope.old.items) (message_view message.now))) }
 {
     add_type(table, alloc, file, scope, &message.name, TypeKind::Message)?;
     scope.push(&message.name)?;
@@ -112,7 +137,8 @@ fn add_statement<'a>(
     statement: &'a MessageStatement,
 ) -> Result<(), AllocError>
     ensures scope { OnOk result (texts scope.new.items ≡ texts scope.old.items) }
-    ensures adds { OnOk result (Adds table.old table.new file (names.types_of (texts scope.old.items) (message_statement_view statement.now))) }
+    ensures adds { OnOk result (Adds type_entry table.old table.new file
+        (names.types_of (texts scope.old.items) (message_statement_view statement.now))) }
 {
     match statement {
         MessageStatement::Message(message) => add_message(table, alloc, file, scope, message),
@@ -137,22 +163,69 @@ fn add_type(
     name: &str,
     kind: TypeKind,
 ) -> Result<(), AllocError>
-    ensures { OnOk result (Adds table.old table.new file (names.declare (texts scope.now) name.now (kind_view kind) ∷ [])) }
+    ensures { OnOk result (Adds type_entry table.old table.new file
+        (names.declare (texts scope.now) name.now (kind_view kind) ∷ [])) }
 {
-    let name = full_name(alloc, scope, name)?;
-    put(table, alloc, name, Declaration { file, kind })
+    let kind = match kind {
+        TypeKind::Message => DeclarationKind::Message,
+        TypeKind::Enum => DeclarationKind::Enum,
+    };
+    add_name(table, alloc, scope, name, Declaration { file, kind })
 }
 
-/// Adds a declaration at the end of the list of that full name.
+/// Adds the declaration of that name in the scope.
+pub fn add_name(
+    table: &mut Declarations,
+    alloc: Global,
+    scope: &[&str],
+    name: &str,
+    declaration: Declaration,
+) -> Result<(), AllocError>
+    ensures { OnOk result (AddsOne table.old table.new
+        (names.full_name (texts scope.now) name.now) declaration) }
+{
+    let name = full_name(alloc, scope, name)?;
+    put(table, alloc, name, declaration)
+}
+
+/// Adds a declaration of that full name, which is listed where this is its second.
 fn put(
     table: &mut Declarations,
     alloc: Global,
     name: String,
     declaration: Declaration,
 ) -> Result<(), AllocError>
-    ensures { OnOk result ((text : Text) → declared_as table.new text ≡ declared_as table.old text ++ (if bytes_eq (string_bytes name) text then declaration ∷ [] else [])) }
+    ensures { OnOk result (AddsOne table.old table.new (string_bytes name) declaration) }
 {
-    let declarations = table.types.entry(name)?.or_insert(Vec::new(alloc));
+    list_repeated(table, alloc, &name)?;
+    add_last(&mut table.by_name, alloc, name, declaration)
+}
+
+/// Lists the full name where it has one declaration, since it gets its second.
+fn list_repeated(table: &mut Declarations, alloc: Global, name: &str) -> Result<(), AllocError>
+    ensures same { OnOk result (table.new.by_name ≡ table.old.by_name) }
+    ensures lists { OnOk result (listed_names table.new ≡ listed_names table.old
+        ++ (if nat_eq (length (declared_as table.old name.now)) 1 then name.now ∷ [] else [])) }
+{
+    if declarations_of(table, name).len() != 1 {
+        return Ok(());
+    }
+    table.repeated.push(String::from_str(alloc, name)?)?;
+    Ok(())
+}
+
+/// Adds a declaration at the end of the list of that full name.
+fn add_last(
+    by_name: &mut BTreeMap<String, Vec<Declaration>>,
+    alloc: Global,
+    name: String,
+    declaration: Declaration,
+) -> Result<(), AllocError>
+    ensures { OnOk result ((text : Text) →
+        listed (get_by_text by_name.new text) ≡ listed (get_by_text by_name.old text)
+        ++ (if bytes_eq (string_bytes name) text then declaration ∷ [] else [])) }
+{
+    let declarations = by_name.entry(name)?.or_insert(Vec::new(alloc));
     declarations.push(declaration)?;
     Ok(())
 }

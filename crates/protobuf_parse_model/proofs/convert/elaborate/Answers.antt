@@ -7,7 +7,7 @@ use Rattle.protobuf_parse_model.specs.Environment.{Environment, no_custom}
 use Rattle.protobuf_parse_model.specs.Faults.{Elaborates}
 use Rattle.protobuf_parse_model.specs.FileDescriptor.{file_faults, file_of}
 use Rattle.protobuf_parse_model.specs.Unsupported.{unsupported_in}
-use Rattle.protobuf_parse_model.proofs.Tables.{seen_types_are}
+use Rattle.protobuf_parse_model.proofs.Sights.{seen_types_are}
 use Rattle.protobuf_parse_model.proofs.convert.elaborate.Goals as goal
 
 pub returns-clause-by_files : goal.returns-clause-by_files

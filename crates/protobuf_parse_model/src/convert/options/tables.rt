@@ -5,7 +5,7 @@ ghost use Rattle.protobuf_parse_model.specs.BuiltinOptions as spec;
 ghost use Rattle.protobuf_parse_model.specs.OptionViews.{table_seen};
 
 /// What a built-in option is set to.
-#[derive(Clone, Copy, Debug)]
+#[derive(Clone, Copy)]
 pub enum BuiltinKind {
     /// A string that stands for a text.
     Text,
