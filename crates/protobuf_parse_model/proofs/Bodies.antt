@@ -2,8 +2,7 @@
 use Rattle.std.proofs.Common.{◌≡◌, ℕ, ◌+◌, ◌≤◌, Bool, true, false, cond, List, [], ◌∷◌, ◌++◌, flat_map, length, length-append, map, Result, refl, sym, ◌∙◌, ap, arith}
 use Rattle.std.proofs.lemmas.Grind.{flat_map-append}
 use Rattle.std.proofs.lemmas.List.{append-nil, length-map}
-use Rattle.protobuf_parse_syntax.specs.Trees.{ExtendSyntax, file_extend, FieldStatementSyntax, field, group, OneofSyntax, MessageStatementSyntax, message_reserved, message_oneof, message_extend, message_message, message_enum, message_extensions, message_option, message_field, MessageSyntax, nested_message, message_statement_view}
-use Rattle.protobuf_parse_syntax.specs.declared.tree.declaration.MessageStatement.{MessageStatement}
+use Rattle.protobuf_parse_syntax.specs.Trees.{ExtendSyntax, file_extend, FieldStatementSyntax, field, group, OneofSyntax, MessageStatementSyntax, message_reserved, message_oneof, message_extend, message_message, message_enum, message_extensions, message_option, message_field, MessageSyntax, nested_message}
 use Rattle.protobuf_parse_model.specs.Contexts.{BodyParts, FieldAndMessage, FieldsAndMessages, body_of, body_view, declared_by, fields_declared, with_message, with_statement}
 use Rattle.protobuf_parse_model.specs.Descriptors.{OneofDescriptor, enum_view, field_view, message_view, oneof_view, service_view}
 use Rattle.protobuf_parse_model.specs.Environment.{Environment}
@@ -14,7 +13,6 @@ use Rattle.protobuf_parse_model.specs.Statements.{field_statement_name, oneof_fi
 use Rattle.protobuf_parse_model.specs.FileParts.{parts_view, with_file_statement}
 use Rattle.protobuf_parse_model.specs.declared.convert.body.Body.{Body}
 use Rattle.protobuf_parse_model.specs.declared.convert.contents.Contents.{Contents}
-use Rattle.protobuf_parse_model.specs.declared.descriptor.OneofDescriptorProto.{OneofDescriptorProto}
 use Rattle.protobuf_parse_model.specs.declared.error.ElabFailure.{ElabFailure}
 use Rattle.protobuf_parse_model.proofs.Levels.{fields_from-append, nested_of_message}
 

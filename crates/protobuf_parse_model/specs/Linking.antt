@@ -3,7 +3,7 @@
 -- In a file and all that it reaches a full name is declared once: as a message or an enum, those behind maps and groups
 -- counted with them (else E5), and once as an extension (else E6). The files are each given once, in any order.
 -- Protocol Buffers Language Guide, "Packages" (https://protobuf.dev).
-use Rattle.std.specs.Prelude.{ℕ, nat_lt, Bool, List, [], ◌∷◌, ◌++◌, map, filter, flat_map, length, bytes_eq}
+use Rattle.std.specs.Prelude.{ℕ, nat_lt, List, [], ◌∷◌, ◌++◌, map, filter, flat_map, length, bytes_eq}
 use Rattle.protobuf_parse_syntax.specs.Trees.{FileSyntax}
 use Rattle.protobuf_parse_model.specs.declared.error.ElabErrorKind.TheVariants.{TypeDeclaredTwice, ExtensionDeclaredTwice}
 use Rattle.protobuf_parse_model.specs.Descriptors.{Text}
