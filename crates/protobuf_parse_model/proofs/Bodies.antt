@@ -2,17 +2,17 @@
 use Rattle.std.proofs.Common.{◌≡◌, ℕ, ◌+◌, ◌≤◌, Bool, true, false, cond, List, [], ◌∷◌, ◌++◌, flat_map, length, length-append, map, Result, refl, sym, ◌∙◌, ap, arith}
 use Rattle.std.proofs.lemmas.Grind.{flat_map-append}
 use Rattle.std.proofs.lemmas.List.{append-nil, length-map}
-use Rattle.protobuf_parse_syntax.specs.Trees.{FieldStatementSyntax, field, group, OneofSyntax, MessageStatementSyntax, message_reserved, message_oneof, message_extend, message_message, message_enum, message_extensions, message_option, message_field, MessageSyntax, nested_message, message_statement_view}
-use Rattle.protobuf_parse_syntax.specs.declared.tree.declaration.MessageStatement.{MessageStatement}
+use Rattle.protobuf_parse_syntax.specs.Trees.{ExtendSyntax, file_extend, FieldStatementSyntax, field, group, OneofSyntax, MessageStatementSyntax, message_reserved, message_oneof, message_extend, message_message, message_enum, message_extensions, message_option, message_field, MessageSyntax, nested_message}
 use Rattle.protobuf_parse_model.specs.Contexts.{BodyParts, FieldAndMessage, FieldsAndMessages, body_of, body_view, declared_by, fields_declared, with_message, with_statement}
-use Rattle.protobuf_parse_model.specs.Descriptors.{OneofDescriptor, enum_view, field_view, message_view, oneof_view}
+use Rattle.protobuf_parse_model.specs.Descriptors.{OneofDescriptor, enum_view, field_view, message_view, oneof_view, service_view}
 use Rattle.protobuf_parse_model.specs.Environment.{Environment}
 use Rattle.protobuf_parse_model.specs.Faults.{Elaborates, Fault}
 use Rattle.protobuf_parse_model.specs.Fields.{FieldPlace, field_statement_of}
-use Rattle.protobuf_parse_model.specs.Messages.{enums_of, extensions_of, fields_of, has_own_oneof, in_oneof, message_of, nested_of, oneof_of, oneofs_of, own_oneof, own_oneof_of}
+use Rattle.protobuf_parse_model.specs.Messages.{enums_of, extending, extensions_of, fields_of, has_own_oneof, in_oneof, message_of, nested_of, oneof_of, oneofs_of, own_oneof, own_oneof_of}
 use Rattle.protobuf_parse_model.specs.Statements.{field_statement_name, oneof_fields}
+use Rattle.protobuf_parse_model.specs.FileParts.{parts_view, with_file_statement}
 use Rattle.protobuf_parse_model.specs.declared.convert.body.Body.{Body}
-use Rattle.protobuf_parse_model.specs.declared.descriptor.OneofDescriptorProto.{OneofDescriptorProto}
+use Rattle.protobuf_parse_model.specs.declared.convert.contents.Contents.{Contents}
 use Rattle.protobuf_parse_model.specs.declared.error.ElabFailure.{ElabFailure}
 use Rattle.protobuf_parse_model.proofs.Levels.{fields_from-append, nested_of_message}
 
@@ -31,6 +31,15 @@ module _ (env : Environment) (old new : Body) (index : ℕ) (one : OneofDescript
   pub with_own : (s : FieldStatementSyntax) (d : FieldAndMessage) → has_own_oneof env s ≡ true → d ≡ declared_by env (in_oneof index) s → one ≡ own_oneof_of d.field.name → map field_view new.field.items ≡ map field_view old.field.items ++ d.field ∷ [] → map message_view new.nested_type.items ≡ map message_view old.nested_type.items ++ d.behind → body_view new ≡ with_statement env (body_view old) (message_field s)
   with_own s d own is one_is fields nested =
       rw (fields, nested, oneofs, enums, extensions, one_is, is, name_is env (in_oneof index) s, own, place_is, append-nil (map enum_view old.enum_type.items), append-nil (map field_view old.extension.items)) refl
+
+pub with_extend : (env : Environment) (old new : Body) (e : ExtendSyntax) (d : FieldsAndMessages) → d ≡ fields_declared env (extending env e.extendee) e.fields → map field_view new.extension.items ≡ map field_view old.extension.items ++ d.fields → map message_view new.nested_type.items ≡ map message_view old.nested_type.items ++ d.behind → map field_view new.field.items ≡ map field_view old.field.items → map oneof_view new.oneof_decl.items ≡ map oneof_view old.oneof_decl.items → map enum_view new.enum_type.items ≡ map enum_view old.enum_type.items → body_view new ≡ with_statement env (body_view old) (message_extend e)
+with_extend env old new e d is extensions nested fields oneofs enums =
+    rw (extensions, nested, fields, oneofs, enums, is, append-nil (map field_view old.field.items), append-nil (map oneof_view old.oneof_decl.items), append-nil (map enum_view old.enum_type.items)) refl
+
+-- the same of what a file declares
+pub file_with_extend : (env : Environment) (old new : Contents) (e : ExtendSyntax) (d : FieldsAndMessages) → d ≡ fields_declared env (extending env e.extendee) e.fields → map field_view new.extension.items ≡ map field_view old.extension.items ++ d.fields → map message_view new.message_type.items ≡ map message_view old.message_type.items ++ d.behind → map enum_view new.enum_type.items ≡ map enum_view old.enum_type.items → map service_view new.service.items ≡ map service_view old.service.items → parts_view new ≡ with_file_statement env (parts_view old) (file_extend e)
+file_with_extend env old new e d is extensions messages enums services =
+    rw (extensions, messages, enums, services, is, append-nil (map enum_view old.enum_type.items), append-nil (map service_view old.service.items)) refl
 
 -- ---- a body, statement by statement
 
