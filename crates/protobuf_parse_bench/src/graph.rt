@@ -11,21 +11,28 @@ use std::fmt;
 /// How many files a file imports, if so many stand far enough before it.
 const IMPORTS: u64 = 5;
 
-/// Files with the numbers below `files`. Each imports some that stand about a quarter of all before it.
+/// Files with the numbers below `files`. Each imports some that stand about a quarter of all before it, and
+/// uses their types.
 #[derive(Clone, Copy)]
 struct Graph {
     files: u64,
 }
 
 impl Graph {
+    /// A message with a field of the type of each imported file's message.
     fn text_of(&self, alloc: Global, number: u64) -> Result<String, AllocError> {
-        let mut text = format!(in alloc; "message M{number} {{ optional int32 a = 1; }}\n")?;
+        let mut imports = String::new(alloc);
+        let mut fields = String::new(alloc);
         for import in 0..IMPORTS {
             if let Some(before) = number.checked_sub(self.files / 4 + 1 + 7 * import) {
-                text.push_str(&format!(in alloc; "import '{before}';\n")?)?;
+                let position = import + 2;
+                imports.push_str(&format!(in alloc; "import '{before}';\n")?)?;
+                fields.push_str(&format!(in alloc;
+                    " optional M{before} m{before} = {position};"
+                )?)?;
             }
         }
-        Ok(text)
+        format!(in alloc; "{imports}message M{number} {{ optional int32 a = 1;{fields} }}\n")
     }
 
     fn file(&self, alloc: Global, number: u64) -> Result<ResolvedProtoFile, AllocError> {
