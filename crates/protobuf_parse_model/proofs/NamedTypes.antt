@@ -2,7 +2,6 @@
 use Rattle.std.proofs.Common.{◌≡◌, ℕ, ◌+◌, ℤ, pos, Bool, true, false, List, [], ◌∷◌, ◌++◌, map, flat_map, length, Option, Some, None, is_some, IsSome, option_map, option_to_list, unwrap_or, if◌then◌else◌, codes, refl, ap, ◌∙◌}
 use Rattle.std.specs.List.{AllByRecursion}
 use Rattle.protobuf_parse_syntax.specs.Trees.{TypeSyntax, scalar, map_of, named, FieldSyntax, FieldStatementSyntax, field, group, OneofSyntax, ExtendSyntax, MessageStatementSyntax, message_oneof, message_extend, message_message, message_field, MessageStatementList, no_statements, more_statements, MessageSyntax, MethodSyntax, ServiceSyntax, StatementSyntax, file_message, file_extend, file_service, FileSyntax}
-use Rattle.protobuf_parse_syntax.specs.declared.tree.field.Label.{Label}
 use Rattle.protobuf_parse_syntax.specs.declared.tree.field.Scalar.{Scalar}
 use Rattle.protobuf_parse_syntax.specs.declared.tree.field.Scalar.TheVariants as word
 use Rattle.protobuf_parse_model.specs.declared.error.ElabErrorKind.TheVariants.{DanglingTypeName}
@@ -13,12 +12,12 @@ use Rattle.protobuf_parse_model.specs.Duplicates.{fault_when, duplicates}
 use Rattle.protobuf_parse_model.specs.Statements.{group_body, message_body, entry_name, is_map, oneof_fields}
 use Rattle.protobuf_parse_model.specs.Declarations.{Scope, full_name, DeclaredType, TypeKind, a_message, an_enum, generated_by, generated_of, generated_in, statement_generated, file_generated}
 use Rattle.protobuf_parse_model.specs.Lookup.{meant}
-use Rattle.protobuf_parse_model.specs.Environment.{Environment, CustomBytes, inside, type_named, type_full_name, missing, type_missing}
+use Rattle.protobuf_parse_model.specs.Environment.{Environment, CustomBytes, no_custom, inside, type_named, missing, type_missing}
 use Rattle.protobuf_parse_model.specs.BuiltinOptions.{oneof_table, service_table, method_table, file_table, options_faults}
 use Rattle.protobuf_parse_model.specs.OptionsSet.{entry_options}
 use Rattle.protobuf_parse_model.specs.Fields.{kind_of_scalar, kind_of_type, FieldTypeOf, type_of_meaning, type_of, inner_type_faults, type_faults, faults_of_options, FieldPlace, plain, field_of, field_statement_of, field_faults, names_of_fields, fields_of_group, map_faults, grouped_faults, field_statement_faults, extension_faults}
 use Rattle.protobuf_parse_model.specs.Messages as messages
-use Rattle.protobuf_parse_model.specs.Messages.{message_with, entry_field, entry_of, entries_of, messages_behind, has_own_oneof, options_in_oneof, oneofs_of, in_oneof, fields_of, fields_from, extending, extend_fields, extension_faults_of, extend_faults, message_from, nested_of, nested_in, message_of, whole_faults, oneof_faults, faults_in, message_faults}
+use Rattle.protobuf_parse_model.specs.Messages.{message_with, entry_field, entries_of, messages_behind, has_own_oneof, options_in_oneof, oneofs_of, in_oneof, fields_of, fields_from, extending, extend_fields, extension_faults_of, extend_faults, message_from, nested_of, nested_in, message_of, whole_faults, oneof_faults, faults_in, message_faults}
 use Rattle.protobuf_parse_model.specs.Services.{methods_in, options_in_service, statement_option, method_of, service_of, method_faults, methods_faults, service_faults}
 use Rattle.protobuf_parse_model.specs.FileDescriptor as files
 use Rattle.protobuf_parse_model.specs.FileDescriptor.{options_in_file, types_of_files, environment, messages_of, services_of, file_of, file_duplicates, file_faults}
@@ -128,7 +127,11 @@ full-stands : (n : Text) (o : Option DeclaredType) → missing n o ≡ [] → Is
 full-stands n None h = absurd cc
 full-stands n (Some d) h = refl
 
-module _ (P : Text → Type 0) where
+module _ (P : Text → Type 0) (custom : CustomBytes) where
+  -- the environment of a descriptor, with custom options spelled so; that of its faults is without them
+  abbrev with_custom : Environment → Environment
+  with_custom env = record env { custom = custom }
+
   -- the type of a field says its name where it has one, and that has the property
   record TypeIsNamed (t : FieldTypeOf) : Type 0 where
     stands : is_some t.name ≡ has_name t.kind
@@ -175,13 +178,13 @@ module _ (P : Text → Type 0) where
   meaning-named n (Some d) k h = record { stands = kind-named d.what; each = (k d refl, tt) }
 
   -- the key or the value of a map
-  inner-named : (env : Environment) → Known env → (name : Text) (t : TypeSyntax) → inner_type_faults env name t ≡ [] → TypeIsNamed (type_of env name t)
+  inner-named : (env : Environment) → Known env → (name : Text) (t : TypeSyntax) → inner_type_faults env name t ≡ [] → TypeIsNamed (type_of (with_custom env) name t)
   inner-named env known name (scalar s) h = record { stands = scalar-plain s; each = tt }
   inner-named env known name (named n) h = meaning-named n (type_named env n) (known env.scope n) h
   inner-named env known name (map_of key value) h = absurd cc
 
   -- the type of a field, which may be a map
-  type-is-named : (env : Environment) → Known env → (name : Text) (t : TypeSyntax) → AllByRecursion P (if is_map t then full_name env.scope (entry_name name) ∷ [] else []) → type_faults env name t ≡ [] → TypeIsNamed (type_of env name t)
+  type-is-named : (env : Environment) → Known env → (name : Text) (t : TypeSyntax) → AllByRecursion P (if is_map t then full_name env.scope (entry_name name) ∷ [] else []) → type_faults env name t ≡ [] → TypeIsNamed (type_of (with_custom env) name t)
   type-is-named env known name (scalar s) g h = inner-named env known name (scalar s) h
   type-is-named env known name (named n) g h = inner-named env known name (named n) h
   type-is-named env known name (map_of key value) g h = record { stands = refl; each = g }
@@ -199,13 +202,13 @@ module _ (P : Text → Type 0) where
   -- ---- fields
 
   -- a field without faults in its type
-  field-named : (env : Environment) → Known env → (place : FieldPlace) (f : FieldSyntax) → AllByRecursion P (option_to_list place.extendee) → AllByRecursion P (generated_by env.scope (field f)) → type_faults env f.name f.type_ ≡ [] → FieldIsNamed (field_of env place f)
+  field-named : (env : Environment) → Known env → (place : FieldPlace) (f : FieldSyntax) → AllByRecursion P (option_to_list place.extendee) → AllByRecursion P (generated_by env.scope (field f)) → type_faults env f.name f.type_ ≡ [] → FieldIsNamed (field_of (with_custom env) place f)
   field-named env known place f e g h =
-      let t : TypeIsNamed (type_of env f.name f.type_) = type-is-named env known f.name f.type_ g h in
-      record { stands = t.stands; each = all-both P (option_to_list (type_of env f.name f.type_).name) (option_to_list place.extendee) t.each e }
+      let t : TypeIsNamed (type_of (with_custom env) f.name f.type_) = type-is-named env known f.name f.type_ g h in
+      record { stands = t.stands; each = all-both P (option_to_list (type_of (with_custom env) f.name f.type_).name) (option_to_list place.extendee) t.each e }
 
   -- a field or a group
-  statement-named : (env : Environment) → Known env → (place : FieldPlace) (s : FieldStatementSyntax) → AllByRecursion P (option_to_list place.extendee) → AllByRecursion P (generated_by env.scope s) → own_faults env s ≡ [] → FieldIsNamed (field_statement_of env place s)
+  statement-named : (env : Environment) → Known env → (place : FieldPlace) (s : FieldStatementSyntax) → AllByRecursion P (option_to_list place.extendee) → AllByRecursion P (generated_by env.scope s) → own_faults env s ≡ [] → FieldIsNamed (field_statement_of (with_custom env) place s)
   statement-named env known place (field f) e g h = field-named env known place f e g h
   statement-named env known place (group at label name number fields) e g h = record { stands = refl; each = (g.0, e) }
 
@@ -215,7 +218,7 @@ module _ (P : Text → Type 0) where
   no-map false what x h = tt
 
   -- a field of a group
-  grouped-named : (env : Environment) → Known env → (s : FieldStatementSyntax) → grouped_faults env s ≡ [] → FieldIsNamed (field_statement_of env plain s)
+  grouped-named : (env : Environment) → Known env → (s : FieldStatementSyntax) → grouped_faults env s ≡ [] → FieldIsNamed (field_statement_of (with_custom env) plain s)
   grouped-named env known (field f) h =
       field-named env known plain f tt
       (no-map (is_map f.type_) f.name (full_name env.scope (entry_name f.name)) (no-left (map_faults f) (field_faults env f) h))
@@ -233,23 +236,23 @@ module _ (P : Text → Type 0) where
   entry-field-named name number t h = record { stands = h.stands; each = all-both P (option_to_list t.name) [] h.each tt }
 
   -- the entry of a map
-  entries-named : (env : Environment) → Known env → (name : Text) (t : TypeSyntax) → type_faults env name t ≡ [] → AllByRecursion MessageIsNamed (entries_of env name t)
+  entries-named : (env : Environment) → Known env → (name : Text) (t : TypeSyntax) → type_faults env name t ≡ [] → AllByRecursion MessageIsNamed (entries_of (with_custom env) name t)
   entries-named env known name (scalar s) h = tt
   entries-named env known name (named n) h = tt
   entries-named env known name (map_of key value) h =
-      let k : TypeIsNamed (type_of env name key) = inner-named env known name key (no-left (inner_type_faults env name key) (inner_type_faults env name value) h) in
-      let v : TypeIsNamed (type_of env name value) = inner-named env known name value (no-right (inner_type_faults env name key) (inner_type_faults env name value) h) in
-      (message-with-named (entry_name name) (entry_field (codes "key") (pos 1) (type_of env name key) ∷ entry_field (codes "value") (pos 2) (type_of env name value) ∷ []) entry_options
-        (entry-field-named (codes "key") (pos 1) (type_of env name key) k, (entry-field-named (codes "value") (pos 2) (type_of env name value) v, tt)), tt)
+      let k : TypeIsNamed (type_of (with_custom env) name key) = inner-named env known name key (no-left (inner_type_faults env name key) (inner_type_faults env name value) h) in
+      let v : TypeIsNamed (type_of (with_custom env) name value) = inner-named env known name value (no-right (inner_type_faults env name key) (inner_type_faults env name value) h) in
+      (message-with-named (entry_name name) (entry_field (codes "key") (pos 1) (type_of (with_custom env) name key) ∷ entry_field (codes "value") (pos 2) (type_of (with_custom env) name value) ∷ []) entry_options
+        (entry-field-named (codes "key") (pos 1) (type_of (with_custom env) name key) k, (entry-field-named (codes "value") (pos 2) (type_of (with_custom env) name value) v, tt)), tt)
 
   -- the message of a group
-  group-named : (env : Environment) → Known env → (name : Text) (fields : List FieldStatementSyntax) → flat_map (grouped_faults env) fields ≡ [] → MessageIsNamed (message_with name (fields_of_group env fields) None)
+  group-named : (env : Environment) → Known env → (name : Text) (fields : List FieldStatementSyntax) → flat_map (grouped_faults env) fields ≡ [] → MessageIsNamed (message_with name (fields_of_group (with_custom env) fields) None)
   group-named env known name fields h =
-      message-with-named name (fields_of_group env fields) None
-      (all-map FieldIsNamed (field_statement_of env plain) (λ (s : FieldStatementSyntax). grouped_faults env s ≡ []) (grouped-named env known) fields (none-each (grouped_faults env) fields h))
+      message-with-named name (fields_of_group (with_custom env) fields) None
+      (all-map FieldIsNamed (field_statement_of (with_custom env) plain) (λ (s : FieldStatementSyntax). grouped_faults env s ≡ []) (grouped-named env known) fields (none-each (grouped_faults env) fields h))
 
   -- the message behind a field
-  behind-named : (env : Environment) → Known env → (s : FieldStatementSyntax) → field_statement_faults env s ≡ [] → AllByRecursion MessageIsNamed (messages_behind env s)
+  behind-named : (env : Environment) → Known env → (s : FieldStatementSyntax) → field_statement_faults env s ≡ [] → AllByRecursion MessageIsNamed (messages_behind (with_custom env) s)
   behind-named env known (field f) h = entries-named env known f.name f.type_ (own-none env (field f) h)
   behind-named env known (group at label name number fields) h =
       (group-named env known name (group_body fields) (no-right (duplicates (names_of_fields (fields_of_group env (group_body fields)))) (flat_map (grouped_faults env) (group_body fields)) h), tt)
@@ -265,35 +268,35 @@ module _ (P : Text → Type 0) where
   ExtensionIsClean env extendee s = IsClean (extension_faults_of env extendee) P (generated_by env.scope) s
 
   -- fields in one place
-  fields-named : (env : Environment) → Known env → (place : FieldPlace) (ss : List FieldStatementSyntax) → AllByRecursion P (option_to_list place.extendee) → AllByRecursion (FieldIsClean env) ss → AllByRecursion FieldIsNamed (map (field_statement_of env place) ss)
+  fields-named : (env : Environment) → Known env → (place : FieldPlace) (ss : List FieldStatementSyntax) → AllByRecursion P (option_to_list place.extendee) → AllByRecursion (FieldIsClean env) ss → AllByRecursion FieldIsNamed (map (field_statement_of (with_custom env) place) ss)
   fields-named env known place ss e h =
-      all-map FieldIsNamed (field_statement_of env place) (FieldIsClean env) (λ (s : FieldStatementSyntax) (c : FieldIsClean env s). statement-named env known place s e c.each (own-none env s c.none)) ss h
+      all-map FieldIsNamed (field_statement_of (with_custom env) place) (FieldIsClean env) (λ (s : FieldStatementSyntax) (c : FieldIsClean env s). statement-named env known place s e c.each (own-none env s c.none)) ss h
 
   -- the messages behind them
-  behinds-named : (env : Environment) → Known env → (ss : List FieldStatementSyntax) → AllByRecursion (FieldIsClean env) ss → AllByRecursion MessageIsNamed (flat_map (messages_behind env) ss)
+  behinds-named : (env : Environment) → Known env → (ss : List FieldStatementSyntax) → AllByRecursion (FieldIsClean env) ss → AllByRecursion MessageIsNamed (flat_map (messages_behind (with_custom env)) ss)
   behinds-named env known ss h =
-      all-flat MessageIsNamed (messages_behind env) (FieldIsClean env) (λ (s : FieldStatementSyntax) (c : FieldIsClean env s). behind-named env known s c.none) ss h
+      all-flat MessageIsNamed (messages_behind (with_custom env)) (FieldIsClean env) (λ (s : FieldStatementSyntax) (c : FieldIsClean env s). behind-named env known s c.none) ss h
 
   -- a field of an `extend`
-  extension-named : (env : Environment) → Known env → (extendee : Text) (s : FieldStatementSyntax) → ExtensionIsClean env extendee s → ExtensionIsNamed (field_statement_of env (extending env extendee) s)
+  extension-named : (env : Environment) → Known env → (extendee : Text) (s : FieldStatementSyntax) → ExtensionIsClean env extendee s → ExtensionIsNamed (field_statement_of (with_custom env) (extending (with_custom env) extendee) s)
   extension-named env known extendee s c =
       let meant : type_missing env extendee ≡ [] = no-left (type_missing env extendee) (extension_faults env s) c.none in
       let rest : extension_faults env s ≡ [] = no-right (type_missing env extendee) (extension_faults env s) c.none in
       record {
-        is_field = statement-named env known (extending env extendee) s (full-each (type_named env extendee) (known env.scope extendee)) c.each (own-none env s (extension-none env s rest));
-        extends = ap (λ (o : Option Text). is_some o) (extendee-is env (extending env extendee) s) ∙ full-stands extendee (type_named env extendee) meant;
+        is_field = statement-named env known (extending (with_custom env) extendee) s (full-each (type_named env extendee) (known env.scope extendee)) c.each (own-none env s (extension-none env s rest));
+        extends = ap (λ (o : Option Text). is_some o) (extendee-is (with_custom env) (extending (with_custom env) extendee) s) ∙ full-stands extendee (type_named env extendee) meant;
       }
 
   -- the fields of an `extend`
-  extend-named : (env : Environment) → Known env → (e : ExtendSyntax) → extend_faults env e ≡ [] → AllByRecursion P (flat_map (generated_by env.scope) e.fields) → AllByRecursion ExtensionIsNamed (extend_fields env e)
+  extend-named : (env : Environment) → Known env → (e : ExtendSyntax) → extend_faults env e ≡ [] → AllByRecursion P (flat_map (generated_by env.scope) e.fields) → AllByRecursion ExtensionIsNamed (extend_fields (with_custom env) e)
   extend-named env known e h g =
-      all-map ExtensionIsNamed (field_statement_of env (extending env e.extendee)) (ExtensionIsClean env e.extendee) (extension-named env known e.extendee) e.fields
+      all-map ExtensionIsNamed (field_statement_of (with_custom env) (extending (with_custom env) e.extendee)) (ExtensionIsClean env e.extendee) (extension-named env known e.extendee) e.fields
       (clean-each (extension_faults_of env e.extendee) P (generated_by env.scope) e.fields h g)
 
   -- the messages behind them
-  extend-behind : (env : Environment) → Known env → (e : ExtendSyntax) → extend_faults env e ≡ [] → AllByRecursion MessageIsNamed (flat_map (messages_behind env) e.fields)
+  extend-behind : (env : Environment) → Known env → (e : ExtendSyntax) → extend_faults env e ≡ [] → AllByRecursion MessageIsNamed (flat_map (messages_behind (with_custom env)) e.fields)
   extend-behind env known e h =
-      all-flat MessageIsNamed (messages_behind env) (λ (s : FieldStatementSyntax). extension_faults_of env e.extendee s ≡ [])
+      all-flat MessageIsNamed (messages_behind (with_custom env)) (λ (s : FieldStatementSyntax). extension_faults_of env e.extendee s ≡ [])
       (λ (s : FieldStatementSyntax) (k : extension_faults_of env e.extendee s ≡ []). behind-named env known s (extension-none env s (no-right (type_missing env e.extendee) (extension_faults env s) k)))
       e.fields (none-each (extension_faults_of env e.extendee) e.fields h)
 
@@ -314,19 +317,19 @@ module _ (P : Text → Type 0) where
       (no-left (flat_map (field_statement_faults env) (flat_map oneof_fields o.body)) (options_faults oneof_table (options_in_oneof o)) h) g
 
   -- the fields of a statement
-  fields-of : (env : Environment) → Known env → (index : ℕ) (s : MessageStatementSyntax) → StatementIsClean env s → AllByRecursion FieldIsNamed (fields_of env index s)
-  fields-of env known index (message_field f) c = (statement-named env known (if has_own_oneof env f then in_oneof index else plain) f (no-extendee (has_own_oneof env f) index) c.each (own-none env f c.none), tt)
+  fields-of : (env : Environment) → Known env → (index : ℕ) (s : MessageStatementSyntax) → StatementIsClean env s → AllByRecursion FieldIsNamed (fields_of (with_custom env) index s)
+  fields-of env known index (message_field f) c = (statement-named env known (if has_own_oneof (with_custom env) f then in_oneof index else plain) f (no-extendee (has_own_oneof (with_custom env) f) index) c.each (own-none env f c.none), tt)
   fields-of env known index (message_oneof o) c = fields-named env known (in_oneof index) (flat_map oneof_fields o.body) tt (oneof-clean env o c.none c.each)
   fields-of env known index _ c = tt
 
   -- the fields of a body
-  fields-from : (env : Environment) → Known env → (index : ℕ) (ss : List MessageStatementSyntax) → AllByRecursion (StatementIsClean env) ss → AllByRecursion FieldIsNamed (fields_from env index ss)
+  fields-from : (env : Environment) → Known env → (index : ℕ) (ss : List MessageStatementSyntax) → AllByRecursion (StatementIsClean env) ss → AllByRecursion FieldIsNamed (fields_from (with_custom env) index ss)
   fields-from env known index [] h = tt
   fields-from env known index (s ∷ ss) h =
-      all-both FieldIsNamed (fields_of env index s) (fields_from env (index + length (oneofs_of env s)) ss) (fields-of env known index s h.0) (fields-from env known (index + length (oneofs_of env s)) ss h.1)
+      all-both FieldIsNamed (fields_of (with_custom env) index s) (fields_from (with_custom env) (index + length (oneofs_of (with_custom env) s)) ss) (fields-of env known index s h.0) (fields-from env known (index + length (oneofs_of (with_custom env) s)) ss h.1)
 
   -- the extensions of a statement
-  extensions-of : (env : Environment) → Known env → (s : MessageStatementSyntax) → StatementIsClean env s → AllByRecursion ExtensionIsNamed (messages.extensions_of env s)
+  extensions-of : (env : Environment) → Known env → (s : MessageStatementSyntax) → StatementIsClean env s → AllByRecursion ExtensionIsNamed (messages.extensions_of (with_custom env) s)
   extensions-of env known (message_extend e) c = extend-named env known e c.none c.each
   extensions-of env known _ c = tt
 
@@ -343,10 +346,10 @@ module _ (P : Text → Type 0) where
   nested-extensions (m ∷ ms) h = all-both ExtensionIsNamed (in_message (λ (p : MessageParts). p.extension) m) (in_messages (λ (p : MessageParts). p.extension) (messages_of_list ms)) h.0.extensions (nested-extensions ms h.1)
 
   -- a message, by its statements and the messages inside it
-  message-named : (env : Environment) → Known env → (name : Text) (body : List MessageStatementSyntax) (ms : List MessageDescriptor) → AllByRecursion (StatementIsClean (inside env name)) body → AllByRecursion MessageIsNamed ms → MessageIsNamed (message_from env name body ms)
+  message-named : (env : Environment) → Known env → (name : Text) (body : List MessageStatementSyntax) (ms : List MessageDescriptor) → AllByRecursion (StatementIsClean (inside env name)) body → AllByRecursion MessageIsNamed ms → MessageIsNamed (message_from (with_custom env) name body ms)
   message-named env known name body ms h k = record {
-    fields = all-both FieldIsNamed (fields_from (inside env name) 0 body) (in_messages (λ (p : MessageParts). p.field) (messages_of_list ms)) (fields-from (inside env name) known 0 body h) (nested-fields ms k);
-    extensions = all-both ExtensionIsNamed (flat_map (messages.extensions_of (inside env name)) body) (in_messages (λ (p : MessageParts). p.extension) (messages_of_list ms)) (all-flat ExtensionIsNamed (messages.extensions_of (inside env name)) (StatementIsClean (inside env name)) (extensions-of (inside env name) known) body h) (nested-extensions ms k);
+    fields = all-both FieldIsNamed (fields_from (with_custom (inside env name)) 0 body) (in_messages (λ (p : MessageParts). p.field) (messages_of_list ms)) (fields-from (inside env name) known 0 body h) (nested-fields ms k);
+    extensions = all-both ExtensionIsNamed (flat_map (messages.extensions_of (with_custom (inside env name))) body) (in_messages (λ (p : MessageParts). p.extension) (messages_of_list ms)) (all-flat ExtensionIsNamed (messages.extensions_of (with_custom (inside env name))) (StatementIsClean (inside env name)) (extensions-of (inside env name) known) body h) (nested-extensions ms k);
   }
 
   -- the statements of a message inside another
@@ -358,35 +361,35 @@ module _ (P : Text → Type 0) where
 
   mutual
     -- the messages of a statement
-    nested-of : (env : Environment) → Known env → (s : MessageStatementSyntax) → messages.statement_faults env s ≡ [] → AllByRecursion P (generated_of env.scope s) → AllByRecursion MessageIsNamed (nested_of env s)
+    nested-of : (env : Environment) → Known env → (s : MessageStatementSyntax) → messages.statement_faults env s ≡ [] → AllByRecursion P (generated_of env.scope s) → AllByRecursion MessageIsNamed (nested_of (with_custom env) s)
     nested-of env known (message_message at name body) h g =
         let none : faults_in (inside env name) body ≡ [] = no-right (whole_faults env name (message_body body) (nested_in (inside env name) body)) (faults_in (inside env name) body) h in
-        (message-named env known name (message_body body) (nested_in (inside env name) body) (clean-in (inside env name) body none g) (nested-in (inside env name) known body none g), tt)
+        (message-named env known name (message_body body) (nested_in (with_custom (inside env name)) body) (clean-in (inside env name) body none g) (nested-in (inside env name) known body none g), tt)
     nested-of env known (message_field f) h g = behind-named env known f h
     nested-of env known (message_oneof o) h g = behinds-named env known (flat_map oneof_fields o.body) (oneof-clean env o h g)
     nested-of env known (message_extend e) h g = extend-behind env known e h
     nested-of env known _ h g = tt
 
     -- the messages of statements
-    nested-in : (env : Environment) → Known env → (ss : MessageStatementList) → faults_in env ss ≡ [] → AllByRecursion P (generated_in env.scope ss) → AllByRecursion MessageIsNamed (nested_in env ss)
+    nested-in : (env : Environment) → Known env → (ss : MessageStatementList) → faults_in env ss ≡ [] → AllByRecursion P (generated_in env.scope ss) → AllByRecursion MessageIsNamed (nested_in (with_custom env) ss)
     nested-in env known no_statements h g = tt
     nested-in env known (more_statements s ss) h g =
-        all-both MessageIsNamed (nested_of env s) (nested_in env ss)
+        all-both MessageIsNamed (nested_of (with_custom env) s) (nested_in (with_custom env) ss)
         (nested-of env known s (no-left (messages.statement_faults env s) (faults_in env ss) h) (all-left P (generated_of env.scope s) (generated_in env.scope ss) g))
         (nested-in env known ss (no-right (messages.statement_faults env s) (faults_in env ss) h) (all-right P (generated_of env.scope s) (generated_in env.scope ss) g))
 
   -- a message of a file
-  message-of-named : (env : Environment) → Known env → (m : MessageSyntax) → message_faults env m ≡ [] → AllByRecursion P (flat_map (generated_of (inside env m.name).scope) m.body) → MessageIsNamed (message_of env m)
+  message-of-named : (env : Environment) → Known env → (m : MessageSyntax) → message_faults env m ≡ [] → AllByRecursion P (flat_map (generated_of (inside env m.name).scope) m.body) → MessageIsNamed (message_of (with_custom env) m)
   message-of-named env known m h g =
       let none : flat_map (messages.statement_faults (inside env m.name)) m.body ≡ [] = no-right (whole_faults env m.name m.body (flat_map (nested_of (inside env m.name)) m.body)) (flat_map (messages.statement_faults (inside env m.name)) m.body) h in
       let clean : AllByRecursion (StatementIsClean (inside env m.name)) m.body = clean-each (messages.statement_faults (inside env m.name)) P (generated_of (inside env m.name).scope) m.body none g in
-      message-named env known m.name m.body (flat_map (nested_of (inside env m.name)) m.body) clean
-      (all-flat MessageIsNamed (nested_of (inside env m.name)) (StatementIsClean (inside env m.name)) (λ (s : MessageStatementSyntax) (c : StatementIsClean (inside env m.name) s). nested-of (inside env m.name) known s c.none c.each) m.body clean)
+      message-named env known m.name m.body (flat_map (nested_of (with_custom (inside env m.name))) m.body) clean
+      (all-flat MessageIsNamed (nested_of (with_custom (inside env m.name))) (StatementIsClean (inside env m.name)) (λ (s : MessageStatementSyntax) (c : StatementIsClean (inside env m.name) s). nested-of (inside env m.name) known s c.none c.each) m.body clean)
 
   -- ---- services
 
   -- a method
-  method-named : (env : Environment) → Known env → (m : MethodSyntax) → method_faults env m ≡ [] → MethodIsNamed (method_of env m)
+  method-named : (env : Environment) → Known env → (m : MethodSyntax) → method_faults env m ≡ [] → MethodIsNamed (method_of (with_custom env) m)
   method-named env known m h =
       let options = options_faults method_table (map statement_option m.options) in
       let types : type_missing env m.input ++ type_missing env m.output ≡ [] = no-left (type_missing env m.input ++ type_missing env m.output) options h in
@@ -394,12 +397,12 @@ module _ (P : Text → Type 0) where
        (full-named m.output (type_named env m.output) (known env.scope m.output) (no-right (type_missing env m.input) (type_missing env m.output) types), tt))
 
   -- a service
-  service-named : (env : Environment) → Known env → (s : ServiceSyntax) → service_faults env s ≡ [] → ServiceIsNamed (service_of env s)
+  service-named : (env : Environment) → Known env → (s : ServiceSyntax) → service_faults env s ≡ [] → ServiceIsNamed (service_of (with_custom env) s)
   service-named env known s h =
       let methods = flat_map methods_in s.body in
       let none : flat_map (method_faults env) methods ≡ [] = no-right (duplicates (map (λ (m : MethodSyntax). m.name) methods)) (flat_map (method_faults env) methods) (no-left (methods_faults env methods) (options_faults service_table (flat_map options_in_service s.body)) h) in
-      all-flat P names_of_method MethodIsNamed (λ (m : MethodDescriptor) (k : MethodIsNamed m). k) (map (method_of env) methods)
-      (all-map MethodIsNamed (method_of env) (λ (m : MethodSyntax). method_faults env m ≡ []) (method-named env known) methods (none-each (method_faults env) methods none))
+      all-flat P names_of_method MethodIsNamed (λ (m : MethodDescriptor) (k : MethodIsNamed m). k) (map (method_of (with_custom env)) methods)
+      (all-map MethodIsNamed (method_of (with_custom env)) (λ (m : MethodSyntax). method_faults env m ≡ []) (method-named env known) methods (none-each (method_faults env) methods none))
 
   -- ---- files
 
@@ -407,36 +410,36 @@ module _ (P : Text → Type 0) where
   FileStatementIsClean env s = IsClean (files.statement_faults env) P (statement_generated env.scope) s
 
   -- the messages of a statement
-  messages-of : (env : Environment) → Known env → (s : StatementSyntax) → FileStatementIsClean env s → AllByRecursion MessageIsNamed (messages_of env s)
+  messages-of : (env : Environment) → Known env → (s : StatementSyntax) → FileStatementIsClean env s → AllByRecursion MessageIsNamed (messages_of (with_custom env) s)
   messages-of env known (file_message m) c = (message-of-named env known m c.none c.each, tt)
   messages-of env known (file_extend e) c = extend-behind env known e c.none
   messages-of env known _ c = tt
 
   -- the extensions of a statement
-  file-extensions-of : (env : Environment) → Known env → (s : StatementSyntax) → FileStatementIsClean env s → AllByRecursion ExtensionIsNamed (files.extensions_of env s)
+  file-extensions-of : (env : Environment) → Known env → (s : StatementSyntax) → FileStatementIsClean env s → AllByRecursion ExtensionIsNamed (files.extensions_of (with_custom env) s)
   file-extensions-of env known (file_extend e) c = extend-named env known e c.none c.each
   file-extensions-of env known _ c = tt
 
   -- the services of a statement
-  services-of : (env : Environment) → Known env → (s : StatementSyntax) → FileStatementIsClean env s → AllByRecursion ServiceIsNamed (services_of env s)
+  services-of : (env : Environment) → Known env → (s : StatementSyntax) → FileStatementIsClean env s → AllByRecursion ServiceIsNamed (services_of (with_custom env) s)
   services-of env known (file_service s) c = (service-named env known s c.none, tt)
   services-of env known _ c = tt
 
   -- a file
-  file-named : (env : Environment) → Known env → (path : Text) (t : FileSyntax) → file_faults env t ≡ [] → AllByRecursion P (flat_map (statement_generated env.scope) t.statements) → FileIsNamed (file_of env path t)
+  file-named : (env : Environment) → Known env → (path : Text) (t : FileSyntax) → file_faults env t ≡ [] → AllByRecursion P (flat_map (statement_generated env.scope) t.statements) → FileIsNamed (file_of (with_custom env) path t)
   file-named env known path t h g =
       let options = options_faults file_table (flat_map options_in_file t.statements) in
       let inner = flat_map (files.statement_faults env) t.statements in
       let none : inner ≡ [] = no-right (file_duplicates env t ++ options) inner h in
       let clean : AllByRecursion (FileStatementIsClean env) t.statements = clean-each (files.statement_faults env) P (statement_generated env.scope) t.statements none g in
-      let ms = flat_map (messages_of env) t.statements in
-      let all : AllByRecursion MessageIsNamed ms = all-flat MessageIsNamed (messages_of env) (FileStatementIsClean env) (messages-of env known) t.statements clean in
+      let ms = flat_map (messages_of (with_custom env)) t.statements in
+      let all : AllByRecursion MessageIsNamed ms = all-flat MessageIsNamed (messages_of (with_custom env)) (FileStatementIsClean env) (messages-of env known) t.statements clean in
       record {
         fields = all-flat FieldIsNamed (in_message (λ (p : MessageParts). p.field)) MessageIsNamed (λ (m : MessageDescriptor) (k : MessageIsNamed m). k.fields) ms all;
-        extensions = all-both ExtensionIsNamed (flat_map (in_message (λ (p : MessageParts). p.extension)) ms) (flat_map (files.extensions_of env) t.statements)
+        extensions = all-both ExtensionIsNamed (flat_map (in_message (λ (p : MessageParts). p.extension)) ms) (flat_map (files.extensions_of (with_custom env)) t.statements)
           (all-flat ExtensionIsNamed (in_message (λ (p : MessageParts). p.extension)) MessageIsNamed (λ (m : MessageDescriptor) (k : MessageIsNamed m). k.extensions) ms all)
-          (all-flat ExtensionIsNamed (files.extensions_of env) (FileStatementIsClean env) (file-extensions-of env known) t.statements clean);
-        services = all-flat P names_of_service ServiceIsNamed (λ (s : ServiceDescriptor) (k : ServiceIsNamed s). k) (flat_map (services_of env) t.statements) (all-flat ServiceIsNamed (services_of env) (FileStatementIsClean env) (services-of env known) t.statements clean);
+          (all-flat ExtensionIsNamed (files.extensions_of (with_custom env)) (FileStatementIsClean env) (file-extensions-of env known) t.statements clean);
+        services = all-flat P names_of_service ServiceIsNamed (λ (s : ServiceDescriptor) (k : ServiceIsNamed s). k) (flat_map (services_of (with_custom env)) t.statements) (all-flat ServiceIsNamed (services_of (with_custom env)) (FileStatementIsClean env) (services-of env known) t.statements clean);
       }
 
   -- the names in a file
@@ -458,30 +461,30 @@ abbrev Stands : List FileSyntax → FileSyntax → Text → Type 0
 Stands seen t name = Among (names_declared seen ++ file_generated t) name
 
 -- a file without faults
-sound : (seen : List FileSyntax) (custom : CustomBytes) (path : Text) (t : FileSyntax) → file_faults (environment seen custom t) t ≡ [] → FileIsNamed (Stands seen t) (file_of (environment seen custom t) path t)
+sound : (seen : List FileSyntax) (custom : CustomBytes) (path : Text) (t : FileSyntax) → file_faults (environment seen no_custom t) t ≡ [] → FileIsNamed (Stands seen t) custom (file_of (environment seen custom t) path t)
 sound seen custom path t h =
-    file-named (Stands seen t) (environment seen custom t)
+    file-named (Stands seen t) custom (environment seen no_custom t)
     (λ (scope : Scope) (name : Text) (d : DeclaredType) e. among_left (file_generated t) (among-map (λ (x : DeclaredType). x.name) (types_of_files seen) d (meaning_declared (types_of_files seen) scope name d e)))
     path t h (all-from (Stands seen t) (file_generated t) (λ (name : Text) k. among_right (names_declared seen) k))
 
 pub names_are_declared : NamesAreDeclared
 names_are_declared seen custom path t name h k =
-    all-among (Stands seen t) k (names-each (Stands seen t) (file_of (environment seen custom t) path t) (sound seen custom path t h))
+    all-among (Stands seen t) k (names-each (Stands seen t) custom (file_of (environment seen custom t) path t) (sound seen custom path t h))
 
 pub types_are_named : TypesAreNamed
 types_are_named seen custom path t f h k =
     let file = file_of (environment seen custom t) path t in
-    let s : FileIsNamed (Stands seen t) file = sound seen custom path t h in
-    let extensions : AllByRecursion (FieldIsNamed (Stands seen t)) (extensions_in file) = each (extensions_in file) s.extensions in
-    let all : AllByRecursion (FieldIsNamed (Stands seen t)) (fields_in file ++ extensions_in file) = all-both (FieldIsNamed (Stands seen t)) (fields_in file) (extensions_in file) s.fields extensions in
-    let is : FieldIsNamed (Stands seen t) f = all-among (FieldIsNamed (Stands seen t)) k all in
+    let s : FileIsNamed (Stands seen t) custom file = sound seen custom path t h in
+    let extensions : AllByRecursion (FieldIsNamed (Stands seen t) custom) (extensions_in file) = each (extensions_in file) s.extensions in
+    let all : AllByRecursion (FieldIsNamed (Stands seen t) custom) (fields_in file ++ extensions_in file) = all-both (FieldIsNamed (Stands seen t) custom) (fields_in file) (extensions_in file) s.fields extensions in
+    let is : FieldIsNamed (Stands seen t) custom f = all-among (FieldIsNamed (Stands seen t) custom) k all in
     is.stands
   where
-    each : (fs : List FieldDescriptor) → AllByRecursion (ExtensionIsNamed (Stands seen t)) fs → AllByRecursion (FieldIsNamed (Stands seen t)) fs
+    each : (fs : List FieldDescriptor) → AllByRecursion (ExtensionIsNamed (Stands seen t) custom) fs → AllByRecursion (FieldIsNamed (Stands seen t) custom) fs
     each [] w = tt
     each (d ∷ ds) w = (w.0.is_field, each ds w.1)
 
 pub extendees_are_named : ExtendeesAreNamed
 extendees_are_named seen custom path t f h k =
-    let is : ExtensionIsNamed (Stands seen t) f = all-among (ExtensionIsNamed (Stands seen t)) k (sound seen custom path t h).extensions in
+    let is : ExtensionIsNamed (Stands seen t) custom f = all-among (ExtensionIsNamed (Stands seen t) custom) k (sound seen custom path t h).extensions in
     is.extends
