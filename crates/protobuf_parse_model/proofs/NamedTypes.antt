@@ -86,9 +86,10 @@ record IsClean {A : Type 0} (faults : A → List Fault) (P : Text → Type 0) (g
 -- what holds of a list in this way holds of each element
 clean-each : {A : Type 0} (faults : A → List Fault) (P : Text → Type 0) (generated : A → List Text) (xs : List A) → flat_map faults xs ≡ [] → AllByRecursion P (flat_map generated xs) → AllByRecursion (IsClean faults P generated) xs
 clean-each faults P generated [] h k = tt
-clean-each faults P generated (x ∷ xs) h k =
-    (record { none = no-left (faults x) (flat_map faults xs) h; each = all-left P (generated x) (flat_map generated xs) k },
-     clean-each faults P generated xs (no-right (faults x) (flat_map faults xs) h) (all-right P (generated x) (flat_map generated xs) k))
+clean-each faults P generated (x ∷ xs) h k = (
+  record { none = no-left (faults x) (flat_map faults xs) h; each = all-left P (generated x) (flat_map generated xs) k },
+  clean-each faults P generated xs (no-right (faults x) (flat_map faults xs) h) (all-right P (generated x) (flat_map generated xs) k),
+)
 
 -- ---- kinds and faults
 
@@ -241,9 +242,11 @@ module _ (P : Text → Type 0) (custom : CustomBytes) where
   entries-named env known name (named n) h = tt
   entries-named env known name (map_of key value) h =
       let k : TypeIsNamed (type_of (with_custom env) name key) = inner-named env known name key (no-left (inner_type_faults env name key) (inner_type_faults env name value) h) in
-      let v : TypeIsNamed (type_of (with_custom env) name value) = inner-named env known name value (no-right (inner_type_faults env name key) (inner_type_faults env name value) h) in
-      (message-with-named (entry_name name) (entry_field (codes "key") (pos 1) (type_of (with_custom env) name key) ∷ entry_field (codes "value") (pos 2) (type_of (with_custom env) name value) ∷ []) entry_options
-        (entry-field-named (codes "key") (pos 1) (type_of (with_custom env) name key) k, (entry-field-named (codes "value") (pos 2) (type_of (with_custom env) name value) v, tt)), tt)
+      let v : TypeIsNamed (type_of (with_custom env) name value) = inner-named env known name value (no-right (inner_type_faults env name key) (inner_type_faults env name value) h) in (
+        message-with-named (entry_name name) (entry_field (codes "key") (pos 1) (type_of (with_custom env) name key) ∷ entry_field (codes "value") (pos 2) (type_of (with_custom env) name value) ∷ []) entry_options
+            (entry-field-named (codes "key") (pos 1) (type_of (with_custom env) name key) k, (entry-field-named (codes "value") (pos 2) (type_of (with_custom env) name value) v, tt)),
+        tt,
+      )
 
   -- the message of a group
   group-named : (env : Environment) → Known env → (name : Text) (fields : List FieldStatementSyntax) → flat_map (grouped_faults env) fields ≡ [] → MessageIsNamed (message_with name (fields_of_group (with_custom env) fields) None)
@@ -355,9 +358,10 @@ module _ (P : Text → Type 0) (custom : CustomBytes) where
   -- the statements of a message inside another
   clean-in : (env : Environment) (ss : MessageStatementList) → faults_in env ss ≡ [] → AllByRecursion P (generated_in env.scope ss) → AllByRecursion (StatementIsClean env) (message_body ss)
   clean-in env no_statements h g = tt
-  clean-in env (more_statements s ss) h g =
-      (record { none = no-left (messages.statement_faults env s) (faults_in env ss) h; each = all-left P (generated_of env.scope s) (generated_in env.scope ss) g },
-       clean-in env ss (no-right (messages.statement_faults env s) (faults_in env ss) h) (all-right P (generated_of env.scope s) (generated_in env.scope ss) g))
+  clean-in env (more_statements s ss) h g = (
+    record { none = no-left (messages.statement_faults env s) (faults_in env ss) h; each = all-left P (generated_of env.scope s) (generated_in env.scope ss) g },
+    clean-in env ss (no-right (messages.statement_faults env s) (faults_in env ss) h) (all-right P (generated_of env.scope s) (generated_in env.scope ss) g),
+  )
 
   mutual
     -- the messages of a statement
@@ -392,9 +396,10 @@ module _ (P : Text → Type 0) (custom : CustomBytes) where
   method-named : (env : Environment) → Known env → (m : MethodSyntax) → method_faults env m ≡ [] → MethodIsNamed (method_of (with_custom env) m)
   method-named env known m h =
       let options = options_faults method_table (map statement_option m.options) in
-      let types : type_missing env m.input ++ type_missing env m.output ≡ [] = no-left (type_missing env m.input ++ type_missing env m.output) options h in
-      (full-named m.input (type_named env m.input) (known env.scope m.input) (no-left (type_missing env m.input) (type_missing env m.output) types),
-       (full-named m.output (type_named env m.output) (known env.scope m.output) (no-right (type_missing env m.input) (type_missing env m.output) types), tt))
+      let types : type_missing env m.input ++ type_missing env m.output ≡ [] = no-left (type_missing env m.input ++ type_missing env m.output) options h in (
+        full-named m.input (type_named env m.input) (known env.scope m.input) (no-left (type_missing env m.input) (type_missing env m.output) types),
+        (full-named m.output (type_named env m.output) (known env.scope m.output) (no-right (type_missing env m.input) (type_missing env m.output) types), tt),
+      )
 
   -- a service
   service-named : (env : Environment) → Known env → (s : ServiceSyntax) → service_faults env s ≡ [] → ServiceIsNamed (service_of (with_custom env) s)
@@ -437,8 +442,8 @@ module _ (P : Text → Type 0) (custom : CustomBytes) where
       record {
         fields = all-flat FieldIsNamed (in_message (λ (p : MessageParts). p.field)) MessageIsNamed (λ (m : MessageDescriptor) (k : MessageIsNamed m). k.fields) ms all;
         extensions = all-both ExtensionIsNamed (flat_map (in_message (λ (p : MessageParts). p.extension)) ms) (flat_map (files.extensions_of (with_custom env)) t.statements)
-          (all-flat ExtensionIsNamed (in_message (λ (p : MessageParts). p.extension)) MessageIsNamed (λ (m : MessageDescriptor) (k : MessageIsNamed m). k.extensions) ms all)
-          (all-flat ExtensionIsNamed (files.extensions_of (with_custom env)) (FileStatementIsClean env) (file-extensions-of env known) t.statements clean);
+            (all-flat ExtensionIsNamed (in_message (λ (p : MessageParts). p.extension)) MessageIsNamed (λ (m : MessageDescriptor) (k : MessageIsNamed m). k.extensions) ms all)
+            (all-flat ExtensionIsNamed (files.extensions_of (with_custom env)) (FileStatementIsClean env) (file-extensions-of env known) t.statements clean);
         services = all-flat P names_of_service ServiceIsNamed (λ (s : ServiceDescriptor) (k : ServiceIsNamed s). k) (flat_map (services_of (with_custom env)) t.statements) (all-flat ServiceIsNamed (services_of (with_custom env)) (FileStatementIsClean env) (services-of env known) t.statements clean);
       }
 
@@ -450,8 +455,8 @@ module _ (P : Text → Type 0) (custom : CustomBytes) where
       let services = flat_map names_of_service f.service in
       all-both P (fields ++ extensions) services
       (all-both P fields extensions
-        (all-flat P names_of_field FieldIsNamed (λ (d : FieldDescriptor) (k : FieldIsNamed d). k.each) (fields_in f) h.fields)
-        (all-flat P names_of_field ExtensionIsNamed (λ (d : FieldDescriptor) (k : ExtensionIsNamed d). k.is_field.each) (extensions_in f) h.extensions))
+      (all-flat P names_of_field FieldIsNamed (λ (d : FieldDescriptor) (k : FieldIsNamed d). k.each) (fields_in f) h.fields)
+      (all-flat P names_of_field ExtensionIsNamed (λ (d : FieldDescriptor) (k : ExtensionIsNamed d). k.is_field.each) (extensions_in f) h.extensions))
       h.services
 
 -- ---- the laws
