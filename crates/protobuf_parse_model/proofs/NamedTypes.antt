@@ -305,6 +305,7 @@ module _ (P : Text → Type 0) (custom : CustomBytes) where
 
   -- ---- the statements of a message
 
+  -- a statement of a message
   abbrev StatementIsClean : Environment → MessageStatementSyntax → Type 0
   StatementIsClean env s = IsClean (messages.statement_faults env) P (generated_of env.scope) s
 
@@ -411,6 +412,7 @@ module _ (P : Text → Type 0) (custom : CustomBytes) where
 
   -- ---- files
 
+  -- a statement of a file
   abbrev FileStatementIsClean : Environment → StatementSyntax → Type 0
   FileStatementIsClean env s = IsClean (files.statement_faults env) P (statement_generated env.scope) s
 
@@ -472,10 +474,12 @@ sound seen custom path t h =
     (λ (scope : Scope) (name : Text) (d : DeclaredType) e. among_left (file_generated t) (among-map (λ (x : DeclaredType). x.name) (types_of_files seen) d (meaning_declared (types_of_files seen) scope name d e)))
     path t h (all-from (Stands seen t) (file_generated t) (λ (name : Text) k. among_right (names_declared seen) k))
 
+-- each name of a type is that of a declared type
 pub names_are_declared : NamesAreDeclared
 names_are_declared seen custom path t name h k =
     all-among (Stands seen t) k (names-each (Stands seen t) custom (file_of (environment seen custom t) path t) (sound seen custom path t h))
 
+-- each field and extension says the name of its type where it has one
 pub types_are_named : TypesAreNamed
 types_are_named seen custom path t f h k =
     let file = file_of (environment seen custom t) path t in
@@ -489,6 +493,7 @@ types_are_named seen custom path t f h k =
     each [] w = tt
     each (d ∷ ds) w = (w.0.is_field, each ds w.1)
 
+-- each extension says what it extends
 pub extendees_are_named : ExtendeesAreNamed
 extendees_are_named seen custom path t f h k =
     let is : ExtensionIsNamed (Stands seen t) custom f = all-among (ExtensionIsNamed (Stands seen t) custom) k (sound seen custom path t h).extensions in

@@ -276,6 +276,14 @@ maps_are_named : names_in (file_of (alone with_map) (codes "x.proto") with_map) 
 unfolding chars lib.Utf8.encode
 maps_are_named = refl
 
+-- message M { map<string, M> m = 1; }: the map, and the value of its entry
+abbrev map_of_messages : FileSyntax
+map_of_messages = file Proto3 (outer (codes "M") (message_field (field (a_field None (map_of (scalar word.String) (named (codes "M"))) (codes "m") 1 [])) ∷ []) ∷ [])
+
+values_are_named : names_in (file_of (alone map_of_messages) (codes "x.proto") map_of_messages) ≡ codes ".M.MEntry" ∷ codes ".M" ∷ []
+unfolding chars lib.Utf8.encode
+values_are_named = refl
+
 groups_are_named : names_in (file_of (alone (with_group [])) (codes "x.proto") (with_group [])) ≡ codes ".M.Item" ∷ []
 groups_are_named = refl
 

@@ -53,7 +53,7 @@ has_name kind.Enum = true
 has_name kind.Group = true
 has_name _ = false
 
--- ---- the laws: of a file in which no fault stands, whatever files it sees
+-- ---- the laws: of a file in which no fault stands, whatever files it sees and however its custom options are spelled
 
 -- the full names of the messages and the enums that are written in files
 abbrev pub names_declared : List FileSyntax → List Text
