@@ -16,3 +16,4 @@ pub mod Bodies
 pub mod Files
 pub mod Orders
 pub mod Closing
+pub mod NamedTypes

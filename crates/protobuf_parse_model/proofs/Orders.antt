@@ -346,7 +346,7 @@ module _ {A : Type 0} (test : A → Bool) (g : Text → List A) where
 -- ---- types
 
 -- what an element becomes stands among what the elements become
-among-map : {A B : Type 0} (f : A → B) (xs : List A) (x : A) → Among xs x → Among (map f xs) (f x)
+pub among-map : {A B : Type 0} (f : A → B) (xs : List A) (x : A) → Among xs x → Among (map f xs) (f x)
 among-map f (y ∷ xs) x here = here
 among-map f (y ∷ xs) x (there h) = there (among-map f xs x h)
 among-map f [] x h = absurd (nothing-in h)

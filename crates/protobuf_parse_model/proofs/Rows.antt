@@ -24,6 +24,7 @@ use Rattle.protobuf_parse_model.specs.Fields.{plain, field_of, field_faults, nam
 use Rattle.protobuf_parse_model.specs.Enums.{enum_of}
 use Rattle.protobuf_parse_model.specs.Messages as messages
 use Rattle.protobuf_parse_model.specs.FileDescriptor.{environment, file_of, file_faults}
+use Rattle.protobuf_parse_model.specs.NamedTypes.{names_in}
 use Rattle.protobuf_parse_model.specs.Linking.{link_faults}
 
 -- ---- trees; where their parts stand says nothing
@@ -263,6 +264,28 @@ extendees_have_full_names = refl
 
 packaged_has_no_fault : file_faults (alone packaged) packaged ≡ []
 packaged_has_no_fault = refl
+
+-- of the extension its type and what it extends, of the method what it takes and returns
+all_types_are_named : names_in of_packaged ≡ codes ".p.q.M" ∷ codes ".p.q.M" ∷ codes ".p.q.M" ∷ codes ".p.q.M" ∷ []
+all_types_are_named = refl
+
+nested_types_are_named : names_in (file_of (alone scopes) (codes "x.proto") scopes) ≡ codes ".B.D" ∷ []
+nested_types_are_named = refl
+
+maps_are_named : names_in (file_of (alone with_map) (codes "x.proto") with_map) ≡ codes ".M.FooBarEntry" ∷ []
+unfolding chars lib.Utf8.encode
+maps_are_named = refl
+
+-- message M { map<string, M> m = 1; }: the map, and the value of its entry
+abbrev map_of_messages : FileSyntax
+map_of_messages = file Proto3 (outer (codes "M") (message_field (field (a_field None (map_of (scalar word.String) (named (codes "M"))) (codes "m") 1 [])) ∷ []) ∷ [])
+
+values_are_named : names_in (file_of (alone map_of_messages) (codes "x.proto") map_of_messages) ≡ codes ".M.MEntry" ∷ codes ".M" ∷ []
+unfolding chars lib.Utf8.encode
+values_are_named = refl
+
+groups_are_named : names_in (file_of (alone (with_group [])) (codes "x.proto") (with_group [])) ≡ codes ".M.Item" ∷ []
+groups_are_named = refl
 
 -- the same file twice among those that are reached
 declared_twice : link_faults (scopes ∷ with_group [] ∷ with_group [] ∷ []) ≡ map (λ (name : Text). record { kind = error.TypeDeclaredTwice; what = name }) (codes ".M" ∷ codes ".M.Item" ∷ codes ".M" ∷ codes ".M.Item" ∷ [])

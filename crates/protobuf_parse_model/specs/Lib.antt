@@ -15,6 +15,7 @@ pub mod Services
 pub mod Messages
 pub mod Contexts
 pub mod FileDescriptor
+pub mod NamedTypes
 pub mod Linking
 pub mod FilesByPath
 pub mod FileParts

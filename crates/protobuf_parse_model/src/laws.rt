@@ -1,7 +1,8 @@
-//! Laws of the definitions of look-up. The functions do nothing.
+//! Laws of the definitions of look-up and of the elaboration. The functions do nothing.
 
 ghost use Rattle.protobuf_parse_model.specs.Declarations.{TypeKind};
 ghost use Rattle.protobuf_parse_model.specs.Lookup.{MeansTheLongest, MeansNothing, MeansItself};
+ghost use Rattle.protobuf_parse_model.specs.NamedTypes.{NamesAreDeclared, TypesAreNamed, ExtendeesAreNamed};
 
 /// What the name of a type means is declared in the longest front of the scope in which a type has that
 /// name; a name that means nothing is declared in no front; a name with a first dot means the type of
@@ -10,4 +11,16 @@ pub fn types_are_looked_up()
     ensures longest { MeansTheLongest TypeKind }
     ensures nothing { MeansNothing TypeKind }
     ensures itself { MeansItself TypeKind }
+{}
+
+/// Where no fault stands in a file, every name of a type in its descriptor is the full name of a message
+/// or an enum that one of the files declares that it sees, or of a message behind one of its own maps and
+/// groups. So it is of the types of fields and extensions, of the messages that extensions extend, and of
+/// what methods take and return, in nested messages and in those behind maps and groups too. None is left
+/// out: a field says the name of its type just where that is a message, an enum or a group, and each
+/// extension says what it extends.
+pub fn types_are_declared()
+    ensures declared { NamesAreDeclared }
+    ensures named { TypesAreNamed }
+    ensures extendees { ExtendeesAreNamed }
 {}

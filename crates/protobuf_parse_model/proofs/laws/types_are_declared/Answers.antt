@@ -1,0 +1,11 @@
+use Rattle.protobuf_parse_model.proofs.NamedTypes.{names_are_declared, types_are_named, extendees_are_named}
+use Rattle.protobuf_parse_model.proofs.laws.types_are_declared.Goals as goal
+
+pub returns-clause-declared : goal.returns-clause-declared
+returns-clause-declared c = names_are_declared
+
+pub returns-clause-named : goal.returns-clause-named
+returns-clause-named c = types_are_named
+
+pub returns-clause-extendees : goal.returns-clause-extendees
+returns-clause-extendees c = extendees_are_named

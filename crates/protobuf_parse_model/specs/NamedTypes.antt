@@ -1,0 +1,82 @@
+-- The names of types that a file's descriptor says, and what they are the names of.
+--
+-- A descriptor says by full names what the type of a field is, which message an extension extends, and what a method takes
+-- and returns: the fields `type_name` and `extendee` of FieldDescriptorProto, `input_type` and `output_type` of
+-- MethodDescriptorProto (google/protobuf/descriptor.proto).
+use Rattle.std.specs.Prelude.{◌≡◌, Bool, true, false, List, [], ◌∷◌, ◌++◌, map, flat_map, is_some, IsSome, option_to_list}
+use Rattle.protobuf_parse_syntax.specs.Trees.{FileSyntax}
+use Rattle.protobuf_parse_model.specs.declared.descriptor.FieldType.{FieldType}
+use Rattle.protobuf_parse_model.specs.declared.descriptor.FieldType.TheVariants as kind
+use Rattle.protobuf_parse_model.specs.Descriptors.{Text, FieldDescriptor, MessageParts, MessageDescriptor, MessageDescriptors, a_message, no_messages, messages, MethodDescriptor, ServiceDescriptor, FileDescriptor}
+use Rattle.protobuf_parse_model.specs.Faults.{Among}
+use Rattle.protobuf_parse_model.specs.Declarations.{DeclaredType, file_generated}
+use Rattle.protobuf_parse_model.specs.Environment.{CustomBytes, no_custom}
+use Rattle.protobuf_parse_model.specs.FileDescriptor.{types_of_files, environment, file_of, file_faults}
+
+-- ---- the fields and the extensions of a descriptor
+
+abbrev mutual
+  -- those in one of the lists of a message, and in that of each message inside it
+  pub in_message : (MessageParts → List FieldDescriptor) → MessageDescriptor → List FieldDescriptor
+  in_message list (a_message parts inside) = list parts ++ in_messages list inside
+
+  pub in_messages : (MessageParts → List FieldDescriptor) → MessageDescriptors → List FieldDescriptor
+  in_messages list no_messages = []
+  in_messages list (messages m ms) = in_message list m ++ in_messages list ms
+
+-- also those of the messages behind maps and groups
+abbrev pub fields_in : FileDescriptor → List FieldDescriptor
+fields_in f = flat_map (in_message (λ (m : MessageParts). m.field)) f.message_type
+
+abbrev pub extensions_in : FileDescriptor → List FieldDescriptor
+extensions_in f = flat_map (in_message (λ (m : MessageParts). m.extension)) f.message_type ++ f.extension
+
+-- ---- the names
+
+-- of the type, and of the message that is extended
+abbrev pub names_of_field : FieldDescriptor → List Text
+names_of_field f = option_to_list f.type_name ++ option_to_list f.extendee
+
+abbrev pub names_of_method : MethodDescriptor → List Text
+names_of_method m = m.input_type ∷ m.output_type ∷ []
+
+abbrev pub names_of_service : ServiceDescriptor → List Text
+names_of_service s = flat_map names_of_method s.method
+
+abbrev pub names_in : FileDescriptor → List Text
+names_in f = flat_map names_of_field (fields_in f) ++ flat_map names_of_field (extensions_in f) ++ flat_map names_of_service f.service
+
+-- the types of which a field says the name, and not the kind alone
+abbrev pub has_name : FieldType → Bool
+has_name kind.Message = true
+has_name kind.Enum = true
+has_name kind.Group = true
+has_name _ = false
+
+-- ---- the laws: of a file in which no fault stands, whatever files it sees and however its custom options are spelled
+
+-- the full names of the messages and the enums that are written in files
+abbrev pub names_declared : List FileSyntax → List Text
+names_declared files = map (λ (d : DeclaredType). d.name) (types_of_files files)
+
+-- Each name of a type is that of a message or an enum that a file declares that it sees, or of a message behind one of its
+-- own maps and groups.
+abbrev pub NamesAreDeclared : Type 0
+NamesAreDeclared = (seen : List FileSyntax) (custom : CustomBytes) (path : Text) (t : FileSyntax) (name : Text)
+    → file_faults (environment seen no_custom t) t ≡ []
+    → Among (names_in (file_of (environment seen custom t) path t)) name
+    → Among (names_declared seen ++ file_generated t) name
+
+-- Just those fields and extensions say the name of their type whose type has one.
+abbrev pub TypesAreNamed : Type 0
+TypesAreNamed = (seen : List FileSyntax) (custom : CustomBytes) (path : Text) (t : FileSyntax) (f : FieldDescriptor)
+    → file_faults (environment seen no_custom t) t ≡ []
+    → Among (fields_in (file_of (environment seen custom t) path t) ++ extensions_in (file_of (environment seen custom t) path t)) f
+    → is_some f.type_name ≡ has_name f.type_
+
+-- Each extension says what it extends.
+abbrev pub ExtendeesAreNamed : Type 0
+ExtendeesAreNamed = (seen : List FileSyntax) (custom : CustomBytes) (path : Text) (t : FileSyntax) (f : FieldDescriptor)
+    → file_faults (environment seen no_custom t) t ≡ []
+    → Among (extensions_in (file_of (environment seen custom t) path t)) f
+    → IsSome f.extendee
