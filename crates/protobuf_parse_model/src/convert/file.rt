@@ -17,7 +17,7 @@ ghost use Rattle.protobuf_parse_model.specs.Unsupported.{imports_beyond_position
 
 use crate::convert::contents::contents_of;
 use crate::convert::customs::refuse_customs;
-use crate::convert::imports::{check_number, imports, paths, public_positions, weak_positions};
+use crate::convert::imports::{check_number, import_lists, imports};
 use crate::convert::options::{check_options, file_options, file_table};
 use crate::descriptor::{FileDescriptorProto, FileOptions};
 use crate::error::ElabFailure;
@@ -62,21 +62,44 @@ fn descriptor_in(
     let imports = supported_imports(alloc, &tree.statements)?;
     let contents = contents_of(alloc, context, &tree.statements)?;
     let options = checked_options(alloc, &tree.statements)?;
-    let name = String::from_str(alloc, name)?;
-    let syntax = String::from_str(alloc, syntax_text(tree.syntax))?;
-    let package = package_of(alloc, tree)?;
+    let heading = heading_of(alloc, name, tree)?;
+    let lists = import_lists(alloc, &imports)?;
     Ok(FileDescriptorProto {
-        name: Some(name),
-        package,
-        syntax: Some(syntax),
-        dependency: paths(alloc, &imports)?,
-        public_dependency: public_positions(alloc, &imports)?,
-        weak_dependency: weak_positions(alloc, &imports)?,
+        name: Some(heading.name),
+        package: heading.package,
+        syntax: Some(heading.syntax),
+        dependency: lists.dependency,
+        public_dependency: lists.public_dependency,
+        weak_dependency: lists.weak_dependency,
         message_type: contents.message_type,
         enum_type: contents.enum_type,
         service: contents.service,
         extension: contents.extension,
         options,
+    })
+}
+
+/// What a file says of itself.
+#[derive(Drop)]
+struct Heading {
+    name: String,
+    syntax: String,
+    package: Option<String>,
+}
+
+/// The path that a file is known by, its syntax and its package.
+fn heading_of(alloc: Global, name: &str, tree: &FileTree) -> Result<Heading, AllocError>
+    ensures name { IfOk result (λ h. string_bytes h.name ≡ name.now) }
+    ensures syntax { IfOk result (λ h. string_bytes h.syntax ≡ syntax_text tree.now.syntax) }
+    ensures package { IfOk result (λ h. option_map string_bytes h.package ≡ package_of (file_view tree.now)) }
+{
+    let name = String::from_str(alloc, name)?;
+    let syntax = String::from_str(alloc, syntax_text(tree.syntax))?;
+    let package = package_of(alloc, tree)?;
+    Ok(Heading {
+        name,
+        syntax,
+        package,
     })
 }
 

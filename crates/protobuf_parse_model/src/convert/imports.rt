@@ -6,6 +6,7 @@ ghost use Rattle.protobuf_parse_syntax.specs.Dependencies as spec;
 ghost use Rattle.protobuf_parse_syntax.specs.Trees.{ImportSyntax, import_view, statement_view};
 ghost use Rattle.protobuf_parse_syntax.specs.declared.tree.Import.{Import};
 ghost use Rattle.protobuf_parse_model.specs.Faults.{Elaborates};
+ghost use Rattle.protobuf_parse_model.specs.FileParts.{import_lists_view, imports_seen};
 ghost use Rattle.protobuf_parse_model.specs.Unsupported.{imports_beyond_positions};
 
 use crate::convert::refuse::unsupported;
@@ -38,8 +39,31 @@ pub fn check_number(alloc: Global, imports: &[&Import]) -> Result<(), ElabFailur
     }
 }
 
+/// What a file's imports become in its descriptor.
+#[derive(Drop)]
+pub struct ImportLists {
+    pub dependency: Vec<String>,
+    pub public_dependency: Vec<i32>,
+    pub weak_dependency: Vec<i32>,
+}
+
+/// The paths of these imports, and the positions of the public and of the weak ones.
+pub fn import_lists(alloc: Global, imports: &[&Import]) -> Result<ImportLists, AllocError>
+    requires { length imports.now < 2 ^ 31 }
+    ensures { IfOk result (λ l. import_lists_view l ≡ spec.imports_of (imports_seen imports.now)) }
+{
+    let dependency = paths(alloc, imports)?;
+    let public_dependency = public_positions(alloc, imports)?;
+    let weak_dependency = weak_positions(alloc, imports)?;
+    Ok(ImportLists {
+        dependency,
+        public_dependency,
+        weak_dependency,
+    })
+}
+
 /// The paths of these imports.
-pub fn paths(alloc: Global, imports: &[&Import]) -> Result<Vec<String>, AllocError>
+fn paths(alloc: Global, imports: &[&Import]) -> Result<Vec<String>, AllocError>
     ensures { IfOk result (λ v. map string_bytes v.items ≡ map (λ (i : ImportSyntax). i.path) (map (λ (i : Bor Import). import_view i.now) imports.now)) }
 {
     let mut paths = Vec::new(alloc);
@@ -50,7 +74,7 @@ pub fn paths(alloc: Global, imports: &[&Import]) -> Result<Vec<String>, AllocErr
 }
 
 /// The positions of the public imports.
-pub fn public_positions(alloc: Global, imports: &[&Import]) -> Result<Vec<i32>, AllocError>
+fn public_positions(alloc: Global, imports: &[&Import]) -> Result<Vec<i32>, AllocError>
     requires { length imports.now < 2 ^ 31 }
     ensures { IfOk result (λ v. v.items ≡ spec.positions spec.is_public 0 (map (λ (i : Bor Import). import_view i.now) imports.now)) }
 {
@@ -64,7 +88,7 @@ pub fn public_positions(alloc: Global, imports: &[&Import]) -> Result<Vec<i32>, 
 }
 
 /// The positions of the weak imports.
-pub fn weak_positions(alloc: Global, imports: &[&Import]) -> Result<Vec<i32>, AllocError>
+fn weak_positions(alloc: Global, imports: &[&Import]) -> Result<Vec<i32>, AllocError>
     requires { length imports.now < 2 ^ 31 }
     ensures { IfOk result (λ v. v.items ≡ spec.positions spec.is_weak 0 (map (λ (i : Bor Import). import_view i.now) imports.now)) }
 {

@@ -1,5 +1,6 @@
 use Rattle.std.proofs.Common.{◌≡◌, ◌++◌, ◌∙◌, [], Some, ap, flat_map, length, map, subst, sym}
 use Rattle.protobuf_parse_syntax.specs.Dependencies as dependencies
+use Rattle.protobuf_parse_syntax.specs.Dependencies.{FileImports}
 use Rattle.protobuf_parse_syntax.specs.Trees.{ImportSyntax, file_view, import_view, statement_view}
 use Rattle.protobuf_parse_model.specs.BuiltinOptions.{file_table, options_faults}
 use Rattle.protobuf_parse_model.specs.Contexts.{environment_in}
@@ -33,10 +34,8 @@ returns c =
     let imported = c.in_ok-imports.ensures.told.1 ∙ ap (λ z. dependencies.imports (map statement_view z)) c.deref.ensures.value in
     let parts = c.in_ok-contents.ensures.1 ∙ ap (λ z. parts_of env (map statement_view z)) c.deref-2.ensures.value in
     let options = c.in_ok-options.ensures.1 ∙ ap (λ z. file_options nowhere (flat_map options_in_file (map statement_view z))) c.deref-3.ensures.value in
-    let syntax = c.in_ok-syntax.ensures.ok ∙ c.syntax_text.ensures in
-    let paths = c.in_ok-paths.ensures ∙ ap (λ z. map (λ (i : ImportSyntax). i.path) (map (λ i. import_view i.now) z)) c.deref-4.ensures.value ∙ ap (map (λ (i : ImportSyntax). i.path)) imported in
-    let public = c.in_ok-public_positions.ensures ∙ ap (λ z. dependencies.positions dependencies.is_public 0 (map (λ i. import_view i.now) z)) c.deref-5.ensures.value ∙ ap (dependencies.positions dependencies.is_public 0) imported in
-    let weak = c.in_ok-weak_positions.ensures ∙ ap (λ z. dependencies.positions dependencies.is_weak 0 (map (λ i. import_view i.now) z)) c.deref-6.ensures.value ∙ ap (dependencies.positions dependencies.is_weak 0) imported in (
+    let lists = c.in_ok-lists.ensures ∙ ap (λ z. dependencies.imports_of (map (λ i. import_view i.now) z)) c.deref-4.ensures.value ∙ ap dependencies.imports_of imported in
+    let heading = c.in_ok-heading.ensures in (
       faultless (unsupported_in t) (file_duplicates env t) (options_faults file_table (flat_map options_in_file t.statements)) (flat_map (statement_faults env) t.statements) no_unsupported no_parts no_options,
-      same_file (ap Some c.in_ok-name.ensures.ok) c.in_ok-package.ensures (ap Some syntax) paths public weak parts options,
+      same_file (ap Some heading.name) heading.package (ap Some heading.syntax) (ap (λ (l : FileImports). l.paths) lists) (ap (λ (l : FileImports). l.public) lists) (ap (λ (l : FileImports). l.weak) lists) parts options,
     )
