@@ -1,6 +1,7 @@
 -- Options and their tables as the code holds them.
-use Rattle.std.specs.Prelude.{ℕ, List, [], map, None}
+use Rattle.std.specs.Prelude.{◌≡◌, ℕ, List, [], map, Option, None, option_map, String, string_bytes}
 use Rattle.std.specs.Borrow.{Bor}
+use Rattle.std.specs.Global.{Global}
 use Rattle.protobuf_parse_syntax.specs.Trees.{ConstantSyntax, constant_view, OptionSyntax, option_view}
 use Rattle.protobuf_parse_syntax.specs.declared.tree.Syntax.TheVariants.{Proto2}
 use Rattle.protobuf_parse_syntax.specs.declared.tree.constant.ProtobufConstant.{ProtobufConstant}
@@ -21,6 +22,10 @@ constant_seen c = constant_view c.now
 -- where no name means anything and no custom option is spelled
 abbrev pub nowhere : Environment
 nowhere = record { syntax = Proto2; types = λ name. None; scope = []; custom = no_custom }
+
+-- what the option of that name is set to, if it is
+abbrev pub IsTextOption : List (Bor ProtobufOption) → Text → Option (String Global) → Type 0
+IsTextOption os name text = option_map string_bytes text ≡ spec.text_option (options_seen os) name
 
 -- ---- tables
 
