@@ -10,7 +10,7 @@ use Rattle.protobuf_parse_base.specs.PathViews.{path_buf_text}
 use Rattle.protobuf_parse_model.specs.Descriptors.{Text, FileDescriptor}
 use Rattle.protobuf_parse_model.specs.Descriptors as described
 use Rattle.protobuf_parse_model.specs.Declarations.{DeclaredType, file_scope}
-use Rattle.protobuf_parse_model.specs.Environment.{Environment, no_custom}
+use Rattle.protobuf_parse_model.specs.Environment.{Environment, no_extensions}
 use Rattle.protobuf_parse_model.specs.Faults.{Among, here, there, fault_view}
 use Rattle.protobuf_parse_model.specs.Faults as elaborating
 use Rattle.protobuf_parse_model.specs.FileDescriptor.{environment, file_of, types_of_files}
@@ -238,7 +238,7 @@ module _ (files : Files) (listed : AreListed files.trees files.reached files.see
   linked_in = link_faults (trees_at files.trees (files.reached p))
 
   abbrev sees_types : (Text → Option DeclaredType) → Environment
-  sees_types types = record { syntax = t.syntax; types = types; scope = file_scope t; custom = no_custom }
+  sees_types types = record { syntax = t.syntax; types = types; scope = file_scope t; customs = no_extensions }
 
   same-reach : SameMembers (paths_by with_p reach) (files.reached p)
   same-reach = just-same (Reaches files.trees p) (paths_by with_p reach) (files.reached p) reached-by (listed.reaches p)
@@ -252,13 +252,13 @@ module _ (files : Files) (listed : AreListed files.trees files.reached files.see
   sight-is : picked (with_next loaded t) sight ≡ trees_at files.trees (paths_by with_p sight)
   sight-is = ap (λ (ts : List FileSyntax). picked ts sight) (next-trees loaded p t) ∙ picked-are files.trees with_p sight agrees-p
 
-  same-types : linked ≡ [] → environment (picked (with_next loaded t) sight) no_custom t ≡ environment_of files p t
+  same-types : linked ≡ [] → environment (picked (with_next loaded t) sight) no_extensions t ≡ environment_of files p t
   same-types h =
-      ap (λ (ts : List FileSyntax). environment ts no_custom t) sight-is
+      ap (λ (ts : List FileSyntax). environment ts no_extensions t) sight-is
       ∙ ap sees_types (types-same files.trees (paths_by with_p reach) (paths_by with_p sight) (files.seen p) reached-by.once same-sight (λ q m. reached-by.all q (sees-reaches files.trees p q (seen-by.only q m))) h)
 
   abbrev told-over : List elaborating.Fault
-  told-over = faults_of (environment (picked (with_next loaded t) sight) no_custom t) t
+  told-over = faults_of (environment (picked (with_next loaded t) sight) no_extensions t) t
 
   over-is : faults_over (with_next loaded t) reach sight t ≡ before_others linked told-over
   over-is = ap (λ (fs : List elaborating.Fault). before_others fs told-over) linked-is

@@ -9,7 +9,7 @@ use Rattle.protobuf_parse_syntax.specs.Trees.{FileSyntax, file_view}
 use Rattle.protobuf_parse_syntax.specs.declared.tree.FileTree.{FileTree}
 use Rattle.protobuf_parse_model.specs.Descriptors as described
 use Rattle.protobuf_parse_model.specs.Descriptors.{Text, FileDescriptor}
-use Rattle.protobuf_parse_model.specs.Environment.{no_custom}
+use Rattle.protobuf_parse_model.specs.Environment.{no_extensions}
 use Rattle.protobuf_parse_model.specs.FileDescriptor.{environment, file_of}
 use Rattle.protobuf_parse_model.specs.FilesByPath.{AreDistinct}
 use Rattle.protobuf_parse_model.specs.Linking.{before_others, link_faults}
@@ -136,10 +136,10 @@ ArePublic loaded paths number =
 
 -- the faults of a file, and what it becomes, over the files with the numbers that it reaches and sees
 abbrev pub faults_over : List FileSyntax → List ℕ → List ℕ → FileSyntax → List elaborating.Fault
-faults_over files reach sight t = before_others (link_faults (picked files reach)) (faults_of (environment (picked files sight) no_custom t) t)
+faults_over files reach sight t = before_others (link_faults (picked files reach)) (faults_of (environment (picked files sight) no_extensions t) t)
 
 abbrev pub file_over : List FileSyntax → List ℕ → Text → FileSyntax → FileDescriptor
-file_over files sight path t = file_of (environment (picked files sight) no_custom t) path t
+file_over files sight path t = file_of (environment (picked files sight) no_extensions t) path t
 
 -- these are more files than were loaded
 abbrev pub MoreLoaded : List Entry → List Entry → Type 0

@@ -10,7 +10,7 @@ use Rattle.protobuf_parse_syntax.specs.Trees.{FileSyntax}
 use Rattle.protobuf_parse_syntax.specs.declared.error.ParserErrorWithLocation.{ParserErrorWithLocation}
 use Rattle.protobuf_parse_model.specs.Descriptors as described
 use Rattle.protobuf_parse_model.specs.Descriptors.{Text, FileDescriptor}
-use Rattle.protobuf_parse_model.specs.Environment.{Environment, no_custom}
+use Rattle.protobuf_parse_model.specs.Environment.{Environment, no_extensions}
 use Rattle.protobuf_parse_model.specs.FileDescriptor.{environment, file_faults, file_of}
 use Rattle.protobuf_parse_model.specs.FilesByPath.{AreJust, trees_at}
 use Rattle.protobuf_parse_model.specs.Linking.{before_others, link_faults}
@@ -131,7 +131,7 @@ are_same_bytes _ _ = false
 
 -- from where the file of this path and tree is seen: its names are looked up over the files that it sees
 abbrev pub environment_of : Files → Text → FileSyntax → Environment
-environment_of files p t = environment (trees_at files.trees (files.seen p)) no_custom t
+environment_of files p t = environment (trees_at files.trees (files.seen p)) no_extensions t
 
 -- the faults that stand in a file, and the constructs of it that have no descriptor yet
 abbrev pub faults_of : Environment → FileSyntax → List elaborating.Fault

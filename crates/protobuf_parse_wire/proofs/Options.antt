@@ -17,7 +17,7 @@ use Rattle.protobuf_parse_model.specs.Descriptors.{Text, FieldDescriptor, FileDe
 use Rattle.protobuf_parse_model.specs.Faults.{Fault, Among, here, there}
 use Rattle.protobuf_parse_model.specs.Declarations.{Declared}
 use Rattle.protobuf_parse_model.specs.Lookup.{meaning}
-use Rattle.protobuf_parse_model.specs.Environment.{OptionsOf}
+use Rattle.protobuf_parse_model.specs.declared.customs.Construct.{Construct}
 use Rattle.protobuf_parse_model.specs.Duplicates.{fault_when}
 use Rattle.protobuf_parse_model.specs.BuiltinOptions.{string_faults}
 use Rattle.protobuf_parse_wire.specs.declared.kind.Kind.{Kind}
@@ -30,7 +30,8 @@ use Rattle.protobuf_parse_wire.specs.Declarations.{messages_of, extensions_in, e
 use Rattle.protobuf_parse_wire.specs.Law.{Suit, ValueSuits, Enters}
 use Rattle.protobuf_parse_wire.specs.OptionFields.{OptionScope, options_message, fields_of_message, field_named, if_extends, number_of_value, part_field, type_name_of, takes_by, is_entry}
 use Rattle.protobuf_parse_wire.specs.CustomOptions.{message_item, value_items, list_items, field_items, constant_fields, path_items, named_items, option_items, denotes}
-use Rattle.protobuf_parse_wire.specs.CustomFaults.{integer_faults, truth_faults, value_name_faults, string_value_faults, message_value_faults, number_faults, constant_name_faults, value_faults, list_faults, field_faults, part_text, path_text, part_faults, step_faults, path_faults, custom_faults, named_faults, statement_faults}
+use Rattle.protobuf_parse_wire.specs.CustomFaults.{integer_faults, truth_faults, value_name_faults, string_value_faults, message_value_faults, number_faults, constant_name_faults, value_faults, list_faults, field_faults, part_faults, step_faults, path_faults, custom_faults, named_faults, statement_faults}
+use Rattle.protobuf_parse_model.specs.Environment.{part_text, path_text}
 use Rattle.protobuf_parse_wire.specs.OptionLaw.{IsEntered, fields_at, IsReadable, OptionsAreRead}
 use Rattle.protobuf_parse_wire.proofs.Again as again
 use Rattle.protobuf_parse_model.proofs.Lookups.{found_is, meaning_declared}
@@ -251,16 +252,16 @@ path_suits at r option value message (p ∷ q ∷ ps) e =
     (λ s i. held_inside at r message g (part_among at r message p g h) (path_items at value (type_name_of g) (q ∷ ps)) s (path_suits at r option value (type_name_of g) (q ∷ ps) i)))
     (no_right (part_faults at message p) _ e)
 
-custom_suits : (at : OptionScope) → IsReadable at → (construct : OptionsOf) (value : ConstantSyntax) (parts : List OptionPartSyntax) → custom_faults at construct value parts ≡ [] → Suits at.files (fields_at at.files (options_message construct)) (path_items at value (options_message construct) parts)
+custom_suits : (at : OptionScope) → IsReadable at → (construct : Construct) (value : ConstantSyntax) (parts : List OptionPartSyntax) → custom_faults at construct value parts ≡ [] → Suits at.files (fields_at at.files (options_message construct)) (path_items at value (options_message construct) parts)
 custom_suits at r construct value [] e = tt
 custom_suits at r construct value (direct name ∷ ps) e = absurd (plain_step_has_fault construct name e)
 custom_suits at r construct value (extension name ∷ ps) e = path_suits at r (path_text (extension name ∷ ps)) value (options_message construct) (extension name ∷ ps) e
 
-named_suits : (at : OptionScope) → IsReadable at → (construct : OptionsOf) (value : ConstantSyntax) (name : OptionNameSyntax) → named_faults at construct value name ≡ [] → Suits at.files (fields_at at.files (options_message construct)) (named_items at (options_message construct) value name)
+named_suits : (at : OptionScope) → IsReadable at → (construct : Construct) (value : ConstantSyntax) (name : OptionNameSyntax) → named_faults at construct value name ≡ [] → Suits at.files (fields_at at.files (options_message construct)) (named_items at (options_message construct) value name)
 named_suits at r construct value (builtin name) e = tt
 named_suits at r construct value (custom parts) e = custom_suits at r construct value parts e
 
-all_suit : (at : OptionScope) → IsReadable at → (construct : OptionsOf) (os : List OptionSyntax) → statement_faults at construct os ≡ [] → Suits at.files (fields_at at.files (options_message construct)) (flat_map (option_items at construct) os)
+all_suit : (at : OptionScope) → IsReadable at → (construct : Construct) (os : List OptionSyntax) → statement_faults at construct os ≡ [] → Suits at.files (fields_at at.files (options_message construct)) (flat_map (option_items at construct) os)
 all_suit at r construct [] e = tt
 all_suit at r construct (o ∷ os) e =
     suit_append at.files (fields_at at.files (options_message construct)) (option_items at construct o) (flat_map (option_items at construct) os)

@@ -11,7 +11,8 @@ use Rattle.protobuf_parse_syntax.specs.Decoder.{decode_piece, front_part, byte_p
 use Rattle.protobuf_parse_syntax.specs.Trees.{ConstantSyntax, integer, string, list, fields, no_constants, more_constants, no_fields, more_fields, regular_name, extension, direct, custom, OptionPartSyntax, OptionSyntax, scalar, named, TypeSyntax, FieldStatementSyntax, field, message_field, StatementSyntax, message_extend, dotted, enum_value, file_enum, file_package, file_message, file_extend, FileSyntax}
 use Rattle.protobuf_parse_model.specs.declared.error.ElabErrorKind.TheVariants as error
 use Rattle.protobuf_parse_model.specs.Descriptors.{Text, FileDescriptor}
-use Rattle.protobuf_parse_model.specs.Environment.{of_file, of_message, no_custom}
+use Rattle.protobuf_parse_model.specs.declared.customs.Construct.TheVariants as of
+use Rattle.protobuf_parse_model.specs.Environment.{no_customs}
 use Rattle.protobuf_parse_model.specs.FileDescriptor.{environment, file_of}
 use Rattle.protobuf_parse_wire.specs.declared.kind.Kind.TheVariants as kinds
 use Rattle.protobuf_parse_wire.specs.Trees as trees
@@ -52,7 +53,7 @@ declaring = file (
     ∷ an_extend (codes "google.protobuf.MessageOptions") (a_field Optional (named (codes "M")) (codes "m") 50003 ∷ []) ∷ [])
 
 abbrev descriptor : FileSyntax → FileDescriptor
-descriptor t = file_of (environment (options_file ∷ t ∷ []) no_custom t) (codes "x.proto") t
+descriptor t = file_of (environment (options_file ∷ t ∷ []) no_customs t) (codes "x.proto") t
 
 abbrev descriptors : List FileDescriptor
 descriptors = descriptor options_file ∷ descriptor declaring ∷ []
@@ -68,28 +69,28 @@ set parts value = record { name = custom parts; value = value } ∷ []
 abbrev minus_one : List OptionSyntax
 minus_one = set (extension (codes "o") ∷ []) (integer (negsuc 0))
 
-minus_one_denotes : denotes here of_file minus_one ≡ entry 50001 kinds.Sint32 (trees.number (negsuc 0)) no_entries
+minus_one_denotes : denotes here of.File minus_one ≡ entry 50001 kinds.Sint32 (trees.number (negsuc 0)) no_entries
 minus_one_denotes = refl
 
-minus_one_has_no_fault : statement_faults here of_file minus_one ≡ []
+minus_one_has_no_fault : statement_faults here of.File minus_one ≡ []
 minus_one_has_no_fault = refl
 
 -- 88 b5 18 01
-minus_one_is_spelled : Spells (denotes here of_file minus_one) (136 ∷ 181 ∷ 24 ∷ 1 ∷ [])
+minus_one_is_spelled : Spells (denotes here of.File minus_one) (136 ∷ 181 ∷ 24 ∷ 1 ∷ [])
 minus_one_is_spelled =
     (136 ∷ 181 ∷ 24 ∷ [], 1 ∷ [], [], refl, record { chain = (omega arith, omega arith, (omega arith, omega arith, omega arith)); shortest = omega arith; value = refl }, (1, refl, record { chain = omega arith; shortest = tt; value = refl }), refl)
 
 abbrev least : List OptionSyntax
 least = set (extension (codes "o") ∷ []) (integer (negsuc 2147483647))
 
-least_denotes : denotes here of_file least ≡ entry 50001 kinds.Sint32 (trees.number (negsuc 2147483647)) no_entries
+least_denotes : denotes here of.File least ≡ entry 50001 kinds.Sint32 (trees.number (negsuc 2147483647)) no_entries
 least_denotes = refl
 
-least_has_no_fault : statement_faults here of_file least ≡ []
+least_has_no_fault : statement_faults here of.File least ≡ []
 least_has_no_fault = refl
 
 -- option (o) = 2147483648;
-too_large_is_told : statement_faults here of_file (set (extension (codes "o") ∷ []) (integer (pos 2147483648))) ≡ record { kind = error.IntegerOutOfRange; what = codes "o" } ∷ []
+too_large_is_told : statement_faults here of.File (set (extension (codes "o") ∷ []) (integer (pos 2147483648))) ≡ record { kind = error.IntegerOutOfRange; what = codes "o" } ∷ []
 too_large_is_told = refl
 
 -- ---- message X { option (m) = {a: [1, 2] s: "x"}; }
@@ -97,38 +98,38 @@ too_large_is_told = refl
 abbrev constant : ConstantSyntax
 constant = fields (more_fields (regular_name (codes "a")) (list (more_constants (integer (pos 1)) (more_constants (integer (pos 2)) no_constants))) (more_fields (regular_name (codes "s")) (string (codes "x" ∷ [])) no_fields))
 
-constant_denotes : denotes here of_message (set (extension (codes "m") ∷ []) constant) ≡ entry 50003 kinds.Message (trees.message (entry 1 kinds.Int32 (trees.number (pos 1)) (entry 1 kinds.Int32 (trees.number (pos 2)) (entry 2 kinds.String (trees.bytes (codes "x")) no_entries)))) no_entries
+constant_denotes : denotes here of.Message (set (extension (codes "m") ∷ []) constant) ≡ entry 50003 kinds.Message (trees.message (entry 1 kinds.Int32 (trees.number (pos 1)) (entry 1 kinds.Int32 (trees.number (pos 2)) (entry 2 kinds.String (trees.bytes (codes "x")) no_entries)))) no_entries
 unfolding decode_piece front_part byte_part digits_end
 constant_denotes = refl
 
-constant_has_no_fault : statement_faults here of_message (set (extension (codes "m") ∷ []) constant) ≡ []
+constant_has_no_fault : statement_faults here of.Message (set (extension (codes "m") ∷ []) constant) ≡ []
 unfolding decode_piece front_part byte_part digits_end chars is_utf8 lib.Utf8.encode
 constant_has_no_fault = refl
 
 -- option (m).s = "x";
-step_denotes : denotes here of_message (set (extension (codes "m") ∷ direct (codes "s") ∷ []) (string (codes "x" ∷ []))) ≡ entry 50003 kinds.Message (trees.message (entry 2 kinds.String (trees.bytes (codes "x")) no_entries)) no_entries
+step_denotes : denotes here of.Message (set (extension (codes "m") ∷ direct (codes "s") ∷ []) (string (codes "x" ∷ []))) ≡ entry 50003 kinds.Message (trees.message (entry 2 kinds.String (trees.bytes (codes "x")) no_entries)) no_entries
 unfolding decode_piece front_part byte_part digits_end
 step_denotes = refl
 
 -- option (m) = {a: []};
-empty_list_denotes : denotes here of_message (set (extension (codes "m") ∷ []) (fields (more_fields (regular_name (codes "a")) (list no_constants) no_fields))) ≡ entry 50003 kinds.Message (trees.message no_entries) no_entries
+empty_list_denotes : denotes here of.Message (set (extension (codes "m") ∷ []) (fields (more_fields (regular_name (codes "a")) (list no_constants) no_fields))) ≡ entry 50003 kinds.Message (trees.message no_entries) no_entries
 empty_list_denotes = refl
 
 -- ---- names that mean nothing
 
-unknown_extension_is_told : statement_faults here of_file (set (extension (codes "nope") ∷ []) (integer (pos 1))) ≡ record { kind = error.ExtensionNotFound; what = codes "nope" } ∷ []
+unknown_extension_is_told : statement_faults here of.File (set (extension (codes "nope") ∷ []) (integer (pos 1))) ≡ record { kind = error.ExtensionNotFound; what = codes "nope" } ∷ []
 unknown_extension_is_told = refl
 
-other_message_is_told : statement_faults here of_file (set (extension (codes "m") ∷ []) constant) ≡ record { kind = error.WrongExtensionType; what = codes "m" } ∷ []
+other_message_is_told : statement_faults here of.File (set (extension (codes "m") ∷ []) constant) ≡ record { kind = error.WrongExtensionType; what = codes "m" } ∷ []
 other_message_is_told = refl
 
-no_message_is_told : statement_faults here of_file (set (extension (codes "o") ∷ direct (codes "s") ∷ []) (integer (pos 1))) ≡ record { kind = error.ExtensionIsNotMessage; what = codes "(o)" } ∷ []
+no_message_is_told : statement_faults here of.File (set (extension (codes "o") ∷ direct (codes "s") ∷ []) (integer (pos 1))) ≡ record { kind = error.ExtensionIsNotMessage; what = codes "(o)" } ∷ []
 no_message_is_told = refl
 
-builtin_is_no_message : statement_faults here of_file (set (direct (codes "java_package") ∷ direct (codes "s") ∷ []) (integer (pos 1))) ≡ record { kind = error.ExtensionIsNotMessage; what = codes "java_package" } ∷ []
+builtin_is_no_message : statement_faults here of.File (set (direct (codes "java_package") ∷ direct (codes "s") ∷ []) (integer (pos 1))) ≡ record { kind = error.ExtensionIsNotMessage; what = codes "java_package" } ∷ []
 builtin_is_no_message = refl
 
-unknown_field_is_told : statement_faults here of_message (set (extension (codes "m") ∷ direct (codes "t") ∷ []) (integer (pos 1))) ≡ record { kind = error.UnknownFieldName; what = codes "t" } ∷ []
+unknown_field_is_told : statement_faults here of.Message (set (extension (codes "m") ∷ direct (codes "t") ∷ []) (integer (pos 1))) ≡ record { kind = error.UnknownFieldName; what = codes "t" } ∷ []
 unknown_field_is_told = refl
 
 -- ---- package p.q; enum E { A = 0; B = -1; } message Outer { extend google.protobuf.FileOptions { optional E e = 50005; } }
@@ -148,14 +149,14 @@ in_package =
 abbrev outer_e : Text → List OptionSyntax
 outer_e value = set (extension (codes "Outer.e") ∷ []) (dotted value)
 
-value_is_its_number : denotes in_package of_file (outer_e (codes "B")) ≡ entry 50005 kinds.Enum (trees.number (negsuc 0)) no_entries
+value_is_its_number : denotes in_package of.File (outer_e (codes "B")) ≡ entry 50005 kinds.Enum (trees.number (negsuc 0)) no_entries
 value_is_its_number = refl
 
-value_has_no_fault : statement_faults in_package of_file (outer_e (codes "B")) ≡ []
+value_has_no_fault : statement_faults in_package of.File (outer_e (codes "B")) ≡ []
 value_has_no_fault = refl
 
-unknown_value_is_told : statement_faults in_package of_file (outer_e (codes "C")) ≡ record { kind = error.UnknownEnumValue; what = codes "C" } ∷ []
+unknown_value_is_told : statement_faults in_package of.File (outer_e (codes "C")) ≡ record { kind = error.UnknownEnumValue; what = codes "C" } ∷ []
 unknown_value_is_told = refl
 
-number_is_no_value : statement_faults in_package of_file (set (extension (codes "Outer.e") ∷ []) (integer (pos 0))) ≡ record { kind = error.UnsupportedExtensionType; what = codes "e" } ∷ []
+number_is_no_value : statement_faults in_package of.File (set (extension (codes "Outer.e") ∷ []) (integer (pos 0))) ≡ record { kind = error.UnsupportedExtensionType; what = codes "e" } ∷ []
 number_is_no_value = refl

@@ -13,7 +13,7 @@ use Rattle.protobuf_parse_model.specs.declared.descriptor.FieldType.TheVariants 
 use Rattle.protobuf_parse_model.specs.Descriptors.{Text, FieldDescriptor, FileDescriptor}
 use Rattle.protobuf_parse_model.specs.Faults.{Fault}
 use Rattle.protobuf_parse_model.specs.Duplicates.{stands_in}
-use Rattle.protobuf_parse_model.specs.Environment.{OptionsOf}
+use Rattle.protobuf_parse_model.specs.declared.customs.Construct.{Construct}
 use Rattle.protobuf_parse_wire.specs.declared.kind.Kind.{Kind}
 use Rattle.protobuf_parse_wire.specs.declared.kind.Kind.TheVariants as kinds
 use Rattle.protobuf_parse_wire.specs.Kinds as shapes
@@ -26,7 +26,8 @@ use Rattle.protobuf_parse_wire.specs.Writing.{AreWritable}
 use Rattle.protobuf_parse_wire.specs.OptionFields.{OptionScope, options_message, number_of_value, part_field, type_name_of, integers, takes_by, is_entry, fits}
 use Rattle.protobuf_parse_wire.specs.OptionLaw.{HasSmallValues}
 use Rattle.protobuf_parse_wire.specs.CustomOptions.{value_items, list_items, field_items, constant_fields, path_items, message_item, named_items, option_items, denotes}
-use Rattle.protobuf_parse_wire.specs.CustomFaults.{integer_faults, truth_faults, value_name_faults, string_value_faults, message_value_faults, number_faults, constant_name_faults, value_faults, list_faults, field_faults, part_text, path_text, part_faults, step_faults, path_faults, table_of, names_in, builtin_step_faults, custom_faults, named_faults, statement_faults}
+use Rattle.protobuf_parse_wire.specs.CustomFaults.{integer_faults, truth_faults, value_name_faults, string_value_faults, message_value_faults, number_faults, constant_name_faults, value_faults, list_faults, field_faults, part_faults, step_faults, path_faults, table_of, names_in, builtin_step_faults, custom_faults, named_faults, statement_faults}
+use Rattle.protobuf_parse_model.specs.Environment.{part_text, path_text}
 
 -- ---- ranges
 
@@ -179,18 +180,18 @@ step_has_fault true b x y z e = absurd cc
 step_has_fault false true x y z e = absurd cc
 step_has_fault false false x y z e = absurd cc
 
-pub plain_step_has_fault : (construct : OptionsOf) (name : Text) → builtin_step_faults (table_of construct) name ≡ [] → ⊥
+pub plain_step_has_fault : (construct : Construct) (name : Text) → builtin_step_faults (table_of construct) name ≡ [] → ⊥
 plain_step_has_fault construct name e = step_has_fault (bytes_eq name (codes "uninterpreted_option")) (stands_in name (names_in (table_of construct))) (record { kind = UninterpretedOptionName; what = name }) (record { kind = ExtensionIsNotMessage; what = name }) (record { kind = UnknownFieldName; what = name }) e
 
-custom_fit : (at : OptionScope) → HasSmallValues at.files → (construct : OptionsOf) (value : ConstantSyntax) (parts : List OptionPartSyntax) → custom_faults at construct value parts ≡ [] → AreFit (path_items at value (options_message construct) parts)
+custom_fit : (at : OptionScope) → HasSmallValues at.files → (construct : Construct) (value : ConstantSyntax) (parts : List OptionPartSyntax) → custom_faults at construct value parts ≡ [] → AreFit (path_items at value (options_message construct) parts)
 custom_fit at small construct value [] e = tt
 custom_fit at small construct value (direct name ∷ ps) e = absurd (plain_step_has_fault construct name e)
 custom_fit at small construct value (extension name ∷ ps) e = path_fit at small (path_text (extension name ∷ ps)) value (options_message construct) (extension name ∷ ps) e
 
-named_fit : (at : OptionScope) → HasSmallValues at.files → (construct : OptionsOf) (value : ConstantSyntax) (name : OptionNameSyntax) → named_faults at construct value name ≡ [] → AreFit (named_items at (options_message construct) value name)
+named_fit : (at : OptionScope) → HasSmallValues at.files → (construct : Construct) (value : ConstantSyntax) (name : OptionNameSyntax) → named_faults at construct value name ≡ [] → AreFit (named_items at (options_message construct) value name)
 named_fit at small construct value (builtin name) e = tt
 named_fit at small construct value (custom parts) e = custom_fit at small construct value parts e
 
 -- what the statements of one construct denote can be written, so that there are bytes which spell it
-pub denotes_writable : (at : OptionScope) → HasSmallValues at.files → (construct : OptionsOf) (os : List OptionSyntax) → statement_faults at construct os ≡ [] → AreWritable (denotes at construct os)
+pub denotes_writable : (at : OptionScope) → HasSmallValues at.files → (construct : Construct) (os : List OptionSyntax) → statement_faults at construct os ≡ [] → AreWritable (denotes at construct os)
 denotes_writable at small construct os e = fit_each (λ (o : OptionSyntax). named_faults at construct o.value o.name) (option_items at construct) (λ o h. named_fit at small construct o.value o.name h) os e

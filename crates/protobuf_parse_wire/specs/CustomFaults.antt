@@ -1,6 +1,5 @@
 -- What is wrong in the custom options of a file.
 use Rattle.std.specs.Prelude.{ℤ, pos, int_le, not, ◌&&◌, List, [], ◌∷◌, ◌++◌, map, flat_map, codes, bytes_eq, Option, Some, None, is_some, option_to_list, if◌then◌else◌}
-use Rattle.std.specs.List.{join_with_byte}
 use Rattle.protobuf_parse_syntax.specs.Trees.{Pieces, ConstantNameSyntax, regular_name, extension_name, url_name, ConstantSyntax, integer, truth, dotted, string, list, fields, ConstantList, no_constants, more_constants, ConstantFieldList, no_fields, more_fields, OptionPartSyntax, direct, extension, OptionNameSyntax, builtin, custom, OptionSyntax, FileSyntax}
 use Rattle.protobuf_parse_syntax.specs.Decoder.{decode, text_of}
 use Rattle.protobuf_parse_model.specs.declared.error.ElabErrorKind.TheVariants.{ExtensionNotFound, WrongExtensionType, ExtensionIsNotMessage, UnknownFieldName, UnknownEnumValue, UnsupportedExtensionType, IntegerOutOfRange, MessageFieldRequiresMessageConstant, FloatOptionValue, OptionFieldNumber, GroupStepInOptionName, ExtensionFieldInConstant, TypeUrlInConstant, MapFieldInConstant, UninterpretedOptionName}
@@ -9,7 +8,9 @@ use Rattle.protobuf_parse_model.specs.Faults.{Fault}
 use Rattle.protobuf_parse_model.specs.Declarations.{Declared}
 use Rattle.protobuf_parse_model.specs.Lookup.{meaning}
 use Rattle.protobuf_parse_model.specs.Duplicates.{fault, fault_when, stands_in}
-use Rattle.protobuf_parse_model.specs.Environment.{OptionsOf, of_file, of_message, of_field, of_oneof, of_enum, of_enum_value, of_service, of_method, no_custom}
+use Rattle.protobuf_parse_model.specs.declared.customs.Construct.{Construct}
+use Rattle.protobuf_parse_model.specs.declared.customs.Construct.TheVariants as of
+use Rattle.protobuf_parse_model.specs.Environment.{no_customs, part_text, path_text}
 use Rattle.protobuf_parse_model.specs.BuiltinOptions.{Table, BuiltinKind, string_faults, file_table, message_table, field_table, oneof_table, enum_table, enum_value_table, service_table, method_table}
 use Rattle.protobuf_parse_model.specs.FileDescriptor.{environment, file_faults}
 use Rattle.protobuf_parse_model.specs.Linking.{before_others, link_faults}
@@ -20,13 +21,6 @@ use Rattle.protobuf_parse_wire.specs.OptionFields.{OptionScope, options_message,
 use Rattle.protobuf_parse_wire.specs.CustomOptions.{constant_fields, scope_of}
 
 -- ---- names as they are written
-
-abbrev pub part_text : OptionPartSyntax → Text
-part_text (direct name) = name
-part_text (extension name) = codes "(" ++ name ++ codes ")"
-
-abbrev pub path_text : List OptionPartSyntax → Text
-path_text parts = join_with_byte 46 (map part_text parts)
 
 abbrev pub bracketed : Text → Text
 bracketed name = codes "[" ++ name ++ codes "]"
@@ -126,15 +120,15 @@ path_faults at option value message (p ∷ q ∷ ps) =
     part_faults at message p
     ++ flat_map (λ (g : FieldDescriptor). number_faults g ++ step_faults (part_text p) (takes at.files g) (path_faults at option value (type_name_of g) (q ∷ ps))) (option_to_list (part_field at message p))
 
-abbrev pub table_of : OptionsOf → Table
-table_of of_file = file_table
-table_of of_message = message_table
-table_of of_field = field_table
-table_of of_oneof = oneof_table
-table_of of_enum = enum_table
-table_of of_enum_value = enum_value_table
-table_of of_service = service_table
-table_of of_method = method_table
+abbrev pub table_of : Construct → Table
+table_of of.File = file_table
+table_of of.Message = message_table
+table_of of.Field = field_table
+table_of of.Oneof = oneof_table
+table_of of.Enum = enum_table
+table_of of.EnumValue = enum_value_table
+table_of of.Service = service_table
+table_of of.Method = method_table
 
 abbrev pub names_in : Table → List Text
 names_in table = map (λ (entry : Text × BuiltinKind). entry.0) table
@@ -146,18 +140,18 @@ builtin_step_faults table name =
     if bytes_eq name (codes "uninterpreted_option") then fault UninterpretedOptionName name
     else (if stands_in name (names_in table) then fault ExtensionIsNotMessage name else fault UnknownFieldName name)
 
-abbrev pub custom_faults : OptionScope → OptionsOf → ConstantSyntax → List OptionPartSyntax → List Fault
+abbrev pub custom_faults : OptionScope → Construct → ConstantSyntax → List OptionPartSyntax → List Fault
 custom_faults at construct value [] = []
 custom_faults at construct value (direct name ∷ ps) = builtin_step_faults (table_of construct) name
 custom_faults at construct value (extension name ∷ ps) = path_faults at (path_text (extension name ∷ ps)) value (options_message construct) (extension name ∷ ps)
 
-abbrev pub named_faults : OptionScope → OptionsOf → ConstantSyntax → OptionNameSyntax → List Fault
+abbrev pub named_faults : OptionScope → Construct → ConstantSyntax → OptionNameSyntax → List Fault
 named_faults at construct value (builtin name) = []
 named_faults at construct value (custom parts) = custom_faults at construct value parts
 
 -- ---- the statements of a construct, and of a file
 
-abbrev pub statement_faults : OptionScope → OptionsOf → List OptionSyntax → List Fault
+abbrev pub statement_faults : OptionScope → Construct → List OptionSyntax → List Fault
 statement_faults at construct os = flat_map (λ (o : OptionSyntax). named_faults at construct o.value o.name) os
 
 abbrev pub option_faults : List FileDescriptor → List (Declared FieldDescriptor) → FileSyntax → List Fault
@@ -166,4 +160,4 @@ option_faults files extensions t = flat_map (λ (s : OptionSet). statement_fault
 -- All faults that stand in a file: those of names that are declared twice in the files that it reaches, or else its own and
 -- those of its custom options.
 abbrev pub elaboration_faults : (reached seen : List FileSyntax) → List FileDescriptor → List (Declared FieldDescriptor) → FileSyntax → List Fault
-elaboration_faults reached seen files extensions t = before_others (link_faults reached) (file_faults (environment seen no_custom t) t ++ option_faults files extensions t)
+elaboration_faults reached seen files extensions t = before_others (link_faults reached) (file_faults (environment seen no_customs t) t ++ option_faults files extensions t)

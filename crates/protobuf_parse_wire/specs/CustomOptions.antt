@@ -11,7 +11,8 @@ use Rattle.protobuf_parse_syntax.specs.Decoder.{decode}
 use Rattle.protobuf_parse_model.specs.Descriptors.{Text, FieldDescriptor, FileDescriptor}
 use Rattle.protobuf_parse_model.specs.Faults.{Among}
 use Rattle.protobuf_parse_model.specs.Declarations.{Declared}
-use Rattle.protobuf_parse_model.specs.Environment.{OptionsOf, CustomBytes}
+use Rattle.protobuf_parse_model.specs.declared.customs.Construct.{Construct}
+use Rattle.protobuf_parse_model.specs.Environment.{CustomBytes, spelled_so}
 use Rattle.protobuf_parse_model.specs.FileDescriptor.{environment, file_of}
 use Rattle.protobuf_parse_model.specs.OptionSets.{OptionSet, option_sets}
 use Rattle.protobuf_parse_wire.specs.declared.kind.Kind.{Kind}
@@ -64,11 +65,11 @@ abbrev pub named_items : OptionScope → Text → ConstantSyntax → OptionNameS
 named_items at message value (builtin name) = []
 named_items at message value (custom parts) = path_items at value message parts
 
-abbrev pub option_items : OptionScope → OptionsOf → OptionSyntax → List Item
+abbrev pub option_items : OptionScope → Construct → OptionSyntax → List Item
 option_items at construct o = named_items at (options_message construct) o.value o.name
 
 -- what the statements of one construct denote
-abbrev pub denotes : OptionScope → OptionsOf → List OptionSyntax → Entries
+abbrev pub denotes : OptionScope → Construct → List OptionSyntax → Entries
 denotes at construct os = entries_of_list (flat_map (option_items at construct) os)
 
 -- ---- the descriptor with its custom options
@@ -85,4 +86,4 @@ SpellsOptions files extensions t spelled = (s : OptionSet) → Among (option_set
 pub record IsElaborated (seen : List FileSyntax) (files : List FileDescriptor) (extensions : List (Declared FieldDescriptor)) (path : Text) (t : FileSyntax) (d : FileDescriptor) : Type 0 where
   pub spelled : CustomBytes
   pub spells : SpellsOptions files extensions t spelled
-  pub is : d ≡ file_of (environment seen spelled t) path t
+  pub is : d ≡ file_of (environment seen (spelled_so spelled) t) path t

@@ -15,7 +15,8 @@ use Rattle.protobuf_parse_model.specs.Options.{MessageOptionsSet}
 use Rattle.protobuf_parse_model.specs.Descriptors.{Text, FieldDescriptor, EnumValueDescriptor, EnumDescriptor, MessageParts, FileDescriptor}
 use Rattle.protobuf_parse_model.specs.Declarations.{Scope, Declared}
 use Rattle.protobuf_parse_model.specs.Lookup.{meaning}
-use Rattle.protobuf_parse_model.specs.Environment.{OptionsOf, of_file, of_message, of_field, of_oneof, of_enum, of_enum_value, of_service, of_method}
+use Rattle.protobuf_parse_model.specs.declared.customs.Construct.{Construct}
+use Rattle.protobuf_parse_model.specs.declared.customs.Construct.TheVariants as of
 use Rattle.protobuf_parse_wire.specs.declared.kind.Kind.{Kind}
 use Rattle.protobuf_parse_wire.specs.declared.kind.Kind.TheVariants as kinds
 use Rattle.protobuf_parse_wire.specs.Kinds as shapes
@@ -61,15 +62,15 @@ pub record OptionScope : Type 0 where
   pub extensions : List (Declared FieldDescriptor)
   pub scope : Scope
 
-abbrev pub options_message : OptionsOf → Text
-options_message of_file = codes ".google.protobuf.FileOptions"
-options_message of_message = codes ".google.protobuf.MessageOptions"
-options_message of_field = codes ".google.protobuf.FieldOptions"
-options_message of_oneof = codes ".google.protobuf.OneofOptions"
-options_message of_enum = codes ".google.protobuf.EnumOptions"
-options_message of_enum_value = codes ".google.protobuf.EnumValueOptions"
-options_message of_service = codes ".google.protobuf.ServiceOptions"
-options_message of_method = codes ".google.protobuf.MethodOptions"
+abbrev pub options_message : Construct → Text
+options_message of.File = codes ".google.protobuf.FileOptions"
+options_message of.Message = codes ".google.protobuf.MessageOptions"
+options_message of.Field = codes ".google.protobuf.FieldOptions"
+options_message of.Oneof = codes ".google.protobuf.OneofOptions"
+options_message of.Enum = codes ".google.protobuf.EnumOptions"
+options_message of.EnumValue = codes ".google.protobuf.EnumValueOptions"
+options_message of.Service = codes ".google.protobuf.ServiceOptions"
+options_message of.Method = codes ".google.protobuf.MethodOptions"
 
 -- the extension, if it extends the message
 abbrev pub if_extends : Text → Option (Declared FieldDescriptor) → Option FieldDescriptor

@@ -7,7 +7,7 @@ use Rattle.protobuf_parse_model.specs.declared.descriptor.FieldType.TheVariants 
 use Rattle.protobuf_parse_model.specs.Descriptors.{Text, FileDescriptor, FieldDescriptor, MessageParts}
 use Rattle.protobuf_parse_model.specs.Faults.{Among}
 use Rattle.protobuf_parse_model.specs.Declarations.{Declared}
-use Rattle.protobuf_parse_model.specs.Environment.{OptionsOf}
+use Rattle.protobuf_parse_model.specs.declared.customs.Construct.{Construct}
 use Rattle.protobuf_parse_wire.specs.Wire.{Spells}
 use Rattle.protobuf_parse_wire.specs.Declarations.{messages_of, extensions_in, extensions_of, have_distinct_numbers}
 use Rattle.protobuf_parse_wire.specs.Reading.{reader}
@@ -40,4 +40,4 @@ pub record IsReadable (at : OptionScope) : Type 0 where
 -- Where no fault stands in the custom options of a construct, bytes that spell what they denote are read as the numbers
 -- and values of it, by the options message of the construct.
 abbrev pub OptionsAreRead : Type 0
-OptionsAreRead = (at : OptionScope) (construct : OptionsOf) (os : List OptionSyntax) (bs : List ℕ) → IsReadable at → IsEntered at.files (options_message construct) → statement_faults at construct os ≡ [] → depth (denotes at construct os) ≤ 256 → length bs < 2 ^ 64 → Spells (denotes at construct os) bs → reader at.files (options_message construct) bs ≡ Ok (said (denotes at construct os))
+OptionsAreRead = (at : OptionScope) (construct : Construct) (os : List OptionSyntax) (bs : List ℕ) → IsReadable at → IsEntered at.files (options_message construct) → statement_faults at construct os ≡ [] → depth (denotes at construct os) ≤ 256 → length bs < 2 ^ 64 → Spells (denotes at construct os) bs → reader at.files (options_message construct) bs ≡ Ok (said (denotes at construct os))

@@ -25,7 +25,7 @@ use crate::run::source::{InputReader, ProtoPathResolver, Sources};
 use indexmap::IndexMap;
 use protobuf_parse_base::proto_path::ProtoPathBuf;
 use protobuf_parse_model::{
-    Declarations, ElabError, ElabFailure, FileDescriptorProto, Seen, elaborate, link,
+    Declarations, ElabError, ElabFailure, FileDescriptorProto, NoExtensions, Seen, elaborate, link,
 };
 use protobuf_parse_syntax::{FileStatement, FileTree};
 use std::alloc::{AllocError, Global};
@@ -547,5 +547,5 @@ fn elaborated(
         reach: &sights.reach,
     };
     link(alloc, &seen)?;
-    elaborate(alloc, path, tree, &seen)
+    elaborate(alloc, path, tree, &seen, &NoExtensions)
 }

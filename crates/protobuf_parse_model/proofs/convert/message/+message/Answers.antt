@@ -7,7 +7,7 @@ use Rattle.protobuf_parse_syntax.proofs.Messages.{view_parts}
 use Rattle.protobuf_parse_model.specs.Contexts.{BodyParts, body_of, body_view, environment_in, seen_types, texts, with_message, with_statement}
 use Rattle.protobuf_parse_model.specs.Declarations.{Scope}
 use Rattle.protobuf_parse_model.specs.Descriptors as described
-use Rattle.protobuf_parse_model.specs.Environment.{Environment, no_custom}
+use Rattle.protobuf_parse_model.specs.Environment.{Environment}
 use Rattle.protobuf_parse_model.specs.Faults.{Blames, Elaborates, Fault}
 use Rattle.protobuf_parse_model.specs.Messages.{faults_of_body, message_of, message_of_body, positions_faults, statement_faults}
 use Rattle.protobuf_parse_model.proofs.Blaming.{blames_left, blames_right}
@@ -17,8 +17,8 @@ use Rattle.protobuf_parse_model.proofs.TreeViews.{views_nested}
 use Rattle.protobuf_parse_model.proofs.convert.message.+message.Goals as goal
 
 pub message_descriptor-returns : goal.message_descriptor-returns
-message_descriptor-returns t c =
-    let env = environment_in c.args.context.now in
+message_descriptor-returns g t c =
+    let env = environment_in (g.C.CustomOptions.customs c.args.custom.now) c.args.context.now in
     let m = c.args.message.now in
     let r = c.message_of_body.result in
     let named = subst (λ (n : List ℕ). Elaborates described.message_view r (faults_of_body env n (map message_statement_view c.deref-2.result.now)) (message_of_body env n (map message_statement_view c.deref-2.result.now))) c.deref.ensures c.message_of_body.ensures in
@@ -26,27 +26,27 @@ message_descriptor-returns t c =
     rw (view_parts m) whole
 
 pub message_of_body-returns-in_err-check_positions : goal.message_of_body-returns-in_err-check_positions
-message_of_body-returns-in_err-check_positions t c =
+message_of_body-returns-in_err-check_positions g t c =
     let p = err_from_is_err_and c.from_residual.result c.from_residual.ensures.1 in
     let e = c.in_err-check_positions.field-0.0 in
     let told = subst (λ (n : ℕ). Blames e (positions_faults c.args.name.now n)) (sym (length-map c.args.body.now message_statement_view)) c.in_err-check_positions.ensures.told in
     rw (p.1, p.2) (blames_left e _ _ (blames_left e _ _ told))
 
 pub message_of_body-returns-in_err-parts : goal.message_of_body-returns-in_err-parts
-message_of_body-returns-in_err-parts t c =
+message_of_body-returns-in_err-parts g t c =
     let p = err_from_is_err_and c.from_residual-in_err-parts.result c.from_residual-in_err-parts.ensures.1 in
     rw (p.1, p.2) (blames_right c.in_err-parts.field-0.0 _ _ c.in_err-parts.ensures)
 
 pub body_inside-returns : goal.body_inside-returns
-body_inside-returns t c =
+body_inside-returns g t c =
     let seen = c.args.context.now in
     let ss = map message_statement_view c.args.body.now in
-    let at : Scope → Environment = λ s. record { syntax = seen.syntax; types = seen_types seen.seen; scope = s; custom = no_custom } in
+    let at : Scope → Environment = λ s. record { syntax = seen.syntax; types = seen_types seen.seen; scope = s; customs = g.C.CustomOptions.customs c.args.custom.now } in
     subst (λ (s : Scope). Elaborates body_view c.body_of.result (flat_map (statement_faults (at s)) ss) (body_of (at s) ss)) (ap texts c.deref.ensures.value ∙ c.in_ok-scope.ensures) c.body_of.ensures
 
 pub body_of-loop-statement-preserved : goal.body_of-loop-statement-preserved
-body_of-loop-statement-preserved t c =
-    let env = environment_in c.args.context.now in
+body_of-loop-statement-preserved g t c =
+    let env = environment_in (g.C.CustomOptions.customs c.args.custom.now) c.args.context.now in
     let xs = c.args.statements.now in
     let i = c.loop-statement.statement-index in
     let s = c.statement-item.result in
@@ -60,8 +60,8 @@ body_of-loop-statement-preserved t c =
     }
 
 pub add_statement-returns-in-Message : goal.add_statement-returns-in-Message
-add_statement-returns-in-Message t c =
-    let env = environment_in c.args.context.now in
+add_statement-returns-in-Message g t c =
+    let env = environment_in (g.C.CustomOptions.customs c.args.custom.now) c.args.context.now in
     let m = message_view c.in-Message.message in
     let b = body_view c.args.body.now in
     let r = c.add_message.result in

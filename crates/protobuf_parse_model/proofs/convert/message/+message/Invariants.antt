@@ -5,8 +5,8 @@ use Rattle.protobuf_parse_model.specs.Messages.{statement_faults}
 use Rattle.protobuf_parse_model.proofs.convert.message.+message.Given as goal
 
 abbrev pub invariant-body_of-loop-statement : goal.invariant-body_of-loop-statement
-invariant-body_of-loop-statement l =
-    let env = environment_in l.context in
+invariant-body_of-loop-statement g l =
+    let env = environment_in (g.C.CustomOptions.customs l.custom) l.context in
     let seen = map message_statement_view (take l.statement-index l.statements) in
     record {
       no_fault : flat_map (statement_faults env) seen ≡ [];
