@@ -5,6 +5,8 @@ pub mod Unique
 pub mod Refusals
 pub mod Depth
 pub mod Sizes
+pub mod Counting
+pub mod Counts
 pub mod Imports
 pub mod Formats
 pub mod Escapes

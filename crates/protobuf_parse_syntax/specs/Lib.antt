@@ -9,6 +9,7 @@ pub mod Escaped
 pub mod Laws
 pub mod Classes
 pub mod Trees
+pub mod Counts
 pub mod Grammar
 pub mod Formats
 pub mod Dependencies

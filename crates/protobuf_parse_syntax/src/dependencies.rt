@@ -49,9 +49,9 @@ pub fn parse_dependencies(
     Ok(found)
 }
 
-/// What a file's statements import. A text has no more statements than bytes.
+/// What a file's statements import. The tree of a text has no more of them than a position can count.
 #[tactic(auto, unfolding(crate::specs::Dependencies::dependencies_of))]
-fn imports_of(alloc: Global, statements: &[FileStatement]) -> Result<Dependencies, AllocError>
+pub fn imports_of(alloc: Global, statements: &[FileStatement]) -> Result<Dependencies, AllocError>
     requires { length statements.now ≤ 2147483647 }
     ensures { IfOk result (λ d. dependencies_view d ≡ dependencies_of (map statement_view statements.now)) }
 {

@@ -7,7 +7,7 @@ mod lexer;
 mod parser;
 mod tree;
 
-pub use dependencies::{Dependencies, parse_dependencies};
+pub use dependencies::{Dependencies, imports_of, parse_dependencies};
 pub use error::{ParserError, ParserErrorWithLocation};
 pub use lexer::laws::{
     cuts_are_unique, decoding_is_unique, escaped_bytes_decode, places_count_characters,

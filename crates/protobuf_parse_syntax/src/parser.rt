@@ -13,7 +13,8 @@ mod refusal;
 mod service;
 mod words;
 
-ghost use Rattle.std.specs.Prelude.{◌≡◌, ◌⊎◌, IfOk, IfErr};
+ghost use Rattle.std.specs.Prelude.{◌≡◌, ◌≤◌, ◌⊎◌, IfOk, IfErr};
+ghost use Rattle.protobuf_parse_syntax.specs.Counts.{statements_in};
 ghost use Rattle.protobuf_parse_syntax.specs.Cut.{out_of_memory, stream as tokens_of, place_of as place_at};
 ghost use Rattle.protobuf_parse_syntax.specs.Grammar.{IsFile};
 ghost use Rattle.protobuf_parse_syntax.specs.Parsing.{IsFault, HasTree, IsFaultOf, TellsFaults};
@@ -36,6 +37,9 @@ pub fn parse_file(alloc: Global, text: &str) -> Result<FileTree, ParserErrorWith
     // What is read is the one tree of the text.
     ensures found { IfOk result (λ t. HasTree text.now (file_view t)) }
     ensures only { IfOk result (λ t. (u : FileSyntax) → HasTree text.now u → u ≡ file_view t) }
+
+    // It has at most 2147483647 statements, those of all bodies counted.
+    ensures few { IfOk result (λ t. statements_in (file_view t) ≤ 2147483647) }
 
     // What is refused has no tree, and that fault stands there.
     ensures none { IfErr result (λ e. (e ≡ out_of_memory)

@@ -1,5 +1,6 @@
 use Rattle.protobuf_parse_syntax.specs.Cut.{stream}
 use Rattle.protobuf_parse_syntax.proofs.File.{only_of, none_of}
+use Rattle.protobuf_parse_syntax.proofs.Sizes.{few_of}
 use Rattle.protobuf_parse_syntax.proofs.parser.parse_file.Goals as goal
 
 pub returns-clause-only : goal.returns-clause-only
@@ -7,3 +8,6 @@ returns-clause-only c = only_of c.args.text.now (stream c.in_ok-stream.stream) c
 
 pub returns-clause-none : goal.returns-clause-none
 returns-clause-none c = none_of c.args.text.now (stream c.in_ok-stream.stream) c.in_ok-stream.ensures.reads c.tree_of.result c.tree_of.ensures.refused
+
+pub returns-clause-few : goal.returns-clause-few
+returns-clause-few c = few_of c.args.text.now (stream c.in_ok-stream.stream) c.in_ok-stream.ensures.read c.tree_of.result c.tree_of.ensures.found
