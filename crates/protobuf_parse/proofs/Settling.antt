@@ -13,7 +13,7 @@ use Rattle.protobuf_parse_model.specs.Declarations.{DeclaredType, file_scope}
 use Rattle.protobuf_parse_model.specs.Environment.{Environment, no_extensions}
 use Rattle.protobuf_parse_model.specs.Faults.{Among, here, there, fault_view}
 use Rattle.protobuf_parse_model.specs.Faults as elaborating
-use Rattle.protobuf_parse_model.specs.FileDescriptor.{environment, file_of, types_of_files}
+use Rattle.protobuf_parse_model.specs.FileDescriptor.{environment, file_faults, file_of, types_of_files}
 use Rattle.protobuf_parse_model.specs.FilesByPath.{AreDistinct, AreJust, leads, stays, trees_at}
 use Rattle.protobuf_parse_model.specs.Linking.{before_others, link_faults}
 use Rattle.protobuf_parse_model.specs.Lookup.{declared}
@@ -21,7 +21,7 @@ use Rattle.protobuf_parse_model.specs.Tables.{picked}
 use Rattle.protobuf_parse_model.specs.declared.scope.seen.Declarations.{Declarations}
 use Rattle.protobuf_parse_model.proofs.Orders.{SameMembers, just-same, link-none, link-told, types-same}
 use Rattle.protobuf_parse.specs.Walks.{Trees, Reaches, HandsOn, Sees, sees_itself, by_import, among, import_paths}
-use Rattle.protobuf_parse.specs.Run.{Files, AreListed, StandsInElab, environment_of, faults_in, faults_of, origin_given}
+use Rattle.protobuf_parse.specs.Run.{Files, AreListed, StandsInElab, environment_of, faults_in, origin_given}
 use Rattle.protobuf_parse.specs.Loading.{Agrees, AreJoined, AreKnown, AreNumbered, AreNumbersOf, Entry, IsAdded, IsAddedOver, IsLoaded, IsNumbered, Named, OrMemory, Settles, SettlesOver, faults_over, file_at, file_over, named_trees, paths_in, trees_of, with_next}
 use Rattle.protobuf_parse.specs.declared.run.fault.RunFault.{RunFault}
 use Rattle.protobuf_parse.specs.declared.run.fault.RunFault.TheVariants as fault
@@ -258,19 +258,19 @@ module _ (files : Files) (listed : AreListed files.trees files.reached files.see
       ∙ ap sees_types (types-same files.trees (paths_by with_p reach) (paths_by with_p sight) (files.seen p) reached-by.once same-sight (λ q m. reached-by.all q (sees-reaches files.trees p q (seen-by.only q m))) h)
 
   abbrev told-over : List elaborating.Fault
-  told-over = faults_of (environment (picked (with_next loaded t) sight) no_extensions t) t
+  told-over = file_faults (environment (picked (with_next loaded t) sight) no_extensions t) t
 
   over-is : faults_over (with_next loaded t) reach sight t ≡ before_others linked told-over
   over-is = ap (λ (fs : List elaborating.Fault). before_others fs told-over) linked-is
 
-  others-same : linked ≡ [] → told-over ≡ faults_of (environment_of files p t) t
-  others-same h = ap (λ (env : Environment). faults_of env t) (same-types h)
+  others-same : linked ≡ [] → told-over ≡ file_faults (environment_of files p t) t
+  others-same h = ap (λ (env : Environment). file_faults env t) (same-types h)
 
   pub over-faultless : faults_over (with_next loaded t) reach sight t ≡ [] → faults_in files p (Some t) ≡ []
   over-faultless h =
       let e = sym over-is ∙ h in
       let first = none-before linked told-over e in
-      no-others linked_in (faults_of (environment_of files p t) t)
+      no-others linked_in (file_faults (environment_of files p t) t)
       (link-none files.trees (paths_by with_p reach) (files.reached p) reached-by.once (listed.reaches p).once same-reach first)
       (sym (others-same first) ∙ none-after linked told-over e)
 
@@ -280,10 +280,10 @@ module _ (files : Files) (listed : AreListed files.trees files.reached files.see
   pub over-told : (f : elaborating.Fault) → Among (faults_over (with_next loaded t) reach sight t) f → Among (faults_in files p (Some t)) f
   over-told f m =
       elim (which-told linked told-over f (subst (λ (fs : List elaborating.Fault). Among fs f) over-is m)) [
-        | inl w ↦ told-before linked_in (faults_of (environment_of files p t) t) f (link-told files.trees (paths_by with_p reach) (files.reached p) f reached-by.once (listed.reaches p).once same-reach w)
+        | inl w ↦ told-before linked_in (file_faults (environment_of files p t) t) f (link-told files.trees (paths_by with_p reach) (files.reached p) f reached-by.once (listed.reaches p).once same-reach w)
         | inr w ↦
             let first = w.0 in
-            told-after linked_in (faults_of (environment_of files p t) t) f (link-none files.trees (paths_by with_p reach) (files.reached p) reached-by.once (listed.reaches p).once same-reach first)
+            told-after linked_in (file_faults (environment_of files p t) t) f (link-none files.trees (paths_by with_p reach) (files.reached p) reached-by.once (listed.reaches p).once same-reach first)
             (subst (λ (fs : List elaborating.Fault). Among fs f) (others-same first) w.1)
       ]
 

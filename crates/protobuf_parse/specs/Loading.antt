@@ -10,7 +10,7 @@ use Rattle.protobuf_parse_syntax.specs.declared.tree.FileTree.{FileTree}
 use Rattle.protobuf_parse_model.specs.Descriptors as described
 use Rattle.protobuf_parse_model.specs.Descriptors.{Text, FileDescriptor}
 use Rattle.protobuf_parse_model.specs.Environment.{no_extensions}
-use Rattle.protobuf_parse_model.specs.FileDescriptor.{environment, file_of}
+use Rattle.protobuf_parse_model.specs.FileDescriptor.{environment, file_faults, file_of}
 use Rattle.protobuf_parse_model.specs.FilesByPath.{AreDistinct}
 use Rattle.protobuf_parse_model.specs.Linking.{before_others, link_faults}
 use Rattle.protobuf_parse_model.specs.Tables.{Tells, picked}
@@ -31,7 +31,7 @@ use Rattle.std.specs.Str.{IsUtf8}
 use Rattle.protobuf_parse.specs.declared.run.fault.ResolveFault.{ResolveFault}
 use Rattle.protobuf_parse.specs.declared.run.fault.ReadInputFault.{ReadInputFault}
 use Rattle.protobuf_parse.specs.declared.run.log.ReadOutcome.TheVariants as outcome
-use Rattle.protobuf_parse.specs.Run.{Files, AreListed, HasTrees, faults_in, IsTheTree, text_read, environment_of, faults_of, first_read, fails, said, text_given, origin_given, Answers, StandsAt, StandsInLoad, StandsInElab, IsUnparsed}
+use Rattle.protobuf_parse.specs.Run.{Files, AreListed, HasTrees, faults_in, IsTheTree, text_read, environment_of, first_read, fails, said, text_given, origin_given, Answers, StandsAt, StandsInLoad, StandsInElab, IsUnparsed}
 
 -- the answers that who is asked for a path may give
 abbrev pub Legal : Type 1
@@ -136,7 +136,7 @@ ArePublic loaded paths number =
 
 -- the faults of a file, and what it becomes, over the files with the numbers that it reaches and sees
 abbrev pub faults_over : List FileSyntax → List ℕ → List ℕ → FileSyntax → List elaborating.Fault
-faults_over files reach sight t = before_others (link_faults (picked files reach)) (faults_of (environment (picked files sight) no_extensions t) t)
+faults_over files reach sight t = before_others (link_faults (picked files reach)) (file_faults (environment (picked files sight) no_extensions t) t)
 
 abbrev pub file_over : List FileSyntax → List ℕ → Text → FileSyntax → FileDescriptor
 file_over files sight path t = file_of (environment (picked files sight) no_extensions t) path t

@@ -14,7 +14,6 @@ use Rattle.protobuf_parse_model.specs.Environment.{Environment, no_extensions}
 use Rattle.protobuf_parse_model.specs.FileDescriptor.{environment, file_faults, file_of}
 use Rattle.protobuf_parse_model.specs.FilesByPath.{AreJust, trees_at}
 use Rattle.protobuf_parse_model.specs.Linking.{before_others, link_faults}
-use Rattle.protobuf_parse_model.specs.Unsupported.{unsupported_in}
 use Rattle.protobuf_parse_model.specs.Faults as elaborating
 use Rattle.protobuf_parse_model.specs.Faults.{Among, fault_view}
 use Rattle.protobuf_parse_model.specs.declared.descriptor.FileDescriptorProto.{FileDescriptorProto}
@@ -133,13 +132,9 @@ are_same_bytes _ _ = false
 abbrev pub environment_of : Files → Text → FileSyntax → Environment
 environment_of files p t = environment (trees_at files.trees (files.seen p)) no_extensions t
 
--- the faults that stand in a file, and the constructs of it that have no descriptor yet
-abbrev pub faults_of : Environment → FileSyntax → List elaborating.Fault
-faults_of env t = unsupported_in t ++ file_faults env t
-
--- and before those the names that are declared twice in the files that it reaches
+-- the faults that stand in a file, before them the names that are declared twice in the files that it reaches
 abbrev pub faults_in : Files → Text → Option FileSyntax → List elaborating.Fault
-faults_in files p (Some t) = before_others (link_faults (trees_at files.trees (files.reached p))) (faults_of (environment_of files p t) t)
+faults_in files p (Some t) = before_others (link_faults (trees_at files.trees (files.reached p))) (file_faults (environment_of files p t) t)
 faults_in files p None = []
 
 -- the bytes of the read with this number, which an input's own path was read by

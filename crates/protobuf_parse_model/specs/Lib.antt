@@ -22,4 +22,3 @@ pub mod FilesByPath
 pub mod FileParts
 pub mod Tables
 pub mod OptionSets
-pub mod Unsupported

@@ -7,12 +7,12 @@
 -- Protocol Buffers Language Specification (proto2), "Message definition", "Reserved", "Extensions", "Oneof and oneof
 -- field", "Group field", "Map field", "Extend"; Protocol Buffers Language Guide, "Maps", "Backwards compatibility", and
 -- "Field Presence in proto3" (https://protobuf.dev).
-use Rattle.std.specs.Prelude.{ℕ, ℤ, nat_lt, pos, ◌+◌, ◌+ℤ◌, Bool, false, List, [], ◌∷◌, ◌++◌, map, flat_map, length, codes, Option, Some, None, if◌then◌else◌}
+use Rattle.std.specs.Prelude.{ℕ, ℤ, pos, ◌+◌, ◌+ℤ◌, Bool, false, List, [], ◌∷◌, ◌++◌, map, flat_map, length, codes, Option, Some, None, if◌then◌else◌}
 use Rattle.std.specs.Ordering.{int_eq}
 use Rattle.protobuf_parse_syntax.specs.Trees.{OptionSyntax, TypeSyntax, scalar, map_of, named, FieldStatementSyntax, field, group, RangeSyntax, ReservedSyntax, OneofSyntax, ExtendSyntax, MessageStatementSyntax, message_reserved, message_oneof, message_extend, message_message, message_enum, message_extensions, message_option, message_field, MessageStatementList, no_statements, more_statements, MessageSyntax}
 use Rattle.protobuf_parse_syntax.specs.declared.tree.field.Label.{Label}
 use Rattle.protobuf_parse_syntax.specs.declared.tree.field.Label.TheVariants.{Optional}
-use Rattle.protobuf_parse_model.specs.declared.error.ElabErrorKind.TheVariants.{RangeEndOverflow, Unsupported}
+use Rattle.protobuf_parse_model.specs.declared.error.ElabErrorKind.TheVariants.{RangeEndOverflow}
 use Rattle.protobuf_parse_model.specs.Options.{MessageOptionsSet}
 use Rattle.protobuf_parse_model.specs.Descriptors.{Text, Range, FieldDescriptor, OneofDescriptor, EnumDescriptor, MessageDescriptor, a_message, no_messages, messages_of_list}
 use Rattle.protobuf_parse_model.specs.Faults.{Fault}
@@ -218,10 +218,6 @@ names_of_oneofs oneofs = map (λ (o : OneofDescriptor). o.name) oneofs
 abbrev pub names_of_enums : List EnumDescriptor → List Text
 names_of_enums enums = map (λ (e : EnumDescriptor). e.name) enums
 
--- A position among oneofs has 31 bits. No text is so long that a body has so many statements.
-abbrev pub positions_faults : Text → ℕ → List Fault
-positions_faults name n = if nat_lt n 2147483648 then [] else fault Unsupported name
-
 -- E1 for two fields, oneofs, extensions, enums or messages of one body that have one name
 abbrev pub body_duplicates : Environment → List MessageStatementSyntax → List MessageDescriptor → List Fault
 body_duplicates env body nested =
@@ -241,7 +237,7 @@ rest_faults env name body =
 -- of the message of that name, but those that stand in one statement of its body
 abbrev pub whole_faults : Environment → Text → List MessageStatementSyntax → List MessageDescriptor → List Fault
 whole_faults env name body nested =
-    positions_faults name (length body) ++ (body_duplicates (inside env name) body nested ++ rest_faults env name body)
+    body_duplicates (inside env name) body nested ++ rest_faults env name body
 
 abbrev pub oneof_faults : Environment → OneofSyntax → List Fault
 oneof_faults env o =

@@ -16,7 +16,6 @@ pub struct ElabError {
     /// of extensions in parentheses. E14, E15: the extension's name as written. E16, E24: the part as
     /// written. E17: the field's name. E18: the value's name. E19 to E23, E27: the name of the field that
     /// was to be set. E25, E26: the name in the constant with its brackets. E28: `uninterpreted_option`.
-    /// Unsupported: the word of the construct.
     pub what: String,
 }
 
@@ -107,10 +106,6 @@ pub enum ElabErrorKind {
     /// The name of an option goes on from `uninterpreted_option`.
     #[error("E28 UninterpretedOptionName")]
     UninterpretedOptionName,
-    /// What has no descriptor. Its word is `option` for a custom option, `import` where the imports are
-    /// 2147483648 or more, and the name of a message where the statements of its body are.
-    #[error("Unsupported")]
-    Unsupported,
 }
 
 /// Why a call that elaborates gave nothing.

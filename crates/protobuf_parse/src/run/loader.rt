@@ -6,6 +6,7 @@ ghost use Rattle.std.specs.Global.{Global};
 ghost use Rattle.std.specs.List.Sorted.{IsStrictlyIncreasing};
 ghost use Rattle.protobuf_parse_base.specs.declared.proto_path.path.ProtoPathBuf.{ProtoPathBuf};
 ghost use Rattle.protobuf_parse_base.specs.PathViews.{path_buf_text};
+ghost use Rattle.protobuf_parse_syntax.specs.Counts.{statements_in};
 ghost use Rattle.protobuf_parse_syntax.specs.Trees.{file_view};
 ghost use Rattle.protobuf_parse_syntax.specs.Trees.{FileSyntax};
 ghost use Rattle.protobuf_parse_model.specs.Descriptors as described;
@@ -439,6 +440,7 @@ fn settle(
     imports: &[usize],
     read: usize,
 ) -> Result<Placed, RunFault>
+    requires few { statements_in (file_view tree) ≤ 2147483647 }
     ensures reads { loader.new.reads ≡ loader.old.reads }
     ensures chain { loader.new.chain ≡ loader.old.chain }
     ensures meets { loader.new.meets ≡ loader.old.meets }
@@ -493,6 +495,7 @@ fn descriptor_of(
     tree: &FileTree,
     read: usize,
 ) -> Result<FileDescriptorProto, RunFault>
+    requires few { statements_in (file_view tree.now) ≤ 2147483647 }
     requires reach { IsStrictlyIncreasing sights.now.reach.items }
     requires sight { IsStrictlyIncreasing sights.now.sight.items }
     ensures ok { (files : List FileSyntax) → Tells loader.now.names files → let t = file_view tree.now in
@@ -536,6 +539,7 @@ fn elaborated(
     path: &str,
     tree: &FileTree,
 ) -> Result<FileDescriptorProto, ElabFailure>
+    requires few { statements_in (file_view tree.now) ≤ 2147483647 }
     requires reach { IsStrictlyIncreasing sights.now.reach.items }
     requires sight { IsStrictlyIncreasing sights.now.sight.items }
     ensures { (files : List FileSyntax) → Tells names.now files → let t = file_view tree.now in

@@ -1,10 +1,8 @@
 //! Files.
 
-ghost use Rattle.std.specs.Prelude.{◌≡◌, ◌++◌, ◌<◌, ◌^◌, length, map, flat_map, option_map, string_bytes, IfOk};
-ghost use Rattle.std.specs.Borrow.{Bor};
-ghost use Rattle.protobuf_parse_syntax.specs.Dependencies as dependencies;
-ghost use Rattle.protobuf_parse_syntax.specs.Trees.{file_view, import_view, package_of, statement_view};
-ghost use Rattle.protobuf_parse_syntax.specs.declared.tree.Import.{Import};
+ghost use Rattle.std.specs.Prelude.{◌≡◌, ◌++◌, ◌≤◌, map, flat_map, option_map, string_bytes, IfOk};
+ghost use Rattle.protobuf_parse_syntax.specs.Counts.{statements_in};
+ghost use Rattle.protobuf_parse_syntax.specs.Trees.{file_view, package_of, statement_view};
 ghost use Rattle.protobuf_parse_model.specs.BuiltinOptions.{file_table};
 ghost use Rattle.protobuf_parse_model.specs.ConstructOptions.{construct_faults};
 ghost use Rattle.protobuf_parse_model.specs.Contexts.{environment_in, environment_of_file};
@@ -15,17 +13,15 @@ ghost use Rattle.protobuf_parse_model.specs.Environment.{customs_bytes};
 ghost use Rattle.protobuf_parse_model.specs.OptionViews.{options_seen};
 ghost use Rattle.protobuf_parse_model.specs.Options.{file_options_view};
 ghost use Rattle.protobuf_parse_model.specs.OptionsSet as sets;
-ghost use Rattle.protobuf_parse_model.specs.Unsupported.{imports_beyond_positions, unsupported_in};
 ghost use Rattle.protobuf_parse_model.specs.declared.customs.Construct.TheVariants as of;
 
 use crate::convert::contents::contents_of;
-use crate::convert::imports::{check_number, import_lists, imports};
 use crate::convert::options::{checked_customs, file_options, file_table};
 use crate::customs::{Construct, CustomOptions};
 use crate::descriptor::{FileDescriptorProto, FileOptions};
 use crate::error::ElabFailure;
 use crate::scope::{Context, Seen, package_scope};
-use protobuf_parse_syntax::{FileStatement, FileTree, Import, ProtobufOption, Syntax};
+use protobuf_parse_syntax::{FileStatement, FileTree, ProtobufOption, Syntax, imports_of};
 use std::alloc::{AllocError, Global};
 
 /// The descriptor of a file that is known by the path `name`, by what it sees.
@@ -39,8 +35,9 @@ pub fn file_descriptor<C: CustomOptions>(
     seen: &Seen<'_>,
     custom: &C,
 ) -> Result<FileDescriptorProto, ElabFailure>
+    requires few { statements_in (file_view tree.now) ≤ 2147483647 }
     ensures { let t = file_view tree.now in let env = environment_of_file (C.customs custom.now) seen.now t in
-        Elaborates described.file_view result (unsupported_in t ++ file_faults env t) (file_of env name.now t) }
+        Elaborates described.file_view result (file_faults env t) (file_of env name.now t) }
 {
     let scope = package_scope(alloc, tree)?;
     let context = Context {
@@ -60,21 +57,21 @@ fn descriptor_in<C: CustomOptions>(
     name: &str,
     tree: &FileTree,
 ) -> Result<FileDescriptorProto, ElabFailure>
+    requires few { statements_in (file_view tree.now) ≤ 2147483647 }
     ensures { let t = file_view tree.now in let env = environment_in (C.customs custom.now) context.now in
-        Elaborates described.file_view result (unsupported_in t ++ file_faults env t) (file_of env name.now t) }
+        Elaborates described.file_view result (file_faults env t) (file_of env name.now t) }
 {
-    let imports = placed_imports(alloc, &tree.statements)?;
     let contents = contents_of(alloc, context, custom, &tree.statements)?;
     let options = checked_options(alloc, context, custom, &tree.statements)?;
     let heading = heading_of(alloc, name, tree)?;
-    let lists = import_lists(alloc, &imports)?;
+    let imports = imports_of(alloc, &tree.statements)?;
     Ok(FileDescriptorProto {
         name: Some(heading.name),
-        package: heading.package,
+        package: heading.package_name,
         syntax: Some(heading.syntax),
-        dependency: lists.dependency,
-        public_dependency: lists.public_dependency,
-        weak_dependency: lists.weak_dependency,
+        dependency: imports.dependency,
+        public_dependency: imports.public_dependency,
+        weak_dependency: imports.weak_dependency,
         message_type: contents.message_type,
         enum_type: contents.enum_type,
         service: contents.service,
@@ -88,34 +85,23 @@ fn descriptor_in<C: CustomOptions>(
 struct Heading {
     name: String,
     syntax: String,
-    package: Option<String>,
+    package_name: Option<String>,
 }
 
 /// The path that a file is known by, its syntax and its package.
 fn heading_of(alloc: Global, name: &str, tree: &FileTree) -> Result<Heading, AllocError>
     ensures name { IfOk result (λ h. string_bytes h.name ≡ name.now) }
     ensures syntax { IfOk result (λ h. string_bytes h.syntax ≡ syntax_text tree.now.syntax) }
-    ensures package { IfOk result (λ h. option_map string_bytes h.package ≡ package_of (file_view tree.now)) }
+    ensures package_name { IfOk result (λ h. option_map string_bytes h.package_name ≡ package_of (file_view tree.now)) }
 {
     let name = String::from_str(alloc, name)?;
     let syntax = String::from_str(alloc, syntax_text(tree.syntax))?;
-    let package = package_of(alloc, tree)?;
+    let package_name = package_of(alloc, tree)?;
     Ok(Heading {
         name,
         syntax,
-        package,
+        package_name,
     })
-}
-
-/// The imports of a file, each of which has a position.
-fn placed_imports(alloc: Global, statements: &[FileStatement]) -> Result<Vec<&Import>, ElabFailure>
-    ensures told { let ss = map statement_view statements.now in
-        Elaborates (λ v. map (λ (i : Bor Import). import_view i.now) v.items) result (imports_beyond_positions (length (dependencies.imports ss))) (dependencies.imports ss) }
-    ensures few { IfOk result (λ v. length v.items < 2 ^ 31) }
-{
-    let imports = imports(alloc, statements)?;
-    check_number(alloc, &imports)?;
-    Ok(imports)
 }
 
 /// What the options of a file set, and the faults in them.

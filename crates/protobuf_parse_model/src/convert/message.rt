@@ -12,11 +12,10 @@ ghost use Rattle.protobuf_parse_model.specs.Messages as messages;
 
 use crate::convert::body::{Body, add_enum, add_extend, add_field, add_oneof};
 use crate::convert::names::{unlike_enums, unlike_fields, unlike_messages, unlike_oneofs};
-use crate::convert::refuse::fault;
 use crate::convert::rest::{Rest, rest_of_message};
 use crate::customs::CustomOptions;
 use crate::descriptor::DescriptorProto;
-use crate::error::{ElabErrorKind, ElabFailure};
+use crate::error::ElabFailure;
 use crate::scope::Context;
 use protobuf_parse_syntax::{Message, MessageStatement};
 use std::alloc::{AllocError, Global};
@@ -50,7 +49,7 @@ fn message_of_body<C: CustomOptions>(
     ensures { let env = environment_in (C.customs custom.now) context.now in let ss = map message_statement_view body.now in
         Elaborates described.message_view result (messages.faults_of_body env name.now ss) (messages.message_of_body env name.now ss) }
 {
-    check_positions(alloc, name, body)?;
+    check_positions(body)?;
     let parts = body_inside(alloc, context, custom, name, body)?;
     finished(alloc, context, custom, name, body, parts)
 }
@@ -92,15 +91,14 @@ fn assembled(name: String, body: Body, rest: Rest) -> DescriptorProto
     }
 }
 
-/// Refuses a body of more statements than a oneof has positions.
-fn check_positions(alloc: Global, name: &str, body: &[MessageStatement]) -> Result<(), ElabFailure>
-    ensures told { Elaborates (λ u. u) result (messages.positions_faults name.now (length body.now)) tt }
-    ensures small { IfOk result (λ _. length body.now < 2 ^ 31) }
+/// Fails where a body has more statements than a oneof has positions, which no text is long enough for.
+fn check_positions(body: &[MessageStatement]) -> Result<(), AllocError>
+    ensures { IfOk result (λ _. length body.now < 2 ^ 31) }
 {
     if body.len() < 0x8000_0000 {
         Ok(())
     } else {
-        Err(fault(alloc, ElabErrorKind::Unsupported, name))
+        Err(AllocError)
     }
 }
 

@@ -14,6 +14,7 @@ use Rattle.protobuf_parse_base.specs.declared.proto_path.path.ProtoPathBuf.{Prot
 use Rattle.protobuf_parse.proofs.Steps.{Grows-trans}
 use Rattle.protobuf_parse.proofs.Leaving.{chain-told, texts-length, texts-push, init-bound, leaves-cycle, leaves-tall, leaves-again, leaves-full, leaves-read, leaves-open, leaves-before, leaves-step, leaves-err, leaves-push, leaves-end, tree-known, split-at, next-at, goes-back, goes-same, low-height, on_ok, popped}
 use Rattle.protobuf_parse.proofs.Deciding.{decided-file, decided-same}
+use Rattle.protobuf_parse.proofs.Reading.{few_statements}
 use Rattle.protobuf_parse.proofs.Knowing.{known-grows, met-again, met-none, met-step, read-since, settled-known, settled-met, settled-unloaded, unloaded-enter, unloaded-front, unloaded-last}
 use Rattle.protobuf_parse.proofs.Settling.{agrees-made, settled-in}
 use Rattle.protobuf_parse.proofs.Counting.{counted, count-here, count-open, count-step, count-stop, count-end, count-again}
@@ -188,6 +189,9 @@ loop-import-preserved g t c =
           let next = next-at v xs c.loop-import.import-index c.import-item.result c.loop-import-test.true c.import-item.is in
           count-step _ files kept (path_buf_text c.args.input.now) (asked_by c.args.fs_path) _ _ _ l.0 _ c.loop-import.height _ _ _ _ _ _ _ _ _ _ inner next l.1 (c.loop-import.invariant.count files kept back good) (λ x. c.in_ok-placed.ensures.count files _ go x);
     }
+
+pub settle-requires-few : goal.settle-requires-few
+settle-requires-few g t c = few_statements _ _ c.in_ok-tree.ensures.read.4
 
 pub returns-clause-low : goal.returns-clause-low
 returns-clause-low g t c = low-height c.settle.result _ _ c.settle.ensures.height (omega (arith, c.loop-import.invariant.low))

@@ -9,7 +9,7 @@ use Rattle.protobuf_parse_model.specs.Declarations.{Scope}
 use Rattle.protobuf_parse_model.specs.Descriptors as described
 use Rattle.protobuf_parse_model.specs.Environment.{Environment}
 use Rattle.protobuf_parse_model.specs.Faults.{Blames, Elaborates, Fault}
-use Rattle.protobuf_parse_model.specs.Messages.{faults_of_body, message_of, message_of_body, positions_faults, statement_faults}
+use Rattle.protobuf_parse_model.specs.Messages.{faults_of_body, message_of, message_of_body, statement_faults}
 use Rattle.protobuf_parse_model.proofs.Blaming.{blames_left, blames_right}
 use Rattle.protobuf_parse_model.proofs.Bodies.{body_more, few_more, nil-both, with_nested}
 use Rattle.protobuf_parse_model.proofs.Levels.{faults_of_message}
@@ -24,13 +24,6 @@ message_descriptor-returns g t c =
     let named = subst (λ (n : List ℕ). Elaborates described.message_view r (faults_of_body env n (map message_statement_view c.deref-2.result.now)) (message_of_body env n (map message_statement_view c.deref-2.result.now))) c.deref.ensures c.message_of_body.ensures in
     let whole = subst (λ (ss : List MessageStatementSyntax). Elaborates described.message_view r (faults_of_body env (string_bytes m.name) ss) (message_of_body env (string_bytes m.name) ss)) (ap (map message_statement_view) c.deref-2.ensures.value) named in
     rw (view_parts m) whole
-
-pub message_of_body-returns-in_err-check_positions : goal.message_of_body-returns-in_err-check_positions
-message_of_body-returns-in_err-check_positions g t c =
-    let p = err_from_is_err_and c.from_residual.result c.from_residual.ensures.1 in
-    let e = c.in_err-check_positions.field-0.0 in
-    let told = subst (λ (n : ℕ). Blames e (positions_faults c.args.name.now n)) (sym (length-map c.args.body.now message_statement_view)) c.in_err-check_positions.ensures.told in
-    rw (p.1, p.2) (blames_left e _ _ (blames_left e _ _ told))
 
 pub message_of_body-returns-in_err-parts : goal.message_of_body-returns-in_err-parts
 message_of_body-returns-in_err-parts g t c =
