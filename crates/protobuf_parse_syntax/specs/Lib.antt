@@ -11,6 +11,7 @@ pub mod Classes
 pub mod Trees
 pub mod Counts
 pub mod Grammar
+pub mod Nesting
 pub mod Formats
 pub mod Dependencies
 pub mod Parsing
