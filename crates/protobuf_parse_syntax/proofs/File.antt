@@ -1,6 +1,8 @@
 -- What the reader of a file gives, said of the grammar.
 use Rattle.std.proofs.Common.{◌≡◌, ℕ, ◌<◌, List, [], ◌∷◌, ◌++◌, length, true, false, Result, Ok, Err, IfOk, IfErr, refl, sym, ap, subst, ◌∙◌, inl, inr, ◌⊎◌}
-use Rattle.protobuf_parse_base.specs.Readers.{Rest, end, token, onto, onto-append, read, stuck, wrong, Begins}
+use Rattle.protobuf_parse_base.specs.Readers.{Rest, end, token, onto, onto-append, read, stuck, wrong, Begins, starts}
+use Rattle.protobuf_parse_base.specs.Relations.{BeginsOtherwise}
+use Rattle.protobuf_parse_syntax.proofs.Strings.{str_ends}
 use Rattle.protobuf_parse_base.specs.Conditions.{mark_of}
 use Rattle.protobuf_parse_base.specs.Whole.{whole, StopsAt, left_whole, local_stuck, local_wrong, deep_found, deep_only, deep_wrong, deep_never, deep_stops, deep_leaves}
 use Rattle.protobuf_parse_syntax.specs.Text.{Bytes}
@@ -62,10 +64,16 @@ part_at ts used m dot (token t rest) e d h =
     let parts : whole ts m ≡ onto (used ++ dot ∷ []) (token t rest) = e ∙ sym (onto-append used (dot ∷ []) (token t rest)) in
     stands_at NextPart ts (used ++ dot ∷ []) m t rest parts (λ back f. (used, dot, refl, d, h))
 
-strings_next : (used used' : List Lexeme) (m : Place) (e : ParserError) (t : Lexeme) (rest us : Rest Lexeme Place) (pieces : Pieces) → token t rest ≡ onto used' us → IsStr used' pieces → SaysNothing pieces e → (back : List Lexeme) → rest ≡ whole back m → WrongStrings e used t back
-strings_next used used' m e t rest us pieces f is says back g =
+-- what is left does not begin with a string
+no_more : (others : List Lexeme) (m : Place) (us : Rest Lexeme Place) → us ≡ whole others m → starts lexicon (text ∷ []) us ≡ false → BeginsOtherwise (is_one_of (text ∷ [])) others
+unfolding starts
+no_more [] m us e h = tt
+no_more (t ∷ others) m us e h = rw e at h
+
+strings_next : (used used' : List Lexeme) (m : Place) (e : ParserError) (t : Lexeme) (rest us : Rest Lexeme Place) (pieces : Pieces) → token t rest ≡ onto used' us → IsStr used' pieces → starts lexicon (text ∷ []) us ≡ false → SaysNothing pieces e → (back : List Lexeme) → rest ≡ whole back m → WrongStrings e used t back
+strings_next used used' m e t rest us pieces f is ends says back g =
     let k = left_whole (t ∷ back) used' m us (sym (ap (token t) g) ∙ f) in
-    record { strings = used'; others = k.0; pieces = pieces; parts = k.2; is = is; says = says }
+    record { strings = used'; others = k.0; pieces = pieces; parts = k.2; is = is; last = no_more k.0 m us k.1 ends; says = says }
 
 strings_at : (ts used : List Lexeme) (m : Place) (e : ParserError) (after rest : Rest Lexeme Place) (pieces : Pieces) → whole ts m ≡ onto used after → parse.str.run after ≡ read pieces rest → SaysNothing pieces e → StandsAt (WrongStrings e) ts (mark_of place_of after)
 strings_at ts used m e (end n) rest pieces parts h says =
@@ -77,7 +85,7 @@ strings_at ts used m e (end n) rest pieces parts h says =
     no_strings (u ∷ us) f b = absurd cc
 strings_at ts used m e (token t us) rest pieces parts h says =
     let l = parse.str.sound (token t us) pieces rest h in
-    stands_at (WrongStrings e) ts used m t us parts (strings_next used l.used m e t us rest pieces l.parts l.holds says)
+    stands_at (WrongStrings e) ts used m t us parts (strings_next used l.used m e t us rest pieces l.parts l.holds (str_ends (token t us) rest pieces h) says)
 
 dotted : (t : Lexeme) → sees (symbol 46) t ≡ true → is_one_of (symbol 46 ∷ []) t ≡ true
 dotted t h = rw h refl

@@ -1,14 +1,14 @@
 -- What is promised of a file's tokens, and of its text.
-use Rattle.std.specs.Prelude.{◌≡◌, ◌<◌, ◌⊎◌, List, [], ◌∷◌, ◌++◌, true, Result, MatchResult}
-use Rattle.std.specs.Str.{IsUtf8}
-use Rattle.protobuf_parse_base.specs.Paths.{IsProtoPath}
+use Rattle.std.specs.Prelude.{◌≡◌, ◌<◌, ◌⊎◌, List, [], ◌∷◌, ◌++◌, Some, true, Result, MatchResult}
+use Rattle.protobuf_parse_base.specs.Paths.{path_fault}
+use Rattle.protobuf_parse_base.specs.Relations.{BeginsOtherwise}
 use Rattle.protobuf_parse_base.specs.Whole.{StopsAt}
 use Rattle.protobuf_parse_syntax.specs.Text.{Bytes}
-use Rattle.protobuf_parse_syntax.specs.Tokens.{Lexeme, DecodesAll}
+use Rattle.protobuf_parse_syntax.specs.Tokens.{Lexeme}
 use Rattle.protobuf_parse_syntax.specs.Cut.{Stream, HasTokens, IsRefused, out_of_memory, located}
 use Rattle.protobuf_parse_syntax.specs.Trees.{Pieces, FileSyntax}
-use Rattle.protobuf_parse_syntax.specs.Classes.{symbol, ident, float, is_one_of, is_floating}
-use Rattle.protobuf_parse_syntax.specs.Grammar.{IsStr, IsFile, name_of, place_of}
+use Rattle.protobuf_parse_syntax.specs.Classes.{symbol, ident, float, text as string_token, is_one_of, is_floating}
+use Rattle.protobuf_parse_syntax.specs.Grammar.{IsStr, StandsFor, IsFile, name_of, place_of}
 use Rattle.protobuf_parse_syntax.specs.declared.error.ParserError.{ParserError}
 use Rattle.protobuf_parse_syntax.specs.declared.error.ParserError.TheVariants as error
 use Rattle.protobuf_parse_syntax.specs.declared.error.ParserErrorWithLocation.{ParserErrorWithLocation}
@@ -48,21 +48,24 @@ abbrev pub Floats : List Lexeme → Lexeme → List Lexeme → Type 0
 Floats front t [] = is_one_of (float ∷ []) t ≡ true
 Floats front t (u ∷ back) = (is_one_of (float ∷ []) t ≡ true) ⊎ ((is_one_of (symbol 43 ∷ symbol 45 ∷ []) t ≡ true) × (is_floating u ≡ true))
 
--- Why neighbouring strings say nothing that may stand there: they decode to no version (S10), to no text at all
--- (S15), or to no proto path (S19).
+-- Why neighbouring strings say nothing that may stand there: they stand for a text that is no version (S10), for no
+-- text at all (S15), or for a text that has this fault as a proto path (S19).
 abbrev pub SaysNothing : Pieces → ParserError → Type 0
-SaysNothing pieces error.UnknownSyntax = (syntax : Syntax) → DecodesAll pieces (name_of syntax) → ⊥
-SaysNothing pieces error.StrLitDecode = (v : Bytes) → DecodesAll pieces v → IsUtf8 v → ⊥
-SaysNothing pieces (error.BadImportPath e) = (v : Bytes) → DecodesAll pieces v → IsProtoPath v → ⊥
+SaysNothing pieces error.UnknownSyntax =
+    (text : Bytes) × StandsFor pieces text × ((syntax : Syntax) → text ≡ name_of syntax → ⊥)
+SaysNothing pieces error.StrLitDecode = (text : Bytes) → StandsFor pieces text → ⊥
+SaysNothing pieces (error.BadImportPath e) =
+    (text : Bytes) × StandsFor pieces text × (path_fault text ≡ Some e)
 SaysNothing pieces _ = ⊥
 
--- strings that say nothing begin with the token
+-- Strings that say nothing begin with the token; no string stands behind them.
 pub record WrongStrings (e : ParserError) (front : List Lexeme) (t : Lexeme) (back : List Lexeme) : Type 0 where
   pub strings : List Lexeme
   pub others : List Lexeme
   pub pieces : Pieces
   pub parts : t ∷ back ≡ strings ++ others
   pub is : IsStr strings pieces
+  pub last : BeginsOtherwise (is_one_of (string_token ∷ [])) others
   pub says : SaysNothing pieces e
 
 -- What a fault of the grammar at a place says of the tokens, which end at `last`.
