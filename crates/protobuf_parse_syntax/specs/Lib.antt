@@ -1,11 +1,11 @@
 pub mod Text
+pub mod Characters
 pub mod Scan
 pub mod Place
 pub mod Tokens
 pub mod Decoding
 pub mod Escapes
 pub mod Cut
-pub mod Escaped
 pub mod Laws
 pub mod Classes
 pub mod Trees

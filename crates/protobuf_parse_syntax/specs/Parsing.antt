@@ -4,6 +4,7 @@ use Rattle.protobuf_parse_base.specs.Paths.{path_fault}
 use Rattle.protobuf_parse_base.specs.Relations.{BeginsOtherwise}
 use Rattle.protobuf_parse_base.specs.Whole.{StopsAt}
 use Rattle.protobuf_parse_syntax.specs.Text.{Bytes}
+use Rattle.protobuf_parse_syntax.specs.Characters as char
 use Rattle.protobuf_parse_syntax.specs.Tokens.{Lexeme}
 use Rattle.protobuf_parse_syntax.specs.Cut.{Stream, HasTokens, IsRefused, out_of_memory, located}
 use Rattle.protobuf_parse_syntax.specs.Trees.{Pieces, FileSyntax}
@@ -41,12 +42,12 @@ LargeToken front t back = IsLarge t.kind
 
 -- the first token of a part of an option's name, directly behind a dot
 abbrev pub NextPart : List Lexeme → Lexeme → List Lexeme → Type 0
-NextPart front t back = (before : List Lexeme) × (dot : Lexeme) × (front ≡ before ++ dot ∷ []) × (is_one_of (symbol 46 ∷ []) dot ≡ true) × (is_one_of (ident [] ∷ symbol 40 ∷ []) t ≡ true)
+NextPart front t back = (before : List Lexeme) × (dot : Lexeme) × (front ≡ before ++ dot ∷ []) × (is_one_of (symbol char.dot ∷ []) dot ≡ true) × (is_one_of (ident [] ∷ symbol char.open_paren ∷ []) t ≡ true)
 
 -- a float; or a sign, and a float, `inf` or `nan` behind it
 abbrev pub Floats : List Lexeme → Lexeme → List Lexeme → Type 0
 Floats front t [] = is_one_of (float ∷ []) t ≡ true
-Floats front t (u ∷ back) = (is_one_of (float ∷ []) t ≡ true) ⊎ ((is_one_of (symbol 43 ∷ symbol 45 ∷ []) t ≡ true) × (is_floating u ≡ true))
+Floats front t (u ∷ back) = (is_one_of (float ∷ []) t ≡ true) ⊎ ((is_one_of (symbol char.plus ∷ symbol char.minus ∷ []) t ≡ true) × (is_floating u ≡ true))
 
 -- Why neighbouring strings say nothing that may stand there: they stand for a text that is no version (S10), for no
 -- text at all (S15), or for a text that has this fault as a proto path (S19).
