@@ -74,22 +74,22 @@ pub record WrongStrings (e : ParserError) (front : List Lexeme) (t : Lexeme) (ba
 -- S5, S8, S9, S11 to S14, S16, S17: no list of tokens that begins with those up to and with the one at the place
 -- has a tree, or none has that ends there; at S5 that token is an integer that is too large. S7, S10, S15, S18,
 -- S19: there is no tree, and the token of the fault stands at the place.
-abbrev pub IsFault : List Lexeme → Place → ParserError → Place → Type 0
-IsFault ts last error.IncorrectInput place = StopsAt place_of IsFile ts last place
-IsFault ts last error.ExpectConstant place = StopsAt place_of IsFile ts last place
-IsFault ts last error.LabelNotAllowed place = StopsAt place_of IsFile ts last place
-IsFault ts last error.LabelRequired place = StopsAt place_of IsFile ts last place
-IsFault ts last error.GroupNameShouldStartWithUpperCase place = StopsAt place_of IsFile ts last place
-IsFault ts last error.MapFieldNotAllowed place = StopsAt place_of IsFile ts last place
-IsFault ts last error.OneOfInGroup place = StopsAt place_of IsFile ts last place
-IsFault ts last error.OnlyFieldsInGroup place = StopsAt place_of IsFile ts last place
-IsFault ts last error.IntegerOverflow place = StopsAt place_of IsFile ts last place × StandsAt LargeToken ts place
-IsFault ts last error.OptionNameTooLong place = NoTree ts × StandsAt NextPart ts place
-IsFault ts last error.FloatConstant place = NoTree ts × StandsAt Floats ts place
-IsFault ts last error.UnknownSyntax place = NoTree ts × StandsAt (WrongStrings error.UnknownSyntax) ts place
-IsFault ts last error.StrLitDecode place = NoTree ts × StandsAt (WrongStrings error.StrLitDecode) ts place
-IsFault ts last (error.BadImportPath e) place = NoTree ts × StandsAt (WrongStrings (error.BadImportPath e)) ts place
-IsFault ts last _ place = ⊥
+abbrev pub IsGrammarFault : List Lexeme → Place → ParserError → Place → Type 0
+IsGrammarFault ts last error.IncorrectInput place = StopsAt place_of IsFile ts last place
+IsGrammarFault ts last error.ExpectConstant place = StopsAt place_of IsFile ts last place
+IsGrammarFault ts last error.LabelNotAllowed place = StopsAt place_of IsFile ts last place
+IsGrammarFault ts last error.LabelRequired place = StopsAt place_of IsFile ts last place
+IsGrammarFault ts last error.GroupNameShouldStartWithUpperCase place = StopsAt place_of IsFile ts last place
+IsGrammarFault ts last error.MapFieldNotAllowed place = StopsAt place_of IsFile ts last place
+IsGrammarFault ts last error.OneOfInGroup place = StopsAt place_of IsFile ts last place
+IsGrammarFault ts last error.OnlyFieldsInGroup place = StopsAt place_of IsFile ts last place
+IsGrammarFault ts last error.IntegerOverflow place = StopsAt place_of IsFile ts last place × StandsAt LargeToken ts place
+IsGrammarFault ts last error.OptionNameTooLong place = NoTree ts × StandsAt NextPart ts place
+IsGrammarFault ts last error.FloatConstant place = NoTree ts × StandsAt Floats ts place
+IsGrammarFault ts last error.UnknownSyntax place = NoTree ts × StandsAt (WrongStrings error.UnknownSyntax) ts place
+IsGrammarFault ts last error.StrLitDecode place = NoTree ts × StandsAt (WrongStrings error.StrLitDecode) ts place
+IsGrammarFault ts last (error.BadImportPath e) place = NoTree ts × StandsAt (WrongStrings (error.BadImportPath e)) ts place
+IsGrammarFault ts last _ place = ⊥
 
 -- ---- texts
 
@@ -101,7 +101,7 @@ pub record HasTree (text : Bytes) (t : FileSyntax) : Type 0 where
 
 -- What a fault at a place says of a text: it has no tokens, and why; or it has tokens, and what the fault says of them.
 abbrev pub IsFaultOf : Bytes → ParserError → Place → Type 0
-IsFaultOf text e place = IsRefused text e place ⊎ ((s : Stream) × HasTokens text s × IsFault s.tokens s.end e place)
+IsFaultOf text e place = IsRefused text e place ⊎ ((s : Stream) × HasTokens text s × IsGrammarFault s.tokens s.end e place)
 
 -- a text that has no tokens is refused with its fault there, unless memory runs out
 abbrev pub TellsFaults : {A : Type 0} → Bytes → Result A ParserErrorWithLocation → Type 0
