@@ -53,8 +53,8 @@ IsRefused text e at = IsShort text × ((ts : List Lexeme) × (rest : Bytes) × C
 abbrev pub located : ParserError → Place → ParserErrorWithLocation
 located e at = record { error = e; line = at.line; col = at.col }
 
-abbrev pub place_of : ParserErrorWithLocation → Place
-place_of e = record { line = e.line; col = e.col }
+abbrev pub error_place : ParserErrorWithLocation → Place
+error_place e = record { line = e.line; col = e.col }
 
 abbrev pub out_of_memory : ParserErrorWithLocation
 out_of_memory = record { error = error.Memory; line = 0; col = 0 }
@@ -63,7 +63,7 @@ out_of_memory = record { error = error.Memory; line = 0; col = 0 }
 abbrev pub Answers : Bytes → Result TokenStream ParserErrorWithLocation → Type 0
 Answers text r =
     MatchResult r (λ s. Cuts text (map lexeme s.tokens.items) s.end [])
-    (λ e. (e ≡ out_of_memory) ⊎ ((ts : List Lexeme) × (rest : Bytes) × Cuts text ts (place_of e) rest × IsFault rest e.error))
+    (λ e. (e ≡ out_of_memory) ⊎ ((ts : List Lexeme) × (rest : Bytes) × Cuts text ts (error_place e) rest × IsFault rest e.error))
 
 -- a text with tokens is read as them, unless memory runs out
 abbrev pub Reads : Bytes → Result TokenStream ParserErrorWithLocation → Type 0

@@ -8,6 +8,7 @@ use Rattle.protobuf_parse_base.specs.Relations.{Rel, Nothing, Such, Never, Level
 use Rattle.protobuf_parse_base.specs.Whole.{AtSomeDepth}
 use Rattle.protobuf_parse_base.specs.Paths.{IsProtoPath}
 use Rattle.protobuf_parse_syntax.specs.Text.{Bytes}
+use Rattle.protobuf_parse_syntax.specs.Characters as char
 use Rattle.protobuf_parse_syntax.specs.Tokens.{Lexeme, DecodesAll, unquoted}
 use Rattle.protobuf_parse_syntax.specs.Trees as tree
 use Rattle.protobuf_parse_syntax.specs.Trees.{Pieces, ConstantNameSyntax, ConstantSyntax, ConstantFieldSyntax, OptionPartSyntax, OptionNameSyntax, OptionSyntax, OptionStatementSyntax, TypeSyntax, FieldStatementSyntax, RangeSyntax, ReservedSyntax, ReservedStatementSyntax, ExtensionsSyntax, OneofStatementSyntax, OneofSyntax, ExtendSyntax, EnumValueSyntax, EnumStatementSyntax, EnumSyntax, MessageStatementSyntax, MessageSyntax, MethodSyntax, ServiceStatementSyntax, ServiceSyntax, ImportSyntax, PackageSyntax, StatementSyntax, FileSyntax}
@@ -103,7 +104,7 @@ place_of t = t.place
 
 -- a separator ","
 abbrev pub IsComma : Rel Lexeme (Unit {0})
-IsComma = IsSymbol 44
+IsComma = IsSymbol char.comma
 
 -- at most so many such parts
 abbrev pub AtMost : {A : Type 0} → ℕ → Rel Lexeme A → Rel Lexeme (List A)
@@ -111,7 +112,7 @@ AtMost limit R ts items = Many R ts items × (length items ≤ limit)
 
 -- a statement, or nothing at a semicolon
 abbrev pub Item : {A : Type 0} → Rel Lexeme A → Rel Lexeme (Option A)
-Item R = Either (do IsSymbol 59; Nothing None) (do statement ← R; Nothing (Some statement))
+Item R = Either (do IsSymbol char.semicolon; Nothing None) (do statement ← R; Nothing (Some statement))
 
 -- { ";" | statement }
 abbrev pub Statements : {A : Type 0} → Rel Lexeme A → Rel Lexeme (List A)
@@ -122,9 +123,9 @@ Statements R = do
 -- "{" { ";" | statement } "}"
 abbrev pub Braced : {A : Type 0} → Rel Lexeme A → Rel Lexeme (List A)
 Braced R = do
-  IsSymbol 123
+  IsSymbol char.open_brace
   statements ← Statements R
-  IsSymbol 125
+  IsSymbol char.close_brace
   Nothing statements
 
 -- ---- str = string token { string token }
@@ -140,16 +141,16 @@ StandsFor pieces text = DecodesAll pieces text × IsUtf8 text
 
 abbrev pub dots : List Bytes → Bytes
 dots [] = []
-dots (part ∷ parts) = 46 ∷ part ++ dots parts
+dots (part ∷ parts) = char.dot ∷ part ++ dots parts
 
 unfoldable pub IsDotted : Rel Lexeme Bytes
 IsDotted = do
   first ← IsIdent
-  others ← Many (do IsSymbol 46; IsIdent)
+  others ← Many (do IsSymbol char.dot; IsIdent)
   Nothing (first ++ dots others)
 
 unfoldable pub IsRoot : Rel Lexeme Bytes
-IsRoot = Either (do IsSymbol 46; Nothing (46 ∷ [])) (Nothing [])
+IsRoot = Either (do IsSymbol char.dot; Nothing (char.dot ∷ [])) (Nothing [])
 
 unfoldable pub IsName : Rel Lexeme Bytes
 IsName = do
@@ -164,18 +165,18 @@ truth_words = codes "true" ∷ codes "false" ∷ []
 
 -- `-u` is an integer for u up to 9223372036854775808.
 unfoldable pub IsInteger : Rel Lexeme ℤ
-IsInteger = Either (do n ← IsNumber; Nothing (pos n)) (Either (do IsSymbol 43; n ← IsNumber; Nothing (pos n)) (do IsSymbol 45; n ← IsNumberUpTo 9223372036854775808; Nothing (negative n)))
+IsInteger = Either (do n ← IsNumber; Nothing (pos n)) (Either (do IsSymbol char.plus; n ← IsNumber; Nothing (pos n)) (do IsSymbol char.minus; n ← IsNumberUpTo 9223372036854775808; Nothing (negative n)))
 
 -- cname = ident | "[" name "]" | "[" name "/" name "]"
 unfoldable pub AfterSlash : Bytes → Rel Lexeme ConstantNameSyntax
-AfterSlash name = Either (do IsSymbol 47; rest ← IsName; Nothing (tree.url_name (name ++ 47 ∷ rest))) (Nothing (tree.extension_name name))
+AfterSlash name = Either (do IsSymbol char.slash; rest ← IsName; Nothing (tree.url_name (name ++ char.slash ∷ rest))) (Nothing (tree.extension_name name))
 
 unfoldable pub IsBracketedName : Rel Lexeme ConstantNameSyntax
 IsBracketedName = do
-  IsSymbol 91
+  IsSymbol char.open_bracket
   first ← IsName
   name ← AfterSlash first
-  IsSymbol 93
+  IsSymbol char.close_bracket
   Nothing name
 
 unfoldable pub IsConstantName : Rel Lexeme ConstantNameSyntax
@@ -183,34 +184,34 @@ IsConstantName = Either (do name ← IsIdent; Nothing (tree.regular_name name)) 
 
 -- no more, or "," or ";"
 unfoldable pub IsFieldEnd : Rel Lexeme (Unit {0})
-IsFieldEnd = Either (IsSymbol 44) (Either (IsSymbol 59) (Nothing tt))
+IsFieldEnd = Either (IsSymbol char.comma) (Either (IsSymbol char.semicolon) (Nothing tt))
 
 -- with what a constant begins, if it is no message constant
 abbrev pub other_constants : List Class
-other_constants = symbol 91 ∷ ident [] ∷ integer ∷ symbol 43 ∷ symbol 45 ∷ string_token ∷ []
+other_constants = symbol char.open_bracket ∷ ident [] ∷ integer ∷ symbol char.plus ∷ symbol char.minus ∷ string_token ∷ []
 
 -- cname ( ":" constant | msgconst ) [ "," | ";" ], with the constants inside by C
 unfoldable pub ConstantFieldOf : Rel Lexeme ConstantSyntax → Rel Lexeme ConstantFieldSyntax
 ConstantFieldOf C = do
   name ← IsConstantName
-  value ← Either (do IsSymbol 58; C) (Unless (is_one_of other_constants) C)
+  value ← Either (do IsSymbol char.colon; C) (Unless (is_one_of other_constants) C)
   IsFieldEnd
   Nothing (record { name = name; value = value })
 
 -- msgconst = "{" { cname ( ":" constant | msgconst ) [ "," | ";" ] } "}"
 unfoldable pub MessageConstantOf : Rel Lexeme ConstantSyntax → Rel Lexeme ConstantSyntax
 MessageConstantOf C = do
-  IsSymbol 123
+  IsSymbol char.open_brace
   fields ← Many (ConstantFieldOf C)
-  IsSymbol 125
+  IsSymbol char.close_brace
   Nothing (tree.fields (tree.constant_fields fields))
 
 -- list = "[" "]" | "[" constant { "," constant } "]"
 unfoldable pub ListOf : Rel Lexeme ConstantSyntax → Rel Lexeme ConstantSyntax
 ListOf C = do
-  IsSymbol 91
+  IsSymbol char.open_bracket
   items ← Either (Separated IsComma C) (Nothing [])
-  IsSymbol 93
+  IsSymbol char.close_bracket
   Nothing (tree.list (tree.constants items))
 
 -- A constant that begins with `true` or `false` is that truth value.
@@ -236,7 +237,7 @@ IsConstant = Level (λ n. ConstantOf)
 
 -- optpart = ident | "(" name ")"
 unfoldable pub IsOptionPart : Rel Lexeme OptionPartSyntax
-IsOptionPart = Either (do name ← IsIdent; Nothing (tree.direct name)) (do IsSymbol 40; name ← IsName; IsSymbol 41; Nothing (tree.extension name))
+IsOptionPart = Either (do name ← IsIdent; Nothing (tree.direct name)) (do IsSymbol char.open_paren; name ← IsName; IsSymbol char.close_paren; Nothing (tree.extension name))
 
 -- An option name of one plain part is built in, any other is custom.
 abbrev pub option_name : OptionPartSyntax → List OptionPartSyntax → OptionNameSyntax
@@ -244,7 +245,7 @@ option_name (tree.direct name) [] = tree.builtin name
 option_name part parts = tree.custom (part ∷ parts)
 
 unfoldable pub IsNextPart : Rel Lexeme OptionPartSyntax
-IsNextPart = do IsSymbol 46; IsOptionPart
+IsNextPart = do IsSymbol char.dot; IsOptionPart
 
 -- optname = optpart { "." optpart }, of at most 100 parts
 unfoldable pub IsOptionName : Rel Lexeme OptionNameSyntax
@@ -256,7 +257,7 @@ IsOptionName = do
 unfoldable pub IsAssignment : ℕ → Rel Lexeme OptionSyntax
 IsAssignment n = do
   name ← IsOptionName
-  IsSymbol 61
+  IsSymbol char.equals
   value ← IsConstant n
   Nothing (record { name = name; value = value })
 
@@ -264,12 +265,12 @@ unfoldable pub IsOption : ℕ → Rel Lexeme OptionStatementSyntax
 IsOption n = At place_of λ place. do
   IsWord (codes "option")
   option ← IsAssignment n
-  IsSymbol 59
+  IsSymbol char.semicolon
   Nothing (record { place = place; option = option })
 
 -- [ options ], options = "[" optname "=" constant { "," optname "=" constant } "]"
 unfoldable pub AreOptions : ℕ → Rel Lexeme (List OptionSyntax)
-AreOptions n = Either (do IsSymbol 91; options ← Separated IsComma (IsAssignment n); IsSymbol 93; Nothing options) (Nothing [])
+AreOptions n = Either (do IsSymbol char.open_bracket; options ← Separated IsComma (IsAssignment n); IsSymbol char.close_bracket; Nothing options) (Nothing [])
 
 -- ---- type = scalar | "map" "<" type "," type ">" | name
 
@@ -282,11 +283,11 @@ scalars =
 unfoldable pub MapOf : Rel Lexeme TypeSyntax → Rel Lexeme TypeSyntax
 MapOf T = do
   IsWord (codes "map")
-  IsSymbol 60
+  IsSymbol char.less
   key ← T
   IsComma
   value ← T
-  IsSymbol 62
+  IsSymbol char.greater
   Nothing (tree.map_of key value)
 
 -- A type that begins with a scalar word or `map` is that scalar or a map. With the types inside by T.
@@ -320,7 +321,7 @@ IsFieldNumber = do n ← IsNumberUpTo 2147483647; Nothing (pos n)
 
 -- a group's name begins with an ASCII capital
 abbrev pub is_capital : ℕ → Bool
-is_capital c = nat_le 65 c && nat_le c 90
+is_capital c = nat_le char.capital_a c && nat_le c char.capital_z
 
 abbrev pub capital_ident : Lexeme → Option Bytes
 capital_ident t = cond (is_capital (slice_index t.text 0)) (any_ident t) None
@@ -330,10 +331,10 @@ unfoldable pub PlainFieldOf : ℕ → Rel Lexeme TypeSyntax → Place → Option
 PlainFieldOf n T place label = do
   type_ ← T
   name ← IsIdent
-  IsSymbol 61
+  IsSymbol char.equals
   number ← IsFieldNumber
   options ← AreOptions n
-  IsSymbol 59
+  IsSymbol char.semicolon
   Nothing (tree.field (record { place = place; label = label; type_ = type_; name = name; number = number; options = options }))
 
 -- a group, with the fields inside by F
@@ -341,7 +342,7 @@ unfoldable pub GroupOf : Rel Lexeme FieldStatementSyntax → Place → Option La
 GroupOf F place label = do
   IsWord (codes "group")
   name ← One capital_ident
-  IsSymbol 61
+  IsSymbol char.equals
   number ← IsFieldNumber
   fields ← Braced F
   Nothing (tree.group_of (record { place = place; label = label; name = name; number = number; fields = fields }))
@@ -418,7 +419,7 @@ unfoldable pub IsReserved : Rel Lexeme ReservedStatementSyntax
 IsReserved = At place_of λ place. do
   IsWord (codes "reserved")
   reserved ← AreReserved
-  IsSymbol 59
+  IsSymbol char.semicolon
   Nothing (record { place = place; reserved = reserved })
 
 -- ---- extensions = "extensions" range { "," range }
@@ -433,13 +434,13 @@ IsExtensions = At place_of λ place. do
 
 -- from -2147483648 to 2147483647
 unfoldable pub IsEnumNumber : Rel Lexeme ℤ
-IsEnumNumber = Either IsFieldNumber (do IsSymbol 45; n ← IsNumberUpTo 2147483648; Nothing (negative n))
+IsEnumNumber = Either IsFieldNumber (do IsSymbol char.minus; n ← IsNumberUpTo 2147483648; Nothing (negative n))
 
 -- value = ident "=" [ "-" ] int [ options ]. An enum value doesn't begin with `reserved` or `option`.
 unfoldable pub IsEnumValue : ℕ → Rel Lexeme EnumValueSyntax
 IsEnumValue n = At place_of λ place. do
   name ← Unless (is_one_of (words (codes "reserved" ∷ codes "option" ∷ []))) IsIdent
-  IsSymbol 61
+  IsSymbol char.equals
   number ← IsEnumNumber
   options ← AreOptions n
   Nothing (record { place = place; name = name; number = number; options = options })
@@ -492,14 +493,14 @@ IsMessage syntax = Level (MessageOf syntax)
 
 -- end = ";" | "{" { option | ";" } "}"
 unfoldable pub IsMethodEnd : ℕ → Rel Lexeme (List OptionStatementSyntax)
-IsMethodEnd n = Either (do IsSymbol 59; Nothing []) (Braced (IsOption n))
+IsMethodEnd n = Either (do IsSymbol char.semicolon; Nothing []) (Braced (IsOption n))
 
 -- "(" [ "stream" ] name ")". The word `stream` after the bracket is always the keyword.
 unfoldable pub IsStreamed : Rel Lexeme (Bool × Bytes)
 IsStreamed = do
-  IsSymbol 40
+  IsSymbol char.open_paren
   type_ ← Either (do IsWord (codes "stream"); name ← IsName; Nothing (true, name)) (do name ← Unless (is_one_of (words (codes "stream" ∷ []))) IsName; Nothing (false, name))
-  IsSymbol 41
+  IsSymbol char.close_paren
   Nothing type_
 
 -- rpc = "rpc" ident "(" [ "stream" ] name ")" "returns" "(" [ "stream" ] name ")" end
@@ -518,11 +519,11 @@ unfoldable pub IsStream : ℕ → Rel Lexeme MethodSyntax
 IsStream n = At place_of λ place. do
   IsWord (codes "stream")
   name ← IsIdent
-  IsSymbol 40
+  IsSymbol char.open_paren
   input ← IsName
   IsComma
   output ← IsName
-  IsSymbol 41
+  IsSymbol char.close_paren
   options ← IsMethodEnd n
   Nothing (record { place = place; name = name; input = input; output = output; client_streaming = true; server_streaming = true; options = options })
 
@@ -563,9 +564,9 @@ IsVersion = do
 unfoldable pub IsSyntax : Rel Lexeme Syntax
 IsSyntax = do
   IsWord (codes "syntax")
-  IsSymbol 61
+  IsSymbol char.equals
   syntax ← IsVersion
-  IsSymbol 59
+  IsSymbol char.semicolon
   Nothing syntax
 
 -- ---- import = "import" [ "weak" | "public" ] str ";"
@@ -588,7 +589,7 @@ IsImport = At place_of λ place. do
   IsWord (codes "import")
   vis ← IsVisibility
   path ← IsPath
-  IsSymbol 59
+  IsSymbol char.semicolon
   Nothing (record { place = place; vis = vis; path = path })
 
 -- ---- package = "package" ident { "." ident } ";"
@@ -597,7 +598,7 @@ unfoldable pub IsPackage : Rel Lexeme PackageSyntax
 IsPackage = At place_of λ place. do
   IsWord (codes "package")
   name ← IsDotted
-  IsSymbol 59
+  IsSymbol char.semicolon
   Nothing (record { place = place; name = name })
 
 -- ---- file = [ syntax ] { import | package | option | message | enum | extend | service | ";" }

@@ -5,7 +5,7 @@ use Rattle.protobuf_parse_syntax.specs.Text.{Bytes, IsToken, IsFault}
 use Rattle.protobuf_parse_syntax.specs.Place.{start, after}
 use Rattle.protobuf_parse_syntax.specs.Tokens.{Lexeme, unquoted, Decodes, DecodesAll}
 use Rattle.protobuf_parse_syntax.specs.Cut.{Cuts, mark_len}
-use Rattle.protobuf_parse_syntax.specs.Escaped.{escaped_bytes}
+use Rattle.protobuf_parse_base.specs.Escapes.{escaped_bytes}
 use Rattle.protobuf_parse_syntax.specs.declared.error.ParserError.{ParserError}
 use Rattle.protobuf_parse_syntax.specs.declared.lexer.token.Place.{Place}
 use Rattle.protobuf_parse_syntax.specs.declared.lexer.token.TokenKind.TheVariants as kind

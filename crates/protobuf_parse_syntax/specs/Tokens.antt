@@ -4,9 +4,9 @@
 use Rattle.std.specs.Prelude.{◌≡◌, ◌≤◌, ◌<◌, ◌⊎◌, ℕ, ◌+◌, ◌-◌, ◌&&◌, nat_le, Bool, false, ◌||◌, ◌==◌, if◌then◌else◌, List, [], ◌∷◌, ◌++◌, length, slice_index, slice_range, slice_get, take, drop, count_by, encode_utf8, Option, Some, None}
 use Rattle.std.specs.Char.{IsScalar}
 use Rattle.std.specs.Str.Parse.{digits_value}
-use Rattle.protobuf_parse_syntax.specs.Text.{Bytes, AllIn, StopsAt}
-use Rattle.protobuf_parse_syntax.specs.declared.lexer.bytes.Class.{Class}
-use Rattle.protobuf_parse_syntax.specs.declared.lexer.bytes.Class.TheVariants as class
+use Rattle.protobuf_parse_syntax.specs.Text.{Bytes, AllIn, RunStopsAt}
+use Rattle.protobuf_parse_syntax.specs.declared.lexer.bytes.ByteClass.{ByteClass}
+use Rattle.protobuf_parse_syntax.specs.declared.lexer.bytes.ByteClass.TheVariants as class
 use Rattle.protobuf_parse_syntax.specs.declared.lexer.token.TokenKind.{TokenKind}
 use Rattle.protobuf_parse_syntax.specs.declared.lexer.token.TokenKind.TheVariants as kind
 use Rattle.protobuf_parse_syntax.specs.declared.lexer.token.Place.{Place}
@@ -73,12 +73,12 @@ letter_byte c =
     else (if c == 116 then Some 9 else (if c == 118 then Some 11 else (if c == 92 || c == 39 || c == 34 || c == 63 then Some c else None)))))))
 
 -- digits of the class from `from` up to n, as many as stand there, at most up to `limit`
-pub record IsDigits (c : Class) (z : Bytes) (from limit n : ℕ) : Type 0 where
+pub record IsDigits (c : ByteClass) (z : Bytes) (from limit n : ℕ) : Type 0 where
   pub some : from < n
   pub within : n ≤ length z
   pub short : n ≤ limit
   pub each : AllIn c z from n
-  pub stops : n < limit → StopsAt c z n
+  pub stops : n < limit → RunStopsAt c z n
 
 -- The n bytes at the front of z, of which the first is a backslash, are an escape and stand for these
 -- bytes: of a letter; of one to three octal digits, up to 377; of \x and one or two hexadecimal digits;

@@ -2,7 +2,7 @@
 
 ghost use Rattle.std.specs.Prelude.{◌≡◌, ◌≤◌, ◌⊎◌, ◌++◌, [], ◌∷◌, length, map, IfOk, IfErr, OnOk, string_bytes, if◌then◌else◌};
 ghost use Rattle.protobuf_parse_base.specs.PathViews.{path_buf_text};
-ghost use Rattle.protobuf_parse_syntax.specs.Cut.{out_of_memory, place_of as place_at};
+ghost use Rattle.protobuf_parse_syntax.specs.Cut.{out_of_memory, error_place as place_at};
 ghost use Rattle.protobuf_parse_syntax.specs.Dependencies as spec;
 ghost use Rattle.protobuf_parse_syntax.specs.Dependencies.{dependencies_of, dependencies_view};
 ghost use Rattle.protobuf_parse_syntax.specs.Parsing.{HasTree, IsFaultOf, TellsFaults};

@@ -16,6 +16,7 @@ pub use lexer::laws::{
 pub use lexer::str_lit::{StrLit, StrLitDecodeError, unquoted};
 pub use lexer::token::{Place, Token, TokenKind, TokenStream};
 pub use lexer::tokenize;
+pub use parser::laws::trees_are_shallow;
 pub use parser::{parse_file, tree_of};
 pub use tree::{
     ConstantField, ConstantFieldName, EnumStatement, EnumValue, Enumeration, Extend, Extensions,
