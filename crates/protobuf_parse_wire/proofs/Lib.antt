@@ -7,6 +7,9 @@ pub mod Varint
 pub mod Back
 pub mod Again
 pub mod Appending
+pub mod Encoded
+pub mod Written
 mod Rows
 mod Writable
 mod Options
+mod OptionBytes

@@ -18,6 +18,7 @@ use Rattle.protobuf_parse_wire.specs.declared.kind.Kind.TheVariants as kinds
 use Rattle.protobuf_parse_wire.specs.Trees as trees
 use Rattle.protobuf_parse_wire.specs.Trees.{no_entries, entry}
 use Rattle.protobuf_parse_wire.specs.Wire.{Spells}
+use Rattle.protobuf_parse_wire.specs.Encoded.{varint_within, encoded}
 use Rattle.protobuf_parse_wire.specs.OptionFields.{OptionScope, declared_extensions}
 use Rattle.protobuf_parse_wire.specs.CustomOptions.{denotes}
 use Rattle.protobuf_parse_wire.specs.CustomFaults.{statement_faults}
@@ -79,6 +80,15 @@ minus_one_has_no_fault = refl
 minus_one_is_spelled : Spells (denotes here of.File minus_one) (136 ∷ 181 ∷ 24 ∷ 1 ∷ [])
 minus_one_is_spelled =
     (136 ∷ 181 ∷ 24 ∷ [], 1 ∷ [], [], refl, record { chain = (omega arith, omega arith, (omega arith, omega arith, omega arith)); shortest = omega arith; value = refl }, (1, refl, record { chain = omega arith; shortest = tt; value = refl }), refl)
+
+minus_one_is_encoded : encoded (denotes here of.File minus_one) ≡ 136 ∷ 181 ∷ 24 ∷ 1 ∷ []
+unfolding varint_within
+minus_one_is_encoded = refl
+
+-- in ten bytes: 90 b5 18 ff ff ff ff ff ff ff ff ff 01
+signed_minus_one_is_encoded : encoded (entry 50002 kinds.Int32 (trees.number (negsuc 0)) no_entries) ≡ 144 ∷ 181 ∷ 24 ∷ 255 ∷ 255 ∷ 255 ∷ 255 ∷ 255 ∷ 255 ∷ 255 ∷ 255 ∷ 255 ∷ 1 ∷ []
+unfolding varint_within
+signed_minus_one_is_encoded = refl
 
 abbrev least : List OptionSyntax
 least = set (extension (codes "o") ∷ []) (integer (negsuc 2147483647))

@@ -7,11 +7,11 @@ use Rattle.std.proofs.lemmas.Nat.{from_le_bytes-to_le_bytes_4, from_le_bytes-to_
 use Rattle.protobuf_parse_wire.specs.Wire.{groups, IsChain, EndsAboveZero, IsShortest, IsVarint, SaysDelimited}
 use Rattle.protobuf_parse_wire.specs.Reading.{◌>>=◌, varint_at, part_at, delimited_at, four_at, eight_at}
 
-positive : (b : ℕ) (bs : List ℕ) → IsChain (b ∷ bs) → EndsAboveZero (b ∷ bs) → 0 < groups (b ∷ bs)
+pub positive : (b : ℕ) (bs : List ℕ) → IsChain (b ∷ bs) → EndsAboveZero (b ∷ bs) → 0 < groups (b ∷ bs)
 positive b [] chain ends = omega arith
 positive b (c ∷ bs) chain ends = let h = positive c bs chain.2 ends in omega arith
 
-shortest_inside : (c : ℕ) (cs : List ℕ) → EndsAboveZero (c ∷ cs) → IsShortest (c ∷ cs)
+pub shortest_inside : (c : ℕ) (cs : List ℕ) → EndsAboveZero (c ∷ cs) → IsShortest (c ∷ cs)
 shortest_inside c [] ends = tt
 shortest_inside c (d ∷ ds) ends = ends
 
