@@ -6,29 +6,26 @@ use Rattle.std.specs.List.Sorted.{IsStrictlyIncreasing}
 use Rattle.std.proofs.lemmas.Option.{slice_get-map}
 use Rattle.std.proofs.lemmas.List.Elements.{Contains-append_left, Contains-append_right, Contains-append_cases}
 use Rattle.protobuf_parse_syntax.specs.Trees.{FileSyntax, file_view}
-use Rattle.protobuf_parse_base.specs.PathViews.{path_buf_text}
-use Rattle.protobuf_parse_model.specs.Descriptors.{Text, FileDescriptor}
-use Rattle.protobuf_parse_model.specs.Descriptors as described
+use Rattle.protobuf_parse_model.specs.Descriptors.{Text}
 use Rattle.protobuf_parse_model.specs.Declarations.{DeclaredType, file_scope}
 use Rattle.protobuf_parse_model.specs.Environment.{Environment, no_custom}
 use Rattle.protobuf_parse_model.specs.Faults.{Among, here, there, fault_view}
 use Rattle.protobuf_parse_model.specs.Faults as elaborating
-use Rattle.protobuf_parse_model.specs.FileDescriptor.{environment, file_of, types_of_files}
+use Rattle.protobuf_parse_model.specs.FileDescriptor.{environment, file_of}
 use Rattle.protobuf_parse_model.specs.FilesByPath.{AreDistinct, AreJust, leads, stays, trees_at}
 use Rattle.protobuf_parse_model.specs.Linking.{before_others, link_faults}
-use Rattle.protobuf_parse_model.specs.Lookup.{declared}
 use Rattle.protobuf_parse_model.specs.Tables.{picked}
 use Rattle.protobuf_parse_model.specs.declared.scope.seen.Declarations.{Declarations}
 use Rattle.protobuf_parse_model.proofs.Orders.{SameMembers, just-same, link-none, link-told, types-same}
 use Rattle.protobuf_parse.specs.Walks.{Trees, Reaches, HandsOn, Sees, sees_itself, by_import, among, import_paths}
 use Rattle.protobuf_parse.specs.Run.{Files, AreListed, StandsInElab, environment_of, faults_in, faults_of, origin_given}
-use Rattle.protobuf_parse.specs.Loading.{Agrees, AreJoined, AreKnown, AreNumbered, AreNumbersOf, Entry, IsAdded, IsAddedOver, IsLoaded, IsNumbered, Named, OrMemory, Settles, SettlesOver, faults_over, file_at, file_over, named_trees, paths_in, trees_of, with_next}
+use Rattle.protobuf_parse.specs.Loading.{Agrees, AreJoined, AreKnown, AreNumbered, AreNumbersOf, Entry, IsAddedOver, IsLoaded, IsNumbered, Named, Settles, SettlesOver, faults_over, file_at, file_over, named_trees, paths_in, trees_of, with_next}
 use Rattle.protobuf_parse.specs.declared.run.fault.RunFault.{RunFault}
 use Rattle.protobuf_parse.specs.declared.run.fault.RunFault.TheVariants as fault
 use Rattle.protobuf_parse.specs.declared.run.loader.Placed.{Placed}
 use Rattle.protobuf_parse.specs.declared.run.log.ReadEntry.{ReadEntry}
 use Rattle.protobuf_parse.specs.declared.run.reach.Held.TheVariants as held_as
-use Rattle.protobuf_parse.proofs.Keeping.{some_same, or_cases, or_left, or_right, among-append, text-same, text-true}
+use Rattle.protobuf_parse.proofs.Keeping.{or_cases, or_left, or_right, among-append, text-same, text-true}
 use Rattle.protobuf_parse.proofs.Knowing.{agrees-push, next-trees, leads-out, once-push, sees-out, sees-reaches}
 use Rattle.protobuf_parse.proofs.Numbers.{numbers-joined, only-one}
 

@@ -1,5 +1,5 @@
 -- What holds while files are loaded, for every list of reads that the log begins and any events kept so far.
-use Rattle.std.specs.Prelude.{◌≡◌, ◌⊎◌, ◌≤◌, ◌-◌, ℕ, true, false, nat_lt, List, [], ◌∷◌, ◌++◌, length, map, flat_map, Option, Some, None, Result, Ok, Err, bytes_eq, String, string_bytes, slice_get, find, option_to_list}
+use Rattle.std.specs.Prelude.{◌≡◌, ◌⊎◌, ◌≤◌, ℕ, true, false, nat_lt, List, [], ◌∷◌, ◌++◌, length, map, flat_map, Option, Some, None, Result, Ok, Err, bytes_eq, String, string_bytes, slice_get, find, option_to_list}
 use Rattle.std.specs.Global.{Global}
 use Rattle.std.specs.List.{AllByRecursion, Contains}
 use Rattle.std.specs.List.Sorted.{IsStrictlyIncreasing}
@@ -25,7 +25,7 @@ use Rattle.protobuf_parse.specs.declared.run.reach.Held.{Held}
 use Rattle.protobuf_parse.specs.declared.run.reach.Held.TheVariants as held_as
 use Rattle.protobuf_parse.specs.declared.run.log.ReadEntry.{ReadEntry}
 use Rattle.protobuf_parse.specs.declared.run.log.ReadOutcome.{ReadOutcome}
-use Rattle.protobuf_parse.specs.Walks.{Asked, the_resolver, the_reader, Event, long, load, elab, has, keep, among, Trees, Reaches, HandsOn, Sees, import_paths, public_paths, joined, walk, reads_in, elab_paths}
+use Rattle.protobuf_parse.specs.Walks.{Asked, the_resolver, the_reader, Event, long, load, elab, has, among, Trees, Reaches, HandsOn, import_paths, public_paths, joined, walk, reads_in, elab_paths}
 use Rattle.std.specs.Borrow.{Bor}
 use Rattle.std.specs.Str.{IsUtf8}
 use Rattle.protobuf_parse.specs.declared.run.fault.ResolveFault.{ResolveFault}
@@ -279,11 +279,6 @@ abbrev pub Goes : Legal → Files → List Event → List Entry → List ReadEnt
 Goes legal files events loaded log (Ok _) = Good legal files events loaded log []
 Goes legal files events loaded log (Err f) = Stops legal files events log f
 
--- the events kept when these imports have been walked
-abbrev pub so_far : Trees → List Event → Text → Asked → Text → List Text → List Text → List Event
-so_far trees kept input asked path chain done =
-    keep (kept ++ load asked path ∷ []) (joined (walk trees input the_resolver (100 - length (chain ++ path ∷ [])) (chain ++ path ∷ [])) done)
-
 -- A file was added for this path: it has this tree, in which no fault stands, and is what that becomes.
 pub record IsAdded (files : Files) (path : Text) (tree : FileSyntax) (height read : ℕ) (old new : List Entry) (placed : Placed) : Type 0 where
   pub key : String Global
@@ -296,15 +291,6 @@ pub record IsAdded (files : Files) (path : Text) (tree : FileSyntax) (height rea
   pub faultless : faults_in files path (Some tree) ≡ []
   pub descriptor : described.file_view file.descriptor ≡ file_of (environment_of files path tree) path tree
   pub placed_is : placed.height ≡ height
-
--- between two imports of a file
-pub record InLoop (legal : Legal) (files : Files) (kept : List Event) (input : Text) (asked : Asked) (path : Text) (chain : List Text) (entry : ReadEntry) (number : ℕ) (done : List Text) (height : ℕ) (loaded : List Entry) (log : List ReadEntry) : Type 0 where
-  pub fresh : has (load asked path) kept ≡ false
-  pub found : slice_get log number ≡ Some entry
-  pub named : path_buf_text entry.path ≡ path
-  pub first : first_read path files.reads ≡ Some entry.outcome
-  pub good : Good legal files (so_far files.trees kept input asked path chain done) loaded log (chain ++ path ∷ [])
-  pub settled : Settled (so_far files.trees kept input asked path chain done) height (imports_shape files.trees done)
 
 -- the texts of a chain
 abbrev pub texts : List (String Global) → List Text
@@ -379,9 +365,4 @@ AreUnloaded chain loaded = (p : Text) → among p chain ≡ true → file_at p l
 -- A file of this path is loaded with that number, among these files and no fewer than before.
 pub record IsMetAt (path : Text) (old new : List Entry) (placed : Placed) : Type 0 where
   pub number : IsNumbered (named_trees new) placed.number path
-  pub more : MoreLoaded old new
-
--- the same of the imports so far
-pub record AreMetAt (paths : List Text) (old new : List Entry) (numbers : List ℕ) : Type 0 where
-  pub numbered : AreNumbered (named_trees new) numbers paths
   pub more : MoreLoaded old new
