@@ -291,11 +291,11 @@ stands-more origin firsts others (fault.Memory) more s = absurd s
 stands-more origin firsts others _ more s = absurd s
 
 -- what an elaboration over numbered files leaves
-pub settled-in : (files : Files) (loaded new : List Entry) (names after : Declarations) (q p : Text) (t : FileSyntax) (height read : ℕ) (below : List ℕ) (log : List ReadEntry) (r : Result Placed RunFault)
+pub settled-in : (files : Files) (loaded new : List Entry) (names after : Declarations) (q p : Text) (t : FileSyntax) (height read : ℕ) (below public : List ℕ) (log : List ReadEntry) (r : Result Placed RunFault)
     → q ≡ p → AreListed files.trees files.reached files.seen → AreKnown loaded names log → Agrees files.trees (named_trees loaded) → files.trees p ≡ Some t → file_at p loaded ≡ None → AreNumbered (named_trees loaded) below (import_paths t)
-    → SettlesOver q t height read below log loaded new after r → Settles files p t height read log loaded new r
-settled-in files loaded new names after q p t height read below log (Ok placed) same listed known agrees is none numbered over = λ missing.
-    let a = subst (λ (z : Text). file_at z loaded ≡ None → IsAddedOver z t height read below loaded new after placed) same over missing in
+    → SettlesOver q t height read below public log loaded new after r → Settles files p t height read log loaded new r
+settled-in files loaded new names after q p t height read below public log (Ok placed) same listed known agrees is none numbered over = λ missing.
+    let a = subst (λ (z : Text). file_at z loaded ≡ None → IsAddedOver z t height read below public loaded new after placed) same over missing in
     record {
       key = a.key;
       file = a.file;
@@ -308,7 +308,7 @@ settled-in files loaded new names after q p t height read below log (Ok placed) 
       descriptor = a.descriptor ∙ over-descriptor files listed loaded names log known agrees p t is none below numbered a.file.reach.items a.sight a.reaches a.sees a.faultless;
       placed_is = a.height_placed;
     }
-settled-in files loaded new names after q p t height read below log (Err f) same listed known agrees is none numbered over = λ e found named.
+settled-in files loaded new names after q p t height read below public log (Err f) same listed known agrees is none numbered over = λ e found named.
     elim (over e found (named ∙ sym same)) [
       | inl w ↦
           let stands : StandsInElab (origin_given p (Some e.outcome)) (faults_over (with_next loaded t) w.0 w.1 t) f = subst (λ (z : Text). StandsInElab (origin_given z (Some e.outcome)) (faults_over (with_next loaded t) w.0 w.1 t) f) same w.4 in

@@ -1,5 +1,5 @@
 -- Stacks of frames: one frame more or less, the imports of statements, and the measure.
-use Rattle.std.proofs.Common.{◌≡◌, ℕ, zero, suc, ◌+◌, ◌-◌, ◌*◌, ◌^◌, ◌<◌, ◌≤◌, List, [], ◌∷◌, ◌++◌, Some, refl, sym, ◌∙◌, ap, append_assoc, append-nil, length, map, arith, take, drop, get_or, slice_get}
+use Rattle.std.proofs.Common.{◌≡◌, ℕ, zero, suc, ◌+◌, ◌-◌, ◌*◌, ◌^◌, ◌<◌, ◌≤◌, List, [], ◌∷◌, ◌++◌, Some, refl, sym, ◌∙◌, ap, append_assoc, append-nil, flat_map, length, map, arith, take, drop, get_or, slice_get}
 use Rattle.std.proofs.Math.Seq.{take-suc, drop-cons}
 use Rattle.std.proofs.Math.Nat.{mul-lt-mul_of_pos_right, suc-mul, pow-succ', pow-zero}
 use Rattle.std.proofs.lemmas.Grind.{flat_map-append}
@@ -11,16 +11,16 @@ use Rattle.std.specs.Global.{Global}
 use Rattle.std.specs.List.{AllByRecursion}
 use Rattle.protobuf_parse_base.specs.PathViews.{path_buf_text}
 use Rattle.protobuf_parse_syntax.specs.Dependencies.{imported, imports}
-use Rattle.protobuf_parse_syntax.specs.Trees.{ImportSyntax, statement_view}
+use Rattle.protobuf_parse_syntax.specs.Trees.{ImportSyntax, import_view, statement_view}
 use Rattle.protobuf_parse_syntax.specs.declared.tree.FileStatement.{FileStatement}
 use Rattle.protobuf_parse_syntax.specs.declared.tree.FileStatement.TheVariants as file_statement
 use Rattle.protobuf_parse_syntax.specs.declared.tree.Import.{Import}
 use Rattle.protobuf_parse_model.specs.Descriptors.{Text}
 use Rattle.protobuf_parse.specs.declared.run.loader.LoadFrame.{LoadFrame}
 use Rattle.protobuf_parse.specs.declared.run.loader.Placed.{Placed}
-use Rattle.protobuf_parse.specs.Walks.{Event, Trees}
+use Rattle.protobuf_parse.specs.Walks.{Event, Trees, public_path, public_paths_of}
 use Rattle.protobuf_parse.specs.Loading.{texts}
-use Rattle.protobuf_parse.specs.Frames.{AreWaiting, IsWaiting, Joined, chain_of, first_path, imports_in, later_in, left_in, left_over, owed, path_of, to_meet, todo, weight}
+use Rattle.protobuf_parse.specs.Frames.{AreWaiting, IsWaiting, Joined, chain_of, first_path, imports_in, later_in, left_in, left_over, owed, path_of, public_in, to_meet, todo, weight}
 
 -- ** one frame more
 
@@ -172,6 +172,28 @@ left-other xs n x h other = ap imports_in (at-drop xs n x h) ∙ (imports_in-app
 
 pub done-other : (xs : List FileStatement) (n : ℕ) (x : FileStatement) → slice_get xs n ≡ Some x → ((i : Import) → x ≡ file_statement.Import i → ⊥) → imports_in (take (suc n) xs) ≡ imports_in (take n xs)
 done-other xs n x h other = ap imports_in (at-take xs n x h) ∙ (imports_in-append (take n xs) (x ∷ []) ∙ (ap (λ z. imports_in (take n xs) ++ z) (imports-none x other) ∙ append-nil _))
+
+-- ** the public imports
+
+public_in-append : (xs ys : List FileStatement) → public_in (xs ++ ys) ≡ public_in xs ++ public_in ys
+public_in-append xs ys = ap (flat_map public_paths_of) (map-append statement_view xs ys) ∙ flat_map-append public_paths_of (map statement_view xs) (map statement_view ys)
+
+pub public-import : (xs : List FileStatement) (n : ℕ) (i : Import) → slice_get xs n ≡ Some (file_statement.Import i) → public_in (take (suc n) xs) ≡ public_in (take n xs) ++ public_path (import_view i)
+public-import xs n i h =
+    ap public_in (at-take xs n (file_statement.Import i) h) ∙ (public_in-append (take n xs) (file_statement.Import i ∷ [])
+    ∙ ap (λ z. public_in (take n xs) ++ z) (append-nil (public_path (import_view i) ++ []) ∙ append-nil (public_path (import_view i))))
+
+public-none : (x : FileStatement) → ((i : Import) → x ≡ file_statement.Import i → ⊥) → public_in (x ∷ []) ≡ []
+public-none (file_statement.Import i) other = absurd (other i refl)
+public-none (file_statement.Package p) other = refl
+public-none (file_statement.Option o) other = refl
+public-none (file_statement.Message m) other = refl
+public-none (file_statement.Enumeration e) other = refl
+public-none (file_statement.Extend e) other = refl
+public-none (file_statement.Service s) other = refl
+
+pub public-other : (xs : List FileStatement) (n : ℕ) (x : FileStatement) → slice_get xs n ≡ Some x → ((i : Import) → x ≡ file_statement.Import i → ⊥) → public_in (take (suc n) xs) ≡ public_in (take n xs)
+public-other xs n x h other = ap public_in (at-take xs n x h) ∙ (public_in-append (take n xs) (x ∷ []) ∙ (ap (λ z. public_in (take n xs) ++ z) (public-none x other) ∙ append-nil _))
 
 pub at_get : (xs : List FileStatement) (n : ℕ) (x : FileStatement) → n < length xs → x ≡ get_or xs n x → slice_get xs n ≡ Some x
 at_get [] n x lt is = absurd (omega arith)

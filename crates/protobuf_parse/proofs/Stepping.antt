@@ -212,11 +212,11 @@ module _ (legal : Legal) (files : Files) (kept events : List Event) (i : Text) (
 
   -- what its elaboration leaves
   pub running-closes : (stack : List LoadFrame) (top : LoadFrame) (meets : ℕ) (loaded later : List Entry) (names after : Declarations) (log : List ReadEntry) (res : Result Placed RunFault) (r : Running meets stack top loaded log) → AreListed files.trees files.reached files.seen → AreKnown loaded names log → IsTaken loaded log top → file_at (path_of top) loaded ≡ None → among (path_of top) (chain_of [] stack) ≡ false → length top.tree.statements.items ≤ top.next → top.height < 100
-      → SettlesOver (path_of top) (file_view top.tree) (top.height + 1) top.read top.below.items log loaded later after res → Leaves legal files (r.now ++ elab (path_of top) ∷ []) (file_shape files.trees (path_of top)) later log (chain_of [] stack) res
+      → SettlesOver (path_of top) (file_view top.tree) (top.height + 1) top.read top.below.items top.public.items log loaded later after res → Leaves legal files (r.now ++ elab (path_of top) ∷ []) (file_shape files.trees (path_of top)) later log (chain_of [] stack) res
   running-closes stack top meets loaded later names after log res r listed known taken none off le low over =
       let numbered : AreNumbered (named_trees loaded) top.below.items (import_paths (file_view top.tree)) = subst (λ (z : List Text). AreNumbered (named_trees loaded) top.below.items z) (done-all top le) taken.numbered in
       let agrees = agrees-made files log loaded r.good.made in
-      let settles = settled-in files loaded later names after (path_of top) (path_of top) (file_view top.tree) (top.height + 1) top.read top.below.items log res refl listed known agrees r.held.is none numbered over in
+      let settles = settled-in files loaded later names after (path_of top) (path_of top) (file_view top.tree) (top.height + 1) top.read top.below.items top.public.items log res refl listed known agrees r.held.is none numbered over in
       ends res settles
     where
       p : Text

@@ -1,9 +1,9 @@
 -- Loading by a stack of files whose imports are being met: what the stack still owes, and what holds of each of its frames.
 -- The lowest frame is the first of the list; the top one stands beside it.
-use Rattle.std.specs.Prelude.{ℕ, suc, true, false, List, [], ◌∷◌, ◌++◌, Some, None, Result, Ok, Err, ◌≡◌, ◌<◌, ◌≤◌, ◌+◌, ◌-◌, ◌*◌, ◌^◌, length, map, max, take, drop, slice_get, string_bytes}
+use Rattle.std.specs.Prelude.{ℕ, suc, Bool, true, false, if◌then◌else◌, List, [], ◌∷◌, ◌++◌, Option, Some, None, Result, Ok, Err, ◌≡◌, ◌<◌, ◌≤◌, ◌+◌, ◌-◌, ◌*◌, ◌^◌, length, map, flat_map, max, take, drop, slice_get, string_bytes}
 use Rattle.std.specs.List.{AllByRecursion}
 use Rattle.protobuf_parse_base.specs.PathViews.{path_buf_text}
-use Rattle.protobuf_parse_syntax.specs.Dependencies.{imports}
+use Rattle.protobuf_parse_syntax.specs.Dependencies.{imports, is_public}
 use Rattle.protobuf_parse_syntax.specs.Trees.{ImportSyntax, file_view, statement_view}
 use Rattle.protobuf_parse_syntax.specs.declared.tree.FileStatement.{FileStatement}
 use Rattle.protobuf_parse_syntax.specs.declared.tree.FileStatement.TheVariants as file_statement
@@ -15,7 +15,7 @@ use Rattle.protobuf_parse.specs.declared.run.loader.Met.{Met}
 use Rattle.protobuf_parse.specs.declared.run.loader.Met.TheVariants as met
 use Rattle.protobuf_parse.specs.declared.run.loader.Placed.{Placed}
 use Rattle.protobuf_parse.specs.declared.run.log.ReadEntry.{ReadEntry}
-use Rattle.protobuf_parse.specs.Walks.{Asked, the_resolver, Event, load, elab, has, keep, among, Trees, joined, statements, walk}
+use Rattle.protobuf_parse.specs.Walks.{Asked, the_resolver, Event, load, elab, has, keep, among, Trees, joined, public_paths_of, statements, walk}
 use Rattle.protobuf_parse.specs.Run.{Files, first_read}
 use Rattle.protobuf_parse.specs.Loading.{Legal, Entry, AreNumbered, Good, IsNumbered, Settled, Stops, file_at, file_shape, imports_shape, named_trees, read_paths}
 
@@ -35,6 +35,23 @@ left_in f = imports_in (drop f.next f.tree.statements.items)
 
 abbrev pub later_in : LoadFrame → List Text
 later_in f = imports_in (drop (suc f.next) f.tree.statements.items)
+
+-- the paths that these statements import publicly
+abbrev pub public_in : List FileStatement → List Text
+public_in xs = flat_map public_paths_of (map statement_view xs)
+
+-- those of them that are loaded
+abbrev pub public_done : LoadFrame → List Text
+public_done f = public_in (take f.next f.tree.statements.items)
+
+-- a statement that is a public import
+abbrev pub is_public_at : Option FileStatement → Bool
+is_public_at (Some (file_statement.Import i)) = is_public i.vis
+is_public_at _ = false
+
+-- the number, if b is true
+abbrev pub number_if : Bool → ℕ → List ℕ
+number_if b n = if b then n ∷ [] else []
 
 -- this chain with the files of these frames
 abbrev pub chain_of : List Text → List LoadFrame → List Text
@@ -79,9 +96,10 @@ pub record IsRunning (legal : Legal) (files : Files) (kept events : List Event) 
   pub below : AllByRecursion (IsHeld files now log) stack
   pub count : meets + statements files.trees kept + (length (left_in top) + to_meet stack) ≡ start + 1 + statements files.trees now
 
--- whatever the trees are: the imports so far have these numbers, and the file was read
+-- whatever the trees are: the imports so far have these numbers, the public ones those, and the file was read
 pub record IsTaken (loaded : List Entry) (log : List ReadEntry) (f : LoadFrame) : Type 0 where
   pub numbered : AreNumbered (named_trees loaded) f.below.items (done_in f)
+  pub public : AreNumbered (named_trees loaded) f.public.items (public_done f)
   pub read : among (path_of f) (read_paths log) ≡ true
 
 -- a frame above this chain, whose next statement imports that path
@@ -118,6 +136,7 @@ pub record IsOpened (chain : List Text) (path : Text) (loaded : List Entry) (old
   pub next : f.next ≡ 0
   pub height : f.height ≡ 0
   pub below : f.below.items ≡ []
+  pub public : f.public.items ≡ []
   pub entry : ReadEntry
   pub reads : new ≡ old ++ entry ∷ []
   pub named : path_buf_text entry.path ≡ path
@@ -158,3 +177,4 @@ pub record Joined (old : LoadFrame) (placed : Placed) (new : LoadFrame) : Type 0
   pub next : new.next ≡ suc old.next
   pub height : new.height ≡ max old.height placed.height
   pub below : new.below.items ≡ old.below.items ++ placed.number ∷ []
+  pub public : new.public.items ≡ old.public.items ++ number_if (is_public_at (slice_get old.tree.statements.items old.next)) placed.number

@@ -17,19 +17,19 @@ ghost use Rattle.protobuf_parse_model.specs.Descriptors.{Text};
 ghost use Rattle.protobuf_parse.specs.Walks.{Event, among, at, checks, events, input_walk, keep, statements, walk};
 ghost use Rattle.protobuf_parse.specs.Run.{Files, IsCounted, MayAnswer, are_same_bytes, input_view, StandsInCheck, StandsInCycle, StandsInElab, StandsInLong, origin_given, rows, text_given};
 ghost use Rattle.protobuf_parse.specs.Loading.{AreKnown, AreJoined, AreNumbered, Goes, GoesOn, Good, Grows, IsDecided, IsElabFault, IsPlaced, IsReaders, IsShadowed, Leaves, OrMemory, ReadsTree, SettlesOver, asked_by, faults_over, file_at, file_over, file_shape, named_trees, texts, trees_of, with_next};
-ghost use Rattle.protobuf_parse.specs.Frames.{Joined, Meets, StandsMet, path_of};
+ghost use Rattle.protobuf_parse.specs.Frames.{Joined, Meets, is_public_at, number_if, StandsMet, path_of};
 
 use crate::run::asking::{answer, content, opened, origin, unreadable};
 use crate::run::fault::RunFault;
 use crate::run::log::{ReadEntry, ReadOutcome, RunInput};
-use crate::run::reach::{Sights, sights_of};
+use crate::run::reach::{ImportNumbers, Sights, sights_of};
 use crate::run::source::{InputReader, ProtoPathResolver, Sources};
 use indexmap::IndexMap;
 use protobuf_parse_base::proto_path::ProtoPathBuf;
 use protobuf_parse_model::{
     Declarations, ElabError, ElabFailure, FileDescriptorProto, Seen, elaborate, link,
 };
-use protobuf_parse_syntax::{FileStatement, FileTree};
+use protobuf_parse_syntax::{FileStatement, FileTree, ImportVis};
 use std::alloc::{AllocError, Global};
 use std::mem;
 
@@ -86,6 +86,8 @@ pub struct LoadFrame {
     pub height: usize,
     /// The numbers of its imports so far.
     pub below: Vec<usize>,
+    /// Of those the numbers of its public imports.
+    pub public: Vec<usize>,
 }
 
 /// What came of meeting a file.
@@ -386,6 +388,7 @@ fn meet<R: ProtoPathResolver, I: InputReader>(
         next: 0,
         height: 0,
         below: Vec::new(alloc),
+        public: Vec::new(alloc),
     };
     Ok(Met::Opened(frame))
 }
@@ -396,10 +399,45 @@ fn join(frame: &mut LoadFrame, placed: Placed) -> Result<(), AllocError>
     ensures { OnOk result (Joined frame.old placed frame.new) }
 {
     frame.below.push(placed.number)?;
+    let public = is_public_next(&frame.tree.statements, frame.next);
+    push_if(&mut frame.public, public, placed.number)?;
     if placed.height > frame.height {
         frame.height = placed.height;
     }
     frame.next += 1;
+    Ok(())
+}
+
+/// Whether the statement with this number is a public import.
+fn is_public_next(statements: &[FileStatement], number: usize) -> bool
+    ensures { result ≡ is_public_at (slice_get statements.now number) }
+{
+    match statements.get(number) {
+        Some(statement) => imports_publicly(statement),
+        None => false,
+    }
+}
+
+/// Whether a statement is a public import.
+fn imports_publicly(statement: &FileStatement) -> bool
+    ensures { result ≡ is_public_at (Some statement.now) }
+{
+    match statement {
+        FileStatement::Import(import) => match import.vis {
+            ImportVis::Public => true,
+            ImportVis::Default | ImportVis::Weak => false,
+        },
+        _ => false,
+    }
+}
+
+/// Puts the number behind the others, if `public` is true.
+fn push_if(numbers: &mut Vec<usize>, public: bool, number: usize) -> Result<(), AllocError>
+    ensures { OnOk result (numbers.new.items ≡ numbers.old.items ++ number_if public number) }
+{
+    if public {
+        numbers.push(number)?;
+    }
     Ok(())
 }
 
@@ -411,7 +449,7 @@ fn close(alloc: Global, loader: &mut Loader, frame: LoadFrame) -> Result<Placed,
     ensures chain { (chain : List Text) → texts loader.old.chain.items ≡ chain ++ path_of frame ∷ [] → texts loader.new.chain.items ≡ chain }
     ensures height { IfOk result (λ placed. placed.height ≡ frame.height + 1) }
     ensures settles { Tells loader.old.names (trees_of (named_trees loader.old.loaded.entries))
-        → SettlesOver (path_of frame) (file_view frame.tree) (frame.height + 1) frame.read frame.below.items loader.old.reads.items loader.old.loaded.entries loader.new.loaded.entries loader.new.names result }
+        → SettlesOver (path_of frame) (file_view frame.tree) (frame.height + 1) frame.read frame.below.items frame.public.items loader.old.reads.items loader.old.loaded.entries loader.new.loaded.entries loader.new.names result }
 {
     let LoadFrame {
         path,
@@ -420,9 +458,14 @@ fn close(alloc: Global, loader: &mut Loader, frame: LoadFrame) -> Result<Placed,
         next: _,
         height,
         below,
+        public,
     } = frame;
     let _ = loader.chain.pop();
-    settle(alloc, loader, &path, tree, height + 1, &below, read)
+    let imports = ImportNumbers {
+        all: &below,
+        public: &public,
+    };
+    settle(alloc, loader, &path, tree, height + 1, &imports, read)
 }
 
 /// L7.
@@ -528,7 +571,7 @@ fn settle(
     path: &str,
     tree: FileTree,
     height: usize,
-    imports: &[usize],
+    imports: &ImportNumbers<'_>,
     read: usize,
 ) -> Result<Placed, RunFault>
     ensures reads { loader.new.reads ≡ loader.old.reads }
@@ -536,9 +579,9 @@ fn settle(
     ensures meets { loader.new.meets ≡ loader.old.meets }
     ensures height { IfOk result (λ placed. placed.height ≡ height) }
     ensures settles { Tells loader.old.names (trees_of (named_trees loader.old.loaded.entries))
-        → SettlesOver path.now (file_view tree) height read imports.now loader.old.reads.items loader.old.loaded.entries loader.new.loaded.entries loader.new.names result }
+        → SettlesOver path.now (file_view tree) height read imports.now.all.now imports.now.public.now loader.old.reads.items loader.old.loaded.entries loader.new.loaded.entries loader.new.names result }
 {
-    let sights = sights_of(alloc, &loader.loaded, &tree, imports)?;
+    let sights = sights_of(alloc, &loader.loaded, imports)?;
     loader.names.add(alloc, loader.loaded.len(), &tree)?;
     let descriptor = descriptor_of(alloc, loader, &sights, path, &tree, read)?;
     let Sights {

@@ -115,6 +115,7 @@ returns-clause-stands g c =
       next = refl;
       height = refl;
       below = c.new.ensures.items;
+      public = c.new-2.ensures.items;
       entry = r.0;
       reads = r.1;
       named = r.2;
