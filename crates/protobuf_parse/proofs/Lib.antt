@@ -16,3 +16,7 @@ pub mod Numbers
 pub mod Knowing
 pub mod Settling
 pub mod Listed
+pub mod Stacks
+pub mod Taking
+pub mod Stepping
+pub mod Meeting

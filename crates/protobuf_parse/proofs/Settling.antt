@@ -6,29 +6,26 @@ use Rattle.std.specs.List.Sorted.{IsStrictlyIncreasing}
 use Rattle.std.proofs.lemmas.Option.{slice_get-map}
 use Rattle.std.proofs.lemmas.List.Elements.{Contains-append_left, Contains-append_right, Contains-append_cases}
 use Rattle.protobuf_parse_syntax.specs.Trees.{FileSyntax, file_view}
-use Rattle.protobuf_parse_base.specs.PathViews.{path_buf_text}
-use Rattle.protobuf_parse_model.specs.Descriptors.{Text, FileDescriptor}
-use Rattle.protobuf_parse_model.specs.Descriptors as described
+use Rattle.protobuf_parse_model.specs.Descriptors.{Text}
 use Rattle.protobuf_parse_model.specs.Declarations.{DeclaredType, file_scope}
 use Rattle.protobuf_parse_model.specs.Environment.{Environment, no_extensions}
 use Rattle.protobuf_parse_model.specs.Faults.{Among, here, there, fault_view}
 use Rattle.protobuf_parse_model.specs.Faults as elaborating
-use Rattle.protobuf_parse_model.specs.FileDescriptor.{environment, file_faults, file_of, types_of_files}
+use Rattle.protobuf_parse_model.specs.FileDescriptor.{environment, file_faults, file_of}
 use Rattle.protobuf_parse_model.specs.FilesByPath.{AreDistinct, AreJust, leads, stays, trees_at}
 use Rattle.protobuf_parse_model.specs.Linking.{before_others, link_faults}
-use Rattle.protobuf_parse_model.specs.Lookup.{declared}
 use Rattle.protobuf_parse_model.specs.Tables.{picked}
 use Rattle.protobuf_parse_model.specs.declared.scope.seen.Declarations.{Declarations}
 use Rattle.protobuf_parse_model.proofs.Orders.{SameMembers, just-same, link-none, link-told, types-same}
 use Rattle.protobuf_parse.specs.Walks.{Trees, Reaches, HandsOn, Sees, sees_itself, by_import, among, import_paths}
 use Rattle.protobuf_parse.specs.Run.{Files, AreListed, StandsInElab, environment_of, faults_in, origin_given}
-use Rattle.protobuf_parse.specs.Loading.{Agrees, AreJoined, AreKnown, AreNumbered, AreNumbersOf, Entry, IsAdded, IsAddedOver, IsLoaded, IsNumbered, Named, OrMemory, Settles, SettlesOver, faults_over, file_at, file_over, named_trees, paths_in, trees_of, with_next}
+use Rattle.protobuf_parse.specs.Loading.{Agrees, AreJoined, AreKnown, AreNumbered, AreNumbersOf, Entry, IsAddedOver, IsLoaded, IsNumbered, Named, Settles, SettlesOver, faults_over, file_at, file_over, named_trees, paths_in, trees_of, with_next}
 use Rattle.protobuf_parse.specs.declared.run.fault.RunFault.{RunFault}
 use Rattle.protobuf_parse.specs.declared.run.fault.RunFault.TheVariants as fault
 use Rattle.protobuf_parse.specs.declared.run.loader.Placed.{Placed}
 use Rattle.protobuf_parse.specs.declared.run.log.ReadEntry.{ReadEntry}
 use Rattle.protobuf_parse.specs.declared.run.reach.Held.TheVariants as held_as
-use Rattle.protobuf_parse.proofs.Keeping.{some_same, or_cases, or_left, or_right, among-append, text-same, text-true}
+use Rattle.protobuf_parse.proofs.Keeping.{or_cases, or_left, or_right, among-append, text-same, text-true}
 use Rattle.protobuf_parse.proofs.Knowing.{agrees-push, next-trees, leads-out, once-push, sees-out, sees-reaches}
 use Rattle.protobuf_parse.proofs.Numbers.{numbers-joined, only-one}
 
@@ -294,11 +291,11 @@ stands-more origin firsts others (fault.Memory) more s = absurd s
 stands-more origin firsts others _ more s = absurd s
 
 -- what an elaboration over numbered files leaves
-pub settled-in : (files : Files) (loaded new : List Entry) (names after : Declarations) (q p : Text) (t : FileSyntax) (height read : ℕ) (below : List ℕ) (log : List ReadEntry) (r : Result Placed RunFault)
+pub settled-in : (files : Files) (loaded new : List Entry) (names after : Declarations) (q p : Text) (t : FileSyntax) (height read : ℕ) (below public : List ℕ) (log : List ReadEntry) (r : Result Placed RunFault)
     → q ≡ p → AreListed files.trees files.reached files.seen → AreKnown loaded names log → Agrees files.trees (named_trees loaded) → files.trees p ≡ Some t → file_at p loaded ≡ None → AreNumbered (named_trees loaded) below (import_paths t)
-    → SettlesOver q t height read below log loaded new after r → Settles files p t height read log loaded new r
-settled-in files loaded new names after q p t height read below log (Ok placed) same listed known agrees is none numbered over = λ missing.
-    let a = subst (λ (z : Text). file_at z loaded ≡ None → IsAddedOver z t height read below loaded new after placed) same over missing in
+    → SettlesOver q t height read below public log loaded new after r → Settles files p t height read log loaded new r
+settled-in files loaded new names after q p t height read below public log (Ok placed) same listed known agrees is none numbered over = λ missing.
+    let a = subst (λ (z : Text). file_at z loaded ≡ None → IsAddedOver z t height read below public loaded new after placed) same over missing in
     record {
       key = a.key;
       file = a.file;
@@ -311,7 +308,7 @@ settled-in files loaded new names after q p t height read below log (Ok placed) 
       descriptor = a.descriptor ∙ over-descriptor files listed loaded names log known agrees p t is none below numbered a.file.reach.items a.sight a.reaches a.sees a.faultless;
       placed_is = a.height_placed;
     }
-settled-in files loaded new names after q p t height read below log (Err f) same listed known agrees is none numbered over = λ e found named.
+settled-in files loaded new names after q p t height read below public log (Err f) same listed known agrees is none numbered over = λ e found named.
     elim (over e found (named ∙ sym same)) [
       | inl w ↦
           let stands : StandsInElab (origin_given p (Some e.outcome)) (faults_over (with_next loaded t) w.0 w.1 t) f = subst (λ (z : Text). StandsInElab (origin_given z (Some e.outcome)) (faults_over (with_next loaded t) w.0 w.1 t) f) same w.4 in

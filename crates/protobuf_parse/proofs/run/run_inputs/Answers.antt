@@ -1,4 +1,4 @@
-use Rattle.std.proofs.Common.{[], inr, refl, map, arith}
+use Rattle.std.proofs.Common.{inr, refl, map, arith}
 use Rattle.protobuf_parse.specs.Walks.{events}
 use Rattle.protobuf_parse.specs.Run.{MayAnswer, input_view, rows}
 use Rattle.protobuf_parse.proofs.Causing.{caused}
