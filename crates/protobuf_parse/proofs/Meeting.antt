@@ -5,7 +5,7 @@ use Rattle.protobuf_parse_syntax.specs.declared.tree.FileTree.{FileTree}
 use Rattle.protobuf_parse_model.specs.Descriptors.{Text}
 use Rattle.protobuf_parse.specs.declared.run.fault.RunFault.{RunFault}
 use Rattle.protobuf_parse.specs.declared.run.fault.RunFault.TheVariants as fault
-use Rattle.protobuf_parse.specs.declared.run.loader.LoadFrame.{LoadFrame}
+use Rattle.protobuf_parse.specs.declared.run.frame.LoadFrame.{LoadFrame}
 use Rattle.protobuf_parse.specs.declared.run.loader.Met.{Met}
 use Rattle.protobuf_parse.specs.declared.run.loader.Placed.{Placed}
 use Rattle.protobuf_parse.specs.declared.run.log.ReadEntry.{ReadEntry}

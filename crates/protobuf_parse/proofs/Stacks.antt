@@ -16,7 +16,7 @@ use Rattle.protobuf_parse_syntax.specs.declared.tree.FileStatement.{FileStatemen
 use Rattle.protobuf_parse_syntax.specs.declared.tree.FileStatement.TheVariants as file_statement
 use Rattle.protobuf_parse_syntax.specs.declared.tree.Import.{Import}
 use Rattle.protobuf_parse_model.specs.Descriptors.{Text}
-use Rattle.protobuf_parse.specs.declared.run.loader.LoadFrame.{LoadFrame}
+use Rattle.protobuf_parse.specs.declared.run.frame.LoadFrame.{LoadFrame}
 use Rattle.protobuf_parse.specs.declared.run.loader.Placed.{Placed}
 use Rattle.protobuf_parse.specs.Walks.{Event, Trees, public_path, public_paths_of}
 use Rattle.protobuf_parse.specs.Loading.{texts}

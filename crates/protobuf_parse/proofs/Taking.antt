@@ -10,7 +10,7 @@ use Rattle.protobuf_parse_syntax.specs.declared.tree.FileStatement.TheVariants a
 use Rattle.protobuf_parse_syntax.specs.declared.tree.Import.{Import}
 use Rattle.protobuf_parse_model.specs.Descriptors.{Text}
 use Rattle.protobuf_parse_model.specs.declared.scope.seen.Declarations.{Declarations}
-use Rattle.protobuf_parse.specs.declared.run.loader.LoadFrame.{LoadFrame}
+use Rattle.protobuf_parse.specs.declared.run.frame.LoadFrame.{LoadFrame}
 use Rattle.protobuf_parse.specs.declared.run.loader.Placed.{Placed}
 use Rattle.protobuf_parse.specs.declared.run.log.ReadEntry.{ReadEntry}
 use Rattle.protobuf_parse.specs.Walks.{among, import_paths, public_path, public_paths}

@@ -4,7 +4,7 @@ use Rattle.std.specs.Global.{Vec}
 use Rattle.std.specs.Borrow.{Bor}
 use Rattle.std.specs.Str.{IsUtf8}
 use Rattle.protobuf_parse_base.specs.PathViews.{path_buf_text}
-use Rattle.protobuf_parse_syntax.specs.Cut.{place_of}
+use Rattle.protobuf_parse_syntax.specs.Cut.{error_place}
 use Rattle.protobuf_parse_syntax.specs.Parsing.{HasTree, IsFaultOf}
 use Rattle.protobuf_parse_syntax.specs.Trees.{FileSyntax}
 use Rattle.protobuf_parse_syntax.specs.declared.error.ParserErrorWithLocation.{ParserErrorWithLocation}
@@ -153,7 +153,7 @@ fails files (elab p) = not (is_nothing (faults_in files p (files.trees p)))
 -- the text has no tree, and the parse error stands in it
 pub record IsUnparsed (text : Text) (e : ParserErrorWithLocation) : Type 0 where
   pub treeless : (t : FileSyntax) → HasTree text t → ⊥
-  pub stands : IsFaultOf text e.error (place_of e)
+  pub stands : IsFaultOf text e.error (error_place e)
 
 -- what a resolver's fault says
 pub data ResolverSays : Type 0 where

@@ -22,6 +22,7 @@ ghost use Rattle.protobuf_parse.specs.Frames.{Joined, Meets, is_public_at, numbe
 
 use crate::run::asking::{answer, content, opened, origin, unreadable};
 use crate::run::fault::RunFault;
+use crate::run::frame::LoadFrame;
 use crate::run::log::{ReadEntry, ReadOutcome, RunInput};
 use crate::run::reach::{ImportNumbers, Sights, sights_of};
 use crate::run::source::{InputReader, ProtoPathResolver, Sources};
@@ -72,24 +73,6 @@ pub struct Loader {
     /// The files whose imports are being loaded, each imported by the one before it.
     pub chain: Vec<String>,
     pub meets: u128,
-}
-
-/// A file whose imports are being met.
-#[derive(Drop)]
-pub struct LoadFrame {
-    pub path: String,
-    pub tree: FileTree,
-    pub ghost few: { statements_in (file_view tree) ≤ 2147483647 },
-    /// Which read gave it.
-    pub read: usize,
-    /// Which statement is next, or is the import that is being loaded.
-    pub next: usize,
-    /// How many files the longest import chain from it has so far, itself not counted.
-    pub height: usize,
-    /// The numbers of its imports so far.
-    pub below: Vec<usize>,
-    /// Of those the numbers of its public imports.
-    pub public: Vec<usize>,
 }
 
 /// What came of meeting a file.
