@@ -1,18 +1,35 @@
--- The grammar of the Protocol Buffers Language Specifications (https://protobuf.dev/reference/protobuf/proto2-spec/
--- and https://protobuf.dev/reference/protobuf/proto3-spec/): which tokens say which tree. Each production
--- is one relation, whose lines are its line of EBNF; the rules beside the EBNF are conditions in it. A
--- production that contains itself is counted by levels, and the language has every number of them.
-use Rattle.std.specs.Prelude.{◌≤◌, ℕ, zero, suc, ℤ, pos, negsuc, nat_le, ◌&&◌, List, [], ◌∷◌, ◌++◌, length, slice_index, Option, Some, None, Bool, true, false, cond, bytes_eq, codes}
+-- The grammar of the Protocol Buffers Language Specifications
+-- (https://protobuf.dev/reference/protobuf/proto2-spec/ and
+-- https://protobuf.dev/reference/protobuf/proto3-spec/): which tokens say which tree. Each
+-- production is one relation, whose lines are its line of EBNF; the rules beside the EBNF are
+-- conditions in it. A production that contains itself is counted by levels, and the language has
+-- every number of them.
+use Rattle.std.specs.Prelude.{◌≤◌, ℕ, zero, suc, ℤ, pos, negsuc, nat_le, ◌&&◌, List, [], ◌∷◌, ◌++◌}
+use Rattle.std.specs.Prelude.{length, slice_index, Option, Some, None, Bool, true, false, cond}
+use Rattle.std.specs.Prelude.{bytes_eq, codes}
 use Rattle.std.specs.Str.{IsUtf8}
-use Rattle.protobuf_parse_base.specs.Relations.{Rel, Nothing, Such, Never, Level, One, Either, Many, OneOrMore, Separated, Unless, At, somes, ◌>>=◌, ◌>>◌}
+use Rattle.protobuf_parse_base.specs.Relations.{Rel, Nothing, Such, Never, Level, One, Either, Many}
+use Rattle.protobuf_parse_base.specs.Relations.{OneOrMore, Separated, Unless, At, somes, ◌>>=◌}
+use Rattle.protobuf_parse_base.specs.Relations.{◌>>◌}
 use Rattle.protobuf_parse_base.specs.Whole.{AtSomeDepth}
 use Rattle.protobuf_parse_base.specs.Paths.{IsProtoPath}
 use Rattle.protobuf_parse_syntax.specs.Text.{Bytes}
 use Rattle.protobuf_parse_syntax.specs.Characters as char
 use Rattle.protobuf_parse_syntax.specs.Tokens.{Lexeme, DecodesAll, unquoted}
 use Rattle.protobuf_parse_syntax.specs.Trees as tree
-use Rattle.protobuf_parse_syntax.specs.Trees.{Pieces, ConstantNameSyntax, ConstantSyntax, ConstantFieldSyntax, OptionPartSyntax, OptionNameSyntax, OptionSyntax, OptionStatementSyntax, TypeSyntax, FieldStatementSyntax, RangeSyntax, ReservedSyntax, ReservedStatementSyntax, ExtensionsSyntax, OneofStatementSyntax, OneofSyntax, ExtendSyntax, EnumValueSyntax, EnumStatementSyntax, EnumSyntax, MessageStatementSyntax, MessageSyntax, MethodSyntax, ServiceStatementSyntax, ServiceSyntax, ImportSyntax, PackageSyntax, StatementSyntax, FileSyntax}
-use Rattle.protobuf_parse_syntax.specs.Classes.{Class, sees, symbol, word, ident, integer, text as string_token, is_ident, is_one_of, words}
+use Rattle.protobuf_parse_syntax.specs.Trees.{Pieces, ConstantNameSyntax, ConstantSyntax}
+use Rattle.protobuf_parse_syntax.specs.Trees.{ConstantFieldSyntax, OptionPartSyntax}
+use Rattle.protobuf_parse_syntax.specs.Trees.{OptionNameSyntax, OptionSyntax, OptionStatementSyntax}
+use Rattle.protobuf_parse_syntax.specs.Trees.{TypeSyntax, FieldStatementSyntax, RangeSyntax}
+use Rattle.protobuf_parse_syntax.specs.Trees.{ReservedSyntax, ReservedStatementSyntax}
+use Rattle.protobuf_parse_syntax.specs.Trees.{ExtensionsSyntax, OneofStatementSyntax, OneofSyntax}
+use Rattle.protobuf_parse_syntax.specs.Trees.{ExtendSyntax, EnumValueSyntax, EnumStatementSyntax}
+use Rattle.protobuf_parse_syntax.specs.Trees.{EnumSyntax, MessageStatementSyntax, MessageSyntax}
+use Rattle.protobuf_parse_syntax.specs.Trees.{MethodSyntax, ServiceStatementSyntax, ServiceSyntax}
+use Rattle.protobuf_parse_syntax.specs.Trees.{ImportSyntax, PackageSyntax, StatementSyntax}
+use Rattle.protobuf_parse_syntax.specs.Trees.{FileSyntax}
+use Rattle.protobuf_parse_syntax.specs.Classes.{Class, sees, symbol, word, ident, integer}
+use Rattle.protobuf_parse_syntax.specs.Classes.{text as string_token, is_ident, is_one_of, words}
 use Rattle.protobuf_parse_syntax.specs.declared.lexer.token.Place.{Place}
 use Rattle.protobuf_parse_syntax.specs.declared.lexer.token.TokenKind.{TokenKind}
 use Rattle.protobuf_parse_syntax.specs.declared.lexer.token.TokenKind.TheVariants as kind
@@ -112,7 +129,8 @@ AtMost limit R ts items = Many R ts items × (length items ≤ limit)
 
 -- a statement, or nothing at a semicolon
 abbrev pub Item : {A : Type 0} → Rel Lexeme A → Rel Lexeme (Option A)
-Item R = Either (do IsSymbol char.semicolon; Nothing None) (do statement ← R; Nothing (Some statement))
+Item R =
+    Either (do IsSymbol char.semicolon; Nothing None) (do statement ← R; Nothing (Some statement))
 
 -- { ";" | statement }
 abbrev pub Statements : {A : Type 0} → Rel Lexeme A → Rel Lexeme (List A)
@@ -165,11 +183,19 @@ truth_words = codes "true" ∷ codes "false" ∷ []
 
 -- `-u` is an integer for u up to 9223372036854775808.
 unfoldable pub IsInteger : Rel Lexeme ℤ
-IsInteger = Either (do n ← IsNumber; Nothing (pos n)) (Either (do IsSymbol char.plus; n ← IsNumber; Nothing (pos n)) (do IsSymbol char.minus; n ← IsNumberUpTo 9223372036854775808; Nothing (negative n)))
+IsInteger =
+    Either
+    (do n ← IsNumber; Nothing (pos n))
+    (Either
+    (do IsSymbol char.plus; n ← IsNumber; Nothing (pos n))
+    (do IsSymbol char.minus; n ← IsNumberUpTo 9223372036854775808; Nothing (negative n)))
 
 -- cname = ident | "[" name "]" | "[" name "/" name "]"
 unfoldable pub AfterSlash : Bytes → Rel Lexeme ConstantNameSyntax
-AfterSlash name = Either (do IsSymbol char.slash; rest ← IsName; Nothing (tree.url_name (name ++ char.slash ∷ rest))) (Nothing (tree.extension_name name))
+AfterSlash name =
+    Either
+    (do IsSymbol char.slash; rest ← IsName; Nothing (tree.url_name (name ++ char.slash ∷ rest)))
+    (Nothing (tree.extension_name name))
 
 unfoldable pub IsBracketedName : Rel Lexeme ConstantNameSyntax
 IsBracketedName = do
@@ -188,7 +214,9 @@ IsFieldEnd = Either (IsSymbol char.comma) (Either (IsSymbol char.semicolon) (Not
 
 -- with what a constant begins, if it is no message constant
 abbrev pub other_constants : List Class
-other_constants = symbol char.open_bracket ∷ ident [] ∷ integer ∷ symbol char.plus ∷ symbol char.minus ∷ string_token ∷ []
+other_constants =
+    symbol char.open_bracket ∷ ident [] ∷ integer ∷ symbol char.plus ∷ symbol char.minus
+    ∷ string_token ∷ []
 
 -- cname ( ":" constant | msgconst ) [ "," | ";" ], with the constants inside by C
 unfoldable pub ConstantFieldOf : Rel Lexeme ConstantSyntax → Rel Lexeme ConstantFieldSyntax
@@ -237,7 +265,14 @@ IsConstant = Level (λ n. ConstantOf)
 
 -- optpart = ident | "(" name ")"
 unfoldable pub IsOptionPart : Rel Lexeme OptionPartSyntax
-IsOptionPart = Either (do name ← IsIdent; Nothing (tree.direct name)) (do IsSymbol char.open_paren; name ← IsName; IsSymbol char.close_paren; Nothing (tree.extension name))
+IsOptionPart =
+    Either
+    (do name ← IsIdent; Nothing (tree.direct name))
+    (do
+      IsSymbol char.open_paren
+      name ← IsName
+      IsSymbol char.close_paren
+      Nothing (tree.extension name))
 
 -- An option name of one plain part is built in, any other is custom.
 abbrev pub option_name : OptionPartSyntax → List OptionPartSyntax → OptionNameSyntax
@@ -270,15 +305,26 @@ IsOption n = At place_of λ place. do
 
 -- [ options ], options = "[" optname "=" constant { "," optname "=" constant } "]"
 unfoldable pub AreOptions : ℕ → Rel Lexeme (List OptionSyntax)
-AreOptions n = Either (do IsSymbol char.open_bracket; options ← Separated IsComma (IsAssignment n); IsSymbol char.close_bracket; Nothing options) (Nothing [])
+AreOptions n =
+    Either
+    (do
+      IsSymbol char.open_bracket
+      options ← Separated IsComma (IsAssignment n)
+      IsSymbol char.close_bracket
+      Nothing options)
+    (Nothing [])
 
 -- ---- type = scalar | "map" "<" type "," type ">" | name
 
 abbrev pub scalars : List (Bytes × Scalar)
 scalars =
-    (codes "int32", scalar.Int32) ∷ (codes "int64", scalar.Int64) ∷ (codes "uint32", scalar.Uint32) ∷ (codes "uint64", scalar.Uint64) ∷ (codes "sint32", scalar.Sint32)
-    ∷ (codes "sint64", scalar.Sint64) ∷ (codes "fixed32", scalar.Fixed32) ∷ (codes "sfixed32", scalar.Sfixed32) ∷ (codes "fixed64", scalar.Fixed64) ∷ (codes "sfixed64", scalar.Sfixed64)
-    ∷ (codes "bool", scalar.Bool) ∷ (codes "string", scalar.String) ∷ (codes "bytes", scalar.Bytes) ∷ (codes "float", scalar.Float) ∷ (codes "double", scalar.Double) ∷ []
+    (codes "int32", scalar.Int32) ∷ (codes "int64", scalar.Int64) ∷ (codes "uint32", scalar.Uint32)
+    ∷ (codes "uint64", scalar.Uint64) ∷ (codes "sint32", scalar.Sint32)
+    ∷ (codes "sint64", scalar.Sint64) ∷ (codes "fixed32", scalar.Fixed32)
+    ∷ (codes "sfixed32", scalar.Sfixed32) ∷ (codes "fixed64", scalar.Fixed64)
+    ∷ (codes "sfixed64", scalar.Sfixed64)
+    ∷ (codes "bool", scalar.Bool) ∷ (codes "string", scalar.String) ∷ (codes "bytes", scalar.Bytes)
+    ∷ (codes "float", scalar.Float) ∷ (codes "double", scalar.Double) ∷ []
 
 unfoldable pub MapOf : Rel Lexeme TypeSyntax → Rel Lexeme TypeSyntax
 MapOf T = do
@@ -290,12 +336,15 @@ MapOf T = do
   IsSymbol char.greater
   Nothing (tree.map_of key value)
 
--- A type that begins with a scalar word or `map` is that scalar or a map. With the types inside by T.
+-- A type that begins with a scalar word or `map` is that scalar or a map. With the types inside by
+-- T.
 unfoldable pub TypeOf : Rel Lexeme TypeSyntax → Rel Lexeme TypeSyntax
 TypeOf T =
     Either (do s ← IsWordOf scalars; Nothing (tree.scalar s))
     (Either (MapOf T)
-    (do name ← Unless (is_one_of (words (codes "map" ∷ table_words scalars))) IsName; Nothing (tree.named name)))
+    (do
+      name ← Unless (is_one_of (words (codes "map" ∷ table_words scalars))) IsName
+      Nothing (tree.named name)))
 
 -- of at most so many levels
 abbrev pub IsType : ℕ → Rel Lexeme TypeSyntax
@@ -305,7 +354,9 @@ IsType = Level (λ n. TypeOf)
 -- ----       | [ label ] "group" ident "=" int "{" { ";" | field } "}"
 
 abbrev pub labels : List (Bytes × Label)
-labels = (codes "optional", label.Optional) ∷ (codes "required", label.Required) ∷ (codes "repeated", label.Repeated) ∷ []
+labels =
+    (codes "optional", label.Optional) ∷ (codes "required", label.Required)
+    ∷ (codes "repeated", label.Repeated) ∷ []
 
 -- In proto3 the label `required` is refused.
 abbrev pub labels3 : List (Bytes × Label)
@@ -313,7 +364,9 @@ labels3 = (codes "optional", label.Optional) ∷ (codes "repeated", label.Repeat
 
 -- with these words no field begins
 abbrev pub statement_words : List Bytes
-statement_words = codes "reserved" ∷ codes "oneof" ∷ codes "extend" ∷ codes "message" ∷ codes "enum" ∷ codes "extensions" ∷ codes "option" ∷ []
+statement_words =
+    codes "reserved" ∷ codes "oneof" ∷ codes "extend" ∷ codes "message" ∷ codes "enum"
+    ∷ codes "extensions" ∷ codes "option" ∷ []
 
 -- a number of at most 2147483647
 unfoldable pub IsFieldNumber : Rel Lexeme ℤ
@@ -327,7 +380,8 @@ abbrev pub capital_ident : Lexeme → Option Bytes
 capital_ident t = cond (is_capital (slice_index t.text 0)) (any_ident t) None
 
 -- a field of such a type
-unfoldable pub PlainFieldOf : ℕ → Rel Lexeme TypeSyntax → Place → Option Label → Rel Lexeme FieldStatementSyntax
+unfoldable pub PlainFieldOf :
+    ℕ → Rel Lexeme TypeSyntax → Place → Option Label → Rel Lexeme FieldStatementSyntax
 PlainFieldOf n T place label = do
   type_ ← T
   name ← IsIdent
@@ -335,31 +389,51 @@ PlainFieldOf n T place label = do
   number ← IsFieldNumber
   options ← AreOptions n
   IsSymbol char.semicolon
-  Nothing (tree.field (record { place = place; label = label; type_ = type_; name = name; number = number; options = options }))
+  Nothing (tree.field (record {
+    place = place;
+    label = label;
+    type_ = type_;
+    name = name;
+    number = number;
+    options = options;
+  }))
 
 -- a group, with the fields inside by F
-unfoldable pub GroupOf : Rel Lexeme FieldStatementSyntax → Place → Option Label → Rel Lexeme FieldStatementSyntax
+unfoldable pub GroupOf :
+    Rel Lexeme FieldStatementSyntax → Place → Option Label → Rel Lexeme FieldStatementSyntax
 GroupOf F place label = do
   IsWord (codes "group")
   name ← One capital_ident
   IsSymbol char.equals
   number ← IsFieldNumber
   fields ← Braced F
-  Nothing (tree.group_of (record { place = place; label = label; name = name; number = number; fields = fields }))
+  Nothing (tree.group_of (record {
+    place = place;
+    label = label;
+    name = name;
+    number = number;
+    fields = fields;
+  }))
 
 -- After the optional label the word `group` begins a group.
-unfoldable pub AfterLabel : ℕ → Rel Lexeme FieldStatementSyntax → Place → Option Label → Rel Lexeme FieldStatementSyntax
-AfterLabel n F place label = Either (GroupOf F place label) (PlainFieldOf n (Unless (is_one_of (words (codes "group" ∷ []))) (IsType n)) place label)
+unfoldable pub AfterLabel :
+    ℕ → Rel Lexeme FieldStatementSyntax → Place → Option Label → Rel Lexeme FieldStatementSyntax
+AfterLabel n F place label =
+    Either
+    (GroupOf F place label)
+    (PlainFieldOf n (Unless (is_one_of (words (codes "group" ∷ []))) (IsType n)) place label)
 
--- A field of a message, a group or an `extend`. A label word that begins a field is its label. In proto2
--- every field has a label, unless it begins with `map`.
-unfoldable pub FieldOf : Syntax → ℕ → Rel Lexeme FieldStatementSyntax → Rel Lexeme FieldStatementSyntax
+-- A field of a message, a group or an `extend`. A label word that begins a field is its label. In
+-- proto2 every field has a label, unless it begins with `map`.
+unfoldable pub FieldOf :
+    Syntax → ℕ → Rel Lexeme FieldStatementSyntax → Rel Lexeme FieldStatementSyntax
 FieldOf Proto2 n F = At place_of λ place.
     Either (do l ← IsWordOf labels; AfterLabel (suc n) F place (Some l))
     (PlainFieldOf (suc n) (MapOf (IsType n)) place None)
 FieldOf Proto3 n F = At place_of λ place.
     Either (do l ← IsWordOf labels3; AfterLabel (suc n) F place (Some l))
-    (Unless (is_one_of (words (table_words labels ++ statement_words))) (AfterLabel (suc n) F place None))
+    (Unless (is_one_of (words (table_words labels ++ statement_words)))
+    (AfterLabel (suc n) F place None))
 
 -- of at most so many levels
 abbrev pub IsField : Syntax → ℕ → Rel Lexeme FieldStatementSyntax
@@ -367,13 +441,18 @@ IsField syntax = Level (FieldOf syntax)
 
 -- ---- oneof = "oneof" ident "{" { ";" | option | field } "}"
 
--- Directly in a oneof no label stands, and no field begins with `map`. The body of a group is that of any other.
+-- Directly in a oneof no label stands, and no field begins with `map`. The body of a group is that
+-- of any other.
 unfoldable pub IsOneofField : Syntax → ℕ → Rel Lexeme FieldStatementSyntax
 IsOneofField syntax n = At place_of λ place.
-    Unless (is_one_of (words (codes "map" ∷ table_words labels ++ statement_words))) (AfterLabel n (IsField syntax n) place None)
+    Unless (is_one_of (words (codes "map" ∷ table_words labels ++ statement_words)))
+    (AfterLabel n (IsField syntax n) place None)
 
 unfoldable pub IsOneofStatement : Syntax → ℕ → Rel Lexeme OneofStatementSyntax
-IsOneofStatement syntax n = Either (do o ← IsOption n; Nothing (tree.oneof_option o)) (do f ← IsOneofField syntax n; Nothing (tree.oneof_field f))
+IsOneofStatement syntax n =
+    Either
+    (do o ← IsOption n; Nothing (tree.oneof_option o))
+    (do f ← IsOneofField syntax n; Nothing (tree.oneof_field f))
 
 unfoldable pub IsOneof : Syntax → ℕ → Rel Lexeme OneofSyntax
 IsOneof syntax n = At place_of λ place. do
@@ -395,7 +474,12 @@ IsExtend syntax n = At place_of λ place. do
 
 -- Range ends are at most 2147483647; `max` is 536870911; the first may be above the last.
 unfoldable pub IsRangeEnd : ℤ → Rel Lexeme ℤ
-IsRangeEnd from = Either (do IsWord (codes "to"); Either IsFieldNumber (do IsWord (codes "max"); Nothing (pos 536870911))) (Nothing from)
+IsRangeEnd from =
+    Either
+    (do
+      IsWord (codes "to")
+      Either IsFieldNumber (do IsWord (codes "max"); Nothing (pos 536870911)))
+    (Nothing from)
 
 unfoldable pub IsRange : Rel Lexeme RangeSyntax
 IsRange = do
@@ -413,7 +497,10 @@ IsReservedName = do
   Nothing text
 
 unfoldable pub AreReserved : Rel Lexeme ReservedSyntax
-AreReserved = Either (do names ← Separated IsComma IsReservedName; Nothing (tree.reserved_names names)) (do ranges ← Separated IsComma IsRange; Nothing (tree.reserved_ranges ranges))
+AreReserved =
+    Either
+    (do names ← Separated IsComma IsReservedName; Nothing (tree.reserved_names names))
+    (do ranges ← Separated IsComma IsRange; Nothing (tree.reserved_ranges ranges))
 
 unfoldable pub IsReserved : Rel Lexeme ReservedStatementSyntax
 IsReserved = At place_of λ place. do
@@ -434,9 +521,11 @@ IsExtensions = At place_of λ place. do
 
 -- from -2147483648 to 2147483647
 unfoldable pub IsEnumNumber : Rel Lexeme ℤ
-IsEnumNumber = Either IsFieldNumber (do IsSymbol char.minus; n ← IsNumberUpTo 2147483648; Nothing (negative n))
+IsEnumNumber =
+    Either IsFieldNumber (do IsSymbol char.minus; n ← IsNumberUpTo 2147483648; Nothing (negative n))
 
--- value = ident "=" [ "-" ] int [ options ]. An enum value doesn't begin with `reserved` or `option`.
+-- value = ident "=" [ "-" ] int [ options ]. An enum value doesn't begin with `reserved` or
+-- `option`.
 unfoldable pub IsEnumValue : ℕ → Rel Lexeme EnumValueSyntax
 IsEnumValue n = At place_of λ place. do
   name ← Unless (is_one_of (words (codes "reserved" ∷ codes "option" ∷ []))) IsIdent
@@ -467,7 +556,8 @@ IsExtensionsIn Proto2 = IsExtensions
 IsExtensionsIn Proto3 = Never
 
 -- with the messages inside by M
-unfoldable pub MessageStatementOf : Syntax → ℕ → Rel Lexeme MessageSyntax → Rel Lexeme MessageStatementSyntax
+unfoldable pub MessageStatementOf :
+    Syntax → ℕ → Rel Lexeme MessageSyntax → Rel Lexeme MessageStatementSyntax
 MessageStatementOf syntax n M =
     Either (do r ← IsReserved; Nothing (tree.message_reserved r))
     (Either (do o ← IsOneof syntax n; Nothing (tree.message_oneof o))
@@ -499,7 +589,10 @@ IsMethodEnd n = Either (do IsSymbol char.semicolon; Nothing []) (Braced (IsOptio
 unfoldable pub IsStreamed : Rel Lexeme (Bool × Bytes)
 IsStreamed = do
   IsSymbol char.open_paren
-  type_ ← Either (do IsWord (codes "stream"); name ← IsName; Nothing (true, name)) (do name ← Unless (is_one_of (words (codes "stream" ∷ []))) IsName; Nothing (false, name))
+  type_ ←
+      Either
+      (do IsWord (codes "stream"); name ← IsName; Nothing (true, name))
+      (do name ← Unless (is_one_of (words (codes "stream" ∷ []))) IsName; Nothing (false, name))
   IsSymbol char.close_paren
   Nothing type_
 
@@ -512,7 +605,15 @@ IsRpc n = At place_of λ place. do
   IsWord (codes "returns")
   output ← IsStreamed
   options ← IsMethodEnd n
-  Nothing (record { place = place; name = name; input = input.1; output = output.1; client_streaming = input.0; server_streaming = output.0; options = options })
+  Nothing (record {
+    place = place;
+    name = name;
+    input = input.1;
+    output = output.1;
+    client_streaming = input.0;
+    server_streaming = output.0;
+    options = options;
+  })
 
 -- stream = "stream" ident "(" name "," name ")" end. It sets both.
 unfoldable pub IsStream : ℕ → Rel Lexeme MethodSyntax
@@ -525,7 +626,15 @@ IsStream n = At place_of λ place. do
   output ← IsName
   IsSymbol char.close_paren
   options ← IsMethodEnd n
-  Nothing (record { place = place; name = name; input = input; output = output; client_streaming = true; server_streaming = true; options = options })
+  Nothing (record {
+    place = place;
+    name = name;
+    input = input;
+    output = output;
+    client_streaming = true;
+    server_streaming = true;
+    options = options;
+  })
 
 -- `stream`, as a statement, stands in proto2 files only.
 unfoldable pub IsStreamIn : Syntax → ℕ → Rel Lexeme MethodSyntax
@@ -572,7 +681,10 @@ IsSyntax = do
 -- ---- import = "import" [ "weak" | "public" ] str ";"
 
 unfoldable pub IsVisibility : Rel Lexeme ImportVis
-IsVisibility = Either (do IsWord (codes "weak"); Nothing vis.Weak) (Either (do IsWord (codes "public"); Nothing vis.Public) (Nothing vis.Default))
+IsVisibility =
+    Either
+    (do IsWord (codes "weak"); Nothing vis.Weak)
+    (Either (do IsWord (codes "public"); Nothing vis.Public) (Nothing vis.Default))
 
 -- The decoded text of `import` is a proto path.
 abbrev pub SaysPath : Pieces → Bytes → Type 0

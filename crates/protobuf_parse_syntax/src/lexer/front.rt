@@ -83,7 +83,9 @@ fn token_piece(text: &[u8]) -> Piece
     ensures { Stands text.now result }
 {
     let first = text[0];
-    if is_in(ByteClass::Digit, first) || (first == b'.' && is_in(ByteClass::Digit, byte_at(text, 1))) {
+    if is_in(ByteClass::Digit, first)
+        || (first == b'.' && is_in(ByteClass::Digit, byte_at(text, 1)))
+    {
         return number_piece(text);
     }
     if is_in(ByteClass::Ident, first) {
