@@ -83,4 +83,10 @@ abbrev mutual
 -- Bytes (fewer than 2 ^ 64, as every slice has) that spell a list which suits the descriptors, with at most 256 messages
 -- inside one another, are read as the numbers and values of the list.
 abbrev pub SpelledIsRead : Type 0
-SpelledIsRead = (files : List FileDescriptor) (name : Text) (es : Entries) (bs : List ℕ) → length bs < 2 ^ 64 → Enters files name (λ fields. Suit files fields es) → depth es ≤ 256 → Spells es bs → reader files name bs ≡ Ok (said es)
+SpelledIsRead =
+    (files : List FileDescriptor) (name : Text) (es : Entries) (bs : List ℕ)
+    → length bs < 2 ^ 64
+    → Enters files name (λ fields. Suit files fields es)
+    → depth es ≤ 256
+    → Spells es bs
+    → reader files name bs ≡ Ok (said es)
