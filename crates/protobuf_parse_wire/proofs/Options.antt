@@ -32,6 +32,7 @@ use Rattle.protobuf_parse_wire.specs.CustomOptions.{message_item, value_items, l
 use Rattle.protobuf_parse_wire.specs.CustomFaults.{integer_faults, truth_faults, value_name_faults, string_value_faults, message_value_faults, number_faults, constant_name_faults, value_faults, list_faults, field_faults, part_faults, step_faults, path_faults, custom_faults, named_faults, statement_faults}
 use Rattle.protobuf_parse_model.specs.Environment.{part_text, path_text}
 use Rattle.protobuf_parse_wire.specs.OptionLaw.{IsEntered, fields_at, IsReadable, OptionsAreRead}
+use Rattle.protobuf_parse_wire.proofs.Ranges.{in_range}
 use Rattle.protobuf_parse_wire.proofs.Again as again
 use Rattle.protobuf_parse_model.proofs.Lookups.{found_is, meaning_declared}
 use Rattle.protobuf_parse_wire.proofs.Writable.{no_left, no_right, number_kept, plain_step_has_fault}
@@ -120,7 +121,7 @@ abbrev numbers : ℕ → FieldType → Option ℤ → List Item
 numbers n t o = flat_map (λ (z : ℤ). item_at n t (trees.number z)) (option_to_list o)
 
 value_name_suits : (files : List FileDescriptor) (fs : List FieldDescriptor) (f : FieldDescriptor) → IsUsed fs f → (t : FieldType) → f.type_ ≡ t → (value : Text) (o : Option ℤ) → ((z : ℤ) → o ≡ Some z → FitsSigned w32 z) → value_name_faults f.name (takes t) value o ≡ [] → Suits files fs (numbers (nat_abs f.number) t o)
-value_name_suits files fs f u types.Enum s value (Some z) small e = entry_suits files fs f kinds.Enum (trees.number z) u (ap kind_of s) (small z refl)
+value_name_suits files fs f u types.Enum s value (Some z) small e = entry_suits files fs f kinds.Enum (trees.number z) u (ap kind_of s) (in_range (shape kinds.Enum) z (small z refl))
 value_name_suits files fs f u types.Enum s value None small e = tt
 value_name_suits files fs f u _ s value o small e = absurd cc
 

@@ -1,60 +1,29 @@
 -- Where no fault stands in custom options, what they denote can be written.
-use Rattle.std.proofs.Common.{◌≡◌, ℕ, ℤ, pos, negsuc, Bool, true, false, not, cond, List, [], ◌∷◌, ◌++◌, map, flat_map, Option, Some, None, refl, arith, bytes_eq, codes}
+use Rattle.std.proofs.Common.{◌≡◌, ℕ, ℤ, Bool, true, false, not, cond, List, [], ◌∷◌, ◌++◌, map, flat_map, Option, Some, None, refl, bytes_eq, codes}
 use Rattle.std.specs.Option.{option_to_list}
 use Rattle.std.specs.Int.{w32}
 use Rattle.std.specs.Int.RustNames.{FitsSigned}
-use Rattle.std.proofs.Math.Facts.{yes_ltb, ltb_yes, yes_leb}
-use Rattle.std.proofs.lemmas.Bool.{ltb-true, lt-ltb}
-use lib.Signed.{le_z_yes, lt_z_yes}
 use Rattle.protobuf_parse_syntax.specs.Trees.{Pieces, ConstantSyntax, integer, truth, dotted, string, list, fields, ConstantList, no_constants, more_constants, ConstantFieldList, no_fields, more_fields, OptionPartSyntax, direct, extension, OptionNameSyntax, builtin, custom, OptionSyntax}
 use Rattle.protobuf_parse_model.specs.declared.error.ElabErrorKind.TheVariants.{IntegerOutOfRange, UninterpretedOptionName, ExtensionIsNotMessage, UnknownFieldName}
 use Rattle.protobuf_parse_model.specs.declared.descriptor.FieldType.{FieldType}
 use Rattle.protobuf_parse_model.specs.declared.descriptor.FieldType.TheVariants as types
-use Rattle.protobuf_parse_model.specs.Descriptors.{Text, FieldDescriptor, FileDescriptor}
+use Rattle.protobuf_parse_model.specs.Descriptors.{Text, FieldDescriptor}
 use Rattle.protobuf_parse_model.specs.Faults.{Fault}
 use Rattle.protobuf_parse_model.specs.Duplicates.{stands_in}
 use Rattle.protobuf_parse_model.specs.declared.customs.Construct.{Construct}
 use Rattle.protobuf_parse_wire.specs.declared.kind.Kind.{Kind}
 use Rattle.protobuf_parse_wire.specs.declared.kind.Kind.TheVariants as kinds
-use Rattle.protobuf_parse_wire.specs.Kinds as shapes
-use Rattle.protobuf_parse_wire.specs.Kinds.{Shape, whole, truth as is_truth, text, octets as is_octets, message as is_message, shape, kind_of}
+use Rattle.protobuf_parse_wire.specs.Kinds.{Shape, shape, kind_of, fits, InRange}
 use Rattle.protobuf_parse_wire.specs.Trees as trees
 use Rattle.protobuf_parse_wire.specs.Trees.{EntryTree}
 use Rattle.protobuf_parse_wire.specs.Views.{Item, entries_of_list}
-use Rattle.protobuf_parse_wire.specs.Law.{InRange}
+use Rattle.protobuf_parse_wire.proofs.Ranges.{in_range}
 use Rattle.protobuf_parse_wire.specs.Writing.{AreWritable}
-use Rattle.protobuf_parse_wire.specs.OptionFields.{OptionScope, options_message, number_of_value, part_field, constant_field, type_name_of, integers, takes, fits}
+use Rattle.protobuf_parse_wire.specs.OptionFields.{OptionScope, options_message, number_of_value, part_field, constant_field, type_name_of, integers, takes}
 use Rattle.protobuf_parse_wire.specs.OptionLaw.{HasSmallValues}
 use Rattle.protobuf_parse_wire.specs.CustomOptions.{value_items, list_items, field_items, path_items, message_item, named_items, option_items, denotes}
 use Rattle.protobuf_parse_wire.specs.CustomFaults.{integer_faults, truth_faults, value_name_faults, string_value_faults, message_value_faults, number_faults, constant_name_faults, value_faults, list_faults, field_faults, part_faults, step_faults, path_faults, table_of, names_in, builtin_step_faults, custom_faults, named_faults, statement_faults}
 use Rattle.protobuf_parse_model.specs.Environment.{part_text, path_text}
-
--- ---- ranges
-
--- the test is the range
-pub fits_in_range : (s : Shape) (v : ℤ) → fits s v ≡ true → InRange s v
-fits_in_range (whole word w shapes.unsigned) (pos n) e = (le_z_yes (yes_leb (omega arith)), lt_z_yes (yes_ltb (ltb-true _ _ e)))
-fits_in_range (whole word w shapes.unsigned) (negsuc n) e = absurd cc
-fits_in_range (whole word w shapes.twos_complement) (pos n) e = record { sfits = ltb-true _ _ e }
-fits_in_range (whole word w shapes.twos_complement) (negsuc n) e = record { sfits = ltb-true _ _ e }
-fits_in_range (whole word w shapes.zigzag) (pos n) e = record { sfits = ltb-true _ _ e }
-fits_in_range (whole word w shapes.zigzag) (negsuc n) e = record { sfits = ltb-true _ _ e }
-fits_in_range is_truth v e = absurd cc
-fits_in_range text v e = absurd cc
-fits_in_range is_octets v e = absurd cc
-fits_in_range is_message v e = absurd cc
-
-pub in_range_fits : (s : Shape) (v : ℤ) → InRange s v → fits s v ≡ true
-in_range_fits (whole word w shapes.unsigned) (pos n) p = lt-ltb _ _ (ltb_yes p.1.lt)
-in_range_fits (whole word w shapes.unsigned) (negsuc n) p = absurd p.0.le
-in_range_fits (whole word w shapes.twos_complement) (pos n) p = lt-ltb _ _ p.sfits
-in_range_fits (whole word w shapes.twos_complement) (negsuc n) p = lt-ltb _ _ p.sfits
-in_range_fits (whole word w shapes.zigzag) (pos n) p = lt-ltb _ _ p.sfits
-in_range_fits (whole word w shapes.zigzag) (negsuc n) p = lt-ltb _ _ p.sfits
-in_range_fits is_truth v p = absurd p
-in_range_fits text v p = absurd p
-in_range_fits is_octets v p = absurd p
-in_range_fits is_message v p = absurd p
 
 -- ---- lists
 
@@ -84,7 +53,7 @@ abbrev item_at : ℕ → FieldType → EntryTree → List Item
 item_at n t v = map (λ (k : Kind). record { number = n; kind = k; value = v }) (option_to_list (kind_of t))
 
 kept : (s : Shape) (v : ℤ) (b : Bool) (x : Fault) → fits s v ≡ b → cond (not b) (x ∷ []) [] ≡ [] → InRange s v
-kept s v true x h e = fits_in_range s v h
+kept s v true x h e = h
 kept s v false x h e = absurd cc
 
 pub number_kept : (k : Kind) (name : Text) (v : ℤ) → integer_faults name (integers k) v ≡ [] → InRange (shape k) v
@@ -124,7 +93,7 @@ abbrev numbers : ℕ → FieldType → Option ℤ → List Item
 numbers n t o = flat_map (λ (z : ℤ). item_at n t (trees.number z)) (option_to_list o)
 
 value_name_fit : (name value : Text) (t : FieldType) (n : ℕ) (o : Option ℤ) → ((z : ℤ) → o ≡ Some z → FitsSigned w32 z) → value_name_faults name (takes t) value o ≡ [] → AreFit (numbers n t o)
-value_name_fit name value types.Enum n (Some z) small e = (small z refl, tt)
+value_name_fit name value types.Enum n (Some z) small e = (in_range (shape kinds.Enum) z (small z refl), tt)
 value_name_fit name value types.Enum n None small e = tt
 value_name_fit name value _ n o small e = absurd cc
 

@@ -14,8 +14,8 @@ use Rattle.protobuf_parse_model.specs.BuiltinOptions.{Table, BuiltinKind, string
 use Rattle.protobuf_parse_model.specs.FileDescriptor.{environment, file_faults}
 use Rattle.protobuf_parse_model.specs.Linking.{before_others, link_faults}
 use Rattle.protobuf_parse_model.specs.OptionSets.{OptionSet, option_sets}
-use Rattle.protobuf_parse_wire.specs.Kinds.{shape}
-use Rattle.protobuf_parse_wire.specs.OptionFields.{OptionScope, options_message, field_named, number_of_value, extension_meant, extends_message, part_field, constant_field, type_name_of, Takes, integers, truths, names_of_values, texts, octets, messages, floats, groups, takes, fits}
+use Rattle.protobuf_parse_wire.specs.Kinds.{shape, fits}
+use Rattle.protobuf_parse_wire.specs.OptionFields.{OptionScope, options_message, field_named, number_of_value, extension_meant, extends_message, part_field, constant_field, type_name_of, Takes, integers, truths, names_of_values, texts, octets, messages, floats, groups, takes}
 use Rattle.protobuf_parse_wire.specs.CustomOptions.{scope_of}
 
 -- ---- names as they are written

@@ -5,9 +5,7 @@
 -- constant for a message a plain name means a field of it, and one in brackets an extension, looked up in the same way.
 -- The messages and enums that a field's type names are those of the descriptors that declare them, in all files reached.
 -- Protocol Buffers Language Guide (proto2), "Custom Options" (https://protobuf.dev).
-use Rattle.std.specs.Prelude.{ℤ, pos, negsuc, nat_lt, ◌^◌, Bool, false, ◌&&◌, List, [], ◌++◌, map, flat_map, codes, bytes_eq, Option, Some, None, unwrap_or, option_map, if◌then◌else◌}
-use mir.Syntax.{Width}
-use mir.Val.{bits, hbits}
+use Rattle.std.specs.Prelude.{ℤ, Bool, ◌&&◌, List, [], ◌++◌, map, flat_map, codes, bytes_eq, Option, Some, None, unwrap_or, option_map, if◌then◌else◌}
 use Rattle.std.specs.List.{find, list_any}
 use Rattle.protobuf_parse_syntax.specs.Trees.{ConstantNameSyntax, regular_name, extension_name, url_name, OptionPartSyntax, direct, extension}
 use Rattle.protobuf_parse_model.specs.declared.descriptor.FieldType.{FieldType}
@@ -19,8 +17,6 @@ use Rattle.protobuf_parse_model.specs.declared.customs.Construct.{Construct}
 use Rattle.protobuf_parse_model.specs.declared.customs.Construct.TheVariants as of
 use Rattle.protobuf_parse_wire.specs.declared.kind.Kind.{Kind}
 use Rattle.protobuf_parse_wire.specs.declared.kind.Kind.TheVariants as kinds
-use Rattle.protobuf_parse_wire.specs.Kinds as shapes
-use Rattle.protobuf_parse_wire.specs.Kinds.{Shape, whole}
 use Rattle.protobuf_parse_wire.specs.Declarations.{Declaration, within, package_scope, declared_in, declared_extensions, messages_of, extends}
 
 -- ---- what files declare, by their descriptors
@@ -132,20 +128,3 @@ takes types.Message = messages
 takes types.Float = floats
 takes types.Double = floats
 takes types.Group = groups
-
--- from 0 up to before 2 ^ 32 or 2 ^ 64
-abbrev pub fits_unsigned : Width → ℤ → Bool
-fits_unsigned w (pos n) = nat_lt n (2 ^ bits w)
-fits_unsigned w (negsuc n) = false
-
--- from -2 ^ 31 up to before 2 ^ 31, or the same of 63; `negsuc n` is -1 - n
-abbrev pub fits_signed : Width → ℤ → Bool
-fits_signed w (pos n) = nat_lt n (2 ^ hbits w)
-fits_signed w (negsuc n) = nat_lt n (2 ^ hbits w)
-
--- the range of a kind's whole numbers
-abbrev pub fits : Shape → ℤ → Bool
-fits (whole word w shapes.unsigned) v = fits_unsigned w v
-fits (whole word w shapes.twos_complement) v = fits_signed w v
-fits (whole word w shapes.zigzag) v = fits_signed w v
-fits _ v = false
