@@ -14,3 +14,4 @@ mod Rows
 mod Writable
 mod Options
 mod OptionBytes
+mod OptionDepth
