@@ -1,3 +1,4 @@
+pub mod Ranges
 pub mod Bits
 pub mod Adding
 pub mod Distinct
@@ -13,3 +14,4 @@ mod Rows
 mod Writable
 mod Options
 mod OptionBytes
+mod OptionDepth

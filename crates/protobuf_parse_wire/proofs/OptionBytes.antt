@@ -15,6 +15,6 @@ none_of faults (x ∷ xs) _ here e = no_left (faults x) (flat_map faults xs) e
 none_of faults (y ∷ xs) x (there h) e = none_of faults xs x h (no_right (faults y) (flat_map faults xs) e)
 
 pub option_bytes_spell : OptionBytesSpell
-option_bytes_spell files extensions t small none s h =
-    encoded_spells (denotes (scope_of files extensions s) s.construct s.statements)
-    (denotes_writable (scope_of files extensions s) small s.construct s.statements (none_of (λ (x : OptionSet). statement_faults (scope_of files extensions x) x.construct x.statements) (option_sets t) s h none))
+option_bytes_spell files visible t small none s h =
+    encoded_spells (denotes (scope_of files visible s) s.construct s.statements)
+    (denotes_writable (scope_of files visible s) small s.construct s.statements (none_of (λ (x : OptionSet). statement_faults (scope_of files visible x) x.construct x.statements) (option_sets t) s h none))

@@ -14,3 +14,4 @@ pub mod CustomOptions
 pub mod CustomFaults
 pub mod OptionLaw
 pub mod OptionBytes
+pub mod OptionDepth

@@ -1,9 +1,8 @@
 //! Writing entries at the end of bytes.
 
 ghost use Rattle.std.specs.Prelude.{◌≡◌, ◌++◌, OnOk, IfOk};
-ghost use Rattle.protobuf_parse_wire.specs.Kinds.{shape, wire_type};
+ghost use Rattle.protobuf_parse_wire.specs.Kinds.{InRange, shape, wire_type};
 ghost use Rattle.protobuf_parse_wire.specs.Wire.{Spells, zigzag_of};
-ghost use Rattle.protobuf_parse_wire.specs.Law.{InRange};
 ghost use Rattle.protobuf_parse_wire.specs.Writing.{AreWritable, IsWritable};
 ghost use Rattle.protobuf_parse_wire.specs.Views.{entries_view, entry_value_view};
 ghost use Rattle.protobuf_parse_wire.specs.Encoded.{varint_of, number_bytes, delimited, payload, encoded};
