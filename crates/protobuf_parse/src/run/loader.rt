@@ -465,7 +465,7 @@ fn close(alloc: Global, loader: &mut Loader, frame: LoadFrame) -> Result<Placed,
         all: &below,
         public: &public,
     };
-    settle(alloc, loader, &path, tree, height + 1, &imports, read)
+    settle(alloc, loader, path, tree, height + 1, &imports, read)
 }
 
 /// L7.
@@ -568,7 +568,7 @@ fn is_memory(fault: &RunFault) -> bool
 fn settle(
     alloc: Global,
     loader: &mut Loader,
-    path: &str,
+    path: String,
     tree: FileTree,
     height: usize,
     imports: &ImportNumbers<'_>,
@@ -579,11 +579,11 @@ fn settle(
     ensures meets { loader.new.meets ≡ loader.old.meets }
     ensures height { IfOk result (λ placed. placed.height ≡ height) }
     ensures settles { Tells loader.old.names (trees_of (named_trees loader.old.loaded.entries))
-        → SettlesOver path.now (file_view tree) height read imports.now.all.now imports.now.public.now loader.old.reads.items loader.old.loaded.entries loader.new.loaded.entries loader.new.names result }
+        → SettlesOver (string_bytes path) (file_view tree) height read imports.now.all.now imports.now.public.now loader.old.reads.items loader.old.loaded.entries loader.new.loaded.entries loader.new.names result }
 {
     let sights = sights_of(alloc, &loader.loaded, imports)?;
     loader.names.add(alloc, loader.loaded.len(), &tree)?;
-    let descriptor = descriptor_of(alloc, loader, &sights, path, &tree, read)?;
+    let descriptor = descriptor_of(alloc, loader, &sights, &path, &tree, read)?;
     let Sights {
         reach,
         handed_on,
@@ -597,25 +597,23 @@ fn settle(
         read,
         descriptor,
     };
-    let placed = add(alloc, &mut loader.loaded, path, file)?;
+    let placed = add(&mut loader.loaded, path, file)?;
     Ok(placed)
 }
 
 /// Adds a file to the loaded ones.
 fn add(
-    alloc: Global,
     loaded: &mut LoadedFiles,
-    path: &str,
+    path: String,
     file: LoadedFile,
 ) -> Result<Placed, AllocError>
     ensures height { IfOk result (λ placed. placed.height ≡ file.height) }
-    ensures added { IfOk result (λ placed. file_at path.now loaded.old.entries ≡ None
-        → (key : String Global) × (loaded.new.entries ≡ loaded.old.entries ++ (key, file) ∷ []) × (string_bytes key ≡ path.now) × (placed.number ≡ length loaded.old.entries)) }
+    ensures added { IfOk result (λ placed. file_at (string_bytes path) loaded.old.entries ≡ None
+        → (loaded.new.entries ≡ loaded.old.entries ++ (path, file) ∷ []) × (placed.number ≡ length loaded.old.entries)) }
 {
     let number = loaded.len();
     let height = file.height;
-    let key = String::from_str(alloc, path)?;
-    loaded.insert(key, file)?;
+    loaded.insert(path, file)?;
     Ok(Placed { number, height })
 }
 
