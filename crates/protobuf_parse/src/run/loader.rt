@@ -16,7 +16,7 @@ ghost use Rattle.protobuf_parse.specs.declared.run.log.ReadEntry.{ReadEntry};
 ghost use Rattle.protobuf_parse_model.specs.Descriptors.{Text};
 ghost use Rattle.protobuf_parse.specs.Walks.{Event, among, at, checks, events, input_walk, keep, statements, walk};
 ghost use Rattle.protobuf_parse.specs.Run.{Files, IsCounted, MayAnswer, are_same_bytes, input_view, StandsInCheck, StandsInCycle, StandsInElab, StandsInLong, origin_given, rows, text_given};
-ghost use Rattle.protobuf_parse.specs.Loading.{AreKnown, AreJoined, AreNumbered, Goes, GoesOn, Good, Grows, IsDecided, IsElabFault, IsPlaced, IsReaders, IsShadowed, Leaves, OrMemory, ReadsTree, SettlesOver, asked_by, faults_over, file_at, file_over, file_shape, named_trees, texts, trees_of, with_next};
+ghost use Rattle.protobuf_parse.specs.Loading.{AreKnown, AreJoined, AreNumbered, Goes, GoesOn, Good, Grows, IsDecided, IsElabFault, IsPlaced, IsReaders, IsShadowed, Leaves, OrMemory, ReadsTree, SettlesOver, asked_by, faults_over, file_at, file_over, file_shape, legal_by, named_trees, texts, trees_of, with_next};
 ghost use Rattle.protobuf_parse.specs.Frames.{Joined, Meets, is_public_at, number_if, StandsMet, path_of};
 
 use crate::run::asking::{answer, content, opened, origin, unreadable};
@@ -185,7 +185,7 @@ fn check_loaded<R: ProtoPathResolver, I: InputReader>(
     ensures grows { Grows loader.old.reads.items loader.new.reads.items }
     ensures more { length loader.old.reads.items ≤ length loader.new.reads.items }
     ensures goes { (files : Files) (kept : List Event)
-        → let legal = MayAnswer (λ p a. R.may_answer sources.now.resolver.now p a) (λ p a. I.may_read sources.now.reader.now p a) in
+        → let legal = legal_by R.may_answer I.may_read sources.now in
         GoesOn files (rows sources.now.bundled.now) loader.new.reads.items
         → Good legal files kept loader.old.loaded.entries loader.old.reads.items []
         → Goes legal files (kept ++ checks kept (at (path_buf_text name.now) fs_path.now)) loader.new.loaded.entries loader.new.reads.items result }
@@ -291,7 +291,7 @@ fn load_file<R: ProtoPathResolver, I: InputReader>(
     ensures bound { OnOk result (loader.new.meets + length loader.old.reads.items * 2 ^ 64
         ≤ loader.old.meets + 1 + length loader.new.reads.items * 2 ^ 64) }
     ensures leaves { (files : Files) (kept : List Event)
-        → let legal = MayAnswer (λ p a. R.may_answer sources.now.resolver.now p a) (λ p a. I.may_read sources.now.reader.now p a) in
+        → let legal = legal_by R.may_answer I.may_read sources.now in
         let p = path_buf_text input.now in
         GoesOn files (rows sources.now.bundled.now) loader.new.reads.items
         → Good legal files kept loader.old.loaded.entries loader.old.reads.items []
@@ -299,7 +299,7 @@ fn load_file<R: ProtoPathResolver, I: InputReader>(
         (keep kept (walk files.trees p (asked_by fs_path.entry) LIMIT [] p))
         (file_shape files.trees p) loader.new.loaded.entries loader.new.reads.items [] result }
     ensures count { (files : Files) (kept : List Event)
-        → let legal = MayAnswer (λ p a. R.may_answer sources.now.resolver.now p a) (λ p a. I.may_read sources.now.reader.now p a) in
+        → let legal = legal_by R.may_answer I.may_read sources.now in
         let p = path_buf_text input.now in
         GoesOn files (rows sources.now.bundled.now) loader.new.reads.items
         → Good legal files kept loader.old.loaded.entries loader.old.reads.items []
@@ -359,7 +359,7 @@ fn meet<R: ProtoPathResolver, I: InputReader>(
         → IsDecided (rows sources.now.bundled.now) loader.new.reads.items }
     ensures stands { StandsMet (texts loader.old.chain.items) (path_buf_text path.now) loader.old.loaded.entries loader.old.reads.items (texts loader.new.chain.items) loader.new.reads.items result }
     ensures leaves { (files : Files) (kept : List Event)
-        → let legal = MayAnswer (λ p a. R.may_answer sources.now.resolver.now p a) (λ p a. I.may_read sources.now.reader.now p a) in
+        → let legal = legal_by R.may_answer I.may_read sources.now in
         GoesOn files (rows sources.now.bundled.now) loader.new.reads.items
         → Good legal files kept loader.old.loaded.entries loader.old.reads.items (texts loader.old.chain.items)
         → Meets legal files kept (path_buf_text input.now) (asked_by fs_path.entry) (texts loader.old.chain.items) (path_buf_text path.now) loader.old.loaded.entries loader.new.reads.items result }
@@ -500,7 +500,7 @@ fn is_on_chain(chain: &[String], path: &str) -> bool
 }
 
 /// Where the file of this path stands, if it is loaded.
-pub fn place_of(loaded: &LoadedFiles, path: &str) -> Option<Placed>
+fn place_of(loaded: &LoadedFiles, path: &str) -> Option<Placed>
     ensures { IsPlaced path.now loaded.now.entries result }
 {
     match loaded.get_full(path) {
@@ -532,7 +532,7 @@ fn read_tree<R: ProtoPathResolver, I: InputReader>(
     ensures names { loader.new.names ≡ loader.old.names }
     ensures chain { loader.new.chain ≡ loader.old.chain }
     ensures meets { loader.new.meets ≡ loader.old.meets }
-    ensures read { ReadsTree (MayAnswer (λ p a. R.may_answer sources.now.resolver.now p a) (λ p a. I.may_read sources.now.reader.now p a)) (rows sources.now.bundled.now) (asked_by fs_path.entry) (path_buf_text path.now) loader.old.reads.items loader.new.reads.items result }
+    ensures read { ReadsTree (legal_by R.may_answer I.may_read sources.now) (rows sources.now.bundled.now) (asked_by fs_path.entry) (path_buf_text path.now) loader.old.reads.items loader.new.reads.items result }
 {
     let outcome = answer(alloc, sources, path, fs_path)?;
     let tree = opened(alloc, sources, path.as_path().to_str(), fs_path, &outcome);
