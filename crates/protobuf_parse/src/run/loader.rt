@@ -602,11 +602,7 @@ fn settle(
 }
 
 /// Adds a file to the loaded ones.
-fn add(
-    loaded: &mut LoadedFiles,
-    path: String,
-    file: LoadedFile,
-) -> Result<Placed, AllocError>
+fn add(loaded: &mut LoadedFiles, path: String, file: LoadedFile) -> Result<Placed, AllocError>
     ensures height { IfOk result (λ placed. placed.height ≡ file.height) }
     ensures added { IfOk result (λ placed. file_at (string_bytes path) loaded.old.entries ≡ None
         → (loaded.new.entries ≡ loaded.old.entries ++ (path, file) ∷ []) × (placed.number ≡ length loaded.old.entries)) }

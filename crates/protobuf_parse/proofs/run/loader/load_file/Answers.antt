@@ -31,7 +31,6 @@ returns-in_err-first-clause-count g c files kept go good =
     let m = count-grows files.trees kept (walk files.trees (path_buf_text c.args.input.now) (asked_by c.args.fs_path) 100 [] (path_buf_text c.args.input.now)) in
     rw p.1 (omega (arith, m, c.meet.ensures.meets))
 
-
 pub files-init : goal.files-init
 files-init g c =
     let none = ap texts c.requires.chain in
@@ -61,7 +60,6 @@ files-init g c =
           rw (empty, same) (running-start legal files kept (path_buf_text c.args.input.now) (asked_by c.args.fs_path) (path_buf_text c.args.input.now) _ _ _ c.in-Opened.frame _ _ _ c.meet.ensures.meets k o);
     }
 
-
 pub meet-requires-in-files-clause-chain : goal.meet-requires-in-files-clause-chain
 meet-requires-in-files-clause-chain g c =
     let e = ap length c.files.invariant.chain in
@@ -69,7 +67,6 @@ meet-requires-in-files-clause-chain g c =
     let h = length-chain_of [] c.files.stack.items in
     let n = texts-length c.files.loader.chain.items in
     omega (arith, e, f, h, n, c.files.invariant.low)
-
 
 pub returns-in_err-met-clause-leaves : goal.returns-in_err-met-clause-leaves
 returns-in_err-met-clause-leaves g c files kept go good =
@@ -80,7 +77,6 @@ returns-in_err-met-clause-leaves g c files kept go good =
     let p = err_from_is_err_and c.from_residual-in_err-met.result c.from_residual-in_err-met.ensures.1 in
     rw (p.1, p.2) (running-stops legal files kept _ (path_buf_text c.args.input.now) c.args.loader.now.meets c.files.stack.items c.files.top c.in-Import.import _ (texts c.files.loader.chain.items) _ _ _ c.in_err-met.field-0.0 r c.files.invariant.chain at (λ x. c.in_err-met.ensures.leaves files r.now go x))
 
-
 pub returns-in_err-met-clause-count : goal.returns-in_err-met-clause-count
 returns-in_err-met-clause-count g c files kept go good =
     let at : slice_get c.files.top.tree.statements.items c.files.top.next ≡ Some (file_statement.Import c.in-Import.import) = at_get c.files.top.tree.statements.items c.files.top.next c.in-Some.statement.now (rw c.deref.ensures.value at c.in-Some.ensures.lookup.3.0) (rw c.deref.ensures.value at c.in-Some.ensures.lookup.1) ∙ ap Some c.in-Import.is in
@@ -90,14 +86,12 @@ returns-in_err-met-clause-count g c files kept go good =
     let p = err_from_is_err_and c.from_residual-in_err-met.result c.from_residual-in_err-met.ensures.1 in
     rw p.1 (counted-next legal files kept _ (path_buf_text c.args.input.now) c.args.loader.now.meets c.files.stack.items c.files.top c.in-Import.import _ _ _ _ r at c.meet-in-files.ensures.meets)
 
-
 pub files-smaller-in-Continue-branch-5 : goal.files-smaller-in-Continue-branch-5
 files-smaller-in-Continue-branch-5 g c =
     let at : slice_get c.files.top.tree.statements.items c.files.top.next ≡ Some (file_statement.Import c.in-Import.import) = at_get c.files.top.tree.statements.items c.files.top.next c.in-Some.statement.now (rw c.deref.ensures.value at c.in-Some.ensures.lookup.3.0) (rw c.deref.ensures.value at c.in-Some.ensures.lookup.1) ∙ ap Some c.in-Import.is in
     let j : Joined c.files.top c.in-Loaded-met.placed c.join-in-Loaded-met.new.frame = c.in_ok-join-in-Loaded-met.ensures in
     let lt = slice_get_within c.files.top.tree.statements.items c.files.top.next (file_statement.Import c.in-Import.import) at in
     less-next c.files.stack.items c.files.top c.join-in-Loaded-met.new.frame j.tree_is j.next lt
-
 
 pub files-preserved-in-Continue-branch-5 : goal.files-preserved-in-Continue-branch-5
 files-preserved-in-Continue-branch-5 g c =
@@ -133,7 +127,6 @@ files-preserved-in-Continue-branch-5 g c =
           rw same (running-known legal files kept _ (path_buf_text c.args.input.now) c.args.loader.now.meets c.files.stack.items c.files.top c.join-in-Loaded-met.new.frame c.in-Loaded-met.placed c.in-Import.import _ _ (texts c.files.loader.chain.items) _ _ _ r c.files.invariant.chain at c.meet-in-files.ensures.meets c.meet-in-files.ensures.grows (λ x. rw c.in-Loaded-met.is at (c.in_ok-met.ensures.leaves files r.now go x)) j);
     }
 
-
 pub returns-in_err-join-in-Loaded-met-clause-leaves : goal.returns-in_err-join-in-Loaded-met-clause-leaves
 returns-in_err-join-in-Loaded-met-clause-leaves g c files kept go good =
     let legal = legal_by g.R.ProtoPathResolver.may_answer g.I.InputReader.may_read c.args.sources.now in
@@ -141,7 +134,6 @@ returns-in_err-join-in-Loaded-met-clause-leaves g c files kept go good =
     let r = c.files.invariant.inside files kept back good in
     let p = err_from_is_err_and c.from_residual-in_err-join-in-Loaded-met.result c.from_residual-in_err-join-in-Loaded-met.ensures.1 in
     rw p.1 (known-breaks legal files kept _ (path_buf_text c.args.input.now) c.args.loader.now.meets c.files.stack.items c.files.top c.in-Loaded-met.placed (path_buf_text c.in-Import.import.path) _ (texts c.files.loader.chain.items) _ _ _ p.0 r c.files.invariant.chain (λ x. rw c.in-Loaded-met.is at (c.in_ok-met.ensures.leaves files r.now go x)) p.2)
-
 
 pub returns-in_err-join-in-Loaded-met-clause-count : goal.returns-in_err-join-in-Loaded-met-clause-count
 returns-in_err-join-in-Loaded-met-clause-count g c files kept go good =
@@ -151,7 +143,6 @@ returns-in_err-join-in-Loaded-met-clause-count g c files kept go good =
     let r = c.files.invariant.inside files kept back good in
     let p = err_from_is_err_and c.from_residual-in_err-join-in-Loaded-met.result c.from_residual-in_err-join-in-Loaded-met.ensures.1 in
     rw p.1 (counted-next legal files kept _ (path_buf_text c.args.input.now) c.args.loader.now.meets c.files.stack.items c.files.top c.in-Import.import _ _ _ _ r at c.meet-in-files.ensures.meets)
-
 
 pub returns-in_err-push-in-Opened-met-clause-leaves : goal.returns-in_err-push-in-Opened-met-clause-leaves
 returns-in_err-push-in-Opened-met-clause-leaves g c files kept go good =
@@ -163,7 +154,6 @@ returns-in_err-push-in-Opened-met-clause-leaves g c files kept go good =
     let p = err_from_is_err_and c.from_residual-in_err-push-in-Opened-met.result c.from_residual-in_err-push-in-Opened-met.ensures.1 in
     rw p.1 (running-breaks legal files kept _ (path_buf_text c.args.input.now) c.args.loader.now.meets (c.files.stack.items ++ c.files.top ∷ []) c.in-Opened-met.frame _ _ _ p.0 (running-new legal files kept _ (path_buf_text c.args.input.now) c.args.loader.now.meets c.files.stack.items c.files.top c.in-Opened-met.frame c.in-Import.import _ _ (texts c.files.loader.chain.items) _ _ _ _ r c.files.invariant.chain at c.meet-in-files.ensures.meets c.meet-in-files.ensures.grows (λ x. rw c.in-Opened-met.is at (c.in_ok-met.ensures.leaves files r.now go x)) o) p.2)
 
-
 pub returns-in_err-push-in-Opened-met-clause-count : goal.returns-in_err-push-in-Opened-met-clause-count
 returns-in_err-push-in-Opened-met-clause-count g c files kept go good =
     let at : slice_get c.files.top.tree.statements.items c.files.top.next ≡ Some (file_statement.Import c.in-Import.import) = at_get c.files.top.tree.statements.items c.files.top.next c.in-Some.statement.now (rw c.deref.ensures.value at c.in-Some.ensures.lookup.3.0) (rw c.deref.ensures.value at c.in-Some.ensures.lookup.1) ∙ ap Some c.in-Import.is in
@@ -172,7 +162,6 @@ returns-in_err-push-in-Opened-met-clause-count g c files kept go good =
     let r = c.files.invariant.inside files kept back good in
     let p = err_from_is_err_and c.from_residual-in_err-push-in-Opened-met.result c.from_residual-in_err-push-in-Opened-met.ensures.1 in
     rw p.1 (counted-next legal files kept _ (path_buf_text c.args.input.now) c.args.loader.now.meets c.files.stack.items c.files.top c.in-Import.import _ _ _ _ r at c.meet-in-files.ensures.meets)
-
 
 pub files-smaller : goal.files-smaller
 files-smaller g c =
@@ -187,7 +176,6 @@ files-smaller g c =
     let small : length v.items < 2 ^ 64 = omega (arith, v.ok.0, v.ok.1, v.small) in
     let room : length c.files.stack.items + 1 < 100 = omega (arith, e, f, h, n, o.room) in
     rw (pushed, after) (less-new c.files.stack.items c.files.top c.in-Opened-met.frame small o.next room)
-
 
 pub files-preserved : goal.files-preserved
 files-preserved g c =
@@ -229,14 +217,12 @@ files-preserved g c =
           rw (pushed, after, same) (running-new legal files kept _ (path_buf_text c.args.input.now) c.args.loader.now.meets c.files.stack.items c.files.top c.in-Opened-met.frame c.in-Import.import _ _ (texts c.files.loader.chain.items) _ _ _ _ r c.files.invariant.chain at c.meet-in-files.ensures.meets c.meet-in-files.ensures.grows (λ x. rw c.in-Opened-met.is at (c.in_ok-met.ensures.leaves files r.now go x)) o);
     }
 
-
 pub files-smaller-in_default-statement : goal.files-smaller-in_default-statement
 files-smaller-in_default-statement g c =
     let at : slice_get c.files.top.tree.statements.items c.files.top.next ≡ Some c.in-Some.statement.now = at_get c.files.top.tree.statements.items c.files.top.next c.in-Some.statement.now (rw c.deref.ensures.value at c.in-Some.ensures.lookup.3.0) (rw c.deref.ensures.value at c.in-Some.ensures.lookup.1) in
     let other : (i : Import) → c.in-Some.statement.now ≡ file_statement.Import i → ⊥ = c.in_default-statement.not-Import in
     let next : LoadFrame = record c.files.top { next = c.files.top.next + 1 } in
     less-next c.files.stack.items c.files.top next refl (add-one c.files.top.next) (slice_get_within c.files.top.tree.statements.items c.files.top.next c.in-Some.statement.now at)
-
 
 pub files-preserved-in_default-statement : goal.files-preserved-in_default-statement
 files-preserved-in_default-statement g c =
@@ -264,7 +250,6 @@ files-preserved-in_default-statement g c =
           running-other legal files kept _ (path_buf_text c.args.input.now) c.args.loader.now.meets c.files.stack.items c.files.top next c.in-Some.statement.now _ _ _ (c.files.invariant.inside files kept go good) at other is;
     }
 
-
 pub returns-in_err-placed-clause-leaves : goal.returns-in_err-placed-clause-leaves
 returns-in_err-placed-clause-leaves g c files kept go good =
     let le : length c.files.top.tree.statements.items ≤ c.files.top.next = (rw c.deref.ensures.value at c.in_default.ensures.lookup.3) in
@@ -277,7 +262,6 @@ returns-in_err-placed-clause-leaves g c files kept go good =
     let p = err_from_is_err_and c.from_residual-in_err-placed.result c.from_residual-in_err-placed.ensures.1 in
     rw (p.1, p.2, reads) (running-refused legal files kept _ (path_buf_text c.args.input.now) c.args.loader.now.meets c.files.stack.items c.files.top _ _ _ c.in_err-placed.field-0.0 r le k)
 
-
 pub returns-in_err-placed-clause-count : goal.returns-in_err-placed-clause-count
 returns-in_err-placed-clause-count g c files kept go good =
     let reads = ap (λ (w : Vec ReadEntry). w.items) c.close.ensures.reads in
@@ -287,12 +271,10 @@ returns-in_err-placed-clause-count g c files kept go good =
     let p = err_from_is_err_and c.from_residual-in_err-placed.result c.from_residual-in_err-placed.ensures.1 in
     rw (p.1, c.close.ensures.meets) (counted-now legal files kept _ (path_buf_text c.args.input.now) c.args.loader.now.meets c.files.stack.items c.files.top _ _ _ r)
 
-
 pub returns-in_err-placed-clause-decided : goal.returns-in_err-placed-clause-decided
 returns-in_err-placed-clause-decided g c d =
     let reads = ap (λ (w : Vec ReadEntry). w.items) c.close.ensures.reads in
     decided-same (rows c.args.sources.now.bundled.now) _ _ reads (c.files.invariant.decided d)
-
 
 pub returns-in_default-pop-clause-leaves : goal.returns-in_default-pop-clause-leaves
 returns-in_default-pop-clause-leaves g c files kept go good =
@@ -308,7 +290,6 @@ returns-in_default-pop-clause-leaves g c files kept go good =
     let is : path_of c.files.top ≡ path_buf_text c.args.input.now = (rw empty at c.files.invariant.lowest) in
     rw reads (running-end legal files kept _ (path_buf_text c.args.input.now) c.args.loader.now.meets c.files.stack.items c.files.top c.in_ok-placed.placed (path_buf_text c.args.input.now) _ _ _ _ r empty le is k)
 
-
 pub returns-in_default-pop-clause-count : goal.returns-in_default-pop-clause-count
 returns-in_default-pop-clause-count g c files kept go good =
     let le : length c.files.top.tree.statements.items ≤ c.files.top.next = (rw c.deref.ensures.value at c.in_default.ensures.lookup.3) in
@@ -320,19 +301,16 @@ returns-in_default-pop-clause-count g c files kept go good =
     let r = (rw empty at (c.files.invariant.inside files kept back good)) in
     rw c.close.ensures.meets (counted-end legal files kept _ (path_buf_text c.args.input.now) c.args.loader.now.meets c.files.top _ _ _ r le)
 
-
 pub returns-in_default-pop-clause-decided : goal.returns-in_default-pop-clause-decided
 returns-in_default-pop-clause-decided g c d =
     let reads = ap (λ (w : Vec ReadEntry). w.items) c.close.ensures.reads in
     decided-same (rows c.args.sources.now.bundled.now) _ _ reads (c.files.invariant.decided d)
-
 
 pub returns-in_default-pop-clause-chain : goal.returns-in_default-pop-clause-chain
 returns-in_default-pop-clause-chain g c =
     let zero_left : length c.files.stack.items ≡ 0 = omega (arith, c.in_default-pop.ensures.cases.0, c.files.stack.ok.0) in
     let empty : c.files.stack.items ≡ [] = none_of c.files.stack.items zero_left in
     none-texts _ (c.close.ensures.chain [] (c.files.invariant.chain ∙ ap (λ z. chain_of [] z ++ path_of c.files.top ∷ []) empty))
-
 
 pub returns-in_default-pop-clause-known : goal.returns-in_default-pop-clause-known
 returns-in_default-pop-clause-known g c =
@@ -341,13 +319,11 @@ returns-in_default-pop-clause-known g c =
     let cl = closed-is c.files.top _ _ _ _ _ (chain_of [] c.files.stack.items) c.in_ok-placed.placed c.files.invariant.known c.files.invariant.taken c.files.invariant.unloaded c.files.invariant.off le (c.in_ok-placed.ensures.settles c.files.invariant.known.tells) in
     rw reads cl.known
 
-
 pub join-requires : goal.join-requires
 join-requires g c =
     let s : c.files.stack.items ≡ c.pop.new.self.items ++ c.in-Some-pop.parent ∷ [] = c.in-Some-pop.ensures.items in
     let w = waiting-pop [] c.pop.new.self.items c.in-Some-pop.parent (path_of c.files.top) (rw s at c.files.invariant.waiting) in
     slice_get_within c.in-Some-pop.parent.tree.statements.items c.in-Some-pop.parent.next (file_statement.Import w.1.import) w.1.at
-
 
 pub files-smaller-in_default : goal.files-smaller-in_default
 files-smaller-in_default g c =
@@ -356,7 +332,6 @@ files-smaller-in_default g c =
     let j : Joined c.in-Some-pop.parent c.in_ok-placed.placed c.join.new.frame = c.in_ok-join.ensures in
     let lt = slice_get_within c.in-Some-pop.parent.tree.statements.items c.in-Some-pop.parent.next (file_statement.Import w.1.import) w.1.at in
     rw s (less-close c.pop.new.self.items c.files.top c.in-Some-pop.parent c.join.new.frame c.in_ok-placed.placed j lt)
-
 
 pub files-preserved-in_default : goal.files-preserved-in_default
 files-preserved-in_default g c =
@@ -397,7 +372,6 @@ files-preserved-in_default g c =
           rw (reads, c.close.ensures.meets) (running-close legal files kept _ (path_buf_text c.args.input.now) c.args.loader.now.meets c.pop.new.self.items c.files.stack.items c.files.top c.in-Some-pop.parent c.join.new.frame c.in_ok-placed.placed w.1.import _ _ _ _ r s le k w.1.at w.1.named j);
     }
 
-
 pub returns-in_err-join-clause-leaves : goal.returns-in_err-join-clause-leaves
 returns-in_err-join-clause-leaves g c files kept go good =
     let le : length c.files.top.tree.statements.items ≤ c.files.top.next = (rw c.deref.ensures.value at c.in_default.ensures.lookup.3) in
@@ -410,7 +384,6 @@ returns-in_err-join-clause-leaves g c files kept go good =
     let p = err_from_is_err_and c.from_residual-in_err-join.result c.from_residual-in_err-join.ensures.1 in
     rw (p.1, reads) (closed-breaks legal files kept _ (path_buf_text c.args.input.now) c.args.loader.now.meets c.files.stack.items c.files.top c.in_ok-placed.placed _ _ _ _ p.0 r le k p.2)
 
-
 pub returns-in_err-join-clause-count : goal.returns-in_err-join-clause-count
 returns-in_err-join-clause-count g c files kept go good =
     let reads = ap (λ (w : Vec ReadEntry). w.items) c.close.ensures.reads in
@@ -420,24 +393,19 @@ returns-in_err-join-clause-count g c files kept go good =
     let p = err_from_is_err_and c.from_residual-in_err-join.result c.from_residual-in_err-join.ensures.1 in
     rw (p.1, c.close.ensures.meets) (counted-now legal files kept _ (path_buf_text c.args.input.now) c.args.loader.now.meets c.files.stack.items c.files.top _ _ _ r)
 
-
 pub returns-in_err-join-clause-decided : goal.returns-in_err-join-clause-decided
 returns-in_err-join-clause-decided g c d =
     let reads = ap (λ (w : Vec ReadEntry). w.items) c.close.ensures.reads in
     decided-same (rows c.args.sources.now.bundled.now) _ _ reads (c.files.invariant.decided d)
 
-
 pub returns-in_err-met-clause-decided : goal.returns-in_err-met-clause-decided
 returns-in_err-met-clause-decided g c d =
     c.meet-in-files.ensures.decided (c.files.invariant.decided d)
-
 
 pub returns-in_err-join-in-Loaded-met-clause-decided : goal.returns-in_err-join-in-Loaded-met-clause-decided
 returns-in_err-join-in-Loaded-met-clause-decided g c d =
     c.meet-in-files.ensures.decided (c.files.invariant.decided d)
 
-
 pub returns-in_err-push-in-Opened-met-clause-decided : goal.returns-in_err-push-in-Opened-met-clause-decided
 returns-in_err-push-in-Opened-met-clause-decided g c d =
     c.meet-in-files.ensures.decided (c.files.invariant.decided d)
-
