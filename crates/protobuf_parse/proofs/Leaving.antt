@@ -1,6 +1,6 @@
 -- What a call that loads a file leaves, at each of its ends.
-use Rattle.std.proofs.Common.{◌≡◌, ℕ, suc, ◌+◌, ◌-◌, ◌<◌, Bool, true, false, inl, inr, List, [], ◌∷◌, ◌++◌, map, Option, Some, None, Result, Ok, Err, refl, sym, ◌∙◌, ap, subst, length, arith, take, drop, get_or, drop-cons, not}
-use Rattle.std.specs.Prelude.{String, string_bytes, OnOk}
+use Rattle.std.proofs.Common.{◌≡◌, ℕ, suc, ◌+◌, ◌-◌, ◌<◌, Bool, true, false, inl, inr, List, [], ◌∷◌, ◌++◌, map, Option, Some, None, Ok, Err, refl, sym, ◌∙◌, ap, subst, length, arith, take, drop, get_or, drop-cons, not}
+use Rattle.std.specs.Prelude.{String, string_bytes}
 use Rattle.std.specs.Global.{Global}
 use Rattle.std.proofs.lemmas.List.{length-map, map-append, length_push, take_at, take_more, take-append-drop}
 use Rattle.protobuf_parse_syntax.specs.Trees.{file_view}
@@ -36,10 +36,6 @@ split-at f xs n b lt is =
 
 pub next-at : {A B : Type 0} (f : A → B) (xs : List A) (n : ℕ) (b : A) → n < length xs → b ≡ get_or xs n b → map f (take (n + 1) xs) ≡ map f (take n xs) ++ f b ∷ []
 next-at f xs n b lt is = ap (map f) (take_more xs n b lt) ∙ (map-append f (take n xs) (get_or xs n b ∷ []) ∙ ap (λ z. map f (take n xs) ++ f z ∷ []) (sym is))
-
-pub on_ok : {X E P : Type 0} (r : Result X E) → P → OnOk r P
-on_ok (Ok x) p = p
-on_ok (Err e) p = tt
 
 -- the last is taken off again
 pub popped : {A : Type 0} (xs ys zs : List A) (x : A) (n : ℕ) → ys ≡ xs ++ x ∷ [] → n ≡ length ys → zs ≡ take (n - 1) ys → zs ≡ xs

@@ -31,11 +31,16 @@ use Rattle.std.specs.Str.{IsUtf8}
 use Rattle.protobuf_parse.specs.declared.run.fault.ResolveFault.{ResolveFault}
 use Rattle.protobuf_parse.specs.declared.run.fault.ReadInputFault.{ReadInputFault}
 use Rattle.protobuf_parse.specs.declared.run.log.ReadOutcome.TheVariants as outcome
-use Rattle.protobuf_parse.specs.Run.{Files, AreListed, HasTrees, faults_in, IsTheTree, text_read, environment_of, first_read, fails, said, text_given, origin_given, Answers, StandsAt, StandsInLoad, StandsInElab, IsUnparsed}
+use Rattle.protobuf_parse.specs.declared.run.source.Sources.{Sources}
+use Rattle.protobuf_parse.specs.Run.{Files, MayAnswer, MayRead, MayResolve, AreListed, HasTrees, faults_in, IsTheTree, text_read, environment_of, first_read, fails, said, text_given, origin_given, Answers, StandsAt, StandsInLoad, StandsInElab, IsUnparsed}
 
 -- the answers that who is asked for a path may give
 abbrev pub Legal : Type 1
 Legal = Asked → Text → ReadOutcome → Type 0
+
+-- the answers that may be given by those whom a run asks: its resolver, which may answer so, and its reader, which may so
+abbrev pub legal_by : {R I : Type 0} → (R → MayResolve) → (I → MayRead) → Sources R I → Legal
+legal_by may_answer may_read sources = MayAnswer (may_answer sources.resolver.now) (may_read sources.reader.now)
 
 -- the events of a walk, by its input, who is asked, the room and the chain
 abbrev pub Shape : Type 0

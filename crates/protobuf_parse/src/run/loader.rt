@@ -17,7 +17,7 @@ ghost use Rattle.protobuf_parse.specs.declared.run.log.ReadEntry.{ReadEntry};
 ghost use Rattle.protobuf_parse_model.specs.Descriptors.{Text};
 ghost use Rattle.protobuf_parse.specs.Walks.{Event, among, at, checks, events, input_walk, keep, statements, walk};
 ghost use Rattle.protobuf_parse.specs.Run.{Files, IsCounted, MayAnswer, are_same_bytes, input_view, StandsInCheck, StandsInCycle, StandsInElab, StandsInLong, origin_given, rows, text_given};
-ghost use Rattle.protobuf_parse.specs.Loading.{AreKnown, AreJoined, AreNumbered, Goes, GoesOn, Good, Grows, IsDecided, IsElabFault, IsPlaced, IsReaders, IsShadowed, Leaves, OrMemory, ReadsTree, SettlesOver, asked_by, faults_over, file_at, file_over, file_shape, named_trees, texts, trees_of, with_next};
+ghost use Rattle.protobuf_parse.specs.Loading.{AreKnown, AreJoined, AreNumbered, Goes, GoesOn, Good, Grows, IsDecided, IsElabFault, IsPlaced, IsReaders, IsShadowed, Leaves, OrMemory, ReadsTree, SettlesOver, asked_by, faults_over, file_at, file_over, file_shape, legal_by, named_trees, texts, trees_of, with_next};
 ghost use Rattle.protobuf_parse.specs.Frames.{Joined, Meets, is_public_at, number_if, StandsMet, path_of};
 
 use crate::run::asking::{answer, content, opened, origin, unreadable};
@@ -170,7 +170,7 @@ fn check_loaded<R: ProtoPathResolver, I: InputReader>(
     ensures grows { Grows loader.old.reads.items loader.new.reads.items }
     ensures more { length loader.old.reads.items ≤ length loader.new.reads.items }
     ensures goes { (files : Files) (kept : List Event)
-        → let legal = MayAnswer (λ p a. R.may_answer sources.now.resolver.now p a) (λ p a. I.may_read sources.now.reader.now p a) in
+        → let legal = legal_by R.may_answer I.may_read sources.now in
         GoesOn files (rows sources.now.bundled.now) loader.new.reads.items
         → Good legal files kept loader.old.loaded.entries loader.old.reads.items []
         → Goes legal files (kept ++ checks kept (at (path_buf_text name.now) fs_path.now)) loader.new.loaded.entries loader.new.reads.items result }
@@ -276,7 +276,7 @@ fn load_file<R: ProtoPathResolver, I: InputReader>(
     ensures bound { OnOk result (loader.new.meets + length loader.old.reads.items * 2 ^ 64
         ≤ loader.old.meets + 1 + length loader.new.reads.items * 2 ^ 64) }
     ensures leaves { (files : Files) (kept : List Event)
-        → let legal = MayAnswer (λ p a. R.may_answer sources.now.resolver.now p a) (λ p a. I.may_read sources.now.reader.now p a) in
+        → let legal = legal_by R.may_answer I.may_read sources.now in
         let p = path_buf_text input.now in
         GoesOn files (rows sources.now.bundled.now) loader.new.reads.items
         → Good legal files kept loader.old.loaded.entries loader.old.reads.items []
@@ -284,7 +284,7 @@ fn load_file<R: ProtoPathResolver, I: InputReader>(
         (keep kept (walk files.trees p (asked_by fs_path.entry) LIMIT [] p))
         (file_shape files.trees p) loader.new.loaded.entries loader.new.reads.items [] result }
     ensures count { (files : Files) (kept : List Event)
-        → let legal = MayAnswer (λ p a. R.may_answer sources.now.resolver.now p a) (λ p a. I.may_read sources.now.reader.now p a) in
+        → let legal = legal_by R.may_answer I.may_read sources.now in
         let p = path_buf_text input.now in
         GoesOn files (rows sources.now.bundled.now) loader.new.reads.items
         → Good legal files kept loader.old.loaded.entries loader.old.reads.items []
@@ -344,7 +344,7 @@ fn meet<R: ProtoPathResolver, I: InputReader>(
         → IsDecided (rows sources.now.bundled.now) loader.new.reads.items }
     ensures stands { StandsMet (texts loader.old.chain.items) (path_buf_text path.now) loader.old.loaded.entries loader.old.reads.items (texts loader.new.chain.items) loader.new.reads.items result }
     ensures leaves { (files : Files) (kept : List Event)
-        → let legal = MayAnswer (λ p a. R.may_answer sources.now.resolver.now p a) (λ p a. I.may_read sources.now.reader.now p a) in
+        → let legal = legal_by R.may_answer I.may_read sources.now in
         GoesOn files (rows sources.now.bundled.now) loader.new.reads.items
         → Good legal files kept loader.old.loaded.entries loader.old.reads.items (texts loader.old.chain.items)
         → Meets legal files kept (path_buf_text input.now) (asked_by fs_path.entry) (texts loader.old.chain.items) (path_buf_text path.now) loader.old.loaded.entries loader.new.reads.items result }
@@ -450,7 +450,7 @@ fn close(alloc: Global, loader: &mut Loader, frame: LoadFrame) -> Result<Placed,
         all: &below,
         public: &public,
     };
-    settle(alloc, loader, &path, tree, height + 1, &imports, read)
+    settle(alloc, loader, path, tree, height + 1, &imports, read)
 }
 
 /// L7.
@@ -485,7 +485,7 @@ fn is_on_chain(chain: &[String], path: &str) -> bool
 }
 
 /// Where the file of this path stands, if it is loaded.
-pub fn place_of(loaded: &LoadedFiles, path: &str) -> Option<Placed>
+fn place_of(loaded: &LoadedFiles, path: &str) -> Option<Placed>
     ensures { IsPlaced path.now loaded.now.entries result }
 {
     match loaded.get_full(path) {
@@ -517,7 +517,7 @@ fn read_tree<R: ProtoPathResolver, I: InputReader>(
     ensures names { loader.new.names ≡ loader.old.names }
     ensures chain { loader.new.chain ≡ loader.old.chain }
     ensures meets { loader.new.meets ≡ loader.old.meets }
-    ensures read { ReadsTree (MayAnswer (λ p a. R.may_answer sources.now.resolver.now p a) (λ p a. I.may_read sources.now.reader.now p a)) (rows sources.now.bundled.now) (asked_by fs_path.entry) (path_buf_text path.now) loader.old.reads.items loader.new.reads.items result }
+    ensures read { ReadsTree (legal_by R.may_answer I.may_read sources.now) (rows sources.now.bundled.now) (asked_by fs_path.entry) (path_buf_text path.now) loader.old.reads.items loader.new.reads.items result }
 {
     let outcome = answer(alloc, sources, path, fs_path)?;
     let tree = opened(alloc, sources, path.as_path().to_str(), fs_path, &outcome);
@@ -553,7 +553,7 @@ fn is_memory(fault: &RunFault) -> bool
 fn settle(
     alloc: Global,
     loader: &mut Loader,
-    path: &str,
+    path: String,
     tree: FileTree,
     height: usize,
     imports: &ImportNumbers<'_>,
@@ -565,11 +565,11 @@ fn settle(
     ensures meets { loader.new.meets ≡ loader.old.meets }
     ensures height { IfOk result (λ placed. placed.height ≡ height) }
     ensures settles { Tells loader.old.names (trees_of (named_trees loader.old.loaded.entries))
-        → SettlesOver path.now (file_view tree) height read imports.now.all.now imports.now.public.now loader.old.reads.items loader.old.loaded.entries loader.new.loaded.entries loader.new.names result }
+        → SettlesOver (string_bytes path) (file_view tree) height read imports.now.all.now imports.now.public.now loader.old.reads.items loader.old.loaded.entries loader.new.loaded.entries loader.new.names result }
 {
     let sights = sights_of(alloc, &loader.loaded, imports)?;
     loader.names.add(alloc, loader.loaded.len(), &tree)?;
-    let descriptor = descriptor_of(alloc, loader, &sights, path, &tree, read)?;
+    let descriptor = descriptor_of(alloc, loader, &sights, &path, &tree, read)?;
     let Sights {
         reach,
         handed_on,
@@ -583,25 +583,19 @@ fn settle(
         read,
         descriptor,
     };
-    let placed = add(alloc, &mut loader.loaded, path, file)?;
+    let placed = add(&mut loader.loaded, path, file)?;
     Ok(placed)
 }
 
 /// Adds a file to the loaded ones.
-fn add(
-    alloc: Global,
-    loaded: &mut LoadedFiles,
-    path: &str,
-    file: LoadedFile,
-) -> Result<Placed, AllocError>
+fn add(loaded: &mut LoadedFiles, path: String, file: LoadedFile) -> Result<Placed, AllocError>
     ensures height { IfOk result (λ placed. placed.height ≡ file.height) }
-    ensures added { IfOk result (λ placed. file_at path.now loaded.old.entries ≡ None
-        → (key : String Global) × (loaded.new.entries ≡ loaded.old.entries ++ (key, file) ∷ []) × (string_bytes key ≡ path.now) × (placed.number ≡ length loaded.old.entries)) }
+    ensures added { IfOk result (λ placed. file_at (string_bytes path) loaded.old.entries ≡ None
+        → (loaded.new.entries ≡ loaded.old.entries ++ (path, file) ∷ []) × (placed.number ≡ length loaded.old.entries)) }
 {
     let number = loaded.len();
     let height = file.height;
-    let key = String::from_str(alloc, path)?;
-    loaded.insert(key, file)?;
+    loaded.insert(path, file)?;
     Ok(Placed { number, height })
 }
 

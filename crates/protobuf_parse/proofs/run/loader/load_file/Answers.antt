@@ -10,8 +10,8 @@ use Rattle.protobuf_parse.specs.declared.run.frame.LoadFrame.{LoadFrame}
 use Rattle.protobuf_parse.specs.declared.run.loader.Met.TheVariants as met
 use Rattle.protobuf_parse.specs.declared.run.log.ReadEntry.{ReadEntry}
 use Rattle.protobuf_parse.specs.Walks.{walk}
-use Rattle.protobuf_parse.specs.Run.{MayAnswer, rows}
-use Rattle.protobuf_parse.specs.Loading.{Grows, MoreLoaded, asked_by, texts}
+use Rattle.protobuf_parse.specs.Run.{rows}
+use Rattle.protobuf_parse.specs.Loading.{legal_by, Grows, MoreLoaded, asked_by, texts}
 use Rattle.protobuf_parse.specs.Frames.{IsAgain, IsOpened, Joined, chain_of, imports_in, later_in, left_in, path_of, to_meet}
 use Rattle.protobuf_parse.proofs.Keeping.{among-last}
 use Rattle.protobuf_parse.proofs.Steps.{Grows-trans}
@@ -55,7 +55,7 @@ files-init g c =
       lowest = rw empty o.path_is;
       bound = rw empty (omega (arith, b, l, imports_in-shorter v.items, v.ok.0, v.ok.1, v.small, c.meet.ensures.meets));
       inside = λ files kept go good.
-          let legal = MayAnswer (λ p a. g.R.ProtoPathResolver.may_answer c.args.sources.now.resolver.now p a) (λ p a. g.I.InputReader.may_read c.args.sources.now.reader.now p a) in
+          let legal = legal_by g.R.ProtoPathResolver.may_answer g.I.InputReader.may_read c.args.sources.now in
           let k = first-meets legal files kept (path_buf_text c.args.input.now) (asked_by c.args.fs_path) _ _ _ _ (Ok (met.Opened c.in-Opened.frame)) none good (rw c.in-Opened.is at (c.in_ok-first.ensures.leaves files kept go)) in
           rw (empty, same) (running-start legal files kept (path_buf_text c.args.input.now) (asked_by c.args.fs_path) (path_buf_text c.args.input.now) _ _ _ c.in-Opened.frame _ _ _ c.meet.ensures.meets k o);
     }
@@ -71,7 +71,7 @@ meet-requires-in-files-clause-chain g c =
 pub returns-in_err-met-clause-leaves : goal.returns-in_err-met-clause-leaves
 returns-in_err-met-clause-leaves g c files kept go good =
     let at : slice_get c.files.top.tree.statements.items c.files.top.next ≡ Some (file_statement.Import c.in-Import.import) = at_get c.files.top.tree.statements.items c.files.top.next c.in-Some.statement.now (rw c.deref.ensures.value at c.in-Some.ensures.lookup.3.0) (rw c.deref.ensures.value at c.in-Some.ensures.lookup.1) ∙ ap Some c.in-Import.is in
-    let legal = MayAnswer (λ p a. g.R.ProtoPathResolver.may_answer c.args.sources.now.resolver.now p a) (λ p a. g.I.InputReader.may_read c.args.sources.now.reader.now p a) in
+    let legal = legal_by g.R.ProtoPathResolver.may_answer g.I.InputReader.may_read c.args.sources.now in
     let back = goes-back files _ _ _ c.meet-in-files.ensures.grows go in
     let r = c.files.invariant.inside files kept back good in
     let p = err_from_is_err_and c.from_residual-in_err-met.result c.from_residual-in_err-met.ensures.1 in
@@ -80,7 +80,7 @@ returns-in_err-met-clause-leaves g c files kept go good =
 pub returns-in_err-met-clause-count : goal.returns-in_err-met-clause-count
 returns-in_err-met-clause-count g c files kept go good =
     let at : slice_get c.files.top.tree.statements.items c.files.top.next ≡ Some (file_statement.Import c.in-Import.import) = at_get c.files.top.tree.statements.items c.files.top.next c.in-Some.statement.now (rw c.deref.ensures.value at c.in-Some.ensures.lookup.3.0) (rw c.deref.ensures.value at c.in-Some.ensures.lookup.1) ∙ ap Some c.in-Import.is in
-    let legal = MayAnswer (λ p a. g.R.ProtoPathResolver.may_answer c.args.sources.now.resolver.now p a) (λ p a. g.I.InputReader.may_read c.args.sources.now.reader.now p a) in
+    let legal = legal_by g.R.ProtoPathResolver.may_answer g.I.InputReader.may_read c.args.sources.now in
     let back = goes-back files _ _ _ c.meet-in-files.ensures.grows go in
     let r = c.files.invariant.inside files kept back good in
     let p = err_from_is_err_and c.from_residual-in_err-met.result c.from_residual-in_err-met.ensures.1 in
@@ -121,7 +121,7 @@ files-preserved-in-Continue-branch-5 g c =
       lowest = rw j.path_is c.files.invariant.lowest;
       bound = omega (arith, k, l, m, c.meet-in-files.ensures.meets, c.files.invariant.bound);
       inside = λ files kept go good.
-          let legal = MayAnswer (λ p a. g.R.ProtoPathResolver.may_answer c.args.sources.now.resolver.now p a) (λ p a. g.I.InputReader.may_read c.args.sources.now.reader.now p a) in
+          let legal = legal_by g.R.ProtoPathResolver.may_answer g.I.InputReader.may_read c.args.sources.now in
           let back = goes-back files _ _ _ c.meet-in-files.ensures.grows go in
           let r = c.files.invariant.inside files kept back good in
           rw same (running-known legal files kept _ (path_buf_text c.args.input.now) c.args.loader.now.meets c.files.stack.items c.files.top c.join-in-Loaded-met.new.frame c.in-Loaded-met.placed c.in-Import.import _ _ (texts c.files.loader.chain.items) _ _ _ r c.files.invariant.chain at c.meet-in-files.ensures.meets c.meet-in-files.ensures.grows (λ x. rw c.in-Loaded-met.is at (c.in_ok-met.ensures.leaves files r.now go x)) j);
@@ -129,7 +129,7 @@ files-preserved-in-Continue-branch-5 g c =
 
 pub returns-in_err-join-in-Loaded-met-clause-leaves : goal.returns-in_err-join-in-Loaded-met-clause-leaves
 returns-in_err-join-in-Loaded-met-clause-leaves g c files kept go good =
-    let legal = MayAnswer (λ p a. g.R.ProtoPathResolver.may_answer c.args.sources.now.resolver.now p a) (λ p a. g.I.InputReader.may_read c.args.sources.now.reader.now p a) in
+    let legal = legal_by g.R.ProtoPathResolver.may_answer g.I.InputReader.may_read c.args.sources.now in
     let back = goes-back files _ _ _ c.meet-in-files.ensures.grows go in
     let r = c.files.invariant.inside files kept back good in
     let p = err_from_is_err_and c.from_residual-in_err-join-in-Loaded-met.result c.from_residual-in_err-join-in-Loaded-met.ensures.1 in
@@ -138,7 +138,7 @@ returns-in_err-join-in-Loaded-met-clause-leaves g c files kept go good =
 pub returns-in_err-join-in-Loaded-met-clause-count : goal.returns-in_err-join-in-Loaded-met-clause-count
 returns-in_err-join-in-Loaded-met-clause-count g c files kept go good =
     let at : slice_get c.files.top.tree.statements.items c.files.top.next ≡ Some (file_statement.Import c.in-Import.import) = at_get c.files.top.tree.statements.items c.files.top.next c.in-Some.statement.now (rw c.deref.ensures.value at c.in-Some.ensures.lookup.3.0) (rw c.deref.ensures.value at c.in-Some.ensures.lookup.1) ∙ ap Some c.in-Import.is in
-    let legal = MayAnswer (λ p a. g.R.ProtoPathResolver.may_answer c.args.sources.now.resolver.now p a) (λ p a. g.I.InputReader.may_read c.args.sources.now.reader.now p a) in
+    let legal = legal_by g.R.ProtoPathResolver.may_answer g.I.InputReader.may_read c.args.sources.now in
     let back = goes-back files _ _ _ c.meet-in-files.ensures.grows go in
     let r = c.files.invariant.inside files kept back good in
     let p = err_from_is_err_and c.from_residual-in_err-join-in-Loaded-met.result c.from_residual-in_err-join-in-Loaded-met.ensures.1 in
@@ -147,7 +147,7 @@ returns-in_err-join-in-Loaded-met-clause-count g c files kept go good =
 pub returns-in_err-push-in-Opened-met-clause-leaves : goal.returns-in_err-push-in-Opened-met-clause-leaves
 returns-in_err-push-in-Opened-met-clause-leaves g c files kept go good =
     let at : slice_get c.files.top.tree.statements.items c.files.top.next ≡ Some (file_statement.Import c.in-Import.import) = at_get c.files.top.tree.statements.items c.files.top.next c.in-Some.statement.now (rw c.deref.ensures.value at c.in-Some.ensures.lookup.3.0) (rw c.deref.ensures.value at c.in-Some.ensures.lookup.1) ∙ ap Some c.in-Import.is in
-    let legal = MayAnswer (λ p a. g.R.ProtoPathResolver.may_answer c.args.sources.now.resolver.now p a) (λ p a. g.I.InputReader.may_read c.args.sources.now.reader.now p a) in
+    let legal = legal_by g.R.ProtoPathResolver.may_answer g.I.InputReader.may_read c.args.sources.now in
     let o : IsOpened (texts c.files.loader.chain.items) (path_buf_text c.in-Import.import.path) c.files.loader.loaded.entries c.files.loader.reads.items (texts c.meet-in-files.new.loader.chain.items) c.meet-in-files.new.loader.reads.items c.in-Opened-met.frame = (rw c.in-Opened-met.is at c.in_ok-met.ensures.stands) in
     let back = goes-back files _ _ _ c.meet-in-files.ensures.grows go in
     let r = c.files.invariant.inside files kept back good in
@@ -157,7 +157,7 @@ returns-in_err-push-in-Opened-met-clause-leaves g c files kept go good =
 pub returns-in_err-push-in-Opened-met-clause-count : goal.returns-in_err-push-in-Opened-met-clause-count
 returns-in_err-push-in-Opened-met-clause-count g c files kept go good =
     let at : slice_get c.files.top.tree.statements.items c.files.top.next ≡ Some (file_statement.Import c.in-Import.import) = at_get c.files.top.tree.statements.items c.files.top.next c.in-Some.statement.now (rw c.deref.ensures.value at c.in-Some.ensures.lookup.3.0) (rw c.deref.ensures.value at c.in-Some.ensures.lookup.1) ∙ ap Some c.in-Import.is in
-    let legal = MayAnswer (λ p a. g.R.ProtoPathResolver.may_answer c.args.sources.now.resolver.now p a) (λ p a. g.I.InputReader.may_read c.args.sources.now.reader.now p a) in
+    let legal = legal_by g.R.ProtoPathResolver.may_answer g.I.InputReader.may_read c.args.sources.now in
     let back = goes-back files _ _ _ c.meet-in-files.ensures.grows go in
     let r = c.files.invariant.inside files kept back good in
     let p = err_from_is_err_and c.from_residual-in_err-push-in-Opened-met.result c.from_residual-in_err-push-in-Opened-met.ensures.1 in
@@ -211,7 +211,7 @@ files-preserved g c =
       lowest = rw (pushed, after) (first_path-push c.files.stack.items c.files.top (path_of c.in-Opened-met.frame) ∙ c.files.invariant.lowest);
       bound = rw (pushed, after) (omega (arith, b, l, m, t, imports_in-shorter v.items, v.ok.0, v.ok.1, v.small, c.meet-in-files.ensures.meets, c.files.invariant.bound));
       inside = λ files kept go good.
-          let legal = MayAnswer (λ p a. g.R.ProtoPathResolver.may_answer c.args.sources.now.resolver.now p a) (λ p a. g.I.InputReader.may_read c.args.sources.now.reader.now p a) in
+          let legal = legal_by g.R.ProtoPathResolver.may_answer g.I.InputReader.may_read c.args.sources.now in
           let back = goes-back files _ _ _ c.meet-in-files.ensures.grows go in
           let r = c.files.invariant.inside files kept back good in
           rw (pushed, after, same) (running-new legal files kept _ (path_buf_text c.args.input.now) c.args.loader.now.meets c.files.stack.items c.files.top c.in-Opened-met.frame c.in-Import.import _ _ (texts c.files.loader.chain.items) _ _ _ _ r c.files.invariant.chain at c.meet-in-files.ensures.meets c.meet-in-files.ensures.grows (λ x. rw c.in-Opened-met.is at (c.in_ok-met.ensures.leaves files r.now go x)) o);
@@ -246,7 +246,7 @@ files-preserved-in_default-statement g c =
       lowest = c.files.invariant.lowest;
       bound = omega (arith, k, l, c.files.invariant.bound);
       inside = λ files kept go good.
-          let legal = MayAnswer (λ p a. g.R.ProtoPathResolver.may_answer c.args.sources.now.resolver.now p a) (λ p a. g.I.InputReader.may_read c.args.sources.now.reader.now p a) in
+          let legal = legal_by g.R.ProtoPathResolver.may_answer g.I.InputReader.may_read c.args.sources.now in
           running-other legal files kept _ (path_buf_text c.args.input.now) c.args.loader.now.meets c.files.stack.items c.files.top next c.in-Some.statement.now _ _ _ (c.files.invariant.inside files kept go good) at other is;
     }
 
@@ -254,7 +254,7 @@ pub returns-in_err-placed-clause-leaves : goal.returns-in_err-placed-clause-leav
 returns-in_err-placed-clause-leaves g c files kept go good =
     let le : length c.files.top.tree.statements.items ≤ c.files.top.next = (rw c.deref.ensures.value at c.in_default.ensures.lookup.3) in
     let reads = ap (λ (w : Vec ReadEntry). w.items) c.close.ensures.reads in
-    let legal = MayAnswer (λ p a. g.R.ProtoPathResolver.may_answer c.args.sources.now.resolver.now p a) (λ p a. g.I.InputReader.may_read c.args.sources.now.reader.now p a) in
+    let legal = legal_by g.R.ProtoPathResolver.may_answer g.I.InputReader.may_read c.args.sources.now in
     let none = c.files.invariant.unloaded (path_of c.files.top) (among-last (path_of c.files.top) (chain_of [] c.files.stack.items)) in
     let back = goes-same files _ _ _ reads go in
     let r = c.files.invariant.inside files kept back good in
@@ -265,7 +265,7 @@ returns-in_err-placed-clause-leaves g c files kept go good =
 pub returns-in_err-placed-clause-count : goal.returns-in_err-placed-clause-count
 returns-in_err-placed-clause-count g c files kept go good =
     let reads = ap (λ (w : Vec ReadEntry). w.items) c.close.ensures.reads in
-    let legal = MayAnswer (λ p a. g.R.ProtoPathResolver.may_answer c.args.sources.now.resolver.now p a) (λ p a. g.I.InputReader.may_read c.args.sources.now.reader.now p a) in
+    let legal = legal_by g.R.ProtoPathResolver.may_answer g.I.InputReader.may_read c.args.sources.now in
     let back = goes-same files _ _ _ reads go in
     let r = c.files.invariant.inside files kept back good in
     let p = err_from_is_err_and c.from_residual-in_err-placed.result c.from_residual-in_err-placed.ensures.1 in
@@ -282,7 +282,7 @@ returns-in_default-pop-clause-leaves g c files kept go good =
     let reads = ap (λ (w : Vec ReadEntry). w.items) c.close.ensures.reads in
     let zero_left : length c.files.stack.items ≡ 0 = omega (arith, c.in_default-pop.ensures.cases.0, c.files.stack.ok.0) in
     let empty : c.files.stack.items ≡ [] = none_of c.files.stack.items zero_left in
-    let legal = MayAnswer (λ p a. g.R.ProtoPathResolver.may_answer c.args.sources.now.resolver.now p a) (λ p a. g.I.InputReader.may_read c.args.sources.now.reader.now p a) in
+    let legal = legal_by g.R.ProtoPathResolver.may_answer g.I.InputReader.may_read c.args.sources.now in
     let none = c.files.invariant.unloaded (path_of c.files.top) (among-last (path_of c.files.top) (chain_of [] c.files.stack.items)) in
     let back = goes-same files _ _ _ reads go in
     let r = c.files.invariant.inside files kept back good in
@@ -296,7 +296,7 @@ returns-in_default-pop-clause-count g c files kept go good =
     let reads = ap (λ (w : Vec ReadEntry). w.items) c.close.ensures.reads in
     let zero_left : length c.files.stack.items ≡ 0 = omega (arith, c.in_default-pop.ensures.cases.0, c.files.stack.ok.0) in
     let empty : c.files.stack.items ≡ [] = none_of c.files.stack.items zero_left in
-    let legal = MayAnswer (λ p a. g.R.ProtoPathResolver.may_answer c.args.sources.now.resolver.now p a) (λ p a. g.I.InputReader.may_read c.args.sources.now.reader.now p a) in
+    let legal = legal_by g.R.ProtoPathResolver.may_answer g.I.InputReader.may_read c.args.sources.now in
     let back = goes-same files _ _ _ reads go in
     let r = (rw empty at (c.files.invariant.inside files kept back good)) in
     rw c.close.ensures.meets (counted-end legal files kept _ (path_buf_text c.args.input.now) c.args.loader.now.meets c.files.top _ _ _ r le)
@@ -364,7 +364,7 @@ files-preserved-in_default g c =
       lowest = rw j.path_is (sym (first_path-push c.pop.new.self.items c.in-Some-pop.parent (path_of c.files.top)) ∙ (rw s at c.files.invariant.lowest));
       bound = omega (arith, x, y, z, q, c.close.ensures.meets, c.files.invariant.bound);
       inside = λ files kept go good.
-          let legal = MayAnswer (λ p a. g.R.ProtoPathResolver.may_answer c.args.sources.now.resolver.now p a) (λ p a. g.I.InputReader.may_read c.args.sources.now.reader.now p a) in
+          let legal = legal_by g.R.ProtoPathResolver.may_answer g.I.InputReader.may_read c.args.sources.now in
           let none = c.files.invariant.unloaded (path_of c.files.top) (among-last (path_of c.files.top) (chain_of [] c.files.stack.items)) in
           let back = goes-same files _ _ _ reads go in
           let r = c.files.invariant.inside files kept back good in
@@ -376,7 +376,7 @@ pub returns-in_err-join-clause-leaves : goal.returns-in_err-join-clause-leaves
 returns-in_err-join-clause-leaves g c files kept go good =
     let le : length c.files.top.tree.statements.items ≤ c.files.top.next = (rw c.deref.ensures.value at c.in_default.ensures.lookup.3) in
     let reads = ap (λ (w : Vec ReadEntry). w.items) c.close.ensures.reads in
-    let legal = MayAnswer (λ p a. g.R.ProtoPathResolver.may_answer c.args.sources.now.resolver.now p a) (λ p a. g.I.InputReader.may_read c.args.sources.now.reader.now p a) in
+    let legal = legal_by g.R.ProtoPathResolver.may_answer g.I.InputReader.may_read c.args.sources.now in
     let none = c.files.invariant.unloaded (path_of c.files.top) (among-last (path_of c.files.top) (chain_of [] c.files.stack.items)) in
     let back = goes-same files _ _ _ reads go in
     let r = c.files.invariant.inside files kept back good in
@@ -387,7 +387,7 @@ returns-in_err-join-clause-leaves g c files kept go good =
 pub returns-in_err-join-clause-count : goal.returns-in_err-join-clause-count
 returns-in_err-join-clause-count g c files kept go good =
     let reads = ap (λ (w : Vec ReadEntry). w.items) c.close.ensures.reads in
-    let legal = MayAnswer (λ p a. g.R.ProtoPathResolver.may_answer c.args.sources.now.resolver.now p a) (λ p a. g.I.InputReader.may_read c.args.sources.now.reader.now p a) in
+    let legal = legal_by g.R.ProtoPathResolver.may_answer g.I.InputReader.may_read c.args.sources.now in
     let back = goes-same files _ _ _ reads go in
     let r = c.files.invariant.inside files kept back good in
     let p = err_from_is_err_and c.from_residual-in_err-join.result c.from_residual-in_err-join.ensures.1 in

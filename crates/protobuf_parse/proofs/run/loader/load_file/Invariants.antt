@@ -2,14 +2,14 @@ use Rattle.std.proofs.Common.{◌≡◌, ◌+◌, ◌*◌, ◌^◌, ◌<◌, ◌
 use Rattle.std.specs.List.{AllByRecursion}
 use Rattle.protobuf_parse_base.specs.PathViews.{path_buf_text}
 use Rattle.protobuf_parse.specs.Walks.{Event, among, keep, walk}
-use Rattle.protobuf_parse.specs.Run.{Files, MayAnswer, rows}
-use Rattle.protobuf_parse.specs.Loading.{AreKnown, AreUnloaded, GoesOn, Good, Grows, IsDecided, asked_by, texts}
+use Rattle.protobuf_parse.specs.Run.{Files, rows}
+use Rattle.protobuf_parse.specs.Loading.{legal_by, AreKnown, AreUnloaded, GoesOn, Good, Grows, IsDecided, asked_by, texts}
 use Rattle.protobuf_parse.specs.Frames.{AreWaiting, IsRunning, IsTaken, chain_of, first_path, left_in, left_over, path_of, to_meet}
 use Rattle.protobuf_parse.proofs.run.loader.load_file.Given as goal
 
 abbrev pub invariant-files : goal.invariant-files
 invariant-files g l =
-    let legal = MayAnswer (λ p a. g.R.ProtoPathResolver.may_answer l.sources.resolver.now p a) (λ p a. g.I.InputReader.may_read l.sources.reader.now p a) in
+    let legal = legal_by g.R.ProtoPathResolver.may_answer g.I.InputReader.may_read l.sources in
     record {
       chain : texts l.loader.chain.items ≡ chain_of [] l.stack.items ++ path_of l.top ∷ [];
       grows : Grows l.fn.loader.reads.items l.loader.reads.items;

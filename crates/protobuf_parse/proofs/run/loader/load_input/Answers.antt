@@ -2,7 +2,8 @@ use Rattle.std.proofs.Common.{Ok, Err, ◌∙◌, ◌++◌, ap, arith, refl, sym
 use Rattle.std.proofs.lemmas.Result.{err_from_is_err_and}
 use Rattle.protobuf_parse_base.specs.PathViews.{path_buf_text}
 use Rattle.protobuf_parse.specs.Walks.{named, at, checks}
-use Rattle.protobuf_parse.specs.Run.{MayAnswer, input_view}
+use Rattle.protobuf_parse.specs.Run.{input_view}
+use Rattle.protobuf_parse.specs.Loading.{legal_by}
 use Rattle.protobuf_parse.proofs.Knowing.{known-grows}
 use Rattle.protobuf_parse.proofs.Inputs.{input-stops, input-goes, check-stops}
 use Rattle.protobuf_parse.proofs.Leaving.{goes-back}
@@ -42,19 +43,19 @@ returns-in_ok-load_file-in-At-clause-goes g c files kept go good =
 
 pub returns-in_ok-load_file-in-Named-clause-count : goal.returns-in_ok-load_file-in-Named-clause-count
 returns-in_ok-load_file-in-Named-clause-count g c files kept go good =
-    count-input (MayAnswer (λ p a. g.R.ProtoPathResolver.may_answer c.args.sources.now.resolver.now p a) (λ p a. g.I.InputReader.may_read c.args.sources.now.reader.now p a)) files (Ok c.in_ok-load_file-in-Named.field-0) kept kept (named (path_buf_text c.in-Named.name)) _ _ _ _ (ap input_view c.in-Named.is) (sym (append-nil kept)) refl (c.in_ok-load_file-in-Named.ensures.count files kept go good)
+    count-input (legal_by g.R.ProtoPathResolver.may_answer g.I.InputReader.may_read c.args.sources.now) files (Ok c.in_ok-load_file-in-Named.field-0) kept kept (named (path_buf_text c.in-Named.name)) _ _ _ _ (ap input_view c.in-Named.is) (sym (append-nil kept)) refl (c.in_ok-load_file-in-Named.ensures.count files kept go good)
 
 pub returns-in_err-load_file-in-Named-clause-count : goal.returns-in_err-load_file-in-Named-clause-count
 returns-in_err-load_file-in-Named-clause-count g c files kept go good =
     let p = err_from_is_err_and c.from_residual.result c.from_residual.ensures.1 in
-    rw p.1 (count-input (MayAnswer (λ p a. g.R.ProtoPathResolver.may_answer c.args.sources.now.resolver.now p a) (λ p a. g.I.InputReader.may_read c.args.sources.now.reader.now p a)) files (Err c.in_err-load_file-in-Named.field-0.0) kept kept (named (path_buf_text c.in-Named.name)) _ _ _ _ (ap input_view c.in-Named.is) (sym (append-nil kept)) refl (c.in_err-load_file-in-Named.ensures.count files kept go good))
+    rw p.1 (count-input (legal_by g.R.ProtoPathResolver.may_answer g.I.InputReader.may_read c.args.sources.now) files (Err c.in_err-load_file-in-Named.field-0.0) kept kept (named (path_buf_text c.in-Named.name)) _ _ _ _ (ap input_view c.in-Named.is) (sym (append-nil kept)) refl (c.in_err-load_file-in-Named.ensures.count files kept go good))
 
 pub returns-in_ok-load_file-in-At-clause-count : goal.returns-in_ok-load_file-in-At-clause-count
 returns-in_ok-load_file-in-At-clause-count g c files kept go good =
     let name = path_buf_text c.in-At.name in
     let back = goes-back files _ _ _ c.load_file-in-At.ensures.grows go in
     let base = ap (λ z. kept ++ checks kept (at name z)) (c.deref.ensures ∙ sym c.as_str.ensures.value) in
-    count-input (MayAnswer (λ p a. g.R.ProtoPathResolver.may_answer c.args.sources.now.resolver.now p a) (λ p a. g.I.InputReader.may_read c.args.sources.now.reader.now p a)) files (Ok c.in_ok-load_file-in-At.field-0) kept _ (at name c.as_str.result.now) _ _ _ _ (ap input_view c.in-At.is ∙ ap (at name) (sym c.as_str.ensures.value)) base c.check_loaded.ensures.meets (c.in_ok-load_file-in-At.ensures.count files _ go (c.in_ok-check_loaded-in-At.ensures.goes files kept back good))
+    count-input (legal_by g.R.ProtoPathResolver.may_answer g.I.InputReader.may_read c.args.sources.now) files (Ok c.in_ok-load_file-in-At.field-0) kept _ (at name c.as_str.result.now) _ _ _ _ (ap input_view c.in-At.is ∙ ap (at name) (sym c.as_str.ensures.value)) base c.check_loaded.ensures.meets (c.in_ok-load_file-in-At.ensures.count files _ go (c.in_ok-check_loaded-in-At.ensures.goes files kept back good))
 
 pub returns-in_err-load_file-in-At-clause-count : goal.returns-in_err-load_file-in-At-clause-count
 returns-in_err-load_file-in-At-clause-count g c files kept go good =
@@ -62,7 +63,7 @@ returns-in_err-load_file-in-At-clause-count g c files kept go good =
     let back = goes-back files _ _ _ c.load_file-in-At.ensures.grows go in
     let base = ap (λ z. kept ++ checks kept (at name z)) (c.deref.ensures ∙ sym c.as_str.ensures.value) in
     let p = err_from_is_err_and c.from_residual-in_err-load_file-in-At.result c.from_residual-in_err-load_file-in-At.ensures.1 in
-    rw p.1 (count-input (MayAnswer (λ p a. g.R.ProtoPathResolver.may_answer c.args.sources.now.resolver.now p a) (λ p a. g.I.InputReader.may_read c.args.sources.now.reader.now p a)) files (Err c.in_err-load_file-in-At.field-0.0) kept _ (at name c.as_str.result.now) _ _ _ _ (ap input_view c.in-At.is ∙ ap (at name) (sym c.as_str.ensures.value)) base c.check_loaded.ensures.meets (c.in_err-load_file-in-At.ensures.count files _ go (c.in_ok-check_loaded-in-At.ensures.goes files kept back good)))
+    rw p.1 (count-input (legal_by g.R.ProtoPathResolver.may_answer g.I.InputReader.may_read c.args.sources.now) files (Err c.in_err-load_file-in-At.field-0.0) kept _ (at name c.as_str.result.now) _ _ _ _ (ap input_view c.in-At.is ∙ ap (at name) (sym c.as_str.ensures.value)) base c.check_loaded.ensures.meets (c.in_err-load_file-in-At.ensures.count files _ go (c.in_ok-check_loaded-in-At.ensures.goes files kept back good)))
 
 pub returns-in_err-check_loaded-in-At-clause-count : goal.returns-in_err-check_loaded-in-At-clause-count
 returns-in_err-check_loaded-in-At-clause-count g c files kept go good =

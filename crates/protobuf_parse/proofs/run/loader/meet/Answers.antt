@@ -5,8 +5,8 @@ use Rattle.std.proofs.lemmas.Result.{err_from_is_err_and}
 use Rattle.protobuf_parse_base.specs.PathViews.{path_buf_text}
 use Rattle.protobuf_parse_model.specs.Descriptors.{Text}
 use Rattle.protobuf_parse.specs.Walks.{among}
-use Rattle.protobuf_parse.specs.Run.{MayAnswer, rows}
-use Rattle.protobuf_parse.specs.Loading.{IsNumbered, asked_by, file_at, named_trees, texts}
+use Rattle.protobuf_parse.specs.Run.{rows}
+use Rattle.protobuf_parse.specs.Loading.{legal_by, IsNumbered, asked_by, file_at, named_trees, texts}
 use Rattle.protobuf_parse.proofs.Deciding.{decided-file}
 use Rattle.protobuf_parse.proofs.Leaving.{chain-told, texts-length, texts-push, leaves-cycle, leaves-tall, leaves-full, leaves-read}
 use Rattle.protobuf_parse.proofs.Meeting.{met-breaks, met-known, met-new}
@@ -53,7 +53,7 @@ returns-in_err-tree-clause-grows g c = elim c.in_err-tree.ensures.read [ inl r �
 
 pub returns-in_err-tree-clause-decided : goal.returns-in_err-tree-clause-decided
 returns-in_err-tree-clause-decided g c d =
-    let legal = MayAnswer (λ p a. g.R.ProtoPathResolver.may_answer c.args.sources.now.resolver.now p a) (λ p a. g.I.InputReader.may_read c.args.sources.now.reader.now p a) in
+    let legal = legal_by g.R.ProtoPathResolver.may_answer g.I.InputReader.may_read c.args.sources.now in
     decided-file legal (rows c.args.sources.now.bundled.now) (asked_by c.args.fs_path) (path_buf_text c.args.path.now) _ _ (Err c.in_err-tree.field-0.0) c.in_err-tree.ensures.read d
 
 pub returns-in_err-tree-clause-leaves : goal.returns-in_err-tree-clause-leaves
@@ -67,7 +67,7 @@ returns-in_err-tree-clause-leaves g c files kept go good =
 
 pub returns-in_err-enter-clause-decided : goal.returns-in_err-enter-clause-decided
 returns-in_err-enter-clause-decided g c d =
-    let legal = MayAnswer (λ p a. g.R.ProtoPathResolver.may_answer c.args.sources.now.resolver.now p a) (λ p a. g.I.InputReader.may_read c.args.sources.now.reader.now p a) in
+    let legal = legal_by g.R.ProtoPathResolver.may_answer g.I.InputReader.may_read c.args.sources.now in
     decided-file legal (rows c.args.sources.now.bundled.now) (asked_by c.args.fs_path) (path_buf_text c.args.path.now) _ _ (Ok c.in_ok-tree.tree) c.in_ok-tree.ensures.read d
 
 pub returns-in_err-enter-clause-leaves : goal.returns-in_err-enter-clause-leaves
@@ -81,7 +81,7 @@ returns-in_err-enter-clause-leaves g c files kept go good =
 
 pub returns-in_err-from_str-clause-decided : goal.returns-in_err-from_str-clause-decided
 returns-in_err-from_str-clause-decided g c d =
-    let legal = MayAnswer (λ p a. g.R.ProtoPathResolver.may_answer c.args.sources.now.resolver.now p a) (λ p a. g.I.InputReader.may_read c.args.sources.now.reader.now p a) in
+    let legal = legal_by g.R.ProtoPathResolver.may_answer g.I.InputReader.may_read c.args.sources.now in
     decided-file legal (rows c.args.sources.now.bundled.now) (asked_by c.args.fs_path) (path_buf_text c.args.path.now) _ _ (Ok c.in_ok-tree.tree) c.in_ok-tree.ensures.read d
 
 pub returns-in_err-from_str-clause-leaves : goal.returns-in_err-from_str-clause-leaves
@@ -95,7 +95,7 @@ returns-in_err-from_str-clause-leaves g c files kept go good =
 
 pub returns-clause-decided : goal.returns-clause-decided
 returns-clause-decided g c d =
-    let legal = MayAnswer (λ p a. g.R.ProtoPathResolver.may_answer c.args.sources.now.resolver.now p a) (λ p a. g.I.InputReader.may_read c.args.sources.now.reader.now p a) in
+    let legal = legal_by g.R.ProtoPathResolver.may_answer g.I.InputReader.may_read c.args.sources.now in
     decided-file legal (rows c.args.sources.now.bundled.now) (asked_by c.args.fs_path) (path_buf_text c.args.path.now) _ _ (Ok c.in_ok-tree.tree) c.in_ok-tree.ensures.read d
 
 pub returns-clause-stands : goal.returns-clause-stands
