@@ -10,7 +10,11 @@ use Rattle.protobuf_parse.specs.Loading.{legal_by, IsNumbered, asked_by, file_at
 use Rattle.protobuf_parse.proofs.Deciding.{decided-file}
 use Rattle.protobuf_parse.proofs.Leaving.{chain-told, texts-length, texts-push, leaves-cycle, leaves-tall, leaves-full, leaves-read}
 use Rattle.protobuf_parse.proofs.Meeting.{met-breaks, met-known, met-new}
+use Rattle.protobuf_parse.proofs.Reading.{few_statements}
 use Rattle.protobuf_parse.proofs.run.loader.meet.Goals as goal
+
+pub invariant_of-frame : goal.invariant_of-frame
+invariant_of-frame g c = few_statements _ _ c.in_ok-tree.ensures.read.4
 
 pub returns-then-is_on_chain-clause-leaves : goal.returns-then-is_on_chain-clause-leaves
 returns-then-is_on_chain-clause-leaves g c files kept go good =
