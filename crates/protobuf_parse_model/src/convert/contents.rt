@@ -1,6 +1,7 @@
 //! What the statements of a file declare.
 
-ghost use Rattle.std.specs.Prelude.{◌++◌, map, flat_map};
+ghost use Rattle.std.specs.Prelude.{◌++◌, ◌≤◌, map, flat_map, sum_by};
+ghost use Rattle.protobuf_parse_syntax.specs.Counts.{statement_count};
 ghost use Rattle.protobuf_parse_syntax.specs.Trees.{extend_view, file_extend, statement_view};
 ghost use Rattle.protobuf_parse_model.specs.Contexts.{environment_in};
 ghost use Rattle.protobuf_parse_model.specs.Descriptors as described;
@@ -41,6 +42,7 @@ pub fn contents_of<C: CustomOptions>(
     custom: &C,
     statements: &[FileStatement],
 ) -> Result<Contents, ElabFailure>
+    requires few { sum_by statement_count (map statement_view statements.now) ≤ 2147483647 }
     ensures { let env = environment_in (C.customs custom.now) context.now in let ss = map statement_view statements.now in
         Elaborates parts_view result (parts_faults (parts_of env ss) ++ flat_map (statement_faults env) ss) (parts_of env ss) }
 {
@@ -68,6 +70,7 @@ fn declared<C: CustomOptions>(
     custom: &C,
     statements: &[FileStatement],
 ) -> Result<Contents, ElabFailure>
+    requires few { sum_by statement_count (map statement_view statements.now) ≤ 2147483647 }
     ensures { let env = environment_in (C.customs custom.now) context.now in let ss = map statement_view statements.now in
         Elaborates parts_view result (flat_map (statement_faults env) ss) (parts_of env ss) }
 {
@@ -91,6 +94,7 @@ fn add_statement<C: CustomOptions>(
     contents: &mut Contents,
     statement: &FileStatement,
 ) -> Result<(), ElabFailure>
+    requires few { statement_count (statement_view statement.now) ≤ 2147483647 }
     ensures { let env = environment_in (C.customs custom.now) context.now in let s = statement_view statement.now in
         Elaborates (λ _. parts_view contents.new) result (statement_faults env s) (with_file_statement env (parts_view contents.old) s) }
 {

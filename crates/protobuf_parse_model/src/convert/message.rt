@@ -1,6 +1,7 @@
 //! Messages.
 
-ghost use Rattle.std.specs.Prelude.{◌≡◌, ◌++◌, ◌<◌, ◌^◌, List, [], ◌∷◌, length, map, flat_map, string_bytes, IfOk};
+ghost use Rattle.std.specs.Prelude.{◌≡◌, ◌++◌, ◌<◌, ◌≤◌, ◌^◌, List, [], ◌∷◌, length, map, flat_map, string_bytes, sum_by, IfOk};
+ghost use Rattle.protobuf_parse_syntax.specs.Counts.{in_message, message_statement_count};
 ghost use Rattle.protobuf_parse_syntax.specs.Trees.{message_statement_view, message_view};
 ghost use Rattle.protobuf_parse_model.specs.Contexts as contexts;
 ghost use Rattle.protobuf_parse_model.specs.Contexts.{body_view, environment_in, names_faults, texts, with_statement};
@@ -31,6 +32,7 @@ pub fn message_descriptor<C: CustomOptions>(
     custom: &C,
     message: &Message,
 ) -> Result<DescriptorProto, ElabFailure>
+    requires few { in_message (message_view message.now) ≤ 2147483647 }
     ensures { let env = environment_in (C.customs custom.now) context.now in let m = message_view message.now in
         Elaborates described.message_view result (messages.message_faults env m) (messages.message_of env m) }
 {
@@ -46,10 +48,10 @@ fn message_of_body<C: CustomOptions>(
     name: &str,
     body: &[MessageStatement],
 ) -> Result<DescriptorProto, ElabFailure>
+    requires few { sum_by message_statement_count (map message_statement_view body.now) ≤ 2147483647 }
     ensures { let env = environment_in (C.customs custom.now) context.now in let ss = map message_statement_view body.now in
         Elaborates described.message_view result (messages.faults_of_body env name.now ss) (messages.message_of_body env name.now ss) }
 {
-    check_positions(body)?;
     let parts = body_inside(alloc, context, custom, name, body)?;
     finished(alloc, context, custom, name, body, parts)
 }
@@ -91,17 +93,6 @@ fn assembled(name: String, body: Body, rest: Rest) -> DescriptorProto
     }
 }
 
-/// Fails where a body has more statements than a oneof has positions, which no text is long enough for.
-fn check_positions(body: &[MessageStatement]) -> Result<(), AllocError>
-    ensures { IfOk result (λ _. length body.now < 2 ^ 31) }
-{
-    if body.len() < 0x8000_0000 {
-        Ok(())
-    } else {
-        Err(AllocError)
-    }
-}
-
 /// Refuses two of a kind that have one name: E1.
 #[tactic(auto, using(crate::proofs::Blaming::blames_left, crate::proofs::Blaming::blames_right))]
 fn check_names(alloc: Global, body: &Body) -> Result<(), ElabFailure>
@@ -137,7 +128,7 @@ fn body_inside<C: CustomOptions>(
     name: &str,
     body: &[MessageStatement],
 ) -> Result<Body, ElabFailure>
-    requires { length body.now < 2 ^ 31 }
+    requires few { sum_by message_statement_count (map message_statement_view body.now) ≤ 2147483647 }
     ensures { let env = inside (environment_in (C.customs custom.now) context.now) name.now in let ss = map message_statement_view body.now in
         Elaborates body_view result (flat_map (messages.statement_faults env) ss) (contexts.body_of env ss) }
 {
@@ -159,7 +150,7 @@ fn body_of<C: CustomOptions>(
     custom: &C,
     statements: &[MessageStatement],
 ) -> Result<Body, ElabFailure>
-    requires { length statements.now < 2 ^ 31 }
+    requires few { sum_by message_statement_count (map message_statement_view statements.now) ≤ 2147483647 }
     ensures { let env = environment_in (C.customs custom.now) context.now in let ss = map message_statement_view statements.now in
         Elaborates body_view result (flat_map (messages.statement_faults env) ss) (contexts.body_of env ss) }
 {
@@ -185,7 +176,8 @@ fn add_statement<C: CustomOptions>(
     body: &mut Body,
     statement: &MessageStatement,
 ) -> Result<(), ElabFailure>
-    requires { length body.old.oneof_decl.items < 2 ^ 31 }
+    requires places { length body.old.oneof_decl.items < 2 ^ 31 }
+    requires few { message_statement_count (message_statement_view statement.now) ≤ 2147483647 }
     ensures { let env = environment_in (C.customs custom.now) context.now in let s = message_statement_view statement.now in
         Elaborates (λ _. body_view body.new) result (messages.statement_faults env s) (with_statement env (body_view body.old) s) }
 {
@@ -210,6 +202,7 @@ fn add_message<C: CustomOptions>(
     body: &mut Body,
     message: &Message,
 ) -> Result<(), ElabFailure>
+    requires few { in_message (message_view message.now) ≤ 2147483647 }
     ensures { let env = environment_in (C.customs custom.now) context.now in let m = message_view message.now in
         Elaborates (λ _. body_view body.new) result (messages.message_faults env m) (contexts.with_message (body_view body.old) (messages.message_of env m)) }
 {

@@ -17,6 +17,9 @@ use Rattle.protobuf_parse_model.specs.OptionsSet.{file_options}
 use Rattle.protobuf_parse_model.proofs.Files.{blames_around, faultless, same_file, tells}
 use Rattle.protobuf_parse_model.proofs.convert.file.descriptor_in.Goals as goal
 
+pub contents_of-requires : goal.contents_of-requires
+contents_of-requires g c = record { few = subst (λ (ss : List FileStatement). sum_by statement_count (map statement_view ss) ≤ 2147483647) (sym c.deref.ensures.value) c.requires.few }
+
 pub imports_of-requires : goal.imports_of-requires
 imports_of-requires g c = omega (arith, ap length c.deref-3.ensures.value, file_length c.args.tree.now.statements.items, c.requires.few)
 

@@ -1,8 +1,11 @@
-use Rattle.std.proofs.Common.{◌≡◌, ◌∙◌, ◌+◌, ◌++◌, [], ◌∷◌, ℕ, List, ap, flat_map, map, sym, subst, string_bytes, take}
+use Rattle.std.proofs.Common.{◌≡◌, ◌∙◌, ◌+◌, ◌++◌, ◌<◌, ◌≤◌, [], ◌∷◌, ℕ, List, ap, arith, flat_map, length, map, sym, subst, string_bytes, sum_by, take}
 use Rattle.std.proofs.lemmas.Grind.{flat_map-append}
 use Rattle.std.proofs.lemmas.List.{length-map, map_more}
 use Rattle.std.proofs.lemmas.Result.{err_from_is_err_and}
 use Rattle.protobuf_parse_syntax.specs.Trees.{MessageStatementSyntax, nested_message, message_statement_view, message_view}
+use Rattle.protobuf_parse_syntax.specs.Counts.{message_statement_count}
+use Rattle.protobuf_parse_syntax.specs.declared.tree.declaration.MessageStatement.{MessageStatement}
+use Rattle.protobuf_parse_syntax.proofs.Counts.{body_length, in_message_of, item_counts, message_counts}
 use Rattle.protobuf_parse_syntax.proofs.Messages.{view_parts}
 use Rattle.protobuf_parse_model.specs.Contexts.{BodyParts, body_of, body_view, environment_in, seen_types, texts, with_message, with_statement}
 use Rattle.protobuf_parse_model.specs.Declarations.{Scope}
@@ -27,7 +30,7 @@ message_descriptor-returns g t c =
 
 pub message_of_body-returns-in_err-parts : goal.message_of_body-returns-in_err-parts
 message_of_body-returns-in_err-parts g t c =
-    let p = err_from_is_err_and c.from_residual-in_err-parts.result c.from_residual-in_err-parts.ensures.1 in
+    let p = err_from_is_err_and c.from_residual.result c.from_residual.ensures.1 in
     rw (p.1, p.2) (blames_right c.in_err-parts.field-0.0 _ _ c.in_err-parts.ensures)
 
 pub body_inside-returns : goal.body_inside-returns
@@ -62,3 +65,35 @@ add_statement-returns-in-Message g t c =
     let faults = subst (λ (fs : List Fault). Elaborates {Y = BodyParts} (λ x. body_view c.add_message.new.body) r fs (with_message b (message_of env m))) (sym (faults_of_message env m)) c.add_message.ensures in
     let whole = subst (λ (p : BodyParts). Elaborates {Y = BodyParts} (λ x. body_view c.add_message.new.body) r (statement_faults env (nested_message m)) p) (with_nested env b m) faults in
     subst (λ (s : MessageStatementSyntax). Elaborates {Y = BodyParts} (λ x. body_view c.add_message.new.body) r (statement_faults env s) (with_statement env b s)) (sym is) whole
+
+-- ---- each part has fewer statements than the whole
+
+pub message_descriptor-message_of_body-requires : goal.message_descriptor-message_of_body-requires
+message_descriptor-message_of_body-requires g t c =
+    let same = ap (λ (ss : List MessageStatement). sum_by message_statement_count (map message_statement_view ss)) c.deref-2.ensures.value ∙ sym (in_message_of c.args.message.now) in
+    λ κs l. (omega (arith, same, c.decreases), (l, omega (arith, same, c.requires.few)))
+
+pub message_of_body-body_inside-requires : goal.message_of_body-body_inside-requires
+message_of_body-body_inside-requires g t c = λ κs l. (omega (arith, c.requires.1.0), (l, c.requires.1.1.1))
+
+pub body_inside-body_of-requires : goal.body_inside-body_of-requires
+body_inside-body_of-requires g t c = λ κs l. (omega (arith, c.requires.1.0), (l, c.requires.1.1.1))
+
+pub body_of-add_statement-requires : goal.body_of-add_statement-requires
+body_of-add_statement-requires g t c =
+    let xs = c.args.statements.now in
+    let index = c.loop-statement.statement-index in
+    let s = c.statement-item.result in
+    let counted = item_counts message_statement_view message_statement_count xs index s c.loop-statement-test.true in
+    let same = ap (λ (x : MessageStatement). message_statement_count (message_statement_view x)) c.statement-item.is in
+    let few : message_statement_count (message_statement_view s) ≤ 2147483647 = omega (arith, counted, same, c.requires.few) in
+    let places : length c.loop-statement.body.oneof_decl.items < 2147483648 = omega (arith, body_length xs, c.loop-statement-test.true, c.loop-statement.invariant.few, c.requires.few) in
+    λ κs l. (omega (arith, counted, same, c.decreases), (l, (places, few)))
+
+pub add_statement-add_message-requires : goal.add_statement-add_message-requires
+add_statement-add_message-requires g t c =
+    let same = ap (λ (x : MessageStatement). message_statement_count (message_statement_view x)) c.in-Message.is ∙ message_counts c.in-Message.message in
+    λ κs l. (omega (arith, same, c.decreases), (l, omega (arith, same, c.requires.few)))
+
+pub add_message-message_descriptor-requires : goal.add_message-message_descriptor-requires
+add_message-message_descriptor-requires g t c = λ κs l. (omega (arith, c.decreases), (l, c.requires.few))
