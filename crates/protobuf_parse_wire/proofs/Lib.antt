@@ -11,7 +11,8 @@ pub mod Appending
 pub mod Encoded
 pub mod Written
 mod Rows
-mod Writable
-mod Options
-mod OptionBytes
-mod OptionDepth
+pub mod Writable
+pub mod Options
+pub mod OptionBytes
+pub mod OptionDepth
+pub mod Agreement

@@ -47,11 +47,11 @@ contains_from_among [] x h = elim h [ ]
 contains_from_among (x ∷ xs) _ here = (0, omega arith, refl)
 contains_from_among (y ∷ xs) x (there h) = contains_later y xs x (contains_from_among xs x h)
 
-among_left : {A : Type 0} {x : A} {xs : List A} (ys : List A) → Among xs x → Among (xs ++ ys) x
+pub among_left : {A : Type 0} {x : A} {xs : List A} (ys : List A) → Among xs x → Among (xs ++ ys) x
 among_left ys here = here
 among_left ys (there h) = there (among_left ys h)
 
-among_right : {A : Type 0} {x : A} (xs : List A) {ys : List A} → Among ys x → Among (xs ++ ys) x
+pub among_right : {A : Type 0} {x : A} (xs : List A) {ys : List A} → Among ys x → Among (xs ++ ys) x
 among_right [] h = h
 among_right (y ∷ xs) h = there (among_right xs h)
 
@@ -197,7 +197,7 @@ among_mapped g (x ∷ xs) _ here = here
 among_mapped g (y ∷ xs) x (there h) = there (among_mapped g xs x h)
 
 -- what stands in one of the lists stands in all of them joined
-among_joined : {A B : Type 0} (g : A → List B) (xs : List A) (x : A) (y : B) → Among xs x → Among (g x) y → Among (flat_map g xs) y
+pub among_joined : {A B : Type 0} (g : A → List B) (xs : List A) (x : A) (y : B) → Among xs x → Among (g x) y → Among (flat_map g xs) y
 among_joined g [] x y h k = elim h [ ]
 among_joined g (x ∷ xs) _ y here k = among_left (flat_map g xs) k
 among_joined g (z ∷ xs) x y (there h) k = among_right (g z) (among_joined g xs x y h k)
@@ -206,7 +206,7 @@ pub data SplitAmong {A : Type 0} (xs ys : List A) (x : A) : Type 0 where
   left : Among xs x → SplitAmong xs ys x
   right : Among ys x → SplitAmong xs ys x
 
-split_among : {A : Type 0} (xs ys : List A) (x : A) → Among (xs ++ ys) x → SplitAmong xs ys x
+pub split_among : {A : Type 0} (xs ys : List A) (x : A) → Among (xs ++ ys) x → SplitAmong xs ys x
 split_among [] ys x h = right h
 split_among (x ∷ xs) ys _ here = left here
 split_among (y ∷ xs) ys x (there h) = later (split_among xs ys x h)

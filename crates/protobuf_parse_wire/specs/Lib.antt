@@ -15,3 +15,4 @@ pub mod CustomFaults
 pub mod OptionLaw
 pub mod OptionBytes
 pub mod OptionDepth
+pub mod Agreement
