@@ -35,7 +35,8 @@ abbrev mutual
   pub value_items : OptionScope → FieldDescriptor → ConstantSyntax → List Item
   value_items at f (integer z) = item f (trees.number z)
   value_items at f (truth b) = item f (trees.truth b)
-  value_items at f (dotted name) = flat_map (λ (z : ℤ). item f (trees.number z)) (option_to_list (number_of_value at.files (type_name_of f) name))
+  value_items at f (dotted name) =
+      flat_map (λ (z : ℤ). item f (trees.number z)) (option_to_list (number_of_value at.files (type_name_of f) name))
   value_items at f (string pieces) = item f (trees.bytes (unwrap_or (decode pieces) []))
   value_items at f (list cs) = list_items at f cs
   value_items at f (fields fs) = message_item f (field_items at (type_name_of f) fs)
@@ -47,12 +48,15 @@ abbrev mutual
   -- what the fields of a message constant give to the message
   pub field_items : OptionScope → Text → ConstantFieldList → List Item
   field_items at message no_fields = []
-  field_items at message (more_fields name c fs) = flat_map (λ (g : FieldDescriptor). value_items at g c) (option_to_list (constant_field at message name)) ++ field_items at message fs
+  field_items at message (more_fields name c fs) =
+      flat_map (λ (g : FieldDescriptor). value_items at g c) (option_to_list (constant_field at message name))
+      ++ field_items at message fs
 
 -- what a constant gives to the field that the parts lead to, from the message on
 abbrev pub path_items : OptionScope → ConstantSyntax → Text → List OptionPartSyntax → List Item
 path_items at value message [] = []
-path_items at value message (p ∷ []) = flat_map (λ (g : FieldDescriptor). value_items at g value) (option_to_list (part_field at message p))
+path_items at value message (p ∷ []) =
+    flat_map (λ (g : FieldDescriptor). value_items at g value) (option_to_list (part_field at message p))
 path_items at value message (p ∷ q ∷ ps) = flat_map (λ (g : FieldDescriptor). message_item g (path_items at value (type_name_of g) (q ∷ ps))) (option_to_list (part_field at message p))
 
 abbrev pub named_items : OptionScope → Text → ConstantSyntax → OptionNameSyntax → List Item
@@ -76,7 +80,8 @@ scope_of files visible s = record { files = files; visible = visible; scope = s.
 abbrev pub SpellsOptions : (files visible : List FileDescriptor) → FileSyntax → CustomBytes → Type 0
 SpellsOptions files visible t spelled =
     (s : OptionSet) → Among (option_sets t) s
-    → Spells (denotes (scope_of files visible s) s.construct s.statements) (spelled s.construct s.scope s.statements)
+    → Spells (denotes (scope_of files visible s) s.construct s.statements)
+      (spelled s.construct s.scope s.statements)
 
 -- The descriptor is that of the file known by the path, with its custom options, where the file sees the trees `seen`, and
 -- the descriptors of these are `visible`, those of all files that it reaches `files`.

@@ -67,7 +67,8 @@ extension_meant at name = meaning (flat_map declared_extensions at.visible) at.s
 
 -- whether a message has the name, and not an enum
 abbrev pub is_message : List FileDescriptor → Text → Bool
-is_message files name = list_any (λ (d : Declaration). bytes_eq name d.name) (flat_map declared_in files)
+is_message files name =
+    list_any (λ (d : Declaration). bytes_eq name d.name) (flat_map declared_in files)
 
 -- An extendee that names an enum extends no message.
 abbrev pub extends_message : List FileDescriptor → Text → FieldDescriptor → Bool
@@ -76,7 +77,8 @@ extends_message files message f = extends message f && is_message files message
 -- the extension, if it extends the message
 abbrev pub if_extends : List FileDescriptor → Text → Option (Declared FieldDescriptor) → Option FieldDescriptor
 if_extends files message None = None
-if_extends files message (Some d) = if extends_message files message d.what then Some d.what else None
+if_extends files message (Some d) =
+    if extends_message files message d.what then Some d.what else None
 
 abbrev pub extension_named : OptionScope → Text → Text → Option FieldDescriptor
 extension_named at message name = if_extends at.files message (extension_meant at name)
