@@ -21,8 +21,8 @@ described env e = record {
   what = field_statement_of (at_extension env e) (extending (at_extension env e) e.what.extendee) e.what.field;
 }
 
--- Each extension that the file's tree declares is one of its descriptor, by the same full name, where a package that is
--- named has a name.
+-- Each extension that the file's tree declares is one of its descriptor, by the same full name,
+-- where a package that is named has a name.
 abbrev pub ExtensionsAreDescribed : Type 0
 ExtensionsAreDescribed =
     (env : Environment) (path : Text) (t : FileSyntax)

@@ -141,8 +141,8 @@ table_of of.Method = method_table
 abbrev pub names_in : Table → List Text
 names_in table = map (λ (entry : Text × BuiltinKind). entry.0) table
 
--- A name that goes on from a built-in option: E28 from `uninterpreted_option`, E16 from any other, as none is a message,
--- E17 where there is no such option.
+-- A name that goes on from a built-in option: E28 from `uninterpreted_option`, E16 from any other,
+-- as none is a message, E17 where there is no such option.
 abbrev pub builtin_step_faults : Table → Text → List Fault
 builtin_step_faults table name =
     if bytes_eq name (codes "uninterpreted_option") then fault UninterpretedOptionName name
@@ -166,9 +166,10 @@ abbrev pub option_faults : (files visible : List FileDescriptor) → FileSyntax 
 option_faults files visible t =
     flat_map (λ (s : OptionSet). statement_faults (scope_of files visible s) s.construct s.statements) (option_sets t)
 
--- All faults that stand in a file which reaches the trees `reached` and sees the trees `seen`: those of names that are declared
--- twice in what it reaches; or else its own; or else, where its descriptor says what every type is, those of its custom
--- options, by the descriptors of the files that it reaches and of those that it sees.
+-- All faults that stand in a file which reaches the trees `reached` and sees the trees `seen`:
+-- those of names that are declared twice in what it reaches; or else its own; or else, where its
+-- descriptor says what every type is, those of its custom options, by the descriptors of the files
+-- that it reaches and of those that it sees.
 abbrev pub elaboration_faults : (reached seen : List FileSyntax) (files visible : List FileDescriptor) → FileSyntax → List Fault
 elaboration_faults reached seen files visible t =
     before_others (link_faults reached)

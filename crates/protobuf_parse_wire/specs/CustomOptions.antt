@@ -1,11 +1,12 @@
--- What the custom options of a construct denote: a list of entries, one for each value that a statement gives, in source
--- order; and which bytes stand for them in the descriptor. Where a fault stands the entries may be anything.
+-- What the custom options of a construct denote: a list of entries, one for each value that a
+-- statement gives, in source order; and which bytes stand for them in the descriptor. Where a fault
+-- stands the entries may be anything.
 --
--- Each part of a name but the last becomes an entry with a message, in which the rest stands. A list gives its items one
--- by one. The name of an enum's value is its number, a message constant a message with an entry for each field; for a map
--- it is the message of one of its entries.
--- Protocol Buffers Language Guide (proto2), "Custom Options"; Protocol Buffers Encoding, "Message Structure"
--- (https://protobuf.dev).
+-- Each part of a name but the last becomes an entry with a message, in which the rest stands. A
+-- list gives its items one by one. The name of an enum's value is its number, a message constant a
+-- message with an entry for each field; for a map it is the message of one of its entries.
+-- Protocol Buffers Language Guide (proto2), "Custom Options"; Protocol Buffers Encoding,
+-- "Message Structure" (https://protobuf.dev).
 use Rattle.std.specs.Prelude.{◌≡◌, ℤ, nat_abs, List, [], ◌∷◌, ◌++◌, map, flat_map, unwrap_or, option_to_list}
 use Rattle.protobuf_parse_syntax.specs.Trees.{ConstantSyntax, integer, truth, dotted, string, list, fields, ConstantList, no_constants, more_constants, ConstantFieldList, no_fields, more_fields, OptionPartSyntax, OptionNameSyntax, builtin, custom, OptionSyntax, FileSyntax}
 use Rattle.protobuf_parse_syntax.specs.Decoder.{decode}
@@ -81,10 +82,11 @@ abbrev pub SpellsOptions : (files visible : List FileDescriptor) → FileSyntax 
 SpellsOptions files visible t spelled =
     (s : OptionSet) → Among (option_sets t) s
     → Spells (denotes (scope_of files visible s) s.construct s.statements)
-      (spelled s.construct s.scope s.statements)
+    (spelled s.construct s.scope s.statements)
 
--- The descriptor is that of the file known by the path, with its custom options, where the file sees the trees `seen`, and
--- the descriptors of these are `visible`, those of all files that it reaches `files`.
+-- The descriptor is that of the file known by the path, with its custom options, where the file
+-- sees the trees `seen`, and the descriptors of these are `visible`, those of all files that it
+-- reaches `files`.
 pub record IsElaborated (seen : List FileSyntax) (files visible : List FileDescriptor) (path : Text) (t : FileSyntax) (d : FileDescriptor) : Type 0 where
   pub spelled : CustomBytes
   pub spells : SpellsOptions files visible t spelled

@@ -1,9 +1,10 @@
 -- Which field each part of an option's name means, and what values a field takes.
 --
--- A name begins at the options message of its construct. A plain part means a field of the message, a part in parentheses
--- an extension of it, looked up as a type is: from the scope outward, among those of the files that the file sees. In a
--- constant for a message a plain name means a field of it, and one in brackets an extension, looked up in the same way.
--- The messages and enums that a field's type names are those of the descriptors that declare them, in all files reached.
+-- A name begins at the options message of its construct. A plain part means a field of the message,
+-- a part in parentheses an extension of it, looked up as a type is: from the scope outward, among
+-- those of the files that the file sees. In a constant for a message a plain name means a field of
+-- it, and one in brackets an extension, looked up in the same way. The messages and enums that a
+-- field's type names are those of the descriptors that declare them, in all files reached.
 -- Protocol Buffers Language Guide (proto2), "Custom Options" (https://protobuf.dev).
 use Rattle.std.specs.Prelude.{ℤ, Bool, ◌&&◌, List, [], ◌++◌, map, flat_map, codes, bytes_eq, Option, Some, None, unwrap_or, option_map, if◌then◌else◌}
 use Rattle.std.specs.List.{find, list_any}
@@ -110,7 +111,8 @@ pub data Takes : Type 0 where
   floats : Takes
   groups : Takes
 
--- A map is a field with the messages behind it: one for each of its entries, with `key` and `value`.
+-- A map is a field with the messages behind it: one for each of its entries, with `key` and
+-- `value`.
 abbrev pub takes : FieldType → Takes
 takes types.Int32 = integers kinds.Int32
 takes types.Int64 = integers kinds.Int64
