@@ -19,15 +19,15 @@ use Rattle.protobuf_parse_wire.specs.Declarations.{Declaration, within, declared
 use Rattle.protobuf_parse_wire.specs.Agreement.{described, ExtensionsAreDescribed}
 use Rattle.protobuf_parse_wire.proofs.Options.{among_left, among_right, SplitAmong, left, right, split_among}
 
-abbrev extensions_by : List Declaration → List (Declared FieldDescriptor)
+abbrev pub extensions_by : List Declaration → List (Declared FieldDescriptor)
 extensions_by ds = flat_map (λ (d : Declaration). extensions_within d.name d.parts.extension) ds
 
 -- in the scope itself, or in one of the messages there
-data Placed (scope : Text) (own : List FieldDescriptor) (nested : List MessageDescriptor) (d : Declared FieldDescriptor) : Type 0 where
+pub data Placed (scope : Text) (own : List FieldDescriptor) (nested : List MessageDescriptor) (d : Declared FieldDescriptor) : Type 0 where
   its_own : Among (extensions_within scope own) d → Placed scope own nested d
   in_one : (m : MessageDescriptor) → Among nested m → Among (extensions_by (declared_message scope m)) d → Placed scope own nested d
 
-within_append : (scope : Text) (xs ys : List FieldDescriptor) → extensions_within scope (xs ++ ys) ≡ extensions_within scope xs ++ extensions_within scope ys
+pub within_append : (scope : Text) (xs ys : List FieldDescriptor) → extensions_within scope (xs ++ ys) ≡ extensions_within scope xs ++ extensions_within scope ys
 within_append scope xs ys = map-append (λ (f : FieldDescriptor). record { name = within scope f.name; what = f }) xs ys
 
 placed_left : (scope : Text) (xs ys : List FieldDescriptor) (ms ns : List MessageDescriptor) (d : Declared FieldDescriptor) → Placed scope xs ms d → Placed scope (xs ++ ys) (ms ++ ns) d
@@ -45,7 +45,7 @@ in_nested scope (n ∷ ns) _ d here h =
 in_nested scope (n ∷ ns) m d (there a) h =
     rw (flat_map-append (λ (x : Declaration). extensions_within x.name x.parts.extension) (declared_message scope n) (declared_messages scope (messages_of_list ns))) (among_right (extensions_by (declared_message scope n)) (in_nested scope ns m d a h))
 
-scope_inside : (scope : Scope) (name : Text) → absolute_text (names.inside scope name) ≡ within (absolute_text scope) name
+pub scope_inside : (scope : Scope) (name : Text) → absolute_text (names.inside scope name) ≡ within (absolute_text scope) name
 scope_inside scope name = absolute_text-append scope (name ∷ []) ∙ ap (λ (xs : List ℕ). absolute_text scope ++ (46 ∷ xs)) (append-nil name)
 
 in_message : (env : Environment) (name : Text) (body : List MessageStatementSyntax) (ns : List MessageDescriptor) (d : Declared FieldDescriptor) → Placed (absolute_text (names.inside env.scope name)) (flat_map (bodies.extensions_of (inside env name)) body) ns d
@@ -63,7 +63,7 @@ in_extend env extendee (field f ∷ fs) _ here = here
 in_extend env extendee (group place label name number inner ∷ fs) _ here = here
 in_extend env extendee (f ∷ fs) e (there h) = there (in_extend env extendee fs e h)
 
-abbrev InBody : Environment → List FieldDescriptor → List MessageDescriptor → DeclaredExtension → Type 0
+abbrev pub InBody : Environment → List FieldDescriptor → List MessageDescriptor → DeclaredExtension → Type 0
 InBody env own nested e = Placed (absolute_text env.scope) own nested (described env e)
 
 either : (env : Environment) (s : MessageStatementSyntax) (ss : MessageStatementList) (e : DeclaredExtension) → SplitAmong (names.extensions_of env.scope s) (names.extensions_in env.scope ss) e
@@ -104,7 +104,7 @@ of_file_statement env (file_message m) e h =
     (of_each (inside env m.name) (names.extensions_of (names.inside env.scope m.name)) (bodies.extensions_of (inside env m.name)) (nested_of (inside env m.name)) (of_statement (inside env m.name)) m.body e h))
 of_file_statement env _ e h = elim h [ ]
 
-package_is : (package_name : Option Text) → ((name : Text) → package_name ≡ Some name → 0 < length name) → absolute_text (relative_idents (unwrap_or package_name [])) ≡ package_scope package_name
+pub package_is : (package_name : Option Text) → ((name : Text) → package_name ≡ Some name → 0 < length name) → absolute_text (relative_idents (unwrap_or package_name [])) ≡ package_scope package_name
 package_is None some = refl
 package_is (Some []) some = absurd (omega (arith, some [] refl))
 package_is (Some (b ∷ bs)) some = absolute_text-parts (b ∷ bs)

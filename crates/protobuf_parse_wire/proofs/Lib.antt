@@ -16,3 +16,4 @@ pub mod Options
 pub mod OptionBytes
 pub mod OptionDepth
 pub mod Agreement
+pub mod AgreementBack

@@ -63,19 +63,22 @@ number_faults f = fault_when (not (int_le (pos 1) f.number && int_le f.number (p
 
 -- E17 for a name that no field of the message has
 abbrev pub field_name_faults : OptionScope → Text → Text → List Fault
-field_name_faults at message name = fault_when (not (is_some (field_named at.files message name))) UnknownFieldName name
+field_name_faults at message name =
+    fault_when (not (is_some (field_named at.files message name))) UnknownFieldName name
 
 -- E14 for an extension that isn't found, E15 for one that extends no such message
 abbrev pub extension_faults : List FileDescriptor → Text → Text → Option (Declared FieldDescriptor) → List Fault
 extension_faults files message name None = fault ExtensionNotFound name
-extension_faults files message name (Some d) = fault_when (not (extends_message files message d.what)) WrongExtensionType name
+extension_faults files message name (Some d) =
+    fault_when (not (extends_message files message d.what)) WrongExtensionType name
 
 -- ---- constants
 
 -- in a constant for a message: E26 for a type URL
 abbrev pub constant_name_faults : OptionScope → Text → ConstantNameSyntax → List Fault
 constant_name_faults at message (regular_name name) = field_name_faults at message name
-constant_name_faults at message (extension_name name) = extension_faults at.files message name (extension_meant at name)
+constant_name_faults at message (extension_name name) =
+    extension_faults at.files message name (extension_meant at name)
 constant_name_faults at message (url_name name) = fault TypeUrlInConstant (bracketed name)
 
 abbrev mutual
@@ -83,14 +86,17 @@ abbrev mutual
   pub value_faults : OptionScope → Text → FieldDescriptor → ConstantSyntax → List Fault
   value_faults at option f (integer z) = integer_faults f.name (takes f.type_) z
   value_faults at option f (truth b) = truth_faults f.name (takes f.type_)
-  value_faults at option f (dotted name) = value_name_faults f.name (takes f.type_) name (number_of_value at.files (type_name_of f) name)
+  value_faults at option f (dotted name) =
+      value_name_faults f.name (takes f.type_) name (number_of_value at.files (type_name_of f) name)
   value_faults at option f (string pieces) = string_value_faults option f.name (takes f.type_) pieces
   value_faults at option f (list cs) = list_faults at option f cs
-  value_faults at option f (fields fs) = message_value_faults f.name (takes f.type_) (field_faults at option (type_name_of f) fs)
+  value_faults at option f (fields fs) =
+      message_value_faults f.name (takes f.type_) (field_faults at option (type_name_of f) fs)
 
   pub list_faults : OptionScope → Text → FieldDescriptor → ConstantList → List Fault
   list_faults at option f no_constants = []
-  list_faults at option f (more_constants c cs) = value_faults at option f c ++ list_faults at option f cs
+  list_faults at option f (more_constants c cs) =
+      value_faults at option f c ++ list_faults at option f cs
 
   pub field_faults : OptionScope → Text → Text → ConstantFieldList → List Fault
   field_faults at option message no_fields = []
@@ -103,7 +109,8 @@ abbrev mutual
 
 abbrev pub part_faults : OptionScope → Text → OptionPartSyntax → List Fault
 part_faults at message (direct name) = field_name_faults at message name
-part_faults at message (extension name) = extension_faults at.files message name (extension_meant at name)
+part_faults at message (extension name) =
+    extension_faults at.files message name (extension_meant at name)
 
 -- where other parts follow: E24 for a group, E16 for any other field but a message
 abbrev pub step_faults : Text → Takes → List Fault → List Fault
@@ -134,8 +141,8 @@ table_of of.Method = method_table
 abbrev pub names_in : Table → List Text
 names_in table = map (λ (entry : Text × BuiltinKind). entry.0) table
 
--- A name that goes on from a built-in option: E28 from `uninterpreted_option`, E16 from any other, as none is a message,
--- E17 where there is no such option.
+-- A name that goes on from a built-in option: E28 from `uninterpreted_option`, E16 from any other,
+-- as none is a message, E17 where there is no such option.
 abbrev pub builtin_step_faults : Table → Text → List Fault
 builtin_step_faults table name =
     if bytes_eq name (codes "uninterpreted_option") then fault UninterpretedOptionName name
@@ -156,11 +163,14 @@ abbrev pub statement_faults : OptionScope → Construct → List OptionSyntax �
 statement_faults at construct os = flat_map (λ (o : OptionSyntax). named_faults at construct o.value o.name) os
 
 abbrev pub option_faults : (files visible : List FileDescriptor) → FileSyntax → List Fault
-option_faults files visible t = flat_map (λ (s : OptionSet). statement_faults (scope_of files visible s) s.construct s.statements) (option_sets t)
+option_faults files visible t =
+    flat_map (λ (s : OptionSet). statement_faults (scope_of files visible s) s.construct s.statements) (option_sets t)
 
--- All faults that stand in a file which reaches the trees `reached` and sees the trees `seen`: those of names that are declared
--- twice in what it reaches; or else its own; or else, where its descriptor says what every type is, those of its custom
--- options, by the descriptors of the files that it reaches and of those that it sees.
+-- All faults that stand in a file which reaches the trees `reached` and sees the trees `seen`:
+-- those of names that are declared twice in what it reaches; or else its own; or else, where its
+-- descriptor says what every type is, those of its custom options, by the descriptors of the files
+-- that it reaches and of those that it sees.
 abbrev pub elaboration_faults : (reached seen : List FileSyntax) (files visible : List FileDescriptor) → FileSyntax → List Fault
 elaboration_faults reached seen files visible t =
-    before_others (link_faults reached) (before_others (file_faults (environment seen no_customs t) t) (option_faults files visible t))
+    before_others (link_faults reached)
+    (before_others (file_faults (environment seen no_customs t) t) (option_faults files visible t))

@@ -1,11 +1,12 @@
--- What the custom options of a construct denote: a list of entries, one for each value that a statement gives, in source
--- order; and which bytes stand for them in the descriptor. Where a fault stands the entries may be anything.
+-- What the custom options of a construct denote: a list of entries, one for each value that a
+-- statement gives, in source order; and which bytes stand for them in the descriptor. Where a fault
+-- stands the entries may be anything.
 --
--- Each part of a name but the last becomes an entry with a message, in which the rest stands. A list gives its items one
--- by one. The name of an enum's value is its number, a message constant a message with an entry for each field; for a map
--- it is the message of one of its entries.
--- Protocol Buffers Language Guide (proto2), "Custom Options"; Protocol Buffers Encoding, "Message Structure"
--- (https://protobuf.dev).
+-- Each part of a name but the last becomes an entry with a message, in which the rest stands. A
+-- list gives its items one by one. The name of an enum's value is its number, a message constant a
+-- message with an entry for each field; for a map it is the message of one of its entries.
+-- Protocol Buffers Language Guide (proto2), "Custom Options"; Protocol Buffers Encoding,
+-- "Message Structure" (https://protobuf.dev).
 use Rattle.std.specs.Prelude.{◌≡◌, ℤ, nat_abs, List, [], ◌∷◌, ◌++◌, map, flat_map, unwrap_or, option_to_list}
 use Rattle.protobuf_parse_syntax.specs.Trees.{ConstantSyntax, integer, truth, dotted, string, list, fields, ConstantList, no_constants, more_constants, ConstantFieldList, no_fields, more_fields, OptionPartSyntax, OptionNameSyntax, builtin, custom, OptionSyntax, FileSyntax}
 use Rattle.protobuf_parse_syntax.specs.Decoder.{decode}
@@ -35,7 +36,8 @@ abbrev mutual
   pub value_items : OptionScope → FieldDescriptor → ConstantSyntax → List Item
   value_items at f (integer z) = item f (trees.number z)
   value_items at f (truth b) = item f (trees.truth b)
-  value_items at f (dotted name) = flat_map (λ (z : ℤ). item f (trees.number z)) (option_to_list (number_of_value at.files (type_name_of f) name))
+  value_items at f (dotted name) =
+      flat_map (λ (z : ℤ). item f (trees.number z)) (option_to_list (number_of_value at.files (type_name_of f) name))
   value_items at f (string pieces) = item f (trees.bytes (unwrap_or (decode pieces) []))
   value_items at f (list cs) = list_items at f cs
   value_items at f (fields fs) = message_item f (field_items at (type_name_of f) fs)
@@ -47,12 +49,15 @@ abbrev mutual
   -- what the fields of a message constant give to the message
   pub field_items : OptionScope → Text → ConstantFieldList → List Item
   field_items at message no_fields = []
-  field_items at message (more_fields name c fs) = flat_map (λ (g : FieldDescriptor). value_items at g c) (option_to_list (constant_field at message name)) ++ field_items at message fs
+  field_items at message (more_fields name c fs) =
+      flat_map (λ (g : FieldDescriptor). value_items at g c) (option_to_list (constant_field at message name))
+      ++ field_items at message fs
 
 -- what a constant gives to the field that the parts lead to, from the message on
 abbrev pub path_items : OptionScope → ConstantSyntax → Text → List OptionPartSyntax → List Item
 path_items at value message [] = []
-path_items at value message (p ∷ []) = flat_map (λ (g : FieldDescriptor). value_items at g value) (option_to_list (part_field at message p))
+path_items at value message (p ∷ []) =
+    flat_map (λ (g : FieldDescriptor). value_items at g value) (option_to_list (part_field at message p))
 path_items at value message (p ∷ q ∷ ps) = flat_map (λ (g : FieldDescriptor). message_item g (path_items at value (type_name_of g) (q ∷ ps))) (option_to_list (part_field at message p))
 
 abbrev pub named_items : OptionScope → Text → ConstantSyntax → OptionNameSyntax → List Item
@@ -76,10 +81,12 @@ scope_of files visible s = record { files = files; visible = visible; scope = s.
 abbrev pub SpellsOptions : (files visible : List FileDescriptor) → FileSyntax → CustomBytes → Type 0
 SpellsOptions files visible t spelled =
     (s : OptionSet) → Among (option_sets t) s
-    → Spells (denotes (scope_of files visible s) s.construct s.statements) (spelled s.construct s.scope s.statements)
+    → Spells (denotes (scope_of files visible s) s.construct s.statements)
+    (spelled s.construct s.scope s.statements)
 
--- The descriptor is that of the file known by the path, with its custom options, where the file sees the trees `seen`, and
--- the descriptors of these are `visible`, those of all files that it reaches `files`.
+-- The descriptor is that of the file known by the path, with its custom options, where the file
+-- sees the trees `seen`, and the descriptors of these are `visible`, those of all files that it
+-- reaches `files`.
 pub record IsElaborated (seen : List FileSyntax) (files visible : List FileDescriptor) (path : Text) (t : FileSyntax) (d : FileDescriptor) : Type 0 where
   pub spelled : CustomBytes
   pub spells : SpellsOptions files visible t spelled

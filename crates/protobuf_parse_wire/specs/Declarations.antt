@@ -36,11 +36,14 @@ declared_in file = flat_map (declared_message (package_scope file.«package»)) 
 
 -- extensions that stand in the scope, by full name
 abbrev pub extensions_within : Text → List FieldDescriptor → List (Declared FieldDescriptor)
-extensions_within scope fields = map (λ (f : FieldDescriptor). record { name = within scope f.name; what = f }) fields
+extensions_within scope fields =
+    map (λ (f : FieldDescriptor). record { name = within scope f.name; what = f }) fields
 
 -- the extensions of a file by full name: those inside messages, and those of the file
 abbrev pub declared_extensions : FileDescriptor → List (Declared FieldDescriptor)
-declared_extensions file = flat_map (λ (d : Declaration). extensions_within d.name d.parts.extension) (declared_in file) ++ extensions_within (package_scope file.«package») file.extension
+declared_extensions file =
+    flat_map (λ (d : Declaration). extensions_within d.name d.parts.extension) (declared_in file)
+    ++ extensions_within (package_scope file.«package») file.extension
 
 abbrev pub extensions_in : FileDescriptor → List FieldDescriptor
 extensions_in file = map (λ (e : Declared FieldDescriptor). e.what) (declared_extensions file)

@@ -9,7 +9,8 @@ use Rattle.protobuf_parse_wire.specs.CustomOptions.{denotes, SpellsOptions}
 use Rattle.protobuf_parse_wire.specs.CustomFaults.{option_faults}
 
 abbrev pub option_bytes : (files visible : List FileDescriptor) → CustomBytes
-option_bytes files visible = λ construct scope os. encoded (denotes (record { files = files; visible = visible; scope = scope }) construct os)
+option_bytes files visible = λ construct scope os.
+    encoded (denotes (record { files = files; visible = visible; scope = scope }) construct os)
 
 -- Where no fault stands in the custom options of a file, these bytes spell what they denote.
 abbrev pub OptionBytesSpell : Type 0

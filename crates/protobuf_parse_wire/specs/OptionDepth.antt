@@ -31,7 +31,8 @@ pub record IsShallow (o : OptionSyntax) : Type 0 where
   pub name : length (parts_of o.name) ≤ 100
   pub value : constant_depth o.value ≤ 100
 
--- What such statements denote has at most 200 messages inside one another, so that the reader never meets too many.
+-- What such statements denote has at most 200 messages inside one another, so that the reader never
+-- meets too many.
 abbrev pub NeverTooDeep : Type 0
 NeverTooDeep =
     (at : OptionScope) (construct : Construct) (os : List OptionSyntax)

@@ -1,9 +1,10 @@
 -- Which field each part of an option's name means, and what values a field takes.
 --
--- A name begins at the options message of its construct. A plain part means a field of the message, a part in parentheses
--- an extension of it, looked up as a type is: from the scope outward, among those of the files that the file sees. In a
--- constant for a message a plain name means a field of it, and one in brackets an extension, looked up in the same way.
--- The messages and enums that a field's type names are those of the descriptors that declare them, in all files reached.
+-- A name begins at the options message of its construct. A plain part means a field of the message,
+-- a part in parentheses an extension of it, looked up as a type is: from the scope outward, among
+-- those of the files that the file sees. In a constant for a message a plain name means a field of
+-- it, and one in brackets an extension, looked up in the same way. The messages and enums that a
+-- field's type names are those of the descriptors that declare them, in all files reached.
 -- Protocol Buffers Language Guide (proto2), "Custom Options" (https://protobuf.dev).
 use Rattle.std.specs.Prelude.{ℤ, Bool, ◌&&◌, List, [], ◌++◌, map, flat_map, codes, bytes_eq, Option, Some, None, unwrap_or, option_map, if◌then◌else◌}
 use Rattle.std.specs.List.{find, list_any}
@@ -67,7 +68,8 @@ extension_meant at name = meaning (flat_map declared_extensions at.visible) at.s
 
 -- whether a message has the name, and not an enum
 abbrev pub is_message : List FileDescriptor → Text → Bool
-is_message files name = list_any (λ (d : Declaration). bytes_eq name d.name) (flat_map declared_in files)
+is_message files name =
+    list_any (λ (d : Declaration). bytes_eq name d.name) (flat_map declared_in files)
 
 -- An extendee that names an enum extends no message.
 abbrev pub extends_message : List FileDescriptor → Text → FieldDescriptor → Bool
@@ -76,7 +78,8 @@ extends_message files message f = extends message f && is_message files message
 -- the extension, if it extends the message
 abbrev pub if_extends : List FileDescriptor → Text → Option (Declared FieldDescriptor) → Option FieldDescriptor
 if_extends files message None = None
-if_extends files message (Some d) = if extends_message files message d.what then Some d.what else None
+if_extends files message (Some d) =
+    if extends_message files message d.what then Some d.what else None
 
 abbrev pub extension_named : OptionScope → Text → Text → Option FieldDescriptor
 extension_named at message name = if_extends at.files message (extension_meant at name)
@@ -108,7 +111,8 @@ pub data Takes : Type 0 where
   floats : Takes
   groups : Takes
 
--- A map is a field with the messages behind it: one for each of its entries, with `key` and `value`.
+-- A map is a field with the messages behind it: one for each of its entries, with `key` and
+-- `value`.
 abbrev pub takes : FieldType → Takes
 takes types.Int32 = integers kinds.Int32
 takes types.Int64 = integers kinds.Int64

@@ -29,15 +29,15 @@ fields_at files name = fields_of_message files name ++ extensions_of files name
 abbrev pub HasSmallValues : List FileDescriptor → Type 0
 HasSmallValues files = (enum_name name : Text) (z : ℤ) → number_of_value files enum_name name ≡ Some z → FitsSigned w32 z
 
--- The files that are seen are among those that are reached, and in these stands, once and with distinct numbers, each message
--- that a field holds.
+-- The files that are seen are among those that are reached, and in these stands, once and with
+-- distinct numbers, each message that a field holds.
 pub record IsReadable (at : OptionScope) : Type 0 where
   pub small : HasSmallValues at.files
   pub seen : (file : FileDescriptor) → Among at.visible file → Among at.files file
   pub held : (message : Text) (f : FieldDescriptor) → Among (fields_at at.files message) f → f.type_ ≡ types.Message → (name : Text) × (f.type_name ≡ Some name) × IsEntered at.files name
 
--- Where no fault stands in the custom options of a construct, bytes that spell what they denote are read as the numbers
--- and values of it, by the options message of the construct.
+-- Where no fault stands in the custom options of a construct, bytes that spell what they denote are
+-- read as the numbers and values of it, by the options message of the construct.
 abbrev pub OptionsAreRead : Type 0
 OptionsAreRead =
     (at : OptionScope) (construct : Construct) (os : List OptionSyntax) (bs : List ℕ)
