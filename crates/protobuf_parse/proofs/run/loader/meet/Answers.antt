@@ -14,7 +14,7 @@ use Rattle.protobuf_parse.proofs.Reading.{few_statements}
 use Rattle.protobuf_parse.proofs.run.loader.meet.Goals as goal
 
 pub invariant_of-frame : goal.invariant_of-frame
-invariant_of-frame g c = few_statements _ _ c.in_ok-tree.ensures.read.4
+invariant_of-frame g c = record { few = few_statements _ _ c.in_ok-tree.ensures.read.4 }
 
 pub returns-then-is_on_chain-clause-leaves : goal.returns-then-is_on_chain-clause-leaves
 returns-then-is_on_chain-clause-leaves g c files kept go good =
