@@ -41,6 +41,7 @@ taken-more loaded new log after f more grows t =
       numbered = subst (λ (z : List Named). AreNumbered z f.below.items (done_in f)) (sym longer) (are-more (named_trees loaded) (named_trees more.0) f.below.items (done_in f) t.numbered);
       public = subst (λ (z : List Named). AreNumbered z f.public.items (public_done f)) (sym longer) (are-more (named_trees loaded) (named_trees more.0) f.public.items (public_done f) t.public);
       read = ap (λ z. among (path_of f) (read_paths z)) grows.1 ∙ (ap (among (path_of f)) (map-append (λ (e : ReadEntry). path_buf_text e.path) log grows.0) ∙ among-left (path_of f) (read_paths log) (read_paths grows.0) t.read);
+      few = t.few;
     }
 
 pub all_taken-more : (loaded new : List Entry) (log after : List ReadEntry) (fs : List LoadFrame) → MoreLoaded loaded new → Grows log after → AllByRecursion (IsTaken loaded log) fs → AllByRecursion (IsTaken new after) fs
@@ -59,6 +60,7 @@ taken-joined loaded log old new placed i q t at named number j =
       numbered = rw (j.below, done) (are-append (named_trees loaded) old.below.items (placed.number ∷ []) (done_in old) (q ∷ []) t.numbered (number, tt));
       public = rw (added, publicly) (are-append (named_trees loaded) old.public.items (number_if (is_public i.vis) placed.number) (public_done old) (public_path (import_view i)) t.public (public-one (named_trees loaded) (is_public i.vis) placed.number (path_buf_text i.path) here));
       read = rw j.path_is t.read;
+      few = rw j.tree_is t.few;
     }
 
 -- the next statement is no import
@@ -66,7 +68,7 @@ pub taken-other : (loaded : List Entry) (log : List ReadEntry) (old new : LoadFr
 taken-other loaded log old new x t at other is =
     let d : done_in (record old { next = suc old.next }) ≡ done_in old = done-other old.tree.statements.items old.next x at other in
     let e : public_done (record old { next = suc old.next }) ≡ public_done old = public-other old.tree.statements.items old.next x at other in
-    rw is (record { numbered = rw d t.numbered; public = rw e t.public; read = t.read })
+    rw is (record { numbered = rw d t.numbered; public = rw e t.public; read = t.read; few = t.few })
 
 -- ** files that aren't loaded
 
@@ -86,6 +88,7 @@ taken-new chain after path loaded old new f o = record {
   numbered = rw (o.below, o.next) tt;
   public = rw (o.public, o.next) tt;
   read = rw o.path_is (read-since path old new new o.entry o.reads o.named ([], sym (append-nil new)));
+  few = o.few;
 }
 
 -- what there is when a file was closed

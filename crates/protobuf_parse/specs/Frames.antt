@@ -3,6 +3,7 @@
 use Rattle.std.specs.Prelude.{ℕ, suc, Bool, true, false, if◌then◌else◌, List, [], ◌∷◌, ◌++◌, Option, Some, None, Result, Ok, Err, ◌≡◌, ◌<◌, ◌≤◌, ◌+◌, ◌-◌, ◌*◌, ◌^◌, length, map, flat_map, max, take, drop, slice_get, string_bytes}
 use Rattle.std.specs.List.{AllByRecursion}
 use Rattle.protobuf_parse_base.specs.PathViews.{path_buf_text}
+use Rattle.protobuf_parse_syntax.specs.Counts.{statements_in}
 use Rattle.protobuf_parse_syntax.specs.Dependencies.{imports, is_public}
 use Rattle.protobuf_parse_syntax.specs.Trees.{ImportSyntax, file_view, statement_view}
 use Rattle.protobuf_parse_syntax.specs.declared.tree.FileStatement.{FileStatement}
@@ -96,11 +97,13 @@ pub record IsRunning (legal : Legal) (files : Files) (kept events : List Event) 
   pub below : AllByRecursion (IsHeld files now log) stack
   pub count : meets + statements files.trees kept + (length (left_in top) + to_meet stack) ≡ start + 1 + statements files.trees now
 
--- whatever the trees are: the imports so far have these numbers, the public ones those, and the file was read
+-- whatever the trees are: the imports so far have these numbers, the public ones those, and the file was read; its tree
+-- has no more statements than a text has bytes
 pub record IsTaken (loaded : List Entry) (log : List ReadEntry) (f : LoadFrame) : Type 0 where
   pub numbered : AreNumbered (named_trees loaded) f.below.items (done_in f)
   pub public : AreNumbered (named_trees loaded) f.public.items (public_done f)
   pub read : among (path_of f) (read_paths log) ≡ true
+  pub few : statements_in (file_view f.tree) ≤ 2147483647
 
 -- a frame above this chain, whose next statement imports that path
 pub record IsWaiting (chain : List Text) (f : LoadFrame) (path : Text) : Type 0 where
@@ -140,6 +143,7 @@ pub record IsOpened (chain : List Text) (path : Text) (loaded : List Entry) (old
   pub entry : ReadEntry
   pub reads : new ≡ old ++ entry ∷ []
   pub named : path_buf_text entry.path ≡ path
+  pub few : statements_in (file_view f.tree) ≤ 2147483647
 
 -- a loaded file that was met on this chain
 pub record IsAgain (chain : List Text) (path : Text) (loaded : List Entry) (old : List ReadEntry) (after : List Text) (new : List ReadEntry) (placed : Placed) : Type 0 where

@@ -1,9 +1,5 @@
 //! Files whose imports are being met.
 
-ghost use Rattle.std.specs.Prelude.{◌≤◌};
-ghost use Rattle.protobuf_parse_syntax.specs.Counts.{statements_in};
-ghost use Rattle.protobuf_parse_syntax.specs.Trees.{file_view};
-
 use protobuf_parse_syntax::FileTree;
 
 /// A file whose imports are being met.
@@ -11,7 +7,6 @@ use protobuf_parse_syntax::FileTree;
 pub struct LoadFrame {
     pub path: String,
     pub tree: FileTree,
-    pub ghost few: { statements_in (file_view tree) ≤ 2147483647 },
     /// Which read gave it.
     pub read: usize,
     /// Which statement is next, or is the import that is being loaded.

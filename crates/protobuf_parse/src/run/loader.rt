@@ -428,7 +428,8 @@ fn push_if(numbers: &mut Vec<usize>, public: bool, number: usize) -> Result<(), 
 
 /// Elaborates the last file of the chain, whose imports are loaded, and adds it to the loaded ones.
 fn close(alloc: Global, loader: &mut Loader, frame: LoadFrame) -> Result<Placed, RunFault>
-    requires { frame.height < LIMIT }
+    requires low { frame.height < LIMIT }
+    requires few { statements_in (file_view frame.tree) ≤ 2147483647 }
     ensures reads { loader.new.reads ≡ loader.old.reads }
     ensures meets { loader.new.meets ≡ loader.old.meets }
     ensures chain { (chain : List Text) → texts loader.old.chain.items ≡ chain ++ path_of frame ∷ [] → texts loader.new.chain.items ≡ chain }

@@ -13,9 +13,6 @@ use Rattle.protobuf_parse.proofs.Meeting.{met-breaks, met-known, met-new}
 use Rattle.protobuf_parse.proofs.Reading.{few_statements}
 use Rattle.protobuf_parse.proofs.run.loader.meet.Goals as goal
 
-pub invariant_of-frame : goal.invariant_of-frame
-invariant_of-frame g c = record { few = few_statements _ _ c.in_ok-tree.ensures.read.4 }
-
 pub returns-then-is_on_chain-clause-leaves : goal.returns-then-is_on_chain-clause-leaves
 returns-then-is_on_chain-clause-leaves g c files kept go good =
     let text_is : c.to_str-text.result.now ≡ path_buf_text c.args.path.now = c.to_str-text.ensures.text ∙ c.as_path.ensures in
@@ -123,6 +120,7 @@ returns-clause-stands g c =
       entry = r.0;
       reads = r.1;
       named = r.2;
+      few = few_statements _ _ r.4;
     }
 
 pub returns-clause-leaves : goal.returns-clause-leaves
