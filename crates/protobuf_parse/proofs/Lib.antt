@@ -20,3 +20,5 @@ pub mod Stacks
 pub mod Taking
 pub mod Stepping
 pub mod Meeting
+pub mod Agreeing
+pub mod Further

@@ -10,6 +10,7 @@ ghost use Rattle.protobuf_parse_base.specs.declared.proto_path.path.ProtoPathBuf
 pub mod asking;
 pub mod fault;
 pub mod frame;
+pub mod laws;
 pub mod loader;
 pub mod log;
 pub mod reach;
