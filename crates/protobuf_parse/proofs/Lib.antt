@@ -22,3 +22,4 @@ pub mod Stepping
 pub mod Meeting
 pub mod Agreeing
 pub mod Further
+pub mod Following
