@@ -3,7 +3,7 @@
 ghost use Rattle.std.specs.Prelude.{◌≡◌, ◌++◌, [], codes, map, flat_map, string_bytes, IfOk, OnOk};
 ghost use Rattle.protobuf_parse_syntax.specs.Trees.{option_part_view, option_view};
 ghost use Rattle.protobuf_parse_model.specs.Contexts.{texts};
-ghost use Rattle.protobuf_parse_model.specs.Environment.{Customs, no_extensions, part_text, path_text, unknown_option};
+ghost use Rattle.protobuf_parse_model.specs.Environment.{Customs, no_customs, no_extensions, part_text, path_text, unknown_option};
 ghost use Rattle.protobuf_parse_model.specs.Faults.{Elaborates};
 ghost use Rattle.protobuf_parse_model.specs.OptionViews.{options_seen};
 
@@ -60,6 +60,24 @@ impl CustomOptions for NoExtensions {
         options: &[&ProtobufOption],
     ) -> Result<Vec<u8>, ElabFailure> {
         refuse_customs(alloc, options)?;
+        Ok(Vec::new(alloc))
+    }
+}
+
+/// Leaves custom options out: nothing is wrong in any, and each becomes no bytes.
+#[derive(Clone, Copy, Debug, Drop)]
+pub struct WithoutCustoms;
+
+impl CustomOptions for WithoutCustoms {
+    ghost customs = { λ c. no_customs };
+
+    fn bytes(
+        &self,
+        alloc: Global,
+        _construct: Construct,
+        _scope: &[&str],
+        _options: &[&ProtobufOption],
+    ) -> Result<Vec<u8>, ElabFailure> {
         Ok(Vec::new(alloc))
     }
 }

@@ -10,7 +10,7 @@ mod linking;
 mod scope;
 
 pub use convert::elaborate;
-pub use customs::{Construct, CustomOptions, NoExtensions};
+pub use customs::{Construct, CustomOptions, NoExtensions, WithoutCustoms};
 pub use descriptor::{
     CType, DescriptorProto, EnumDescriptorProto, EnumOptions, EnumReservedRange,
     EnumValueDescriptorProto, EnumValueOptions, ExtensionRange, FieldDescriptorProto, FieldOptions,
