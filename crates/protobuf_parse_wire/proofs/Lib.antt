@@ -16,4 +16,5 @@ pub mod Options
 pub mod OptionBytes
 pub mod OptionDepth
 pub mod Agreement
+pub mod Sayings
 pub mod AgreementBack

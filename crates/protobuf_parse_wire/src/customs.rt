@@ -1,0 +1,5 @@
+//! What the custom options of a construct become, by the descriptors of files.
+
+mod refuse;
+mod strings;
+mod values;
