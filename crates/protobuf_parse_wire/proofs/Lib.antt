@@ -17,4 +17,5 @@ pub mod OptionBytes
 pub mod OptionDepth
 pub mod Agreement
 pub mod Sayings
+pub mod Collected
 pub mod AgreementBack

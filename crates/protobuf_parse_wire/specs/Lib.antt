@@ -15,4 +15,5 @@ pub mod CustomFaults
 pub mod OptionLaw
 pub mod OptionBytes
 pub mod OptionDepth
+pub mod Known
 pub mod Agreement
