@@ -18,4 +18,6 @@ pub mod OptionDepth
 pub mod Agreement
 pub mod Sayings
 pub mod Collected
+pub mod Found
+pub mod Parts
 pub mod AgreementBack

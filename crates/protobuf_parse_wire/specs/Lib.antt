@@ -16,4 +16,5 @@ pub mod OptionLaw
 pub mod OptionBytes
 pub mod OptionDepth
 pub mod Known
+pub mod Given
 pub mod Agreement
