@@ -4,6 +4,7 @@ mod constants;
 mod fields;
 mod known;
 mod lookup;
+mod paths;
 mod refuse;
 mod strings;
 mod values;
