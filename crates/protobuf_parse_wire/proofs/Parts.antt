@@ -11,10 +11,10 @@ use Rattle.protobuf_parse_syntax.proofs.Views.{views_list, views_fields}
 use Rattle.protobuf_parse_model.specs.declared.error.ElabFailure.{ElabFailure}
 use Rattle.protobuf_parse_model.specs.Faults.{Elaborates, Fault}
 use Rattle.protobuf_parse_model.specs.Descriptors.{Text, FieldDescriptor}
-use Rattle.protobuf_parse_wire.specs.CustomFaults.{value_faults, list_faults, field_faults, constant_name_faults, message_value_faults, part_faults, path_faults}
+use Rattle.protobuf_parse_wire.specs.CustomFaults.{value_faults, list_faults, field_faults, message_value_faults, part_faults, path_faults}
 use Rattle.protobuf_parse_wire.specs.CustomOptions.{value_items, list_items, field_items, message_item, path_items}
-use Rattle.protobuf_parse_wire.specs.Given.{field_faults_of, field_items_of, given_faults, through_faults, through_items}
-use Rattle.protobuf_parse_wire.specs.OptionFields.{OptionScope, constant_field, part_field, takes, type_name_of}
+use Rattle.protobuf_parse_wire.specs.Given.{field_faults_of, field_items_of, through_faults, through_items}
+use Rattle.protobuf_parse_wire.specs.OptionFields.{OptionScope, part_field, takes, type_name_of}
 use Rattle.protobuf_parse_wire.specs.Views.{Item}
 
 pub list_faults_are : (at : OptionScope) (option : Text) (f : FieldDescriptor) (cs : List ConstantSyntax) → list_faults at option f (constants cs) ≡ flat_map (value_faults at option f) cs

@@ -1,5 +1,5 @@
 -- What a string says that is given to a field.
-use Rattle.std.proofs.Common.{◌≡◌, List, [], ◌∷◌, Some, None, unwrap_or, ap, sym, ◌∙◌, subst}
+use Rattle.std.proofs.Common.{◌≡◌, List, [], Some, None, unwrap_or, ap, sym, subst}
 use Rattle.protobuf_parse_syntax.specs.Text.{Bytes}
 use Rattle.protobuf_parse_syntax.specs.Decoder.{decode, text_of}
 use Rattle.protobuf_parse_model.specs.declared.error.ElabErrorKind.TheVariants.{StrLitDecode}
@@ -7,7 +7,7 @@ use Rattle.protobuf_parse_model.specs.declared.error.ElabFailure.{ElabFailure}
 use Rattle.protobuf_parse_model.specs.BuiltinOptions.{string_faults}
 use Rattle.protobuf_parse_model.specs.Descriptors.{Text}
 use Rattle.protobuf_parse_model.specs.Duplicates.{fault}
-use Rattle.protobuf_parse_model.specs.Faults.{Blames, Fault}
+use Rattle.protobuf_parse_model.specs.Faults.{Blames}
 
 pub bytes_are : (option : Text) (zs : List Bytes) (v : Bytes) → decode zs ≡ Some v → (string_faults option (decode zs) ≡ []) × (v ≡ unwrap_or (decode zs) [])
 bytes_are option zs v e = (ap (string_faults option) e, sym (ap (λ o. unwrap_or o []) e))

@@ -1,6 +1,6 @@
 -- What the constants of lists and of message constants give, as lists; and from where the code sees
 -- options.
-use Rattle.std.specs.Prelude.{List, ◌++◌, flat_map, Option, option_to_list}
+use Rattle.std.specs.Prelude.{List, ◌++◌, flat_map, option_to_list}
 use Rattle.protobuf_parse_syntax.specs.Trees.{ConstantSyntax, ConstantFieldSyntax, OptionPartSyntax}
 use Rattle.protobuf_parse_model.specs.Contexts.{texts}
 use Rattle.protobuf_parse_model.specs.Descriptors.{Text, FieldDescriptor}

@@ -11,9 +11,7 @@ ghost use Rattle.protobuf_parse_wire.specs.OptionFields.{constant_field, extends
 
 use crate::customs::lookup;
 use crate::customs::refuse::fault;
-use protobuf_parse_model::{
-    ElabErrorKind, ElabFailure, FieldDescriptorProto, FileDescriptorProto,
-};
+use protobuf_parse_model::{ElabErrorKind, ElabFailure, FieldDescriptorProto, FileDescriptorProto};
 use protobuf_parse_syntax::{ConstantFieldName, ProtobufOptionNamePart};
 use std::alloc::{AllocError, Global};
 

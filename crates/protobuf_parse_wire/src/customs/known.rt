@@ -87,7 +87,10 @@ fn add_message<'a>(
     ensures { OnOk result (messages_known list.new.items ≡ messages_known list.old.items ++ declared_message scope.now (message_view message.now)) }
 {
     let name = within(alloc, scope, &message.name)?;
-    list.push(Known { name: name.clone()?, what: message })?;
+    list.push(Known {
+        name: name.clone()?,
+        what: message,
+    })?;
     add_messages(alloc, &name, &message.nested_type, list)
 }
 

@@ -125,11 +125,7 @@ fn number_in(enums: &[Known<&EnumDescriptorProto>], enum_name: &str, name: &str)
     None
 }
 
-fn number_if_named(
-    known: &Known<&EnumDescriptorProto>,
-    enum_name: &str,
-    name: &str,
-) -> Option<i32>
+fn number_if_named(known: &Known<&EnumDescriptorProto>, enum_name: &str, name: &str) -> Option<i32>
     ensures { result ≡ number_among (values_of enum_name.now (enum_known known.now)) name.now }
 {
     if known.name.as_str() == enum_name {

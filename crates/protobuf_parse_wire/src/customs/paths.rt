@@ -85,7 +85,15 @@ fn push_through(
     check_number(alloc, field)?;
     check_step(alloc, part, field)?;
     let mut inside = Vec::new(alloc);
-    push_path(others, alloc, at, option, value, type_name_of(field), &mut inside)?;
+    push_path(
+        others,
+        alloc,
+        at,
+        option,
+        value,
+        type_name_of(field),
+        &mut inside,
+    )?;
     push_item(entries, field, EntryValue::Message(inside))?;
     Ok(())
 }

@@ -8,9 +8,9 @@ ghost use Rattle.protobuf_parse_wire.specs.CustomOptions.{item};
 ghost use Rattle.protobuf_parse_wire.specs.OptionFields.{integer_kind, takes};
 ghost use Rattle.protobuf_parse_wire.specs.Views.{entry_view, entry_value_view};
 
+use crate::customs::refuse::{fault, not_taken};
 use crate::entry::{Entry, EntryValue};
 use crate::kind::Kind;
-use crate::customs::refuse::{fault, not_taken};
 use protobuf_parse_model::{ElabErrorKind, ElabFailure, FieldDescriptorProto, FieldType};
 use std::alloc::{AllocError, Global};
 
@@ -24,7 +24,11 @@ pub fn push_item(
 {
     if let Some(kind) = Kind::of(field.type_) {
         let number = field.number.unsigned_abs();
-        entries.push(Entry { number, kind, value })?;
+        entries.push(Entry {
+            number,
+            kind,
+            value,
+        })?;
     }
     Ok(())
 }
