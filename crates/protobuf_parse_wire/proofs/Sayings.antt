@@ -9,14 +9,18 @@ use Rattle.protobuf_parse_model.specs.Descriptors.{Text}
 use Rattle.protobuf_parse_model.specs.Duplicates.{fault}
 use Rattle.protobuf_parse_model.specs.Faults.{Blames}
 
-pub bytes_are : (option : Text) (zs : List Bytes) (v : Bytes) → decode zs ≡ Some v → (string_faults option (decode zs) ≡ []) × (v ≡ unwrap_or (decode zs) [])
+pub bytes_are : (option : Text) (zs : List Bytes) (v : Bytes) → decode zs ≡ Some v →
+    (string_faults option (decode zs) ≡ []) × (v ≡ unwrap_or (decode zs) [])
 bytes_are option zs v e = (ap (string_faults option) e, sym (ap (λ o. unwrap_or o []) e))
 
-pub text_is : (option : Text) (zs : List Bytes) (v : Bytes) → decode zs ≡ Some v → text_of zs ≡ Some v → (string_faults option (text_of zs) ≡ []) × (v ≡ unwrap_or (decode zs) [])
+pub text_is : (option : Text) (zs : List Bytes) (v : Bytes) → decode zs ≡ Some v → text_of zs
+    ≡ Some v → (string_faults option (text_of zs) ≡ []) × (v ≡ unwrap_or (decode zs) [])
 text_is option zs v e t = (ap (string_faults option) t, sym (ap (λ o. unwrap_or o []) e))
 
-pub bytes_missing : (option : Text) (zs : List Bytes) (e : ElabFailure) → decode zs ≡ None → Blames e (fault StrLitDecode option) → Blames e (string_faults option (decode zs))
+pub bytes_missing : (option : Text) (zs : List Bytes) (e : ElabFailure) → decode zs ≡ None
+    → Blames e (fault StrLitDecode option) → Blames e (string_faults option (decode zs))
 bytes_missing option zs e none h = subst (Blames e) (sym (ap (string_faults option) none)) h
 
-pub text_missing : (option : Text) (zs : List Bytes) (e : ElabFailure) → text_of zs ≡ None → Blames e (fault StrLitDecode option) → Blames e (string_faults option (text_of zs))
+pub text_missing : (option : Text) (zs : List Bytes) (e : ElabFailure) → text_of zs ≡ None
+    → Blames e (fault StrLitDecode option) → Blames e (string_faults option (text_of zs))
 text_missing option zs e none h = subst (Blames e) (sym (ap (string_faults option) none)) h

@@ -21,17 +21,22 @@ abbrev pub given_faults : OptionScope → Text → ConstantSyntax → FieldDescr
 given_faults at option c g = number_faults g ++ value_faults at option g c
 
 abbrev pub field_faults_of : OptionScope → Text → Text → ConstantFieldSyntax → List Fault
-field_faults_of at option message f = constant_name_faults at message f.name ++ flat_map (given_faults at option f.value) (option_to_list (constant_field at message f.name))
+field_faults_of at option message f = constant_name_faults at message f.name ++ flat_map
+    (given_faults at option f.value) (option_to_list (constant_field at message f.name))
 
 abbrev pub given_items : OptionScope → ConstantSyntax → FieldDescriptor → List Item
 given_items at c g = value_items at g c
 
 abbrev pub field_items_of : OptionScope → Text → ConstantFieldSyntax → List Item
-field_items_of at message f = flat_map (given_items at f.value) (option_to_list (constant_field at message f.name))
+field_items_of at message f = flat_map (given_items at f.value)
+    (option_to_list (constant_field at message f.name))
 
 -- of a field that other parts follow, which the part means
-abbrev pub through_faults : OptionScope → Text → ConstantSyntax → OptionPartSyntax → List OptionPartSyntax → FieldDescriptor → List Fault
-through_faults at option value p ps g = number_faults g ++ step_faults (part_text p) (takes g.type_) (path_faults at option value (type_name_of g) ps)
+abbrev pub through_faults : OptionScope → Text → ConstantSyntax → OptionPartSyntax
+    → List OptionPartSyntax → FieldDescriptor → List Fault
+through_faults at option value p ps g = number_faults g ++ step_faults (part_text p)
+    (takes g.type_) (path_faults at option value (type_name_of g) ps)
 
-abbrev pub through_items : OptionScope → ConstantSyntax → List OptionPartSyntax → FieldDescriptor → List Item
+abbrev pub through_items : OptionScope → ConstantSyntax → List OptionPartSyntax → FieldDescriptor
+    → List Item
 through_items at value ps g = message_item g (path_items at value (type_name_of g) ps)

@@ -16,7 +16,11 @@ abbrev pub files_seen : List (Bor FileDescriptorProto) → List FileDescriptor
 files_seen files = map (λ (f : Bor FileDescriptorProto). file_view f.now) files
 
 abbrev pub message_known : Known (Bor DescriptorProto) → Declaration
-message_known k = record { name = string_bytes k.name; parts = parts_seen (message_view k.what.now) }
+message_known k = record {
+  name = string_bytes k.name;
+  parts = parts_seen
+      (message_view k.what.now);
+}
 
 abbrev pub messages_known : List (Known (Bor DescriptorProto)) → List Declaration
 messages_known ks = map message_known ks
@@ -36,7 +40,8 @@ field_among fields name = find (λ (f : FieldDescriptor). bytes_eq f.name name) 
 
 -- the fields of the messages among these that have the full name
 abbrev pub fields_among : Text → List Declaration → List FieldDescriptor
-fields_among message ds = flat_map (λ (parts : MessageParts). parts.field) (messages_named message ds)
+fields_among message ds = flat_map (λ (parts : MessageParts). parts.field)
+    (messages_named message ds)
 
 -- the values of the enums among these that have the full name
 abbrev pub values_of : Text → Declared EnumDescriptor → List EnumValueDescriptor
@@ -46,9 +51,11 @@ abbrev pub values_among : Text → List (Declared EnumDescriptor) → List EnumV
 values_among enum_name es = flat_map (values_of enum_name) es
 
 abbrev pub number_among : List EnumValueDescriptor → Text → Option ℤ
-number_among values name = option_map (λ (v : EnumValueDescriptor). v.number) (find (λ (v : EnumValueDescriptor). bytes_eq v.name name) values)
+number_among values name = option_map (λ (v : EnumValueDescriptor). v.number)
+    (find (λ (v : EnumValueDescriptor). bytes_eq v.name name) values)
 
-abbrev pub extensions_known : List (Known (Bor FieldDescriptorProto)) → List (Declared FieldDescriptor)
+abbrev pub extensions_known : List (Known (Bor FieldDescriptorProto)) → List
+    (Declared FieldDescriptor)
 extensions_known ks = map extension_known ks
 
 abbrev pub extension_seen : Bor (Known (Bor FieldDescriptorProto)) → Declared FieldDescriptor

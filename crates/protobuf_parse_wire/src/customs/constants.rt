@@ -36,7 +36,8 @@ pub fn push_value(
     entries: &mut Vec<Entry>,
 ) -> Result<(), ElabFailure>
     ensures { let s = place_view at.now in let f = field_view field.now in let c = constant_view value.now in
-        Elaborates (λ u. map entry_view entries.new.items) result (value_faults s option.now f c) (map entry_view entries.old.items ++ value_items s f c) }
+        Elaborates (λ u. map entry_view entries.new.items) result (value_faults s option.now f c)
+        (map entry_view entries.old.items ++ value_items s f c) }
 {
     match value {
         ProtobufConstant::U64(number) => push_integer(alloc, field, i128::from(*number), entries),
@@ -59,7 +60,9 @@ fn push_integer(
     entries: &mut Vec<Entry>,
 ) -> Result<(), ElabFailure>
     ensures { let f = field_view field.now in
-        Elaborates (λ u. map entry_view entries.new.items) result (integer_faults f.name (takes f.type_) number) (map entry_view entries.old.items ++ item f (trees.number number)) }
+        Elaborates (λ u. map entry_view entries.new.items) result
+        (integer_faults f.name (takes f.type_) number)
+        (map entry_view entries.old.items ++ item f (trees.number number)) }
 {
     check_integer(alloc, field, number)?;
     push_item(entries, field, EntryValue::Number(number))?;
@@ -73,7 +76,9 @@ fn push_truth(
     entries: &mut Vec<Entry>,
 ) -> Result<(), ElabFailure>
     ensures { let f = field_view field.now in
-        Elaborates (λ u. map entry_view entries.new.items) result (truth_faults f.name (takes f.type_)) (map entry_view entries.old.items ++ item f (trees.truth truth)) }
+        Elaborates (λ u. map entry_view entries.new.items) result
+        (truth_faults f.name (takes f.type_))
+        (map entry_view entries.old.items ++ item f (trees.truth truth)) }
 {
     check_truth(alloc, field)?;
     push_item(entries, field, EntryValue::Bool(truth))?;
@@ -89,7 +94,8 @@ fn push_value_name(
     entries: &mut Vec<Entry>,
 ) -> Result<(), ElabFailure>
     ensures { let s = place_view at.now in let f = field_view field.now in let c = dotted name.now in
-        Elaborates (λ u. map entry_view entries.new.items) result (value_faults s option.now f c) (map entry_view entries.old.items ++ value_items s f c) }
+        Elaborates (λ u. map entry_view entries.new.items) result (value_faults s option.now f c)
+        (map entry_view entries.old.items ++ value_items s f c) }
 {
     let number = lookup::number_of_value(alloc, at.files, type_name_of(field), name)?;
     check_value_name(alloc, field, name, number)?;
@@ -107,7 +113,10 @@ fn push_string(
     entries: &mut Vec<Entry>,
 ) -> Result<(), ElabFailure>
     ensures { let f = field_view field.now in let pieces = pieces_of string.now in
-        Elaborates (λ u. map entry_view entries.new.items) result (string_value_faults option.now f.name (takes f.type_) pieces) (map entry_view entries.old.items ++ item f (trees.bytes (unwrap_or (decode pieces) []))) }
+        Elaborates (λ u. map entry_view entries.new.items) result
+        (string_value_faults option.now f.name (takes f.type_) pieces)
+        (map entry_view entries.old.items ++ item f
+        (trees.bytes (unwrap_or (decode pieces) []))) }
 {
     let bytes = bytes_given(alloc, option, field, string)?;
     push_item(entries, field, EntryValue::Bytes(bytes))?;
@@ -126,7 +135,9 @@ fn push_list(
     entries: &mut Vec<Entry>,
 ) -> Result<(), ElabFailure>
     ensures { let s = place_view at.now in let f = field_view field.now in let cs = map constant_view items.now in
-        Elaborates (λ u. map entry_view entries.new.items) result (flat_map (value_faults s option.now f) cs) (map entry_view entries.old.items ++ flat_map (value_items s f) cs) }
+        Elaborates (λ u. map entry_view entries.new.items) result
+        (flat_map (value_faults s option.now f) cs)
+        (map entry_view entries.old.items ++ flat_map (value_items s f) cs) }
 {
     'items: for item in items {
         push_value(item, alloc, at, option, field, entries)?;
@@ -145,7 +156,11 @@ fn push_message(
     entries: &mut Vec<Entry>,
 ) -> Result<(), ElabFailure>
     ensures { let s = place_view at.now in let f = field_view field.now in let fs = map constant_field_view fields.now in
-        Elaborates (λ u. map entry_view entries.new.items) result (message_value_faults f.name (takes f.type_) (flat_map (field_faults_of s option.now (type_name_of f)) fs)) (map entry_view entries.old.items ++ message_item f (flat_map (field_items_of s (type_name_of f)) fs)) }
+        Elaborates (λ u. map entry_view entries.new.items) result
+        (message_value_faults f.name (takes f.type_)
+        (flat_map (field_faults_of s option.now (type_name_of f)) fs))
+        (map entry_view entries.old.items ++ message_item f
+        (flat_map (field_items_of s (type_name_of f)) fs)) }
 {
     if !matches!(field.type_, FieldType::Message) {
         let kind = ElabErrorKind::MessageFieldRequiresMessageConstant;
@@ -169,7 +184,9 @@ fn push_fields(
     entries: &mut Vec<Entry>,
 ) -> Result<(), ElabFailure>
     ensures { let s = place_view at.now in let fs = map constant_field_view fields.now in
-        Elaborates (λ u. map entry_view entries.new.items) result (flat_map (field_faults_of s option.now message.now) fs) (map entry_view entries.old.items ++ flat_map (field_items_of s message.now) fs) }
+        Elaborates (λ u. map entry_view entries.new.items) result
+        (flat_map (field_faults_of s option.now message.now) fs)
+        (map entry_view entries.old.items ++ flat_map (field_items_of s message.now) fs) }
 {
     'fields: for field in fields {
         push_field(field, alloc, at, option, message, entries)?;
@@ -188,7 +205,9 @@ fn push_field(
     entries: &mut Vec<Entry>,
 ) -> Result<(), ElabFailure>
     ensures { let s = place_view at.now in let f = constant_field_view field.now in
-        Elaborates (λ u. map entry_view entries.new.items) result (field_faults_of s option.now message.now f) (map entry_view entries.old.items ++ field_items_of s message.now f) }
+        Elaborates (λ u. map entry_view entries.new.items) result
+        (field_faults_of s option.now message.now f)
+        (map entry_view entries.old.items ++ field_items_of s message.now f) }
 {
     let known = constant_field(alloc, at, message, &field.name)?;
     push_given(&field.value, alloc, at, option, known, entries)
@@ -206,7 +225,8 @@ pub fn push_given(
     entries: &mut Vec<Entry>,
 ) -> Result<(), ElabFailure>
     ensures { let s = place_view at.now in let f = field_view field.now in let c = constant_view value.now in
-        Elaborates (λ u. map entry_view entries.new.items) result (given_faults s option.now c f) (map entry_view entries.old.items ++ value_items s f c) }
+        Elaborates (λ u. map entry_view entries.new.items) result (given_faults s option.now c f)
+        (map entry_view entries.old.items ++ value_items s f c) }
 {
     check_number(alloc, field)?;
     push_value(value, alloc, at, option, field, entries)

@@ -44,7 +44,8 @@ fn named_field<'a>(
     name: &str,
 ) -> Result<&'a FieldDescriptorProto, ElabFailure>
     ensures { let s = place_view at.now in
-        Elaborates (λ f. Some (field_seen f)) result (field_name_faults s message.now name.now) (field_named s.files message.now name.now) }
+        Elaborates (λ f. Some (field_seen f)) result (field_name_faults s message.now name.now)
+        (field_named s.files message.now name.now) }
 {
     match lookup::field_named(alloc, at.files, message, name)? {
         Some(field) => Ok(field),
@@ -61,7 +62,9 @@ fn named_extension<'a>(
     name: &str,
 ) -> Result<&'a FieldDescriptorProto, ElabFailure>
     ensures { let s = place_view at.now in
-        Elaborates (λ f. Some (field_seen f)) result (extension_faults s.files message.now name.now (extension_meant s name.now)) (extension_named s message.now name.now) }
+        Elaborates (λ f. Some (field_seen f)) result
+        (extension_faults s.files message.now name.now (extension_meant s name.now))
+        (extension_named s message.now name.now) }
 {
     let Some(field) = lookup::extension_meant(alloc, at.visible, at.scope, name)? else {
         return Err(fault(alloc, ElabErrorKind::ExtensionNotFound, name));
@@ -79,7 +82,8 @@ fn extends_message(
     message: &str,
     field: &FieldDescriptorProto,
 ) -> Result<bool, AllocError>
-    ensures { IfOk result (λ b. b ≡ extends_message (files_seen files.now) message.now (field_view field.now)) }
+    ensures { IfOk result (λ b. b ≡ extends_message (files_seen files.now) message.now
+        (field_view field.now)) }
 {
     let Some(extendee) = &field.extendee else {
         return Ok(false);
@@ -98,7 +102,8 @@ pub fn part_field<'a>(
     part: &ProtobufOptionNamePart,
 ) -> Result<&'a FieldDescriptorProto, ElabFailure>
     ensures { let s = place_view at.now in let p = option_part_view part.now in
-        Elaborates (λ f. Some (field_seen f)) result (part_faults s message.now p) (part_field s message.now p) }
+        Elaborates (λ f. Some (field_seen f)) result (part_faults s message.now p)
+        (part_field s message.now p) }
 {
     match part {
         ProtobufOptionNamePart::Direct(name) => named_field(alloc, at, message, name),
@@ -114,7 +119,8 @@ pub fn constant_field<'a>(
     name: &ConstantFieldName,
 ) -> Result<&'a FieldDescriptorProto, ElabFailure>
     ensures { let s = place_view at.now in let n = constant_name_view name.now in
-        Elaborates (λ f. Some (field_seen f)) result (constant_name_faults s message.now n) (constant_field s message.now n) }
+        Elaborates (λ f. Some (field_seen f)) result (constant_name_faults s message.now n)
+        (constant_field s message.now n) }
 {
     match name {
         ConstantFieldName::Regular(name) => named_field(alloc, at, message, name),

@@ -42,7 +42,8 @@ pub fn messages_of<'a>(
     alloc: Global,
     files: &[&'a FileDescriptorProto],
 ) -> Result<Vec<Known<&'a DescriptorProto>>, AllocError>
-    ensures { IfOk result (λ v. messages_known v.items ≡ flat_map declared_in (files_seen files.now)) }
+    ensures { IfOk result (λ v. messages_known v.items ≡ flat_map declared_in
+        (files_seen files.now)) }
 {
     let mut list = Vec::new(alloc);
     'files: for file in files {
@@ -56,7 +57,8 @@ fn add_file<'a>(
     file: &'a FileDescriptorProto,
     list: &mut Vec<Known<&'a DescriptorProto>>,
 ) -> Result<(), AllocError>
-    ensures { OnOk result (messages_known list.new.items ≡ messages_known list.old.items ++ declared_in (file_view file.now)) }
+    ensures { OnOk result (messages_known list.new.items ≡ messages_known list.old.items
+        ++ declared_in (file_view file.now)) }
 {
     let scope = package_scope(alloc, file)?;
     add_messages(alloc, &scope, &file.message_type, list)
@@ -69,7 +71,8 @@ fn add_messages<'a>(
     messages: &'a [DescriptorProto],
     list: &mut Vec<Known<&'a DescriptorProto>>,
 ) -> Result<(), AllocError>
-    ensures { OnOk result (messages_known list.new.items ≡ messages_known list.old.items ++ flat_map (declared_message scope.now) (map message_view messages.now)) }
+    ensures { OnOk result (messages_known list.new.items ≡ messages_known list.old.items
+        ++ flat_map (declared_message scope.now) (map message_view messages.now)) }
 {
     'messages: for message in messages {
         add_message(alloc, scope, message, list)?;
@@ -84,7 +87,8 @@ fn add_message<'a>(
     message: &'a DescriptorProto,
     list: &mut Vec<Known<&'a DescriptorProto>>,
 ) -> Result<(), AllocError>
-    ensures { OnOk result (messages_known list.new.items ≡ messages_known list.old.items ++ declared_message scope.now (message_view message.now)) }
+    ensures { OnOk result (messages_known list.new.items ≡ messages_known list.old.items
+        ++ declared_message scope.now (message_view message.now)) }
 {
     let name = within(alloc, scope, &message.name)?;
     list.push(Known {
@@ -101,7 +105,8 @@ pub fn enums_of<'a>(
     alloc: Global,
     files: &[&'a FileDescriptorProto],
 ) -> Result<Vec<Known<&'a EnumDescriptorProto>>, AllocError>
-    ensures { IfOk result (λ v. map enum_known v.items ≡ flat_map declared_enums (files_seen files.now)) }
+    ensures { IfOk result (λ v. map enum_known v.items ≡ flat_map declared_enums
+        (files_seen files.now)) }
 {
     let mut list = Vec::new(alloc);
     'files: for file in files {
@@ -115,7 +120,8 @@ fn add_enums_of<'a>(
     file: &'a FileDescriptorProto,
     list: &mut Vec<Known<&'a EnumDescriptorProto>>,
 ) -> Result<(), AllocError>
-    ensures { OnOk result (map enum_known list.new.items ≡ map enum_known list.old.items ++ declared_enums (file_view file.now)) }
+    ensures { OnOk result (map enum_known list.new.items ≡ map enum_known list.old.items
+        ++ declared_enums (file_view file.now)) }
 {
     let mut messages = Vec::new(alloc);
     add_file(alloc, file, &mut messages)?;
@@ -130,7 +136,9 @@ fn add_enums_inside<'a>(
     messages: &[Known<&'a DescriptorProto>],
     list: &mut Vec<Known<&'a EnumDescriptorProto>>,
 ) -> Result<(), AllocError>
-    ensures { OnOk result (map enum_known list.new.items ≡ map enum_known list.old.items ++ flat_map (λ (d : Declaration). map (enum_in d.name) d.parts.enum_type) (messages_known messages.now)) }
+    ensures { OnOk result (map enum_known list.new.items ≡ map enum_known list.old.items
+        ++ flat_map (λ (d : Declaration). map (enum_in d.name) d.parts.enum_type)
+        (messages_known messages.now)) }
 {
     'messages: for message in messages {
         add_enums(alloc, &message.name, &message.what.enum_type, list)?;
@@ -145,7 +153,8 @@ fn add_enums<'a>(
     enums: &'a [EnumDescriptorProto],
     list: &mut Vec<Known<&'a EnumDescriptorProto>>,
 ) -> Result<(), AllocError>
-    ensures { OnOk result (map enum_known list.new.items ≡ map enum_known list.old.items ++ map (enum_in scope.now) (map enum_view enums.now)) }
+    ensures { OnOk result (map enum_known list.new.items ≡ map enum_known list.old.items ++ map
+        (enum_in scope.now) (map enum_view enums.now)) }
 {
     'enums: for what in enums {
         let name = within(alloc, scope, &what.name)?;
@@ -161,7 +170,8 @@ pub fn extensions_of<'a>(
     alloc: Global,
     files: &[&'a FileDescriptorProto],
 ) -> Result<Vec<Known<&'a FieldDescriptorProto>>, AllocError>
-    ensures { IfOk result (λ v. map extension_known v.items ≡ flat_map declared_extensions (files_seen files.now)) }
+    ensures { IfOk result (λ v. map extension_known v.items ≡ flat_map declared_extensions
+        (files_seen files.now)) }
 {
     let mut list = Vec::new(alloc);
     'files: for file in files {
@@ -175,7 +185,8 @@ fn add_extensions_of<'a>(
     file: &'a FileDescriptorProto,
     list: &mut Vec<Known<&'a FieldDescriptorProto>>,
 ) -> Result<(), AllocError>
-    ensures { OnOk result (map extension_known list.new.items ≡ map extension_known list.old.items ++ declared_extensions (file_view file.now)) }
+    ensures { OnOk result (map extension_known list.new.items
+        ≡ map extension_known list.old.items ++ declared_extensions (file_view file.now)) }
 {
     let mut messages = Vec::new(alloc);
     add_file(alloc, file, &mut messages)?;
@@ -190,7 +201,10 @@ fn add_extensions_inside<'a>(
     messages: &[Known<&'a DescriptorProto>],
     list: &mut Vec<Known<&'a FieldDescriptorProto>>,
 ) -> Result<(), AllocError>
-    ensures { OnOk result (map extension_known list.new.items ≡ map extension_known list.old.items ++ flat_map (λ (d : Declaration). extensions_within d.name d.parts.extension) (messages_known messages.now)) }
+    ensures { OnOk result (map extension_known list.new.items
+        ≡ map extension_known list.old.items ++ flat_map
+        (λ (d : Declaration). extensions_within d.name d.parts.extension)
+        (messages_known messages.now)) }
 {
     'messages: for message in messages {
         add_extensions(alloc, &message.name, &message.what.extension, list)?;
@@ -205,7 +219,9 @@ fn add_extensions<'a>(
     extensions: &'a [FieldDescriptorProto],
     list: &mut Vec<Known<&'a FieldDescriptorProto>>,
 ) -> Result<(), AllocError>
-    ensures { OnOk result (map extension_known list.new.items ≡ map extension_known list.old.items ++ extensions_within scope.now (map field_view extensions.now)) }
+    ensures { OnOk result (map extension_known list.new.items
+        ≡ map extension_known list.old.items ++ extensions_within scope.now
+        (map field_view extensions.now)) }
 {
     'extensions: for what in extensions {
         let name = within(alloc, scope, &what.name)?;

@@ -26,7 +26,8 @@ pub fn field_named<'a>(
     message: &str,
     name: &str,
 ) -> Result<Option<&'a FieldDescriptorProto>, AllocError>
-    ensures { IfOk result (λ f. option_map field_seen f ≡ field_named (files_seen files.now) message.now name.now) }
+    ensures { IfOk result (λ f. option_map field_seen f ≡ field_named
+        (files_seen files.now) message.now name.now) }
 {
     let messages = known::messages_of(alloc, files)?;
     Ok(field_of(&messages, message, name))
@@ -37,7 +38,8 @@ fn field_of<'a>(
     message: &str,
     name: &str,
 ) -> Option<&'a FieldDescriptorProto>
-    ensures { option_map field_seen result ≡ field_among (fields_among message.now (messages_known messages.now)) name.now }
+    ensures { option_map field_seen result ≡ field_among
+        (fields_among message.now (messages_known messages.now)) name.now }
 {
     'messages: for known in messages {
         if let Some(field) = field_if_named(known, message, name) {
@@ -52,7 +54,8 @@ fn field_if_named<'a>(
     message: &str,
     name: &str,
 ) -> Option<&'a FieldDescriptorProto>
-    ensures { option_map field_seen result ≡ field_among (fields_among message.now (message_known known.now ∷ [])) name.now }
+    ensures { option_map field_seen result ≡ field_among
+        (fields_among message.now (message_known known.now ∷ [])) name.now }
 {
     if message == known.name.as_str() {
         field_among(&known.what.field, name)
@@ -88,7 +91,8 @@ pub fn is_message(
 }
 
 fn is_named(messages: &[Known<&DescriptorProto>], name: &str) -> bool
-    ensures { result ≡ list_any (λ (d : Declaration). bytes_eq name.now d.name) (messages_known messages.now) }
+    ensures { result ≡ list_any (λ (d : Declaration). bytes_eq name.now d.name)
+        (messages_known messages.now) }
 {
     'messages: for known in messages {
         if name == known.name.as_str() {
@@ -107,14 +111,16 @@ pub fn number_of_value(
     enum_name: &str,
     name: &str,
 ) -> Result<Option<i32>, AllocError>
-    ensures { IfOk result (λ n. n ≡ number_of_value (files_seen files.now) enum_name.now name.now) }
+    ensures { IfOk result (λ n. n ≡ number_of_value
+        (files_seen files.now) enum_name.now name.now) }
 {
     let enums = known::enums_of(alloc, files)?;
     Ok(number_in(&enums, enum_name, name))
 }
 
 fn number_in(enums: &[Known<&EnumDescriptorProto>], enum_name: &str, name: &str) -> Option<i32>
-    ensures { result ≡ number_among (values_among enum_name.now (map enum_known enums.now)) name.now }
+    ensures { result ≡ number_among
+        (values_among enum_name.now (map enum_known enums.now)) name.now }
 {
     'enums: for known in enums {
         let number = number_if_named(known, enum_name, name);
@@ -155,7 +161,9 @@ pub fn extension_meant<'a>(
     scope: &[&str],
     name: &str,
 ) -> Result<Option<&'a FieldDescriptorProto>, AllocError>
-    ensures { IfOk result (λ f. option_map field_seen f ≡ undeclared (meaning (flat_map declared_extensions (files_seen visible.now)) (texts scope.now) name.now)) }
+    ensures { IfOk result (λ f. option_map field_seen f ≡ undeclared
+        (meaning (flat_map declared_extensions (files_seen visible.now))
+        (texts scope.now) name.now)) }
 {
     let extensions = known::extensions_of(alloc, visible)?;
     match meaning(alloc, &extensions, scope, name)? {
@@ -170,7 +178,8 @@ fn meaning<'k, 'a>(
     scope: &[&str],
     name: &str,
 ) -> Result<Option<&'k Known<&'a FieldDescriptorProto>>, AllocError>
-    ensures { IfOk result (λ k. option_map extension_seen k ≡ meaning (extensions_known extensions.now) (texts scope.now) name.now) }
+    ensures { IfOk result (λ k. option_map extension_seen k ≡ meaning
+        (extensions_known extensions.now) (texts scope.now) name.now) }
 {
     if name.starts_with('.') {
         return Ok(declared(extensions, name));
@@ -191,7 +200,8 @@ fn declared<'k, 'a>(
     extensions: &'k [Known<&'a FieldDescriptorProto>],
     name: &str,
 ) -> Option<&'k Known<&'a FieldDescriptorProto>>
-    ensures { option_map extension_seen result ≡ declared (extensions_known extensions.now) name.now }
+    ensures { option_map extension_seen result ≡ declared
+        (extensions_known extensions.now) name.now }
 {
     'extensions: for known in extensions {
         if known.name.as_str() == name {

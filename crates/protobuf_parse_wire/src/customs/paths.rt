@@ -33,7 +33,9 @@ pub fn push_path(
     entries: &mut Vec<Entry>,
 ) -> Result<(), ElabFailure>
     ensures { let s = place_view at.now in let ps = map option_part_view parts.now in let c = constant_view value.now in
-        Elaborates (λ u. map entry_view entries.new.items) result (path_faults s option.now c message.now ps) (map entry_view entries.old.items ++ path_items s c message.now ps) }
+        Elaborates (λ u. map entry_view entries.new.items) result
+        (path_faults s option.now c message.now ps)
+        (map entry_view entries.old.items ++ path_items s c message.now ps) }
 {
     let [part, others @ ..] = parts else {
         return Ok(());
@@ -59,8 +61,10 @@ fn push_first(
 ) -> Result<(), ElabFailure>
     ensures { let s = place_view at.now in let p = option_part_view part.now in let ps = map option_part_view others.now in let c = constant_view value.now in
         Elaborates (λ u. map entry_view entries.new.items) result
-        (part_faults s message.now p ++ flat_map (through_faults s option.now c p ps) (option_to_list (part_field s message.now p)))
-        (map entry_view entries.old.items ++ flat_map (through_items s c ps) (option_to_list (part_field s message.now p))) }
+        (part_faults s message.now p ++ flat_map (through_faults s option.now c p ps)
+        (option_to_list (part_field s message.now p)))
+        (map entry_view entries.old.items ++ flat_map (through_items s c ps)
+        (option_to_list (part_field s message.now p))) }
 {
     let field = part_field(alloc, at, message, part)?;
     push_through(others, part, alloc, at, option, value, field, entries)
@@ -80,7 +84,9 @@ fn push_through(
     entries: &mut Vec<Entry>,
 ) -> Result<(), ElabFailure>
     ensures { let s = place_view at.now in let p = option_part_view part.now in let ps = map option_part_view others.now in let c = constant_view value.now in let f = field_view field.now in
-        Elaborates (λ u. map entry_view entries.new.items) result (through_faults s option.now c p ps f) (map entry_view entries.old.items ++ through_items s c ps f) }
+        Elaborates (λ u. map entry_view entries.new.items) result
+        (through_faults s option.now c p ps f)
+        (map entry_view entries.old.items ++ through_items s c ps f) }
 {
     check_number(alloc, field)?;
     check_step(alloc, part, field)?;
@@ -110,7 +116,9 @@ pub fn push_last(
     entries: &mut Vec<Entry>,
 ) -> Result<(), ElabFailure>
     ensures { let s = place_view at.now in let ps = option_part_view part.now ∷ [] in let c = constant_view value.now in
-        Elaborates (λ u. map entry_view entries.new.items) result (path_faults s option.now c message.now ps) (map entry_view entries.old.items ++ path_items s c message.now ps) }
+        Elaborates (λ u. map entry_view entries.new.items) result
+        (path_faults s option.now c message.now ps)
+        (map entry_view entries.old.items ++ path_items s c message.now ps) }
 {
     let field = part_field(alloc, at, message, part)?;
     push_given(value, alloc, at, option, field, entries)
@@ -122,8 +130,10 @@ pub fn check_step(
     part: &ProtobufOptionNamePart,
     field: &FieldDescriptorProto,
 ) -> Result<(), ElabFailure>
-    ensures { let t = takes (field_view field.now).type_ in let p = part_text (option_part_view part.now) in
-        MatchResult result (λ u. t ≡ messages) (λ e. (inside : List Fault) → Blames e (step_faults p t inside)) }
+    ensures { let t = takes (field_view field.now).type_ in let p = part_text
+        (option_part_view part.now) in
+        MatchResult result (λ u. t ≡ messages)
+        (λ e. (inside : List Fault) → Blames e (step_faults p t inside)) }
 {
     let kind = match field.type_ {
         FieldType::Message => return Ok(()),

@@ -24,7 +24,9 @@ pub fn bytes_given(
     string: &StrLit,
 ) -> Result<Vec<u8>, ElabFailure>
     ensures { let f = field_view field.now in let pieces = pieces_of string.now in
-        Elaborates (λ v. v.items) result (string_value_faults option.now f.name (takes f.type_) pieces) (unwrap_or (decode pieces) []) }
+        Elaborates (λ v. v.items) result
+        (string_value_faults option.now f.name (takes f.type_) pieces)
+        (unwrap_or (decode pieces) []) }
 {
     match field.type_ {
         FieldType::String => text_said(alloc, option, string),
@@ -35,7 +37,8 @@ pub fn bytes_given(
 
 fn text_said(alloc: Global, option: &str, string: &StrLit) -> Result<Vec<u8>, ElabFailure>
     ensures { let pieces = pieces_of string.now in
-        Elaborates (λ v. v.items) result (string_faults option.now (text_of pieces)) (unwrap_or (decode pieces) []) }
+        Elaborates (λ v. v.items) result (string_faults option.now (text_of pieces))
+        (unwrap_or (decode pieces) []) }
 {
     match string.decode_utf8(alloc) {
         Ok(text) => Ok(text.into_bytes()),
@@ -48,7 +51,8 @@ fn text_said(alloc: Global, option: &str, string: &StrLit) -> Result<Vec<u8>, El
 
 fn bytes_said(alloc: Global, option: &str, string: &StrLit) -> Result<Vec<u8>, ElabFailure>
     ensures { let pieces = pieces_of string.now in
-        Elaborates (λ v. v.items) result (string_faults option.now (decode pieces)) (unwrap_or (decode pieces) []) }
+        Elaborates (λ v. v.items) result (string_faults option.now (decode pieces))
+        (unwrap_or (decode pieces) []) }
 {
     match string.decode_bytes(alloc) {
         Ok(bytes) => Ok(bytes),

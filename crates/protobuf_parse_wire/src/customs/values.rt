@@ -20,7 +20,8 @@ pub fn push_item(
     field: &FieldDescriptorProto,
     value: EntryValue,
 ) -> Result<(), AllocError>
-    ensures { OnOk result (map entry_view entries.new.items ≡ map entry_view entries.old.items ++ item (field_view field.now) (entry_value_view value)) }
+    ensures { OnOk result (map entry_view entries.new.items ≡ map entry_view entries.old.items
+        ++ item (field_view field.now) (entry_value_view value)) }
 {
     if let Some(kind) = Kind::of(field.type_) {
         let number = field.number.unsigned_abs();

@@ -13,7 +13,8 @@ invariant-push_list-items l =
     let cs = map constant_view (take l.item-index l.items) in
     record {
       no_fault : flat_map (value_faults s l.option (field_view l.field)) cs ≡ [];
-      all : map entry_view l.entries.items ≡ map entry_view l.fn.entries.items ++ flat_map (value_items s (field_view l.field)) cs;
+      all : map entry_view l.entries.items ≡ map entry_view l.fn.entries.items ++ flat_map
+          (value_items s (field_view l.field)) cs;
     }
 
 abbrev pub invariant-push_fields-fields : goal.invariant-push_fields-fields
@@ -22,5 +23,6 @@ invariant-push_fields-fields l =
     let fs = map constant_field_view (take l.field-index l.fields) in
     record {
       no_fault : flat_map (field_faults_of s l.option l.message) fs ≡ [];
-      all : map entry_view l.entries.items ≡ map entry_view l.fn.entries.items ++ flat_map (field_items_of s l.message) fs;
+      all : map entry_view l.entries.items ≡ map entry_view l.fn.entries.items ++ flat_map
+          (field_items_of s l.message) fs;
     }

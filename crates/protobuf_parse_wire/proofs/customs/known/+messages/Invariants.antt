@@ -6,4 +6,5 @@ use Rattle.protobuf_parse_wire.proofs.customs.known.+messages.Given as goal
 
 abbrev pub invariant-add_messages-messages : goal.invariant-add_messages-messages
 invariant-add_messages-messages l =
-    messages_known l.list.items ≡ messages_known l.fn.list.items ++ flat_map (declared_message l.scope) (map message_view (take l.message-index l.messages))
+    messages_known l.list.items ≡ messages_known l.fn.list.items ++ flat_map
+    (declared_message l.scope) (map message_view (take l.message-index l.messages))

@@ -6,4 +6,5 @@ use Rattle.protobuf_parse_wire.proofs.customs.known.add_enums.Given as goal
 
 abbrev pub invariant-enums : goal.invariant-enums
 invariant-enums l =
-    map enum_known l.list.items ≡ map enum_known l.fn.list.items ++ map (enum_in l.scope) (map enum_view (take l.what-index l.enums))
+    map enum_known l.list.items ≡ map enum_known l.fn.list.items ++ map (enum_in l.scope)
+    (map enum_view (take l.what-index l.enums))

@@ -6,4 +6,6 @@ use Rattle.protobuf_parse_wire.proofs.customs.known.add_enums_inside.Given as go
 
 abbrev pub invariant-messages : goal.invariant-messages
 invariant-messages l =
-    map enum_known l.list.items ≡ map enum_known l.fn.list.items ++ flat_map (λ (d : Declaration). map (enum_in d.name) d.parts.enum_type) (messages_known (take l.message-index l.messages))
+    map enum_known l.list.items ≡ map enum_known l.fn.list.items ++ flat_map
+    (λ (d : Declaration). map (enum_in d.name) d.parts.enum_type)
+    (messages_known (take l.message-index l.messages))

@@ -6,4 +6,5 @@ use Rattle.protobuf_parse_wire.proofs.customs.known.add_extensions.Given as goal
 
 abbrev pub invariant-extensions : goal.invariant-extensions
 invariant-extensions l =
-    map extension_known l.list.items ≡ map extension_known l.fn.list.items ++ extensions_within l.scope (map field_view (take l.what-index l.extensions))
+    map extension_known l.list.items ≡ map extension_known l.fn.list.items
+    ++ extensions_within l.scope (map field_view (take l.what-index l.extensions))

@@ -5,4 +5,6 @@ use Rattle.protobuf_parse_wire.proofs.customs.known.add_extensions_inside.Given 
 
 abbrev pub invariant-messages : goal.invariant-messages
 invariant-messages l =
-    map extension_known l.list.items ≡ map extension_known l.fn.list.items ++ flat_map (λ (d : Declaration). extensions_within d.name d.parts.extension) (messages_known (take l.message-index l.messages))
+    map extension_known l.list.items ≡ map extension_known l.fn.list.items ++ flat_map
+    (λ (d : Declaration). extensions_within d.name d.parts.extension)
+    (messages_known (take l.message-index l.messages))

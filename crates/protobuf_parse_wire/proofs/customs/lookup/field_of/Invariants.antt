@@ -4,4 +4,5 @@ use Rattle.protobuf_parse_wire.proofs.customs.lookup.field_of.Given as goal
 
 abbrev pub invariant-messages : goal.invariant-messages
 invariant-messages l =
-    field_among (fields_among l.message (messages_known l.messages)) l.name ≡ field_among (fields_among l.message (messages_known (drop l.known-index l.messages))) l.name
+    field_among (fields_among l.message (messages_known l.messages)) l.name ≡ field_among
+    (fields_among l.message (messages_known (drop l.known-index l.messages))) l.name

@@ -11,7 +11,11 @@ unfolding lib.Utf8.encode
 scope-preserved c =
     let d = get_or c.args.scope.now c.scope.outer-index (record { ref_ptr = (0, 0); now = [] }) in
     let before = texts (take c.scope.outer-index c.args.scope.now) in
-    let more : texts (take (c.scope.outer-index + 1) c.args.scope.now) ≡ before ++ d.now ∷ [] = map_more (λ (s : Bor (List ℕ)). s.now) c.args.scope.now c.scope.outer-index _ c.scope-test.true in
+    let more : texts (take (c.scope.outer-index + 1) c.args.scope.now) ≡ before
+    ++ d.now ∷ [] = map_more (λ
+    (s : Bor (List ℕ)). s.now) c.args.scope.now c.scope.outer-index _ c.scope-test.true in
     let old = c.in_ok-push.ensures.bytes ∙ ap (λ z. z ++ 46 ∷ []) c.scope.invariant in
     let new = c.in_ok-push_str.ensures.bytes ∙ ap (λ z. z ++ d.now) old in
-    new ∙ append_assoc (absolute_text before) (46 ∷ []) d.now ∙ sym (ap absolute_text more ∙ absolute_text-append before (d.now ∷ []) ∙ ap (λ z. absolute_text before ++ 46 ∷ z) (append-nil d.now))
+    new ∙ append_assoc (absolute_text before) (46 ∷ []) d.now ∙ sym
+    (ap absolute_text more ∙ absolute_text-append before (d.now ∷ []) ∙ ap
+    (λ z. absolute_text before ++ 46 ∷ z) (append-nil d.now))

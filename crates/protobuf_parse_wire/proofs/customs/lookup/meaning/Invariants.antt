@@ -9,7 +9,9 @@ abbrev pub invariant-scopes : goal.invariant-scopes
 invariant-scopes l =
     record {
       bound : l.length ≤ length l.scope;
-      none_longer : meaning (extensions_known l.extensions) (texts l.scope) l.name ≡ declared_in_first (declared (extensions_known l.extensions)) l.name (fronts (texts (take l.length l.scope)));
+      none_longer : meaning (extensions_known l.extensions) (texts l.scope) l.name
+          ≡ declared_in_first (declared (extensions_known l.extensions)) l.name
+          (fronts (texts (take l.length l.scope)));
     }
 
 abbrev pub decreases-scopes : goal.decreases-scopes

@@ -4,4 +4,5 @@ use Rattle.protobuf_parse_wire.specs.Known.{number_among}
 use Rattle.protobuf_parse_wire.proofs.customs.lookup.number_among.Given as goal
 
 abbrev pub invariant-values : goal.invariant-values
-invariant-values l = number_among (map enum_value_view l.values) l.name ≡ number_among (map enum_value_view (drop l.value-index l.values)) l.name
+invariant-values l = number_among (map enum_value_view l.values) l.name ≡ number_among
+    (map enum_value_view (drop l.value-index l.values)) l.name

@@ -7,4 +7,8 @@ use Rattle.protobuf_parse_wire.proofs.customs.paths.+path.Goals as goal
 
 pub push_path-returns : goal.push_path-returns
 push_path-returns t c =
-    path_given (λ u. map entry_view c.push_first.new.entries.items) c.push_first.result (place_view c.args.at.now) c.args.option.now (constant_view c.args.value.now) c.args.message.now c.args.parts.now c.part-item.result (map entry_view c.args.entries.now.items) c.part-item.is (sym c.is_empty.ensures ∙ c.if-is_empty.false) c.push_first.ensures
+    path_given (λ u. map entry_view c.push_first.new.entries.items) c.push_first.result
+    (place_view c.args.at.now) c.args.option.now
+    (constant_view c.args.value.now) c.args.message.now c.args.parts.now c.part-item.result
+    (map entry_view c.args.entries.now.items) c.part-item.is
+    (sym c.is_empty.ensures ∙ c.if-is_empty.false) c.push_first.ensures

@@ -9,10 +9,12 @@ pub returns-in-Ok : goal.returns-in-Ok
 returns-in-Ok c =
     let zs = pieces_of c.args.string.now in
     let v = string_bytes c.in-Ok.text in
-    let is = text_is c.args.option.now zs v (bytes_said zs v c.in-Ok.ensures.text) (text_said zs c.in-Ok.text c.in-Ok.ensures.text) in
+    let is = text_is c.args.option.now zs v (bytes_said zs v c.in-Ok.ensures.text)
+    (text_said zs c.in-Ok.text c.in-Ok.ensures.text) in
     (is.0, ap (λ (b : Vec ℕ). b.items) c.into_bytes.ensures.value ∙ is.1)
 
 pub returns-in_ok-check_memory-in-Err : goal.returns-in_ok-check_memory-in-Err
 returns-in_ok-check_memory-in-Err c =
     let zs = pieces_of c.args.string.now in
-    text_missing c.args.option.now zs _ (no_text_said zs c.in-Err.error c.in-Err.ensures.refused c.in_ok-check_memory-in-Err.ensures) c.fault.ensures
+    text_missing c.args.option.now zs _
+    (no_text_said zs c.in-Err.error c.in-Err.ensures.refused c.in_ok-check_memory-in-Err.ensures) c.fault.ensures
