@@ -20,3 +20,6 @@ pub mod Stacks
 pub mod Taking
 pub mod Stepping
 pub mod Meeting
+pub mod Agreeing
+pub mod Further
+pub mod Following

@@ -183,7 +183,7 @@ just-by Has files ns d up are = record {
 
 -- ** faults
 
-none-before : (firsts others : List elaborating.Fault) → before_others firsts others ≡ [] → firsts ≡ []
+pub none-before : (firsts others : List elaborating.Fault) → before_others firsts others ≡ [] → firsts ≡ []
 none-before [] others h = refl
 none-before (a ∷ firsts) others h = h
 
@@ -194,17 +194,17 @@ none-after (a ∷ firsts) others h = cc
 no-others : (firsts others : List elaborating.Fault) → firsts ≡ [] → others ≡ [] → before_others firsts others ≡ []
 no-others firsts others h k = rw (h, k) refl
 
-told-before : (firsts others : List elaborating.Fault) (f : elaborating.Fault) → Among firsts f → Among (before_others firsts others) f
+pub told-before : (firsts others : List elaborating.Fault) (f : elaborating.Fault) → Among firsts f → Among (before_others firsts others) f
 told-before [] others f m = absurd (no-member f m)
   where
     no-member : (f : elaborating.Fault) → Among [] f → ⊥
     no-member f m = elim m [ ]
 told-before (a ∷ firsts) others f m = m
 
-told-after : (firsts others : List elaborating.Fault) (f : elaborating.Fault) → firsts ≡ [] → Among others f → Among (before_others firsts others) f
+pub told-after : (firsts others : List elaborating.Fault) (f : elaborating.Fault) → firsts ≡ [] → Among others f → Among (before_others firsts others) f
 told-after firsts others f h m = rw h m
 
-which-told : (firsts others : List elaborating.Fault) (f : elaborating.Fault) → Among (before_others firsts others) f → Among firsts f ⊎ ((firsts ≡ []) × Among others f)
+pub which-told : (firsts others : List elaborating.Fault) (f : elaborating.Fault) → Among (before_others firsts others) f → Among firsts f ⊎ ((firsts ≡ []) × Among others f)
 which-told [] others f m = inr (refl, m)
 which-told (a ∷ firsts) others f m = inl m
 
