@@ -44,7 +44,7 @@ pub adds_messages_more : (a b c : Index) (ds ds' : List Declaration) → AddsMes
 adds_messages_more a b c ds ds' first second =
     subst (λ (es : List FieldDescriptor). Adds a c (ds ++ ds') es) (sym (flat_map-append (λ d. d.parts.extension) ds ds')) (adds_more a b c ds ds' _ _ first second)
 
-declared_list : (scope : Text) (ms : List MessageDescriptor) → declared_messages scope (messages_of_list ms) ≡ flat_map (declared_message scope) ms
+pub declared_list : (scope : Text) (ms : List MessageDescriptor) → declared_messages scope (messages_of_list ms) ≡ flat_map (declared_message scope) ms
 declared_list scope [] = refl
 declared_list scope (m ∷ ms) = ap (λ ds. declared_message scope m ++ ds) (declared_list scope ms)
 

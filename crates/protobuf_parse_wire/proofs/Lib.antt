@@ -16,4 +16,8 @@ pub mod Options
 pub mod OptionBytes
 pub mod OptionDepth
 pub mod Agreement
+pub mod Sayings
+pub mod Collected
+pub mod Found
+pub mod Parts
 pub mod AgreementBack

@@ -15,4 +15,6 @@ pub mod CustomFaults
 pub mod OptionLaw
 pub mod OptionBytes
 pub mod OptionDepth
+pub mod Known
+pub mod Given
 pub mod Agreement

@@ -132,3 +132,8 @@ takes types.Message = messages
 takes types.Float = floats
 takes types.Double = floats
 takes types.Group = groups
+
+-- the kind of the integers that are taken, where any are
+abbrev pub integer_kind : Takes → Option Kind
+integer_kind (integers k) = Some k
+integer_kind other = None

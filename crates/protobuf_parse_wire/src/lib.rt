@@ -1,6 +1,7 @@
 //! Option bytes on the wire: an encoder of entries, and a reader that goes by descriptors.
 #![tactic(auto)]
 
+mod customs;
 mod encoder;
 mod entry;
 mod fault;

@@ -1,0 +1,74 @@
+//! The bytes that strings stand for.
+
+ghost use Rattle.std.specs.Prelude.{◌≡◌, unwrap_or, [], OnOk};
+ghost use Rattle.protobuf_parse_syntax.specs.Decoder.{decode, text_of};
+ghost use Rattle.protobuf_parse_syntax.specs.Trees.{pieces_of};
+ghost use Rattle.protobuf_parse_syntax.specs.declared.lexer.str_lit.StrLitDecodeError.TheVariants.{Memory};
+ghost use Rattle.protobuf_parse_model.specs.BuiltinOptions.{string_faults};
+ghost use Rattle.protobuf_parse_model.specs.Descriptors.{field_view};
+ghost use Rattle.protobuf_parse_model.specs.Faults.{Elaborates};
+ghost use Rattle.protobuf_parse_wire.specs.CustomFaults.{string_value_faults};
+ghost use Rattle.protobuf_parse_wire.specs.OptionFields.{takes};
+
+use crate::customs::refuse::{fault, not_taken};
+use protobuf_parse_model::{ElabErrorKind, ElabFailure, FieldDescriptorProto, FieldType};
+use protobuf_parse_syntax::{StrLit, StrLitDecodeError};
+use std::alloc::{AllocError, Global};
+
+/// The bytes of the string that the option of that name gives to the field. E9 for one that says nothing,
+/// of a text field too for one that is no text.
+pub fn bytes_given(
+    alloc: Global,
+    option: &str,
+    field: &FieldDescriptorProto,
+    string: &StrLit,
+) -> Result<Vec<u8>, ElabFailure>
+    ensures { let f = field_view field.now in let pieces = pieces_of string.now in
+        Elaborates (λ v. v.items) result
+        (string_value_faults option.now f.name (takes f.type_) pieces)
+        (unwrap_or (decode pieces) []) }
+{
+    match field.type_ {
+        FieldType::String => text_said(alloc, option, string),
+        FieldType::Bytes => bytes_said(alloc, option, string),
+        _ => Err(not_taken(alloc, field)),
+    }
+}
+
+fn text_said(alloc: Global, option: &str, string: &StrLit) -> Result<Vec<u8>, ElabFailure>
+    ensures { let pieces = pieces_of string.now in
+        Elaborates (λ v. v.items) result (string_faults option.now (text_of pieces))
+        (unwrap_or (decode pieces) []) }
+{
+    match string.decode_utf8(alloc) {
+        Ok(text) => Ok(text.into_bytes()),
+        Err(error) => {
+            check_memory(error)?;
+            Err(fault(alloc, ElabErrorKind::StrLitDecode, option))
+        }
+    }
+}
+
+fn bytes_said(alloc: Global, option: &str, string: &StrLit) -> Result<Vec<u8>, ElabFailure>
+    ensures { let pieces = pieces_of string.now in
+        Elaborates (λ v. v.items) result (string_faults option.now (decode pieces))
+        (unwrap_or (decode pieces) []) }
+{
+    match string.decode_bytes(alloc) {
+        Ok(bytes) => Ok(bytes),
+        Err(error) => {
+            check_memory(error)?;
+            Err(fault(alloc, ElabErrorKind::StrLitDecode, option))
+        }
+    }
+}
+
+/// Fails where memory ran out.
+fn check_memory(error: StrLitDecodeError) -> Result<(), AllocError>
+    ensures { OnOk result (error ≡ Memory → ⊥) }
+{
+    match error {
+        StrLitDecodeError::Memory => Err(AllocError),
+        StrLitDecodeError::BadEscape | StrLitDecodeError::NotUtf8 => Ok(()),
+    }
+}
