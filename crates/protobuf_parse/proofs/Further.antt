@@ -12,11 +12,12 @@ use Rattle.protobuf_parse_model.specs.declared.descriptor.FileDescriptorProto.{F
 use Rattle.protobuf_parse.specs.Walks.{Asked, the_resolver, Input, named, at, Event, cycle, long, load, check, elab, same, has, keep, among, Trees, Reaches, import_paths, joined, inside, walk, checks, input_walk, events_after, events, elab_paths, name_of, asked_of, reads_in}
 use Rattle.protobuf_parse.specs.Run.{Files, AreDescriptors, environment_of, fails, faults_in, is_nothing}
 use Rattle.protobuf_parse.specs.Loading.{Within}
-use Rattle.protobuf_parse.specs.Stability.{AgreeOn, DeclaresOnce, HasLists, IsAlike, IsClean, IsFileOf, order}
+use Rattle.protobuf_parse.specs.Stability.{AgreeOn, DeclaresOnce, WereRead, IsAlike, IsClean, IsFileOf, order}
 use Rattle.protobuf_parse.proofs.Keeping.{bool_cases, clean-has, cycle-same, elab_paths-append, has-elab, has-here, has-in, has-last, has-left, has-like, has-one, has-right, keep-extends, long-same, never_both, or_cases, or_left, or_right, some_same, text-same, text-true}
 use Rattle.protobuf_parse.proofs.Walking.{walk-load, walk-no_room, walk-on_chain}
 use Rattle.protobuf_parse.proofs.Inputs.{events-append}
 use Rattle.protobuf_parse.proofs.Settling.{none-before}
+use Rattle.protobuf_parse.proofs.Spelling.{others}
 use Rattle.protobuf_parse.proofs.Agreeing.{alike}
 
 -- a file that these events load
@@ -420,7 +421,7 @@ module _ (files : Files) (inputs : List Input) (clean : IsClean files inputs) wh
             (never_both _ (has-elab p all ∙ h)
             (clean-has (fails files) all (elab p) (elab-same p) clean w))
         | inr w ↦ none-before (link_faults (trees_at files.trees (files.reached p)))
-            (file_faults (environment_of files p t) t)
+            (others files p t)
             (nothing-there (faults_in files p (Some t))
             (subst (λ (o : Option FileSyntax). not (is_nothing (faults_in files p o)) ≡ false)
             is w))
@@ -472,7 +473,7 @@ begins-with old new (p ∷ ps) qs (d ∷ first) (e ∷ both) each h k =
     )
 
 pub descriptors-stay : (old new : Files) (inputs more : List Input)
-    (first both : List FileDescriptorProto) → HasLists old → HasLists new → IsClean old inputs
+    (first both : List FileDescriptorProto) → WereRead old → WereRead new → IsClean old inputs
     → AgreeOn (IsFileOf old.trees inputs) old.trees new.trees
     → AreDescriptors old (order old.trees inputs) first
     → AreDescriptors new (order new.trees (inputs ++ more)) both → (rest : List FileDescriptor)

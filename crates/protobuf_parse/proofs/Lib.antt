@@ -14,6 +14,8 @@ pub mod Deciding
 pub mod Causing
 pub mod Numbers
 pub mod Knowing
+pub mod Spelling
+pub mod Reordering
 pub mod Settling
 pub mod Listed
 pub mod Stacks

@@ -4,11 +4,12 @@ use Rattle.std.specs.Prelude.{bytes_eq, slice_get, option_to_list, string_bytes}
 use Rattle.std.specs.List.{AllByRecursion}
 use Rattle.std.specs.List.Sorted.{IsStrictlyIncreasing}
 use Rattle.std.proofs.lemmas.Option.{slice_get-map}
+use Rattle.std.proofs.lemmas.List.{map-append}
 use Rattle.std.proofs.lemmas.List.Elements.{Contains-append_left, Contains-append_right, Contains-append_cases}
 use Rattle.protobuf_parse_syntax.specs.Trees.{FileSyntax, file_view}
-use Rattle.protobuf_parse_model.specs.Descriptors.{Text}
+use Rattle.protobuf_parse_model.specs.Descriptors.{Text, FileDescriptor}
 use Rattle.protobuf_parse_model.specs.Declarations.{DeclaredType, file_scope}
-use Rattle.protobuf_parse_model.specs.Environment.{Environment, no_extensions}
+use Rattle.protobuf_parse_model.specs.Environment.{Customs, Environment, no_customs}
 use Rattle.protobuf_parse_model.specs.Faults.{Among, here, there, fault_view}
 use Rattle.protobuf_parse_model.specs.Faults as elaborating
 use Rattle.protobuf_parse_model.specs.FileDescriptor.{environment, file_faults, file_of}
@@ -17,9 +18,10 @@ use Rattle.protobuf_parse_model.specs.Linking.{before_others, link_faults}
 use Rattle.protobuf_parse_model.specs.Tables.{picked}
 use Rattle.protobuf_parse_model.specs.declared.scope.seen.Declarations.{Declarations}
 use Rattle.protobuf_parse_model.proofs.Orders.{SameMembers, just-same, link-none, link-told, types-same}
+use Rattle.protobuf_parse_wire.specs.OptionBytes.{known_customs}
 use Rattle.protobuf_parse.specs.Walks.{Trees, Reaches, HandsOn, Sees, sees_itself, by_import, among, import_paths}
-use Rattle.protobuf_parse.specs.Run.{Files, AreListed, StandsInElab, environment_of, faults_in, origin_given}
-use Rattle.protobuf_parse.specs.Loading.{Agrees, AreJoined, AreKnown, AreNumbered, AreNumbersOf, Entry, IsAddedOver, IsLoaded, IsNumbered, Named, Settles, SettlesOver, faults_over, file_at, file_over, named_trees, paths_in, trees_of, with_next}
+use Rattle.protobuf_parse.specs.Run.{Files, AreListed, StandsInElab, customs_of, environment_of, faults_in, origin_given, plain_of, plains_at}
+use Rattle.protobuf_parse.specs.Loading.{Agrees, AreJoined, AreKnown, AreNumbered, AreNumbersOf, Entry, IsAddedOver, IsLoaded, IsNumbered, Named, Settles, SettlesOver, customs_over, faults_over, file_at, file_over, named_trees, paths_in, picked_plains, plain_in, plain_over, plains_next, trees_of, with_next}
 use Rattle.protobuf_parse.specs.declared.run.fault.RunFault.{RunFault}
 use Rattle.protobuf_parse.specs.declared.run.fault.RunFault.TheVariants as fault
 use Rattle.protobuf_parse.specs.declared.run.loader.Placed.{Placed}
@@ -28,6 +30,8 @@ use Rattle.protobuf_parse.specs.declared.run.reach.Held.TheVariants as held_as
 use Rattle.protobuf_parse.proofs.Keeping.{or_cases, or_left, or_right, among-append, text-same, text-true}
 use Rattle.protobuf_parse.proofs.Knowing.{agrees-push, next-trees, leads-out, once-push, sees-out, sees-reaches}
 use Rattle.protobuf_parse.proofs.Numbers.{numbers-joined, only-one}
+use Rattle.protobuf_parse.proofs.Reordering.{HavePackages, customs-same}
+use Rattle.protobuf_parse.proofs.Spelling.{others, others_by, told_by}
 
 -- ** files by numbers and by paths
 
@@ -52,6 +56,50 @@ picked-are trees files (n ∷ ns) agrees =
     let first : option_to_list (slice_get (trees_of files) n) ≡ trees_at trees (path_of (slice_get files n)) = ap option_to_list (slice_get-map (λ (f : Named). f.1) files n) ∙ one-tree trees (slice_get files n) (λ q u h. agrees n q u h) in
     ap (λ ts. ts ++ picked (trees_of files) ns) first ∙ ap (λ ts. trees_at trees (path_of (slice_get files n)) ++ ts) (picked-are trees files ns agrees)
     ∙ sym (trees_at-append trees (path_of (slice_get files n)) (paths_by files ns))
+
+-- ** descriptors by numbers and by paths
+
+plains_at-append : (files : Files) (ps qs : List Text)
+    → plains_at files (ps ++ qs) ≡ plains_at files ps ++ plains_at files qs
+plains_at-append files [] qs = refl
+plains_at-append files (p ∷ ps) qs =
+    let first = map (plain_of files p) (option_to_list (files.trees p)) in
+    ap (λ ds. first ++ ds) (plains_at-append files ps qs)
+    ∙ sym (append_assoc first (plains_at files ps) (plains_at files qs))
+
+-- a file's descriptor without custom options
+abbrev pub described_by : Files → Named → FileDescriptor
+described_by files f = plain_of files f.0 f.1
+
+one-plain : (files : Files) (o : Option Named)
+    → ((q : Text) (u : FileSyntax) → o ≡ Some (q, u) → files.trees q ≡ Some u)
+    → option_to_list (option_map (described_by files) o) ≡ plains_at files (path_of o)
+one-plain files None agrees = refl
+one-plain files (Some f) agrees =
+    sym (ap (λ (o : Option FileSyntax). map (plain_of files f.0) (option_to_list o) ++ [])
+    (agrees f.0 f.1 refl))
+
+plains-are : (files : Files) (named : List Named) (ns : List ℕ) → Agrees files.trees named
+    → picked_plains (map (described_by files) named) ns ≡ plains_at files (paths_by named ns)
+plains-are files named [] agrees = refl
+plains-are files named (n ∷ ns) agrees =
+    let at = path_of (slice_get named n) in
+    let first : option_to_list (slice_get (map (described_by files) named) n) ≡ plains_at files at =
+    ap option_to_list (slice_get-map (described_by files) named n)
+    ∙ one-plain files (slice_get named n) (λ q u h. agrees n q u h) in
+    ap (λ ds. ds ++ picked_plains (map (described_by files) named) ns) first
+    ∙ ap (λ ds. plains_at files at ++ ds) (plains-are files named ns agrees)
+    ∙ sym (plains_at-append files at (paths_by named ns))
+
+-- the loaded files have the descriptors of their trees
+pub plains-made : (files : Files) (log : List ReadEntry) (loaded : List Entry)
+    → AllByRecursion (λ (e : Entry). IsLoaded files log (string_bytes e.0) e.1) loaded
+    → map plain_in loaded ≡ map (described_by files) (named_trees loaded)
+plains-made files log [] made = refl
+plains-made files log (e ∷ loaded) made =
+    ap (λ d. d ∷ map plain_in loaded) made.0.plain
+    ∙ ap (λ ds. plain_of files (string_bytes e.0) (file_view e.1.tree) ∷ ds)
+    (plains-made files log loaded made.1)
 
 -- ** each of them once
 
@@ -210,78 +258,138 @@ which-told (a ∷ firsts) others f m = inl m
 
 -- ** the next file
 
-module _ (files : Files) (listed : AreListed files.trees files.reached files.seen) (loaded : List Entry) (names : Declarations) (log : List ReadEntry) (known : AreKnown loaded names log) (agrees : Agrees files.trees (named_trees loaded)) (p : Text) (t : FileSyntax) (is : files.trees p ≡ Some t) (none : file_at p loaded ≡ None) (below : List ℕ) (numbered : AreNumbered (named_trees loaded) below (import_paths t)) (reach sight : List ℕ) (reaches : AreJoined held_as.Reach loaded below reach) (sees : AreJoined held_as.HandedOn loaded below sight) where
+-- What is known where a file is elaborated whose imports are loaded.
+pub record IsNext (files : Files) (loaded : List Entry) (names : Declarations) (log : List ReadEntry) (p : Text) (t : FileSyntax) (below : List ℕ) : Type 0 where
+  pub listed : AreListed files.trees files.reached files.seen
+  pub packages : HavePackages files.trees
+  pub known : AreKnown loaded names log
+  pub agrees : Agrees files.trees (named_trees loaded)
+  pub plain : map plain_in loaded ≡ map (described_by files) (named_trees loaded)
+  pub is : files.trees p ≡ Some t
+  pub none : file_at p loaded ≡ None
+  pub numbered : AreNumbered (named_trees loaded) below (import_paths t)
+
+module _ (files : Files) (loaded : List Entry) (names : Declarations) (log : List ReadEntry) (p : Text) (t : FileSyntax) (below : List ℕ) (n : IsNext files loaded names log p t below) (reach sight : List ℕ) (reaches : AreJoined held_as.Reach loaded below reach) (sees : AreJoined held_as.HandedOn loaded below sight) where
   abbrev with_p : List Named
   with_p = named_trees loaded ++ (p, t) ∷ []
 
+  abbrev rs : List Text
+  rs = paths_by with_p reach
+
+  abbrev ss : List Text
+  ss = paths_by with_p sight
+
   agrees-p : Agrees files.trees with_p
-  agrees-p = agrees-push files.trees (named_trees loaded) p t agrees is
+  agrees-p = agrees-push files.trees (named_trees loaded) p t n.agrees n.is
 
   once-p : AreDistinct (paths_in with_p)
-  once-p = once-push loaded p t known.once none
+  once-p = once-push loaded p t n.known.once n.none
 
-  reached-by : AreJust (Reaches files.trees p) (paths_by with_p reach)
+  reached-by : AreJust (Reaches files.trees p) rs
   reached-by = just-by (Reaches files.trees p) with_p reach once-p reaches.ascending
-      (numbers-joined held_as.Reach loaded p t (Reaches files.trees p) (λ r q. Reaches files.trees r q) (import_paths t) below reach (known.reach files.trees agrees) (stays p) (λ r q i rest. leads p r q t is i rest) (λ q h. leads-out import_paths files.trees p q t is h) numbered reaches)
+      (numbers-joined held_as.Reach loaded p t (Reaches files.trees p) (λ r q. Reaches files.trees r q) (import_paths t) below reach (n.known.reach files.trees n.agrees) (stays p) (λ r q i rest. leads p r q t n.is i rest) (λ q h. leads-out import_paths files.trees p q t n.is h) n.numbered reaches)
 
-  seen-by : AreJust (Sees files.trees p) (paths_by with_p sight)
+  seen-by : AreJust (Sees files.trees p) ss
   seen-by = just-by (Sees files.trees p) with_p sight once-p sees.ascending
-      (numbers-joined held_as.HandedOn loaded p t (Sees files.trees p) (λ r q. HandsOn files.trees r q) (import_paths t) below sight (known.handed_on files.trees agrees) (sees_itself p) (λ r q i rest. by_import p r q t is i rest) (λ q h. sees-out files.trees p q t is h) numbered sees)
+      (numbers-joined held_as.HandedOn loaded p t (Sees files.trees p) (λ r q. HandsOn files.trees r q) (import_paths t) below sight (n.known.handed_on files.trees n.agrees) (sees_itself p) (λ r q i rest. by_import p r q t n.is i rest) (λ q h. sees-out files.trees p q t n.is h) n.numbered sees)
 
   abbrev linked : List elaborating.Fault
-  linked = link_faults (trees_at files.trees (paths_by with_p reach))
+  linked = link_faults (trees_at files.trees rs)
 
   abbrev linked_in : List elaborating.Fault
   linked_in = link_faults (trees_at files.trees (files.reached p))
 
-  abbrev sees_types : (Text → Option DeclaredType) → Environment
-  sees_types types = record { syntax = t.syntax; types = types; scope = file_scope t; customs = no_extensions }
+  same-reach : SameMembers rs (files.reached p)
+  same-reach = just-same (Reaches files.trees p) rs (files.reached p) reached-by (n.listed.reaches p)
 
-  same-reach : SameMembers (paths_by with_p reach) (files.reached p)
-  same-reach = just-same (Reaches files.trees p) (paths_by with_p reach) (files.reached p) reached-by (listed.reaches p)
+  same-sight : SameMembers ss (files.seen p)
+  same-sight = just-same (Sees files.trees p) ss (files.seen p) seen-by (n.listed.sees p)
 
-  same-sight : SameMembers (paths_by with_p sight) (files.seen p)
-  same-sight = just-same (Sees files.trees p) (paths_by with_p sight) (files.seen p) seen-by (listed.sees p)
+  sight-within : (q : Text) → among q ss ≡ true → among q rs ≡ true
+  sight-within q m = reached-by.all q (sees-reaches files.trees p q (seen-by.only q m))
 
   linked-is : link_faults (picked (with_next loaded t) reach) ≡ linked
   linked-is = ap link_faults (ap (λ (ts : List FileSyntax). picked ts reach) (next-trees loaded p t) ∙ picked-are files.trees with_p reach agrees-p)
 
-  sight-is : picked (with_next loaded t) sight ≡ trees_at files.trees (paths_by with_p sight)
+  link-again : linked ≡ [] → linked_in ≡ []
+  link-again h = link-none files.trees rs (files.reached p) reached-by.once (n.listed.reaches p).once same-reach h
+
+  sight-is : picked (with_next loaded t) sight ≡ trees_at files.trees ss
   sight-is = ap (λ (ts : List FileSyntax). picked ts sight) (next-trees loaded p t) ∙ picked-are files.trees with_p sight agrees-p
 
-  same-types : linked ≡ [] → environment (picked (with_next loaded t) sight) no_extensions t ≡ environment_of files p t
-  same-types h =
-      ap (λ (ts : List FileSyntax). environment ts no_extensions t) sight-is
-      ∙ ap sees_types (types-same files.trees (paths_by with_p reach) (paths_by with_p sight) (files.seen p) reached-by.once same-sight (λ q m. reached-by.all q (sees-reaches files.trees p q (seen-by.only q m))) h)
+  -- ** where no name is declared twice
 
-  abbrev told-over : List elaborating.Fault
-  told-over = file_faults (environment (picked (with_next loaded t) sight) no_extensions t) t
+  abbrev sees_types : Customs → (Text → Option DeclaredType) → Environment
+  sees_types c types = record { syntax = t.syntax; types = types; scope = file_scope t; customs = c }
 
-  over-is : faults_over (with_next loaded t) reach sight t ≡ before_others linked told-over
-  over-is = ap (λ (fs : List elaborating.Fault). before_others fs told-over) linked-is
+  same-types : linked ≡ [] → (c : Customs)
+      → environment (picked (with_next loaded t) sight) c t
+      ≡ environment (trees_at files.trees (files.seen p)) c t
+  same-types h c =
+      ap (λ (ts : List FileSyntax). environment ts c t) sight-is
+      ∙ ap (sees_types c) (types-same files.trees rs ss (files.seen p) reached-by.once same-sight sight-within h)
 
-  others-same : linked ≡ [] → told-over ≡ file_faults (environment_of files p t) t
-  others-same h = ap (λ (env : Environment). file_faults env t) (same-types h)
+  abbrev plains : List FileDescriptor
+  plains = plains_next loaded sight p t
 
-  pub over-faultless : faults_over (with_next loaded t) reach sight t ≡ [] → faults_in files p (Some t) ≡ []
+  own-is : linked ≡ [] → plain_over (with_next loaded t) sight p t ≡ plain_of files p t
+  own-is h = ap (λ (env : Environment). file_of env p t) (same-types h no_customs)
+
+  plains-with : linked ≡ [] → plains ≡ map (described_by files) with_p
+  plains-with h =
+      ap (λ ds. ds ++ plain_over (with_next loaded t) sight p t ∷ []) n.plain
+      ∙ ap (λ d. map (described_by files) (named_trees loaded) ++ d ∷ []) (own-is h)
+      ∙ sym (map-append (described_by files) (named_trees loaded) ((p, t) ∷ []))
+
+  plains-at : linked ≡ [] → (ns : List ℕ)
+      → picked_plains plains ns ≡ plains_at files (paths_by with_p ns)
+  plains-at h ns = ap (λ ds. picked_plains ds ns) (plains-with h) ∙ plains-are files with_p ns agrees-p
+
+  same-customs : linked ≡ [] → customs_over plains reach sight ≡ customs_of files p
+  same-customs h =
+      ap (λ ds. known_customs ds (picked_plains plains sight)) (plains-at h reach)
+      ∙ ap (λ ds. known_customs (plains_at files rs) ds) (plains-at h sight)
+      ∙ customs-same files rs (files.reached p) ss (files.seen p) n.packages reached-by.once
+      (n.listed.reaches p).once same-reach same-sight sight-within h
+
+  -- ** faults
+
+  abbrev others_over : List elaborating.Fault
+  others_over = others_by (picked (with_next loaded t) sight) (customs_over plains reach sight) t
+
+  over-is : faults_over (with_next loaded t) plains reach sight t ≡ before_others linked others_over
+  over-is = ap (λ (fs : List elaborating.Fault). before_others fs others_over) linked-is
+
+  others-same : linked ≡ [] → others_over ≡ others files p t
+  others-same h =
+      ap (λ (env : Environment). before_others (file_faults env t) (told_by (customs_over plains reach sight) t)) (same-types h no_customs)
+      ∙ ap (λ (c : Customs). others_by (trees_at files.trees (files.seen p)) c t) (same-customs h)
+
+  pub over-linked : faults_over (with_next loaded t) plains reach sight t ≡ [] → linked ≡ []
+  over-linked h = none-before linked others_over (sym over-is ∙ h)
+
+  pub over-faultless : faults_over (with_next loaded t) plains reach sight t ≡ [] → faults_in files p (Some t) ≡ []
   over-faultless h =
-      let e = sym over-is ∙ h in
-      let first = none-before linked told-over e in
-      no-others linked_in (file_faults (environment_of files p t) t)
-      (link-none files.trees (paths_by with_p reach) (files.reached p) reached-by.once (listed.reaches p).once same-reach first)
-      (sym (others-same first) ∙ none-after linked told-over e)
+      let first = over-linked h in
+      no-others linked_in (others files p t) (link-again first)
+      (sym (others-same first) ∙ none-after linked others_over (sym over-is ∙ h))
 
-  pub over-descriptor : faults_over (with_next loaded t) reach sight t ≡ [] → file_over (with_next loaded t) sight p t ≡ file_of (environment_of files p t) p t
-  over-descriptor h = ap (λ (env : Environment). file_of env p t) (same-types (none-before linked told-over (sym over-is ∙ h)))
+  pub over-descriptor : faults_over (with_next loaded t) plains reach sight t ≡ []
+      → file_over (with_next loaded t) plains reach sight p t ≡ file_of (environment_of files p t) p t
+  over-descriptor h =
+      ap (λ (env : Environment). file_of env p t) (same-types (over-linked h) (customs_over plains reach sight))
+      ∙ ap (λ (c : Customs). file_of (environment (trees_at files.trees (files.seen p)) c t) p t) (same-customs (over-linked h))
 
-  pub over-told : (f : elaborating.Fault) → Among (faults_over (with_next loaded t) reach sight t) f → Among (faults_in files p (Some t)) f
+  pub over-plain : faults_over (with_next loaded t) plains reach sight t ≡ []
+      → plain_over (with_next loaded t) sight p t ≡ plain_of files p t
+  over-plain h = own-is (over-linked h)
+
+  pub over-told : (f : elaborating.Fault) → Among (faults_over (with_next loaded t) plains reach sight t) f → Among (faults_in files p (Some t)) f
   over-told f m =
-      elim (which-told linked told-over f (subst (λ (fs : List elaborating.Fault). Among fs f) over-is m)) [
-        | inl w ↦ told-before linked_in (file_faults (environment_of files p t) t) f (link-told files.trees (paths_by with_p reach) (files.reached p) f reached-by.once (listed.reaches p).once same-reach w)
-        | inr w ↦
-            let first = w.0 in
-            told-after linked_in (file_faults (environment_of files p t) t) f (link-none files.trees (paths_by with_p reach) (files.reached p) reached-by.once (listed.reaches p).once same-reach first)
-            (subst (λ (fs : List elaborating.Fault). Among fs f) (others-same first) w.1)
+      elim (which-told linked others_over f (subst (λ (fs : List elaborating.Fault). Among fs f) over-is m)) [
+        | inl w ↦ told-before linked_in (others files p t) f (link-told files.trees rs (files.reached p) f reached-by.once (n.listed.reaches p).once same-reach w)
+        | inr w ↦ told-after linked_in (others files p t) f (link-again w.0)
+            (subst (λ (fs : List elaborating.Fault). Among fs f) (others-same w.0) w.1)
       ]
 
 -- a fault of elaboration stands wherever its fault does
@@ -291,11 +399,12 @@ stands-more origin firsts others (fault.Memory) more s = absurd s
 stands-more origin firsts others _ more s = absurd s
 
 -- what an elaboration over numbered files leaves
-pub settled-in : (files : Files) (loaded new : List Entry) (names after : Declarations) (q p : Text) (t : FileSyntax) (height read : ℕ) (below public : List ℕ) (log : List ReadEntry) (r : Result Placed RunFault)
-    → q ≡ p → AreListed files.trees files.reached files.seen → AreKnown loaded names log → Agrees files.trees (named_trees loaded) → files.trees p ≡ Some t → file_at p loaded ≡ None → AreNumbered (named_trees loaded) below (import_paths t)
-    → SettlesOver q t height read below public log loaded new after r → Settles files p t height read log loaded new r
-settled-in files loaded new names after q p t height read below public log (Ok placed) same listed known agrees is none numbered over = λ missing.
-    let a = subst (λ (z : Text). file_at z loaded ≡ None → IsAddedOver z t height read below public loaded new after placed) same over missing in
+pub settled-in : (files : Files) (loaded new : List Entry) (names after : Declarations) (p : Text) (t : FileSyntax) (height read : ℕ) (below public : List ℕ) (log : List ReadEntry) (r : Result Placed RunFault)
+    → IsNext files loaded names log p t below
+    → SettlesOver p t height read below public log loaded new after r → Settles files p t height read log loaded new r
+settled-in files loaded new names after p t height read below public log (Ok placed) n over = λ missing.
+    let a = over missing in
+    let reach = a.file.reach.items in
     record {
       key = a.key;
       file = a.file;
@@ -304,15 +413,15 @@ settled-in files loaded new names after q p t height read below public log (Ok p
       tree_is = a.tree_is;
       height_is = a.height_is;
       read_is = a.read_is;
-      faultless = over-faultless files listed loaded names log known agrees p t is none below numbered a.file.reach.items a.sight a.reaches a.sees a.faultless;
-      descriptor = a.descriptor ∙ over-descriptor files listed loaded names log known agrees p t is none below numbered a.file.reach.items a.sight a.reaches a.sees a.faultless;
+      faultless = over-faultless files loaded names log p t below n reach a.sight a.reaches a.sees a.faultless;
+      descriptor = a.descriptor ∙ over-descriptor files loaded names log p t below n reach a.sight a.reaches a.sees a.faultless;
+      plain = a.plain ∙ over-plain files loaded names log p t below n reach a.sight a.reaches a.sees a.faultless;
       placed_is = a.height_placed;
     }
-settled-in files loaded new names after q p t height read below public log (Err f) same listed known agrees is none numbered over = λ e found named.
-    elim (over e found (named ∙ sym same)) [
+settled-in files loaded new names after p t height read below public log (Err f) n over = λ e found named.
+    elim (over e found named) [
       | inl w ↦
-          let stands : StandsInElab (origin_given p (Some e.outcome)) (faults_over (with_next loaded t) w.0 w.1 t) f = subst (λ (z : Text). StandsInElab (origin_given z (Some e.outcome)) (faults_over (with_next loaded t) w.0 w.1 t) f) same w.4 in
-          inl (stands-more (origin_given p (Some e.outcome)) (faults_over (with_next loaded t) w.0 w.1 t) (faults_in files p (Some t)) f (λ g m. over-told files listed loaded names log known agrees p t is none below numbered w.0 w.1 w.2 w.3 g m) stands)
+          inl (stands-more (origin_given p (Some e.outcome)) (faults_over (with_next loaded t) (plains_next loaded w.1 p t) w.0 w.1 t) (faults_in files p (Some t)) f (λ g m. over-told files loaded names log p t below n w.0 w.1 w.2 w.3 g m) w.4)
       | inr w ↦ inr w
     ]
 

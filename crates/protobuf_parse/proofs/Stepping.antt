@@ -16,14 +16,15 @@ use Rattle.protobuf_parse.specs.declared.run.loader.Placed.{Placed}
 use Rattle.protobuf_parse.specs.declared.run.log.ReadEntry.{ReadEntry}
 use Rattle.protobuf_parse.specs.declared.run.log.ReadOutcome.{ReadOutcome}
 use Rattle.protobuf_parse.specs.Walks.{Asked, the_resolver, Event, load, elab, keep, among, Trees, import_paths, joined, statements, walk}
-use Rattle.protobuf_parse.specs.Run.{AreListed, Files, StandsInElab, environment_of, faults_in, first_read, origin_given}
-use Rattle.protobuf_parse.specs.Loading.{Legal, AreKnown, AreNumbered, Entry, Good, Grows, IsAdded, IsLoaded, Leaves, Settled, Settles, SettlesOver, Stops, Within, file_at, file_shape, imports_shape, named_trees}
+use Rattle.protobuf_parse.specs.Run.{Files, StandsInElab, environment_of, faults_in, first_read, origin_given, plain_of}
+use Rattle.protobuf_parse.specs.Loading.{Legal, AreKnown, AreNumbered, Entry, GoesOn, Good, Grows, IsAdded, IsLoaded, Leaves, Settled, Settles, SettlesOver, Stops, Within, file_at, file_shape, imports_shape, named_trees}
 use Rattle.protobuf_parse.specs.Frames.{IsHeld, IsNew, IsOpened, IsRunning, IsSame, IsTaken, Joined, chain_of, done_in, imports_in, later_in, left_in, owed, path_of, to_meet, todo}
 use Rattle.protobuf_parse.proofs.Keeping.{among-last, has-left, keep-append, keep-fresh}
 use Rattle.protobuf_parse.proofs.Walking.{joined-append, settled-join, settled-more, settled-same, walk-load}
 use Rattle.protobuf_parse.proofs.Steps.{breaks-now, get-grown, good-elab, halts-at, room-is, stops-more}
 use Rattle.protobuf_parse.proofs.Leaving.{stands-failing}
-use Rattle.protobuf_parse.proofs.Settling.{agrees-made, settled-in}
+use Rattle.protobuf_parse.proofs.Reordering.{packages-read}
+use Rattle.protobuf_parse.proofs.Settling.{IsNext, agrees-made, plains-made, settled-in}
 use Rattle.protobuf_parse.proofs.Counting.{after-load, count-grows, statements-append}
 use Rattle.protobuf_parse.proofs.Stacks.{chain_of-push, done-import, done-other, frames-into, frames-pop, frames-push, left-import, left-joined, left-other, none-left, to_meet-push, todo-push}
 use Rattle.protobuf_parse.proofs.Taking.{done-all}
@@ -211,12 +212,22 @@ module _ (legal : Legal) (files : Files) (kept events : List Event) (i : Text) (
       ∙ keep-fresh r.now (todo files.trees i [] stack) (elab (path_of top)) (r.good.apart (path_of top) (among-last (path_of top) (chain_of [] stack))))
 
   -- what its elaboration leaves
-  pub running-closes : (stack : List LoadFrame) (top : LoadFrame) (meets : ℕ) (loaded later : List Entry) (names after : Declarations) (log : List ReadEntry) (res : Result Placed RunFault) (r : Running meets stack top loaded log) → AreListed files.trees files.reached files.seen → AreKnown loaded names log → IsTaken loaded log top → file_at (path_of top) loaded ≡ None → among (path_of top) (chain_of [] stack) ≡ false → length top.tree.statements.items ≤ top.next → top.height < 100
+  pub running-closes : (stack : List LoadFrame) (top : LoadFrame) (meets : ℕ) (loaded later : List Entry) (names after : Declarations) (log : List ReadEntry) (res : Result Placed RunFault) (r : Running meets stack top loaded log) (table : List (Text × Text)) (full : List ReadEntry) → GoesOn files table full → AreKnown loaded names log → IsTaken loaded log top → file_at (path_of top) loaded ≡ None → among (path_of top) (chain_of [] stack) ≡ false → length top.tree.statements.items ≤ top.next → top.height < 100
       → SettlesOver (path_of top) (file_view top.tree) (top.height + 1) top.read top.below.items top.public.items log loaded later after res → Leaves legal files (r.now ++ elab (path_of top) ∷ []) (file_shape files.trees (path_of top)) later log (chain_of [] stack) res
-  running-closes stack top meets loaded later names after log res r listed known taken none off le low over =
+  running-closes stack top meets loaded later names after log res r table full go known taken none off le low over =
       let numbered : AreNumbered (named_trees loaded) top.below.items (import_paths (file_view top.tree)) = subst (λ (z : List Text). AreNumbered (named_trees loaded) top.below.items z) (done-all top le) taken.numbered in
       let agrees = agrees-made files log loaded r.good.made in
-      let settles = settled-in files loaded later names after (path_of top) (path_of top) (file_view top.tree) (top.height + 1) top.read top.below.items top.public.items log res refl listed known agrees r.held.is none numbered over in
+      let next : IsNext files loaded names log (path_of top) (file_view top.tree) top.below.items = record {
+        listed = go.listed;
+        packages = packages-read files table full go;
+        known = known;
+        agrees = agrees;
+        plain = plains-made files log loaded r.good.made;
+        is = r.held.is;
+        none = none;
+        numbered = numbered;
+      } in
+      let settles = settled-in files loaded later names after (path_of top) (file_view top.tree) (top.height + 1) top.read top.below.items top.public.items log res next over in
       ends res settles
     where
       p : Text
@@ -232,6 +243,7 @@ module _ (legal : Legal) (files : Files) (kept events : List Event) (i : Text) (
             low = rw d.height_is (omega (arith, low));
             is = r.held.is ∙ ap Some (sym d.tree_is);
             descriptor = d.descriptor ∙ ap (λ u. file_of (environment_of files p u) p u) (sym d.tree_is);
+            plain = d.plain ∙ ap (plain_of files p) (sym d.tree_is);
             entry = r.held.entry;
             read = rw d.read_is r.held.found;
             named = r.held.named;

@@ -110,6 +110,7 @@ module _ (legal : Legal) (files : Files) where
     low = l.low;
     is = l.is;
     descriptor = l.descriptor;
+    plain = l.plain;
     entry = l.entry;
     read = get-more log (e ∷ []) x.1.read l.entry l.read;
     named = l.named;

@@ -1,5 +1,5 @@
 -- What holds while files are loaded, for every list of reads that the log begins and any events kept so far.
-use Rattle.std.specs.Prelude.{◌≡◌, ◌⊎◌, ◌≤◌, ℕ, true, false, nat_lt, List, [], ◌∷◌, ◌++◌, length, map, flat_map, Option, Some, None, Result, Ok, Err, bytes_eq, String, string_bytes, slice_get, find}
+use Rattle.std.specs.Prelude.{◌≡◌, ◌⊎◌, ◌≤◌, ℕ, true, false, nat_lt, List, [], ◌∷◌, ◌++◌, length, map, flat_map, Option, Some, None, option_to_list, Result, Ok, Err, bytes_eq, String, string_bytes, slice_get, find}
 use Rattle.std.specs.Global.{Global}
 use Rattle.std.specs.List.{AllByRecursion, Contains}
 use Rattle.std.specs.List.Sorted.{IsStrictlyIncreasing}
@@ -9,16 +9,20 @@ use Rattle.protobuf_parse_syntax.specs.Trees.{FileSyntax, file_view}
 use Rattle.protobuf_parse_syntax.specs.declared.tree.FileTree.{FileTree}
 use Rattle.protobuf_parse_model.specs.Descriptors as described
 use Rattle.protobuf_parse_model.specs.Descriptors.{Text, FileDescriptor}
-use Rattle.protobuf_parse_model.specs.Environment.{no_extensions}
-use Rattle.protobuf_parse_model.specs.FileDescriptor.{environment, file_faults, file_of}
+use Rattle.protobuf_parse_model.specs.Environment.{Customs, no_customs}
+use Rattle.protobuf_parse_model.specs.FileDescriptor.{environment, file_of}
 use Rattle.protobuf_parse_model.specs.FilesByPath.{AreDistinct}
-use Rattle.protobuf_parse_model.specs.Linking.{before_others, link_faults}
 use Rattle.protobuf_parse_model.specs.Tables.{Tells, picked}
+use Rattle.protobuf_parse_model.specs.declared.descriptor.FileDescriptorProto.{FileDescriptorProto}
 use Rattle.protobuf_parse_model.specs.declared.scope.seen.Declarations.{Declarations}
 use Rattle.protobuf_parse_model.specs.Faults as elaborating
-use Rattle.protobuf_parse_model.specs.Faults.{fault_view}
+use Rattle.protobuf_parse_model.specs.Faults.{Blames, fault_view}
+use Rattle.protobuf_parse_model.specs.declared.error.ElabFailure.{ElabFailure}
+use Rattle.protobuf_parse_wire.specs.CustomFaults.{elaboration_faults}
+use Rattle.protobuf_parse_wire.specs.OptionBytes.{known_customs}
 use Rattle.protobuf_parse.specs.declared.run.fault.RunFault.{RunFault}
 use Rattle.protobuf_parse.specs.declared.run.fault.RunFault.TheVariants as fault
+use Rattle.protobuf_parse.specs.declared.run.describe.Described.{Described}
 use Rattle.protobuf_parse.specs.declared.run.loader.LoadedFile.{LoadedFile}
 use Rattle.protobuf_parse.specs.declared.run.loader.Placed.{Placed}
 use Rattle.protobuf_parse.specs.declared.run.reach.Held.{Held}
@@ -32,7 +36,7 @@ use Rattle.protobuf_parse.specs.declared.run.fault.ResolveFault.{ResolveFault}
 use Rattle.protobuf_parse.specs.declared.run.fault.ReadInputFault.{ReadInputFault}
 use Rattle.protobuf_parse.specs.declared.run.log.ReadOutcome.TheVariants as outcome
 use Rattle.protobuf_parse.specs.declared.run.source.Sources.{Sources}
-use Rattle.protobuf_parse.specs.Run.{Files, MayAnswer, MayRead, MayResolve, AreListed, HasTrees, faults_in, IsTheTree, text_read, environment_of, first_read, fails, said, text_given, origin_given, Answers, StandsAt, StandsInLoad, StandsInElab, IsUnparsed}
+use Rattle.protobuf_parse.specs.Run.{Files, MayAnswer, MayRead, MayResolve, AreListed, HasTrees, faults_in, IsTheTree, text_read, environment_of, plain_of, first_read, fails, said, text_given, origin_given, Answers, StandsAt, StandsInLoad, StandsInElab, IsUnparsed}
 
 -- the answers that who is asked for a path may give
 abbrev pub Legal : Type 1
@@ -127,12 +131,58 @@ pub record AreJoined (which : Held) (loaded : List Entry) (files numbers : List 
   pub all : (n : ℕ) → Contains (held_by which loaded files) n → Contains numbers n
   pub only : (n : ℕ) → Contains numbers n → Contains (held_by which loaded files) n
 
--- the faults of a file, and what it becomes, over the files with the numbers that it reaches and sees
-abbrev pub faults_over : List FileSyntax → List ℕ → List ℕ → FileSyntax → List elaborating.Fault
-faults_over files reach sight t = before_others (link_faults (picked files reach)) (file_faults (environment (picked files sight) no_extensions t) t)
+-- ---- descriptors by numbers
 
-abbrev pub file_over : List FileSyntax → List ℕ → Text → FileSyntax → FileDescriptor
-file_over files sight path t = file_of (environment (picked files sight) no_extensions t) path t
+-- a descriptor without custom options: the same one, where it has none
+abbrev pub plain_or : Option FileDescriptorProto → FileDescriptorProto → FileDescriptor
+plain_or (Some plain) d = described.file_view plain
+plain_or None d = described.file_view d
+
+abbrev pub plain_in : Entry → FileDescriptor
+plain_in e = plain_or e.1.plain e.1.descriptor
+
+-- those of the loaded files, and behind them that of the next
+abbrev pub plains_with : List Entry → FileDescriptor → List FileDescriptor
+plains_with loaded d = map plain_in loaded ++ d ∷ []
+
+-- those with these numbers
+abbrev pub picked_plains : List FileDescriptor → List ℕ → List FileDescriptor
+picked_plains plains numbers = flat_map (λ (n : ℕ). option_to_list (slice_get plains n)) numbers
+
+-- What a file becomes without its custom options, over the files with the numbers that it sees.
+abbrev pub plain_over : List FileSyntax → List ℕ → Text → FileSyntax → FileDescriptor
+plain_over files sight path t = file_of (environment (picked files sight) no_customs t) path t
+
+-- the descriptors by which its custom options are looked up
+abbrev pub plains_over : List Entry → List FileSyntax → List ℕ → Text → FileSyntax → List FileDescriptor
+plains_over loaded files sight path t = plains_with loaded (plain_over files sight path t)
+
+-- the faults of a file, and what it becomes, over the files with the numbers that it reaches and sees
+abbrev pub faults_over : List FileSyntax → List FileDescriptor → List ℕ → List ℕ → FileSyntax → List elaborating.Fault
+faults_over files plains reach sight t =
+    elaboration_faults (picked files reach) (picked files sight) (picked_plains plains reach)
+    (picked_plains plains sight) t
+
+abbrev pub customs_over : List FileDescriptor → List ℕ → List ℕ → Customs
+customs_over plains reach sight =
+    known_customs (picked_plains plains reach) (picked_plains plains sight)
+
+abbrev pub file_over : List FileSyntax → List FileDescriptor → List ℕ → List ℕ → Text → FileSyntax → FileDescriptor
+file_over files plains reach sight path t =
+    file_of (environment (picked files sight) (customs_over plains reach sight) t) path t
+
+abbrev pub plain_seen : Bor FileDescriptorProto → FileDescriptor
+plain_seen d = described.file_view d.now
+
+-- What a file becomes by these numbers, and without its custom options; or a fault that stands.
+abbrev pub Describes : List Entry → List FileSyntax → (reach sight : List ℕ) → Text → FileSyntax → Result Described ElabFailure → Type 0
+Describes loaded files reach sight path t (Ok d) =
+    let plains = plains_over loaded files sight path t in
+    (faults_over files plains reach sight t ≡ [])
+    × (described.file_view d.descriptor ≡ file_over files plains reach sight path t)
+    × (plain_or d.plain d.descriptor ≡ plain_over files sight path t)
+Describes loaded files reach sight path t (Err e) =
+    Blames e (faults_over files (plains_over loaded files sight path t) reach sight t)
 
 -- these are more files than were loaded
 abbrev pub MoreLoaded : List Entry → List Entry → Type 0
@@ -170,6 +220,7 @@ pub record IsLoaded (files : Files) (log : List ReadEntry) (path : Text) (file :
   pub low : file.height ≤ 100
   pub is : files.trees path ≡ Some (file_view file.tree)
   pub descriptor : described.file_view file.descriptor ≡ file_of (environment_of files path (file_view file.tree)) path (file_view file.tree)
+  pub plain : plain_or file.plain file.descriptor ≡ plain_of files path (file_view file.tree)
   pub entry : ReadEntry
   pub read : slice_get log file.read ≡ Some entry
   pub named : path_buf_text entry.path ≡ path
@@ -283,6 +334,7 @@ pub record IsAdded (files : Files) (path : Text) (tree : FileSyntax) (height rea
   pub read_is : file.read ≡ read
   pub faultless : faults_in files path (Some tree) ≡ []
   pub descriptor : described.file_view file.descriptor ≡ file_of (environment_of files path tree) path tree
+  pub plain : plain_or file.plain file.descriptor ≡ plain_of files path tree
   pub placed_is : placed.height ≡ height
 
 -- the texts of a chain
@@ -322,6 +374,10 @@ Settles files path tree height read log old new (Err f) = (e : ReadEntry) → sl
 abbrev pub with_next : List Entry → FileSyntax → List FileSyntax
 with_next loaded tree = trees_of (named_trees loaded) ++ tree ∷ []
 
+-- the descriptors of the loaded files without custom options, and behind them that of the next
+abbrev pub plains_next : List Entry → List ℕ → Text → FileSyntax → List FileDescriptor
+plains_next loaded sight path tree = plains_over loaded (with_next loaded tree) sight path tree
+
 -- A file was added behind those that were loaded, whose imports have these numbers, and its public ones those. By the numbers of the files that it
 -- reaches and sees, no fault stands in it, and it has become its descriptor.
 pub record IsAddedOver (path : Text) (tree : FileSyntax) (height read : ℕ) (imports public : List ℕ) (old new : List Entry) (names : Declarations) (placed : Placed) : Type 0 where
@@ -336,8 +392,9 @@ pub record IsAddedOver (path : Text) (tree : FileSyntax) (height read : ℕ) (im
   pub reaches : AreJoined held_as.Reach old imports file.reach.items
   pub sees : AreJoined held_as.HandedOn old imports sight
   pub hands_on : AreJoined held_as.HandedOn old public file.handed_on.items
-  pub faultless : faults_over (with_next old tree) file.reach.items sight tree ≡ []
-  pub descriptor : described.file_view file.descriptor ≡ file_over (with_next old tree) sight path tree
+  pub faultless : faults_over (with_next old tree) (plains_next old sight path tree) file.reach.items sight tree ≡ []
+  pub descriptor : described.file_view file.descriptor ≡ file_over (with_next old tree) (plains_next old sight path tree) file.reach.items sight path tree
+  pub plain : plain_or file.plain file.descriptor ≡ plain_over (with_next old tree) sight path tree
   pub tells : Tells names (with_next old tree)
   pub height_placed : placed.height ≡ height
   pub number_placed : placed.number ≡ length old
@@ -345,7 +402,7 @@ pub record IsAddedOver (path : Text) (tree : FileSyntax) (height read : ℕ) (im
 -- By the numbers of the files that a file reaches and sees, this fault stands in it, or memory ran out.
 abbrev pub IsRefusedOver : Text → Text → FileSyntax → List ℕ → List Entry → RunFault → Type 0
 IsRefusedOver origin path tree imports old f =
-    OrMemory f ((reach : List ℕ) × (sight : List ℕ) × AreJoined held_as.Reach old imports reach × AreJoined held_as.HandedOn old imports sight × StandsInElab origin (faults_over (with_next old tree) reach sight tree) f)
+    OrMemory f ((reach : List ℕ) × (sight : List ℕ) × AreJoined held_as.Reach old imports reach × AreJoined held_as.HandedOn old imports sight × StandsInElab origin (faults_over (with_next old tree) (plains_next old sight path tree) reach sight tree) f)
 
 abbrev pub SettlesOver : Text → FileSyntax → ℕ → ℕ → List ℕ → List ℕ → List ReadEntry → List Entry → List Entry → Declarations → Result Placed RunFault → Type 0
 SettlesOver path tree height read imports public log old new names (Ok placed) = file_at path old ≡ None → IsAddedOver path tree height read imports public old new names placed

@@ -1,5 +1,5 @@
 -- What a run read, which of its events fails, and which fault stands at an event.
-use Rattle.std.specs.Prelude.{◌≡◌, ◌⊎◌, ◌≤◌, ◌+◌, ℕ, length, Bool, true, false, not, List, [], ◌∷◌, ◌++◌, map, Option, Some, None, is_some, option_map, slice_get, Result, Ok, Err, if◌then◌else◌, bytes_eq, string_bytes, find}
+use Rattle.std.specs.Prelude.{◌≡◌, ◌⊎◌, ◌≤◌, ◌+◌, ℕ, length, Bool, true, false, not, List, [], ◌∷◌, ◌++◌, map, flat_map, Option, Some, None, is_some, option_map, option_to_list, slice_get, Result, Ok, Err, if◌then◌else◌, bytes_eq, string_bytes, find}
 use Rattle.std.specs.Global.{Vec}
 use Rattle.std.specs.Borrow.{Bor}
 use Rattle.std.specs.Str.{IsUtf8}
@@ -10,13 +10,14 @@ use Rattle.protobuf_parse_syntax.specs.Trees.{FileSyntax}
 use Rattle.protobuf_parse_syntax.specs.declared.error.ParserErrorWithLocation.{ParserErrorWithLocation}
 use Rattle.protobuf_parse_model.specs.Descriptors as described
 use Rattle.protobuf_parse_model.specs.Descriptors.{Text, FileDescriptor}
-use Rattle.protobuf_parse_model.specs.Environment.{Environment, no_extensions}
-use Rattle.protobuf_parse_model.specs.FileDescriptor.{environment, file_faults, file_of}
+use Rattle.protobuf_parse_model.specs.Environment.{Customs, Environment, no_customs}
+use Rattle.protobuf_parse_model.specs.FileDescriptor.{environment, file_of}
 use Rattle.protobuf_parse_model.specs.FilesByPath.{AreJust, trees_at}
-use Rattle.protobuf_parse_model.specs.Linking.{before_others, link_faults}
 use Rattle.protobuf_parse_model.specs.Faults as elaborating
 use Rattle.protobuf_parse_model.specs.Faults.{Among, fault_view}
 use Rattle.protobuf_parse_model.specs.declared.descriptor.FileDescriptorProto.{FileDescriptorProto}
+use Rattle.protobuf_parse_wire.specs.CustomFaults.{elaboration_faults}
+use Rattle.protobuf_parse_wire.specs.OptionBytes.{known_customs}
 use Rattle.protobuf_parse.specs.declared.run.fault.RunFault.{RunFault}
 use Rattle.protobuf_parse.specs.declared.run.fault.RunFault.TheVariants as fault
 use Rattle.protobuf_parse.specs.declared.run.fault.ResolveFault.{ResolveFault}
@@ -128,13 +129,31 @@ abbrev pub are_same_bytes : Option Text → Option Text → Bool
 are_same_bytes (Some a) (Some b) = bytes_eq a b
 are_same_bytes _ _ = false
 
--- from where the file of this path and tree is seen: its names are looked up over the files that it sees
-abbrev pub environment_of : Files → Text → FileSyntax → Environment
-environment_of files p t = environment (trees_at files.trees (files.seen p)) no_extensions t
+-- The descriptor of the file of this path and tree without its custom options.
+abbrev pub plain_of : Files → Text → FileSyntax → FileDescriptor
+plain_of files p t = file_of (environment (trees_at files.trees (files.seen p)) no_customs t) p t
 
--- the faults that stand in a file, before them the names that are declared twice in the files that it reaches
+-- those of the files that have a tree: what names in custom options mean is looked up in these
+abbrev pub plains_at : Files → List Text → List FileDescriptor
+plains_at files ps =
+    flat_map (λ (q : Text). map (plain_of files q) (option_to_list (files.trees q))) ps
+
+-- what the custom options of a file become
+abbrev pub customs_of : Files → Text → Customs
+customs_of files p =
+    known_customs (plains_at files (files.reached p)) (plains_at files (files.seen p))
+
+-- from where the file of this path and tree is seen: names are looked up over the files that it sees
+abbrev pub environment_of : Files → Text → FileSyntax → Environment
+environment_of files p t =
+    environment (trees_at files.trees (files.seen p)) (customs_of files p) t
+
+-- the faults that stand in a file: names that are declared twice in the files that it reaches, or
+-- else its own, or else those of its custom options
 abbrev pub faults_in : Files → Text → Option FileSyntax → List elaborating.Fault
-faults_in files p (Some t) = before_others (link_faults (trees_at files.trees (files.reached p))) (file_faults (environment_of files p t) t)
+faults_in files p (Some t) =
+    elaboration_faults (trees_at files.trees (files.reached p)) (trees_at files.trees (files.seen p))
+    (plains_at files (files.reached p)) (plains_at files (files.seen p)) t
 faults_in files p None = []
 
 -- the bytes of the read with this number, which an input's own path was read by

@@ -22,9 +22,11 @@ TreesAreOfTexts =
     → HasTrees old.bundled old.reads old.trees → HasTrees new.bundled new.reads new.trees
     → text_for new q ≡ text_for old q → new.trees q ≡ old.trees q
 
--- their lists are of just the files that each file reaches and sees
-abbrev pub HasLists : Files → Type 0
-HasLists files = AreListed files.trees files.reached files.seen
+-- What a run read: each path has the tree of its text, and the lists are of just the files that each
+-- file reaches and sees.
+pub record WereRead (files : Files) : Type 0 where
+  pub trees : HasTrees files.bundled files.reads files.trees
+  pub listed : AreListed files.trees files.reached files.seen
 
 -- the files that it reaches declare no full name twice
 abbrev pub DeclaresOnce : Files → Text → Type 0
@@ -44,7 +46,7 @@ pub record IsAlike (old new : Files) (p : Text) : Type 0 where
 -- Where two runs agree on the files that a file reaches in one of them, the file is alike in both.
 abbrev pub StandsOnItsReach : Type 0
 StandsOnItsReach =
-    (old new : Files) (p : Text) → HasLists old → HasLists new
+    (old new : Files) (p : Text) → WereRead old → WereRead new
     → AgreeOn (Reaches old.trees p) old.trees new.trees → IsAlike old new p
 
 -- the files of a run, in the order in which it hands them out
@@ -70,7 +72,7 @@ OrderStays =
 abbrev pub DescriptorsStay : Type 0
 DescriptorsStay =
     (old new : Files) (inputs more : List Input) (first both : List FileDescriptorProto)
-    → HasLists old → HasLists new
+    → WereRead old → WereRead new
     → IsClean old inputs → AgreeOn (IsFileOf old.trees inputs) old.trees new.trees
     → AreDescriptors old (order old.trees inputs) first
     → AreDescriptors new (order new.trees (inputs ++ more)) both

@@ -8,6 +8,7 @@ ghost use Rattle.protobuf_parse_base.specs.PathViews.{path_buf_text};
 ghost use Rattle.protobuf_parse_base.specs.declared.proto_path.path.ProtoPathBuf.{ProtoPathBuf};
 
 pub mod asking;
+pub mod describe;
 pub mod fault;
 pub mod frame;
 pub mod laws;

@@ -1,6 +1,6 @@
 //! Loading: each file once, its imports first.
 
-ghost use Rattle.std.specs.Prelude.{◌≡◌, true, false, ◌≤◌, ◌<◌, ◌+◌, ◌-◌, ◌*◌, ◌^◌, ◌++◌, ◌∷◌, [], ℕ, List, map, length, Result, Option, Some, option_map, IfOk, IfErr, OnOk, OnErr, String, slice_get, string_bytes};
+ghost use Rattle.std.specs.Prelude.{◌≡◌, true, false, ◌≤◌, ◌<◌, ◌+◌, ◌-◌, ◌*◌, ◌^◌, ◌++◌, ◌∷◌, [], ℕ, List, map, length, Result, Ok, Option, Some, option_map, IfOk, IfErr, OnOk, OnErr, String, slice_get, string_bytes};
 ghost use Rattle.std.specs.Borrow.{Bor};
 ghost use Rattle.std.specs.Global.{Global};
 ghost use Rattle.std.specs.List.Sorted.{IsStrictlyIncreasing};
@@ -9,18 +9,18 @@ ghost use Rattle.protobuf_parse_base.specs.PathViews.{path_buf_text};
 ghost use Rattle.protobuf_parse_syntax.specs.Counts.{statements_in};
 ghost use Rattle.protobuf_parse_syntax.specs.Trees.{file_view};
 ghost use Rattle.protobuf_parse_syntax.specs.Trees.{FileSyntax};
-ghost use Rattle.protobuf_parse_model.specs.Descriptors as described;
-ghost use Rattle.protobuf_parse_model.specs.Faults.{Elaborates, fault_view};
+ghost use Rattle.protobuf_parse_model.specs.Faults.{fault_view};
 ghost use Rattle.protobuf_parse_model.specs.Tables.{Tells};
 ghost use Rattle.protobuf_parse.specs.declared.run.fault.RunFault.TheVariants.{Memory};
 ghost use Rattle.protobuf_parse.specs.declared.run.log.ReadEntry.{ReadEntry};
 ghost use Rattle.protobuf_parse_model.specs.Descriptors.{Text};
 ghost use Rattle.protobuf_parse.specs.Walks.{Event, among, at, checks, events, input_walk, keep, statements, walk};
 ghost use Rattle.protobuf_parse.specs.Run.{Files, IsCounted, MayAnswer, are_same_bytes, input_view, StandsInCheck, StandsInCycle, StandsInElab, StandsInLong, origin_given, rows, text_given};
-ghost use Rattle.protobuf_parse.specs.Loading.{AreKnown, AreJoined, AreNumbered, Goes, GoesOn, Good, Grows, IsDecided, IsElabFault, IsPlaced, IsReaders, IsShadowed, Leaves, OrMemory, ReadsTree, SettlesOver, asked_by, faults_over, file_at, file_over, file_shape, legal_by, named_trees, texts, trees_of, with_next};
+ghost use Rattle.protobuf_parse.specs.Loading.{AreKnown, AreJoined, AreNumbered, Describes, Goes, GoesOn, Good, Grows, IsDecided, IsElabFault, IsPlaced, IsReaders, IsShadowed, Leaves, OrMemory, ReadsTree, SettlesOver, asked_by, faults_over, file_at, file_shape, legal_by, named_trees, plains_over, texts, trees_of, with_next};
 ghost use Rattle.protobuf_parse.specs.Frames.{Joined, Meets, is_public_at, number_if, StandsMet, path_of};
 
 use crate::run::asking::{answer, content, opened, origin, unreadable};
+use crate::run::describe::{Described, elaborated};
 use crate::run::fault::RunFault;
 use crate::run::frame::LoadFrame;
 use crate::run::log::{ReadEntry, ReadOutcome, RunInput};
@@ -28,9 +28,7 @@ use crate::run::reach::{ImportNumbers, Sights, sights_of};
 use crate::run::source::{InputReader, ProtoPathResolver, Sources};
 use indexmap::IndexMap;
 use protobuf_parse_base::proto_path::ProtoPathBuf;
-use protobuf_parse_model::{
-    Declarations, ElabError, ElabFailure, FileDescriptorProto, NoExtensions, Seen, elaborate, link,
-};
+use protobuf_parse_model::{Declarations, ElabError, ElabFailure, FileDescriptorProto};
 use protobuf_parse_syntax::{FileStatement, FileTree, ImportVis};
 use std::alloc::{AllocError, Global};
 use std::mem;
@@ -51,6 +49,8 @@ pub struct LoadedFile {
     /// Which read gave it.
     pub read: usize,
     pub descriptor: FileDescriptorProto,
+    /// The descriptor without custom options, where it may have any.
+    pub plain: Option<FileDescriptorProto>,
 }
 
 /// The number and the height of a loaded file.
@@ -570,7 +570,8 @@ fn settle(
 {
     let sights = sights_of(alloc, &loader.loaded, imports)?;
     loader.names.add(alloc, loader.loaded.len(), &tree)?;
-    let descriptor = descriptor_of(alloc, loader, &sights, &path, &tree, read)?;
+    let described = descriptor_of(alloc, loader, &sights, &path, &tree, read)?;
+    let Described { descriptor, plain } = described;
     let Sights {
         reach,
         handed_on,
@@ -583,6 +584,7 @@ fn settle(
         handed_on,
         read,
         descriptor,
+        plain,
     };
     let placed = add(&mut loader.loaded, path, file)?;
     Ok(placed)
@@ -608,18 +610,19 @@ fn descriptor_of(
     path: &str,
     tree: &FileTree,
     read: usize,
-) -> Result<FileDescriptorProto, RunFault>
+) -> Result<Described, RunFault>
     requires few { statements_in (file_view tree.now) ≤ 2147483647 }
     requires reach { IsStrictlyIncreasing sights.now.reach.items }
     requires sight { IsStrictlyIncreasing sights.now.sight.items }
-    ensures ok { (files : List FileSyntax) → Tells loader.now.names files → let t = file_view tree.now in
-        IfOk result (λ d. (faults_over files sights.now.reach.items sights.now.sight.items t ≡ []) × (described.file_view d ≡ file_over files sights.now.sight.items path.now t)) }
+    ensures ok { (files : List FileSyntax) → Tells loader.now.names files →
+        IfOk result (λ d. Describes loader.now.loaded.entries files sights.now.reach.items sights.now.sight.items path.now (file_view tree.now) (Ok d)) }
     ensures err { (files : List FileSyntax) → Tells loader.now.names files → let t = file_view tree.now in
         IfErr result (λ f. (e : ReadEntry) → slice_get loader.now.reads.items read ≡ Some e → path_buf_text e.path ≡ path.now
-        → OrMemory f (StandsInElab (origin_given path.now (Some e.outcome)) (faults_over files sights.now.reach.items sights.now.sight.items t) f)) }
+        → OrMemory f (StandsInElab (origin_given path.now (Some e.outcome))
+        (faults_over files (plains_over loader.now.loaded.entries files sights.now.sight.items path.now t) sights.now.reach.items sights.now.sight.items t) f)) }
 {
-    match elaborated(alloc, &loader.names, sights, path, tree) {
-        Ok(descriptor) => Ok(descriptor),
+    match elaborated(alloc, loader, sights, path, tree) {
+        Ok(described) => Ok(described),
         Err(ElabFailure::Memory) => Err(RunFault::Memory),
         Err(ElabFailure::Fault(error)) => Err(refused(alloc, &loader.reads, read, path, error)),
     }
@@ -643,27 +646,4 @@ fn refused(
         Ok(file) => RunFault::Elaborate(file, error),
         Err(_) => RunFault::Memory,
     }
-}
-
-/// What a file becomes over the files that it reaches and sees, if none of their names is declared twice.
-fn elaborated(
-    alloc: Global,
-    names: &Declarations,
-    sights: &Sights,
-    path: &str,
-    tree: &FileTree,
-) -> Result<FileDescriptorProto, ElabFailure>
-    requires few { statements_in (file_view tree.now) ≤ 2147483647 }
-    requires reach { IsStrictlyIncreasing sights.now.reach.items }
-    requires sight { IsStrictlyIncreasing sights.now.sight.items }
-    ensures { (files : List FileSyntax) → Tells names.now files → let t = file_view tree.now in
-        Elaborates described.file_view result (faults_over files sights.now.reach.items sights.now.sight.items t) (file_over files sights.now.sight.items path.now t) }
-{
-    let seen = Seen {
-        declarations: names,
-        sight: &sights.sight,
-        reach: &sights.reach,
-    };
-    link(alloc, &seen)?;
-    elaborate(alloc, path, tree, &seen, &NoExtensions)
 }

@@ -1,0 +1,1 @@
+use Rattle.protobuf_parse.proofs.run.describe.elaborated.Goals as goal

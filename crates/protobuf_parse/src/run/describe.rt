@@ -1,0 +1,160 @@
+//! What a file becomes, once its imports are loaded.
+
+ghost use Rattle.std.specs.Prelude.{◌≡◌, ◌≤◌, [], List, option_map, slice_get, IfOk};
+ghost use Rattle.std.specs.List.Sorted.{IsStrictlyIncreasing};
+ghost use Rattle.protobuf_parse_syntax.specs.Counts.{statements_in};
+ghost use Rattle.protobuf_parse_syntax.specs.Trees.{FileSyntax, file_view};
+ghost use Rattle.protobuf_parse_model.specs.Descriptors as described;
+ghost use Rattle.protobuf_parse_model.specs.Linking.{link_faults};
+ghost use Rattle.protobuf_parse_model.specs.Tables.{Tells, picked};
+ghost use Rattle.protobuf_parse_wire.specs.Known.{files_seen};
+ghost use Rattle.protobuf_parse_wire.specs.OptionBytes.{known_customs};
+ghost use Rattle.protobuf_parse_model.specs.Environment.{Customs};
+ghost use Rattle.protobuf_parse.specs.Loading.{Describes, picked_plains, plain_or, plain_seen, plains_with};
+
+use crate::run::loader::{LoadedFile, LoadedFiles, Loader};
+use crate::run::reach::Sights;
+use protobuf_parse_model::{
+    Construct, CustomOptions, ElabFailure, FileDescriptorProto, NoExtensions, Seen, WithoutCustoms, elaborate, link,
+};
+use protobuf_parse_syntax::{FileTree, ProtobufOption};
+use std::alloc::{AllocError, Global};
+
+/// What a file becomes.
+#[derive(Drop)]
+pub struct Described {
+    pub descriptor: FileDescriptorProto,
+    /// The descriptor without custom options, where it may have any.
+    pub plain: Option<FileDescriptorProto>,
+}
+
+/// What a file becomes over the files that it reaches and sees, if none of their names is declared twice.
+pub fn elaborated(
+    alloc: Global,
+    loader: &Loader,
+    sights: &Sights,
+    path: &str,
+    tree: &FileTree,
+) -> Result<Described, ElabFailure>
+    requires few { statements_in (file_view tree.now) ≤ 2147483647 }
+    requires reach { IsStrictlyIncreasing sights.now.reach.items }
+    requires sight { IsStrictlyIncreasing sights.now.sight.items }
+    ensures { (files : List FileSyntax) → Tells loader.now.names files
+        → Describes loader.now.loaded.entries files sights.now.reach.items sights.now.sight.items path.now (file_view tree.now) result }
+{
+    let seen = Seen {
+        declarations: &loader.names,
+        sight: &sights.sight,
+        reach: &sights.reach,
+    };
+    link(alloc, &seen)?;
+    match elaborate(alloc, path, tree, &seen, &NoExtensions) {
+        Ok(descriptor) => Ok(Described {
+            descriptor,
+            plain: None,
+        }),
+        Err(ElabFailure::Memory) => Err(ElabFailure::Memory),
+        Err(ElabFailure::Fault(_)) => with_customs(alloc, loader, &seen, path, tree),
+    }
+}
+
+/// The same, with its custom options: they are looked up in the descriptors of the files that it reaches,
+/// its own among them.
+fn with_customs(
+    alloc: Global,
+    loader: &Loader,
+    seen: &Seen<'_>,
+    path: &str,
+    tree: &FileTree,
+) -> Result<Described, ElabFailure>
+    requires few { statements_in (file_view tree.now) ≤ 2147483647 }
+    ensures { (files : List FileSyntax) → Tells seen.now.declarations.now files
+        → link_faults (picked files seen.now.reach.now) ≡ []
+        → Describes loader.now.loaded.entries files seen.now.reach.now seen.now.sight.now path.now (file_view tree.now) result }
+{
+    let plain = elaborate(alloc, path, tree, seen, &WithoutCustoms)?;
+    let files = plains(alloc, &loader.loaded, &plain, seen.reach)?;
+    let visible = plains(alloc, &loader.loaded, &plain, seen.sight)?;
+    let known = KnownFiles::new(alloc, &files, &visible)?;
+    let descriptor = elaborate(alloc, path, tree, seen, &known)?;
+    Ok(Described {
+        descriptor,
+        plain: Some(plain),
+    })
+}
+
+/// The descriptors of the files with these numbers, without custom options. The next file's is `own`.
+fn plains<'a>(
+    alloc: Global,
+    loaded: &'a LoadedFiles,
+    own: &'a FileDescriptorProto,
+    numbers: &[usize],
+) -> Result<Vec<&'a FileDescriptorProto>, AllocError>
+    ensures { IfOk result (λ v. files_seen v.items ≡ picked_plains (plains_with loaded.now.entries (described.file_view own.now)) numbers.now) }
+{
+    let mut list = Vec::new(alloc);
+    'files: for number in numbers {
+        if let Some(descriptor) = plain_at(loaded, own, *number) {
+            list.push(descriptor)?;
+        }
+    }
+    Ok(list)
+}
+
+/// That of the file with this number.
+fn plain_at<'a>(
+    loaded: &'a LoadedFiles,
+    own: &'a FileDescriptorProto,
+    number: usize,
+) -> Option<&'a FileDescriptorProto>
+    ensures { option_map plain_seen result ≡ slice_get (plains_with loaded.now.entries (described.file_view own.now)) number }
+{
+    match loaded.get_index(number) {
+        Some((_, file)) => Some(plain_of(file)),
+        None if number == loaded.len() => Some(own),
+        None => None,
+    }
+}
+
+/// A loaded file's descriptor without custom options.
+fn plain_of(file: &LoadedFile) -> &FileDescriptorProto
+    ensures { described.file_view result.now ≡ plain_or file.now.plain file.now.descriptor }
+{
+    match &file.plain {
+        Some(plain) => plain,
+        None => &file.descriptor,
+    }
+}
+
+// STUB
+pub struct KnownFiles<'a> {
+    files: &'a [&'a FileDescriptorProto],
+    visible: &'a [&'a FileDescriptorProto],
+}
+
+impl<'a> KnownFiles<'a> {
+    pub fn new(
+        alloc: Global,
+        files: &'a [&'a FileDescriptorProto],
+        visible: &'a [&'a FileDescriptorProto],
+    ) -> Result<KnownFiles<'a>, AllocError>
+        ensures { IfOk result (λ k. k.files.now ≡ files.now) }
+        ensures visible { IfOk result (λ k. k.visible.now ≡ visible.now) }
+    {
+        Ok(KnownFiles { files, visible })
+    }
+}
+
+impl CustomOptions for KnownFiles<'_> {
+    ghost customs = { λ k. known_customs (files_seen k.files.now) (files_seen k.visible.now) };
+
+    fn bytes(
+        &self,
+        alloc: Global,
+        _construct: Construct,
+        _scope: &[&str],
+        _options: &[&ProtobufOption],
+    ) -> Result<Vec<u8>, ElabFailure> {
+        Ok(Vec::new(alloc))
+    }
+}
