@@ -18,3 +18,9 @@ pub mod Files
 pub mod Orders
 pub mod Closing
 pub mod NamedTypes
+pub mod SameNames
+pub mod AddedFaults
+pub mod ConstructSets
+pub mod MessageSets
+pub mod SameBytes
+pub mod CustomSets

@@ -3,6 +3,7 @@
 ghost use Rattle.protobuf_parse_model.specs.Declarations.{TypeKind};
 ghost use Rattle.protobuf_parse_model.specs.Lookup.{MeansTheLongest, MeansNothing, MeansItself};
 ghost use Rattle.protobuf_parse_model.specs.NamedTypes.{NamesAreDeclared, TypesAreNamed, ExtendeesAreNamed};
+ghost use Rattle.protobuf_parse_model.specs.CustomSets.{FaultsAreOfSets, NoneIsNoneInSets, BytesAreOfSets, OptionsAreBuiltin};
 
 /// What the name of a type means is declared in the longest front of the scope in which a type has that
 /// name; a name that means nothing is declared in no front; a name with a first dot means the type of
@@ -23,4 +24,16 @@ pub fn types_are_declared()
     ensures declared { NamesAreDeclared }
     ensures named { TypesAreNamed }
     ensures extendees { ExtendeesAreNamed }
+{}
+
+/// Just those faults stand in a file that stand there besides custom options, or in the custom options of
+/// one of its sets, seen from the scope of that set; so none stands in the file just where none stands
+/// there besides custom options, and none in any set. A file becomes the same where the custom options of
+/// each of its sets become the same bytes. Where no extension is known, and no fault stands in the file,
+/// each option that is set is a built-in one.
+pub fn custom_options_are_of_sets()
+    ensures faults { FaultsAreOfSets }
+    ensures none { NoneIsNoneInSets }
+    ensures bytes { BytesAreOfSets }
+    ensures builtin { OptionsAreBuiltin }
 {}

@@ -19,6 +19,6 @@ pub use descriptor::{
     OneofOptions, OptimizeMode, ReservedRange, ServiceDescriptorProto, ServiceOptions,
 };
 pub use error::{ElabError, ElabErrorKind, ElabFailure};
-pub use laws::{types_are_declared, types_are_looked_up};
+pub use laws::{custom_options_are_of_sets, types_are_declared, types_are_looked_up};
 pub use linking::link;
 pub use scope::{Declaration, DeclarationKind, Declarations, Seen, TypeKind};
