@@ -17,3 +17,6 @@ pub mod OptionBytes
 pub mod OptionDepth
 pub mod Agreement
 pub mod AgreementBack
+pub mod SameLookups
+mod NamesAlike
+pub mod DescriptorOrders

@@ -16,3 +16,6 @@ pub mod OptionLaw
 pub mod OptionBytes
 pub mod OptionDepth
 pub mod Agreement
+pub mod SameLookups
+pub mod NamesAlike
+pub mod DescriptorsByPath
