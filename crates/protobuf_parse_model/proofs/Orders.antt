@@ -111,7 +111,7 @@ stands-from [] h = absurd (omega arith)
 stands-from (x ∷ xs) h = (x, here)
 
 -- a name that stands among these does so once or more
-counted-from : (n : Text) (names : List Text) → Among names n → 0 < occurrences n names
+pub counted-from : (n : Text) (names : List Text) → Among names n → 0 < occurrences n names
 counted-from n names h = long-from (kept-from (bytes_eq n) names n (text-itself n) h)
 
 -- a name that does so once or more stands among these
@@ -122,7 +122,7 @@ stands-counted n names h =
     subst (λ (z : Text). Among names z) (sym (same-text n s.0 k.1)) k.0
 
 -- in two lists a name stands as often as in each, added up
-count-append : (n : Text) (xs ys : List Text) → occurrences n (xs ++ ys) ≡ occurrences n xs + occurrences n ys
+pub count-append : (n : Text) (xs ys : List Text) → occurrences n (xs ++ ys) ≡ occurrences n xs + occurrences n ys
 count-append n xs ys = ap (λ (zs : List Text). length zs) (filter-append (bytes_eq n) xs ys) ∙ length-append (filter (bytes_eq n) xs) (filter (bytes_eq n) ys)
 
 -- a name that is repeated stands more than once
@@ -225,7 +225,7 @@ module _ (f : Text → List Text) (n : Text) where
       count-cons p xs ∙ ap (λ (m : ℕ). occurrences n (f p) + m) rest ∙ sym (count-without p ys inside)
 
   -- a name that two of the paths have stands twice
-  count-two : (p q : Text) (ps : List Text) → among p ps ≡ true → among q ps ≡ true → bytes_eq q p ≡ false → 0 < occurrences n (f p) → 0 < occurrences n (f q) → 1 < count ps
+  pub count-two : (p q : Text) (ps : List Text) → among p ps ≡ true → among q ps ≡ true → bytes_eq q p ≡ false → 0 < occurrences n (f p) → 0 < occurrences n (f q) → 1 < count ps
   count-two p q ps h k other one two =
       let out = count-without p ps h in
       let more = count-without q (without p ps) (without-other q p ps other ∙ k) in
@@ -237,11 +237,11 @@ module _ (f : Text → List Text) (n : Text) where
 -- ---- the trees of paths
 
 -- what a path's tree has, if there is one
-abbrev of_path : {A : Type 0} → (FileSyntax → List A) → Trees → Text → List A
+abbrev pub of_path : {A : Type 0} → (FileSyntax → List A) → Trees → Text → List A
 of_path g trees p = flat_map g (option_to_list (trees p))
 
 -- what trees have is what the tree of each path has
-of_trees : {A : Type 0} (g : FileSyntax → List A) (trees : Trees) (ps : List Text) → flat_map g (trees_at trees ps) ≡ flat_map (of_path g trees) ps
+pub of_trees : {A : Type 0} (g : FileSyntax → List A) (trees : Trees) (ps : List Text) → flat_map g (trees_at trees ps) ≡ flat_map (of_path g trees) ps
 of_trees g trees [] = refl
 of_trees g trees (p ∷ ps) = flat_map-append g (option_to_list (trees p)) (trees_at trees ps) ∙ ap (λ r. of_path g trees p ++ r) (of_trees g trees ps)
 
@@ -331,7 +331,7 @@ module _ {A : Type 0} (test : A → Bool) (g : Text → List A) where
   some-same o x y h k = cc
 
   -- where one path at most has it, the order of the paths makes no difference
-  finds-same : (xs ys : List Text) → SameMembers xs ys → ((p q : Text) (x y : A) → among p xs ≡ true → among q xs ≡ true → find test (g p) ≡ Some x → find test (g q) ≡ Some y → p ≡ q) → find test (flat_map g xs) ≡ find test (flat_map g ys)
+  pub finds-same : (xs ys : List Text) → SameMembers xs ys → ((p q : Text) (x y : A) → among p xs ≡ true → among q xs ≡ true → find test (g p) ≡ Some x → find test (g q) ≡ Some y → p ≡ q) → find test (flat_map g xs) ≡ find test (flat_map g ys)
   finds-same xs ys same one = at (finding xs) (finding ys)
     where
       at : NoneAt xs ⊎ FoundAt xs → NoneAt ys ⊎ FoundAt ys → find test (flat_map g xs) ≡ find test (flat_map g ys)
@@ -369,11 +369,18 @@ found-named trees p n d h = at (trees p) h
         counted-from n (type_names t ++ []) (subst (λ (z : Text). Among (type_names t ++ []) z) (same-text d.name n f.1) all)
 
 -- a reach without faults has each type's name once
-once : (trees : Trees) (reached : List Text) (n : Text) → link_faults (trees_at trees reached) ≡ [] → 1 < occurrences n (flat_map type_names (trees_at trees reached)) → ⊥
-once trees reached n none twice =
+pub type-once : (trees : Trees) (reached : List Text) (n : Text) → link_faults (trees_at trees reached) ≡ [] → 1 < occurrences n (flat_map type_names (trees_at trees reached)) → ⊥
+type-once trees reached n none twice =
     let names = flat_map type_names (trees_at trees reached) in
     let told : Among (link_faults (trees_at trees reached)) (record { kind = TypeDeclaredTwice; what = n }) = among_left (flat_map (fault ExtensionDeclaredTwice) (repeated (flat_map extension_names (trees_at trees reached)))) (fault-of TypeDeclaredTwice n (repeated names) (repeated-from names n twice)) in
     nothing-in (subst (λ (fs : List Fault). Among fs (record { kind = TypeDeclaredTwice; what = n })) none told)
+
+-- and each extension's name once
+pub extension-once : (trees : Trees) (reached : List Text) (n : Text) → link_faults (trees_at trees reached) ≡ [] → 1 < occurrences n (flat_map extension_names (trees_at trees reached)) → ⊥
+extension-once trees reached n none twice =
+    let names = flat_map extension_names (trees_at trees reached) in
+    let told : Among (link_faults (trees_at trees reached)) (record { kind = ExtensionDeclaredTwice; what = n }) = among_right (flat_map (fault TypeDeclaredTwice) (repeated (flat_map type_names (trees_at trees reached)))) (fault-of ExtensionDeclaredTwice n (repeated names) (repeated-from names n twice)) in
+    nothing-in (subst (λ (fs : List Fault). Among fs (record { kind = ExtensionDeclaredTwice; what = n })) none told)
 
 -- so that two of its paths that have the name are one
 one-path : (trees : Trees) (reached : List Text) (n p q : Text) (x y : DeclaredType) → link_faults (trees_at trees reached) ≡ [] → among p reached ≡ true → among q reached ≡ true → find (is_named n) (of_path file_types trees p) ≡ Some x → find (is_named n) (of_path file_types trees q) ≡ Some y → p ≡ q
@@ -382,7 +389,7 @@ one-path trees reached n p q x y none h k first second =
       | inl w ↦ sym (same-text q p w)
       | inr w ↦
           let twice = count-two (of_path type_names trees) n p q reached h k w (found-named trees p n x first) (found-named trees q n y second) in
-          absurd (once trees reached n none (subst (λ (names : List Text). 1 < occurrences n names) (sym (of_trees type_names trees reached)) twice))
+          absurd (type-once trees reached n none (subst (λ (names : List Text). 1 < occurrences n names) (sym (of_trees type_names trees reached)) twice))
     ]
 
 -- Files of a reach without faults declare the same types in any order.

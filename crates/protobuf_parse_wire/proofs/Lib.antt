@@ -21,3 +21,6 @@ pub mod Collected
 pub mod Found
 pub mod Parts
 pub mod AgreementBack
+pub mod SameLookups
+mod NamesAlike
+pub mod DescriptorOrders

@@ -18,3 +18,6 @@ pub mod OptionDepth
 pub mod Known
 pub mod Given
 pub mod Agreement
+pub mod SameLookups
+pub mod NamesAlike
+pub mod DescriptorsByPath

@@ -1,0 +1,56 @@
+-- Files by their paths: the descriptors of lists of some of them, and what custom options mean there.
+use Rattle.std.specs.Prelude.{◌≡◌, Bool, true, List, [], ◌∷◌, map, flat_map, Some, option_to_list}
+use Rattle.protobuf_parse_syntax.specs.Trees.{FileSyntax}
+use Rattle.protobuf_parse_model.specs.Descriptors.{Text, FileDescriptor}
+use Rattle.protobuf_parse_model.specs.Declarations.{file_scope}
+use Rattle.protobuf_parse_model.specs.FilesByPath.{Trees, among, trees_at}
+use Rattle.protobuf_parse_model.specs.Linking.{link_faults}
+use Rattle.protobuf_parse_model.specs.Environment.{Environment, Customs}
+use Rattle.protobuf_parse_model.specs.FileDescriptor.{file_of}
+use Rattle.protobuf_parse_wire.specs.CustomFaults.{statement_faults}
+use Rattle.protobuf_parse_wire.specs.OptionBytes.{option_bytes}
+use Rattle.protobuf_parse_wire.specs.NamesAlike.{HasPackageName}
+
+-- the environment of the file at each path, by its tree
+abbrev pub Environments : Type 0
+Environments = Text → FileSyntax → Environment
+
+abbrev pub described_at : Environments → Text → FileSyntax → FileDescriptor
+described_at env path t = file_of (env path t) path t
+
+-- the descriptors of those of the paths that have a tree
+abbrev pub descriptors_at : Trees → Environments → List Text → List FileDescriptor
+descriptors_at trees env paths = flat_map (λ (p : Text). map (described_at env p) (option_to_list (trees p))) paths
+
+-- Each environment is that of its file's scope, and each package that is named has a name.
+pub record HasFileScopes (trees : Trees) (env : Environments) : Type 0 where
+  pub scope : (p : Text) (t : FileSyntax) → trees p ≡ Some t → (env p t).scope ≡ file_scope t
+  pub package_name : (p : Text) (t : FileSyntax) → trees p ≡ Some t → HasPackageName t
+
+-- two lists of paths with the same members
+abbrev pub HaveSameMembers : (paths paths' : List Text) → Type 0
+HaveSameMembers paths paths' = (p : Text) → among p paths ≡ among p paths'
+
+abbrev pub AreWithin : (paths others : List Text) → Type 0
+AreWithin paths others = (p : Text) → among p paths ≡ true → among p others ≡ true
+
+-- Two lists of what a file reaches and two of what it sees, in any order, where no name is declared twice.
+pub record AreReordered (trees : Trees) (reached reached' seen seen' : List Text) : Type 0 where
+  pub reach : HaveSameMembers reached reached'
+  pub sight : HaveSameMembers seen seen'
+  pub within : AreWithin seen reached
+  pub once : link_faults (trees_at trees reached) ≡ []
+
+-- what custom options mean in a file that reaches the first files and sees the second
+abbrev pub customs_among : (files visible : List FileDescriptor) → Customs
+customs_among files visible = record {
+  faults = λ construct scope os. statement_faults (record { files = files; visible = visible; scope = scope }) construct os;
+  bytes = option_bytes files visible;
+}
+
+-- The order of the files makes no difference.
+abbrev pub OrderMakesNoDifference : Type 0
+OrderMakesNoDifference =
+    (trees : Trees) (env : Environments) (reached reached' seen seen' : List Text)
+    → HasFileScopes trees env → AreReordered trees reached reached' seen seen'
+    → customs_among (descriptors_at trees env reached) (descriptors_at trees env seen) ≡ customs_among (descriptors_at trees env reached') (descriptors_at trees env seen')
