@@ -190,8 +190,7 @@ module _ (old new : Files) (p : Text) (was : WereRead old) (is : WereRead new)
       (plains-same none (new.seen p)
       (λ q m. sees-reaches old.trees p q (again.only q m)))
       ∙ sym (customs-same old (old.reached p) (new.reached p) (old.seen p) (new.seen p)
-      (packages-have old.bundled old.reads old.trees was.trees) (was.listed.reaches p).once
-      (is.listed.reaches p).once same-reach (same-sight old new p was is agree) within none)
+      (packages-have old.bundled old.reads old.trees was.trees) same-reach (same-sight old new p was is agree) within none)
 
   module _ (t : FileSyntax) where
     pub becomes-same : DeclaresOnce old p

@@ -1,20 +1,20 @@
 -- In which order files are listed makes no difference to what custom options become.
-use Rattle.std.proofs.Common.{◌≡◌, ℕ, ◌<◌, true, List, [], length, Some, refl, sym, ◌∙◌, ap}
-use Rattle.protobuf_parse_syntax.specs.Trees.{FileSyntax, package_of}
+use Rattle.std.proofs.Common.{◌≡◌, true, List, [], Some, refl}
+use Rattle.protobuf_parse_syntax.specs.Trees.{FileSyntax}
 use Rattle.protobuf_parse_model.specs.Descriptors.{Text}
-use Rattle.protobuf_parse_model.specs.FilesByPath.{AreDistinct, among, trees_at}
+use Rattle.protobuf_parse_model.specs.FilesByPath.{among, trees_at}
 use Rattle.protobuf_parse_model.specs.Linking.{link_faults}
 use Rattle.protobuf_parse_model.proofs.Orders.{SameMembers}
+use Rattle.protobuf_parse_wire.specs.NamesAlike.{HasPackageName}
 use Rattle.protobuf_parse_wire.specs.OptionBytes.{known_customs}
+use Rattle.protobuf_parse_wire.proofs.DescriptorOrders.{order_makes_no_difference}
 use Rattle.protobuf_parse.specs.Walks.{Trees}
-use Rattle.protobuf_parse.specs.Run.{Files, HasTrees, plains_at}
+use Rattle.protobuf_parse.specs.Run.{Files, HasTrees, plain_environments, plains_at}
 use Rattle.protobuf_parse.specs.declared.run.log.ReadEntry.{ReadEntry}
 use Rattle.protobuf_parse.specs.Loading.{GoesOn}
 
--- a package that is named has a name
 abbrev pub HavePackages : Trees → Type 0
-HavePackages trees = (q : Text) (t : FileSyntax) → trees q ≡ Some t
-    → (name : Text) → package_of t ≡ Some name → 0 < length name
+HavePackages trees = (q : Text) (t : FileSyntax) → trees q ≡ Some t → HasPackageName t
 
 -- and so has that of each tree of a text
 pub packages-have : (table : List (Text × Text)) (log : List ReadEntry) (trees : Trees)
@@ -27,10 +27,13 @@ packages-read files table log go = packages-have files.bundled files.reads files
 
 pub customs-same : (files : Files) (reached reached' seen seen' : List Text)
     → HavePackages files.trees
-    → AreDistinct reached → AreDistinct reached' → SameMembers reached reached'
+    → SameMembers reached reached'
     → SameMembers seen seen'
     → ((q : Text) → among q seen ≡ true → among q reached ≡ true)
     → link_faults (trees_at files.trees reached) ≡ []
     → known_customs (plains_at files reached) (plains_at files seen)
     ≡ known_customs (plains_at files reached') (plains_at files seen')
-customs-same files reached reached' seen seen' named d e same sees within none = ?
+customs-same files reached reached' seen seen' named same sees within none =
+    order_makes_no_difference files.trees (plain_environments files) reached reached' seen seen'
+    (record { scope = λ p t is. refl; package_name = λ p t is. named p t is })
+    (record { reach = same; sight = sees; within = within; once = none })

@@ -349,8 +349,7 @@ module _ (files : Files) (loaded : List Entry) (names : Declarations) (log : Lis
   same-customs h =
       ap (λ ds. known_customs ds (picked_plains plains sight)) (plains-at h reach)
       ∙ ap (λ ds. known_customs (plains_at files rs) ds) (plains-at h sight)
-      ∙ customs-same files rs (files.reached p) ss (files.seen p) n.packages reached-by.once
-      (n.listed.reaches p).once same-reach same-sight sight-within h
+      ∙ customs-same files rs (files.reached p) ss (files.seen p) n.packages same-reach same-sight sight-within h
 
   -- ** faults
 

@@ -1,10 +1,11 @@
 -- What custom options add to a file: faults beside its others, and bytes in its descriptor.
-use Rattle.std.proofs.Common.{◌≡◌, ℕ, List, [], ◌∷◌, flat_map, Option, Some, None, Result, Ok, Err, refl, sym, ◌∙◌, ap, subst}
-use Rattle.protobuf_parse_syntax.specs.Trees.{FileSyntax}
+use Rattle.std.proofs.Common.{◌≡◌, ⊥, absurd, inl, inr, ℕ, List, [], ◌∷◌, flat_map, Option, Some, None, Result, Ok, Err, refl, sym, ◌∙◌, ap, subst}
+use Rattle.protobuf_parse_syntax.specs.Trees.{FileSyntax, OptionSyntax}
 use Rattle.protobuf_parse_model.specs.Descriptors.{Text, FileDescriptor}
 use Rattle.protobuf_parse_model.specs.Environment.{Customs, no_customs, no_extensions}
 use Rattle.protobuf_parse_model.specs.Descriptors as described
-use Rattle.protobuf_parse_model.specs.Faults.{Among, Blames, Fault, fault_view}
+use Rattle.protobuf_parse_model.specs.CustomSets.{faults_of_set, faults_of_sets}
+use Rattle.protobuf_parse_model.specs.Faults.{Among, here, there, Blames, Fault, fault_view}
 use Rattle.protobuf_parse_model.specs.FilesByPath.{trees_at}
 use Rattle.protobuf_parse_model.specs.FileDescriptor.{environment, file_faults, file_of}
 use Rattle.protobuf_parse_model.specs.Linking.{before_others, link_faults}
@@ -13,8 +14,12 @@ use Rattle.protobuf_parse_model.specs.Tables.{picked}
 use Rattle.protobuf_parse_model.specs.declared.descriptor.FileDescriptorProto.{FileDescriptorProto}
 use Rattle.protobuf_parse_model.specs.declared.error.ElabFailure.{ElabFailure}
 use Rattle.protobuf_parse_model.specs.declared.error.ElabFailure.TheVariants as failure
-use Rattle.protobuf_parse_wire.specs.CustomFaults.{option_faults}
-use Rattle.protobuf_parse_wire.specs.OptionBytes.{known_customs}
+use Rattle.protobuf_parse_model.proofs.CustomSets.{faults_are_of_sets, none_is_none_in_sets, none_of_sets, options_are_builtin}
+use Rattle.protobuf_parse_model.proofs.SameBytes.{bytes_are_of_sets}
+use Rattle.protobuf_parse_wire.specs.CustomFaults.{named_faults, option_faults, statement_faults}
+use Rattle.protobuf_parse_wire.specs.CustomOptions.{option_items, scope_of}
+use Rattle.protobuf_parse_wire.specs.OptionFields.{OptionScope}
+use Rattle.protobuf_parse_wire.specs.OptionBytes.{known_customs, option_bytes}
 use Rattle.protobuf_parse.specs.Loading.{Describes, Entry, customs_over, picked_plains, plain_over, plains_over}
 use Rattle.protobuf_parse.specs.Run.{Files, customs_of}
 use Rattle.protobuf_parse.specs.declared.run.describe.Described.{Described}
@@ -23,7 +28,7 @@ use Rattle.protobuf_parse.specs.declared.run.describe.Described.{Described}
 
 -- those of its custom options
 abbrev pub told_by : Customs → FileSyntax → List Fault
-told_by c t = flat_map (λ (s : OptionSet). c.faults s.construct s.scope s.statements) (option_sets t)
+told_by c t = faults_of_sets c t
 
 abbrev pub others_by : List FileSyntax → Customs → FileSyntax → List Fault
 others_by seen c t =
@@ -32,36 +37,72 @@ others_by seen c t =
 abbrev pub others : Files → Text → FileSyntax → List Fault
 others files p t = others_by (trees_at files.trees (files.seen p)) (customs_of files p) t
 
+nothing-in : {A : Type 0} {x : A} → Among [] x → ⊥
+nothing-in m = elim m [ ]
+
+-- where each gives nothing, so do all
+all-nothing : {A B : Type 0} (f : A → List B) (xs : List A)
+    → ((x : A) → Among xs x → f x ≡ []) → flat_map f xs ≡ []
+all-nothing f [] each = refl
+all-nothing f (x ∷ xs) each =
+    rw (each x here) (all-nothing f xs (λ y m. each y (there m)))
+
 module _ (seen : List FileSyntax) (files visible : List FileDescriptor) (t : FileSyntax) where
+  abbrev known : Customs
+  known = known_customs files visible
+
   -- ** where nothing is wrong though no extension is known, no custom option is set
 
   pub plain-faultless : file_faults (environment seen no_extensions t) t ≡ []
       → file_faults (environment seen no_customs t) t ≡ []
-  plain-faultless none = ?
+  plain-faultless none = ((none_is_none_in_sets seen no_extensions t).0 none).0
+
+  -- so nothing is wrong in any set of options, and none denotes anything
+  module _ (none : file_faults (environment seen no_extensions t) t ≡ []) (s : OptionSet)
+      (m : Among (option_sets t) s) where
+    abbrev at : OptionScope
+    at = scope_of files visible s
+
+    set-faultless : statement_faults at s.construct s.statements ≡ []
+    set-faultless =
+        all-nothing (λ (o : OptionSyntax). named_faults at s.construct o.value o.name) s.statements
+        (λ o h. let b = options_are_builtin seen t s o none m h in rw b.1 refl)
+
+    set-empty : flat_map (option_items at s.construct) s.statements ≡ []
+    set-empty = all-nothing (option_items at s.construct) s.statements
+        (λ o h. let b = options_are_builtin seen t s o none m h in rw b.1 refl)
+
+    set-unspelled : [] ≡ option_bytes files visible s.construct s.scope s.statements
+    set-unspelled = rw set-empty refl
 
   pub nothing-wrong : file_faults (environment seen no_extensions t) t ≡ []
       → option_faults files visible t ≡ []
-  nothing-wrong none = ?
+  nothing-wrong none = all-nothing (faults_of_set known) (option_sets t) (set-faultless none)
 
   pub nothing-spelled : (path : Text) → file_faults (environment seen no_extensions t) t ≡ []
       → file_of (environment seen no_extensions t) path t
-      ≡ file_of (environment seen (known_customs files visible) t) path t
-  nothing-spelled path none = ?
+      ≡ file_of (environment seen known t) path t
+  nothing-spelled path none =
+      bytes_are_of_sets seen no_extensions known path t (set-unspelled none)
 
   pub plain-same : (path : Text) → file_of (environment seen no_extensions t) path t
       ≡ file_of (environment seen no_customs t) path t
-  plain-same path = ?
+  plain-same path = bytes_are_of_sets seen no_extensions no_customs path t (λ s m. refl)
 
   -- ** what is wrong with extensions known
 
-  pub options-faultless : file_faults (environment seen (known_customs files visible) t) t ≡ []
+  pub options-faultless : file_faults (environment seen known t) t ≡ []
       → option_faults files visible t ≡ []
-  options-faultless none = ?
+  options-faultless none = none_of_sets seen known t none
 
   pub option-told : (f : Fault) → file_faults (environment seen no_customs t) t ≡ []
-      → Among (file_faults (environment seen (known_customs files visible) t) t) f
+      → Among (file_faults (environment seen known t) t) f
       → Among (option_faults files visible t) f
-  option-told f none told = ?
+  option-told f none told =
+      elim ((faults_are_of_sets seen known t f).0 told) [
+        | inl w ↦ absurd (nothing-in (subst (λ (fs : List Fault). Among fs f) none w))
+        | inr w ↦ w
+      ]
 
 -- ** what a file becomes by numbers
 
@@ -126,7 +167,7 @@ module _ (loaded : List Entry) (files : List FileSyntax) (reach sight : List ℕ
     where
       told-first : (firsts others : List Fault) (f : Fault) → Among firsts f
           → Among (before_others firsts others) f
-      told-first [] others f m = elim m [ ]
+      told-first [] others f m = absurd (nothing-in m)
       told-first (a ∷ firsts) others f m = m
 
   -- and those of its custom options

@@ -1,5 +1,5 @@
 -- What a run read, which of its events fails, and which fault stands at an event.
-use Rattle.std.specs.Prelude.{◌≡◌, ◌⊎◌, ◌≤◌, ◌+◌, ℕ, length, Bool, true, false, not, List, [], ◌∷◌, ◌++◌, map, flat_map, Option, Some, None, is_some, option_map, option_to_list, slice_get, Result, Ok, Err, if◌then◌else◌, bytes_eq, string_bytes, find}
+use Rattle.std.specs.Prelude.{◌≡◌, ◌⊎◌, ◌≤◌, ◌+◌, ℕ, length, Bool, true, false, not, List, [], ◌∷◌, ◌++◌, map, Option, Some, None, is_some, option_map, slice_get, Result, Ok, Err, if◌then◌else◌, bytes_eq, string_bytes, find}
 use Rattle.std.specs.Global.{Vec}
 use Rattle.std.specs.Borrow.{Bor}
 use Rattle.std.specs.Str.{IsUtf8}
@@ -17,6 +17,7 @@ use Rattle.protobuf_parse_model.specs.Faults as elaborating
 use Rattle.protobuf_parse_model.specs.Faults.{Among, fault_view}
 use Rattle.protobuf_parse_model.specs.declared.descriptor.FileDescriptorProto.{FileDescriptorProto}
 use Rattle.protobuf_parse_wire.specs.CustomFaults.{elaboration_faults}
+use Rattle.protobuf_parse_wire.specs.DescriptorsByPath.{Environments, described_at, descriptors_at}
 use Rattle.protobuf_parse_wire.specs.OptionBytes.{known_customs}
 use Rattle.protobuf_parse.specs.declared.run.fault.RunFault.{RunFault}
 use Rattle.protobuf_parse.specs.declared.run.fault.RunFault.TheVariants as fault
@@ -129,14 +130,17 @@ abbrev pub are_same_bytes : Option Text → Option Text → Bool
 are_same_bytes (Some a) (Some b) = bytes_eq a b
 are_same_bytes _ _ = false
 
+-- from where each file is seen, its custom options left out
+abbrev pub plain_environments : Files → Environments
+plain_environments files = λ p t. environment (trees_at files.trees (files.seen p)) no_customs t
+
 -- The descriptor of the file of this path and tree without its custom options.
 abbrev pub plain_of : Files → Text → FileSyntax → FileDescriptor
-plain_of files p t = file_of (environment (trees_at files.trees (files.seen p)) no_customs t) p t
+plain_of files p t = described_at (plain_environments files) p t
 
 -- those of the files that have a tree: what names in custom options mean is looked up in these
 abbrev pub plains_at : Files → List Text → List FileDescriptor
-plains_at files ps =
-    flat_map (λ (q : Text). map (plain_of files q) (option_to_list (files.trees q))) ps
+plains_at files ps = descriptors_at files.trees (plain_environments files) ps
 
 -- what the custom options of a file become
 abbrev pub customs_of : Files → Text → Customs
