@@ -18,5 +18,6 @@ pub mod OptionDepth
 pub mod Agreement
 pub mod AgreementBack
 pub mod SameLookups
-mod NamesAlike
+pub mod NamesAlike
+pub mod ExtensionsAlike
 pub mod DescriptorOrders
