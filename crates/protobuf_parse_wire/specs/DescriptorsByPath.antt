@@ -1,5 +1,5 @@
 -- Files by their paths: the descriptors of lists of some of them, and what custom options mean there.
-use Rattle.std.specs.Prelude.{◌≡◌, Bool, true, List, [], ◌∷◌, map, flat_map, Some, option_to_list}
+use Rattle.std.specs.Prelude.{◌≡◌, true, List, [], map, flat_map, Some, option_to_list}
 use Rattle.protobuf_parse_syntax.specs.Trees.{FileSyntax}
 use Rattle.protobuf_parse_model.specs.Descriptors.{Text, FileDescriptor}
 use Rattle.protobuf_parse_model.specs.Declarations.{file_scope}
