@@ -17,6 +17,7 @@ use Rattle.protobuf_parse_model.specs.Linking.{before_others, link_faults}
 use Rattle.protobuf_parse_model.specs.Faults as elaborating
 use Rattle.protobuf_parse_model.specs.Faults.{Among, fault_view}
 use Rattle.protobuf_parse_model.specs.declared.descriptor.FileDescriptorProto.{FileDescriptorProto}
+use Rattle.protobuf_parse.specs.declared.bundled.TheConstants.{BUNDLED_FILES}
 use Rattle.protobuf_parse.specs.declared.run.fault.RunFault.{RunFault}
 use Rattle.protobuf_parse.specs.declared.run.fault.RunFault.TheVariants as fault
 use Rattle.protobuf_parse.specs.declared.run.fault.ResolveFault.{ResolveFault}
@@ -39,9 +40,9 @@ input_view (given.At name fs_path) = at (path_buf_text name) (string_bytes fs_pa
 abbrev pub rows : List (Bor (List ℕ) × Bor (List ℕ)) → List (Text × Text)
 rows table = map (λ (r : Bor (List ℕ) × Bor (List ℕ)). (r.0.now, r.1.now)) table
 
--- the files that this library brings: none yet
+-- the files that this library brings, as src/bundled.rt has them: proto paths and texts
 abbrev pub shipped : List (Text × Text)
-shipped = []
+shipped = map (λ r. (r.0.now, r.1.now)) BUNDLED_FILES.now
 
 -- ---- what was read
 
