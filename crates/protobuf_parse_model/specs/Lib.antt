@@ -22,3 +22,4 @@ pub mod FilesByPath
 pub mod FileParts
 pub mod Tables
 pub mod OptionSets
+pub mod OptionTables
