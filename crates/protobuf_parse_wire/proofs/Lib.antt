@@ -21,3 +21,5 @@ pub mod Collected
 pub mod Found
 pub mod Parts
 pub mod AgreementBack
+pub mod SmallValues
+pub mod Stated

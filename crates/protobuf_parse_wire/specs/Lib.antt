@@ -18,3 +18,4 @@ pub mod OptionDepth
 pub mod Known
 pub mod Given
 pub mod Agreement
+pub mod SmallValues
