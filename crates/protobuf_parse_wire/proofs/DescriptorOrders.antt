@@ -22,10 +22,10 @@ use Rattle.protobuf_parse_wire.specs.Declarations.{Declaration, declared_in, dec
 use Rattle.protobuf_parse_wire.specs.OptionFields.{OptionScope, declared_enums, fields_of_message, field_named, values_in, number_of_value, is_message}
 use Rattle.protobuf_parse_wire.specs.CustomFaults.{statement_faults}
 use Rattle.protobuf_parse_wire.specs.Encoded.{encoded}
-use Rattle.protobuf_parse_wire.specs.OptionBytes.{option_bytes}
+use Rattle.protobuf_parse_wire.specs.OptionBytes.{known_customs, option_bytes}
 use Rattle.protobuf_parse_wire.specs.SameLookups.{SameLookups}
 use Rattle.protobuf_parse_wire.specs.NamesAlike.{message_names, enum_names, described_types, described_extensions}
-use Rattle.protobuf_parse_wire.specs.DescriptorsByPath.{Environments, described_at, descriptors_at, HasFileScopes, HaveSameMembers, AreWithin, AreReordered, customs_among, OrderMakesNoDifference}
+use Rattle.protobuf_parse_wire.specs.DescriptorsByPath.{Environments, described_at, descriptors_at, HasFileScopes, HaveSameMembers, AreWithin, AreReordered, OrderMakesNoDifference}
 use Rattle.protobuf_parse_wire.proofs.ExtensionsAlike.{extensions_are_counted_alike}
 use Rattle.protobuf_parse_wire.proofs.NamesAlike.{types_are_counted_alike}
 use Rattle.protobuf_parse_wire.proofs.SameLookups.{lookups_decide_faults, lookups_decide_meaning}
@@ -225,13 +225,13 @@ pub bytes-same : (trees : Trees) (env : Environments) (reached reached' seen see
 bytes-same trees env reached reached' seen seen' files r =
     fun_ext (λ (construct : Construct). fun_ext (λ (scope : Scope). fun_ext (λ (os : List OptionSyntax). ap encoded (lookups_decide_meaning (seen_from trees env reached seen scope) (seen_from trees env reached' seen' scope) (lookups-same trees env reached reached' seen seen' files r scope) construct os))))
 
-pub faults-same : (trees : Trees) (env : Environments) (reached reached' seen seen' : List Text) → HasFileScopes trees env → AreReordered trees reached reached' seen seen' → (customs_among (descriptors_at trees env reached) (descriptors_at trees env seen)).faults ≡ (customs_among (descriptors_at trees env reached') (descriptors_at trees env seen')).faults
+pub faults-same : (trees : Trees) (env : Environments) (reached reached' seen seen' : List Text) → HasFileScopes trees env → AreReordered trees reached reached' seen seen' → (known_customs (descriptors_at trees env reached) (descriptors_at trees env seen)).faults ≡ (known_customs (descriptors_at trees env reached') (descriptors_at trees env seen')).faults
 faults-same trees env reached reached' seen seen' files r =
     fun_ext (λ (construct : Construct). fun_ext (λ (scope : Scope). fun_ext (λ (os : List OptionSyntax). options-same trees env reached reached' seen seen' files r scope construct os)))
 
 pub order_makes_no_difference : OrderMakesNoDifference
 order_makes_no_difference trees env reached reached' seen seen' files r =
-    let e : (customs_among (descriptors_at trees env reached) (descriptors_at trees env seen)).faults ≡ (customs_among (descriptors_at trees env reached') (descriptors_at trees env seen')).faults = faults-same trees env reached reached' seen seen' files r in
+    let e : (known_customs (descriptors_at trees env reached) (descriptors_at trees env seen)).faults ≡ (known_customs (descriptors_at trees env reached') (descriptors_at trees env seen')).faults = faults-same trees env reached reached' seen seen' files r in
     let h : option_bytes (descriptors_at trees env reached) (descriptors_at trees env seen) ≡ option_bytes (descriptors_at trees env reached') (descriptors_at trees env seen') = bytes-same trees env reached reached' seen seen' files r in
     ap (λ (faults : CustomFaults). record { faults = faults; bytes = option_bytes (descriptors_at trees env reached) (descriptors_at trees env seen) }) e
-    ∙ ap (λ (bytes : CustomBytes). record { faults = (customs_among (descriptors_at trees env reached') (descriptors_at trees env seen')).faults; bytes = bytes }) h
+    ∙ ap (λ (bytes : CustomBytes). record { faults = (known_customs (descriptors_at trees env reached') (descriptors_at trees env seen')).faults; bytes = bytes }) h

@@ -25,3 +25,5 @@ pub mod SameLookups
 pub mod NamesAlike
 pub mod ExtensionsAlike
 pub mod DescriptorOrders
+pub mod SmallValues
+pub mod Stated

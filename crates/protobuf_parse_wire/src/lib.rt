@@ -10,6 +10,7 @@ mod kind;
 mod law;
 mod reader;
 
+pub use customs::KnownFiles;
 pub use encoder::{encode, encode_into};
 pub use entry::{Entry, EntryValue};
 pub use fault::ReadFault;
