@@ -1,4 +1,7 @@
 -- Files by their paths: the descriptors of lists of some of them, and what custom options mean there.
+--
+-- Custom options are defined over two lists, of the files that are reached and of those that are
+-- seen. Their order makes no difference, where no full name is declared twice in what is reached.
 use Rattle.std.specs.Prelude.{◌≡◌, true, List, [], map, flat_map, Some, option_to_list}
 use Rattle.protobuf_parse_syntax.specs.Trees.{FileSyntax}
 use Rattle.protobuf_parse_model.specs.Descriptors.{Text, FileDescriptor}
@@ -20,7 +23,8 @@ described_at env path t = file_of (env path t) path t
 
 -- the descriptors of those of the paths that have a tree
 abbrev pub descriptors_at : Trees → Environments → List Text → List FileDescriptor
-descriptors_at trees env paths = flat_map (λ (p : Text). map (described_at env p) (option_to_list (trees p))) paths
+descriptors_at trees env paths =
+    flat_map (λ (p : Text). map (described_at env p) (option_to_list (trees p))) paths
 
 -- Each environment is that of its file's scope, and each package that is named has a name.
 pub record HasFileScopes (trees : Trees) (env : Environments) : Type 0 where
@@ -34,7 +38,8 @@ HaveSameMembers paths paths' = (p : Text) → among p paths ≡ among p paths'
 abbrev pub AreWithin : (paths others : List Text) → Type 0
 AreWithin paths others = (p : Text) → among p paths ≡ true → among p others ≡ true
 
--- Two lists of what a file reaches and two of what it sees, in any order, where no name is declared twice.
+-- Two lists of what a file reaches and two of what it sees, in any order, where no name is declared
+-- twice.
 pub record AreReordered (trees : Trees) (reached reached' seen seen' : List Text) : Type 0 where
   pub reach : HaveSameMembers reached reached'
   pub sight : HaveSameMembers seen seen'
@@ -44,13 +49,16 @@ pub record AreReordered (trees : Trees) (reached reached' seen seen' : List Text
 -- what custom options mean in a file that reaches the first files and sees the second
 abbrev pub customs_among : (files visible : List FileDescriptor) → Customs
 customs_among files visible = record {
-  faults = λ construct scope os. statement_faults (record { files = files; visible = visible; scope = scope }) construct os;
+  faults = λ construct scope os.
+      statement_faults (record { files = files; visible = visible; scope = scope }) construct os;
   bytes = option_bytes files visible;
 }
 
--- The order of the files makes no difference.
+-- The order of the files makes no difference to what custom options become and to what is wrong in
+-- them.
 abbrev pub OrderMakesNoDifference : Type 0
 OrderMakesNoDifference =
     (trees : Trees) (env : Environments) (reached reached' seen seen' : List Text)
     → HasFileScopes trees env → AreReordered trees reached reached' seen seen'
-    → customs_among (descriptors_at trees env reached) (descriptors_at trees env seen) ≡ customs_among (descriptors_at trees env reached') (descriptors_at trees env seen')
+    → customs_among (descriptors_at trees env reached) (descriptors_at trees env seen)
+    ≡ customs_among (descriptors_at trees env reached') (descriptors_at trees env seen')
