@@ -16,3 +16,4 @@ pub mod Numbers
 pub mod Knowing
 pub mod Settling
 pub mod Listed
+pub mod Including

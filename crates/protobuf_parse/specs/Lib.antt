@@ -5,3 +5,4 @@ pub mod Imports
 pub mod Walks
 pub mod Run
 pub mod Loading
+pub mod Includes

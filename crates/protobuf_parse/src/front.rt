@@ -1,6 +1,7 @@
 //! What people run: the listing of descriptors, and the program.
 
 mod command;
+mod includes;
 mod lines;
 mod one_file;
 
