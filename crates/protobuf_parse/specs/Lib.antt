@@ -6,3 +6,4 @@ pub mod Walks
 pub mod Run
 pub mod Loading
 pub mod Includes
+pub mod Folders
