@@ -17,3 +17,4 @@ pub mod Knowing
 pub mod Settling
 pub mod Listed
 pub mod Including
+pub mod Building

@@ -7,3 +7,4 @@ pub mod Run
 pub mod Loading
 pub mod Includes
 pub mod Folders
+pub mod Parsers

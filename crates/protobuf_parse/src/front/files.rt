@@ -43,7 +43,7 @@ pub fn fs_resolver<'r, R: Files + AllocGlobal>(
 }
 
 /// The texts, each copied.
-fn copy_texts(alloc: Global, texts: &[&str]) -> Result<Vec<String>, AllocError>
+pub fn copy_texts(alloc: Global, texts: &[&str]) -> Result<Vec<String>, AllocError>
     ensures { IfOk result (λ v. map string_bytes v.items ≡ part_views texts.now) }
 {
     let mut copies = Vec::new(alloc);
