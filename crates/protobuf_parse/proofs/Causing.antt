@@ -1,83 +1,103 @@
 -- Where the faults of a resolver and of a reader come from.
-use Rattle.std.proofs.Common.{◌≡◌, ℕ, zero, suc, inl, inr, List, [], ◌∷◌, Some, Result, Ok, Err, sym, ◌∙◌, subst}
-use Rattle.std.specs.Prelude.{IfErr, bytes_eq, option_map, slice_get}
+use Rattle.std.proofs.Common.{◌≡◌, ℕ, refl, inl, inr, List, [], ◌∷◌, ◌++◌, Result, Ok, Err, sym, ◌∙◌, ap, subst, Some}
+use Rattle.std.specs.Prelude.{IfErr}
 use Rattle.std.specs.Global.{Vec}
-use Rattle.protobuf_parse_base.specs.PathViews.{path_buf_text}
 use Rattle.protobuf_parse_model.specs.Descriptors.{Text}
 use Rattle.protobuf_parse_model.specs.declared.descriptor.FileDescriptorProto.{FileDescriptorProto}
 use Rattle.protobuf_parse.specs.declared.run.fault.RunFault.{RunFault}
 use Rattle.protobuf_parse.specs.declared.run.fault.RunFault.TheVariants as fault
 use Rattle.protobuf_parse.specs.declared.run.fault.ResolveFault.{ResolveFault}
 use Rattle.protobuf_parse.specs.declared.run.fault.ReadInputFault.{ReadInputFault}
-use Rattle.protobuf_parse.specs.declared.run.log.ReadEntry.{ReadEntry}
 use Rattle.protobuf_parse.specs.declared.run.log.ReadOutcome.{ReadOutcome}
 use Rattle.protobuf_parse.specs.declared.run.log.ReadOutcome.TheVariants as outcome
-use Rattle.protobuf_parse.specs.Walks.{Asked, the_resolver, the_reader, Event, cycle, long, load, check, elab, Read}
-use Rattle.protobuf_parse.specs.Run.{Answers, Ends, Files, IsCaused, MayAnswer, MayRead, MayResolve, StandsAt, first_read}
-use Rattle.protobuf_parse.proofs.Keeping.{bool_cases, text-true}
+use Rattle.protobuf_parse.specs.Walks.{Asked, the_resolver, the_reader, Event, cycle, long, load, check, elab, Read, reads_in}
+use Rattle.protobuf_parse.specs.Run.{Answers, Ends, Files, IsCaused, IsRefused, MayAnswer, MayRead, MayResolve, StandsAt, answer_at, answer_for, fails}
+use Rattle.protobuf_parse.proofs.Keeping.{reads_in-append}
+use Rattle.protobuf_parse.proofs.Following.{AllFollow, Follows, at-is-last, first-is-last, follows-at, found, unread}
 
 module _ (resolve : MayResolve) (read : MayRead) where
-  -- the answer to the first read of a path is one that somebody may give for it
-  answers-first : (rs : List Read) (log : List ReadEntry) (p : Text) (o : ReadOutcome) → Answers (MayAnswer resolve read) rs log → first_read p log ≡ Some o → (a : Asked) × MayAnswer resolve read a p o
-  answers-first [] [] p o a h = cc
-  answers-first [] (e ∷ log) p o a h = absurd a
-  answers-first (r ∷ rs) [] p o a h = absurd a
-  answers-first (r ∷ rs) (e ∷ log) p o a h =
-      elim (bool_cases (bytes_eq p (path_buf_text e.path))) [
-        | inl w ↦
-            let z : Some e.outcome ≡ Some o = (rw w at h) in
-            let same : e.outcome ≡ o = cc in
-            let is : r.path ≡ p = sym a.0 ∙ sym (text-true p (path_buf_text e.path) w) in
-            (r.asked, subst (λ (q : Text). MayAnswer resolve read r.asked q o) is (subst (λ (x : ReadOutcome). MayAnswer resolve read r.asked r.path x) same a.1))
-        | inr w ↦ answers-first rs log p o a.2 (rw w at h)
-      ]
-
-  -- so is the answer with each number
-  answers-at : (rs : List Read) (log : List ReadEntry) (n : ℕ) (o : ReadOutcome) → Answers (MayAnswer resolve read) rs log → option_map (λ (e : ReadEntry). e.outcome) (slice_get log n) ≡ Some o → (r : Read) × MayAnswer resolve read r.asked r.path o
-  answers-at [] [] n o a h = cc
-  answers-at [] (e ∷ log) n o a h = absurd a
-  answers-at (r ∷ rs) [] n o a h = absurd a
-  answers-at (r ∷ rs) (e ∷ log) zero o a h = let same : e.outcome ≡ o = cc in (r, subst (λ (x : ReadOutcome). MayAnswer resolve read r.asked r.path x) same a.1)
-  answers-at (r ∷ rs) (e ∷ log) (suc n) o a h = answers-at rs log n o a.2 h
-
-  by-resolver : (a : Asked) (p : Text) (why : ResolveFault) → MayAnswer resolve read a p (outcome.ResolverFault why) → resolve p (Err why)
+  by-resolver : (a : Asked) (p : Text) (why : ResolveFault) → MayAnswer resolve read a p
+      (outcome.ResolverFault why) → resolve p (Err why)
   by-resolver the_resolver p why h = h.1
   by-resolver (the_reader own) p why h = absurd h
 
-  by-reader : (a : Asked) (p : Text) (why : ReadInputFault) → MayAnswer resolve read a p (outcome.ReaderFault why) → (own : Text) × read own (Err why)
-  by-reader the_resolver p why h = absurd h
-  by-reader (the_reader own) p why h = (own, h.1)
+  by-reader : (a : Asked) (own p : Text) (why : ReadInputFault) → a ≡ the_reader own
+      → MayAnswer resolve read a p (outcome.ReaderFault why) → read own (Err why)
+  by-reader a own p why is h =
+      (subst (λ (b : Asked). MayAnswer resolve read b p (outcome.ReaderFault why)) is h).1
 
-  module _ (files : Files) (rs : List Read) (a : Answers (MayAnswer resolve read) rs files.reads) where
-    caused-at : (event : Event) (f : RunFault) → StandsAt files event f → IsCaused resolve read f
-    caused-at (load asked p) (fault.Resolver path why) s =
-        let r = answers-first rs files.reads p (outcome.ResolverFault s.1) a s.2 in
-        (s.1, rw s.0 (by-resolver r.0 p s.1 r.1), s.3)
-    caused-at (load asked p) (fault.CouldNotReadFile path why) s =
-        let r = answers-first rs files.reads p (outcome.ReaderFault why) a s.1 in
-        by-reader r.0 p why r.1
-    caused-at (check n own p) (fault.CouldNotReadFile path why) s =
-        let r = answers-at rs files.reads n (outcome.ReaderFault why) a s.1 in
-        by-reader r.0.asked r.0.path why r.1
-    caused-at (check n own p) (fault.Resolver path why) s = absurd s
-    caused-at (cycle p) (fault.Resolver path why) s = absurd s
-    caused-at (cycle p) (fault.CouldNotReadFile path why) s = absurd s
-    caused-at (long i) (fault.Resolver path why) s = absurd s
-    caused-at (long i) (fault.CouldNotReadFile path why) s = absurd s
-    caused-at (elab p) (fault.Resolver path why) s = absurd s
-    caused-at (elab p) (fault.CouldNotReadFile path why) s = absurd s
-    caused-at event fault.Memory s = tt
-    caused-at event (fault.ContentIsNotUtf8 x) s = tt
-    caused-at event (fault.FileNotFoundInImportPath x y) s = tt
-    caused-at event (fault.FileMustResideInImportPath x y) s = tt
-    caused-at event (fault.Shadowed x y) s = tt
-    caused-at event (fault.ImportCycle x) s = tt
-    caused-at event (fault.ImportChainTooLong x) s = tt
-    caused-at event (fault.Parse x y) s = tt
-    caused-at event (fault.Elaborate x y) s = tt
-    caused-at event (fault.InputPath x y) s = tt
+  -- the event fails behind these, and its read is the last
+  module _ (files : Files) (before : List Event) (each : AllFollow [] before) where
+    loaded-by : (asked : Asked) (p : Text) (o : ReadOutcome) → Follows before (load asked p)
+        → Answers (MayAnswer resolve read) (reads_in (before ++ load asked p ∷ [])) files.reads
+        → answer_for files p ≡ Some o → MayAnswer resolve read asked p o
+    loaded-by asked p o next a h =
+        first-is-last (MayAnswer resolve read) (reads_in before)
+        (record { asked = asked; path = p }) files.reads o (unread p [] before each next)
+        (subst (λ (rs : List Read). Answers (MayAnswer resolve read) rs files.reads)
+        (reads_in-append before (load asked p ∷ [])) a) h
 
-  pub caused : (files : Files) (events : List Event) (r : Result (Vec FileDescriptorProto) RunFault) → Ends (MayAnswer resolve read) files events r → IfErr r (λ f. IsCaused resolve read f)
-  caused files events (Ok ds) h = tt
-  caused files events (Err f) (inl h) = caused-at files _ h.reads h.event f h.stands
-  caused files events (Err f) (inr h) = rw h.memory tt
+    checked-by : (own p : Text) (n : ℕ) (o : ReadOutcome) → Follows before (check n own p)
+        → Answers (MayAnswer resolve read) (reads_in (before ++ check n own p ∷ [])) files.reads
+        → answer_at files n ≡ Some o → MayAnswer resolve read (the_reader own) p o
+    checked-by own p n o next a h =
+        at-is-last (MayAnswer resolve read) (reads_in before)
+        (record { asked = the_reader own; path = p }) files.reads o
+        (subst (λ (rs : List Read). Answers (MayAnswer resolve read) rs files.reads)
+        (reads_in-append before (check n own p ∷ [])) a)
+        (ap (answer_at files) (sym next.1) ∙ h)
+
+    caused-at : (event : Event) (f : RunFault) → Follows before event
+        → Answers (MayAnswer resolve read) (reads_in (before ++ event ∷ [])) files.reads
+        → StandsAt files event f → IsCaused resolve read f
+    caused-at (load asked p) (fault.Resolver path why) next a s =
+        let r = loaded-by asked p (outcome.ResolverFault s.1) next a s.2 in (
+          s.1,
+          subst (λ (q : Text). resolve q (Err s.1)) (sym s.0) (by-resolver asked p s.1 r),
+          s.3,
+        )
+    caused-at (load asked p) (fault.CouldNotReadFile path why) next a s =
+        by-reader asked _ p why s.0 (loaded-by asked p (outcome.ReaderFault why) next a s.1)
+    caused-at (check n own p) (fault.CouldNotReadFile path why) next a s =
+        subst (λ (q : Text). read q (Err why)) (sym s.0)
+        (by-reader (the_reader own) own p why refl
+        (checked-by own p n (outcome.ReaderFault why) next a s.1))
+    caused-at (check n own p) (fault.Resolver path why) next a s = absurd s
+    caused-at (cycle p) (fault.Resolver path why) next a s = absurd s
+    caused-at (cycle p) (fault.CouldNotReadFile path why) next a s = absurd s
+    caused-at (long i) (fault.Resolver path why) next a s = absurd s
+    caused-at (long i) (fault.CouldNotReadFile path why) next a s = absurd s
+    caused-at (elab p) (fault.Resolver path why) next a s = absurd s
+    caused-at (elab p) (fault.CouldNotReadFile path why) next a s = absurd s
+    caused-at event fault.Memory next a s = tt
+    caused-at event (fault.ContentIsNotUtf8 x) next a s = tt
+    caused-at event (fault.FileNotFoundInImportPath x y) next a s = tt
+    caused-at event (fault.FileMustResideInImportPath x y) next a s = tt
+    caused-at event (fault.Shadowed x y) next a s = tt
+    caused-at event (fault.ImportCycle x) next a s = tt
+    caused-at event (fault.ImportChainTooLong x) next a s = tt
+    caused-at event (fault.Parse x y) next a s = tt
+    caused-at event (fault.Elaborate x y) next a s = tt
+    caused-at event (fault.InputPath x y) next a s = tt
+
+  refused : (files : Files) (events : List Event) (f : RunFault) → AllFollow [] events → IsRefused
+      (MayAnswer resolve read) files events f → IsCaused resolve read f
+  refused files events f all h =
+      let at = found (fails files) events h.event h.first in
+      let next = follows-at [] at.before at.after h.event
+      (subst (λ (es : List Event). AllFollow [] es) at.split all) in
+      caused-at files at.before next.0 h.event f next.1
+      (subst (λ (es : List Event). Answers (MayAnswer resolve read) (reads_in es) files.reads)
+      at.to h.reads) h.stands
+
+  pub caused : (files : Files) (events : List Event)
+      (r : Result (Vec FileDescriptorProto) RunFault) → AllFollow [] events
+      → Ends (MayAnswer resolve read) files events r → IfErr r (λ f. IsCaused resolve read f)
+  caused files events (Ok ds) all h = tt
+  caused files events (Err f) all (inl h) = refused files events f all h
+  caused files events (Err f) all (inr h) = rw h.memory tt
+
+  -- want of memory has no such cause
+  pub uncaused : (r : Result (Vec FileDescriptorProto) RunFault) (f : RunFault) → r ≡ Err f
+      → f ≡ fault.Memory → IfErr r (λ g. IsCaused resolve read g)
+  uncaused r f is m = rw (is, m) tt

@@ -1,14 +1,11 @@
 -- The inputs of a run, one after another.
-use Rattle.std.proofs.Common.{◌≡◌, ◌-◌, false, inl, inr, List, [], ◌∷◌, ◌++◌, None, Ok, refl, sym, ◌∙◌, ap, subst, append_assoc, append-nil, length}
-use Rattle.std.specs.Global.{Global}
-use Rattle.std.specs.Prelude.{String}
+use Rattle.std.proofs.Common.{◌≡◌, false, inl, inr, List, [], ◌∷◌, ◌++◌, None, refl, sym, ◌∙◌, ap, subst, append_assoc, append-nil}
 use Rattle.protobuf_parse_model.specs.Descriptors.{Text}
 use Rattle.protobuf_parse.specs.declared.run.fault.RunFault.{RunFault}
-use Rattle.protobuf_parse.specs.declared.run.loader.Placed.{Placed}
 use Rattle.protobuf_parse.specs.declared.run.log.ReadEntry.{ReadEntry}
-use Rattle.protobuf_parse.specs.Walks.{the_resolver, load, elab, has, Input, at, name_of, asked_of, Event, keep, checks, input_walk, events_after, events, walk, Trees}
+use Rattle.protobuf_parse.specs.Walks.{the_resolver, load, elab, has, Input, at, Event, keep, checks, input_walk, events_after, events, Trees}
 use Rattle.protobuf_parse.specs.Run.{Files}
-use Rattle.protobuf_parse.specs.Loading.{Legal, Entry, Shape, file_at, Good, Stops, Leaves, texts}
+use Rattle.protobuf_parse.specs.Loading.{Legal, Entry, file_at, Good, Stops}
 use Rattle.protobuf_parse.proofs.Keeping.{has-elab, not_true}
 use Rattle.protobuf_parse.proofs.Steps.{stops-more, file-none}
 
@@ -73,15 +70,11 @@ module _ (legal : Legal) (files : Files) where
     apart = λ p h. refl;
   }
 
-  pub input-stops : (kept base : List Event) (i v : Input) (loaded later : List Entry) (log after : List ReadEntry) (chain : List (String Global)) (f : RunFault) → v ≡ i → chain ≡ [] → base ≡ kept ++ checks kept i → Good legal files base loaded log [] → (Good legal files base loaded log (texts chain) → Stops legal files (keep base (walk files.trees (name_of i) (asked_of i) (100 - length (texts chain)) (texts chain) (name_of i))) after f) → Stops legal files (keep (kept ++ checks kept v) (input_walk files.trees v)) after f
-  input-stops kept base i v loaded later log after chain f is same b g gives =
-      let h = subst (λ (z : List (String Global)). Good legal files base loaded log (texts z) → Stops legal files (keep base (walk files.trees (name_of i) (asked_of i) (100 - length (texts z)) (texts z) (name_of i))) after f) same gives g in
-      rw is (subst (λ (z : List Event). Stops legal files (keep z (input_walk files.trees i)) after f) b h)
+  pub input-stops : (kept base : List Event) (i v : Input) (log : List ReadEntry) (f : RunFault) → v ≡ i → base ≡ kept ++ checks kept i → Stops legal files (keep base (input_walk files.trees i)) log f → Stops legal files (keep (kept ++ checks kept v) (input_walk files.trees v)) log f
+  input-stops kept base i v log f is b stops = rw is (subst (λ (z : List Event). Stops legal files (keep z (input_walk files.trees i)) log f) b stops)
 
-  pub input-goes : (kept base : List Event) (i v : Input) (loaded later : List Entry) (log after : List ReadEntry) (chain : List (String Global)) (placed : Placed) (shape : Shape) → v ≡ i → chain ≡ [] → base ≡ kept ++ checks kept i → Good legal files base loaded log [] → (Good legal files base loaded log (texts chain) → Leaves legal files (keep base (walk files.trees (name_of i) (asked_of i) (100 - length (texts chain)) (texts chain) (name_of i))) shape later after (texts chain) (Ok placed)) → Good legal files (keep (kept ++ checks kept v) (input_walk files.trees v)) later after []
-  input-goes kept base i v loaded later log after chain placed shape is same b g gives =
-      let h = subst (λ (z : List (String Global)). Good legal files base loaded log (texts z) → Leaves legal files (keep base (walk files.trees (name_of i) (asked_of i) (100 - length (texts z)) (texts z) (name_of i))) shape later after (texts z) (Ok placed)) same gives g in
-      rw is (subst (λ (z : List Event). Good legal files (keep z (input_walk files.trees i)) later after []) b h.0)
+  pub input-goes : (kept base : List Event) (i v : Input) (loaded : List Entry) (log : List ReadEntry) → v ≡ i → base ≡ kept ++ checks kept i → Good legal files (keep base (input_walk files.trees i)) loaded log [] → Good legal files (keep (kept ++ checks kept v) (input_walk files.trees v)) loaded log []
+  input-goes kept base i v loaded log is b good = rw is (subst (λ (z : List Event). Good legal files (keep z (input_walk files.trees i)) loaded log []) b good)
 
   pub check-stops : (kept : List Event) (i v : Input) (log : List ReadEntry) (f : RunFault) → v ≡ i → Stops legal files (kept ++ checks kept i) log f → Stops legal files (keep (kept ++ checks kept v) (input_walk files.trees v)) log f
   check-stops kept i v log f is h = rw is (stops-more legal files (kept ++ checks kept i) (input_walk files.trees i) log f h)

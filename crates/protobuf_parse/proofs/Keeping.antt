@@ -123,9 +123,6 @@ keep-extends kept (x ∷ xs) =
       | false ↦ let r = keep-extends (kept ++ x ∷ []) xs in (x ∷ r.0, r.1 ∙ append_assoc kept (x ∷ []) r.0)
     ]
 
-pub keep-within : (kept xs : List Event) → Within kept (keep kept xs)
-keep-within kept xs e h = let r = keep-extends kept xs in rw r.1 (has-left e kept r.0 h)
-
 -- what is kept already adds nothing
 pub keep-all : (kept xs : List Event) → Within xs kept → keep kept xs ≡ kept
 keep-all kept [] h = refl

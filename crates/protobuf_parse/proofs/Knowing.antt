@@ -1,28 +1,24 @@
 -- What is known of the loaded files, when one more is loaded.
-use Rattle.std.proofs.Common.{◌≡◌, ◌⊎◌, ℕ, zero, suc, ◌+◌, ◌<◌, take, get_or, option_map, Bool, true, false, ◌||◌, inl, inr, List, [], ◌∷◌, ◌++◌, flat_map, map, length, Option, Some, None, refl, sym, ◌∙◌, ap, subst, if◌then◌else◌, append-nil, append_assoc, Result, Ok, Err}
-use Rattle.std.specs.Prelude.{bytes_eq, slice_get, String, string_bytes, option_to_list, IfOk, OnOk}
+use Rattle.std.proofs.Common.{◌≡◌, ◌⊎◌, ℕ, zero, suc, Bool, true, false, ◌||◌, inl, inr, List, [], ◌∷◌, ◌++◌, flat_map, map, length, Some, None, refl, sym, ◌∙◌, ap, subst, if◌then◌else◌}
+use Rattle.std.specs.Prelude.{bytes_eq, slice_get, String, string_bytes}
 use Rattle.std.specs.Global.{Global}
 use Rattle.std.specs.Map.{lookup_key}
-use Rattle.std.proofs.lemmas.List.{flat_map_more, map-append, map_more}
-use Rattle.std.proofs.lemmas.Option.{slice_get-map, slice_get_read}
-use Rattle.protobuf_parse_syntax.specs.declared.tree.FileStatement.{FileStatement}
+use Rattle.std.proofs.lemmas.List.{map-append}
 use Rattle.protobuf_parse_base.specs.PathViews.{path_buf_text}
 use Rattle.protobuf_parse_syntax.specs.Dependencies.{imported, imports}
-use Rattle.protobuf_parse_syntax.specs.Trees.{FileSyntax, ImportSyntax, StatementSyntax, file_view, statement_view}
+use Rattle.protobuf_parse_syntax.specs.Trees.{FileSyntax, ImportSyntax, StatementSyntax, file_view}
 use Rattle.protobuf_parse_model.specs.Descriptors.{Text}
 use Rattle.protobuf_parse_model.specs.FilesByPath.{AreDistinct, Leads, leads, stays}
 use Rattle.protobuf_parse_model.specs.Tables.{Tells}
 use Rattle.protobuf_parse_model.specs.declared.scope.seen.Declarations.{Declarations}
 use Rattle.protobuf_parse.specs.Walks.{Trees, Reaches, HandsOn, Sees, sees_itself, by_import, among, import_paths, public_path, public_paths, public_paths_of}
-use Rattle.protobuf_parse.specs.Loading.{Agrees, AllHold, AreJoined, ArePublic, AreKnown, AreMetAt, AreNumbered, AreNumbersOf, AreUnloaded, Entry, Grows, IsAddedOver, IsMetAt, IsNumbered, IsPlaced, MoreLoaded, Named, SettlesOver, file_at, held, named_trees, paths_in, read_paths, trees_of, with_next}
-use Rattle.protobuf_parse.specs.declared.run.fault.RunFault.{RunFault}
-use Rattle.protobuf_parse.specs.declared.run.loader.LoadedFile.{LoadedFile}
+use Rattle.protobuf_parse.specs.Loading.{Agrees, AllHold, AreKnown, AreNumbered, AreNumbersOf, AreUnloaded, Entry, Grows, IsAddedOver, IsMetAt, Named, file_at, held, named_trees, paths_in, read_paths, trees_of, with_next}
 use Rattle.protobuf_parse.specs.declared.run.loader.Placed.{Placed}
 use Rattle.protobuf_parse.specs.declared.run.log.ReadEntry.{ReadEntry}
 use Rattle.protobuf_parse.specs.declared.run.reach.Held.{Held}
 use Rattle.protobuf_parse.specs.declared.run.reach.Held.TheVariants as held_as
-use Rattle.protobuf_parse.proofs.Keeping.{some_same, bool_cases, or_cases, or_left, or_right, among-append, among-in, among-last, among-left, text-same, text-true}
-use Rattle.protobuf_parse.proofs.Numbers.{are-append, are-more, name-at, name_of, named-length, named-push, numbered-more, numbers-joined, numbers-more, path-in}
+use Rattle.protobuf_parse.proofs.Keeping.{some_same, bool_cases, or_cases, or_left, or_right, among-append, among-left, text-same, text-true}
+use Rattle.protobuf_parse.proofs.Numbers.{name_of, named-length, named-push, numbers-joined, numbers-more}
 use Rattle.protobuf_parse.proofs.Steps.{entry-in, get-more, get-seam}
 
 -- a key that was found is the one that was looked for
@@ -158,7 +154,7 @@ once-push loaded p t once none =
 pub next-trees : (loaded : List Entry) (p : Text) (t : FileSyntax) → with_next loaded t ≡ trees_of (named_trees loaded ++ (p, t) ∷ [])
 next-trees loaded p t = sym (map-append (λ (f : Named). f.1) (named_trees loaded) ((p, t) ∷ []))
 
-module _ (path : Text) (tree : FileSyntax) (height read : ℕ) (imports : List ℕ) (old new : List Entry) (before after : Declarations) (log : List ReadEntry) (placed : Placed) (known : AreKnown old before log) (was_read : among path (read_paths log) ≡ true) (numbered : AreNumbered (named_trees old) imports (import_paths tree)) (none : file_at path old ≡ None) (a : IsAddedOver path tree height read imports old new after placed) where
+module _ (path : Text) (tree : FileSyntax) (height read : ℕ) (imports public : List ℕ) (old new : List Entry) (before after : Declarations) (log : List ReadEntry) (placed : Placed) (known : AreKnown old before log) (was_read : among path (read_paths log) ≡ true) (numbered : AreNumbered (named_trees old) imports (import_paths tree)) (publicly : AreNumbered (named_trees old) public (public_paths tree)) (none : file_at path old ≡ None) (a : IsAddedOver path tree height read imports public old new after placed) where
   abbrev x : Entry
   x = (a.key, a.file)
 
@@ -177,8 +173,8 @@ module _ (path : Text) (tree : FileSyntax) (height read : ℕ) (imports : List �
         (known.reach trees before_it) (stays path) (λ r q i rest. leads path r q tree is i rest) (λ q h. leads-out import_paths trees path q tree is h) numbered a.reaches
 
     handed-is : AreNumbersOf (HandsOn trees path) (named_trees old ++ (path, tree) ∷ []) a.file.handed_on.items
-    handed-is = numbers-joined held_as.HandedOn old path tree (HandsOn trees path) (λ r q. HandsOn trees r q) (public_paths tree) a.hands_on.public a.file.handed_on.items
-        (known.handed_on trees before_it) (stays path) (λ r q i rest. leads path r q tree is i rest) (λ q h. leads-out public_paths trees path q tree is h) (a.hands_on.numbered numbered) a.hands_on.joined
+    handed-is = numbers-joined held_as.HandedOn old path tree (HandsOn trees path) (λ r q. HandsOn trees r q) (public_paths tree) public a.file.handed_on.items
+        (known.handed_on trees before_it) (stays path) (λ r q i rest. leads path r q tree is i rest) (λ q h. leads-out public_paths trees path q tree is h) publicly a.hands_on
 
   -- the same of the entry
   of-entry : (R : Trees → Text → Text → Type 0) (which : Held)
@@ -251,77 +247,7 @@ known-none loaded names log none tells = rw none (record {
   read = λ p e h. cc;
 })
 
--- ** what a file imports publicly
-
--- a path of one statement is one of the file's
-public-at : (r : Text) (ss : List StatementSyntax) (i : ℕ) (s : StatementSyntax) → slice_get ss i ≡ Some s → among r (public_paths_of s) ≡ true → among r (flat_map public_paths_of ss) ≡ true
-public-at r [] i s at h = cc
-public-at r (x ∷ ss) zero s at h = among-append r (public_paths_of x) (flat_map public_paths_of ss) ∙ or_left _ _ (subst (λ (z : StatementSyntax). among r (public_paths_of z) ≡ true) (sym (some_is x s at)) h)
-  where
-    some_is : (a b : StatementSyntax) → Some a ≡ Some b → a ≡ b
-    some_is a b h = cc
-public-at r (x ∷ ss) (suc i) s at h = among-append r (public_paths_of x) (flat_map public_paths_of ss) ∙ or_right _ _ (public-at r ss i s at h)
-
--- each file that a statement imports publicly is loaded, where all that its file imports are
-pub public-loaded : (loaded : List Entry) (t : FileSyntax) (ns : List ℕ) (i : ℕ) (s : StatementSyntax) → slice_get t.statements i ≡ Some s → AreNumbered (named_trees loaded) ns (import_paths t) → (q : Text) → among q (public_paths_of s) ≡ true → (n : ℕ) × IsNumbered (named_trees loaded) n q
-public-loaded loaded t ns i s at numbered q h =
-    let there = public-imported q t (public-at q t.statements i s at h) in
-    let r = path-in (named_trees loaded) ns (import_paths t) q numbered there in
-    (r.0, r.2)
-
--- a file with a number is loaded
-loaded-at : (p : Text) (loaded : List Entry) (n : ℕ) → file_at p loaded ≡ None → IsNumbered (named_trees loaded) n p → ⊥
-loaded-at p [] n h i = cc
-loaded-at p (e ∷ loaded) zero h i =
-    let same : string_bytes e.0 ≡ p = ap (λ (f : Named). f.0) (some_is (name_of e) (p, i.0) i.1) in
-    let here : bytes_eq p (string_bytes e.0) ≡ true = rw same (text-same p) in
-    let z : Some e.1 ≡ None = (rw here at h) in cc
-  where
-    some_is : (a b : Named) → Some a ≡ Some b → a ≡ b
-    some_is a b h = cc
-loaded-at p (e ∷ loaded) (suc n) h i =
-    elim (bool_cases (bytes_eq p (string_bytes e.0))) [
-      | inl w ↦ let z : Some e.1 ≡ None = (rw w at h) in cc
-      | inr w ↦ loaded-at p loaded n (rw w at h) i
-    ]
-
-pub public-missing : (loaded : List Entry) (p : Text) → file_at p loaded ≡ None → ((r : Text) → among r (p ∷ []) ≡ true → (n : ℕ) × IsNumbered (named_trees loaded) n r) → ⊥
-public-missing loaded p none all =
-    let n = all p (or_left (bytes_eq p p) false (text-same p)) in
-    loaded-at p loaded n.0 none n.1
-
--- ** a call of the loader
-
-pub unloaded-enter : (chain : List Text) (loaded : List Entry) (q : Text) → AreUnloaded chain loaded → file_at q loaded ≡ None → AreUnloaded (chain ++ q ∷ []) loaded
-unloaded-enter chain loaded q u none p on =
-    elim (among-in p q chain on) [
-      | inl w ↦ u p w
-      | inr w ↦ subst (λ (z : Text). file_at z loaded ≡ None) (sym w) none
-    ]
-
-pub unloaded-none : (chain : List Text) (loaded : List Entry) → chain ≡ [] → AreUnloaded chain loaded
-unloaded-none chain loaded none p on = absurd (nothing (subst (λ (z : List Text). among p z ≡ true) none on))
-  where
-    nothing : among p [] ≡ true → ⊥
-    nothing h = cc
-
-pub met-again : (p q : Text) (loaded : List Entry) (placed : Placed) → q ≡ p → IsPlaced q loaded (Some placed) → IsMetAt p loaded loaded placed
-met-again p q loaded placed is there = record {
-  number = subst (λ (z : Text). IsNumbered (named_trees loaded) placed.number z) is there.3;
-  more = ([], sym (append-nil loaded));
-}
-
-pub met-none : (old new : List Entry) (below : List ℕ) → new ≡ old → below ≡ [] → AreMetAt [] old new below
-met-none old new below same none = rw (same, none) (record { numbered = tt; more = ([], sym (append-nil old)) })
-
-pub met-step : (old mid new : List Entry) (below next_below : List ℕ) (done next : List Text) (q : Text) (placed : Placed) → AreMetAt done old mid below → IsMetAt q mid new placed → next_below ≡ below ++ placed.number ∷ [] → next ≡ done ++ q ∷ [] → AreMetAt next old new next_below
-met-step old mid new below next_below done next q placed a r pushed is =
-    let longer : named_trees new ≡ named_trees mid ++ named_trees r.more.0 = ap named_trees r.more.1 ∙ map-append name_of mid r.more.0 in
-    let numbered : AreNumbered (named_trees new) below done = subst (λ (z : List Named). AreNumbered z below done) (sym longer) (are-more (named_trees mid) (named_trees r.more.0) below done a.numbered) in
-    rw (pushed, is) (record {
-      numbered = are-append (named_trees new) below (placed.number ∷ []) done (q ∷ []) numbered (r.number, tt);
-      more = (a.more.0 ++ r.more.0, r.more.1 ∙ (ap (λ z. z ++ r.more.0) a.more.1 ∙ append_assoc old a.more.0 r.more.0));
-    })
+-- ** a read
 
 -- a path that was read stands in a log that grew since
 pub read-since : (p : Text) (old first now : List ReadEntry) (e : ReadEntry) → first ≡ old ++ e ∷ [] → path_buf_text e.path ≡ p → Grows first now → among p (read_paths now) ≡ true
@@ -331,47 +257,3 @@ read-since p old first now e read_now named grows =
     let here : among p (read_paths (old ++ e ∷ [])) ≡ true = ap (among p) (map-append (λ (e : ReadEntry). path_buf_text e.path) old (e ∷ [])) ∙ (among-append p (read_paths old) (path_buf_text e.path ∷ []) ∙ or_right (among p (read_paths old)) (among p (path_buf_text e.path ∷ [])) last) in
     let there : among p (read_paths first) ≡ true = subst (λ (z : List ReadEntry). among p (read_paths z) ≡ true) (sym read_now) here in
     rw grows.1 (ap (among p) (map-append (λ (e : ReadEntry). path_buf_text e.path) first grows.0) ∙ among-left p (read_paths first) (read_paths grows.0) there)
-
-module _ (p q : Text) (tree : FileSyntax) (height read : ℕ) (below : List ℕ) (old loaded new : List Entry) (before after : Declarations) (log : List ReadEntry) (same : q ≡ p) (none : file_at p loaded ≡ None) where
-  abbrev Added : Placed → Type 0
-  Added placed = IsAddedOver p tree height read below loaded new after placed
-
-  added-is : (placed : Placed) → (file_at q loaded ≡ None → IsAddedOver q tree height read below loaded new after placed) → Added placed
-  added-is placed over = subst (λ (z : Text). file_at z loaded ≡ None → IsAddedOver z tree height read below loaded new after placed) same over none
-
-  pub settled-known : (r : Result Placed RunFault) → AreKnown loaded before log → among p (read_paths log) ≡ true → AreMetAt (import_paths tree) old loaded below → (AreKnown loaded before log → SettlesOver q tree height read below log loaded new after r) → OnOk r (AreKnown new after log)
-  settled-known (Err f) known was_read met settles = tt
-  settled-known (Ok placed) known was_read met settles = known-push p tree height read below loaded new before after log placed known was_read met.numbered none (added-is placed (settles known))
-
-  pub settled-met : (r : Result Placed RunFault) → AreKnown loaded before log → among p (read_paths log) ≡ true → AreMetAt (import_paths tree) old loaded below → (AreKnown loaded before log → SettlesOver q tree height read below log loaded new after r) → IfOk r (IsMetAt p old new)
-  settled-met (Err f) known was_read met settles = tt
-  settled-met (Ok placed) known was_read met settles =
-      let m = met-push p tree height read below loaded new before after log placed known was_read met.numbered none (added-is placed (settles known)) in
-      record {
-        number = m.number;
-        more = (met.more.0 ++ m.more.0, m.more.1 ∙ (ap (λ z. z ++ m.more.0) met.more.1 ∙ append_assoc old met.more.0 m.more.0));
-      }
-
-  pub settled-unloaded : (r : Result Placed RunFault) (chain : List Text) → AreKnown loaded before log → AreUnloaded chain loaded → among p chain ≡ false → (AreKnown loaded before log → SettlesOver q tree height read below log loaded new after r) → OnOk r (AreUnloaded chain new)
-  settled-unloaded (Err f) chain known u off settles = tt
-  settled-unloaded (Ok placed) chain known u off settles =
-      let a = added-is placed (settles known) in
-      rw a.entries (unloaded-push chain loaded (a.key, a.file) p u a.named off)
-
-pub unloaded-front : (chain : List Text) (q : Text) (loaded : List Entry) → AreUnloaded (chain ++ q ∷ []) loaded → AreUnloaded chain loaded
-unloaded-front chain q loaded u p on = u p (among-left p chain (q ∷ []) on)
-
-pub unloaded-last : (chain : List Text) (q : Text) (loaded : List Entry) → AreUnloaded (chain ++ q ∷ []) loaded → file_at q loaded ≡ None
-unloaded-last chain q loaded u = u q (among-last q chain)
-
--- one statement more of a file
-pub public-next : (loaded : List Entry) (t : FileSyntax) (ns : List ℕ) (xs : List FileStatement) (i : ℕ) (x : FileStatement) (before after : List ℕ) (number : Option ℕ) → t.statements ≡ map statement_view xs → i < length xs → x ≡ get_or xs i x → AreNumbered (named_trees loaded) ns (import_paths t)
-    → AreNumbered (named_trees loaded) before (flat_map public_paths_of (map statement_view (take i xs))) → ArePublic loaded (public_paths_of (statement_view x)) number → after ≡ before ++ option_to_list number
-    → AreNumbered (named_trees loaded) after (flat_map public_paths_of (map statement_view (take (i + 1) xs)))
-public-next loaded t ns xs i x before after number whole lt item numbered so_far one pushed =
-    let there : slice_get xs i ≡ Some x = slice_get_read xs (length xs) i x refl lt item in
-    let at : slice_get t.statements i ≡ Some (statement_view x) = ap (λ (ss : List StatementSyntax). slice_get ss i) whole ∙ (slice_get-map statement_view xs i ∙ ap (option_map statement_view) there) in
-    let more : map statement_view (take (i + 1) xs) ≡ map statement_view (take i xs) ++ statement_view x ∷ [] = map_more statement_view xs i x lt ∙ ap (λ (z : FileStatement). map statement_view (take i xs) ++ statement_view z ∷ []) (sym item) in
-    let all : flat_map public_paths_of (map statement_view (take i xs)) ++ public_paths_of (statement_view x) ≡ flat_map public_paths_of (map statement_view (take (i + 1) xs)) = flat_map_more public_paths_of [] (map statement_view (take i xs)) (statement_view x) ∙ ap (flat_map public_paths_of) (sym more) in
-    let these = one (public-loaded loaded t ns i (statement_view x) at numbered) in
-    rw pushed (subst (λ (ps : List Text). AreNumbered (named_trees loaded) (before ++ option_to_list number) ps) all (are-append (named_trees loaded) before (option_to_list number) (flat_map public_paths_of (map statement_view (take i xs))) (public_paths_of (statement_view x)) so_far these))

@@ -18,3 +18,10 @@ pub mod Settling
 pub mod Listed
 pub mod Including
 pub mod Building
+pub mod Stacks
+pub mod Taking
+pub mod Stepping
+pub mod Meeting
+pub mod Agreeing
+pub mod Further
+pub mod Following

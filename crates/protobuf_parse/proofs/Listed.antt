@@ -1,16 +1,16 @@
 -- There are lists of the files that each file reaches and sees, since only files that were read have trees.
-use Rattle.std.proofs.Common.{◌≡◌, ◌⊎◌, Bool, true, false, ◌||◌, inl, inr, List, [], ◌∷◌, ◌++◌, map, Option, Some, None, refl, sym, ◌∙◌, ap, subst}
+use Rattle.std.proofs.Common.{◌≡◌, true, false, inl, inr, List, [], ◌∷◌, Option, Some, None, refl, sym, subst}
 use Rattle.std.specs.Prelude.{bytes_eq}
 use Rattle.protobuf_parse_base.specs.PathViews.{path_buf_text}
 use Rattle.protobuf_parse_syntax.specs.Trees.{FileSyntax}
 use Rattle.protobuf_parse_model.specs.Descriptors.{Text}
-use Rattle.protobuf_parse_model.specs.FilesByPath.{AreJust, Leads, leads, stays}
+use Rattle.protobuf_parse_model.specs.FilesByPath.{AreJust, leads, stays}
 use Rattle.protobuf_parse_model.proofs.Closing.{closed}
 use Rattle.protobuf_parse.specs.Walks.{Trees, Reaches, HandsOn, Sees, sees_itself, by_import, among, import_paths, public_paths}
-use Rattle.protobuf_parse.specs.Run.{AreListed, HasTrees, HaveLists, IsTree, first_read, text_given, text_read}
+use Rattle.protobuf_parse.specs.Run.{HasTrees, HaveLists, IsTree, text_read}
 use Rattle.protobuf_parse.specs.Loading.{read_paths}
 use Rattle.protobuf_parse.specs.declared.run.log.ReadEntry.{ReadEntry}
-use Rattle.protobuf_parse.proofs.Keeping.{bool_cases, or_cases, or_left, or_right, some_same, text-same, text-true}
+use Rattle.protobuf_parse.proofs.Keeping.{bool_cases, or_cases, or_left, or_right, text-same, text-true}
 use Rattle.protobuf_parse.proofs.Knowing.{public-imported}
 
 -- a path that has a tree was read

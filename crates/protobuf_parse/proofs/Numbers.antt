@@ -1,5 +1,5 @@
 -- Numbers of loaded files, and lists of them.
-use Rattle.std.proofs.Common.{append_assoc, ◌≡◌, ◌⊎◌, ℕ, zero, suc, ◌+◌, ◌<◌, get_or, take, Bool, true, false, ◌||◌, inl, inr, List, [], ◌∷◌, ◌++◌, flat_map, map, length, Option, Some, None, option_map, Contains, refl, sym, ◌∙◌, ap, subst, arith}
+use Rattle.std.proofs.Common.{◌≡◌, ◌⊎◌, ℕ, zero, suc, ◌+◌, ◌<◌, get_or, take, Bool, true, false, ◌||◌, inl, inr, List, [], ◌∷◌, ◌++◌, flat_map, length, Option, Some, None, option_map, Contains, refl, sym, ◌∙◌, ap, subst, arith}
 use Rattle.std.specs.Prelude.{bytes_eq, slice_get, string_bytes}
 use Rattle.std.proofs.lemmas.List.{flat_map_more, take_more, map-append, length-map}
 use Rattle.std.proofs.lemmas.List.Elements.{Contains-append_left, Contains-append_right, Contains-append_cases, Contains-push}
@@ -7,8 +7,7 @@ use Rattle.std.proofs.lemmas.Option.{slice_get-map}
 use Rattle.protobuf_parse_syntax.specs.Trees.{FileSyntax, file_view}
 use Rattle.protobuf_parse_model.specs.Descriptors.{Text}
 use Rattle.protobuf_parse.specs.Walks.{among}
-use Rattle.protobuf_parse.specs.Loading.{AreJoined, AreNumbered, AreNumbersOf, Entry, IsNumbered, Named, held, held_at, held_by, named_trees}
-use Rattle.protobuf_parse.specs.declared.run.loader.LoadedFile.{LoadedFile}
+use Rattle.protobuf_parse.specs.Loading.{AreJoined, AreNumbered, AreNumbersOf, Entry, IsNumbered, Named, held, held_at, named_trees}
 use Rattle.protobuf_parse.specs.declared.run.reach.Held.{Held}
 use Rattle.protobuf_parse.proofs.Keeping.{bool_cases, or_left, text-same, text-true}
 use Rattle.protobuf_parse.proofs.Steps.{get-more, get-seam}

@@ -1,8 +1,10 @@
 -- What one read leaves.
-use Rattle.std.proofs.Common.{◌≡◌, inl, inr, List, [], ◌∷◌, ◌++◌, Option, Some, None, Result, Ok, Err, sym, subst, ap}
+use Rattle.std.proofs.Common.{◌≡◌, ◌≤◌, inl, inr, List, [], ◌∷◌, ◌++◌, Option, Some, None, Result, Ok, Err, sym, subst, ap}
 use Rattle.std.specs.Prelude.{IfOk, IfErr}
 use Rattle.protobuf_parse_base.specs.PathViews.{path_buf_text}
+use Rattle.protobuf_parse_syntax.specs.Counts.{statements_in}
 use Rattle.protobuf_parse_syntax.specs.Trees.{FileSyntax, file_view}
+use Rattle.protobuf_parse_syntax.proofs.Sizes.{tree_size}
 use Rattle.protobuf_parse_syntax.specs.declared.tree.FileTree.{FileTree}
 use Rattle.protobuf_parse_model.specs.Descriptors.{Text}
 use Rattle.protobuf_parse.specs.declared.run.fault.RunFault.{RunFault}
@@ -31,6 +33,11 @@ tree_moved table p q x o t e n h = subst (λ (y : ReadOutcome). IsTheTree (text_
 pub read_found : (legal : Legal) (table : List (Text × Text)) (asked : Asked) (p q : Text) (old new : List ReadEntry) (o : ReadOutcome) (tree : FileTree) → q ≡ p → Noted p o old new → legal asked p o → IsTheTree (text_given table q (Some o)) (Some (file_view tree)) → ReadsTree legal table asked p old new (Ok tree)
 read_found legal table asked p q old new o tree e n ok t =
     (n.0, n.1, n.2, rw n.3 ok, tree_moved table p q n.0.outcome o (Some (file_view tree)) e n.3 t)
+
+-- a tree that was read has no more statements than a text has bytes
+pub few_statements : (text : Option Text) (t : FileSyntax) → IsTheTree text (Some t) → statements_in t ≤ 2147483647
+few_statements (Some text) t h = tree_size text t h.0.1
+few_statements None t h = absurd h.0
 
 pub but_memory : {P : Type 0} (f : RunFault) → (f ≡ fault.Memory → ⊥) → OrMemory f P → P
 but_memory f other (inl h) = h

@@ -6,29 +6,26 @@ use Rattle.std.specs.List.Sorted.{IsStrictlyIncreasing}
 use Rattle.std.proofs.lemmas.Option.{slice_get-map}
 use Rattle.std.proofs.lemmas.List.Elements.{Contains-append_left, Contains-append_right, Contains-append_cases}
 use Rattle.protobuf_parse_syntax.specs.Trees.{FileSyntax, file_view}
-use Rattle.protobuf_parse_base.specs.PathViews.{path_buf_text}
-use Rattle.protobuf_parse_model.specs.Descriptors.{Text, FileDescriptor}
-use Rattle.protobuf_parse_model.specs.Descriptors as described
+use Rattle.protobuf_parse_model.specs.Descriptors.{Text}
 use Rattle.protobuf_parse_model.specs.Declarations.{DeclaredType, file_scope}
-use Rattle.protobuf_parse_model.specs.Environment.{Environment, no_custom}
+use Rattle.protobuf_parse_model.specs.Environment.{Environment, no_extensions}
 use Rattle.protobuf_parse_model.specs.Faults.{Among, here, there, fault_view}
 use Rattle.protobuf_parse_model.specs.Faults as elaborating
-use Rattle.protobuf_parse_model.specs.FileDescriptor.{environment, file_of, types_of_files}
+use Rattle.protobuf_parse_model.specs.FileDescriptor.{environment, file_faults, file_of}
 use Rattle.protobuf_parse_model.specs.FilesByPath.{AreDistinct, AreJust, leads, stays, trees_at}
 use Rattle.protobuf_parse_model.specs.Linking.{before_others, link_faults}
-use Rattle.protobuf_parse_model.specs.Lookup.{declared}
 use Rattle.protobuf_parse_model.specs.Tables.{picked}
 use Rattle.protobuf_parse_model.specs.declared.scope.seen.Declarations.{Declarations}
 use Rattle.protobuf_parse_model.proofs.Orders.{SameMembers, just-same, link-none, link-told, types-same}
 use Rattle.protobuf_parse.specs.Walks.{Trees, Reaches, HandsOn, Sees, sees_itself, by_import, among, import_paths}
-use Rattle.protobuf_parse.specs.Run.{Files, AreListed, StandsInElab, environment_of, faults_in, faults_of, origin_given}
-use Rattle.protobuf_parse.specs.Loading.{Agrees, AreJoined, AreKnown, AreNumbered, AreNumbersOf, Entry, IsAdded, IsAddedOver, IsLoaded, IsNumbered, Named, OrMemory, Settles, SettlesOver, faults_over, file_at, file_over, named_trees, paths_in, trees_of, with_next}
+use Rattle.protobuf_parse.specs.Run.{Files, AreListed, StandsInElab, environment_of, faults_in, origin_given}
+use Rattle.protobuf_parse.specs.Loading.{Agrees, AreJoined, AreKnown, AreNumbered, AreNumbersOf, Entry, IsAddedOver, IsLoaded, IsNumbered, Named, Settles, SettlesOver, faults_over, file_at, file_over, named_trees, paths_in, trees_of, with_next}
 use Rattle.protobuf_parse.specs.declared.run.fault.RunFault.{RunFault}
 use Rattle.protobuf_parse.specs.declared.run.fault.RunFault.TheVariants as fault
 use Rattle.protobuf_parse.specs.declared.run.loader.Placed.{Placed}
 use Rattle.protobuf_parse.specs.declared.run.log.ReadEntry.{ReadEntry}
 use Rattle.protobuf_parse.specs.declared.run.reach.Held.TheVariants as held_as
-use Rattle.protobuf_parse.proofs.Keeping.{some_same, or_cases, or_left, or_right, among-append, text-same, text-true}
+use Rattle.protobuf_parse.proofs.Keeping.{or_cases, or_left, or_right, among-append, text-same, text-true}
 use Rattle.protobuf_parse.proofs.Knowing.{agrees-push, next-trees, leads-out, once-push, sees-out, sees-reaches}
 use Rattle.protobuf_parse.proofs.Numbers.{numbers-joined, only-one}
 
@@ -186,7 +183,7 @@ just-by Has files ns d up are = record {
 
 -- ** faults
 
-none-before : (firsts others : List elaborating.Fault) → before_others firsts others ≡ [] → firsts ≡ []
+pub none-before : (firsts others : List elaborating.Fault) → before_others firsts others ≡ [] → firsts ≡ []
 none-before [] others h = refl
 none-before (a ∷ firsts) others h = h
 
@@ -197,17 +194,17 @@ none-after (a ∷ firsts) others h = cc
 no-others : (firsts others : List elaborating.Fault) → firsts ≡ [] → others ≡ [] → before_others firsts others ≡ []
 no-others firsts others h k = rw (h, k) refl
 
-told-before : (firsts others : List elaborating.Fault) (f : elaborating.Fault) → Among firsts f → Among (before_others firsts others) f
+pub told-before : (firsts others : List elaborating.Fault) (f : elaborating.Fault) → Among firsts f → Among (before_others firsts others) f
 told-before [] others f m = absurd (no-member f m)
   where
     no-member : (f : elaborating.Fault) → Among [] f → ⊥
     no-member f m = elim m [ ]
 told-before (a ∷ firsts) others f m = m
 
-told-after : (firsts others : List elaborating.Fault) (f : elaborating.Fault) → firsts ≡ [] → Among others f → Among (before_others firsts others) f
+pub told-after : (firsts others : List elaborating.Fault) (f : elaborating.Fault) → firsts ≡ [] → Among others f → Among (before_others firsts others) f
 told-after firsts others f h m = rw h m
 
-which-told : (firsts others : List elaborating.Fault) (f : elaborating.Fault) → Among (before_others firsts others) f → Among firsts f ⊎ ((firsts ≡ []) × Among others f)
+pub which-told : (firsts others : List elaborating.Fault) (f : elaborating.Fault) → Among (before_others firsts others) f → Among firsts f ⊎ ((firsts ≡ []) × Among others f)
 which-told [] others f m = inr (refl, m)
 which-told (a ∷ firsts) others f m = inl m
 
@@ -238,7 +235,7 @@ module _ (files : Files) (listed : AreListed files.trees files.reached files.see
   linked_in = link_faults (trees_at files.trees (files.reached p))
 
   abbrev sees_types : (Text → Option DeclaredType) → Environment
-  sees_types types = record { syntax = t.syntax; types = types; scope = file_scope t; custom = no_custom }
+  sees_types types = record { syntax = t.syntax; types = types; scope = file_scope t; customs = no_extensions }
 
   same-reach : SameMembers (paths_by with_p reach) (files.reached p)
   same-reach = just-same (Reaches files.trees p) (paths_by with_p reach) (files.reached p) reached-by (listed.reaches p)
@@ -252,25 +249,25 @@ module _ (files : Files) (listed : AreListed files.trees files.reached files.see
   sight-is : picked (with_next loaded t) sight ≡ trees_at files.trees (paths_by with_p sight)
   sight-is = ap (λ (ts : List FileSyntax). picked ts sight) (next-trees loaded p t) ∙ picked-are files.trees with_p sight agrees-p
 
-  same-types : linked ≡ [] → environment (picked (with_next loaded t) sight) no_custom t ≡ environment_of files p t
+  same-types : linked ≡ [] → environment (picked (with_next loaded t) sight) no_extensions t ≡ environment_of files p t
   same-types h =
-      ap (λ (ts : List FileSyntax). environment ts no_custom t) sight-is
+      ap (λ (ts : List FileSyntax). environment ts no_extensions t) sight-is
       ∙ ap sees_types (types-same files.trees (paths_by with_p reach) (paths_by with_p sight) (files.seen p) reached-by.once same-sight (λ q m. reached-by.all q (sees-reaches files.trees p q (seen-by.only q m))) h)
 
   abbrev told-over : List elaborating.Fault
-  told-over = faults_of (environment (picked (with_next loaded t) sight) no_custom t) t
+  told-over = file_faults (environment (picked (with_next loaded t) sight) no_extensions t) t
 
   over-is : faults_over (with_next loaded t) reach sight t ≡ before_others linked told-over
   over-is = ap (λ (fs : List elaborating.Fault). before_others fs told-over) linked-is
 
-  others-same : linked ≡ [] → told-over ≡ faults_of (environment_of files p t) t
-  others-same h = ap (λ (env : Environment). faults_of env t) (same-types h)
+  others-same : linked ≡ [] → told-over ≡ file_faults (environment_of files p t) t
+  others-same h = ap (λ (env : Environment). file_faults env t) (same-types h)
 
   pub over-faultless : faults_over (with_next loaded t) reach sight t ≡ [] → faults_in files p (Some t) ≡ []
   over-faultless h =
       let e = sym over-is ∙ h in
       let first = none-before linked told-over e in
-      no-others linked_in (faults_of (environment_of files p t) t)
+      no-others linked_in (file_faults (environment_of files p t) t)
       (link-none files.trees (paths_by with_p reach) (files.reached p) reached-by.once (listed.reaches p).once same-reach first)
       (sym (others-same first) ∙ none-after linked told-over e)
 
@@ -280,10 +277,10 @@ module _ (files : Files) (listed : AreListed files.trees files.reached files.see
   pub over-told : (f : elaborating.Fault) → Among (faults_over (with_next loaded t) reach sight t) f → Among (faults_in files p (Some t)) f
   over-told f m =
       elim (which-told linked told-over f (subst (λ (fs : List elaborating.Fault). Among fs f) over-is m)) [
-        | inl w ↦ told-before linked_in (faults_of (environment_of files p t) t) f (link-told files.trees (paths_by with_p reach) (files.reached p) f reached-by.once (listed.reaches p).once same-reach w)
+        | inl w ↦ told-before linked_in (file_faults (environment_of files p t) t) f (link-told files.trees (paths_by with_p reach) (files.reached p) f reached-by.once (listed.reaches p).once same-reach w)
         | inr w ↦
             let first = w.0 in
-            told-after linked_in (faults_of (environment_of files p t) t) f (link-none files.trees (paths_by with_p reach) (files.reached p) reached-by.once (listed.reaches p).once same-reach first)
+            told-after linked_in (file_faults (environment_of files p t) t) f (link-none files.trees (paths_by with_p reach) (files.reached p) reached-by.once (listed.reaches p).once same-reach first)
             (subst (λ (fs : List elaborating.Fault). Among fs f) (others-same first) w.1)
       ]
 
@@ -294,11 +291,11 @@ stands-more origin firsts others (fault.Memory) more s = absurd s
 stands-more origin firsts others _ more s = absurd s
 
 -- what an elaboration over numbered files leaves
-pub settled-in : (files : Files) (loaded new : List Entry) (names after : Declarations) (q p : Text) (t : FileSyntax) (height read : ℕ) (below : List ℕ) (log : List ReadEntry) (r : Result Placed RunFault)
+pub settled-in : (files : Files) (loaded new : List Entry) (names after : Declarations) (q p : Text) (t : FileSyntax) (height read : ℕ) (below public : List ℕ) (log : List ReadEntry) (r : Result Placed RunFault)
     → q ≡ p → AreListed files.trees files.reached files.seen → AreKnown loaded names log → Agrees files.trees (named_trees loaded) → files.trees p ≡ Some t → file_at p loaded ≡ None → AreNumbered (named_trees loaded) below (import_paths t)
-    → SettlesOver q t height read below log loaded new after r → Settles files p t height read log loaded new r
-settled-in files loaded new names after q p t height read below log (Ok placed) same listed known agrees is none numbered over = λ missing.
-    let a = subst (λ (z : Text). file_at z loaded ≡ None → IsAddedOver z t height read below loaded new after placed) same over missing in
+    → SettlesOver q t height read below public log loaded new after r → Settles files p t height read log loaded new r
+settled-in files loaded new names after q p t height read below public log (Ok placed) same listed known agrees is none numbered over = λ missing.
+    let a = subst (λ (z : Text). file_at z loaded ≡ None → IsAddedOver z t height read below public loaded new after placed) same over missing in
     record {
       key = a.key;
       file = a.file;
@@ -311,7 +308,7 @@ settled-in files loaded new names after q p t height read below log (Ok placed) 
       descriptor = a.descriptor ∙ over-descriptor files listed loaded names log known agrees p t is none below numbered a.file.reach.items a.sight a.reaches a.sees a.faultless;
       placed_is = a.height_placed;
     }
-settled-in files loaded new names after q p t height read below log (Err f) same listed known agrees is none numbered over = λ e found named.
+settled-in files loaded new names after q p t height read below public log (Err f) same listed known agrees is none numbered over = λ e found named.
     elim (over e found (named ∙ sym same)) [
       | inl w ↦
           let stands : StandsInElab (origin_given p (Some e.outcome)) (faults_over (with_next loaded t) w.0 w.1 t) f = subst (λ (z : Text). StandsInElab (origin_given z (Some e.outcome)) (faults_over (with_next loaded t) w.0 w.1 t) f) same w.4 in

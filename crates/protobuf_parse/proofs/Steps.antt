@@ -1,5 +1,5 @@
 -- The state of a run, step by step.
-use Rattle.std.proofs.Common.{◌≡◌, ℕ, zero, suc, ◌-◌, ◌<◌, ◌≤◌, true, false, ◌⊎◌, inl, inr, List, [], ◌∷◌, ◌++◌, Option, Some, None, refl, sym, ◌∙◌, ap, subst, append_assoc, append-nil, length, max, arith}
+use Rattle.std.proofs.Common.{◌≡◌, ℕ, zero, suc, ◌-◌, ◌<◌, ◌≤◌, true, false, ◌⊎◌, inl, inr, List, [], ◌∷◌, ◌++◌, Option, Some, None, refl, sym, ◌∙◌, ap, subst, append_assoc, append-nil, length, arith}
 use Rattle.std.specs.Prelude.{bytes_eq, string_bytes, slice_get}
 use Rattle.std.specs.List.{AllByRecursion}
 use Rattle.std.proofs.lemmas.Bool.{or_from}
@@ -9,18 +9,16 @@ use Rattle.std.proofs.Math.Seq.{get_or-append_seam}
 use Rattle.protobuf_parse_base.specs.PathViews.{path_buf_text}
 use Rattle.protobuf_parse_syntax.specs.Trees.{FileSyntax}
 use Rattle.protobuf_parse_model.specs.Descriptors.{Text}
-use Rattle.protobuf_parse_model.specs.FileDescriptor.{file_of}
 use Rattle.protobuf_parse.specs.declared.run.fault.RunFault.{RunFault}
 use Rattle.protobuf_parse.specs.declared.run.fault.RunFault.TheVariants as fault
 use Rattle.protobuf_parse.specs.declared.run.loader.LoadedFile.{LoadedFile}
-use Rattle.protobuf_parse.specs.declared.run.loader.Placed.{Placed}
 use Rattle.protobuf_parse.specs.declared.run.log.ReadEntry.{ReadEntry}
 use Rattle.protobuf_parse.specs.declared.run.log.ReadOutcome.{ReadOutcome}
-use Rattle.protobuf_parse.specs.Walks.{Asked, the_resolver, Event, cycle, long, load, elab, has, keep, among, import_paths, joined, walk, Read, reads_in}
-use Rattle.protobuf_parse.specs.Run.{Files, HasTrees, environment_of, faults_in, IsTree, IsTheTree, text_given, first_read, fails, Answers, StandsAt}
-use Rattle.protobuf_parse.specs.Loading.{Legal, Entry, paths_of, file_at, read_paths, Grows, Settled, file_shape, imports_shape, IsLoaded, IsAdded, Good, Halts, Stops, OrMemory, so_far, InLoop}
-use Rattle.protobuf_parse.proofs.Keeping.{never_both, false_true, some_same, none_some, text-true, text-same, cycle-same, long-same, or_left, bool_cases, not_true, has-append, has-in, has-left, has-right, has-one, has-last, has-like, keep-append, keep-extends, keep-within, keep-all, keep-but_long, keep-fresh, reads_in-append, elab_paths-append, has-elab, among-last, among-left, among-in, find-none, clean-has, Apart-within}
-use Rattle.protobuf_parse.proofs.Walking.{lt_yes, lt_no, walk-on_chain, walk-no_room, walk-load, joined-append, settled-nil, settled-join, settled-more, settled-same, settled-file}
+use Rattle.protobuf_parse.specs.Walks.{Asked, the_resolver, Event, cycle, long, load, elab, has, keep, among, import_paths, walk, Read, reads_in}
+use Rattle.protobuf_parse.specs.Run.{Files, HasTrees, faults_in, IsTree, IsTheTree, text_given, first_read, fails, Answers, StandsAt}
+use Rattle.protobuf_parse.specs.Loading.{Legal, Entry, paths_of, file_at, read_paths, Grows, Settled, file_shape, imports_shape, IsLoaded, Good, Halts, Stops, OrMemory}
+use Rattle.protobuf_parse.proofs.Keeping.{never_both, false_true, some_same, none_some, text-true, text-same, cycle-same, long-same, or_left, bool_cases, not_true, has-append, has-in, has-left, has-right, has-one, has-last, has-like, keep-extends, keep-all, keep-but_long, keep-fresh, reads_in-append, elab_paths-append, has-elab, among-last, among-left, among-in, find-none, clean-has, Apart-within}
+use Rattle.protobuf_parse.proofs.Walking.{lt_yes, lt_no, walk-on_chain, walk-no_room, walk-load, settled-more, settled-file}
 
 -- ** lists of what was read and loaded
 
@@ -103,7 +101,7 @@ Grows-trans a b c g h = (g.0 ++ h.0, h.1 ∙ (ap (λ z. z ++ h.0) g.1 ∙ append
 pub room-is : (chain : List Text) (p : Text) → length chain < 100 → 100 - length chain ≡ suc (100 - length (chain ++ p ∷ []))
 room-is chain p h = let e = length_push chain p in omega arith
 
-has-asked : (a : Asked) (p : Text) (xs : List Event) → has (load a p) xs ≡ has (load the_resolver p) xs
+pub has-asked : (a : Asked) (p : Text) (xs : List Event) → has (load a p) xs ≡ has (load the_resolver p) xs
 has-asked a p xs = has-like (load the_resolver p) (load a p) xs (text-same p)
 
 module _ (legal : Legal) (files : Files) where
@@ -136,36 +134,33 @@ module _ (legal : Legal) (files : Files) where
   first-is : (log : List ReadEntry) (e : ReadEntry) (p : Text) → among p (read_paths log) ≡ false → path_buf_text e.path ≡ p → Grows (log ++ e ∷ []) files.reads → first_read p files.reads ≡ Some e.outcome
   first-is log e p n is g = rw (g.1, append_assoc log (e ∷ []) g.0) (first_read-new p log g.0 e n is)
 
-  pub good-load : (kept : List Event) (loaded : List Entry) (log : List ReadEntry) (chain : List Text) (i : Text) (a : Asked) (p : Text) (e : ReadEntry) (t : FileSyntax) → Good legal files kept loaded log chain → among p chain ≡ false → file_at p loaded ≡ None → Grows (log ++ e ∷ []) files.reads → path_buf_text e.path ≡ p → legal a p e.outcome → files.trees p ≡ Some t → InLoop legal files kept i a p chain e (length log) [] 0 loaded (log ++ e ∷ [])
-  good-load kept loaded log chain i a p e t g off none grown named ok is =
+  -- a file that is neither on the chain nor loaded is read
+  pub fresh-load : (kept : List Event) (loaded : List Entry) (log : List ReadEntry) (chain : List Text) (a : Asked) (p : Text) → Good legal files kept loaded log chain → among p chain ≡ false → file_at p loaded ≡ None → has (load a p) kept ≡ false
+  fresh-load kept loaded log chain a p g off none = has-asked a p kept ∙ (unread kept loaded log chain p g off none).0
+
+  pub good-load : (kept : List Event) (loaded : List Entry) (log : List ReadEntry) (chain : List Text) (a : Asked) (p : Text) (e : ReadEntry) (t : FileSyntax) → Good legal files kept loaded log chain → among p chain ≡ false → file_at p loaded ≡ None → path_buf_text e.path ≡ p → legal a p e.outcome → files.trees p ≡ Some t → Good legal files (kept ++ load a p ∷ []) loaded (log ++ e ∷ []) (chain ++ p ∷ [])
+  good-load kept loaded log chain a p e t g off none named ok is =
       let u = unread kept loaded log chain p g off none in
       let r : List Event = kept ++ load a p ∷ [] in
       record {
-        fresh = has-asked a p kept ∙ u.0;
-        found = get-seam log [] e;
-        named = named;
-        first = first-is log e p u.2 named grown;
-        good = record {
-          answers = rw (reads_in-append kept (load a p ∷ [])) (answers-more legal (reads_in kept) log (record { asked = a; path = p }) e g.answers named ok);
-          elabs = rw (elab_paths-append kept (load a p ∷ []), append-nil) g.elabs;
-          clean = find-none (fails files) kept (load a p ∷ []) g.clean (rw is refl);
-          settled = λ q f w. settled-more kept r f.height _ (g.settled q f w) (λ x v. has-left x kept (load a p ∷ []) v);
-          made = all-into _ _ (loaded-more log e) loaded g.made;
-          known = λ q v. elim (has-in (load the_resolver q) kept (load a p ∷ []) v) [
-            | inl w ↦ elim (g.known q w) [ inl y ↦ inl (among-left q chain (p ∷ []) y) | inr y ↦ inr (has-left (elab q) kept (load a p ∷ []) y) ]
-            | inr w ↦ inl (let z : q ≡ p = text-true q p (has-one (load the_resolver q) (load a p) w) in rw z (among-last p chain))
-          ];
-          read = λ q v. elim (among-in q (path_buf_text e.path) (read_paths log) (rw (read_paths-append log (e ∷ [])) at v)) [
-            | inl w ↦ has-left (load the_resolver q) kept (load a p ∷ []) (g.read q w)
-            | inr w ↦ has-right (load the_resolver q) kept (load a p ∷ []) (rw (w, named) (or_left _ _ (text-same p)))
-          ];
-          apart = λ q v. rw (has-append (elab q) kept (load a p ∷ [])) (or_from _ _ (elim (among-in q p chain v) [ inl w ↦ g.apart q w | inr w ↦ rw w u.1 ]) refl);
-        };
-        settled = settled-nil r;
+        answers = rw (reads_in-append kept (load a p ∷ [])) (answers-more legal (reads_in kept) log (record { asked = a; path = p }) e g.answers named ok);
+        elabs = rw (elab_paths-append kept (load a p ∷ []), append-nil) g.elabs;
+        clean = find-none (fails files) kept (load a p ∷ []) g.clean (rw is refl);
+        settled = λ q f w. settled-more kept r f.height _ (g.settled q f w) (λ x v. has-left x kept (load a p ∷ []) v);
+        made = all-into _ _ (loaded-more log e) loaded g.made;
+        known = λ q v. elim (has-in (load the_resolver q) kept (load a p ∷ []) v) [
+          | inl w ↦ elim (g.known q w) [ inl y ↦ inl (among-left q chain (p ∷ []) y) | inr y ↦ inr (has-left (elab q) kept (load a p ∷ []) y) ]
+          | inr w ↦ inl (let z : q ≡ p = text-true q p (has-one (load the_resolver q) (load a p) w) in rw z (among-last p chain))
+        ];
+        read = λ q v. elim (among-in q (path_buf_text e.path) (read_paths log) (rw (read_paths-append log (e ∷ [])) at v)) [
+          | inl w ↦ has-left (load the_resolver q) kept (load a p ∷ []) (g.read q w)
+          | inr w ↦ has-right (load the_resolver q) kept (load a p ∷ []) (rw (w, named) (or_left _ _ (text-same p)))
+        ];
+        apart = λ q v. rw (has-append (elab q) kept (load a p ∷ [])) (or_from _ _ (elim (among-in q p chain v) [ inl w ↦ g.apart q w | inr w ↦ rw w u.1 ]) refl);
       }
 
   -- a file whose imports are loaded is elaborated
-  good-elab : (kept : List Event) (loaded : List Entry) (log : List ReadEntry) (chain : List Text) (p : Text) (t : FileSyntax) (h : ℕ) (n : Entry) → Good legal files kept loaded log (chain ++ p ∷ []) → among p chain ≡ false → has (load the_resolver p) kept ≡ true → files.trees p ≡ Some t → faults_in files p (Some t) ≡ [] → Settled kept h (imports_shape files.trees (import_paths t)) → string_bytes n.0 ≡ p → n.1.height ≡ suc h → IsLoaded files log p n.1 → Good legal files (kept ++ elab p ∷ []) (loaded ++ n ∷ []) log chain × Settled (kept ++ elab p ∷ []) (suc h) (file_shape files.trees p)
+  pub good-elab : (kept : List Event) (loaded : List Entry) (log : List ReadEntry) (chain : List Text) (p : Text) (t : FileSyntax) (h : ℕ) (n : Entry) → Good legal files kept loaded log (chain ++ p ∷ []) → among p chain ≡ false → has (load the_resolver p) kept ≡ true → files.trees p ≡ Some t → faults_in files p (Some t) ≡ [] → Settled kept h (imports_shape files.trees (import_paths t)) → string_bytes n.0 ≡ p → n.1.height ≡ suc h → IsLoaded files log p n.1 → Good legal files (kept ++ elab p ∷ []) (loaded ++ n ∷ []) log chain × Settled (kept ++ elab p ∷ []) (suc h) (file_shape files.trees p)
   good-elab kept loaded log chain p t h n g off read is faultless s named tall m =
       let e : has (elab p) kept ≡ false = g.apart p (among-last p chain) in
       let set : Settled (kept ++ elab p ∷ []) (suc h) (file_shape files.trees p) = settled-file files.trees kept p t h is s e read in (
@@ -199,7 +194,7 @@ module _ (legal : Legal) (files : Files) where
       let r = keep-extends kept more in
       inr (record { memory = m; before = kept; after = r.0; split = r.1; clean = g.clean; answers = g.answers })
 
-  halts-at : (kept : List Event) (loaded : List Entry) (log : List ReadEntry) (chain : List Text) (events : List Event) (e : Event) (f : RunFault) → Good legal files kept loaded log chain → fails files e ≡ true → reads_in (e ∷ []) ≡ [] → events ≡ kept ++ e ∷ [] → StandsAt files e f → Halts legal files events log f
+  pub halts-at : (kept : List Event) (loaded : List Entry) (log : List ReadEntry) (chain : List Text) (events : List Event) (e : Event) (f : RunFault) → Good legal files kept loaded log chain → fails files e ≡ true → reads_in (e ∷ []) ≡ [] → events ≡ kept ++ e ∷ [] → StandsAt files e f → Halts legal files events log f
   halts-at kept loaded log chain events e f g bad n is s = record {
     before = kept;
     event = e;
@@ -282,85 +277,6 @@ module _ (legal : Legal) (files : Files) where
         clean = h.clean;
         answers = h.answers;
       })
-
-  -- ** the loop over a file's imports
-
-  pub so_far-append : (kept : List Event) (i : Text) (a : Asked) (p : Text) (chain done more : List Text) → so_far files.trees kept i a p chain (done ++ more) ≡ keep (so_far files.trees kept i a p chain done) (joined (walk files.trees i the_resolver (100 - length (chain ++ p ∷ [])) (chain ++ p ∷ [])) more)
-  so_far-append kept i a p chain done more =
-      let w : Text → List Event = walk files.trees i the_resolver (100 - length (chain ++ p ∷ [])) (chain ++ p ∷ []) in
-      ap (keep (kept ++ load a p ∷ [])) (joined-append w done more) ∙ keep-append (kept ++ load a p ∷ []) (joined w done) (joined w more)
-
-  pub opened : (kept : List Event) (i : Text) (a : Asked) (p : Text) (chain : List Text) (t : FileSyntax) → length chain < 100 → among p chain ≡ false → has (load a p) kept ≡ false → files.trees p ≡ Some t → keep kept (walk files.trees i a (100 - length chain) chain p) ≡ keep (so_far files.trees kept i a p chain (import_paths t)) (elab p ∷ [])
-  opened kept i a p chain t lt off fresh is =
-      let w : Text → List Event = walk files.trees i the_resolver (100 - length (chain ++ p ∷ [])) (chain ++ p ∷ []) in
-      let e : walk files.trees i a (100 - length chain) chain p ≡ load a p ∷ (joined w (import_paths t) ++ elab p ∷ []) = rw (room-is chain p lt) (walk-load files.trees i a (100 - length (chain ++ p ∷ [])) chain p off ∙ (rw is refl)) in
-      ap (keep kept) e ∙ (keep-fresh kept (joined w (import_paths t) ++ elab p ∷ []) (load a p) fresh ∙ keep-append (kept ++ load a p ∷ []) (joined w (import_paths t)) (elab p ∷ []))
-
-  pub loop-step : (kept : List Event) (i : Text) (a : Asked) (p : Text) (chain : List Text) (x : ReadEntry) (n : ℕ) (done : List Text) (q : Text) (h k m : ℕ) (loaded later : List Entry) (log after : List ReadEntry) → InLoop legal files kept i a p chain x n done h loaded log → Grows log after → Good legal files (keep (so_far files.trees kept i a p chain done) (walk files.trees i the_resolver (100 - length (chain ++ p ∷ [])) (chain ++ p ∷ []) q)) later after (chain ++ p ∷ []) × Settled (keep (so_far files.trees kept i a p chain done) (walk files.trees i the_resolver (100 - length (chain ++ p ∷ [])) (chain ++ p ∷ []) q)) k (file_shape files.trees q) → m ≡ max h k → InLoop legal files kept i a p chain x n (done ++ q ∷ []) m later after
-  loop-step kept i a p chain x n done q h k m loaded later log after l grown g is =
-      let w : Text → List Event = walk files.trees i the_resolver (100 - length (chain ++ p ∷ [])) (chain ++ p ∷ []) in
-      let s = so_far files.trees kept i a p chain done in
-      let e : so_far files.trees kept i a p chain (done ++ q ∷ []) ≡ keep s (w q) = so_far-append kept i a p chain done (q ∷ []) ∙ ap (keep s) (append-nil (w q)) in
-      record {
-        fresh = l.fresh;
-        found = get-grown log after n x grown l.found;
-        named = l.named;
-        first = l.first;
-        good = rw e g.0;
-        settled = rw (e, is) (settled-same (keep s (w q)) (max h k) (λ b c room z. joined (walk files.trees b the_resolver room z) done ++ walk files.trees b the_resolver room z q) _
-            (λ b c room z. joined-append (walk files.trees b the_resolver room z) done (q ∷ []) ∙ ap (λ y. joined (walk files.trees b the_resolver room z) done ++ y) (append-nil (walk files.trees b the_resolver room z q)))
-            (settled-join s (keep s (w q)) h k (imports_shape files.trees done) (λ b c room z. walk files.trees b the_resolver room z q) l.settled (by_resolver (keep s (w q)) k q g.1) (keep-within s (w q))));
-      }
-    where
-      by_resolver : (kept : List Event) (k : ℕ) (q : Text) → Settled kept k (file_shape files.trees q) → Settled kept k (λ b c room z. walk files.trees b the_resolver room z q)
-      by_resolver kept k q s = record {
-        before = s.before;
-        within = s.within;
-        only = λ b c room z v e h. s.only b the_resolver room z v e h;
-        tall = λ b c room z v. s.tall b the_resolver room z v;
-      }
-
-  pub loop-stops : (kept : List Event) (i : Text) (a : Asked) (p : Text) (chain : List Text) (t : FileSyntax) (x : ReadEntry) (n : ℕ) (done rest : List Text) (q : Text) (h : ℕ) (loaded : List Entry) (log after : List ReadEntry) (f : RunFault) → InLoop legal files kept i a p chain x n done h loaded log → files.trees p ≡ Some t → length chain < 100 → among p chain ≡ false → import_paths t ≡ done ++ q ∷ rest → Stops legal files (keep (so_far files.trees kept i a p chain done) (walk files.trees i the_resolver (100 - length (chain ++ p ∷ [])) (chain ++ p ∷ []) q)) after f → Stops legal files (keep kept (walk files.trees i a (100 - length chain) chain p)) after f
-  loop-stops kept i a p chain t x n done rest q h loaded log after f l tree_is lt off is stops =
-      let w : Text → List Event = walk files.trees i the_resolver (100 - length (chain ++ p ∷ [])) (chain ++ p ∷ []) in
-      let s = so_far files.trees kept i a p chain done in
-      let e : so_far files.trees kept i a p chain (import_paths t) ≡ keep (keep s (w q)) (joined w rest) = ap (so_far files.trees kept i a p chain) is ∙ (so_far-append kept i a p chain done (q ∷ rest) ∙ keep-append s (w q) (joined w rest)) in
-      let y : Stops legal files (keep (keep (keep s (w q)) (joined w rest)) (elab p ∷ [])) after f = stops-more _ (elab p ∷ []) after f (stops-more (keep s (w q)) (joined w rest) after f stops) in
-      rw (opened kept i a p chain t lt off l.fresh tree_is, e) y
-
-  -- memory runs out between two imports
-  pub loop-breaks : (kept : List Event) (i : Text) (a : Asked) (p : Text) (chain : List Text) (t : FileSyntax) (x : ReadEntry) (n : ℕ) (done rest : List Text) (h : ℕ) (loaded : List Entry) (log : List ReadEntry) (f : RunFault) → InLoop legal files kept i a p chain x n done h loaded log → files.trees p ≡ Some t → length chain < 100 → among p chain ≡ false → import_paths t ≡ done ++ rest → f ≡ fault.Memory → Stops legal files (keep kept (walk files.trees i a (100 - length chain) chain p)) log f
-  loop-breaks kept i a p chain t x n done rest h loaded log f l tree_is lt off is m =
-      let w : Text → List Event = walk files.trees i the_resolver (100 - length (chain ++ p ∷ [])) (chain ++ p ∷ []) in
-      let s = so_far files.trees kept i a p chain done in
-      let e : so_far files.trees kept i a p chain (import_paths t) ≡ keep s (joined w rest) = ap (so_far files.trees kept i a p chain) is ∙ so_far-append kept i a p chain done rest in
-      let y : Stops legal files (keep (keep s (joined w rest)) (elab p ∷ [])) log f = stops-more _ (elab p ∷ []) log f (breaks-now s (joined w rest) loaded log (chain ++ p ∷ []) f l.good m) in
-      rw (opened kept i a p chain t lt off l.fresh tree_is, e) y
-
-  pub loop-end : (kept : List Event) (i : Text) (a : Asked) (p : Text) (chain : List Text) (t : FileSyntax) (x : ReadEntry) (n : ℕ) (h : ℕ) (loaded later : List Entry) (log : List ReadEntry) (placed : Placed) → InLoop legal files kept i a p chain x n (import_paths t) h loaded log → files.trees p ≡ Some t → length chain < 100 → h < 100 → among p chain ≡ false → IsAdded files p t (suc h) n loaded later placed → Good legal files (keep kept (walk files.trees i a (100 - length chain) chain p)) later log chain × Settled (keep kept (walk files.trees i a (100 - length chain) chain p)) placed.height (file_shape files.trees p)
-  loop-end kept i a p chain t x n h loaded later log placed l tree_is lt low off d =
-      let s = so_far files.trees kept i a p chain (import_paths t) in
-      let fresh : has (elab p) s ≡ false = l.good.apart p (among-last p chain) in
-      let r : has (load the_resolver p) s ≡ true = sym (has-asked a p s) ∙ keep-within (kept ++ load a p ∷ []) (joined (walk files.trees i the_resolver (100 - length (chain ++ p ∷ [])) (chain ++ p ∷ [])) (import_paths t)) (load a p) (has-last (load a p) kept) in
-      let m : IsLoaded files log p d.file = record {
-        low = rw d.height_is (omega (arith, low));
-        is = tree_is ∙ ap Some (sym d.tree_is);
-        descriptor = d.descriptor ∙ ap (λ u. file_of (environment_of files p u) p u) (sym d.tree_is);
-        entry = x;
-        read = rw d.read_is l.found;
-        named = l.named;
-        first = l.first;
-      } in
-      let g = good-elab s loaded log chain p t h (d.key, d.file) l.good off r tree_is d.faultless l.settled d.named d.height_is m in
-      rw (opened kept i a p chain t lt off l.fresh tree_is, keep-fresh s [] (elab p) fresh, d.entries, d.placed_is) g
-
-  -- the file is refused
-  pub loop-refused : (kept : List Event) (i : Text) (a : Asked) (p : Text) (chain : List Text) (t : FileSyntax) (x : ReadEntry) (n : ℕ) (h : ℕ) (loaded : List Entry) (log : List ReadEntry) (f : RunFault) → InLoop legal files kept i a p chain x n (import_paths t) h loaded log → files.trees p ≡ Some t → length chain < 100 → among p chain ≡ false → fails files (elab p) ≡ true → StandsAt files (elab p) f → Stops legal files (keep kept (walk files.trees i a (100 - length chain) chain p)) log f
-  loop-refused kept i a p chain t x n h loaded log f l tree_is lt off bad stands =
-      let s = so_far files.trees kept i a p chain (import_paths t) in
-      let fresh : has (elab p) s ≡ false = l.good.apart p (among-last p chain) in
-      inl (halts-at s loaded log (chain ++ p ∷ []) _ (elab p) f l.good bad refl
-      (rw (opened kept i a p chain t lt off l.fresh tree_is) (keep-fresh s [] (elab p) fresh)) stands)
 
   -- the tree that was read is that of the path
   pub tree-read : (kept : List Event) (loaded : List Entry) (log : List ReadEntry) (chain : List Text) (p : Text) (e : ReadEntry) (t : Option FileSyntax) → Good legal files kept loaded log chain → among p chain ≡ false → file_at p loaded ≡ None → HasTrees files.bundled files.reads files.trees → Grows (log ++ e ∷ []) files.reads → path_buf_text e.path ≡ p → IsTheTree (text_given files.bundled p (Some e.outcome)) t → files.trees p ≡ t

@@ -8,3 +8,5 @@ pub mod Loading
 pub mod Includes
 pub mod Folders
 pub mod Parsers
+pub mod Frames
+pub mod Stability

@@ -1,5 +1,5 @@
 -- What holds while files are loaded, for every list of reads that the log begins and any events kept so far.
-use Rattle.std.specs.Prelude.{◌≡◌, ◌⊎◌, ◌≤◌, ◌-◌, ℕ, true, false, nat_lt, List, [], ◌∷◌, ◌++◌, length, map, flat_map, Option, Some, None, Result, Ok, Err, bytes_eq, String, string_bytes, slice_get, find, option_to_list}
+use Rattle.std.specs.Prelude.{◌≡◌, ◌⊎◌, ◌≤◌, ℕ, true, false, nat_lt, List, [], ◌∷◌, ◌++◌, length, map, flat_map, Option, Some, None, Result, Ok, Err, bytes_eq, String, string_bytes, slice_get, find}
 use Rattle.std.specs.Global.{Global}
 use Rattle.std.specs.List.{AllByRecursion, Contains}
 use Rattle.std.specs.List.Sorted.{IsStrictlyIncreasing}
@@ -9,8 +9,8 @@ use Rattle.protobuf_parse_syntax.specs.Trees.{FileSyntax, file_view}
 use Rattle.protobuf_parse_syntax.specs.declared.tree.FileTree.{FileTree}
 use Rattle.protobuf_parse_model.specs.Descriptors as described
 use Rattle.protobuf_parse_model.specs.Descriptors.{Text, FileDescriptor}
-use Rattle.protobuf_parse_model.specs.Environment.{no_custom}
-use Rattle.protobuf_parse_model.specs.FileDescriptor.{environment, file_of}
+use Rattle.protobuf_parse_model.specs.Environment.{no_extensions}
+use Rattle.protobuf_parse_model.specs.FileDescriptor.{environment, file_faults, file_of}
 use Rattle.protobuf_parse_model.specs.FilesByPath.{AreDistinct}
 use Rattle.protobuf_parse_model.specs.Linking.{before_others, link_faults}
 use Rattle.protobuf_parse_model.specs.Tables.{Tells, picked}
@@ -25,17 +25,22 @@ use Rattle.protobuf_parse.specs.declared.run.reach.Held.{Held}
 use Rattle.protobuf_parse.specs.declared.run.reach.Held.TheVariants as held_as
 use Rattle.protobuf_parse.specs.declared.run.log.ReadEntry.{ReadEntry}
 use Rattle.protobuf_parse.specs.declared.run.log.ReadOutcome.{ReadOutcome}
-use Rattle.protobuf_parse.specs.Walks.{Asked, the_resolver, the_reader, Event, long, load, elab, has, keep, among, Trees, Reaches, HandsOn, Sees, import_paths, public_paths, joined, walk, reads_in, elab_paths}
+use Rattle.protobuf_parse.specs.Walks.{Asked, the_resolver, the_reader, Event, long, load, elab, has, among, Trees, Reaches, HandsOn, joined, walk, reads_in, elab_paths}
 use Rattle.std.specs.Borrow.{Bor}
 use Rattle.std.specs.Str.{IsUtf8}
 use Rattle.protobuf_parse.specs.declared.run.fault.ResolveFault.{ResolveFault}
 use Rattle.protobuf_parse.specs.declared.run.fault.ReadInputFault.{ReadInputFault}
 use Rattle.protobuf_parse.specs.declared.run.log.ReadOutcome.TheVariants as outcome
-use Rattle.protobuf_parse.specs.Run.{Files, AreListed, HasTrees, faults_in, IsTheTree, text_read, environment_of, faults_of, first_read, fails, said, text_given, origin_given, Answers, StandsAt, StandsInLoad, StandsInElab, IsUnparsed}
+use Rattle.protobuf_parse.specs.declared.run.source.Sources.{Sources}
+use Rattle.protobuf_parse.specs.Run.{Files, MayAnswer, MayRead, MayResolve, AreListed, HasTrees, faults_in, IsTheTree, text_read, environment_of, first_read, fails, said, text_given, origin_given, Answers, StandsAt, StandsInLoad, StandsInElab, IsUnparsed}
 
 -- the answers that who is asked for a path may give
 abbrev pub Legal : Type 1
 Legal = Asked → Text → ReadOutcome → Type 0
+
+-- the answers that may be given by those whom a run asks: its resolver, which may answer so, and its reader, which may so
+abbrev pub legal_by : {R I : Type 0} → (R → MayResolve) → (I → MayRead) → Sources R I → Legal
+legal_by may_answer may_read sources = MayAnswer (may_answer sources.resolver.now) (may_read sources.reader.now)
 
 -- the events of a walk, by its input, who is asked, the room and the chain
 abbrev pub Shape : Type 0
@@ -122,24 +127,12 @@ pub record AreJoined (which : Held) (loaded : List Entry) (files numbers : List 
   pub all : (n : ℕ) → Contains (held_by which loaded files) n → Contains numbers n
   pub only : (n : ℕ) → Contains numbers n → Contains (held_by which loaded files) n
 
--- these are the numbers that the files hold which a file imports publicly, where those of its imports are these
-pub record AreHandedOn (loaded : List Entry) (tree : FileSyntax) (imports numbers : List ℕ) : Type 0 where
-  pub public : List ℕ
-  pub numbered : AreNumbered (named_trees loaded) imports (import_paths tree) → AreNumbered (named_trees loaded) public (public_paths tree)
-  pub joined : AreJoined held_as.HandedOn loaded public numbers
-
--- the number, if there is one, is that of the path, if there is one; where files of the paths are loaded
-abbrev pub ArePublic : List Entry → List Text → Option ℕ → Type 0
-ArePublic loaded paths number =
-    ((q : Text) → among q paths ≡ true → (n : ℕ) × IsNumbered (named_trees loaded) n q)
-    → AreNumbered (named_trees loaded) (option_to_list number) paths
-
 -- the faults of a file, and what it becomes, over the files with the numbers that it reaches and sees
 abbrev pub faults_over : List FileSyntax → List ℕ → List ℕ → FileSyntax → List elaborating.Fault
-faults_over files reach sight t = before_others (link_faults (picked files reach)) (faults_of (environment (picked files sight) no_custom t) t)
+faults_over files reach sight t = before_others (link_faults (picked files reach)) (file_faults (environment (picked files sight) no_extensions t) t)
 
 abbrev pub file_over : List FileSyntax → List ℕ → Text → FileSyntax → FileDescriptor
-file_over files sight path t = file_of (environment (picked files sight) no_custom t) path t
+file_over files sight path t = file_of (environment (picked files sight) no_extensions t) path t
 
 -- these are more files than were loaded
 abbrev pub MoreLoaded : List Entry → List Entry → Type 0
@@ -279,11 +272,6 @@ abbrev pub Goes : Legal → Files → List Event → List Entry → List ReadEnt
 Goes legal files events loaded log (Ok _) = Good legal files events loaded log []
 Goes legal files events loaded log (Err f) = Stops legal files events log f
 
--- the events kept when these imports have been walked
-abbrev pub so_far : Trees → List Event → Text → Asked → Text → List Text → List Text → List Event
-so_far trees kept input asked path chain done =
-    keep (kept ++ load asked path ∷ []) (joined (walk trees input the_resolver (100 - length (chain ++ path ∷ [])) (chain ++ path ∷ [])) done)
-
 -- A file was added for this path: it has this tree, in which no fault stands, and is what that becomes.
 pub record IsAdded (files : Files) (path : Text) (tree : FileSyntax) (height read : ℕ) (old new : List Entry) (placed : Placed) : Type 0 where
   pub key : String Global
@@ -296,15 +284,6 @@ pub record IsAdded (files : Files) (path : Text) (tree : FileSyntax) (height rea
   pub faultless : faults_in files path (Some tree) ≡ []
   pub descriptor : described.file_view file.descriptor ≡ file_of (environment_of files path tree) path tree
   pub placed_is : placed.height ≡ height
-
--- between two imports of a file
-pub record InLoop (legal : Legal) (files : Files) (kept : List Event) (input : Text) (asked : Asked) (path : Text) (chain : List Text) (entry : ReadEntry) (number : ℕ) (done : List Text) (height : ℕ) (loaded : List Entry) (log : List ReadEntry) : Type 0 where
-  pub fresh : has (load asked path) kept ≡ false
-  pub found : slice_get log number ≡ Some entry
-  pub named : path_buf_text entry.path ≡ path
-  pub first : first_read path files.reads ≡ Some entry.outcome
-  pub good : Good legal files (so_far files.trees kept input asked path chain done) loaded log (chain ++ path ∷ [])
-  pub settled : Settled (so_far files.trees kept input asked path chain done) height (imports_shape files.trees done)
 
 -- the texts of a chain
 abbrev pub texts : List (String Global) → List Text
@@ -343,9 +322,9 @@ Settles files path tree height read log old new (Err f) = (e : ReadEntry) → sl
 abbrev pub with_next : List Entry → FileSyntax → List FileSyntax
 with_next loaded tree = trees_of (named_trees loaded) ++ tree ∷ []
 
--- A file was added behind those that were loaded, whose imports have these numbers. By the numbers of the files that it
+-- A file was added behind those that were loaded, whose imports have these numbers, and its public ones those. By the numbers of the files that it
 -- reaches and sees, no fault stands in it, and it has become its descriptor.
-pub record IsAddedOver (path : Text) (tree : FileSyntax) (height read : ℕ) (imports : List ℕ) (old new : List Entry) (names : Declarations) (placed : Placed) : Type 0 where
+pub record IsAddedOver (path : Text) (tree : FileSyntax) (height read : ℕ) (imports public : List ℕ) (old new : List Entry) (names : Declarations) (placed : Placed) : Type 0 where
   pub key : String Global
   pub file : LoadedFile
   pub sight : List ℕ
@@ -356,7 +335,7 @@ pub record IsAddedOver (path : Text) (tree : FileSyntax) (height read : ℕ) (im
   pub read_is : file.read ≡ read
   pub reaches : AreJoined held_as.Reach old imports file.reach.items
   pub sees : AreJoined held_as.HandedOn old imports sight
-  pub hands_on : AreHandedOn old tree imports file.handed_on.items
+  pub hands_on : AreJoined held_as.HandedOn old public file.handed_on.items
   pub faultless : faults_over (with_next old tree) file.reach.items sight tree ≡ []
   pub descriptor : described.file_view file.descriptor ≡ file_over (with_next old tree) sight path tree
   pub tells : Tells names (with_next old tree)
@@ -368,9 +347,9 @@ abbrev pub IsRefusedOver : Text → Text → FileSyntax → List ℕ → List En
 IsRefusedOver origin path tree imports old f =
     OrMemory f ((reach : List ℕ) × (sight : List ℕ) × AreJoined held_as.Reach old imports reach × AreJoined held_as.HandedOn old imports sight × StandsInElab origin (faults_over (with_next old tree) reach sight tree) f)
 
-abbrev pub SettlesOver : Text → FileSyntax → ℕ → ℕ → List ℕ → List ReadEntry → List Entry → List Entry → Declarations → Result Placed RunFault → Type 0
-SettlesOver path tree height read imports log old new names (Ok placed) = file_at path old ≡ None → IsAddedOver path tree height read imports old new names placed
-SettlesOver path tree height read imports log old new names (Err f) = (e : ReadEntry) → slice_get log read ≡ Some e → path_buf_text e.path ≡ path → IsRefusedOver (origin_given path (Some e.outcome)) path tree imports old f
+abbrev pub SettlesOver : Text → FileSyntax → ℕ → ℕ → List ℕ → List ℕ → List ReadEntry → List Entry → List Entry → Declarations → Result Placed RunFault → Type 0
+SettlesOver path tree height read imports public log old new names (Ok placed) = file_at path old ≡ None → IsAddedOver path tree height read imports public old new names placed
+SettlesOver path tree height read imports public log old new names (Err f) = (e : ReadEntry) → slice_get log read ≡ Some e → path_buf_text e.path ≡ path → IsRefusedOver (origin_given path (Some e.outcome)) path tree imports old f
 
 -- no file on the chain is loaded
 abbrev pub AreUnloaded : List Text → List Entry → Type 0
@@ -379,9 +358,4 @@ AreUnloaded chain loaded = (p : Text) → among p chain ≡ true → file_at p l
 -- A file of this path is loaded with that number, among these files and no fewer than before.
 pub record IsMetAt (path : Text) (old new : List Entry) (placed : Placed) : Type 0 where
   pub number : IsNumbered (named_trees new) placed.number path
-  pub more : MoreLoaded old new
-
--- the same of the imports so far
-pub record AreMetAt (paths : List Text) (old new : List Entry) (numbers : List ℕ) : Type 0 where
-  pub numbered : AreNumbered (named_trees new) numbers paths
   pub more : MoreLoaded old new

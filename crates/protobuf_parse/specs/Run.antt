@@ -4,17 +4,16 @@ use Rattle.std.specs.Global.{Vec}
 use Rattle.std.specs.Borrow.{Bor}
 use Rattle.std.specs.Str.{IsUtf8}
 use Rattle.protobuf_parse_base.specs.PathViews.{path_buf_text}
-use Rattle.protobuf_parse_syntax.specs.Cut.{place_of}
+use Rattle.protobuf_parse_syntax.specs.Cut.{error_place}
 use Rattle.protobuf_parse_syntax.specs.Parsing.{HasTree, IsFaultOf}
 use Rattle.protobuf_parse_syntax.specs.Trees.{FileSyntax}
 use Rattle.protobuf_parse_syntax.specs.declared.error.ParserErrorWithLocation.{ParserErrorWithLocation}
 use Rattle.protobuf_parse_model.specs.Descriptors as described
 use Rattle.protobuf_parse_model.specs.Descriptors.{Text, FileDescriptor}
-use Rattle.protobuf_parse_model.specs.Environment.{Environment, no_custom}
+use Rattle.protobuf_parse_model.specs.Environment.{Environment, no_extensions}
 use Rattle.protobuf_parse_model.specs.FileDescriptor.{environment, file_faults, file_of}
 use Rattle.protobuf_parse_model.specs.FilesByPath.{AreJust, trees_at}
 use Rattle.protobuf_parse_model.specs.Linking.{before_others, link_faults}
-use Rattle.protobuf_parse_model.specs.Unsupported.{unsupported_in}
 use Rattle.protobuf_parse_model.specs.Faults as elaborating
 use Rattle.protobuf_parse_model.specs.Faults.{Among, fault_view}
 use Rattle.protobuf_parse_model.specs.declared.descriptor.FileDescriptorProto.{FileDescriptorProto}
@@ -131,15 +130,11 @@ are_same_bytes _ _ = false
 
 -- from where the file of this path and tree is seen: its names are looked up over the files that it sees
 abbrev pub environment_of : Files → Text → FileSyntax → Environment
-environment_of files p t = environment (trees_at files.trees (files.seen p)) no_custom t
+environment_of files p t = environment (trees_at files.trees (files.seen p)) no_extensions t
 
--- the faults that stand in a file, and the constructs of it that have no descriptor yet
-abbrev pub faults_of : Environment → FileSyntax → List elaborating.Fault
-faults_of env t = unsupported_in t ++ file_faults env t
-
--- and before those the names that are declared twice in the files that it reaches
+-- the faults that stand in a file, before them the names that are declared twice in the files that it reaches
 abbrev pub faults_in : Files → Text → Option FileSyntax → List elaborating.Fault
-faults_in files p (Some t) = before_others (link_faults (trees_at files.trees (files.reached p))) (faults_of (environment_of files p t) t)
+faults_in files p (Some t) = before_others (link_faults (trees_at files.trees (files.reached p))) (file_faults (environment_of files p t) t)
 faults_in files p None = []
 
 -- the bytes of the read with this number, which an input's own path was read by
@@ -158,7 +153,7 @@ fails files (elab p) = not (is_nothing (faults_in files p (files.trees p)))
 -- the text has no tree, and the parse error stands in it
 pub record IsUnparsed (text : Text) (e : ParserErrorWithLocation) : Type 0 where
   pub treeless : (t : FileSyntax) → HasTree text t → ⊥
-  pub stands : IsFaultOf text e.error (place_of e)
+  pub stands : IsFaultOf text e.error (error_place e)
 
 -- what a resolver's fault says
 pub data ResolverSays : Type 0 where
@@ -279,11 +274,11 @@ abbrev pub Ends : (Asked → Text → ReadOutcome → Type 0) → Files → List
 Ends legal files events (Ok ds) = IsAccepted legal files events ds.items
 Ends legal files events (Err f) = IsRefused legal files events f ⊎ IsBroken legal files events f
 
--- L5 comes only where the resolver may give such a fault for the path, and L4 only where the reader may give that
--- fault for some path.
+-- L5 comes only where the resolver may give such a fault for that path, and L4 only where the reader
+-- may give that fault for that path.
 abbrev pub IsCaused : MayResolve → MayRead → RunFault → Type 0
 IsCaused resolve read (fault.Resolver path why) = (given : ResolveFault) × resolve (string_bytes path) (Err given) × (said why ≡ said given)
-IsCaused resolve read (fault.CouldNotReadFile path why) = (own : Text) × read own (Err why)
+IsCaused resolve read (fault.CouldNotReadFile path why) = read (string_bytes path) (Err why)
 IsCaused resolve read _ = Unit {0}
 
 -- files were met exactly so often where there is a result, and at most so often where there is none

@@ -26,6 +26,7 @@ pub use protobuf_parse_model::{
 pub use protobuf_parse_syntax::{ParserError, ParserErrorWithLocation};
 pub use protobuf_parse_wire::{ReadFault, ReadField, ReadValue, read_custom};
 pub use run::fault::{ReadInputFault, ResolveFault, RunFault};
+pub use run::laws::runs_are_stable;
 pub use run::log::{ReadEntry, ReadOutcome, RunInput, RunLog};
 pub use run::run_inputs;
 pub use run::source::{InputReader, ProtoPathResolver, ResolvedProtoFile};

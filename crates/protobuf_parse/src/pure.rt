@@ -1,7 +1,7 @@
 //! The library's own way from texts to descriptors.
 
 ghost use Rattle.std.specs.Prelude.{◌≡◌, ◌⊎◌, IfOk, IfErr};
-ghost use Rattle.protobuf_parse_syntax.specs.Cut.{out_of_memory, place_of};
+ghost use Rattle.protobuf_parse_syntax.specs.Cut.{out_of_memory, error_place};
 ghost use Rattle.protobuf_parse_syntax.specs.Dependencies.{dependencies_of, dependencies_view};
 ghost use Rattle.protobuf_parse_syntax.specs.Parsing.{HasTree, IsFaultOf, TellsFaults};
 ghost use Rattle.protobuf_parse_syntax.specs.Trees.{FileSyntax};
@@ -33,7 +33,7 @@ pub fn parse_dependencies(
     ensures none { IfErr result (λ e. (e ≡ out_of_memory)
         ⊎ ((u : FileSyntax) → HasTree text.now u → ⊥)) }
     ensures refused { IfErr result (λ e. (e ≡ out_of_memory)
-        ⊎ IsFaultOf text.now e.error (place_of e)) }
+        ⊎ IsFaultOf text.now e.error (error_place e)) }
 
     // A text that has no tokens is refused with its fault.
     ensures tells { TellsFaults text.now result }

@@ -1,7 +1,7 @@
 //! A run: from inputs to the descriptors of all files that they reach.
 
 ghost use Rattle.std.specs.Prelude.{◌≡◌, map, IfOk, IfErr};
-ghost use Rattle.protobuf_parse.specs.Run.{HaveLists, HaveTrees, IsCaused, IsMet, MayAnswer, RunsAsTold, RunsByResolver, input_view, rows};
+ghost use Rattle.protobuf_parse.specs.Run.{FindsNothing, HaveLists, HaveTrees, IsCaused, IsMet, MayAnswer, RunsAsTold, RunsByResolver, input_view, rows};
 ghost use Rattle.protobuf_parse.specs.Walks.{named};
 ghost use Rattle.protobuf_parse.specs.Loading.{Entry};
 ghost use Rattle.protobuf_parse_base.specs.PathViews.{path_buf_text};
@@ -9,6 +9,8 @@ ghost use Rattle.protobuf_parse_base.specs.declared.proto_path.path.ProtoPathBuf
 
 pub mod asking;
 pub mod fault;
+pub mod frame;
+pub mod laws;
 pub mod loader;
 pub mod log;
 pub mod reach;
@@ -93,7 +95,9 @@ pub fn parse_and_typecheck_custom<R: ProtoPathResolver>(
     input: &[ProtoPathBuf],
     resolver: &R,
 ) -> Result<Vec<FileDescriptorProto>, RunFault>
-    ensures { RunsByResolver (λ p a. R.may_answer resolver.now p a) (map (λ (b : ProtoPathBuf). named (path_buf_text b)) input.now) result }
+    ensures told { RunsByResolver (λ p a. R.may_answer resolver.now p a) (map (λ (b : ProtoPathBuf). named (path_buf_text b)) input.now) result }
+    ensures caused { IfErr result (λ f. IsCaused (λ p a. R.may_answer resolver.now p a)
+        FindsNothing f) }
 {
     let mut inputs = Vec::new(alloc);
     for path in input {

@@ -1,5 +1,6 @@
 pub mod Splits
 pub mod NameTexts
+pub mod Undone
 pub mod TextCuts
 pub mod Fronts
 pub mod IdentLists

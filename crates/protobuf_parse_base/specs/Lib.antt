@@ -1,5 +1,6 @@
 pub mod Names
 pub mod NameViews
+pub mod Undo
 pub mod Paths
 pub mod PathViews
 pub mod Cases

@@ -77,9 +77,9 @@ few_more env old new s n is few =
 pub with_nested : (env : Environment) (b : BodyParts) (m : MessageSyntax) → with_message b (message_of env m) ≡ with_statement env b (nested_message m)
 with_nested env b m = rw (nested_of_message env m, append-nil b.field, append-nil b.oneof_decl, append-nil b.enum_type, append-nil b.extension) refl
 
--- a message whose positions and statements are right
-pub whole : {X Y : Type 0} (view : X → Y) (r : Result X ElabFailure) (positions middle statements : List Fault) (value : Y) → positions ≡ [] → statements ≡ [] → Elaborates view r middle value → Elaborates view r ((positions ++ middle) ++ statements) value
-whole view r positions middle statements value p s h = rw (p, s, append-nil middle) h
+-- a message whose statements are right
+pub whole : {X Y : Type 0} (view : X → Y) (r : Result X ElabFailure) (middle statements : List Fault) (value : Y) → statements ≡ [] → Elaborates view r middle value → Elaborates view r (middle ++ statements) value
+whole view r middle statements value s h = rw (s, append-nil middle) h
 
 pub nil-both : (xs ys : List Fault) → xs ≡ [] → ys ≡ [] → xs ++ (ys ++ []) ≡ []
 nil-both xs ys p q = rw (p, q) refl

@@ -25,9 +25,9 @@ tells view (Ok x) e faults value h told = absurd cc
 tells view (Err f) e faults value h told = subst (λ (z : ElabFailure). Blames z faults) (sym h.1) told
 
 -- none stands, where none stands in any part
-pub faultless : {A : Type 0} (us xs ys zs : List A) → us ≡ [] → xs ++ zs ≡ [] → ys ≡ [] → us ++ (xs ++ ys ++ zs) ≡ []
-faultless us (x ∷ xs) ys zs no_u no_x no_y = absurd cc
-faultless us [] ys zs no_u no_z no_y = rw (no_u, no_y, no_z) refl
+pub faultless : {A : Type 0} (xs ys zs : List A) → xs ++ zs ≡ [] → ys ≡ [] → xs ++ ys ++ zs ≡ []
+faultless (x ∷ xs) ys zs no_x no_y = absurd cc
+faultless [] ys zs no_z no_y = rw (no_y, no_z) refl
 
 -- a descriptor, by what its parts say
 abbrev file_with : (name «package» syntax : Option Text) (paths : List Text) (public weak : List ℤ) → FileParts → Option FileOptionsSet → FileDescriptor

@@ -11,8 +11,6 @@ use Rattle.protobuf_parse_model.specs.Environment as environment
 use Rattle.protobuf_parse_model.specs.Environment.{Environment}
 use Rattle.protobuf_parse_model.specs.BuiltinOptions.{value_if_named, values_named, last_value}
 use Rattle.protobuf_parse_model.specs.Messages.{oneofs_of, fields_of, fields_from, nested_of, nested_in, message_of, statement_faults, faults_in, message_faults}
-use Rattle.protobuf_parse_model.specs.OptionSets.{sets_of, sets_in, message_sets}
-use Rattle.protobuf_parse_model.specs.Unsupported.{unsupported_of, unsupported_inside, unsupported_message}
 
 -- ---- declarations
 
@@ -53,24 +51,6 @@ faults_in_is env (s ∷ ss) = rw (faults_in_is env ss) refl
 pub faults_of_message : (env : Environment) (m : MessageSyntax) → statement_faults env (nested_message m) ≡ message_faults env m
 faults_of_message env m = rw (message_body_is m.body, nested_in_is (environment.inside env m.name) m.body, faults_in_is (environment.inside env m.name) m.body) refl
 
--- ---- sets of options
-
-pub sets_in_is : (scope : Scope) (ss : List MessageStatementSyntax) → sets_in scope (message_statements ss) ≡ flat_map (sets_of scope) ss
-sets_in_is scope [] = refl
-sets_in_is scope (s ∷ ss) = rw (sets_in_is scope ss) refl
-
-pub sets_of_message : (scope : Scope) (m : MessageSyntax) → sets_of scope (nested_message m) ≡ message_sets scope m
-sets_of_message scope m = rw (message_body_is m.body, sets_in_is (inside scope m.name) m.body) refl
-
--- ---- what has no descriptor yet
-
-pub unsupported_inside_is : (ss : List MessageStatementSyntax) → unsupported_inside (message_statements ss) ≡ flat_map unsupported_of ss
-unsupported_inside_is [] = refl
-unsupported_inside_is (s ∷ ss) = rw (unsupported_inside_is ss) refl
-
-pub unsupported_of_message : (m : MessageSyntax) → unsupported_of (nested_message m) ≡ unsupported_message m
-unsupported_of_message m = unsupported_inside_is m.body
-
 -- ---- places among oneofs
 
 -- the fields of some statements and of those after them, which come behind the oneofs of the former
@@ -81,13 +61,3 @@ fields_from-append env index (x ∷ xs) ys =
     let long : length (oneofs_of env x ++ flat_map (oneofs_of env) xs) ≡ length (oneofs_of env x) + length (flat_map (oneofs_of env) xs) = length-append (oneofs_of env x) (flat_map (oneofs_of env) xs) in
     let same : index + length (oneofs_of env x) + length (flat_map (oneofs_of env) xs) ≡ index + length (oneofs_of env x ++ flat_map (oneofs_of env) xs) = omega arith in
     ap (λ fs. fields_of env index x ++ fs) (more ∙ ap (λ n. fields_from env (index + length (oneofs_of env x)) xs ++ fields_from env n ys) same) ∙ sym (append_assoc (fields_of env index x) (fields_from env (index + length (oneofs_of env x)) xs) (fields_from env (index + length (oneofs_of env x ++ flat_map (oneofs_of env) xs)) ys))
-
--- ---- options
-
-pub last_or-append : {A : Type 0} (o : Option A) (xs ys : List A) → last_or o (xs ++ ys) ≡ last_or (last_or o xs) ys
-last_or-append o [] ys = refl
-last_or-append o (x ∷ xs) ys = last_or-append (Some x) xs ys
-
--- a further statement sets the option anew, if it has the name
-pub last_value_push : (name : Text) (os : List OptionSyntax) (o : OptionSyntax) → last_value name (os ++ o ∷ []) ≡ last_or (last_value name os) (value_if_named name o.value o.name)
-last_value_push name os o = rw (flat_map-append, append-nil) (last_or-append None (values_named name os) (value_if_named name o.value o.name))

@@ -9,6 +9,7 @@ pub mod Picks
 pub mod Sights
 pub mod Links
 mod Rows
+pub mod SameTypes
 pub mod Levels
 pub mod Decodings
 pub mod Settings

@@ -12,15 +12,17 @@ use Rattle.protobuf_parse_model.specs.Duplicates.{fault_when, duplicates}
 use Rattle.protobuf_parse_model.specs.Statements.{group_body, message_body, entry_name, is_map, oneof_fields}
 use Rattle.protobuf_parse_model.specs.Declarations.{Scope, full_name, DeclaredType, TypeKind, a_message, an_enum, generated_by, generated_of, generated_in, statement_generated, file_generated}
 use Rattle.protobuf_parse_model.specs.Lookup.{meant}
-use Rattle.protobuf_parse_model.specs.Environment.{Environment, CustomBytes, no_custom, inside, type_named, missing, type_missing}
-use Rattle.protobuf_parse_model.specs.BuiltinOptions.{oneof_table, service_table, method_table, file_table, options_faults}
+use Rattle.protobuf_parse_model.specs.Environment.{Environment, Customs, inside, type_named, missing, type_missing}
+use Rattle.protobuf_parse_model.specs.BuiltinOptions.{oneof_table, service_table, method_table, file_table}
+use Rattle.protobuf_parse_model.specs.ConstructOptions.{construct_faults}
+use Rattle.protobuf_parse_model.specs.declared.customs.Construct.TheVariants as of
 use Rattle.protobuf_parse_model.specs.OptionsSet.{entry_options}
 use Rattle.protobuf_parse_model.specs.Fields.{kind_of_scalar, kind_of_type, FieldTypeOf, type_of_meaning, type_of, inner_type_faults, type_faults, faults_of_options, FieldPlace, plain, field_of, field_statement_of, field_faults, names_of_fields, fields_of_group, map_faults, grouped_faults, field_statement_faults, extension_faults}
 use Rattle.protobuf_parse_model.specs.Messages as messages
 use Rattle.protobuf_parse_model.specs.Messages.{message_with, entry_field, entries_of, messages_behind, has_own_oneof, options_in_oneof, oneofs_of, in_oneof, fields_of, fields_from, extending, extend_fields, extension_faults_of, extend_faults, message_from, nested_of, nested_in, message_of, whole_faults, oneof_faults, faults_in, message_faults}
-use Rattle.protobuf_parse_model.specs.Services.{methods_in, options_in_service, statement_option, method_of, service_of, method_faults, methods_faults, service_faults}
+use Rattle.protobuf_parse_model.specs.Services.{methods_in, options_of_method, options_of_service, method_of, service_of, method_faults, methods_faults, service_faults}
 use Rattle.protobuf_parse_model.specs.FileDescriptor as files
-use Rattle.protobuf_parse_model.specs.FileDescriptor.{options_in_file, types_of_files, environment, messages_of, services_of, file_of, file_duplicates, file_faults}
+use Rattle.protobuf_parse_model.specs.FileDescriptor.{options_of_statements, types_of_files, environment, messages_of, services_of, file_of, file_duplicates, file_faults}
 use Rattle.protobuf_parse_model.specs.NamedTypes.{in_message, in_messages, fields_in, extensions_in, names_of_field, names_of_method, names_of_service, names_in, has_name, names_declared, NamesAreDeclared, TypesAreNamed, ExtendeesAreNamed}
 use Rattle.protobuf_parse_model.proofs.Blaming.{among_left, among_right}
 use Rattle.protobuf_parse_model.proofs.Lookups.{meaning_declared}
@@ -110,7 +112,7 @@ own_faults env (group at label name number fields) = []
 
 -- they are among those of the field
 own-none : (env : Environment) (s : FieldStatementSyntax) → field_statement_faults env s ≡ [] → own_faults env s ≡ []
-own-none env (field f) h = no-left (type_faults env f.name f.type_) (faults_of_options (type_of env f.name f.type_).kind f.name f.options) h
+own-none env (field f) h = no-left (type_faults env f.name f.type_) (faults_of_options env (type_of env f.name f.type_).kind f.name f.options) h
 own-none env (group at label name number fields) h = refl
 
 -- a field without faults in an `extend` has none in a message
@@ -128,10 +130,10 @@ full-stands : (n : Text) (o : Option DeclaredType) → missing n o ≡ [] → Is
 full-stands n None h = absurd cc
 full-stands n (Some d) h = refl
 
-module _ (P : Text → Type 0) (custom : CustomBytes) where
-  -- the environment of a descriptor, with custom options spelled so; that of its faults is without them
-  abbrev with_custom : Environment → Environment
-  with_custom env = record env { custom = custom }
+module _ (P : Text → Type 0) (customs : Customs) where
+  -- the environment of a descriptor, with these custom options; that of its faults may be with others
+  abbrev with_customs : Environment → Environment
+  with_customs env = record env { customs = customs }
 
   -- the type of a field says its name where it has one, and that has the property
   record TypeIsNamed (t : FieldTypeOf) : Type 0 where
@@ -179,13 +181,13 @@ module _ (P : Text → Type 0) (custom : CustomBytes) where
   meaning-named n (Some d) k h = record { stands = kind-named d.what; each = (k d refl, tt) }
 
   -- the key or the value of a map
-  inner-named : (env : Environment) → Known env → (name : Text) (t : TypeSyntax) → inner_type_faults env name t ≡ [] → TypeIsNamed (type_of (with_custom env) name t)
+  inner-named : (env : Environment) → Known env → (name : Text) (t : TypeSyntax) → inner_type_faults env name t ≡ [] → TypeIsNamed (type_of (with_customs env) name t)
   inner-named env known name (scalar s) h = record { stands = scalar-plain s; each = tt }
   inner-named env known name (named n) h = meaning-named n (type_named env n) (known env.scope n) h
   inner-named env known name (map_of key value) h = absurd cc
 
   -- the type of a field, which may be a map
-  type-is-named : (env : Environment) → Known env → (name : Text) (t : TypeSyntax) → AllByRecursion P (if is_map t then full_name env.scope (entry_name name) ∷ [] else []) → type_faults env name t ≡ [] → TypeIsNamed (type_of (with_custom env) name t)
+  type-is-named : (env : Environment) → Known env → (name : Text) (t : TypeSyntax) → AllByRecursion P (if is_map t then full_name env.scope (entry_name name) ∷ [] else []) → type_faults env name t ≡ [] → TypeIsNamed (type_of (with_customs env) name t)
   type-is-named env known name (scalar s) g h = inner-named env known name (scalar s) h
   type-is-named env known name (named n) g h = inner-named env known name (named n) h
   type-is-named env known name (map_of key value) g h = record { stands = refl; each = g }
@@ -203,13 +205,13 @@ module _ (P : Text → Type 0) (custom : CustomBytes) where
   -- ---- fields
 
   -- a field without faults in its type
-  field-named : (env : Environment) → Known env → (place : FieldPlace) (f : FieldSyntax) → AllByRecursion P (option_to_list place.extendee) → AllByRecursion P (generated_by env.scope (field f)) → type_faults env f.name f.type_ ≡ [] → FieldIsNamed (field_of (with_custom env) place f)
+  field-named : (env : Environment) → Known env → (place : FieldPlace) (f : FieldSyntax) → AllByRecursion P (option_to_list place.extendee) → AllByRecursion P (generated_by env.scope (field f)) → type_faults env f.name f.type_ ≡ [] → FieldIsNamed (field_of (with_customs env) place f)
   field-named env known place f e g h =
-      let t : TypeIsNamed (type_of (with_custom env) f.name f.type_) = type-is-named env known f.name f.type_ g h in
-      record { stands = t.stands; each = all-both P (option_to_list (type_of (with_custom env) f.name f.type_).name) (option_to_list place.extendee) t.each e }
+      let t : TypeIsNamed (type_of (with_customs env) f.name f.type_) = type-is-named env known f.name f.type_ g h in
+      record { stands = t.stands; each = all-both P (option_to_list (type_of (with_customs env) f.name f.type_).name) (option_to_list place.extendee) t.each e }
 
   -- a field or a group
-  statement-named : (env : Environment) → Known env → (place : FieldPlace) (s : FieldStatementSyntax) → AllByRecursion P (option_to_list place.extendee) → AllByRecursion P (generated_by env.scope s) → own_faults env s ≡ [] → FieldIsNamed (field_statement_of (with_custom env) place s)
+  statement-named : (env : Environment) → Known env → (place : FieldPlace) (s : FieldStatementSyntax) → AllByRecursion P (option_to_list place.extendee) → AllByRecursion P (generated_by env.scope s) → own_faults env s ≡ [] → FieldIsNamed (field_statement_of (with_customs env) place s)
   statement-named env known place (field f) e g h = field-named env known place f e g h
   statement-named env known place (group at label name number fields) e g h = record { stands = refl; each = (g.0, e) }
 
@@ -219,7 +221,7 @@ module _ (P : Text → Type 0) (custom : CustomBytes) where
   no-map false what x h = tt
 
   -- a field of a group
-  grouped-named : (env : Environment) → Known env → (s : FieldStatementSyntax) → grouped_faults env s ≡ [] → FieldIsNamed (field_statement_of (with_custom env) plain s)
+  grouped-named : (env : Environment) → Known env → (s : FieldStatementSyntax) → grouped_faults env s ≡ [] → FieldIsNamed (field_statement_of (with_customs env) plain s)
   grouped-named env known (field f) h =
       field-named env known plain f tt
       (no-map (is_map f.type_) f.name (full_name env.scope (entry_name f.name)) (no-left (map_faults f) (field_faults env f) h))
@@ -237,25 +239,25 @@ module _ (P : Text → Type 0) (custom : CustomBytes) where
   entry-field-named name number t h = record { stands = h.stands; each = all-both P (option_to_list t.name) [] h.each tt }
 
   -- the entry of a map
-  entries-named : (env : Environment) → Known env → (name : Text) (t : TypeSyntax) → type_faults env name t ≡ [] → AllByRecursion MessageIsNamed (entries_of (with_custom env) name t)
+  entries-named : (env : Environment) → Known env → (name : Text) (t : TypeSyntax) → type_faults env name t ≡ [] → AllByRecursion MessageIsNamed (entries_of (with_customs env) name t)
   entries-named env known name (scalar s) h = tt
   entries-named env known name (named n) h = tt
   entries-named env known name (map_of key value) h =
-      let k : TypeIsNamed (type_of (with_custom env) name key) = inner-named env known name key (no-left (inner_type_faults env name key) (inner_type_faults env name value) h) in
-      let v : TypeIsNamed (type_of (with_custom env) name value) = inner-named env known name value (no-right (inner_type_faults env name key) (inner_type_faults env name value) h) in (
-        message-with-named (entry_name name) (entry_field (codes "key") (pos 1) (type_of (with_custom env) name key) ∷ entry_field (codes "value") (pos 2) (type_of (with_custom env) name value) ∷ []) entry_options
-            (entry-field-named (codes "key") (pos 1) (type_of (with_custom env) name key) k, (entry-field-named (codes "value") (pos 2) (type_of (with_custom env) name value) v, tt)),
+      let k : TypeIsNamed (type_of (with_customs env) name key) = inner-named env known name key (no-left (inner_type_faults env name key) (inner_type_faults env name value) h) in
+      let v : TypeIsNamed (type_of (with_customs env) name value) = inner-named env known name value (no-right (inner_type_faults env name key) (inner_type_faults env name value) h) in (
+        message-with-named (entry_name name) (entry_field (codes "key") (pos 1) (type_of (with_customs env) name key) ∷ entry_field (codes "value") (pos 2) (type_of (with_customs env) name value) ∷ []) entry_options
+            (entry-field-named (codes "key") (pos 1) (type_of (with_customs env) name key) k, (entry-field-named (codes "value") (pos 2) (type_of (with_customs env) name value) v, tt)),
         tt,
       )
 
   -- the message of a group
-  group-named : (env : Environment) → Known env → (name : Text) (fields : List FieldStatementSyntax) → flat_map (grouped_faults env) fields ≡ [] → MessageIsNamed (message_with name (fields_of_group (with_custom env) fields) None)
+  group-named : (env : Environment) → Known env → (name : Text) (fields : List FieldStatementSyntax) → flat_map (grouped_faults env) fields ≡ [] → MessageIsNamed (message_with name (fields_of_group (with_customs env) fields) None)
   group-named env known name fields h =
-      message-with-named name (fields_of_group (with_custom env) fields) None
-      (all-map FieldIsNamed (field_statement_of (with_custom env) plain) (λ (s : FieldStatementSyntax). grouped_faults env s ≡ []) (grouped-named env known) fields (none-each (grouped_faults env) fields h))
+      message-with-named name (fields_of_group (with_customs env) fields) None
+      (all-map FieldIsNamed (field_statement_of (with_customs env) plain) (λ (s : FieldStatementSyntax). grouped_faults env s ≡ []) (grouped-named env known) fields (none-each (grouped_faults env) fields h))
 
   -- the message behind a field
-  behind-named : (env : Environment) → Known env → (s : FieldStatementSyntax) → field_statement_faults env s ≡ [] → AllByRecursion MessageIsNamed (messages_behind (with_custom env) s)
+  behind-named : (env : Environment) → Known env → (s : FieldStatementSyntax) → field_statement_faults env s ≡ [] → AllByRecursion MessageIsNamed (messages_behind (with_customs env) s)
   behind-named env known (field f) h = entries-named env known f.name f.type_ (own-none env (field f) h)
   behind-named env known (group at label name number fields) h =
       (group-named env known name (group_body fields) (no-right (duplicates (names_of_fields (fields_of_group env (group_body fields)))) (flat_map (grouped_faults env) (group_body fields)) h), tt)
@@ -271,35 +273,35 @@ module _ (P : Text → Type 0) (custom : CustomBytes) where
   ExtensionIsClean env extendee s = IsClean (extension_faults_of env extendee) P (generated_by env.scope) s
 
   -- fields in one place
-  fields-named : (env : Environment) → Known env → (place : FieldPlace) (ss : List FieldStatementSyntax) → AllByRecursion P (option_to_list place.extendee) → AllByRecursion (FieldIsClean env) ss → AllByRecursion FieldIsNamed (map (field_statement_of (with_custom env) place) ss)
+  fields-named : (env : Environment) → Known env → (place : FieldPlace) (ss : List FieldStatementSyntax) → AllByRecursion P (option_to_list place.extendee) → AllByRecursion (FieldIsClean env) ss → AllByRecursion FieldIsNamed (map (field_statement_of (with_customs env) place) ss)
   fields-named env known place ss e h =
-      all-map FieldIsNamed (field_statement_of (with_custom env) place) (FieldIsClean env) (λ (s : FieldStatementSyntax) (c : FieldIsClean env s). statement-named env known place s e c.each (own-none env s c.none)) ss h
+      all-map FieldIsNamed (field_statement_of (with_customs env) place) (FieldIsClean env) (λ (s : FieldStatementSyntax) (c : FieldIsClean env s). statement-named env known place s e c.each (own-none env s c.none)) ss h
 
   -- the messages behind them
-  behinds-named : (env : Environment) → Known env → (ss : List FieldStatementSyntax) → AllByRecursion (FieldIsClean env) ss → AllByRecursion MessageIsNamed (flat_map (messages_behind (with_custom env)) ss)
+  behinds-named : (env : Environment) → Known env → (ss : List FieldStatementSyntax) → AllByRecursion (FieldIsClean env) ss → AllByRecursion MessageIsNamed (flat_map (messages_behind (with_customs env)) ss)
   behinds-named env known ss h =
-      all-flat MessageIsNamed (messages_behind (with_custom env)) (FieldIsClean env) (λ (s : FieldStatementSyntax) (c : FieldIsClean env s). behind-named env known s c.none) ss h
+      all-flat MessageIsNamed (messages_behind (with_customs env)) (FieldIsClean env) (λ (s : FieldStatementSyntax) (c : FieldIsClean env s). behind-named env known s c.none) ss h
 
   -- a field of an `extend`
-  extension-named : (env : Environment) → Known env → (extendee : Text) (s : FieldStatementSyntax) → ExtensionIsClean env extendee s → ExtensionIsNamed (field_statement_of (with_custom env) (extending (with_custom env) extendee) s)
+  extension-named : (env : Environment) → Known env → (extendee : Text) (s : FieldStatementSyntax) → ExtensionIsClean env extendee s → ExtensionIsNamed (field_statement_of (with_customs env) (extending (with_customs env) extendee) s)
   extension-named env known extendee s c =
       let meant : type_missing env extendee ≡ [] = no-left (type_missing env extendee) (extension_faults env s) c.none in
       let rest : extension_faults env s ≡ [] = no-right (type_missing env extendee) (extension_faults env s) c.none in
       record {
-        is_field = statement-named env known (extending (with_custom env) extendee) s (full-each (type_named env extendee) (known env.scope extendee)) c.each (own-none env s (extension-none env s rest));
-        extends = ap (λ (o : Option Text). is_some o) (extendee-is (with_custom env) (extending (with_custom env) extendee) s) ∙ full-stands extendee (type_named env extendee) meant;
+        is_field = statement-named env known (extending (with_customs env) extendee) s (full-each (type_named env extendee) (known env.scope extendee)) c.each (own-none env s (extension-none env s rest));
+        extends = ap (λ (o : Option Text). is_some o) (extendee-is (with_customs env) (extending (with_customs env) extendee) s) ∙ full-stands extendee (type_named env extendee) meant;
       }
 
   -- the fields of an `extend`
-  extend-named : (env : Environment) → Known env → (e : ExtendSyntax) → extend_faults env e ≡ [] → AllByRecursion P (flat_map (generated_by env.scope) e.fields) → AllByRecursion ExtensionIsNamed (extend_fields (with_custom env) e)
+  extend-named : (env : Environment) → Known env → (e : ExtendSyntax) → extend_faults env e ≡ [] → AllByRecursion P (flat_map (generated_by env.scope) e.fields) → AllByRecursion ExtensionIsNamed (extend_fields (with_customs env) e)
   extend-named env known e h g =
-      all-map ExtensionIsNamed (field_statement_of (with_custom env) (extending (with_custom env) e.extendee)) (ExtensionIsClean env e.extendee) (extension-named env known e.extendee) e.fields
+      all-map ExtensionIsNamed (field_statement_of (with_customs env) (extending (with_customs env) e.extendee)) (ExtensionIsClean env e.extendee) (extension-named env known e.extendee) e.fields
       (clean-each (extension_faults_of env e.extendee) P (generated_by env.scope) e.fields h g)
 
   -- the messages behind them
-  extend-behind : (env : Environment) → Known env → (e : ExtendSyntax) → extend_faults env e ≡ [] → AllByRecursion MessageIsNamed (flat_map (messages_behind (with_custom env)) e.fields)
+  extend-behind : (env : Environment) → Known env → (e : ExtendSyntax) → extend_faults env e ≡ [] → AllByRecursion MessageIsNamed (flat_map (messages_behind (with_customs env)) e.fields)
   extend-behind env known e h =
-      all-flat MessageIsNamed (messages_behind (with_custom env)) (λ (s : FieldStatementSyntax). extension_faults_of env e.extendee s ≡ [])
+      all-flat MessageIsNamed (messages_behind (with_customs env)) (λ (s : FieldStatementSyntax). extension_faults_of env e.extendee s ≡ [])
       (λ (s : FieldStatementSyntax) (k : extension_faults_of env e.extendee s ≡ []). behind-named env known s (extension-none env s (no-right (type_missing env e.extendee) (extension_faults env s) k)))
       e.fields (none-each (extension_faults_of env e.extendee) e.fields h)
 
@@ -318,22 +320,22 @@ module _ (P : Text → Type 0) (custom : CustomBytes) where
   oneof-clean : (env : Environment) (o : OneofSyntax) → oneof_faults env o ≡ [] → AllByRecursion P (flat_map (generated_by env.scope) (flat_map oneof_fields o.body)) → AllByRecursion (FieldIsClean env) (flat_map oneof_fields o.body)
   oneof-clean env o h g =
       clean-each (field_statement_faults env) P (generated_by env.scope) (flat_map oneof_fields o.body)
-      (no-left (flat_map (field_statement_faults env) (flat_map oneof_fields o.body)) (options_faults oneof_table (options_in_oneof o)) h) g
+      (no-left (flat_map (field_statement_faults env) (flat_map oneof_fields o.body)) (construct_faults env of.Oneof oneof_table (options_in_oneof o)) h) g
 
   -- the fields of a statement
-  fields-of : (env : Environment) → Known env → (index : ℕ) (s : MessageStatementSyntax) → StatementIsClean env s → AllByRecursion FieldIsNamed (fields_of (with_custom env) index s)
-  fields-of env known index (message_field f) c = (statement-named env known (if has_own_oneof (with_custom env) f then in_oneof index else plain) f (no-extendee (has_own_oneof (with_custom env) f) index) c.each (own-none env f c.none), tt)
+  fields-of : (env : Environment) → Known env → (index : ℕ) (s : MessageStatementSyntax) → StatementIsClean env s → AllByRecursion FieldIsNamed (fields_of (with_customs env) index s)
+  fields-of env known index (message_field f) c = (statement-named env known (if has_own_oneof (with_customs env) f then in_oneof index else plain) f (no-extendee (has_own_oneof (with_customs env) f) index) c.each (own-none env f c.none), tt)
   fields-of env known index (message_oneof o) c = fields-named env known (in_oneof index) (flat_map oneof_fields o.body) tt (oneof-clean env o c.none c.each)
   fields-of env known index _ c = tt
 
   -- the fields of a body
-  fields-from : (env : Environment) → Known env → (index : ℕ) (ss : List MessageStatementSyntax) → AllByRecursion (StatementIsClean env) ss → AllByRecursion FieldIsNamed (fields_from (with_custom env) index ss)
+  fields-from : (env : Environment) → Known env → (index : ℕ) (ss : List MessageStatementSyntax) → AllByRecursion (StatementIsClean env) ss → AllByRecursion FieldIsNamed (fields_from (with_customs env) index ss)
   fields-from env known index [] h = tt
   fields-from env known index (s ∷ ss) h =
-      all-both FieldIsNamed (fields_of (with_custom env) index s) (fields_from (with_custom env) (index + length (oneofs_of (with_custom env) s)) ss) (fields-of env known index s h.0) (fields-from env known (index + length (oneofs_of (with_custom env) s)) ss h.1)
+      all-both FieldIsNamed (fields_of (with_customs env) index s) (fields_from (with_customs env) (index + length (oneofs_of (with_customs env) s)) ss) (fields-of env known index s h.0) (fields-from env known (index + length (oneofs_of (with_customs env) s)) ss h.1)
 
   -- the extensions of a statement
-  extensions-of : (env : Environment) → Known env → (s : MessageStatementSyntax) → StatementIsClean env s → AllByRecursion ExtensionIsNamed (messages.extensions_of (with_custom env) s)
+  extensions-of : (env : Environment) → Known env → (s : MessageStatementSyntax) → StatementIsClean env s → AllByRecursion ExtensionIsNamed (messages.extensions_of (with_customs env) s)
   extensions-of env known (message_extend e) c = extend-named env known e c.none c.each
   extensions-of env known _ c = tt
 
@@ -350,10 +352,10 @@ module _ (P : Text → Type 0) (custom : CustomBytes) where
   nested-extensions (m ∷ ms) h = all-both ExtensionIsNamed (in_message (λ (p : MessageParts). p.extension) m) (in_messages (λ (p : MessageParts). p.extension) (messages_of_list ms)) h.0.extensions (nested-extensions ms h.1)
 
   -- a message, by its statements and the messages inside it
-  message-named : (env : Environment) → Known env → (name : Text) (body : List MessageStatementSyntax) (ms : List MessageDescriptor) → AllByRecursion (StatementIsClean (inside env name)) body → AllByRecursion MessageIsNamed ms → MessageIsNamed (message_from (with_custom env) name body ms)
+  message-named : (env : Environment) → Known env → (name : Text) (body : List MessageStatementSyntax) (ms : List MessageDescriptor) → AllByRecursion (StatementIsClean (inside env name)) body → AllByRecursion MessageIsNamed ms → MessageIsNamed (message_from (with_customs env) name body ms)
   message-named env known name body ms h k = record {
-    fields = all-both FieldIsNamed (fields_from (with_custom (inside env name)) 0 body) (in_messages (λ (p : MessageParts). p.field) (messages_of_list ms)) (fields-from (inside env name) known 0 body h) (nested-fields ms k);
-    extensions = all-both ExtensionIsNamed (flat_map (messages.extensions_of (with_custom (inside env name))) body) (in_messages (λ (p : MessageParts). p.extension) (messages_of_list ms)) (all-flat ExtensionIsNamed (messages.extensions_of (with_custom (inside env name))) (StatementIsClean (inside env name)) (extensions-of (inside env name) known) body h) (nested-extensions ms k);
+    fields = all-both FieldIsNamed (fields_from (with_customs (inside env name)) 0 body) (in_messages (λ (p : MessageParts). p.field) (messages_of_list ms)) (fields-from (inside env name) known 0 body h) (nested-fields ms k);
+    extensions = all-both ExtensionIsNamed (flat_map (messages.extensions_of (with_customs (inside env name))) body) (in_messages (λ (p : MessageParts). p.extension) (messages_of_list ms)) (all-flat ExtensionIsNamed (messages.extensions_of (with_customs (inside env name))) (StatementIsClean (inside env name)) (extensions-of (inside env name) known) body h) (nested-extensions ms k);
   }
 
   -- the statements of a message inside another
@@ -366,49 +368,49 @@ module _ (P : Text → Type 0) (custom : CustomBytes) where
 
   mutual
     -- the messages of a statement
-    nested-of : (env : Environment) → Known env → (s : MessageStatementSyntax) → messages.statement_faults env s ≡ [] → AllByRecursion P (generated_of env.scope s) → AllByRecursion MessageIsNamed (nested_of (with_custom env) s)
+    nested-of : (env : Environment) → Known env → (s : MessageStatementSyntax) → messages.statement_faults env s ≡ [] → AllByRecursion P (generated_of env.scope s) → AllByRecursion MessageIsNamed (nested_of (with_customs env) s)
     nested-of env known (message_message at name body) h g =
         let none : faults_in (inside env name) body ≡ [] = no-right (whole_faults env name (message_body body) (nested_in (inside env name) body)) (faults_in (inside env name) body) h in
-        (message-named env known name (message_body body) (nested_in (with_custom (inside env name)) body) (clean-in (inside env name) body none g) (nested-in (inside env name) known body none g), tt)
+        (message-named env known name (message_body body) (nested_in (with_customs (inside env name)) body) (clean-in (inside env name) body none g) (nested-in (inside env name) known body none g), tt)
     nested-of env known (message_field f) h g = behind-named env known f h
     nested-of env known (message_oneof o) h g = behinds-named env known (flat_map oneof_fields o.body) (oneof-clean env o h g)
     nested-of env known (message_extend e) h g = extend-behind env known e h
     nested-of env known _ h g = tt
 
     -- the messages of statements
-    nested-in : (env : Environment) → Known env → (ss : MessageStatementList) → faults_in env ss ≡ [] → AllByRecursion P (generated_in env.scope ss) → AllByRecursion MessageIsNamed (nested_in (with_custom env) ss)
+    nested-in : (env : Environment) → Known env → (ss : MessageStatementList) → faults_in env ss ≡ [] → AllByRecursion P (generated_in env.scope ss) → AllByRecursion MessageIsNamed (nested_in (with_customs env) ss)
     nested-in env known no_statements h g = tt
     nested-in env known (more_statements s ss) h g =
-        all-both MessageIsNamed (nested_of (with_custom env) s) (nested_in (with_custom env) ss)
+        all-both MessageIsNamed (nested_of (with_customs env) s) (nested_in (with_customs env) ss)
         (nested-of env known s (no-left (messages.statement_faults env s) (faults_in env ss) h) (all-left P (generated_of env.scope s) (generated_in env.scope ss) g))
         (nested-in env known ss (no-right (messages.statement_faults env s) (faults_in env ss) h) (all-right P (generated_of env.scope s) (generated_in env.scope ss) g))
 
   -- a message of a file
-  message-of-named : (env : Environment) → Known env → (m : MessageSyntax) → message_faults env m ≡ [] → AllByRecursion P (flat_map (generated_of (inside env m.name).scope) m.body) → MessageIsNamed (message_of (with_custom env) m)
+  message-of-named : (env : Environment) → Known env → (m : MessageSyntax) → message_faults env m ≡ [] → AllByRecursion P (flat_map (generated_of (inside env m.name).scope) m.body) → MessageIsNamed (message_of (with_customs env) m)
   message-of-named env known m h g =
       let none : flat_map (messages.statement_faults (inside env m.name)) m.body ≡ [] = no-right (whole_faults env m.name m.body (flat_map (nested_of (inside env m.name)) m.body)) (flat_map (messages.statement_faults (inside env m.name)) m.body) h in
       let clean : AllByRecursion (StatementIsClean (inside env m.name)) m.body = clean-each (messages.statement_faults (inside env m.name)) P (generated_of (inside env m.name).scope) m.body none g in
-      message-named env known m.name m.body (flat_map (nested_of (with_custom (inside env m.name))) m.body) clean
-      (all-flat MessageIsNamed (nested_of (with_custom (inside env m.name))) (StatementIsClean (inside env m.name)) (λ (s : MessageStatementSyntax) (c : StatementIsClean (inside env m.name) s). nested-of (inside env m.name) known s c.none c.each) m.body clean)
+      message-named env known m.name m.body (flat_map (nested_of (with_customs (inside env m.name))) m.body) clean
+      (all-flat MessageIsNamed (nested_of (with_customs (inside env m.name))) (StatementIsClean (inside env m.name)) (λ (s : MessageStatementSyntax) (c : StatementIsClean (inside env m.name) s). nested-of (inside env m.name) known s c.none c.each) m.body clean)
 
   -- ---- services
 
   -- a method
-  method-named : (env : Environment) → Known env → (m : MethodSyntax) → method_faults env m ≡ [] → MethodIsNamed (method_of (with_custom env) m)
+  method-named : (env : Environment) → Known env → (m : MethodSyntax) → method_faults env m ≡ [] → MethodIsNamed (method_of (with_customs env) m)
   method-named env known m h =
-      let options = options_faults method_table (map statement_option m.options) in
+      let options = construct_faults env of.Method method_table (options_of_method m) in
       let types : type_missing env m.input ++ type_missing env m.output ≡ [] = no-left (type_missing env m.input ++ type_missing env m.output) options h in (
         full-named m.input (type_named env m.input) (known env.scope m.input) (no-left (type_missing env m.input) (type_missing env m.output) types),
         (full-named m.output (type_named env m.output) (known env.scope m.output) (no-right (type_missing env m.input) (type_missing env m.output) types), tt),
       )
 
   -- a service
-  service-named : (env : Environment) → Known env → (s : ServiceSyntax) → service_faults env s ≡ [] → ServiceIsNamed (service_of (with_custom env) s)
+  service-named : (env : Environment) → Known env → (s : ServiceSyntax) → service_faults env s ≡ [] → ServiceIsNamed (service_of (with_customs env) s)
   service-named env known s h =
       let methods = flat_map methods_in s.body in
-      let none : flat_map (method_faults env) methods ≡ [] = no-right (duplicates (map (λ (m : MethodSyntax). m.name) methods)) (flat_map (method_faults env) methods) (no-left (methods_faults env methods) (options_faults service_table (flat_map options_in_service s.body)) h) in
-      all-flat P names_of_method MethodIsNamed (λ (m : MethodDescriptor) (k : MethodIsNamed m). k) (map (method_of (with_custom env)) methods)
-      (all-map MethodIsNamed (method_of (with_custom env)) (λ (m : MethodSyntax). method_faults env m ≡ []) (method-named env known) methods (none-each (method_faults env) methods none))
+      let none : flat_map (method_faults env) methods ≡ [] = no-right (duplicates (map (λ (m : MethodSyntax). m.name) methods)) (flat_map (method_faults env) methods) (no-left (methods_faults env methods) (construct_faults env of.Service service_table (options_of_service s)) h) in
+      all-flat P names_of_method MethodIsNamed (λ (m : MethodDescriptor) (k : MethodIsNamed m). k) (map (method_of (with_customs env)) methods)
+      (all-map MethodIsNamed (method_of (with_customs env)) (λ (m : MethodSyntax). method_faults env m ≡ []) (method-named env known) methods (none-each (method_faults env) methods none))
 
   -- ---- files
 
@@ -417,36 +419,36 @@ module _ (P : Text → Type 0) (custom : CustomBytes) where
   FileStatementIsClean env s = IsClean (files.statement_faults env) P (statement_generated env.scope) s
 
   -- the messages of a statement
-  messages-of : (env : Environment) → Known env → (s : StatementSyntax) → FileStatementIsClean env s → AllByRecursion MessageIsNamed (messages_of (with_custom env) s)
+  messages-of : (env : Environment) → Known env → (s : StatementSyntax) → FileStatementIsClean env s → AllByRecursion MessageIsNamed (messages_of (with_customs env) s)
   messages-of env known (file_message m) c = (message-of-named env known m c.none c.each, tt)
   messages-of env known (file_extend e) c = extend-behind env known e c.none
   messages-of env known _ c = tt
 
   -- the extensions of a statement
-  file-extensions-of : (env : Environment) → Known env → (s : StatementSyntax) → FileStatementIsClean env s → AllByRecursion ExtensionIsNamed (files.extensions_of (with_custom env) s)
+  file-extensions-of : (env : Environment) → Known env → (s : StatementSyntax) → FileStatementIsClean env s → AllByRecursion ExtensionIsNamed (files.extensions_of (with_customs env) s)
   file-extensions-of env known (file_extend e) c = extend-named env known e c.none c.each
   file-extensions-of env known _ c = tt
 
   -- the services of a statement
-  services-of : (env : Environment) → Known env → (s : StatementSyntax) → FileStatementIsClean env s → AllByRecursion ServiceIsNamed (services_of (with_custom env) s)
+  services-of : (env : Environment) → Known env → (s : StatementSyntax) → FileStatementIsClean env s → AllByRecursion ServiceIsNamed (services_of (with_customs env) s)
   services-of env known (file_service s) c = (service-named env known s c.none, tt)
   services-of env known _ c = tt
 
   -- a file
-  file-named : (env : Environment) → Known env → (path : Text) (t : FileSyntax) → file_faults env t ≡ [] → AllByRecursion P (flat_map (statement_generated env.scope) t.statements) → FileIsNamed (file_of (with_custom env) path t)
+  file-named : (env : Environment) → Known env → (path : Text) (t : FileSyntax) → file_faults env t ≡ [] → AllByRecursion P (flat_map (statement_generated env.scope) t.statements) → FileIsNamed (file_of (with_customs env) path t)
   file-named env known path t h g =
-      let options = options_faults file_table (flat_map options_in_file t.statements) in
+      let options = construct_faults env of.File file_table (options_of_statements t.statements) in
       let inner = flat_map (files.statement_faults env) t.statements in
       let none : inner ≡ [] = no-right (file_duplicates env t ++ options) inner h in
       let clean : AllByRecursion (FileStatementIsClean env) t.statements = clean-each (files.statement_faults env) P (statement_generated env.scope) t.statements none g in
-      let ms = flat_map (messages_of (with_custom env)) t.statements in
-      let all : AllByRecursion MessageIsNamed ms = all-flat MessageIsNamed (messages_of (with_custom env)) (FileStatementIsClean env) (messages-of env known) t.statements clean in
+      let ms = flat_map (messages_of (with_customs env)) t.statements in
+      let all : AllByRecursion MessageIsNamed ms = all-flat MessageIsNamed (messages_of (with_customs env)) (FileStatementIsClean env) (messages-of env known) t.statements clean in
       record {
         fields = all-flat FieldIsNamed (in_message (λ (p : MessageParts). p.field)) MessageIsNamed (λ (m : MessageDescriptor) (k : MessageIsNamed m). k.fields) ms all;
-        extensions = all-both ExtensionIsNamed (flat_map (in_message (λ (p : MessageParts). p.extension)) ms) (flat_map (files.extensions_of (with_custom env)) t.statements)
+        extensions = all-both ExtensionIsNamed (flat_map (in_message (λ (p : MessageParts). p.extension)) ms) (flat_map (files.extensions_of (with_customs env)) t.statements)
             (all-flat ExtensionIsNamed (in_message (λ (p : MessageParts). p.extension)) MessageIsNamed (λ (m : MessageDescriptor) (k : MessageIsNamed m). k.extensions) ms all)
-            (all-flat ExtensionIsNamed (files.extensions_of (with_custom env)) (FileStatementIsClean env) (file-extensions-of env known) t.statements clean);
-        services = all-flat P names_of_service ServiceIsNamed (λ (s : ServiceDescriptor) (k : ServiceIsNamed s). k) (flat_map (services_of (with_custom env)) t.statements) (all-flat ServiceIsNamed (services_of (with_custom env)) (FileStatementIsClean env) (services-of env known) t.statements clean);
+            (all-flat ExtensionIsNamed (files.extensions_of (with_customs env)) (FileStatementIsClean env) (file-extensions-of env known) t.statements clean);
+        services = all-flat P names_of_service ServiceIsNamed (λ (s : ServiceDescriptor) (k : ServiceIsNamed s). k) (flat_map (services_of (with_customs env)) t.statements) (all-flat ServiceIsNamed (services_of (with_customs env)) (FileStatementIsClean env) (services-of env known) t.statements clean);
       }
 
   -- the names in a file
@@ -468,33 +470,33 @@ abbrev Stands : List FileSyntax → FileSyntax → Text → Type 0
 Stands seen t name = Among (names_declared seen ++ file_generated t) name
 
 -- a file without faults
-sound : (seen : List FileSyntax) (custom : CustomBytes) (path : Text) (t : FileSyntax) → file_faults (environment seen no_custom t) t ≡ [] → FileIsNamed (Stands seen t) custom (file_of (environment seen custom t) path t)
-sound seen custom path t h =
-    file-named (Stands seen t) custom (environment seen no_custom t)
+sound : (seen : List FileSyntax) (checked customs : Customs) (path : Text) (t : FileSyntax) → file_faults (environment seen checked t) t ≡ [] → FileIsNamed (Stands seen t) customs (file_of (environment seen customs t) path t)
+sound seen checked customs path t h =
+    file-named (Stands seen t) customs (environment seen checked t)
     (λ (scope : Scope) (name : Text) (d : DeclaredType) e. among_left (file_generated t) (among-map (λ (x : DeclaredType). x.name) (types_of_files seen) d (meaning_declared (types_of_files seen) scope name d e)))
     path t h (all-from (Stands seen t) (file_generated t) (λ (name : Text) k. among_right (names_declared seen) k))
 
 -- each name of a type is that of a declared type
 pub names_are_declared : NamesAreDeclared
-names_are_declared seen custom path t name h k =
-    all-among (Stands seen t) k (names-each (Stands seen t) custom (file_of (environment seen custom t) path t) (sound seen custom path t h))
+names_are_declared seen checked customs path t name h k =
+    all-among (Stands seen t) k (names-each (Stands seen t) customs (file_of (environment seen customs t) path t) (sound seen checked customs path t h))
 
 -- each field and extension says the name of its type where it has one
 pub types_are_named : TypesAreNamed
-types_are_named seen custom path t f h k =
-    let file = file_of (environment seen custom t) path t in
-    let s : FileIsNamed (Stands seen t) custom file = sound seen custom path t h in
-    let extensions : AllByRecursion (FieldIsNamed (Stands seen t) custom) (extensions_in file) = each (extensions_in file) s.extensions in
-    let all : AllByRecursion (FieldIsNamed (Stands seen t) custom) (fields_in file ++ extensions_in file) = all-both (FieldIsNamed (Stands seen t) custom) (fields_in file) (extensions_in file) s.fields extensions in
-    let is : FieldIsNamed (Stands seen t) custom f = all-among (FieldIsNamed (Stands seen t) custom) k all in
+types_are_named seen checked customs path t f h k =
+    let file = file_of (environment seen customs t) path t in
+    let s : FileIsNamed (Stands seen t) customs file = sound seen checked customs path t h in
+    let extensions : AllByRecursion (FieldIsNamed (Stands seen t) customs) (extensions_in file) = each (extensions_in file) s.extensions in
+    let all : AllByRecursion (FieldIsNamed (Stands seen t) customs) (fields_in file ++ extensions_in file) = all-both (FieldIsNamed (Stands seen t) customs) (fields_in file) (extensions_in file) s.fields extensions in
+    let is : FieldIsNamed (Stands seen t) customs f = all-among (FieldIsNamed (Stands seen t) customs) k all in
     is.stands
   where
-    each : (fs : List FieldDescriptor) → AllByRecursion (ExtensionIsNamed (Stands seen t) custom) fs → AllByRecursion (FieldIsNamed (Stands seen t) custom) fs
+    each : (fs : List FieldDescriptor) → AllByRecursion (ExtensionIsNamed (Stands seen t) customs) fs → AllByRecursion (FieldIsNamed (Stands seen t) customs) fs
     each [] w = tt
     each (d ∷ ds) w = (w.0.is_field, each ds w.1)
 
 -- each extension says what it extends
 pub extendees_are_named : ExtendeesAreNamed
-extendees_are_named seen custom path t f h k =
-    let is : ExtensionIsNamed (Stands seen t) custom f = all-among (ExtensionIsNamed (Stands seen t) custom) k (sound seen custom path t h).extensions in
+extendees_are_named seen checked customs path t f h k =
+    let is : ExtensionIsNamed (Stands seen t) customs f = all-among (ExtensionIsNamed (Stands seen t) customs) k (sound seen checked customs path t h).extensions in
     is.extends

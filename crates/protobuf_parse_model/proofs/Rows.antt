@@ -18,7 +18,7 @@ use Rattle.protobuf_parse_model.specs.declared.descriptor.FieldType.{FieldType}
 use Rattle.protobuf_parse_model.specs.declared.descriptor.FieldType.TheVariants as kind
 use Rattle.protobuf_parse_model.specs.declared.error.ElabErrorKind.TheVariants as error
 use Rattle.protobuf_parse_model.specs.Descriptors.{FileDescriptor, ServiceDescriptor, MethodDescriptor, Text, FieldDescriptor, OneofDescriptor, MessageDescriptor, MessageParts, a_message, list_of}
-use Rattle.protobuf_parse_model.specs.Environment.{Environment, no_custom}
+use Rattle.protobuf_parse_model.specs.Environment.{Environment, no_customs}
 use Rattle.protobuf_parse_model.specs.OptionsSet.{entry_options}
 use Rattle.protobuf_parse_model.specs.Fields.{plain, field_of, field_faults, names_of_fields}
 use Rattle.protobuf_parse_model.specs.Enums.{enum_of}
@@ -46,7 +46,7 @@ file syntax statements = record { syntax = syntax; statements = statements }
 
 -- of a file that sees itself alone
 abbrev alone : FileSyntax → Environment
-alone t = environment (t ∷ []) no_custom t
+alone t = environment (t ∷ []) no_customs t
 
 abbrev messages_in : FileSyntax → List MessageDescriptor
 messages_in t = (file_of (alone t) (codes "x.proto") t).message_type

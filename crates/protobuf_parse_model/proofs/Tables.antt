@@ -156,13 +156,6 @@ extensions-view scope m = ap (λ (x : MessageSyntax). flat_map (extensions_of (i
 
 -- ---- files, one after another
 
--- a table with no name tells of no file
-pub tells_none : (table : Declarations) → table.by_name.entries ≡ [] → Tells table []
-tells_none table none = record { declares = nothing; lists = λ text more. let long : length (declared_as table text) ≡ 0 = ap length (nothing text) in absurd (omega (arith, long, more)) }
-  where
-    nothing : (text : Text) → declared_as table text ≡ []
-    nothing text = ap (λ (es : List (String Global × Vec Declaration)). listed (lookup (is_at (λ (k : String Global). slice_cmp nat_cmp text (string_bytes k))) es)) none
-
 declared_in-push : (text : Text) (n file : ℕ) (files : List FileSyntax) (t : FileSyntax) → n + length files ≡ file → declared_in text n (files ++ t ∷ []) ≡ declared_in text n files ++ declared_in_file text file t
 declared_in-push text n file [] t at =
     let here : n ≡ file = omega arith in

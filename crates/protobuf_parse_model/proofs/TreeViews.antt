@@ -10,18 +10,14 @@ use Rattle.protobuf_parse_syntax.specs.declared.tree.constant.ProtobufConstant.T
 use Rattle.protobuf_parse_syntax.specs.declared.tree.declaration.Message.{Message, fold_out-Message, the_lemmas}
 use Rattle.protobuf_parse_syntax.specs.declared.tree.declaration.MessageStatement.{fold-roll-MessageStatement}
 use Rattle.protobuf_parse_syntax.specs.declared.tree.declaration.MessageStatement.TheOpen as layer
-use Rattle.protobuf_parse_syntax.specs.declared.tree.declaration.MessageStatement.TheVariants.{rolls-Extend, Extend as is_extend, rolls-Extensions, Extensions as is_extensions, rolls-Message, Message as is_message}
+use Rattle.protobuf_parse_syntax.specs.declared.tree.declaration.MessageStatement.TheVariants.{rolls-Extend, Extend as is_extend, rolls-Message, Message as is_message}
 use Rattle.protobuf_parse_syntax.specs.declared.tree.declaration.Extend.{Extend}
-use Rattle.protobuf_parse_syntax.specs.declared.tree.declaration.Extensions.{Extensions}
 
 pub views_message : (m : Message) → (tree.message_view m).body ≡ map tree.message_statement_view m.body.items
 views_message m = search (rules, the_lemmas, fold_out-Message)
 
 pub views_nested : (m : Message) → tree.message_statement_view (is_message m) ≡ tree.nested_message (tree.message_view m)
 views_nested m = ap tree.message_statement_view (sym (rolls-Message m)) ∙ fold-roll-MessageStatement MessageStatementSyntax MessageSyntax tree.message_statement_step tree.message_step (layer.MessageStatement-F.Message m)
-
-pub views_extensions : (e : Extensions) → tree.message_statement_view (is_extensions e) ≡ tree.message_extensions (tree.extensions_view e)
-views_extensions e = ap tree.message_statement_view (sym (rolls-Extensions e)) ∙ fold-roll-MessageStatement MessageStatementSyntax MessageSyntax tree.message_statement_step tree.message_step (layer.MessageStatement-F.Extensions e)
 
 pub views_extend : (e : Extend) → tree.message_statement_view (is_extend e) ≡ tree.message_extend (tree.extend_view e)
 views_extend e = ap tree.message_statement_view (sym (rolls-Extend e)) ∙ fold-roll-MessageStatement MessageStatementSyntax MessageSyntax tree.message_statement_step tree.message_step (layer.MessageStatement-F.Extend e)

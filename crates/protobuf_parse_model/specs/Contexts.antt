@@ -22,7 +22,7 @@ use Rattle.protobuf_parse_model.specs.Fields as fields
 use Rattle.protobuf_parse_model.specs.declared.convert.field.FieldSaid.{FieldSaid}
 use Rattle.protobuf_parse_model.specs.declared.descriptor.FieldType.{FieldType}
 use Rattle.protobuf_parse_model.specs.declared.convert.statement.DeclaredField.{DeclaredField}
-use Rattle.protobuf_parse_model.specs.Messages.{messages_behind, oneofs_of, fields_of, fields_from, nested_of, enums_of, extensions_of, extension_ranges, reserves, options_in_message, exclusive, names_of_oneofs, names_of_enums, names_of_messages}
+use Rattle.protobuf_parse_model.specs.Messages.{messages_behind, oneofs_of, fields_of, fields_from, nested_of, enums_of, extensions_of, extension_ranges, reserves, options_of_body, exclusive, names_of_oneofs, names_of_enums, names_of_messages}
 use Rattle.protobuf_parse_model.specs.Enums.{names_reserved, ranges_reserved}
 use Rattle.protobuf_parse_model.specs.Faults.{Fault}
 use Rattle.protobuf_parse_model.specs.Duplicates.{duplicates}
@@ -38,11 +38,11 @@ use Rattle.protobuf_parse_syntax.specs.declared.tree.declaration.Reserved.{Reser
 use Rattle.protobuf_parse_syntax.specs.declared.tree.declaration.EnumValue.{EnumValue}
 use Rattle.protobuf_parse_model.specs.Options.{FieldOptionsSet, MessageOptionsSet, field_options_view, message_options_view}
 use Rattle.protobuf_parse_model.specs.OptionsSet.{field_options, message_options}
-use Rattle.protobuf_parse_model.specs.OptionViews.{nowhere}
 use Rattle.protobuf_parse_model.specs.Fields.{FieldTypeOf}
 use Rattle.protobuf_parse_model.specs.Declarations as declared
 use Rattle.protobuf_parse_model.specs.Declarations.{DeclaredType, a_message, an_enum, file_scope}
-use Rattle.protobuf_parse_model.specs.Environment.{Environment, no_custom}
+use Rattle.protobuf_parse_model.specs.declared.customs.Construct.TheVariants as of
+use Rattle.protobuf_parse_model.specs.Environment.{Environment, Customs, customs_bytes, no_customs}
 
 abbrev pub texts : List (Bor (List ℕ)) → List Text
 texts names = map (λ (s : Bor (List ℕ)). s.now) names
@@ -139,8 +139,8 @@ reserved_parts p = (map reserved_range_view p.0.items, map string_bytes p.1.item
 abbrev pub message_with : Text → BodyParts → RestParts → MessageDescriptor
 message_with name b r = message_descriptor (record { name = name; field = b.field; oneof_decl = b.oneof_decl; enum_type = b.enum_type; extension = b.extension; extension_range = r.extension_range; reserved_range = r.reserved_range; reserved_name = r.reserved_name; options = r.options }) (messages_of_list b.nested_type)
 
-abbrev pub rest_of : List MessageStatementSyntax → RestParts
-rest_of body = record { extension_range = map exclusive (flat_map extension_ranges body); reserved_range = map exclusive (flat_map ranges_reserved (flat_map reserves body)); reserved_name = flat_map names_reserved (flat_map reserves body); options = message_options nowhere (flat_map options_in_message body) }
+abbrev pub rest_of : Environment → List MessageStatementSyntax → RestParts
+rest_of env body = record { extension_range = map exclusive (flat_map extension_ranges body); reserved_range = map exclusive (flat_map ranges_reserved (flat_map reserves body)); reserved_name = flat_map names_reserved (flat_map reserves body); options = message_options (customs_bytes env of.Message (options_of_body body)) (options_of_body body) }
 
 -- what the options of a field say
 pub record Said : Type 0 where
@@ -151,8 +151,8 @@ pub record Said : Type 0 where
 abbrev pub said_view : FieldSaid → Said
 said_view s = record { default_value = option_map string_bytes s.default_value; json_name = string_bytes s.json_name; options = option_map field_options_view s.options }
 
-abbrev pub said_by : FieldType → Text → List OptionSyntax → Said
-said_by type_ name os = record { default_value = fields.default_of type_ os; json_name = fields.json_name_of name os; options = field_options nowhere os }
+abbrev pub said_by : Environment → FieldType → Text → List OptionSyntax → Said
+said_by env type_ name os = record { default_value = fields.default_of type_ os; json_name = fields.json_name_of name os; options = field_options (customs_bytes env of.Field os) os }
 
 abbrev pub place_view : FieldPlace → fields.FieldPlace
 place_view p = record { extendee = option_map (λ (s : Bor (List ℕ)). s.now) p.extendee; oneof_index = p.oneof_index }
@@ -184,9 +184,13 @@ declared_type name k = record { name = name; what = kind_view k }
 abbrev pub seen_types : Seen → Text → Option DeclaredType
 seen_types seen name = option_map (declared_type name) (first_type seen.sight.now (declared_as seen.declarations.now name))
 
-abbrev pub environment_in : Context → Environment
-environment_in c = record { syntax = c.syntax; types = seen_types c.seen; scope = texts c.scope.now; custom = no_custom }
+abbrev pub environment_in : Customs → Context → Environment
+environment_in customs c = record { syntax = c.syntax; types = seen_types c.seen; scope = texts c.scope.now; customs = customs }
+
+-- the environment that names of types are looked up in, which custom options are no part of
+abbrev pub names_in : Context → Environment
+names_in c = environment_in no_customs c
 
 -- the same for a whole file, by what it sees
-abbrev pub environment_of_file : Seen → FileSyntax → Environment
-environment_of_file seen t = record { syntax = t.syntax; types = seen_types seen; scope = file_scope t; custom = no_custom }
+abbrev pub environment_of_file : Customs → Seen → FileSyntax → Environment
+environment_of_file customs seen t = record { syntax = t.syntax; types = seen_types seen; scope = file_scope t; customs = customs }

@@ -6,8 +6,10 @@ use Rattle.protobuf_parse_syntax.specs.Trees.{OptionSyntax, RangeSyntax, Reserve
 use Rattle.protobuf_parse_model.specs.Descriptors.{Text, Range, EnumValueDescriptor, EnumDescriptor}
 use Rattle.protobuf_parse_model.specs.Faults.{Fault}
 use Rattle.protobuf_parse_model.specs.Duplicates.{duplicates}
-use Rattle.protobuf_parse_model.specs.Environment.{Environment}
-use Rattle.protobuf_parse_model.specs.BuiltinOptions.{enum_table, enum_value_table, options_faults}
+use Rattle.protobuf_parse_model.specs.declared.customs.Construct.TheVariants as of
+use Rattle.protobuf_parse_model.specs.Environment.{Environment, customs_bytes}
+use Rattle.protobuf_parse_model.specs.BuiltinOptions.{enum_table, enum_value_table}
+use Rattle.protobuf_parse_model.specs.ConstructOptions.{construct_faults}
 use Rattle.protobuf_parse_model.specs.OptionsSet.{enum_options, enum_value_options}
 
 -- ---- what is reserved, in enums and messages
@@ -34,10 +36,13 @@ abbrev pub options_in_enum : EnumStatementSyntax → List OptionSyntax
 options_in_enum (enum_option o) = o.option ∷ []
 options_in_enum _ = []
 
+abbrev pub options_of_enum : EnumSyntax → List OptionSyntax
+options_of_enum e = flat_map options_in_enum e.body
+
 -- ---- descriptors
 
 abbrev pub value_of : Environment → EnumValueSyntax → EnumValueDescriptor
-value_of env v = record { name = v.name; number = v.number; options = enum_value_options env v.options }
+value_of env v = record { name = v.name; number = v.number; options = enum_value_options (customs_bytes env of.EnumValue v.options) v.options }
 
 abbrev pub inclusive : RangeSyntax → Range
 inclusive r = record { start = r.from; end = r.to }
@@ -51,17 +56,18 @@ enum_of env e = record {
   value = values_of env e;
   reserved_range = map inclusive (flat_map ranges_reserved (flat_map enum_reserves e.body));
   reserved_name = flat_map names_reserved (flat_map enum_reserves e.body);
-  options = enum_options env (flat_map options_in_enum e.body);
+  options = enum_options (customs_bytes env of.Enum (options_of_enum e)) (options_of_enum e);
 }
 
 -- ---- faults
 
-abbrev pub value_faults : EnumValueSyntax → List Fault
-value_faults v = options_faults enum_value_table v.options
+abbrev pub value_faults : Environment → EnumValueSyntax → List Fault
+value_faults env v = construct_faults env of.EnumValue enum_value_table v.options
 
 -- E1 for two values that have one name
-abbrev pub values_faults : List EnumValueSyntax → List Fault
-values_faults values = duplicates (map (λ (v : EnumValueSyntax). v.name) values) ++ flat_map value_faults values
+abbrev pub values_faults : Environment → List EnumValueSyntax → List Fault
+values_faults env values = duplicates (map (λ (v : EnumValueSyntax). v.name) values) ++ flat_map (value_faults env) values
 
-abbrev pub enum_faults : EnumSyntax → List Fault
-enum_faults e = values_faults (flat_map enum_values e.body) ++ options_faults enum_table (flat_map options_in_enum e.body)
+abbrev pub enum_faults : Environment → EnumSyntax → List Fault
+enum_faults env e =
+    values_faults env (flat_map enum_values e.body) ++ construct_faults env of.Enum enum_table (options_of_enum e)

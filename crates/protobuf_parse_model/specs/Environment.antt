@@ -1,8 +1,9 @@
--- From where a construct is seen: what its names may mean, and how its custom options are spelled.
-use Rattle.std.specs.Prelude.{List, [], Option, Some, None, option_map, if◌then◌else◌}
-use Rattle.protobuf_parse_syntax.specs.Trees.{OptionSyntax}
+-- From where a construct is seen: what its names may mean, and what its custom options are.
+use Rattle.std.specs.Prelude.{List, [], ◌∷◌, ◌++◌, flat_map, codes, Option, Some, None, option_map, if◌then◌else◌}
+use Rattle.protobuf_parse_syntax.specs.Trees.{OptionPartSyntax, direct, extension, OptionNameSyntax, builtin, custom, OptionSyntax}
 use Rattle.protobuf_parse_syntax.specs.declared.tree.Syntax.{Syntax}
-use Rattle.protobuf_parse_model.specs.declared.error.ElabErrorKind.TheVariants.{NotFoundByAbsPath, NotFoundByRelPath}
+use Rattle.protobuf_parse_model.specs.declared.error.ElabErrorKind.TheVariants.{BuiltinOptionNotFound, NotFoundByAbsPath, NotFoundByRelPath}
+use Rattle.protobuf_parse_model.specs.declared.customs.Construct.{Construct}
 use Rattle.protobuf_parse_model.specs.Descriptors.{Text}
 use Rattle.protobuf_parse_model.specs.Faults.{Fault}
 use Rattle.protobuf_parse_model.specs.Duplicates.{fault}
@@ -10,24 +11,25 @@ use Rattle.protobuf_parse_model.specs.Declarations as names
 use Rattle.protobuf_parse_model.specs.Declarations.{Scope, Declared, DeclaredType, TypeKind}
 use Rattle.protobuf_parse_model.specs.Lookup.{Meanings, begins_with_dot, meant}
 
--- the construct whose options are set: each kind has an options message of its own
-pub data OptionsOf : Type 0 where
-  of_file : OptionsOf
-  of_message : OptionsOf
-  of_field : OptionsOf
-  of_oneof : OptionsOf
-  of_enum : OptionsOf
-  of_enum_value : OptionsOf
-  of_service : OptionsOf
-  of_method : OptionsOf
+-- what is wrong in the custom options among the statements of a construct, seen from a scope
+abbrev pub CustomFaults : Type 0
+CustomFaults = Construct → Scope → List OptionSyntax → List Fault
 
--- the bytes that the custom options among the statements of a construct become, seen from a scope
+-- the bytes that they become
 abbrev pub CustomBytes : Type 0
-CustomBytes = OptionsOf → Scope → List OptionSyntax → Text
+CustomBytes = Construct → Scope → List OptionSyntax → Text
+
+pub record Customs : Type 0 where
+  pub faults : CustomFaults
+  pub bytes : CustomBytes
+
+-- nothing is wrong in any, and they become these bytes
+abbrev pub spelled_so : CustomBytes → Customs
+spelled_so bytes = record { faults = λ construct scope options. []; bytes = bytes }
 
 -- no custom option is spelled
-abbrev pub no_custom : CustomBytes
-no_custom construct scope options = []
+abbrev pub no_customs : Customs
+no_customs = spelled_so (λ construct scope options. [])
 
 pub record Environment : Type 0 where
   pub syntax : Syntax
@@ -35,7 +37,7 @@ pub record Environment : Type 0 where
   pub types : Meanings TypeKind
   -- the package and the messages around the construct
   pub scope : Scope
-  pub custom : CustomBytes
+  pub customs : Customs
 
 -- the environment of what stands inside the message of that name
 abbrev pub inside : Environment → Text → Environment
@@ -60,3 +62,36 @@ missing name None = missing_name name
 
 abbrev pub type_missing : Environment → Text → List Fault
 type_missing env name = missing name (type_named env name)
+
+-- ---- custom options
+
+-- what is wrong in the custom options of a construct
+abbrev pub customs_faults : Environment → Construct → List OptionSyntax → List Fault
+customs_faults env construct options = env.customs.faults construct env.scope options
+
+-- what they become
+abbrev pub customs_bytes : Environment → Construct → List OptionSyntax → Text
+customs_bytes env construct options = env.customs.bytes construct env.scope options
+
+-- the name of an option as it is written, with extensions in parentheses
+abbrev pub part_text : OptionPartSyntax → Text
+part_text (direct name) = name
+part_text (extension name) = codes "(" ++ name ++ codes ")"
+
+abbrev pub path_text : List OptionPartSyntax → Text
+path_text [] = []
+path_text (p ∷ ps) = part_text p ++ flat_map (λ (q : OptionPartSyntax). codes "." ++ part_text q) ps
+
+-- E11 for a custom option, where no extension is known
+abbrev pub unknown_name : OptionNameSyntax → List Fault
+unknown_name (builtin name) = []
+unknown_name (custom parts) = fault BuiltinOptionNotFound (path_text parts)
+
+abbrev pub unknown_option : OptionSyntax → List Fault
+unknown_option o = unknown_name o.name
+
+abbrev pub no_extensions : Customs
+no_extensions = record {
+  faults = λ construct scope options. flat_map unknown_option options;
+  bytes = λ construct scope options. [];
+}

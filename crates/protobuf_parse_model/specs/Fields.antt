@@ -26,7 +26,8 @@ use Rattle.protobuf_parse_model.specs.Faults.{Fault}
 use Rattle.protobuf_parse_model.specs.Statements.{group_body, group_field_name, entry_name, is_map}
 use Rattle.protobuf_parse_model.specs.Declarations.{full_name, DeclaredType, TypeKind, a_message, an_enum}
 use Rattle.protobuf_parse_model.specs.Duplicates.{fault, fault_when, duplicates}
-use Rattle.protobuf_parse_model.specs.Environment.{Environment, type_named, type_missing}
+use Rattle.protobuf_parse_model.specs.declared.customs.Construct.TheVariants as of
+use Rattle.protobuf_parse_model.specs.Environment.{Environment, customs_bytes, customs_faults, type_named, type_missing}
 use Rattle.protobuf_parse_model.specs.BuiltinOptions.{values_named, string_faults, builtin_faults, field_table}
 use Rattle.protobuf_parse_model.specs.OptionsSet.{field_options}
 
@@ -150,8 +151,9 @@ abbrev pub field_options_faults : List OptionSyntax → List Fault
 field_options_faults os = flat_map (λ (o : OptionSyntax). field_option_faults o.value o.name) os
 
 -- all that is wrong in the options of the field of that type and name
-abbrev pub faults_of_options : FieldType → Text → List OptionSyntax → List Fault
-faults_of_options type_ name os = default_faults type_ name os ++ json_name_faults os ++ field_options_faults os
+abbrev pub faults_of_options : Environment → FieldType → Text → List OptionSyntax → List Fault
+faults_of_options env type_ name os =
+    default_faults type_ name os ++ json_name_faults os ++ (field_options_faults os ++ customs_faults env of.Field os)
 
 -- ---- fields
 
@@ -164,20 +166,24 @@ pub record FieldPlace : Type 0 where
 abbrev pub plain : FieldPlace
 plain = record { extendee = None; oneof_index = None }
 
-abbrev pub field_of : Environment → FieldPlace → FieldSyntax → FieldDescriptor
-field_of env place f = record {
+-- of that type
+abbrev pub field_with : Environment → FieldPlace → FieldSyntax → FieldTypeOf → FieldDescriptor
+field_with env place f type_ = record {
   name = f.name;
   number = f.number;
   label = label_of f.label f.type_;
-  type_ = (type_of env f.name f.type_).kind;
-  type_name = (type_of env f.name f.type_).name;
+  type_ = type_.kind;
+  type_name = type_.name;
   extendee = place.extendee;
-  default_value = default_of (type_of env f.name f.type_).kind f.options;
+  default_value = default_of type_.kind f.options;
   oneof_index = option_map pos place.oneof_index;
   json_name = json_name_of f.name f.options;
   proto3_optional = if is_map f.type_ then false else says_optional env.syntax f.label;
-  options = field_options env f.options;
+  options = field_options (customs_bytes env of.Field f.options) f.options;
 }
+
+abbrev pub field_of : Environment → FieldPlace → FieldSyntax → FieldDescriptor
+field_of env place f = field_with env place f (type_of env f.name f.type_)
 
 -- the field of a group
 abbrev pub group_field : Environment → FieldPlace → Option Label → Text → ℤ → FieldDescriptor
@@ -200,7 +206,7 @@ field_statement_of env place (field f) = field_of env place f
 field_statement_of env place (group at label name number fields) = group_field env place label name number
 
 abbrev pub field_faults : Environment → FieldSyntax → List Fault
-field_faults env f = type_faults env f.name f.type_ ++ faults_of_options (type_of env f.name f.type_).kind f.name f.options
+field_faults env f = type_faults env f.name f.type_ ++ faults_of_options env (type_of env f.name f.type_).kind f.name f.options
 
 -- ---- groups, and where maps and groups may not stand
 

@@ -13,8 +13,10 @@ use Rattle.protobuf_parse_model.specs.Faults.{Fault}
 use Rattle.protobuf_parse_model.specs.Declarations.{DeclaredType, file_scope, file_types}
 use Rattle.protobuf_parse_model.specs.Lookup.{declared}
 use Rattle.protobuf_parse_model.specs.Duplicates.{duplicates}
-use Rattle.protobuf_parse_model.specs.Environment.{Environment, CustomBytes}
-use Rattle.protobuf_parse_model.specs.BuiltinOptions.{file_table, options_faults}
+use Rattle.protobuf_parse_model.specs.declared.customs.Construct.TheVariants as of
+use Rattle.protobuf_parse_model.specs.Environment.{Environment, Customs, customs_bytes}
+use Rattle.protobuf_parse_model.specs.BuiltinOptions.{file_table}
+use Rattle.protobuf_parse_model.specs.ConstructOptions.{construct_faults}
 use Rattle.protobuf_parse_model.specs.OptionsSet.{file_options}
 use Rattle.protobuf_parse_model.specs.Fields.{names_of_fields}
 use Rattle.protobuf_parse_model.specs.Enums.{enum_of, enum_faults}
@@ -27,6 +29,9 @@ abbrev pub options_in_file : StatementSyntax → List OptionSyntax
 options_in_file (file_option o) = o.option ∷ []
 options_in_file _ = []
 
+abbrev pub options_of_statements : List StatementSyntax → List OptionSyntax
+options_of_statements ss = flat_map options_in_file ss
+
 -- ---- what the file sees
 
 -- the messages and enums that files declare
@@ -34,8 +39,13 @@ abbrev pub types_of_files : List FileSyntax → List DeclaredType
 types_of_files files = flat_map file_types files
 
 -- The file's environment, where it sees these files.
-abbrev pub environment : List FileSyntax → CustomBytes → FileSyntax → Environment
-environment seen custom t = record { syntax = t.syntax; types = declared (types_of_files seen); scope = file_scope t; custom = custom }
+abbrev pub environment : List FileSyntax → Customs → FileSyntax → Environment
+environment seen customs t = record {
+  syntax = t.syntax;
+  types = declared (types_of_files seen);
+  scope = file_scope t;
+  customs = customs;
+}
 
 -- ---- the descriptor
 
@@ -74,14 +84,14 @@ file_of env path t = record {
   enum_type = flat_map (enums_of env) t.statements;
   service = flat_map (services_of env) t.statements;
   extension = flat_map (extensions_of env) t.statements;
-  options = file_options env (flat_map options_in_file t.statements);
+  options = file_options (customs_bytes env of.File (options_of_statements t.statements)) (options_of_statements t.statements);
 }
 
 -- ---- faults
 
 abbrev pub statement_faults : Environment → StatementSyntax → List Fault
 statement_faults env (file_message m) = message_faults env m
-statement_faults env (file_enum e) = enum_faults e
+statement_faults env (file_enum e) = enum_faults env e
 statement_faults env (file_extend e) = extend_faults env e
 statement_faults env (file_service s) = service_faults env s
 statement_faults env _ = []
@@ -101,5 +111,5 @@ file_duplicates env t =
 abbrev pub file_faults : Environment → FileSyntax → List Fault
 file_faults env t =
     file_duplicates env t
-    ++ options_faults file_table (flat_map options_in_file t.statements)
+    ++ construct_faults env of.File file_table (options_of_statements t.statements)
     ++ flat_map (statement_faults env) t.statements

@@ -1,10 +1,6 @@
 -- What the statements of a file declare, as the code collects it.
-use Rattle.std.specs.Prelude.{List, ◌++◌, map, flat_map, string_bytes}
-use Rattle.std.specs.Borrow.{Bor}
-use Rattle.protobuf_parse_syntax.specs.Dependencies.{FileImports}
-use Rattle.protobuf_parse_syntax.specs.Trees.{ImportSyntax, StatementSyntax, import_view}
-use Rattle.protobuf_parse_syntax.specs.declared.tree.Import.{Import}
-use Rattle.protobuf_parse_model.specs.declared.convert.imports.ImportLists.{ImportLists}
+use Rattle.std.specs.Prelude.{List, ◌++◌, map, flat_map}
+use Rattle.protobuf_parse_syntax.specs.Trees.{StatementSyntax}
 use Rattle.protobuf_parse_model.specs.declared.convert.contents.Contents.{Contents}
 use Rattle.protobuf_parse_model.specs.Descriptors.{FieldDescriptor, EnumDescriptor, MessageDescriptor, ServiceDescriptor, enum_view, field_view, message_view, service_view}
 use Rattle.protobuf_parse_model.specs.Duplicates.{duplicates}
@@ -37,10 +33,3 @@ parts_faults p =
     ++ duplicates (names_of_enums p.enum_type)
     ++ duplicates (names_of_fields p.extension)
     ++ duplicates (names_of_services p.service)
-
--- what references to imports see
-abbrev pub imports_seen : List (Bor Import) → List ImportSyntax
-imports_seen is = map (λ (i : Bor Import). import_view i.now) is
-
-abbrev pub import_lists_view : ImportLists → FileImports
-import_lists_view l = record { paths = map string_bytes l.dependency.items; public = l.public_dependency.items; weak = l.weak_dependency.items }

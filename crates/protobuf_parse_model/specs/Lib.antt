@@ -8,6 +8,7 @@ pub mod Duplicates
 pub mod Environment
 pub mod BuiltinOptions
 pub mod OptionsSet
+pub mod ConstructOptions
 pub mod Fields
 pub mod OptionViews
 pub mod Enums
@@ -21,4 +22,3 @@ pub mod FilesByPath
 pub mod FileParts
 pub mod Tables
 pub mod OptionSets
-pub mod Unsupported

@@ -7,20 +7,22 @@
 -- Protocol Buffers Language Specification (proto2), "Message definition", "Reserved", "Extensions", "Oneof and oneof
 -- field", "Group field", "Map field", "Extend"; Protocol Buffers Language Guide, "Maps", "Backwards compatibility", and
 -- "Field Presence in proto3" (https://protobuf.dev).
-use Rattle.std.specs.Prelude.{ℕ, ℤ, nat_lt, pos, ◌+◌, ◌+ℤ◌, Bool, false, List, [], ◌∷◌, ◌++◌, map, flat_map, length, codes, Option, Some, None, if◌then◌else◌}
+use Rattle.std.specs.Prelude.{ℕ, ℤ, pos, ◌+◌, ◌+ℤ◌, Bool, false, List, [], ◌∷◌, ◌++◌, map, flat_map, length, codes, Option, Some, None, if◌then◌else◌}
 use Rattle.std.specs.Ordering.{int_eq}
 use Rattle.protobuf_parse_syntax.specs.Trees.{OptionSyntax, TypeSyntax, scalar, map_of, named, FieldStatementSyntax, field, group, RangeSyntax, ReservedSyntax, OneofSyntax, ExtendSyntax, MessageStatementSyntax, message_reserved, message_oneof, message_extend, message_message, message_enum, message_extensions, message_option, message_field, MessageStatementList, no_statements, more_statements, MessageSyntax}
 use Rattle.protobuf_parse_syntax.specs.declared.tree.field.Label.{Label}
 use Rattle.protobuf_parse_syntax.specs.declared.tree.field.Label.TheVariants.{Optional}
-use Rattle.protobuf_parse_model.specs.declared.error.ElabErrorKind.TheVariants.{RangeEndOverflow, Unsupported}
+use Rattle.protobuf_parse_model.specs.declared.error.ElabErrorKind.TheVariants.{RangeEndOverflow}
 use Rattle.protobuf_parse_model.specs.Options.{MessageOptionsSet}
 use Rattle.protobuf_parse_model.specs.Descriptors.{Text, Range, FieldDescriptor, OneofDescriptor, EnumDescriptor, MessageDescriptor, a_message, no_messages, messages_of_list}
 use Rattle.protobuf_parse_model.specs.Faults.{Fault}
 use Rattle.protobuf_parse_model.specs.Statements.{group_body, message_body, entry_name, field_statement_name, oneof_fields}
 use Rattle.protobuf_parse_model.specs.Statements as statements
 use Rattle.protobuf_parse_model.specs.Duplicates.{fault, fault_when, duplicates}
-use Rattle.protobuf_parse_model.specs.Environment.{Environment, inside, type_full_name, type_missing}
-use Rattle.protobuf_parse_model.specs.BuiltinOptions.{message_table, oneof_table, options_faults}
+use Rattle.protobuf_parse_model.specs.declared.customs.Construct.TheVariants as of
+use Rattle.protobuf_parse_model.specs.Environment.{Environment, customs_bytes, inside, type_full_name, type_missing}
+use Rattle.protobuf_parse_model.specs.BuiltinOptions.{message_table, oneof_table}
+use Rattle.protobuf_parse_model.specs.ConstructOptions.{construct_faults}
 use Rattle.protobuf_parse_model.specs.OptionsSet.{message_options, entry_options, oneof_options}
 use Rattle.protobuf_parse_model.specs.Fields.{FieldTypeOf, type_of, says_optional, FieldPlace, plain, field_statement_of, names_of_fields, fields_of_group, field_statement_faults, extension_faults}
 use Rattle.protobuf_parse_model.specs.Enums.{enum_of, enum_faults, ranges_reserved, names_reserved}
@@ -96,7 +98,7 @@ abbrev pub options_in_oneof : OneofSyntax → List OptionSyntax
 options_in_oneof o = flat_map statements.oneof_options o.body
 
 abbrev pub oneof_of : Environment → OneofSyntax → OneofDescriptor
-oneof_of env o = record { name = o.name; options = oneof_options env (options_in_oneof o) }
+oneof_of env o = record { name = o.name; options = oneof_options (customs_bytes env of.Oneof (options_in_oneof o)) (options_in_oneof o) }
 
 abbrev pub oneofs_of : Environment → MessageStatementSyntax → List OneofDescriptor
 oneofs_of env (message_oneof o) = oneof_of env o ∷ []
@@ -164,6 +166,9 @@ abbrev pub options_in_message : MessageStatementSyntax → List OptionSyntax
 options_in_message (message_option o) = o.option ∷ []
 options_in_message _ = []
 
+abbrev pub options_of_body : List MessageStatementSyntax → List OptionSyntax
+options_of_body body = flat_map options_in_message body
+
 -- ---- messages
 
 -- the message of that name with that body and those messages inside it; its own options are seen from where it stands
@@ -177,7 +182,7 @@ message_from env name body nested = a_message (record {
   extension_range = map exclusive (flat_map extension_ranges body);
   reserved_range = map exclusive (flat_map ranges_reserved (flat_map reserves body));
   reserved_name = flat_map names_reserved (flat_map reserves body);
-  options = message_options env (flat_map options_in_message body);
+  options = message_options (customs_bytes env of.Message (options_of_body body)) (options_of_body body);
 }) (messages_of_list nested)
 
 abbrev mutual
@@ -213,10 +218,6 @@ names_of_oneofs oneofs = map (λ (o : OneofDescriptor). o.name) oneofs
 abbrev pub names_of_enums : List EnumDescriptor → List Text
 names_of_enums enums = map (λ (e : EnumDescriptor). e.name) enums
 
--- A position among oneofs has 31 bits. No text is so long that a body has so many statements.
-abbrev pub positions_faults : Text → ℕ → List Fault
-positions_faults name n = if nat_lt n 2147483648 then [] else fault Unsupported name
-
 -- E1 for two fields, oneofs, extensions, enums or messages of one body that have one name
 abbrev pub body_duplicates : Environment → List MessageStatementSyntax → List MessageDescriptor → List Fault
 body_duplicates env body nested =
@@ -227,19 +228,21 @@ body_duplicates env body nested =
     ++ duplicates (names_of_messages nested)
 
 -- in its ranges and its options
-abbrev pub rest_faults : Text → List MessageStatementSyntax → List Fault
-rest_faults name body =
+abbrev pub rest_faults : Environment → Text → List MessageStatementSyntax → List Fault
+rest_faults env name body =
     flat_map (range_faults name) (flat_map extension_ranges body)
     ++ flat_map (range_faults name) (flat_map ranges_reserved (flat_map reserves body))
-    ++ options_faults message_table (flat_map options_in_message body)
+    ++ construct_faults env of.Message message_table (options_of_body body)
 
 -- of the message of that name, but those that stand in one statement of its body
 abbrev pub whole_faults : Environment → Text → List MessageStatementSyntax → List MessageDescriptor → List Fault
 whole_faults env name body nested =
-    positions_faults name (length body) ++ (body_duplicates (inside env name) body nested ++ rest_faults name body)
+    body_duplicates (inside env name) body nested ++ rest_faults env name body
 
 abbrev pub oneof_faults : Environment → OneofSyntax → List Fault
-oneof_faults env o = flat_map (field_statement_faults env) (flat_map oneof_fields o.body) ++ options_faults oneof_table (options_in_oneof o)
+oneof_faults env o =
+    flat_map (field_statement_faults env) (flat_map oneof_fields o.body)
+    ++ construct_faults env of.Oneof oneof_table (options_in_oneof o)
 
 abbrev mutual
   -- of a statement of a body
@@ -248,7 +251,7 @@ abbrev mutual
   statement_faults env (message_field f) = field_statement_faults env f
   statement_faults env (message_oneof o) = oneof_faults env o
   statement_faults env (message_extend e) = extend_faults env e
-  statement_faults env (message_enum e) = enum_faults e
+  statement_faults env (message_enum e) = enum_faults env e
   statement_faults env _ = []
 
   pub faults_in : Environment → MessageStatementList → List Fault

@@ -10,7 +10,7 @@ use Rattle.protobuf_parse_model.specs.declared.descriptor.FieldType.TheVariants 
 use Rattle.protobuf_parse_model.specs.Descriptors.{Text, FieldDescriptor, MessageParts, MessageDescriptor, MessageDescriptors, a_message, no_messages, messages, MethodDescriptor, ServiceDescriptor, FileDescriptor}
 use Rattle.protobuf_parse_model.specs.Faults.{Among}
 use Rattle.protobuf_parse_model.specs.Declarations.{DeclaredType, file_generated}
-use Rattle.protobuf_parse_model.specs.Environment.{CustomBytes, no_custom}
+use Rattle.protobuf_parse_model.specs.Environment.{Customs}
 use Rattle.protobuf_parse_model.specs.FileDescriptor.{types_of_files, environment, file_of, file_faults}
 
 -- ---- the fields and the extensions of a descriptor
@@ -62,21 +62,21 @@ names_declared files = map (λ (d : DeclaredType). d.name) (types_of_files files
 -- Each name of a type is that of a message or an enum that a file declares that it sees, or of a message behind one of its
 -- own maps and groups.
 abbrev pub NamesAreDeclared : Type 0
-NamesAreDeclared = (seen : List FileSyntax) (custom : CustomBytes) (path : Text) (t : FileSyntax) (name : Text)
-    → file_faults (environment seen no_custom t) t ≡ []
-    → Among (names_in (file_of (environment seen custom t) path t)) name
+NamesAreDeclared = (seen : List FileSyntax) (checked customs : Customs) (path : Text) (t : FileSyntax) (name : Text)
+    → file_faults (environment seen checked t) t ≡ []
+    → Among (names_in (file_of (environment seen customs t) path t)) name
     → Among (names_declared seen ++ file_generated t) name
 
 -- Just those fields and extensions say the name of their type whose type has one.
 abbrev pub TypesAreNamed : Type 0
-TypesAreNamed = (seen : List FileSyntax) (custom : CustomBytes) (path : Text) (t : FileSyntax) (f : FieldDescriptor)
-    → file_faults (environment seen no_custom t) t ≡ []
-    → Among (fields_in (file_of (environment seen custom t) path t) ++ extensions_in (file_of (environment seen custom t) path t)) f
+TypesAreNamed = (seen : List FileSyntax) (checked customs : Customs) (path : Text) (t : FileSyntax) (f : FieldDescriptor)
+    → file_faults (environment seen checked t) t ≡ []
+    → Among (fields_in (file_of (environment seen customs t) path t) ++ extensions_in (file_of (environment seen customs t) path t)) f
     → is_some f.type_name ≡ has_name f.type_
 
 -- Each extension says what it extends.
 abbrev pub ExtendeesAreNamed : Type 0
-ExtendeesAreNamed = (seen : List FileSyntax) (custom : CustomBytes) (path : Text) (t : FileSyntax) (f : FieldDescriptor)
-    → file_faults (environment seen no_custom t) t ≡ []
-    → Among (extensions_in (file_of (environment seen custom t) path t)) f
+ExtendeesAreNamed = (seen : List FileSyntax) (checked customs : Customs) (path : Text) (t : FileSyntax) (f : FieldDescriptor)
+    → file_faults (environment seen checked t) t ≡ []
+    → Among (extensions_in (file_of (environment seen customs t) path t)) f
     → IsSome f.extendee

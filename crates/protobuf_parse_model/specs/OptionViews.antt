@@ -1,9 +1,8 @@
 -- Options and their tables as the code holds them.
-use Rattle.std.specs.Prelude.{◌≡◌, ℕ, List, [], map, Option, None, option_map, String, string_bytes}
+use Rattle.std.specs.Prelude.{◌≡◌, ℕ, List, map, Option, option_map, String, string_bytes}
 use Rattle.std.specs.Borrow.{Bor}
 use Rattle.std.specs.Global.{Global}
 use Rattle.protobuf_parse_syntax.specs.Trees.{ConstantSyntax, constant_view, OptionSyntax, option_view}
-use Rattle.protobuf_parse_syntax.specs.declared.tree.Syntax.TheVariants.{Proto2}
 use Rattle.protobuf_parse_syntax.specs.declared.tree.constant.ProtobufConstant.{ProtobufConstant}
 use Rattle.protobuf_parse_syntax.specs.declared.tree.option.ProtobufOption.{ProtobufOption}
 use Rattle.protobuf_parse_model.specs.declared.convert.options.tables.BuiltinKind.{BuiltinKind}
@@ -11,17 +10,12 @@ use Rattle.protobuf_parse_model.specs.declared.convert.options.tables.BuiltinKin
 use Rattle.protobuf_parse_model.specs.BuiltinOptions as spec
 use Rattle.protobuf_parse_model.specs.BuiltinOptions.{Words, a_text, a_truth, a_word, Table}
 use Rattle.protobuf_parse_model.specs.Descriptors.{Text}
-use Rattle.protobuf_parse_model.specs.Environment.{Environment, no_custom}
 
 abbrev pub options_seen : List (Bor ProtobufOption) → List OptionSyntax
 options_seen os = map (λ (o : Bor ProtobufOption). option_view o.now) os
 
 abbrev pub constant_seen : Bor ProtobufConstant → ConstantSyntax
 constant_seen c = constant_view c.now
-
--- where no name means anything and no custom option is spelled
-abbrev pub nowhere : Environment
-nowhere = record { syntax = Proto2; types = λ name. None; scope = []; custom = no_custom }
 
 -- what the option of that name is set to, if it is
 abbrev pub IsTextOption : List (Bor ProtobufOption) → Text → Option (String Global) → Type 0

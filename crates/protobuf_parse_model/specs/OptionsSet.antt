@@ -1,13 +1,13 @@
--- The options message of each construct, from the statements that set its options. `custom` is what the custom options
--- among them become.
+-- The options message of each construct, from the bytes that its custom options become and the statements that set its
+-- options.
 use Rattle.std.specs.Prelude.{true, List, [], codes, Option, Some, None}
 use Rattle.protobuf_parse_syntax.specs.Trees.{OptionSyntax}
 use Rattle.protobuf_parse_model.specs.Options.{FileOptionsSet, MessageOptionsSet, FieldOptionsSet, OneofOptionsSet, EnumOptionsSet, EnumValueOptionsSet, ServiceOptionsSet, MethodOptionsSet}
 use Rattle.protobuf_parse_model.specs.BuiltinOptions.{text_option, truth_option, word_option, where_any, optimize_modes, c_types, js_types, idempotency_levels}
-use Rattle.protobuf_parse_model.specs.Environment.{Environment, of_file, of_message, of_field, of_oneof, of_enum, of_enum_value, of_service, of_method}
+use Rattle.protobuf_parse_model.specs.Descriptors.{Text}
 
-abbrev pub file_options : Environment → List OptionSyntax → Option FileOptionsSet
-file_options env os = where_any os (record {
+abbrev pub file_options : Text → List OptionSyntax → Option FileOptionsSet
+file_options custom os = where_any os (record {
   java_package = text_option os (codes "java_package");
   java_outer_classname = text_option os (codes "java_outer_classname");
   optimize_for = word_option optimize_modes os (codes "optimize_for");
@@ -27,24 +27,24 @@ file_options env os = where_any os (record {
   php_namespace = text_option os (codes "php_namespace");
   php_metadata_namespace = text_option os (codes "php_metadata_namespace");
   ruby_package = text_option os (codes "ruby_package");
-  custom = env.custom of_file env.scope os;
+  custom = custom;
 })
 
-abbrev pub message_options : Environment → List OptionSyntax → Option MessageOptionsSet
-message_options env os = where_any os (record {
+abbrev pub message_options : Text → List OptionSyntax → Option MessageOptionsSet
+message_options custom os = where_any os (record {
   message_set_wire_format = truth_option os (codes "message_set_wire_format");
   no_standard_descriptor_accessor = truth_option os (codes "no_standard_descriptor_accessor");
   deprecated = truth_option os (codes "deprecated");
   map_entry = truth_option os (codes "map_entry");
-  custom = env.custom of_message env.scope os;
+  custom = custom;
 })
 
 -- of the message behind a map
 abbrev pub entry_options : Option MessageOptionsSet
 entry_options = Some (record { message_set_wire_format = None; no_standard_descriptor_accessor = None; deprecated = None; map_entry = Some true; custom = [] })
 
-abbrev pub field_options : Environment → List OptionSyntax → Option FieldOptionsSet
-field_options env os = where_any os (record {
+abbrev pub field_options : Text → List OptionSyntax → Option FieldOptionsSet
+field_options custom os = where_any os (record {
   ctype = word_option c_types os (codes "ctype");
   packed = truth_option os (codes "packed");
   deprecated = truth_option os (codes "deprecated");
@@ -53,34 +53,34 @@ field_options env os = where_any os (record {
   weak = truth_option os (codes "weak");
   unverified_lazy = truth_option os (codes "unverified_lazy");
   debug_redact = truth_option os (codes "debug_redact");
-  custom = env.custom of_field env.scope os;
+  custom = custom;
 })
 
-abbrev pub oneof_options : Environment → List OptionSyntax → Option OneofOptionsSet
-oneof_options env os = where_any os (record { custom = env.custom of_oneof env.scope os })
+abbrev pub oneof_options : Text → List OptionSyntax → Option OneofOptionsSet
+oneof_options custom os = where_any os (record { custom = custom })
 
-abbrev pub enum_options : Environment → List OptionSyntax → Option EnumOptionsSet
-enum_options env os = where_any os (record {
+abbrev pub enum_options : Text → List OptionSyntax → Option EnumOptionsSet
+enum_options custom os = where_any os (record {
   allow_alias = truth_option os (codes "allow_alias");
   deprecated = truth_option os (codes "deprecated");
-  custom = env.custom of_enum env.scope os;
+  custom = custom;
 })
 
-abbrev pub enum_value_options : Environment → List OptionSyntax → Option EnumValueOptionsSet
-enum_value_options env os = where_any os (record {
+abbrev pub enum_value_options : Text → List OptionSyntax → Option EnumValueOptionsSet
+enum_value_options custom os = where_any os (record {
   deprecated = truth_option os (codes "deprecated");
-  custom = env.custom of_enum_value env.scope os;
+  custom = custom;
 })
 
-abbrev pub service_options : Environment → List OptionSyntax → Option ServiceOptionsSet
-service_options env os = where_any os (record {
+abbrev pub service_options : Text → List OptionSyntax → Option ServiceOptionsSet
+service_options custom os = where_any os (record {
   deprecated = truth_option os (codes "deprecated");
-  custom = env.custom of_service env.scope os;
+  custom = custom;
 })
 
-abbrev pub method_options : Environment → List OptionSyntax → Option MethodOptionsSet
-method_options env os = where_any os (record {
+abbrev pub method_options : Text → List OptionSyntax → Option MethodOptionsSet
+method_options custom os = where_any os (record {
   deprecated = truth_option os (codes "deprecated");
   idempotency_level = word_option idempotency_levels os (codes "idempotency_level");
-  custom = env.custom of_method env.scope os;
+  custom = custom;
 })

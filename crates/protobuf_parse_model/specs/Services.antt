@@ -6,8 +6,10 @@ use Rattle.protobuf_parse_syntax.specs.Trees.{OptionSyntax, OptionStatementSynta
 use Rattle.protobuf_parse_model.specs.Descriptors.{MethodDescriptor, ServiceDescriptor}
 use Rattle.protobuf_parse_model.specs.Faults.{Fault}
 use Rattle.protobuf_parse_model.specs.Duplicates.{duplicates}
-use Rattle.protobuf_parse_model.specs.Environment.{Environment, type_full_name, type_missing}
-use Rattle.protobuf_parse_model.specs.BuiltinOptions.{service_table, method_table, options_faults}
+use Rattle.protobuf_parse_model.specs.declared.customs.Construct.TheVariants as of
+use Rattle.protobuf_parse_model.specs.Environment.{Environment, customs_bytes, type_full_name, type_missing}
+use Rattle.protobuf_parse_model.specs.BuiltinOptions.{service_table, method_table}
+use Rattle.protobuf_parse_model.specs.ConstructOptions.{construct_faults}
 use Rattle.protobuf_parse_model.specs.OptionsSet.{service_options, method_options}
 
 abbrev pub methods_in : ServiceStatementSyntax → List MethodSyntax
@@ -21,6 +23,12 @@ options_in_service (service_method m) = []
 abbrev pub statement_option : OptionStatementSyntax → OptionSyntax
 statement_option o = o.option
 
+abbrev pub options_of_method : MethodSyntax → List OptionSyntax
+options_of_method m = map statement_option m.options
+
+abbrev pub options_of_service : ServiceSyntax → List OptionSyntax
+options_of_service s = flat_map options_in_service s.body
+
 abbrev pub method_of : Environment → MethodSyntax → MethodDescriptor
 method_of env m = record {
   name = m.name;
@@ -28,22 +36,24 @@ method_of env m = record {
   output_type = unwrap_or (type_full_name env m.output) [];
   client_streaming = m.client_streaming;
   server_streaming = m.server_streaming;
-  options = method_options env (map statement_option m.options);
+  options = method_options (customs_bytes env of.Method (options_of_method m)) (options_of_method m);
 }
 
 abbrev pub service_of : Environment → ServiceSyntax → ServiceDescriptor
 service_of env s = record {
   name = s.name;
   method = map (method_of env) (flat_map methods_in s.body);
-  options = service_options env (flat_map options_in_service s.body);
+  options = service_options (customs_bytes env of.Service (options_of_service s)) (options_of_service s);
 }
 
 abbrev pub method_faults : Environment → MethodSyntax → List Fault
-method_faults env m = type_missing env m.input ++ type_missing env m.output ++ options_faults method_table (map statement_option m.options)
+method_faults env m =
+    type_missing env m.input ++ type_missing env m.output ++ construct_faults env of.Method method_table (options_of_method m)
 
 -- E1 for two methods that have one name
 abbrev pub methods_faults : Environment → List MethodSyntax → List Fault
 methods_faults env methods = duplicates (map (λ (m : MethodSyntax). m.name) methods) ++ flat_map (method_faults env) methods
 
 abbrev pub service_faults : Environment → ServiceSyntax → List Fault
-service_faults env s = methods_faults env (flat_map methods_in s.body) ++ options_faults service_table (flat_map options_in_service s.body)
+service_faults env s =
+    methods_faults env (flat_map methods_in s.body) ++ construct_faults env of.Service service_table (options_of_service s)

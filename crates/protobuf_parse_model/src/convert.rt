@@ -2,12 +2,10 @@
 
 mod body;
 mod contents;
-mod customs;
 mod enumeration;
 pub mod field;
 mod file;
 mod generated;
-mod imports;
 mod lists;
 mod message;
 mod names;
@@ -21,17 +19,17 @@ mod service;
 mod statement;
 pub mod types;
 
-ghost use Rattle.std.specs.Prelude.{List, ◌++◌};
+ghost use Rattle.std.specs.Prelude.{List, ◌≤◌};
+ghost use Rattle.protobuf_parse_syntax.specs.Counts.{statements_in};
 ghost use Rattle.protobuf_parse_syntax.specs.Trees.{FileSyntax, file_view};
 ghost use Rattle.protobuf_parse_model.specs.Contexts.{environment_of_file};
 ghost use Rattle.protobuf_parse_model.specs.Descriptors as described;
-ghost use Rattle.protobuf_parse_model.specs.Environment.{no_custom};
 ghost use Rattle.protobuf_parse_model.specs.Faults.{Elaborates};
 ghost use Rattle.protobuf_parse_model.specs.FileDescriptor.{environment, file_faults, file_of};
 ghost use Rattle.protobuf_parse_model.specs.Tables.{Tells, picked};
-ghost use Rattle.protobuf_parse_model.specs.Unsupported.{unsupported_in};
 
 use crate::convert::file::file_descriptor;
+use crate::customs::CustomOptions;
 use crate::descriptor::FileDescriptorProto;
 use crate::error::ElabFailure;
 use crate::scope::Seen;
@@ -40,10 +38,10 @@ use std::alloc::Global;
 
 /// The descriptor of a file.
 ///
-/// Takes the path that the file is known by, its tree, and what it sees: the declarations of files, and the
-/// numbers of those among them whose names it sees, itself with them. Where the declarations are those that
-/// `Declarations::add` made of files one after the other, the answer is what the language says of a file
-/// that sees the files with these numbers.
+/// Takes the path that the file is known by, its tree, what it sees: the declarations of files, and the
+/// numbers of those among them whose names it sees, itself with them; and who says what its custom options
+/// become. Where the declarations are those that `Declarations::add` made of files one after the other, the
+/// answer is what the language says of a file that sees the files with these numbers.
 ///
 /// Where no fault stands in the file it gives the descriptor. Else it tells one that stands, whichever it
 /// meets first, unless memory runs out:
@@ -53,22 +51,25 @@ use std::alloc::Global;
 /// - E4: a map or a group stands where none may;
 /// - E7: a range of a message has no end behind it;
 /// - E8 to E13: what a built-in option is set to, or its name, is wrong;
-/// - Unsupported: a custom option is set, or a file has 2147483648 imports or more, or a message as many
-///   statements.
+/// - what is wrong in a custom option, by who says what they become.
+///
+/// The tree of a text has at most 2147483647 statements, those of all bodies counted: `parse_file` says so.
 ///
 /// E5 and E6, for full names that the reached files declare twice, are no part of this: `link` tells them,
 /// and is to be called first.
-pub fn elaborate(
+pub fn elaborate<C: CustomOptions>(
     alloc: Global,
     name: &str,
     tree: &FileTree,
     seen: &Seen<'_>,
+    custom: &C,
 ) -> Result<FileDescriptorProto, ElabFailure>
-    ensures by_table { let t = file_view tree.now in let env = environment_of_file seen.now t in
-        Elaborates described.file_view result (unsupported_in t ++ file_faults env t) (file_of env name.now t) }
+    requires few { statements_in (file_view tree.now) ≤ 2147483647 }
+    ensures by_table { let t = file_view tree.now in let env = environment_of_file (C.customs custom.now) seen.now t in
+        Elaborates described.file_view result (file_faults env t) (file_of env name.now t) }
     ensures by_files { (files : List FileSyntax) → Tells seen.now.declarations.now files →
-        let t = file_view tree.now in let env = environment (picked files seen.now.sight.now) no_custom t in
-        Elaborates described.file_view result (unsupported_in t ++ file_faults env t) (file_of env name.now t) }
+        let t = file_view tree.now in let env = environment (picked files seen.now.sight.now) (C.customs custom.now) t in
+        Elaborates described.file_view result (file_faults env t) (file_of env name.now t) }
 {
-    file_descriptor(alloc, name, tree, seen)
+    file_descriptor(alloc, name, tree, seen, custom)
 }

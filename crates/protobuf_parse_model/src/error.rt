@@ -14,9 +14,8 @@ pub struct ElabError {
     /// E1: the name. E2, E3: the name of the type as written. E4, E8: the field's name. E5, E6: the full
     /// name with its dot. E7: the message's name. E9 to E13: the option's name as written, with the names
     /// of extensions in parentheses. E14, E15: the extension's name as written. E16, E24: the part as
-    /// written. E17: the field's name. E18: the value's name. E19 to E23, E27: the name of the field that
-    /// was to be set. E25, E26: the name in the constant with its brackets. E28: `uninterpreted_option`.
-    /// Unsupported: the word of the construct.
+    /// written. E17: the field's name. E18: the value's name. E19 to E23: the name of the field that
+    /// was to be set. E26: the name in the constant with its brackets. E28: `uninterpreted_option`.
     pub what: String,
 }
 
@@ -95,22 +94,12 @@ pub enum ElabErrorKind {
     /// A part of an option's name that others follow is a group.
     #[error("E24 GroupStepInOptionName")]
     GroupStepInOptionName,
-    /// A message constant sets an extension.
-    #[error("E25 ExtensionFieldInConstant")]
-    ExtensionFieldInConstant,
     /// A message constant has a type URL.
     #[error("E26 TypeUrlInConstant")]
     TypeUrlInConstant,
-    /// A message constant sets a map.
-    #[error("E27 MapFieldInConstant")]
-    MapFieldInConstant,
     /// The name of an option goes on from `uninterpreted_option`.
     #[error("E28 UninterpretedOptionName")]
     UninterpretedOptionName,
-    /// What has no descriptor. Its word is `option` for a custom option, `import` where the imports are
-    /// 2147483648 or more, and the name of a message where the statements of its body are.
-    #[error("Unsupported")]
-    Unsupported,
 }
 
 /// Why a call that elaborates gave nothing.

@@ -2,6 +2,7 @@
 #![tactic(auto)]
 
 mod convert;
+mod customs;
 mod descriptor;
 mod error;
 mod laws;
@@ -9,6 +10,7 @@ mod linking;
 mod scope;
 
 pub use convert::elaborate;
+pub use customs::{Construct, CustomOptions, NoExtensions};
 pub use descriptor::{
     CType, DescriptorProto, EnumDescriptorProto, EnumOptions, EnumReservedRange,
     EnumValueDescriptorProto, EnumValueOptions, ExtensionRange, FieldDescriptorProto, FieldOptions,

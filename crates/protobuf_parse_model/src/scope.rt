@@ -5,7 +5,7 @@ ghost use Rattle.std.specs.Borrow.{Bor};
 ghost use Rattle.std.specs.List.{list_any};
 ghost use Rattle.protobuf_parse_model.specs.Declarations as names;
 ghost use Rattle.protobuf_parse_model.specs.Environment.{type_named};
-ghost use Rattle.protobuf_parse_model.specs.Contexts.{declared_as, environment_in, first_type, meaning_view, seen_types, texts, type_kind};
+ghost use Rattle.protobuf_parse_model.specs.Contexts.{declared_as, names_in, first_type, meaning_view, seen_types, texts, type_kind};
 
 mod declare;
 mod extensions;
@@ -77,7 +77,7 @@ pub fn type_named(
     context: &Context<'_>,
     name: &str,
 ) -> Result<Option<Meaning>, AllocError>
-    ensures { IfOk result (λ m. option_map meaning_view m ≡ type_named (environment_in context.now) name.now) }
+    ensures { IfOk result (λ m. option_map meaning_view m ≡ type_named (names_in context.now) name.now) }
 {
     if name.starts_with('.') {
         let full_name = String::from_str(alloc, name)?;

@@ -5,7 +5,7 @@ use Rattle.std.proofs.lemmas.Str.{IsUtf8-past_char, IsCharBoundary-from_drop, Is
 use Rattle.std.proofs.lemmas.Bool.{false≢true}
 use Rattle.std.proofs.lemmas.List.{map_push}
 use Rattle.protobuf_parse_syntax.specs.declared.lexer.token.Token.{Token}
-use Rattle.protobuf_parse_syntax.specs.Cut.{Cut, Cuts, done, blank, token, located, place_of, out_of_memory}
+use Rattle.protobuf_parse_syntax.specs.Cut.{Cut, Cuts, done, blank, token, located, error_place, out_of_memory}
 use Rattle.protobuf_parse_syntax.specs.Tokens.{Lexeme, lexeme}
 use Rattle.protobuf_parse_syntax.specs.Place.{after}
 use Rattle.protobuf_parse_syntax.specs.declared.error.ParserError.{ParserError}
@@ -13,13 +13,13 @@ use Rattle.protobuf_parse_syntax.specs.declared.error.ParserErrorWithLocation.{P
 use Rattle.protobuf_parse_syntax.specs.declared.lexer.token.Place.{Place}
 use Rattle.std.proofs.lemmas.Bool.Decides.{nat_tests}
 use Rattle.std.proofs.lemmas.Bool.{cases_lt}
-use Rattle.protobuf_parse_syntax.specs.declared.lexer.bytes.Class.TheVariants as class
+use Rattle.protobuf_parse_syntax.specs.declared.lexer.bytes.ByteClass.TheVariants as class
 use Rattle.protobuf_parse_syntax.specs.declared.lexer.token.TokenKind.{TokenKind}
 use Rattle.protobuf_parse_syntax.specs.declared.lexer.token.TokenKind.TheVariants as kind
 use Rattle.protobuf_parse_syntax.specs.Escapes.{chosen}
 use Rattle.protobuf_parse_syntax.proofs.Front.{octal_hex}
 use lib.Utf8.{encode}
-use Rattle.protobuf_parse_syntax.specs.Text.{Bytes, is_in, IsSpaces, IsLine, IsBlock, IsBlank, IsQuote, IsString, IsFloat, IsInteger, is_rest, is_empty, is_symbol, IsToken, IsFault}
+use Rattle.protobuf_parse_syntax.specs.Text.{Bytes, is_in, IsSpaces, IsLine, IsBlock, IsBlank, IsQuote, IsString, IsFloat, IsIntegerText, is_rest, is_empty, is_symbol, IsToken, IsFault}
 
 -- ---- each piece ends after an ASCII byte, or at the end
 
@@ -121,7 +121,7 @@ string_cut z n utf8 t =
     let at : get_or (take (n - 1) (drop 1 z)) (n - 2) 0 ≡ get_or z (n - 1) 0 = get_or-take (n - 1) (drop 1 z) (n - 2) 0 (omega arith) ∙ get_or-drop 1 z (n - 2) 0 ∙ ap (λ k. get_or z k 0) there in
     after_ascii z n utf8 t.some t.within (omega (arith, quote_ascii _ t.quote, sym at ∙ last))
 
-integer_cut : (z : Bytes) (n v : ℕ) → IsUtf8 z → IsInteger z n v → IsCharBoundary z n
+integer_cut : (z : Bytes) (n v : ℕ) → IsUtf8 z → IsIntegerText z n v → IsCharBoundary z n
 integer_cut z n v utf8 (inl d) = after_ascii z n utf8 d.0.some d.0.within (digit_ascii _ (d.0.each (n - 1) (omega arith) (omega (arith, d.0.some))))
 integer_cut z n v utf8 (inr (inl h)) = after_ascii z n utf8 (omega (arith, h.0.some)) h.0.within (hex_ascii _ (h.0.each (n - 1) (omega (arith, h.0.some)) (omega (arith, h.0.some))))
 integer_cut z n v utf8 (inr (inr o)) = after_ascii z n utf8 (omega (arith, o.0.some)) o.0.within (hex_ascii _ (octal_hex z n o.0 (n - 1) (omega (arith, o.0.some)) (omega (arith, o.0.some))))
@@ -145,7 +145,7 @@ float_cut z n utf8 f = after_ascii z n utf8 (omega (arith, f.marked)) f.within (
 symbol_ascii : (b : ℕ) → is_symbol b ≡ true → b < 128
 symbol_ascii b h = grind (arith, nat_tests)
 
-integer_some : (z : Bytes) (n v : ℕ) → IsInteger z n v → (0 < n) × (n ≤ length z)
+integer_some : (z : Bytes) (n v : ℕ) → IsIntegerText z n v → (0 < n) × (n ≤ length z)
 integer_some z n v (inl d) = (d.0.some, d.0.within)
 integer_some z n v (inr (inl h)) = (omega (arith, h.0.some), h.0.within)
 integer_some z n v (inr (inr o)) = (omega (arith, o.0.some), o.0.within)
@@ -200,7 +200,7 @@ pub end_step : (p : Place) (z : Bytes) → length z ≡ 0 → Cut p z [] p []
 end_step p z e = subst (λ x. Cut p x [] p []) (sym (nil_at_end z e)) done
 
 pub refused : (text z : Bytes) (ts : List Lexeme) (e : ParserError) (p : Place) (r : ParserErrorWithLocation) → r ≡ located e p → Cuts text ts p z → IsFault z e →
-    (r ≡ out_of_memory) ⊎ ((us : List Lexeme) × (rest : Bytes) × Cuts text us (place_of r) rest × IsFault rest r.error)
+    (r ≡ out_of_memory) ⊎ ((us : List Lexeme) × (rest : Bytes) × Cuts text us (error_place r) rest × IsFault rest r.error)
 refused text z ts e p r is cut fault =
-    let P : ParserErrorWithLocation → Type 0 = λ x. (x ≡ out_of_memory) ⊎ ((us : List Lexeme) × (rest : Bytes) × Cuts text us (place_of x) rest × IsFault rest x.error) in
+    let P : ParserErrorWithLocation → Type 0 = λ x. (x ≡ out_of_memory) ⊎ ((us : List Lexeme) × (rest : Bytes) × Cuts text us (error_place x) rest × IsFault rest x.error) in
     subst P (sym is) (inr (ts, z, cut, fault))

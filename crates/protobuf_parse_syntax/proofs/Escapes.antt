@@ -5,10 +5,10 @@ use Rattle.protobuf_parse_syntax.specs.Text.{Bytes, is_in, AllIn}
 use Rattle.protobuf_parse_syntax.specs.Tokens.{IsEscape, Decodes, done, plain, escape, DecodesAll, none, piece}
 use Rattle.protobuf_parse_syntax.specs.Decoding.{HasNoEscape, IsPart}
 use Rattle.protobuf_parse_syntax.specs.Escapes.{one_escape}
-use Rattle.protobuf_parse_syntax.specs.declared.lexer.bytes.Class.{Class}
+use Rattle.protobuf_parse_syntax.specs.declared.lexer.bytes.ByteClass.{ByteClass}
 
 -- the digits of a front are those of the whole
-pub digits_of_front : (c : Class) (z : Bytes) (i n r : ℕ) → n ≤ r → ((k : ℕ) → i ≤ k → k < r → is_in c (slice_index (take n z) k) ≡ true) → AllIn c z i n
+pub digits_of_front : (c : ByteClass) (z : Bytes) (i n r : ℕ) → n ≤ r → ((k : ℕ) → i ≤ k → k < r → is_in c (slice_index (take n z) k) ≡ true) → AllIn c z i n
 digits_of_front c z i n r less passes k after before = subst (λ b. is_in c b ≡ true) (get_or-take n z k 0 before) (passes k after (omega arith))
 
 -- ---- a piece, decoded up to a rest

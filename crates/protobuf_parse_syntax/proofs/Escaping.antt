@@ -8,9 +8,9 @@ use Rattle.std.proofs.lemmas.Str.{digit_value_digit}
 use Rattle.protobuf_parse_syntax.specs.Text.{Bytes, is_in, AllIn}
 use Rattle.protobuf_parse_syntax.specs.Scan.{closing}
 use Rattle.protobuf_parse_syntax.specs.Tokens.{IsEscape, letter, octal, Decodes, done, plain, escape}
-use Rattle.protobuf_parse_syntax.specs.Escaped.{escaped_byte, escaped_bytes}
+use Rattle.protobuf_parse_base.specs.Escapes.{escaped_byte, escaped_bytes}
 use Rattle.protobuf_parse_syntax.specs.Laws.{EscapedBytesDecode}
-use Rattle.protobuf_parse_syntax.specs.declared.lexer.bytes.Class.TheVariants as class
+use Rattle.protobuf_parse_syntax.specs.declared.lexer.bytes.ByteClass.TheVariants as class
 use Rattle.protobuf_parse_syntax.proofs.Quotes.{unquoted-quoted}
 use Rattle.protobuf_parse_syntax.proofs.Front.{string_answer, long_string}
 

@@ -1,6 +1,8 @@
 -- What the reader of a file gives, said of the grammar.
 use Rattle.std.proofs.Common.{◌≡◌, ℕ, ◌<◌, List, [], ◌∷◌, ◌++◌, length, true, false, Result, Ok, Err, IfOk, IfErr, refl, sym, ap, subst, ◌∙◌, inl, inr, ◌⊎◌}
-use Rattle.protobuf_parse_base.specs.Readers.{Rest, end, token, onto, onto-append, read, stuck, wrong, Begins}
+use Rattle.protobuf_parse_base.specs.Readers.{Rest, end, token, onto, onto-append, read, stuck, wrong, Begins, starts}
+use Rattle.protobuf_parse_base.specs.Relations.{BeginsOtherwise}
+use Rattle.protobuf_parse_syntax.proofs.Strings.{str_ends}
 use Rattle.protobuf_parse_base.specs.Conditions.{mark_of}
 use Rattle.protobuf_parse_base.specs.Whole.{whole, StopsAt, left_whole, local_stuck, local_wrong, deep_found, deep_only, deep_wrong, deep_never, deep_stops, deep_leaves}
 use Rattle.protobuf_parse_syntax.specs.Text.{Bytes}
@@ -11,9 +13,9 @@ use Rattle.protobuf_parse_syntax.specs.Grammar.{IsFile, IsStr, place_of}
 use Rattle.protobuf_parse_syntax.specs.Productions as parse
 use Rattle.protobuf_parse_syntax.specs.Nested as nest
 use Rattle.protobuf_parse_syntax.specs.Readings.{steady-near}
-use Rattle.protobuf_parse_syntax.specs.Parsing.{HasTree, NoTree, StandsAt, LargeToken, NextPart, Floats, WrongStrings, SaysNothing, IsFault}
+use Rattle.protobuf_parse_syntax.specs.Parsing.{HasTree, NoTree, StandsAt, LargeToken, NextPart, Floats, WrongStrings, SaysNothing, IsGrammarFault}
 use Rattle.protobuf_parse_syntax.specs.Code.{Stands, Tells, Fails, Failure, at, failed, SaysNot, SignedFloat, IsLargeNext, comes, is_end, RefusesFile, error_at}
-use Rattle.protobuf_parse_syntax.specs.Cut.{Stream, HasTokens, out_of_memory, place_of as place_at}
+use Rattle.protobuf_parse_syntax.specs.Cut.{Stream, HasTokens, out_of_memory, error_place as place_at}
 use Rattle.protobuf_parse_syntax.specs.declared.error.ParserErrorWithLocation.{ParserErrorWithLocation}
 use Rattle.protobuf_parse_syntax.specs.declared.parser.refusal.Refusal.{Refusal}
 use Rattle.protobuf_parse_syntax.specs.declared.parser.refusal.Refusal.TheVariants.{Memory, Next, Here}
@@ -62,10 +64,16 @@ part_at ts used m dot (token t rest) e d h =
     let parts : whole ts m ≡ onto (used ++ dot ∷ []) (token t rest) = e ∙ sym (onto-append used (dot ∷ []) (token t rest)) in
     stands_at NextPart ts (used ++ dot ∷ []) m t rest parts (λ back f. (used, dot, refl, d, h))
 
-strings_next : (used used' : List Lexeme) (m : Place) (e : ParserError) (t : Lexeme) (rest us : Rest Lexeme Place) (pieces : Pieces) → token t rest ≡ onto used' us → IsStr used' pieces → SaysNothing pieces e → (back : List Lexeme) → rest ≡ whole back m → WrongStrings e used t back
-strings_next used used' m e t rest us pieces f is says back g =
+-- what is left does not begin with a string
+no_more : (others : List Lexeme) (m : Place) (us : Rest Lexeme Place) → us ≡ whole others m → starts lexicon (text ∷ []) us ≡ false → BeginsOtherwise (is_one_of (text ∷ [])) others
+unfolding starts
+no_more [] m us e h = tt
+no_more (t ∷ others) m us e h = rw e at h
+
+strings_next : (used used' : List Lexeme) (m : Place) (e : ParserError) (t : Lexeme) (rest us : Rest Lexeme Place) (pieces : Pieces) → token t rest ≡ onto used' us → IsStr used' pieces → starts lexicon (text ∷ []) us ≡ false → SaysNothing pieces e → (back : List Lexeme) → rest ≡ whole back m → WrongStrings e used t back
+strings_next used used' m e t rest us pieces f is ends says back g =
     let k = left_whole (t ∷ back) used' m us (sym (ap (token t) g) ∙ f) in
-    record { strings = used'; others = k.0; pieces = pieces; parts = k.2; is = is; says = says }
+    record { strings = used'; others = k.0; pieces = pieces; parts = k.2; is = is; last = no_more k.0 m us k.1 ends; says = says }
 
 strings_at : (ts used : List Lexeme) (m : Place) (e : ParserError) (after rest : Rest Lexeme Place) (pieces : Pieces) → whole ts m ≡ onto used after → parse.str.run after ≡ read pieces rest → SaysNothing pieces e → StandsAt (WrongStrings e) ts (mark_of place_of after)
 strings_at ts used m e (end n) rest pieces parts h says =
@@ -77,7 +85,7 @@ strings_at ts used m e (end n) rest pieces parts h says =
     no_strings (u ∷ us) f b = absurd cc
 strings_at ts used m e (token t us) rest pieces parts h says =
     let l = parse.str.sound (token t us) pieces rest h in
-    stands_at (WrongStrings e) ts used m t us parts (strings_next used l.used m e t us rest pieces l.parts l.holds says)
+    stands_at (WrongStrings e) ts used m t us parts (strings_next used l.used m e t us rest pieces l.parts l.holds (str_ends (token t us) rest pieces h) says)
 
 dotted : (t : Lexeme) → sees (symbol 46) t ≡ true → is_one_of (symbol 46 ∷ []) t ≡ true
 dotted t h = rw h refl
@@ -109,13 +117,13 @@ module _ (ts : List Lexeme) (m : Place) (n : ℕ) where
     none_if_wrong rest e t w = deep_wrong (λ i. (nest.file i).low) (steady-near nest.file nest.file-same) refl n ts m rest t enough e w
 
     -- the tokens cannot stand there
-    next_fault : (e : ParserError) (after : Rest Lexeme Place) → (nest.files n).low.run (whole ts m) ≡ stuck after → Stands e after → IsFault ts m e (mark_of place_of after)
+    next_fault : (e : ParserError) (after : Rest Lexeme Place) → (nest.files n).low.run (whole ts m) ≡ stuck after → Stands e after → IsGrammarFault ts m e (mark_of place_of after)
     next_fault e after h stands =
         let stop = deep_stops (λ i. (nest.file i).low) (steady-near nest.file nest.file-same) refl n ts m after enough h in
         let l = local_stuck (nest.file n).low refl (whole ts m) after h in
         go e stop l.used l.parts stands
       where
-        go : (e : ParserError) → StopsAt place_of IsFile ts m (mark_of place_of after) → (used : List Lexeme) → whole ts m ≡ onto used after → Stands e after → IsFault ts m e (mark_of place_of after)
+        go : (e : ParserError) → StopsAt place_of IsFile ts m (mark_of place_of after) → (used : List Lexeme) → whole ts m ≡ onto used after → Stands e after → IsGrammarFault ts m e (mark_of place_of after)
         go error.IncorrectInput stop used parts s = stop
         go error.ExpectConstant stop used parts s = stop
         go error.LabelNotAllowed stop used parts s = stop
@@ -161,7 +169,7 @@ module _ (ts : List Lexeme) (m : Place) (n : ℕ) where
         (none_if_stuck (token dot after) w, part_at ts l.used m dot after l.parts d c)
 
     -- the part that begins there has the fault
-    here_fault : (e : ParserError) (after : Rest Lexeme Place) (f : Failure) → (nest.files n).low.run (whole ts m) ≡ failed f → Tells e after f → IsFault ts m e (mark_of place_of after)
+    here_fault : (e : ParserError) (after : Rest Lexeme Place) (f : Failure) → (nest.files n).low.run (whole ts m) ≡ failed f → Tells e after f → IsGrammarFault ts m e (mark_of place_of after)
     here_fault error.FloatConstant after f h t = sign_fault after f h t
     here_fault error.OptionNameTooLong after f h t = part_fault after f t.0 h (dotted t.0 t.1) t.2 t.3
     here_fault error.UnknownSyntax after f h t = strings_fault error.UnknownSyntax after f h t
@@ -189,7 +197,7 @@ module _ (ts : List Lexeme) (m : Place) (n : ℕ) where
     refused (Next e) after h = next_fault e after h.0 h.1
     refused (Here e) after h = here_fault e after h.0 h.1 h.2
 
-pub told : (ts : List Lexeme) (m : Place) (e : Refusal) (next : Place) (r : ParserErrorWithLocation) → RefusesFile ts m e next → r ≡ error_at e next → (r ≡ out_of_memory) ⊎ IsFault ts m r.error (place_at r)
+pub told : (ts : List Lexeme) (m : Place) (e : Refusal) (next : Place) (r : ParserErrorWithLocation) → RefusesFile ts m e next → r ≡ error_at e next → (r ≡ out_of_memory) ⊎ IsGrammarFault ts m r.error (place_at r)
 told ts m Memory next r h e = inl e
 told ts m (Next x) next r h e = inr (rw e h)
 told ts m (Here x) next r h e = inr (rw e h)
@@ -197,7 +205,7 @@ told ts m (Here x) next r h e = inr (rw e h)
 -- ---- a text
 
 -- where a fault stands there is no tree
-pub fault_none : (ts : List Lexeme) (last place : Place) (e : ParserError) → IsFault ts last e place → NoTree ts
+pub fault_none : (ts : List Lexeme) (last place : Place) (e : ParserError) → IsGrammarFault ts last e place → NoTree ts
 fault_none ts last place error.IncorrectInput h = no_tree_behind ts last place h
 fault_none ts last place error.ExpectConstant h = no_tree_behind ts last place h
 fault_none ts last place error.LabelNotAllowed h = no_tree_behind ts last place h
@@ -228,7 +236,7 @@ module _ (text : Bytes) (s : Stream) (same : (v : Stream) → HasTokens text v �
   only_of (Ok t) h = λ u w. h u (its_tree u w)
   only_of (Err e) h = h
 
-  pub none_of : (r : Result FileTree ParserErrorWithLocation) → IfErr r (λ e. (e ≡ out_of_memory) ⊎ IsFault s.tokens s.end e.error (place_at e)) → IfErr r (λ e. (e ≡ out_of_memory) ⊎ ((u : FileSyntax) → HasTree text u → ⊥))
+  pub none_of : (r : Result FileTree ParserErrorWithLocation) → IfErr r (λ e. (e ≡ out_of_memory) ⊎ IsGrammarFault s.tokens s.end e.error (place_at e)) → IfErr r (λ e. (e ≡ out_of_memory) ⊎ ((u : FileSyntax) → HasTree text u → ⊥))
   none_of (Ok t) h = h
   none_of (Err e) (inl h) = inl h
   none_of (Err e) (inr h) = inr (λ u w. fault_none s.tokens s.end (place_at e) e.error h u (its_tree u w))

@@ -6,10 +6,10 @@ use Rattle.std.proofs.Math.Nat.{mul-le-mul_left}
 use Rattle.std.proofs.lemmas.Int.Digits.{digits_value_more}
 use Rattle.std.proofs.lemmas.Bool.{false≢true, cases_lt}
 use Rattle.std.proofs.lemmas.Bool.Decides.{nat_tests}
-use Rattle.protobuf_parse_syntax.specs.declared.lexer.bytes.Class.TheVariants as class
+use Rattle.protobuf_parse_syntax.specs.declared.lexer.bytes.ByteClass.TheVariants as class
 use Rattle.protobuf_parse_syntax.specs.Scan.{closing, EndsFraction, BeginsNumber}
 use Rattle.protobuf_parse_syntax.specs.Escapes.{chosen}
-use Rattle.protobuf_parse_syntax.specs.Text.{Bytes, is_in, AllIn, StopsAt, IsQuote, IsIdent, IsString, IsDecimal, IsHex, IsOctal, IsLetterE, IsExponent, IsFloat, IsNumber, IsInteger, IsLiteral, IsLongest, Longest, NoFront, is_rest, is_empty}
+use Rattle.protobuf_parse_syntax.specs.Text.{Bytes, is_in, AllIn, RunStopsAt, IsQuote, IsIdentText, IsString, IsDecimal, IsHex, IsOctal, IsLetterE, IsExponent, IsFloat, IsNumberText, IsIntegerText, IsLiteral, IsLongest, Longest, NoFront, is_rest, is_empty}
 
 -- more digits spell no less
 pub after_ge : (radix n : ℕ) (ds : List ℕ) → 1 ≤ radix → n ≤ digits_value_after radix n ds
@@ -89,7 +89,7 @@ float_first z n f =
           ]
     ]
 
-pub number_first : (z : Bytes) (m : ℕ) → IsNumber z m → BeginsNumber z
+pub number_first : (z : Bytes) (m : ℕ) → IsNumberText z m → BeginsNumber z
 number_first z m (inl d) = inl (d.each 0 (omega arith) (omega (arith, d.some)))
 number_first z m (inr (inl h)) = inl (zero_is_digit _ h.first)
 number_first z m (inr (inr (inl h))) = inl (zero_is_digit _ h.first)
@@ -151,12 +151,12 @@ hex_no_float z m n f h =
 
 -- ---- the longest of one kind is the longest of all
 
-pub long_number : (z : Bytes) (n : ℕ) → BeginsNumber z → ((m : ℕ) → IsNumber z m → m ≤ n) → IsLongest z n
+pub long_number : (z : Bytes) (n : ℕ) → BeginsNumber z → ((m : ℕ) → IsNumberText z m → m ≤ n) → IsLongest z n
 long_number z n begins most m (inl w) = absurd (begins_no_ident z begins (w.each 0 (omega arith) (omega (arith, w.some))) w.first)
 long_number z n begins most m (inr (inl t)) = absurd (begins_no_quote z begins t.quote)
 long_number z n begins most m (inr (inr d)) = most m d
 
-pub long_ident : (z : Bytes) (n : ℕ) → is_in class.Ident (slice_index z 0) ≡ true → is_in class.Digit (slice_index z 0) ≡ false → Longest IsIdent z n → IsLongest z n
+pub long_ident : (z : Bytes) (n : ℕ) → is_in class.Ident (slice_index z 0) ≡ true → is_in class.Digit (slice_index z 0) ≡ false → Longest IsIdentText z n → IsLongest z n
 long_ident z n word no_digit most m (inl w) = most.1 m w
 long_ident z n word no_digit most m (inr (inl t)) = absurd (quote_is_no_ident _ t.quote word)
 long_ident z n word no_digit most m (inr (inr d)) = absurd (begins_no_ident z (number_first z m d) word no_digit)
@@ -264,12 +264,12 @@ string_answer z (Some n) some quote e =
 
 -- ---- numbers
 
-pub number_from_integer : (z : Bytes) (n v : ℕ) → IsInteger z n v → IsNumber z n
+pub number_from_integer : (z : Bytes) (n v : ℕ) → IsIntegerText z n v → IsNumberText z n
 number_from_integer z n v (inl d) = inl d.0
 number_from_integer z n v (inr (inl h)) = inr (inl h.0)
 number_from_integer z n v (inr (inr o)) = inr (inr (inl o.0))
 
-hex_most : (z : Bytes) (n : ℕ) → NoFront IsFloat z → Longest IsHex z n → (m : ℕ) → IsNumber z m → m ≤ n
+hex_most : (z : Bytes) (n : ℕ) → NoFront IsFloat z → Longest IsHex z n → (m : ℕ) → IsNumberText z m → m ≤ n
 hex_most z n no_float hex m (inl d) = omega (arith, d.zero_alone hex.0.first, hex.0.some)
 hex_most z n no_float hex m (inr (inl h)) = hex.1 m h
 hex_most z n no_float hex m (inr (inr (inl o))) = absurd (x_no_digit (slice_index z 1) hex.0.second (octal_digits z m o 1 (omega arith) (omega (arith, o.some))))
@@ -278,7 +278,7 @@ hex_most z n no_float hex m (inr (inr (inr f))) = absurd (no_float m f)
 pub long_hex : (z : Bytes) (n : ℕ) → NoFront IsFloat z → Longest IsHex z n → IsLongest z n
 long_hex z n no_float hex = long_number z n (inl (zero_is_digit _ hex.0.first)) (hex_most z n no_float hex)
 
-octal_most : (z : Bytes) (n : ℕ) → NoFront IsFloat z → NoFront IsHex z → Longest IsOctal z n → (m : ℕ) → IsNumber z m → m ≤ n
+octal_most : (z : Bytes) (n : ℕ) → NoFront IsFloat z → NoFront IsHex z → Longest IsOctal z n → (m : ℕ) → IsNumberText z m → m ≤ n
 octal_most z n no_float no_hex octal m (inl d) = omega (arith, d.zero_alone octal.0.first, octal.0.some)
 octal_most z n no_float no_hex octal m (inr (inl h)) = absurd (no_hex m h)
 octal_most z n no_float no_hex octal m (inr (inr (inl o))) = octal.1 m o
@@ -287,7 +287,7 @@ octal_most z n no_float no_hex octal m (inr (inr (inr f))) = absurd (no_float m 
 pub long_octal : (z : Bytes) (n : ℕ) → NoFront IsFloat z → NoFront IsHex z → Longest IsOctal z n → IsLongest z n
 long_octal z n no_float no_hex octal = long_number z n (inl (zero_is_digit _ octal.0.first)) (octal_most z n no_float no_hex octal)
 
-decimal_most : (z : Bytes) (n : ℕ) → NoFront IsFloat z → NoFront IsHex z → NoFront IsOctal z → Longest IsDecimal z n → (m : ℕ) → IsNumber z m → m ≤ n
+decimal_most : (z : Bytes) (n : ℕ) → NoFront IsFloat z → NoFront IsHex z → NoFront IsOctal z → Longest IsDecimal z n → (m : ℕ) → IsNumberText z m → m ≤ n
 decimal_most z n no_float no_hex no_octal decimal m (inl d) = decimal.1 m d
 decimal_most z n no_float no_hex no_octal decimal m (inr (inl h)) = absurd (no_hex m h)
 decimal_most z n no_float no_hex no_octal decimal m (inr (inr (inl o))) = absurd (no_octal m o)
@@ -296,7 +296,7 @@ decimal_most z n no_float no_hex no_octal decimal m (inr (inr (inr f))) = absurd
 pub long_decimal : (z : Bytes) (n : ℕ) → NoFront IsFloat z → NoFront IsHex z → NoFront IsOctal z → Longest IsDecimal z n → IsLongest z n
 long_decimal z n no_float no_hex no_octal decimal = long_number z n (number_first z n (inl decimal.0)) (decimal_most z n no_float no_hex no_octal decimal)
 
-float_most : (z : Bytes) (n : ℕ) → Longest IsFloat z n → (m : ℕ) → IsNumber z m → m ≤ n
+float_most : (z : Bytes) (n : ℕ) → Longest IsFloat z n → (m : ℕ) → IsNumberText z m → m ≤ n
 float_most z n float m (inl d) = digits_below z m n float.0 d.each
 float_most z n float m (inr (inl h)) = absurd (hex_no_float z m n float.0 h)
 float_most z n float m (inr (inr (inl o))) = digits_below z m n float.0 (octal_digits z m o)
@@ -330,7 +330,7 @@ digit_begins z (inr h) none = absurd (none 2 (point_float z h.0 h.1))
 -- ---- floats
 
 -- the digits that stand there and the longest fraction after them
-module _ (z : Bytes) (whole point : ℕ) (each : AllIn class.Digit z 0 whole) (stops : StopsAt class.Digit z whole) (fraction : EndsFraction z whole point) where
+module _ (z : Bytes) (whole point : ℕ) (each : AllIn class.Digit z 0 whole) (stops : RunStopsAt class.Digit z whole) (fraction : EndsFraction z whole point) where
   within_float : (n : ℕ) (f : IsFloat z n) → f.point ≤ n
   within_float n f = elim f.exponent [ inl e ↦ omega arith | inr x ↦ elim x.begins [ inl b ↦ omega (arith, x.some) | inr b ↦ omega (arith, x.some, b.0) ] ]
 

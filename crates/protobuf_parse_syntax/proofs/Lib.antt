@@ -5,6 +5,11 @@ pub mod Unique
 pub mod Refusals
 pub mod Depth
 pub mod Sizes
+pub mod Counting
+pub mod Counts
+pub mod Balance
+pub mod Nesting
+pub mod Depths
 pub mod Imports
 pub mod Formats
 pub mod Escapes

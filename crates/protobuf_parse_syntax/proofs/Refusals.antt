@@ -4,7 +4,7 @@ use Rattle.std.proofs.lemmas.Bool.{cases_lt}
 use Rattle.protobuf_parse_syntax.specs.Text.{Bytes, IsFault}
 use Rattle.protobuf_parse_syntax.specs.Place.{start}
 use Rattle.protobuf_parse_syntax.specs.Tokens.{Lexeme, IsShallow, DeepensAt}
-use Rattle.protobuf_parse_syntax.specs.Cut.{Cuts, IsShort, Stream, stream, HasTokens, IsRefused, located, place_of, out_of_memory, Reads, Refuses}
+use Rattle.protobuf_parse_syntax.specs.Cut.{Cuts, IsShort, Stream, stream, HasTokens, IsRefused, located, error_place, out_of_memory, Reads, Refuses}
 use Rattle.protobuf_parse_syntax.specs.declared.error.ParserError.{ParserError}
 use Rattle.protobuf_parse_syntax.specs.declared.error.ParserError.TheVariants as error
 use Rattle.protobuf_parse_syntax.specs.declared.error.ParserErrorWithLocation.{ParserErrorWithLocation}
@@ -73,14 +73,14 @@ one_refusal text e f p q (inr (inr a)) (inr (inr b)) =
     let same = one_cut text a.1.0 b.1.0 p q a.1.1 b.1.1 a.1.2 (inr (e, a.1.3)) b.1.2 (inr (f, b.1.3)) in
     (one_fault b.1.1 e f (subst (λ z. IsFault z e) same.2 a.1.3) b.1.3, same.1)
 
-pub reads : (text : Bytes) (r : Result TokenStream ParserErrorWithLocation) → IfOk r (λ s. HasTokens text (stream s)) → IfErr r (λ e. (e ≡ out_of_memory) ⊎ IsRefused text e.error (place_of e)) → Reads text r
+pub reads : (text : Bytes) (r : Result TokenStream ParserErrorWithLocation) → IfOk r (λ s. HasTokens text (stream s)) → IfErr r (λ e. (e ≡ out_of_memory) ⊎ IsRefused text e.error (error_place e)) → Reads text r
 reads text (Ok t) ok err s has = one_read text (stream t) s ok has
 reads text (Err e) ok (inl h) s has = h
-reads text (Err e) ok (inr h) s has = absurd (no_both text s e.error (place_of e) has (ways text e.error (place_of e) h))
+reads text (Err e) ok (inr h) s has = absurd (no_both text s e.error (error_place e) has (ways text e.error (error_place e) h))
 
-pub refuses : (text : Bytes) (r : Result TokenStream ParserErrorWithLocation) → IfOk r (λ s. HasTokens text (stream s)) → IfErr r (λ e. (e ≡ out_of_memory) ⊎ IsRefused text e.error (place_of e)) → Refuses text r
+pub refuses : (text : Bytes) (r : Result TokenStream ParserErrorWithLocation) → IfOk r (λ s. HasTokens text (stream s)) → IfErr r (λ e. (e ≡ out_of_memory) ⊎ IsRefused text e.error (error_place e)) → Refuses text r
 refuses text (Ok t) ok err e at is = no_both text (stream t) e at ok (ways text e at is)
 refuses text (Err f) ok (inl h) e at is = inl h
 refuses text (Err f) ok (inr h) e at is =
-    let same = one_refusal text f.error e (place_of f) at (ways text f.error (place_of f) h) (ways text e at is) in
-    inr (ap (λ x. located x (place_of f)) same.0 ∙ ap (λ x. located e x) same.1)
+    let same = one_refusal text f.error e (error_place f) at (ways text f.error (error_place f) h) (ways text e at is) in
+    inr (ap (λ x. located x (error_place f)) same.0 ∙ ap (λ x. located e x) same.1)

@@ -1,9 +1,9 @@
 -- What a string says, and what it does not.
-use Rattle.std.proofs.Common.{◌≡◌, Option, Some, None, codes, refl, ap, ◌∙◌, subst, inl, inr, rules}
+use Rattle.std.proofs.Common.{◌≡◌, ◌<◌, ℕ, zero, suc, [], ◌∷◌, Bool, true, false, cond, arith, sym, Option, Some, None, codes, refl, ap, ◌∙◌, subst, inl, inr, rules}
 use Rattle.std.specs.Str.{IsUtf8}
 use Rattle.std.proofs.lemmas.Str.{IsUtf8-from_ascii}
-use Rattle.protobuf_parse_base.specs.Paths.{IsProtoPath}
-use Rattle.protobuf_parse_base.specs.Readers.{Rest, Read, read, stuck, wrong, deep, bind, bind_read, read_parts}
+use Rattle.protobuf_parse_base.specs.Paths.{IsProtoPath, path_fault}
+use Rattle.protobuf_parse_base.specs.Readers.{Rest, Read, read, stuck, wrong, deep, bind, bind_read, read_parts, size, starts, run_many, many-law, shorter, with_first}
 use Rattle.protobuf_parse_base.specs.Conditions.{meaning}
 use Rattle.protobuf_parse_base.specs.declared.proto_path.error.PathError.{PathError}
 use Rattle.protobuf_parse_syntax.specs.Text.{Bytes}
@@ -13,7 +13,8 @@ use Rattle.protobuf_parse_syntax.specs.Trees.{Pieces}
 use Rattle.protobuf_parse_syntax.specs.Readings.{finding}
 use Rattle.protobuf_parse_syntax.specs.Grammar.{StandsFor, SaysVersion, SaysPath, name_of}
 use Rattle.protobuf_parse_syntax.specs.Decoder.{text_of, text-to, text-from, version_of, version-to, version-from, path_of, path-to, path-from}
-use Rattle.protobuf_parse_syntax.specs.Productions.{str, reserved_name, version, path}
+use Rattle.protobuf_parse_syntax.specs.Productions.{str, piece, reserved_name, version, path}
+use Rattle.protobuf_parse_syntax.specs.Classes.{lexicon, text as string_token}
 use Rattle.protobuf_parse_syntax.specs.Code.{Failure, at, off, too_deep, failed, Fails, refusal_of}
 use Rattle.protobuf_parse_syntax.specs.declared.lexer.token.Place.{Place}
 use Rattle.protobuf_parse_syntax.specs.declared.lexer.str_lit.StrLitDecodeError.{StrLitDecodeError}
@@ -50,10 +51,34 @@ unfolding reserved_name
 fails_text ts us zs decoding.Memory is h = tt
 fails_text ts us zs decoding.BadEscape is h =
     let no_text = refused_text zs decoding.BadEscape h (λ e. cc) in
-    (off ts, says_nothing StandsFor text_of text-to text-from ts us zs is no_text, (zs, us, is, λ v d u. no_text v (d, u), refl))
+    (off ts, says_nothing StandsFor text_of text-to text-from ts us zs is no_text, (zs, us, is, no_text, refl))
 fails_text ts us zs decoding.NotUtf8 is h =
     let no_text = refused_text zs decoding.NotUtf8 h (λ e. cc) in
-    (off ts, says_nothing StandsFor text_of text-to text-from ts us zs is no_text, (zs, us, is, λ v d u. no_text v (d, u), refl))
+    (off ts, says_nothing StandsFor text_of text-to text-from ts us zs is no_text, (zs, us, is, no_text, refl))
+
+-- ---- where a string ends
+
+pieces_end : (k : ℕ) (ts us : Rest Lexeme Place) (zs : Pieces) → size ts < k → run_many piece ts ≡ read zs us → starts lexicon (string_token ∷ []) us ≡ false
+pieces_end zero ts us zs less e = absurd (omega (arith, less))
+pieces_end (suc k) ts us zs less e = go (starts lexicon (string_token ∷ []) ts) refl (pieces_end k) (sym (many-law piece refl ts) ∙ e)
+  where
+    go : (b : Bool) → starts lexicon (string_token ∷ []) ts ≡ b → ((vs ws : Rest Lexeme Place) (ys : Pieces) → size vs < k → run_many piece vs ≡ read ys ws → starts lexicon (string_token ∷ []) ws ≡ false) → cond b (bind (piece.run ts) (λ a vs. with_first a (run_many piece vs))) (read [] ts) ≡ read zs us → starts lexicon (string_token ∷ []) us ≡ false
+    go true h again e =
+        let x = bind_read (piece.run ts) (λ a vs. with_first a (run_many piece vs)) zs us e in
+        let y = bind_read (run_many piece x.1) (λ others ws. read (x.0 ∷ others) ws) zs us x.3 in
+        let p = read_parts (x.0 ∷ y.0) zs y.1 us y.3 in
+        let l = shorter piece refl ts x.0 x.1 x.2 in
+        subst (λ v. starts lexicon (string_token ∷ []) v ≡ false) p.1 (again x.1 y.1 y.0 (omega (arith, l, less)) y.2)
+    go false h again e = let p = read_parts [] zs ts us e in subst (λ v. starts lexicon (string_token ∷ []) v ≡ false) p.1 h
+
+-- no string comes behind a string
+pub str_ends : (ts us : Rest Lexeme Place) (zs : Pieces) → str.run ts ≡ read zs us → starts lexicon (string_token ∷ []) us ≡ false
+unfolding str
+str_ends ts us zs e =
+    let x = bind_read (piece.run ts) (λ first vs. bind (run_many piece vs) (λ others ws. read (first ∷ others) ws)) zs us e in
+    let y = bind_read (run_many piece x.1) (λ others ws. read (x.0 ∷ others) ws) zs us x.3 in
+    let p = read_parts (x.0 ∷ y.0) zs y.1 us y.3 in
+    subst (λ v. starts lexicon (string_token ∷ []) v ≡ false) p.1 (pieces_end (suc (size x.1)) x.1 y.1 y.0 (omega arith) y.2)
 
 -- ---- what is said by the text of a string
 
@@ -126,7 +151,7 @@ module _ (ts us : Rest Lexeme Place) (text : Bytes) (is : reserved_name.run ts �
   says_no_version other =
       let x = text_read ts us text is in
       let no_version : (s : Syntax) → SaysVersion x.0 s → ⊥ = λ s d. other s (one_decoding_of_all x.2.0 d) in
-      (off ts, says_nothing SaysVersion version_of version-to version-from ts us x.0 x.1 no_version, (x.0, us, x.1, no_version, refl))
+      (off ts, says_nothing SaysVersion version_of version-to version-from ts us x.0 x.1 no_version, (x.0, us, x.1, (text, x.2, other), refl))
 
   pub says_path : IsProtoPath text → path.run ts ≡ read text us
   unfolding path
@@ -134,9 +159,9 @@ module _ (ts us : Rest Lexeme Place) (text : Bytes) (is : reserved_name.run ts �
       let x = text_read ts us text is in
       says SaysPath path_of path-to path-from ts us x.0 x.1 text (x.2, h)
 
-  pub says_no_path : (fault : PathError) → (IsProtoPath text → ⊥) → Fails (Here (error.BadImportPath fault)) ts (path.run ts)
+  pub says_no_path : (fault : PathError) → path_fault text ≡ Some fault → (IsProtoPath text → ⊥) → Fails (Here (error.BadImportPath fault)) ts (path.run ts)
   unfolding path
-  says_no_path fault other =
+  says_no_path fault its other =
       let x = text_read ts us text is in
       let no_path : (v : Bytes) → DecodesAll x.0 v → IsProtoPath v → ⊥ = λ v d h. other (subst IsProtoPath (one_decoding_of_all d x.2.0) h) in
-      (off ts, says_nothing SaysPath path_of path-to path-from ts us x.0 x.1 (λ v h. no_path v h.0.0 h.1), (x.0, us, x.1, no_path, refl))
+      (off ts, says_nothing SaysPath path_of path-to path-from ts us x.0 x.1 (λ v h. no_path v h.0.0 h.1), (x.0, us, x.1, (text, x.2, its), refl))

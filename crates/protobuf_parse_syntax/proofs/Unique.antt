@@ -2,8 +2,8 @@
 use Rattle.std.proofs.Common.{◌≡◌, ℕ, suc, ◌-◌, ◌<◌, ◌≤◌, Bool, true, false, ◌&&◌, ◌||◌, cond, eqb, List, [], ◌∷◌, length, take, drop, get_or, slice_index, refl, sym, ap, ◌∙◌, subst, inl, inr, ⊎_elim, ◌⊎◌, arith}
 use Rattle.std.proofs.lemmas.Bool.{false≢true, cases_lt}
 use Rattle.std.proofs.lemmas.Bool.Decides.{nat_tests}
-use Rattle.protobuf_parse_syntax.specs.declared.lexer.bytes.Class.{Class}
-use Rattle.protobuf_parse_syntax.specs.declared.lexer.bytes.Class.TheVariants as class
+use Rattle.protobuf_parse_syntax.specs.declared.lexer.bytes.ByteClass.{ByteClass}
+use Rattle.protobuf_parse_syntax.specs.declared.lexer.bytes.ByteClass.TheVariants as class
 use Rattle.protobuf_parse_syntax.specs.declared.lexer.front.Piece.{Piece}
 use Rattle.protobuf_parse_syntax.specs.declared.lexer.front.Piece.TheVariants as piece
 use Rattle.protobuf_parse_syntax.specs.declared.lexer.token.TokenKind.{TokenKind}
@@ -11,7 +11,7 @@ use Rattle.protobuf_parse_syntax.specs.declared.lexer.token.TokenKind.TheVariant
 use Rattle.protobuf_parse_syntax.specs.declared.error.ParserError.{ParserError}
 use Rattle.protobuf_parse_syntax.specs.declared.error.ParserError.TheVariants as error
 use Rattle.protobuf_parse_syntax.specs.Scan.{BeginsNumber, Stands}
-use Rattle.protobuf_parse_syntax.specs.Text.{Bytes, is_in, AllIn, StopsAt, IsSpaces, IsLine, IsBlock, IsBlank, IsQuote, IsIdent, IsString, IsHex, IsOctal, IsFloat, IsNumber, IsInteger, IsLiteral, IsLongest, NoFront, HasNoComment, is_empty, is_symbol, IsToken, IsFault}
+use Rattle.protobuf_parse_syntax.specs.Text.{Bytes, is_in, AllIn, RunStopsAt, IsSpaces, IsLine, IsBlock, IsBlank, IsQuote, IsIdentText, IsString, IsHex, IsOctal, IsFloat, IsNumberText, IsIntegerText, IsLiteral, IsLongest, NoFront, HasNoComment, is_empty, is_symbol, IsToken, IsFault}
 use Rattle.protobuf_parse_syntax.specs.Cut.{Cut, done, blank, token}
 use Rattle.protobuf_parse_syntax.specs.Tokens.{Lexeme}
 use Rattle.protobuf_parse_syntax.specs.Place.{after}
@@ -151,7 +151,7 @@ quote_sort z (inr a) = let e = not_empty_at z 0 38 a in rw (e, a) refl
 and_bytes : (b c j k : ℕ) → (eqb b j && eqb c k) ≡ true → (b ≡ j) × (c ≡ k)
 and_bytes b c j k h = (grind (arith, nat_tests), grind (arith, nat_tests))
 
-one_each : (c : Class) (z : Bytes) → is_in c (get_or z 0 0) ≡ true → AllIn c z 0 1
+one_each : (c : ByteClass) (z : Bytes) → is_in c (get_or z 0 0) ≡ true → AllIn c z 0 1
 one_each c z h k after before = let zero_is : 0 ≡ k = omega arith in subst (λ i. is_in c (get_or z i 0) ≡ true) zero_is h
 
 no_digit : (z : Bytes) → 0 < length z → NoFront IsLiteral z → is_in class.Digit (get_or z 0 0) ≡ false
@@ -213,7 +213,7 @@ At space z p = (n : ℕ) × (p ≡ piece.Blank n) × IsSpaces z n
 At line z p = (n : ℕ) × (p ≡ piece.Blank n) × IsLine z n
 At block z p = ((n : ℕ) × (p ≡ piece.Blank n) × IsBlock z n) ⊎ ((p ≡ piece.Fault error.UnterminatedComment) × IsFault z error.UnterminatedComment)
 At digit z p = DigitAt z p
-At ident z p = (n : ℕ) × (p ≡ piece.Token n kind.Ident) × IsIdent z n × IsLongest z n
+At ident z p = (n : ℕ) × (p ≡ piece.Token n kind.Ident) × IsIdentText z n × IsLongest z n
 At quote z p = ((n : ℕ) × (p ≡ piece.Token n kind.Str) × IsString z n × IsLongest z n) ⊎ ((p ≡ piece.Fault error.UnterminatedString) × NoFront IsLiteral z)
 At symbol z p = p ≡ piece.Token 1 (kind.Symbol (get_or z 0 0))
 At other z p = p ≡ piece.Fault error.UnexpectedCharacter
@@ -221,13 +221,13 @@ At other z p = p ≡ piece.Fault error.UnexpectedCharacter
 at : (s : Sort) (z : Bytes) (p : Piece) → sort z ≡ s → At s z p → At (sort z) z p
 at s z p e h = subst (λ t. At t z p) (sym e) h
 
-number_some : (z : Bytes) (n : ℕ) → IsNumber z n → (0 < n) × (n ≤ length z)
+number_some : (z : Bytes) (n : ℕ) → IsNumberText z n → (0 < n) × (n ≤ length z)
 number_some z n (inl d) = (d.some, d.within)
 number_some z n (inr (inl h)) = (omega (arith, h.some), h.within)
 number_some z n (inr (inr (inl o))) = (omega (arith, o.some), o.within)
 number_some z n (inr (inr (inr f))) = (omega (arith, f.marked), f.within)
 
-numbered : (z : Bytes) (n : ℕ) → IsNumber z n → sort z ≡ digit
+numbered : (z : Bytes) (n : ℕ) → IsNumberText z n → sort z ≡ digit
 numbered z n is = let b = number_some z n is in digit_sort z (omega arith) (number_first z n is)
 
 view : (z : Bytes) (p : Piece) → Stands z p → At (sort z) z p
@@ -256,7 +256,7 @@ view z (piece.Fault _) f = absurd f
 order : (m n : ℕ) → (m < n → ⊥) → (n < m → ⊥) → m ≡ n
 order m n a b = ⊎_elim (λ h. absurd (a h)) (λ h. ⊎_elim (λ g. absurd (b g)) (λ g. omega arith) (cases_lt n m)) (cases_lt m n)
 
-no_longer : (c : Class) (z : Bytes) (i m n : ℕ) → StopsAt c z m → AllIn c z i n → i ≤ m → n ≤ length z → m < n → ⊥
+no_longer : (c : ByteClass) (z : Bytes) (i m n : ℕ) → RunStopsAt c z m → AllIn c z i n → i ≤ m → n ≤ length z → m < n → ⊥
 no_longer c z i m n stops each after within more = false≢true (sym (stops (omega arith)) ∙ each m after more)
 
 one_spaces : (z : Bytes) (m n : ℕ) → IsSpaces z m → IsSpaces z n → m ≡ n
@@ -274,13 +274,13 @@ one_block z m n a b = order m n (sooner z m n a b) (sooner z n m b a)
 one_long : (z : Bytes) (m n : ℕ) → IsLiteral z m → IsLongest z m → IsLiteral z n → IsLongest z n → m ≡ n
 one_long z m n a p b q = omega (arith, p n b, q m a)
 
-integer_long : (z : Bytes) (n v : ℕ) → IsInteger z n v → IsLiteral z n
+integer_long : (z : Bytes) (n v : ℕ) → IsIntegerText z n v → IsLiteral z n
 integer_long z n v is = inr (inr (number_from_integer z n v is))
 
 octal_no_hex : (z : Bytes) (n m : ℕ) → IsOctal z n → IsHex z m → ⊥
 octal_no_hex z n m o h = x_no_digit (slice_index z 1) h.second (octal_digits z n o 1 (omega arith) (omega (arith, o.some)))
 
-one_value : (z : Bytes) (n v w : ℕ) → IsInteger z n v → IsInteger z n w → v ≡ w
+one_value : (z : Bytes) (n v w : ℕ) → IsIntegerText z n v → IsIntegerText z n w → v ≡ w
 one_value z n v w (inl a) (inl b) = a.1 ∙ sym b.1
 one_value z n v w (inl a) (inr (inl b)) = absurd (omega (arith, a.0.zero_alone b.0.first, b.0.some))
 one_value z n v w (inl a) (inr (inr b)) = absurd (omega (arith, a.0.zero_alone b.0.first, b.0.some))
@@ -291,20 +291,20 @@ one_value z n v w (inr (inr a)) (inl b) = absurd (omega (arith, b.0.zero_alone a
 one_value z n v w (inr (inr a)) (inr (inl b)) = absurd (octal_no_hex z n n a.0 b.0)
 one_value z n v w (inr (inr a)) (inr (inr b)) = a.1 ∙ sym b.1
 
-integer_no_float : (z : Bytes) (n v : ℕ) → IsInteger z n v → IsFloat z n → ⊥
+integer_no_float : (z : Bytes) (n v : ℕ) → IsIntegerText z n v → IsFloat z n → ⊥
 integer_no_float z n v (inl a) f = digits_no_float z n f a.0.each
 integer_no_float z n v (inr (inl a)) f = hex_no_float z n n f a.0
 integer_no_float z n v (inr (inr a)) f = digits_no_float z n f (octal_digits z n a.0)
 
-no_stop : (z : Bytes) (m n : ℕ) → m ≡ n → StopsAt class.Ident z m → n < length z → is_in class.Ident (get_or z n 0) ≡ true → ⊥
-no_stop z m n e stops more letter = false≢true (sym (subst (λ k. StopsAt class.Ident z k) e stops more) ∙ letter)
+no_stop : (z : Bytes) (m n : ℕ) → m ≡ n → RunStopsAt class.Ident z m → n < length z → is_in class.Ident (get_or z n 0) ≡ true → ⊥
+no_stop z m n e stops more letter = false≢true (sym (subst (λ k. RunStopsAt class.Ident z k) e stops more) ∙ letter)
 
 -- an integer that fits is no fault
-no_follows : (z : Bytes) (n v : ℕ) → IsInteger z n v → IsLongest z n → StopsAt class.Ident z n → IsFault z error.BadNumber → ⊥
+no_follows : (z : Bytes) (n v : ℕ) → IsIntegerText z n v → IsLongest z n → RunStopsAt class.Ident z n → IsFault z error.BadNumber → ⊥
 no_follows z n v is long stops f = no_stop z n f.0 (one_long z n f.0 (integer_long z n v is) long (inr (inr f.1)) f.2) stops f.3 f.4
 
-same_integer : (z : Bytes) (m n v w : ℕ) → m ≡ n → IsInteger z m v → IsInteger z n w → v ≡ w
-same_integer z m n v w e a b = one_value z n v w (subst (λ k. IsInteger z k v) e a) b
+same_integer : (z : Bytes) (m n v w : ℕ) → m ≡ n → IsIntegerText z m v → IsIntegerText z n w → v ≡ w
+same_integer z m n v w e a b = one_value z n v w (subst (λ k. IsIntegerText z k v) e a) b
 
 no_too_large : (z : Bytes) (n v : ℕ) → IsToken z n (kind.Integer v) → IsFault z error.IntegerOverflow → ⊥
 no_too_large z n v t f =
@@ -314,7 +314,7 @@ no_too_large z n v t f =
 float_no_follows : (z : Bytes) (n : ℕ) → IsToken z n kind.Float → IsFault z error.BadNumber → ⊥
 float_no_follows z n t f = no_stop z n f.0 (one_long z n f.0 (inr (inr (inr (inr (inr t.0))))) t.1 (inr (inr f.1)) f.2) t.2 f.3 f.4
 
-float_no_integer : (z : Bytes) (m n v : ℕ) → IsFloat z m → IsLongest z m → IsInteger z n v → IsLongest z n → ⊥
+float_no_integer : (z : Bytes) (m n v : ℕ) → IsFloat z m → IsLongest z m → IsIntegerText z n v → IsLongest z n → ⊥
 float_no_integer z m n v f p i q =
     let e = one_long z m n (inr (inr (inr (inr (inr f))))) p (integer_long z n v i) q in
     integer_no_float z n v i (subst (λ k. IsFloat z k) e f)

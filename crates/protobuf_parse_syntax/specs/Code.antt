@@ -8,7 +8,7 @@ use Rattle.protobuf_parse_syntax.specs.Tokens.{Lexeme, lexeme}
 use Rattle.protobuf_parse_syntax.specs.Trees.{Pieces}
 use Rattle.protobuf_parse_syntax.specs.Classes.{Class, sees, symbol, ident, is_one_of, float, is_floating}
 use Rattle.protobuf_parse_syntax.specs.Grammar.{any_ident}
-use Rattle.protobuf_parse_syntax.specs.Parsing.{IsLarge, SaysNothing, IsFault}
+use Rattle.protobuf_parse_syntax.specs.Parsing.{IsLarge, SaysNothing, IsGrammarFault}
 use Rattle.protobuf_parse_syntax.specs.Cut.{out_of_memory, located as located_at}
 use Rattle.protobuf_parse_syntax.specs.Productions as parse
 use Rattle.protobuf_parse_syntax.specs.declared.lexer.token.Place.{Place}
@@ -150,8 +150,8 @@ fails_first {Y = Y} (Here e) after r g h = (h.0, ap (λ (x : Read Lexeme Place Y
 -- what a refusal says of the tokens, where the next one, or the end, stands at `next`
 abbrev pub RefusesFile : List Lexeme → Place → Refusal → Place → Type 0
 RefusesFile ts last Memory next = Unit {0}
-RefusesFile ts last (Next e) next = IsFault ts last e next
-RefusesFile ts last (Here e) next = IsFault ts last e next
+RefusesFile ts last (Next e) next = IsGrammarFault ts last e next
+RefusesFile ts last (Here e) next = IsGrammarFault ts last e next
 
 -- the error of a refusal, where the next token stands at this place
 abbrev pub error_at : Refusal → Place → ParserErrorWithLocation

@@ -14,10 +14,10 @@ use Rattle.protobuf_parse_base.specs.Readers.{and_left, and_right, false_by}
 use Rattle.protobuf_parse_base.specs.declared.proto_path.error.PathError.{PathError}
 use Rattle.protobuf_parse_syntax.specs.Decoding.{NamesByte, NamesNoByte, NamesChar, NamesNoChar, HasEscape, HasNoEscape, IsPart, HasPart, HasNoPart, meaning_bytes}
 use Rattle.protobuf_parse_syntax.specs.Grammar.{StandsFor, SaysVersion, SaysPath}
-use Rattle.protobuf_parse_syntax.specs.Text.{Bytes, is_in, AllIn, StopsAt}
+use Rattle.protobuf_parse_syntax.specs.Text.{Bytes, is_in, AllIn, RunStopsAt}
 use Rattle.protobuf_parse_syntax.specs.Tokens.{letter_byte, IsDigits, IsEscape, letter, Decodes, done, plain, escape, DecodesAll, none, piece}
-use Rattle.protobuf_parse_syntax.specs.declared.lexer.bytes.Class.{Class}
-use Rattle.protobuf_parse_syntax.specs.declared.lexer.bytes.Class.TheVariants as class
+use Rattle.protobuf_parse_syntax.specs.declared.lexer.bytes.ByteClass.{ByteClass}
+use Rattle.protobuf_parse_syntax.specs.declared.lexer.bytes.ByteClass.TheVariants as class
 use Rattle.protobuf_parse_syntax.specs.declared.lexer.str_lit.Meaning.TheVariants as meaning
 use Rattle.protobuf_parse_syntax.specs.declared.lexer.str_lit.Part.{Part}
 use Rattle.protobuf_parse_syntax.specs.declared.tree.Syntax.{Syntax}
@@ -27,12 +27,12 @@ use Rattle.protobuf_parse_syntax.specs.Escapes.{one_digits, one_escape, escape_b
 -- ---- the part at the front
 
 -- how many bytes at the front are in the class
-abbrev pub run : Class → Bytes → ℕ
+abbrev pub run : ByteClass → Bytes → ℕ
 run c [] = 0
 run c (b ∷ bs) = cond (is_in c b) (suc (run c bs)) 0
 
 -- the end of the digits from `from` on, at most up to `limit`
-unfoldable pub digits_end : Class → Bytes → ℕ → ℕ → ℕ
+unfoldable pub digits_end : ByteClass → Bytes → ℕ → ℕ → ℕ
 digits_end c z from limit = from + run c (take (limit - from) (drop from z))
 
 -- a part of n bytes that stands for the byte v or for the character v, if the test holds
@@ -43,7 +43,7 @@ abbrev pub char_if : Bool → ℕ → ℕ → Option Part
 char_if b n v = cond b (Some (record { len = n; meaning = meaning.Char v })) None
 
 -- an escape of digits from `from` on that name a byte
-unfoldable pub byte_part : Class → ℕ → ℕ → Bytes → Option Part
+unfoldable pub byte_part : ByteClass → ℕ → ℕ → Bytes → Option Part
 byte_part c radix from z =
     let n = digits_end c z from 4 in
     let v = digits_value radix (slice_range z from n) in
@@ -103,7 +103,7 @@ decode (z ∷ zs) = both (decode_piece z) (decode zs)
 
 -- ---- digits
 
-run-within : (c : Class) (bs : Bytes) → run c bs ≤ length bs
+run-within : (c : ByteClass) (bs : Bytes) → run c bs ≤ length bs
 run-within c [] = omega arith
 run-within c (b ∷ bs) = go (is_in c b) (run-within c bs)
   where
@@ -111,7 +111,7 @@ run-within c (b ∷ bs) = go (is_in c b) (run-within c bs)
     go true h = omega (arith, h)
     go false h = omega arith
 
-run-each : (c : Class) (bs : Bytes) (k : ℕ) → k < run c bs → is_in c (slice_index bs k) ≡ true
+run-each : (c : ByteClass) (bs : Bytes) (k : ℕ) → k < run c bs → is_in c (slice_index bs k) ≡ true
 run-each c [] k h = absurd (omega (arith, h))
 run-each c (b ∷ bs) k h = go (is_in c b) refl k h (run-each c bs)
   where
@@ -120,7 +120,7 @@ run-each c (b ∷ bs) k h = go (is_in c b) refl k h (run-each c bs)
     go true e zero h f = e
     go true e (suc k) h f = f k (omega (arith, h))
 
-run-stops : (c : Class) (bs : Bytes) → run c bs < length bs → is_in c (slice_index bs (run c bs)) ≡ false
+run-stops : (c : ByteClass) (bs : Bytes) → run c bs < length bs → is_in c (slice_index bs (run c bs)) ≡ false
 run-stops c [] h = absurd (omega (arith, h))
 run-stops c (b ∷ bs) h = go (is_in c b) refl h (run-stops c bs)
   where
@@ -128,7 +128,7 @@ run-stops c (b ∷ bs) h = go (is_in c b) refl h (run-stops c bs)
     go false e h f = e
     go true e h f = f (omega (arith, h))
 
-module _ (c : Class) (z : Bytes) (from limit : ℕ) where
+module _ (c : ByteClass) (z : Bytes) (from limit : ℕ) where
   window : Bytes
   window = take (limit - from) (drop from z)
 
@@ -153,7 +153,7 @@ module _ (c : Class) (z : Bytes) (from limit : ℕ) where
       let h : is_in c (slice_index window (k - from)) ≡ true = run-each c window (k - from) (omega arith) in
       subst (λ (i : ℕ). is_in c (slice_index z i) ≡ true) at (rw (← window-at (k - from) (omega arith)) h)
 
-  end-stops : digits_end c z from limit < limit → StopsAt c z (digits_end c z from limit)
+  end-stops : digits_end c z from limit < limit → RunStopsAt c z (digits_end c z from limit)
   end-stops short within =
       let e = end-is in
       let l = window-length in
@@ -192,7 +192,7 @@ same-to a b h = grind (arith, nat_tests)
 and-both : (a b : Bool) → a ≡ true → b ≡ true → (a && b) ≡ true
 and-both a b e h = rw (e, h) refl
 
-module _ (c : Class) (radix from : ℕ) (z : Bytes) where
+module _ (c : ByteClass) (radix from : ℕ) (z : Bytes) where
   byte-front-at : (n v : ℕ) (t : Bool) → digits_end c z from 4 ≡ n → digits_value radix (slice_range z from n) ≡ v → (nat_le (suc from) n && nat_le v 255) ≡ t → MatchOption (byte_if t n v) (NamesNoByte c radix from z) (NamesByte c radix from z)
   byte-front-at n v true at is e =
       let some : from < digits_end c z from 4 = omega (arith, at, le-from (suc from) n (and_left _ _ e)) in

@@ -5,8 +5,8 @@ use Rattle.std.specs.Str.{IsUtf8}
 use Rattle.std.specs.Str.Parse.{digits_value}
 use Rattle.protobuf_parse_syntax.specs.Text.{Bytes, AllIn}
 use Rattle.protobuf_parse_syntax.specs.Tokens.{IsDigits, IsEscape, Decodes, DecodesAll}
-use Rattle.protobuf_parse_syntax.specs.declared.lexer.bytes.Class.{Class}
-use Rattle.protobuf_parse_syntax.specs.declared.lexer.bytes.Class.TheVariants as class
+use Rattle.protobuf_parse_syntax.specs.declared.lexer.bytes.ByteClass.{ByteClass}
+use Rattle.protobuf_parse_syntax.specs.declared.lexer.bytes.ByteClass.TheVariants as class
 use Rattle.protobuf_parse_syntax.specs.declared.lexer.str_lit.Meaning.{Meaning}
 use Rattle.protobuf_parse_syntax.specs.declared.lexer.str_lit.Meaning.TheVariants as meaning
 use Rattle.protobuf_parse_syntax.specs.declared.lexer.str_lit.Part.{Part}
@@ -14,13 +14,13 @@ use Rattle.protobuf_parse_syntax.specs.declared.lexer.str_lit.StrLitDecodeError.
 use Rattle.protobuf_parse_syntax.specs.declared.lexer.str_lit.StrLitDecodeError.TheVariants as error
 
 -- the digits of the class from `from` on, at most up to 4, name a byte
-pub record NamesByte (c : Class) (radix from : ℕ) (z : Bytes) (p : Part) : Type 0 where
+pub record NamesByte (c : ByteClass) (radix from : ℕ) (z : Bytes) (p : Part) : Type 0 where
   pub end : ℕ
   pub digits : IsDigits c z from 4 end
   pub small : digits_value radix (slice_range z from end) ≤ 255
   pub is : p ≡ record { len = end; meaning = meaning.Byte (digits_value radix (slice_range z from end)) }
 
-abbrev pub NamesNoByte : Class → ℕ → ℕ → Bytes → Type 0
+abbrev pub NamesNoByte : ByteClass → ℕ → ℕ → Bytes → Type 0
 NamesNoByte c radix from z = (n : ℕ) → IsDigits c z from 4 n → digits_value radix (slice_range z from n) ≤ 255 → ⊥
 
 -- the hexadecimal digits from 2 up to `end` name a character

@@ -1,5 +1,6 @@
 -- What a file imports.
-use Rattle.std.specs.Prelude.{ℕ, ◌+◌, ℤ, pos, Bool, true, false, List, [], ◌∷◌, ◌++◌, length, map, flat_map, string_bytes, if◌then◌else◌}
+use Rattle.std.specs.Prelude.{ℕ, ◌+◌, ℤ, pos, Bool, true, false, List, [], ◌∷◌, ◌++◌, length, map}
+use Rattle.std.specs.Prelude.{flat_map, string_bytes, if◌then◌else◌}
 use Rattle.protobuf_parse_syntax.specs.Text.{Bytes}
 use Rattle.protobuf_parse_syntax.specs.Trees.{ImportSyntax, StatementSyntax, file_import}
 use Rattle.protobuf_parse_syntax.specs.declared.dependencies.Dependencies.{Dependencies}
@@ -31,20 +32,29 @@ abbrev pub positions : (ImportVis → Bool) → ℕ → List ImportSyntax → Li
 positions is_so n [] = []
 positions is_so n (i ∷ is) = position_if (is_so i.vis) n ++ positions is_so (n + 1) is
 
--- the paths of the imports, in source order, and the positions of the public and of the weak ones among them
+-- the paths of the imports, in source order, and the positions of the public and of the weak ones
+-- among them
 pub record FileImports : Type 0 where
   pub paths : List Bytes
   pub public : List ℤ
   pub weak : List ℤ
 
 abbrev pub imports_of : List ImportSyntax → FileImports
-imports_of is = record { paths = map (λ i. i.path) is; public = positions is_public 0 is; weak = positions is_weak 0 is }
+imports_of is = record {
+  paths = map (λ i. i.path) is;
+  public = positions is_public 0 is;
+  weak = positions is_weak 0 is;
+}
 
 unfoldable pub dependencies_of : List StatementSyntax → FileImports
 dependencies_of ss = imports_of (imports ss)
 
 abbrev pub dependencies_view : Dependencies → FileImports
-dependencies_view d = record { paths = map string_bytes d.dependency.items; public = d.public_dependency.items; weak = d.weak_dependency.items }
+dependencies_view d = record {
+  paths = map string_bytes d.dependency.items;
+  public = d.public_dependency.items;
+  weak = d.weak_dependency.items;
+}
 
 -- one import more, behind the others
 abbrev pub with_import : FileImports → ImportSyntax → FileImports

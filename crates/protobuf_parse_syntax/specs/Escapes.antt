@@ -7,8 +7,8 @@ use Rattle.std.proofs.lemmas.Bool.{false≢true, cases_lt, or_cases, eqb-true}
 use Rattle.protobuf_parse_syntax.specs.Text.{Bytes, is_in, AllIn}
 use Rattle.protobuf_parse_syntax.specs.Tokens.{letter_byte, IsDigits, IsEscape, letter, octal, hex, short, long}
 use Rattle.protobuf_parse_syntax.specs.Decoding.{NamesByte, NamesNoByte, NamesChar, NamesNoChar, HasEscape, HasNoEscape, HasPart, HasNoPart}
-use Rattle.protobuf_parse_syntax.specs.declared.lexer.bytes.Class.{Class}
-use Rattle.protobuf_parse_syntax.specs.declared.lexer.bytes.Class.TheVariants as class
+use Rattle.protobuf_parse_syntax.specs.declared.lexer.bytes.ByteClass.{ByteClass}
+use Rattle.protobuf_parse_syntax.specs.declared.lexer.bytes.ByteClass.TheVariants as class
 use Rattle.protobuf_parse_syntax.specs.declared.lexer.str_lit.Part.{Part}
 
 pub chosen : {X : Type 0} (t : Bool) (x y z : X) → cond t x y ≡ z → ((t ≡ true) × (x ≡ z)) ⊎ ((t ≡ false) × (y ≡ z))
@@ -85,7 +85,7 @@ number_sort : (b k s : ℕ) → b ≡ k → sort_of k ≡ s → sort_of b ≡ s
 unfolding sort_of
 number_sort b k s e h = subst (λ x. sort_of x ≡ s) (sym e) h
 
-first_digit : (c : Class) (z : Bytes) (from limit n : ℕ) → IsDigits c z from limit n → is_in c (slice_index z from) ≡ true
+first_digit : (c : ByteClass) (z : Bytes) (from limit n : ℕ) → IsDigits c z from limit n → is_in c (slice_index z from) ≡ true
 first_digit c z from limit n d = d.each from (omega arith) d.some
 
 short_sort : (b : ℕ) → b ≡ 117 → sort_of b ≡ 2
@@ -116,14 +116,14 @@ Same m u n v = (m ≡ n) × (u ≡ v)
 
 -- ---- one escape stands there
 
-digits_no_longer : (c : Class) (z : Bytes) (from limit m n : ℕ) → IsDigits c z from limit m → IsDigits c z from limit n → m < n → ⊥
+digits_no_longer : (c : ByteClass) (z : Bytes) (from limit m n : ℕ) → IsDigits c z from limit m → IsDigits c z from limit n → m < n → ⊥
 digits_no_longer c z from limit m n a b less =
     let short_b = b.short in
     let within = b.within in
     let some = a.some in
     false≢true (sym (a.stops (omega arith) (omega arith)) ∙ b.each m (omega arith) less)
 
-pub one_digits : (c : Class) (z : Bytes) (from limit m n : ℕ) → IsDigits c z from limit m → IsDigits c z from limit n → m ≡ n
+pub one_digits : (c : ByteClass) (z : Bytes) (from limit m n : ℕ) → IsDigits c z from limit m → IsDigits c z from limit n → m ≡ n
 one_digits c z from limit m n a b =
     ⊎_elim (λ h. absurd (digits_no_longer c z from limit m n a b h))
     (λ h. ⊎_elim (λ g. absurd (digits_no_longer c z from limit n m b a g)) (λ g. omega arith) (cases_lt n m)) (cases_lt m n)

@@ -1,14 +1,20 @@
 -- How a constant is written.
 --
--- A number, a truth value and a name are their plain text. A string is its pieces as they stand in the source, each
--- in double quotes, with a backslash before each `"` that has none, and a blank between each two. A list is `[a,b]`.
--- A message is `{ `, then each field as `n: v `, or as `n m` where the value is a message, and then `}`. The name of
--- an extension and a type URL stand in brackets.
-use Rattle.std.specs.Prelude.{ℕ, ◌==◌, ◌&&◌, Bool, true, false, not, List, [], ◌∷◌, ◌++◌, map, flat_map, codes, if◌then◌else◌}
+-- A number, a truth value and a name are their plain text. A string is its pieces as they stand in
+-- the source, each in double quotes, with a backslash before each `"` that has none, and a blank
+-- between each two. A list is `[a,b]`. A message is `{ `, then each field as `n: v `, or as `n m`
+-- where the value is a message, and then `}`. The name of an extension and a type URL stand in
+-- brackets.
+use Rattle.std.specs.Prelude.{ℕ, ◌==◌, ◌&&◌, Bool, true, false, not, List, [], ◌∷◌, ◌++◌, map}
+use Rattle.std.specs.Prelude.{flat_map, codes, if◌then◌else◌}
 use Rattle.std.specs.Fmt.{signed_decimal}
 use Rattle.std.specs.List.{join_with_byte}
 use Rattle.protobuf_parse_syntax.specs.Text.{Bytes}
-use Rattle.protobuf_parse_syntax.specs.Trees.{Pieces, ConstantNameSyntax, regular_name, extension_name, url_name, ConstantSyntax, integer, truth, dotted, string, list, fields, ConstantList, no_constants, more_constants, ConstantFieldList, no_fields, more_fields, ConstantFieldSyntax}
+use Rattle.protobuf_parse_syntax.specs.Trees.{Pieces, ConstantNameSyntax, regular_name}
+use Rattle.protobuf_parse_syntax.specs.Trees.{extension_name, url_name, ConstantSyntax, integer}
+use Rattle.protobuf_parse_syntax.specs.Trees.{truth, dotted, string, list, fields, ConstantList}
+use Rattle.protobuf_parse_syntax.specs.Trees.{no_constants, more_constants, ConstantFieldList}
+use Rattle.protobuf_parse_syntax.specs.Trees.{no_fields, more_fields, ConstantFieldSyntax}
 
 abbrev pub truth_word : Bool → Bytes
 truth_word true = codes "true"
@@ -24,11 +30,12 @@ name_text (url_name n) = codes "[" ++ n ++ codes "]"
 abbrev pub escape_before : Bool → ℕ → Bytes
 escape_before taken b = if b == 34 && not taken then 92 ∷ [] else []
 
--- With a backslash before each `"` that no backslash takes. A backslash takes the next byte, unless one takes it;
--- `taken` says that one takes the first byte.
+-- With a backslash before each `"` that no backslash takes. A backslash takes the next byte, unless
+-- one takes it; `taken` says that one takes the first byte.
 abbrev pub quotes_escaped : Bool → Bytes → Bytes
 quotes_escaped taken [] = []
-quotes_escaped taken (b ∷ bs) = escape_before taken b ++ b ∷ quotes_escaped (b == 92 && not taken) bs
+quotes_escaped taken (b ∷ bs) =
+    escape_before taken b ++ b ∷ quotes_escaped (b == 92 && not taken) bs
 
 abbrev pub piece_text : Bytes → Bytes
 piece_text piece = codes "\"" ++ quotes_escaped false piece ++ codes "\""
@@ -42,7 +49,9 @@ is_message _ = false
 
 -- a field, given the text of its value
 abbrev pub field_text : ConstantNameSyntax → ConstantSyntax → Bytes → Bytes
-field_text n v text = if is_message v then name_text n ++ codes " " ++ text else name_text n ++ codes ": " ++ text ++ codes " "
+field_text n v text =
+    if is_message v then name_text n ++ codes " " ++ text
+    else name_text n ++ codes ": " ++ text ++ codes " "
 
 unfoldable mutual
   pub format : ConstantSyntax → Bytes

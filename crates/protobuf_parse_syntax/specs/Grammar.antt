@@ -1,17 +1,35 @@
--- The grammar of the Protocol Buffers Language Specifications (https://protobuf.dev/reference/protobuf/proto2-spec/
--- and https://protobuf.dev/reference/protobuf/proto3-spec/): which tokens say which tree. Each production
--- is one relation, whose lines are its line of EBNF; the rules beside the EBNF are conditions in it. A
--- production that contains itself is counted by levels, and the language has every number of them.
-use Rattle.std.specs.Prelude.{◌≤◌, ℕ, zero, suc, ℤ, pos, negsuc, nat_le, ◌&&◌, List, [], ◌∷◌, ◌++◌, length, slice_index, Option, Some, None, Bool, true, false, cond, bytes_eq, codes}
+-- The grammar of the Protocol Buffers Language Specifications
+-- (https://protobuf.dev/reference/protobuf/proto2-spec/ and
+-- https://protobuf.dev/reference/protobuf/proto3-spec/): which tokens say which tree. Each
+-- production is one relation, whose lines are its line of EBNF; the rules beside the EBNF are
+-- conditions in it. A production that contains itself is counted by levels, and the language has
+-- every number of them.
+use Rattle.std.specs.Prelude.{◌≤◌, ℕ, zero, suc, ℤ, pos, negsuc, nat_le, ◌&&◌, List, [], ◌∷◌, ◌++◌}
+use Rattle.std.specs.Prelude.{length, slice_index, Option, Some, None, Bool, true, false, cond}
+use Rattle.std.specs.Prelude.{bytes_eq, codes}
 use Rattle.std.specs.Str.{IsUtf8}
-use Rattle.protobuf_parse_base.specs.Relations.{Rel, Nothing, Such, Never, Level, One, Either, Many, OneOrMore, Separated, Unless, At, somes, ◌>>=◌, ◌>>◌}
+use Rattle.protobuf_parse_base.specs.Relations.{Rel, Nothing, Such, Never, Level, One, Either, Many}
+use Rattle.protobuf_parse_base.specs.Relations.{OneOrMore, Separated, Unless, At, somes, ◌>>=◌}
+use Rattle.protobuf_parse_base.specs.Relations.{◌>>◌}
 use Rattle.protobuf_parse_base.specs.Whole.{AtSomeDepth}
 use Rattle.protobuf_parse_base.specs.Paths.{IsProtoPath}
 use Rattle.protobuf_parse_syntax.specs.Text.{Bytes}
+use Rattle.protobuf_parse_syntax.specs.Characters as char
 use Rattle.protobuf_parse_syntax.specs.Tokens.{Lexeme, DecodesAll, unquoted}
 use Rattle.protobuf_parse_syntax.specs.Trees as tree
-use Rattle.protobuf_parse_syntax.specs.Trees.{Pieces, ConstantNameSyntax, ConstantSyntax, ConstantFieldSyntax, OptionPartSyntax, OptionNameSyntax, OptionSyntax, OptionStatementSyntax, TypeSyntax, FieldStatementSyntax, RangeSyntax, ReservedSyntax, ReservedStatementSyntax, ExtensionsSyntax, OneofStatementSyntax, OneofSyntax, ExtendSyntax, EnumValueSyntax, EnumStatementSyntax, EnumSyntax, MessageStatementSyntax, MessageSyntax, MethodSyntax, ServiceStatementSyntax, ServiceSyntax, ImportSyntax, PackageSyntax, StatementSyntax, FileSyntax}
-use Rattle.protobuf_parse_syntax.specs.Classes.{Class, sees, symbol, word, ident, integer, text as string_token, is_ident, is_one_of, words}
+use Rattle.protobuf_parse_syntax.specs.Trees.{Pieces, ConstantNameSyntax, ConstantSyntax}
+use Rattle.protobuf_parse_syntax.specs.Trees.{ConstantFieldSyntax, OptionPartSyntax}
+use Rattle.protobuf_parse_syntax.specs.Trees.{OptionNameSyntax, OptionSyntax, OptionStatementSyntax}
+use Rattle.protobuf_parse_syntax.specs.Trees.{TypeSyntax, FieldStatementSyntax, RangeSyntax}
+use Rattle.protobuf_parse_syntax.specs.Trees.{ReservedSyntax, ReservedStatementSyntax}
+use Rattle.protobuf_parse_syntax.specs.Trees.{ExtensionsSyntax, OneofStatementSyntax, OneofSyntax}
+use Rattle.protobuf_parse_syntax.specs.Trees.{ExtendSyntax, EnumValueSyntax, EnumStatementSyntax}
+use Rattle.protobuf_parse_syntax.specs.Trees.{EnumSyntax, MessageStatementSyntax, MessageSyntax}
+use Rattle.protobuf_parse_syntax.specs.Trees.{MethodSyntax, ServiceStatementSyntax, ServiceSyntax}
+use Rattle.protobuf_parse_syntax.specs.Trees.{ImportSyntax, PackageSyntax, StatementSyntax}
+use Rattle.protobuf_parse_syntax.specs.Trees.{FileSyntax}
+use Rattle.protobuf_parse_syntax.specs.Classes.{Class, sees, symbol, word, ident, integer}
+use Rattle.protobuf_parse_syntax.specs.Classes.{text as string_token, is_ident, is_one_of, words}
 use Rattle.protobuf_parse_syntax.specs.declared.lexer.token.Place.{Place}
 use Rattle.protobuf_parse_syntax.specs.declared.lexer.token.TokenKind.{TokenKind}
 use Rattle.protobuf_parse_syntax.specs.declared.lexer.token.TokenKind.TheVariants as kind
@@ -103,7 +121,7 @@ place_of t = t.place
 
 -- a separator ","
 abbrev pub IsComma : Rel Lexeme (Unit {0})
-IsComma = IsSymbol 44
+IsComma = IsSymbol char.comma
 
 -- at most so many such parts
 abbrev pub AtMost : {A : Type 0} → ℕ → Rel Lexeme A → Rel Lexeme (List A)
@@ -111,7 +129,8 @@ AtMost limit R ts items = Many R ts items × (length items ≤ limit)
 
 -- a statement, or nothing at a semicolon
 abbrev pub Item : {A : Type 0} → Rel Lexeme A → Rel Lexeme (Option A)
-Item R = Either (do IsSymbol 59; Nothing None) (do statement ← R; Nothing (Some statement))
+Item R =
+    Either (do IsSymbol char.semicolon; Nothing None) (do statement ← R; Nothing (Some statement))
 
 -- { ";" | statement }
 abbrev pub Statements : {A : Type 0} → Rel Lexeme A → Rel Lexeme (List A)
@@ -122,9 +141,9 @@ Statements R = do
 -- "{" { ";" | statement } "}"
 abbrev pub Braced : {A : Type 0} → Rel Lexeme A → Rel Lexeme (List A)
 Braced R = do
-  IsSymbol 123
+  IsSymbol char.open_brace
   statements ← Statements R
-  IsSymbol 125
+  IsSymbol char.close_brace
   Nothing statements
 
 -- ---- str = string token { string token }
@@ -140,16 +159,16 @@ StandsFor pieces text = DecodesAll pieces text × IsUtf8 text
 
 abbrev pub dots : List Bytes → Bytes
 dots [] = []
-dots (part ∷ parts) = 46 ∷ part ++ dots parts
+dots (part ∷ parts) = char.dot ∷ part ++ dots parts
 
 unfoldable pub IsDotted : Rel Lexeme Bytes
 IsDotted = do
   first ← IsIdent
-  others ← Many (do IsSymbol 46; IsIdent)
+  others ← Many (do IsSymbol char.dot; IsIdent)
   Nothing (first ++ dots others)
 
 unfoldable pub IsRoot : Rel Lexeme Bytes
-IsRoot = Either (do IsSymbol 46; Nothing (46 ∷ [])) (Nothing [])
+IsRoot = Either (do IsSymbol char.dot; Nothing (char.dot ∷ [])) (Nothing [])
 
 unfoldable pub IsName : Rel Lexeme Bytes
 IsName = do
@@ -164,18 +183,26 @@ truth_words = codes "true" ∷ codes "false" ∷ []
 
 -- `-u` is an integer for u up to 9223372036854775808.
 unfoldable pub IsInteger : Rel Lexeme ℤ
-IsInteger = Either (do n ← IsNumber; Nothing (pos n)) (Either (do IsSymbol 43; n ← IsNumber; Nothing (pos n)) (do IsSymbol 45; n ← IsNumberUpTo 9223372036854775808; Nothing (negative n)))
+IsInteger =
+    Either
+    (do n ← IsNumber; Nothing (pos n))
+    (Either
+    (do IsSymbol char.plus; n ← IsNumber; Nothing (pos n))
+    (do IsSymbol char.minus; n ← IsNumberUpTo 9223372036854775808; Nothing (negative n)))
 
 -- cname = ident | "[" name "]" | "[" name "/" name "]"
 unfoldable pub AfterSlash : Bytes → Rel Lexeme ConstantNameSyntax
-AfterSlash name = Either (do IsSymbol 47; rest ← IsName; Nothing (tree.url_name (name ++ 47 ∷ rest))) (Nothing (tree.extension_name name))
+AfterSlash name =
+    Either
+    (do IsSymbol char.slash; rest ← IsName; Nothing (tree.url_name (name ++ char.slash ∷ rest)))
+    (Nothing (tree.extension_name name))
 
 unfoldable pub IsBracketedName : Rel Lexeme ConstantNameSyntax
 IsBracketedName = do
-  IsSymbol 91
+  IsSymbol char.open_bracket
   first ← IsName
   name ← AfterSlash first
-  IsSymbol 93
+  IsSymbol char.close_bracket
   Nothing name
 
 unfoldable pub IsConstantName : Rel Lexeme ConstantNameSyntax
@@ -183,34 +210,36 @@ IsConstantName = Either (do name ← IsIdent; Nothing (tree.regular_name name)) 
 
 -- no more, or "," or ";"
 unfoldable pub IsFieldEnd : Rel Lexeme (Unit {0})
-IsFieldEnd = Either (IsSymbol 44) (Either (IsSymbol 59) (Nothing tt))
+IsFieldEnd = Either (IsSymbol char.comma) (Either (IsSymbol char.semicolon) (Nothing tt))
 
 -- with what a constant begins, if it is no message constant
 abbrev pub other_constants : List Class
-other_constants = symbol 91 ∷ ident [] ∷ integer ∷ symbol 43 ∷ symbol 45 ∷ string_token ∷ []
+other_constants =
+    symbol char.open_bracket ∷ ident [] ∷ integer ∷ symbol char.plus ∷ symbol char.minus
+    ∷ string_token ∷ []
 
 -- cname ( ":" constant | msgconst ) [ "," | ";" ], with the constants inside by C
 unfoldable pub ConstantFieldOf : Rel Lexeme ConstantSyntax → Rel Lexeme ConstantFieldSyntax
 ConstantFieldOf C = do
   name ← IsConstantName
-  value ← Either (do IsSymbol 58; C) (Unless (is_one_of other_constants) C)
+  value ← Either (do IsSymbol char.colon; C) (Unless (is_one_of other_constants) C)
   IsFieldEnd
   Nothing (record { name = name; value = value })
 
 -- msgconst = "{" { cname ( ":" constant | msgconst ) [ "," | ";" ] } "}"
 unfoldable pub MessageConstantOf : Rel Lexeme ConstantSyntax → Rel Lexeme ConstantSyntax
 MessageConstantOf C = do
-  IsSymbol 123
+  IsSymbol char.open_brace
   fields ← Many (ConstantFieldOf C)
-  IsSymbol 125
+  IsSymbol char.close_brace
   Nothing (tree.fields (tree.constant_fields fields))
 
 -- list = "[" "]" | "[" constant { "," constant } "]"
 unfoldable pub ListOf : Rel Lexeme ConstantSyntax → Rel Lexeme ConstantSyntax
 ListOf C = do
-  IsSymbol 91
+  IsSymbol char.open_bracket
   items ← Either (Separated IsComma C) (Nothing [])
-  IsSymbol 93
+  IsSymbol char.close_bracket
   Nothing (tree.list (tree.constants items))
 
 -- A constant that begins with `true` or `false` is that truth value.
@@ -236,7 +265,14 @@ IsConstant = Level (λ n. ConstantOf)
 
 -- optpart = ident | "(" name ")"
 unfoldable pub IsOptionPart : Rel Lexeme OptionPartSyntax
-IsOptionPart = Either (do name ← IsIdent; Nothing (tree.direct name)) (do IsSymbol 40; name ← IsName; IsSymbol 41; Nothing (tree.extension name))
+IsOptionPart =
+    Either
+    (do name ← IsIdent; Nothing (tree.direct name))
+    (do
+      IsSymbol char.open_paren
+      name ← IsName
+      IsSymbol char.close_paren
+      Nothing (tree.extension name))
 
 -- An option name of one plain part is built in, any other is custom.
 abbrev pub option_name : OptionPartSyntax → List OptionPartSyntax → OptionNameSyntax
@@ -244,7 +280,7 @@ option_name (tree.direct name) [] = tree.builtin name
 option_name part parts = tree.custom (part ∷ parts)
 
 unfoldable pub IsNextPart : Rel Lexeme OptionPartSyntax
-IsNextPart = do IsSymbol 46; IsOptionPart
+IsNextPart = do IsSymbol char.dot; IsOptionPart
 
 -- optname = optpart { "." optpart }, of at most 100 parts
 unfoldable pub IsOptionName : Rel Lexeme OptionNameSyntax
@@ -256,7 +292,7 @@ IsOptionName = do
 unfoldable pub IsAssignment : ℕ → Rel Lexeme OptionSyntax
 IsAssignment n = do
   name ← IsOptionName
-  IsSymbol 61
+  IsSymbol char.equals
   value ← IsConstant n
   Nothing (record { name = name; value = value })
 
@@ -264,37 +300,51 @@ unfoldable pub IsOption : ℕ → Rel Lexeme OptionStatementSyntax
 IsOption n = At place_of λ place. do
   IsWord (codes "option")
   option ← IsAssignment n
-  IsSymbol 59
+  IsSymbol char.semicolon
   Nothing (record { place = place; option = option })
 
 -- [ options ], options = "[" optname "=" constant { "," optname "=" constant } "]"
 unfoldable pub AreOptions : ℕ → Rel Lexeme (List OptionSyntax)
-AreOptions n = Either (do IsSymbol 91; options ← Separated IsComma (IsAssignment n); IsSymbol 93; Nothing options) (Nothing [])
+AreOptions n =
+    Either
+    (do
+      IsSymbol char.open_bracket
+      options ← Separated IsComma (IsAssignment n)
+      IsSymbol char.close_bracket
+      Nothing options)
+    (Nothing [])
 
 -- ---- type = scalar | "map" "<" type "," type ">" | name
 
 abbrev pub scalars : List (Bytes × Scalar)
 scalars =
-    (codes "int32", scalar.Int32) ∷ (codes "int64", scalar.Int64) ∷ (codes "uint32", scalar.Uint32) ∷ (codes "uint64", scalar.Uint64) ∷ (codes "sint32", scalar.Sint32)
-    ∷ (codes "sint64", scalar.Sint64) ∷ (codes "fixed32", scalar.Fixed32) ∷ (codes "sfixed32", scalar.Sfixed32) ∷ (codes "fixed64", scalar.Fixed64) ∷ (codes "sfixed64", scalar.Sfixed64)
-    ∷ (codes "bool", scalar.Bool) ∷ (codes "string", scalar.String) ∷ (codes "bytes", scalar.Bytes) ∷ (codes "float", scalar.Float) ∷ (codes "double", scalar.Double) ∷ []
+    (codes "int32", scalar.Int32) ∷ (codes "int64", scalar.Int64) ∷ (codes "uint32", scalar.Uint32)
+    ∷ (codes "uint64", scalar.Uint64) ∷ (codes "sint32", scalar.Sint32)
+    ∷ (codes "sint64", scalar.Sint64) ∷ (codes "fixed32", scalar.Fixed32)
+    ∷ (codes "sfixed32", scalar.Sfixed32) ∷ (codes "fixed64", scalar.Fixed64)
+    ∷ (codes "sfixed64", scalar.Sfixed64)
+    ∷ (codes "bool", scalar.Bool) ∷ (codes "string", scalar.String) ∷ (codes "bytes", scalar.Bytes)
+    ∷ (codes "float", scalar.Float) ∷ (codes "double", scalar.Double) ∷ []
 
 unfoldable pub MapOf : Rel Lexeme TypeSyntax → Rel Lexeme TypeSyntax
 MapOf T = do
   IsWord (codes "map")
-  IsSymbol 60
+  IsSymbol char.less
   key ← T
   IsComma
   value ← T
-  IsSymbol 62
+  IsSymbol char.greater
   Nothing (tree.map_of key value)
 
--- A type that begins with a scalar word or `map` is that scalar or a map. With the types inside by T.
+-- A type that begins with a scalar word or `map` is that scalar or a map. With the types inside by
+-- T.
 unfoldable pub TypeOf : Rel Lexeme TypeSyntax → Rel Lexeme TypeSyntax
 TypeOf T =
     Either (do s ← IsWordOf scalars; Nothing (tree.scalar s))
     (Either (MapOf T)
-    (do name ← Unless (is_one_of (words (codes "map" ∷ table_words scalars))) IsName; Nothing (tree.named name)))
+    (do
+      name ← Unless (is_one_of (words (codes "map" ∷ table_words scalars))) IsName
+      Nothing (tree.named name)))
 
 -- of at most so many levels
 abbrev pub IsType : ℕ → Rel Lexeme TypeSyntax
@@ -304,7 +354,9 @@ IsType = Level (λ n. TypeOf)
 -- ----       | [ label ] "group" ident "=" int "{" { ";" | field } "}"
 
 abbrev pub labels : List (Bytes × Label)
-labels = (codes "optional", label.Optional) ∷ (codes "required", label.Required) ∷ (codes "repeated", label.Repeated) ∷ []
+labels =
+    (codes "optional", label.Optional) ∷ (codes "required", label.Required)
+    ∷ (codes "repeated", label.Repeated) ∷ []
 
 -- In proto3 the label `required` is refused.
 abbrev pub labels3 : List (Bytes × Label)
@@ -312,7 +364,9 @@ labels3 = (codes "optional", label.Optional) ∷ (codes "repeated", label.Repeat
 
 -- with these words no field begins
 abbrev pub statement_words : List Bytes
-statement_words = codes "reserved" ∷ codes "oneof" ∷ codes "extend" ∷ codes "message" ∷ codes "enum" ∷ codes "extensions" ∷ codes "option" ∷ []
+statement_words =
+    codes "reserved" ∷ codes "oneof" ∷ codes "extend" ∷ codes "message" ∷ codes "enum"
+    ∷ codes "extensions" ∷ codes "option" ∷ []
 
 -- a number of at most 2147483647
 unfoldable pub IsFieldNumber : Rel Lexeme ℤ
@@ -320,45 +374,66 @@ IsFieldNumber = do n ← IsNumberUpTo 2147483647; Nothing (pos n)
 
 -- a group's name begins with an ASCII capital
 abbrev pub is_capital : ℕ → Bool
-is_capital c = nat_le 65 c && nat_le c 90
+is_capital c = nat_le char.capital_a c && nat_le c char.capital_z
 
 abbrev pub capital_ident : Lexeme → Option Bytes
 capital_ident t = cond (is_capital (slice_index t.text 0)) (any_ident t) None
 
 -- a field of such a type
-unfoldable pub PlainFieldOf : ℕ → Rel Lexeme TypeSyntax → Place → Option Label → Rel Lexeme FieldStatementSyntax
+unfoldable pub PlainFieldOf :
+    ℕ → Rel Lexeme TypeSyntax → Place → Option Label → Rel Lexeme FieldStatementSyntax
 PlainFieldOf n T place label = do
   type_ ← T
   name ← IsIdent
-  IsSymbol 61
+  IsSymbol char.equals
   number ← IsFieldNumber
   options ← AreOptions n
-  IsSymbol 59
-  Nothing (tree.field (record { place = place; label = label; type_ = type_; name = name; number = number; options = options }))
+  IsSymbol char.semicolon
+  Nothing (tree.field (record {
+    place = place;
+    label = label;
+    type_ = type_;
+    name = name;
+    number = number;
+    options = options;
+  }))
 
 -- a group, with the fields inside by F
-unfoldable pub GroupOf : Rel Lexeme FieldStatementSyntax → Place → Option Label → Rel Lexeme FieldStatementSyntax
+unfoldable pub GroupOf :
+    Rel Lexeme FieldStatementSyntax → Place → Option Label → Rel Lexeme FieldStatementSyntax
 GroupOf F place label = do
   IsWord (codes "group")
   name ← One capital_ident
-  IsSymbol 61
+  IsSymbol char.equals
   number ← IsFieldNumber
   fields ← Braced F
-  Nothing (tree.group_of (record { place = place; label = label; name = name; number = number; fields = fields }))
+  Nothing (tree.group_of (record {
+    place = place;
+    label = label;
+    name = name;
+    number = number;
+    fields = fields;
+  }))
 
 -- After the optional label the word `group` begins a group.
-unfoldable pub AfterLabel : ℕ → Rel Lexeme FieldStatementSyntax → Place → Option Label → Rel Lexeme FieldStatementSyntax
-AfterLabel n F place label = Either (GroupOf F place label) (PlainFieldOf n (Unless (is_one_of (words (codes "group" ∷ []))) (IsType n)) place label)
+unfoldable pub AfterLabel :
+    ℕ → Rel Lexeme FieldStatementSyntax → Place → Option Label → Rel Lexeme FieldStatementSyntax
+AfterLabel n F place label =
+    Either
+    (GroupOf F place label)
+    (PlainFieldOf n (Unless (is_one_of (words (codes "group" ∷ []))) (IsType n)) place label)
 
--- A field of a message, a group or an `extend`. A label word that begins a field is its label. In proto2
--- every field has a label, unless it begins with `map`.
-unfoldable pub FieldOf : Syntax → ℕ → Rel Lexeme FieldStatementSyntax → Rel Lexeme FieldStatementSyntax
+-- A field of a message, a group or an `extend`. A label word that begins a field is its label. In
+-- proto2 every field has a label, unless it begins with `map`.
+unfoldable pub FieldOf :
+    Syntax → ℕ → Rel Lexeme FieldStatementSyntax → Rel Lexeme FieldStatementSyntax
 FieldOf Proto2 n F = At place_of λ place.
     Either (do l ← IsWordOf labels; AfterLabel (suc n) F place (Some l))
     (PlainFieldOf (suc n) (MapOf (IsType n)) place None)
 FieldOf Proto3 n F = At place_of λ place.
     Either (do l ← IsWordOf labels3; AfterLabel (suc n) F place (Some l))
-    (Unless (is_one_of (words (table_words labels ++ statement_words))) (AfterLabel (suc n) F place None))
+    (Unless (is_one_of (words (table_words labels ++ statement_words)))
+    (AfterLabel (suc n) F place None))
 
 -- of at most so many levels
 abbrev pub IsField : Syntax → ℕ → Rel Lexeme FieldStatementSyntax
@@ -366,13 +441,18 @@ IsField syntax = Level (FieldOf syntax)
 
 -- ---- oneof = "oneof" ident "{" { ";" | option | field } "}"
 
--- Directly in a oneof no label stands, and no field begins with `map`. The body of a group is that of any other.
+-- Directly in a oneof no label stands, and no field begins with `map`. The body of a group is that
+-- of any other.
 unfoldable pub IsOneofField : Syntax → ℕ → Rel Lexeme FieldStatementSyntax
 IsOneofField syntax n = At place_of λ place.
-    Unless (is_one_of (words (codes "map" ∷ table_words labels ++ statement_words))) (AfterLabel n (IsField syntax n) place None)
+    Unless (is_one_of (words (codes "map" ∷ table_words labels ++ statement_words)))
+    (AfterLabel n (IsField syntax n) place None)
 
 unfoldable pub IsOneofStatement : Syntax → ℕ → Rel Lexeme OneofStatementSyntax
-IsOneofStatement syntax n = Either (do o ← IsOption n; Nothing (tree.oneof_option o)) (do f ← IsOneofField syntax n; Nothing (tree.oneof_field f))
+IsOneofStatement syntax n =
+    Either
+    (do o ← IsOption n; Nothing (tree.oneof_option o))
+    (do f ← IsOneofField syntax n; Nothing (tree.oneof_field f))
 
 unfoldable pub IsOneof : Syntax → ℕ → Rel Lexeme OneofSyntax
 IsOneof syntax n = At place_of λ place. do
@@ -394,7 +474,12 @@ IsExtend syntax n = At place_of λ place. do
 
 -- Range ends are at most 2147483647; `max` is 536870911; the first may be above the last.
 unfoldable pub IsRangeEnd : ℤ → Rel Lexeme ℤ
-IsRangeEnd from = Either (do IsWord (codes "to"); Either IsFieldNumber (do IsWord (codes "max"); Nothing (pos 536870911))) (Nothing from)
+IsRangeEnd from =
+    Either
+    (do
+      IsWord (codes "to")
+      Either IsFieldNumber (do IsWord (codes "max"); Nothing (pos 536870911)))
+    (Nothing from)
 
 unfoldable pub IsRange : Rel Lexeme RangeSyntax
 IsRange = do
@@ -412,13 +497,16 @@ IsReservedName = do
   Nothing text
 
 unfoldable pub AreReserved : Rel Lexeme ReservedSyntax
-AreReserved = Either (do names ← Separated IsComma IsReservedName; Nothing (tree.reserved_names names)) (do ranges ← Separated IsComma IsRange; Nothing (tree.reserved_ranges ranges))
+AreReserved =
+    Either
+    (do names ← Separated IsComma IsReservedName; Nothing (tree.reserved_names names))
+    (do ranges ← Separated IsComma IsRange; Nothing (tree.reserved_ranges ranges))
 
 unfoldable pub IsReserved : Rel Lexeme ReservedStatementSyntax
 IsReserved = At place_of λ place. do
   IsWord (codes "reserved")
   reserved ← AreReserved
-  IsSymbol 59
+  IsSymbol char.semicolon
   Nothing (record { place = place; reserved = reserved })
 
 -- ---- extensions = "extensions" range { "," range }
@@ -433,13 +521,15 @@ IsExtensions = At place_of λ place. do
 
 -- from -2147483648 to 2147483647
 unfoldable pub IsEnumNumber : Rel Lexeme ℤ
-IsEnumNumber = Either IsFieldNumber (do IsSymbol 45; n ← IsNumberUpTo 2147483648; Nothing (negative n))
+IsEnumNumber =
+    Either IsFieldNumber (do IsSymbol char.minus; n ← IsNumberUpTo 2147483648; Nothing (negative n))
 
--- value = ident "=" [ "-" ] int [ options ]. An enum value doesn't begin with `reserved` or `option`.
+-- value = ident "=" [ "-" ] int [ options ]. An enum value doesn't begin with `reserved` or
+-- `option`.
 unfoldable pub IsEnumValue : ℕ → Rel Lexeme EnumValueSyntax
 IsEnumValue n = At place_of λ place. do
   name ← Unless (is_one_of (words (codes "reserved" ∷ codes "option" ∷ []))) IsIdent
-  IsSymbol 61
+  IsSymbol char.equals
   number ← IsEnumNumber
   options ← AreOptions n
   Nothing (record { place = place; name = name; number = number; options = options })
@@ -466,7 +556,8 @@ IsExtensionsIn Proto2 = IsExtensions
 IsExtensionsIn Proto3 = Never
 
 -- with the messages inside by M
-unfoldable pub MessageStatementOf : Syntax → ℕ → Rel Lexeme MessageSyntax → Rel Lexeme MessageStatementSyntax
+unfoldable pub MessageStatementOf :
+    Syntax → ℕ → Rel Lexeme MessageSyntax → Rel Lexeme MessageStatementSyntax
 MessageStatementOf syntax n M =
     Either (do r ← IsReserved; Nothing (tree.message_reserved r))
     (Either (do o ← IsOneof syntax n; Nothing (tree.message_oneof o))
@@ -492,14 +583,17 @@ IsMessage syntax = Level (MessageOf syntax)
 
 -- end = ";" | "{" { option | ";" } "}"
 unfoldable pub IsMethodEnd : ℕ → Rel Lexeme (List OptionStatementSyntax)
-IsMethodEnd n = Either (do IsSymbol 59; Nothing []) (Braced (IsOption n))
+IsMethodEnd n = Either (do IsSymbol char.semicolon; Nothing []) (Braced (IsOption n))
 
 -- "(" [ "stream" ] name ")". The word `stream` after the bracket is always the keyword.
 unfoldable pub IsStreamed : Rel Lexeme (Bool × Bytes)
 IsStreamed = do
-  IsSymbol 40
-  type_ ← Either (do IsWord (codes "stream"); name ← IsName; Nothing (true, name)) (do name ← Unless (is_one_of (words (codes "stream" ∷ []))) IsName; Nothing (false, name))
-  IsSymbol 41
+  IsSymbol char.open_paren
+  type_ ←
+      Either
+      (do IsWord (codes "stream"); name ← IsName; Nothing (true, name))
+      (do name ← Unless (is_one_of (words (codes "stream" ∷ []))) IsName; Nothing (false, name))
+  IsSymbol char.close_paren
   Nothing type_
 
 -- rpc = "rpc" ident "(" [ "stream" ] name ")" "returns" "(" [ "stream" ] name ")" end
@@ -511,20 +605,36 @@ IsRpc n = At place_of λ place. do
   IsWord (codes "returns")
   output ← IsStreamed
   options ← IsMethodEnd n
-  Nothing (record { place = place; name = name; input = input.1; output = output.1; client_streaming = input.0; server_streaming = output.0; options = options })
+  Nothing (record {
+    place = place;
+    name = name;
+    input = input.1;
+    output = output.1;
+    client_streaming = input.0;
+    server_streaming = output.0;
+    options = options;
+  })
 
 -- stream = "stream" ident "(" name "," name ")" end. It sets both.
 unfoldable pub IsStream : ℕ → Rel Lexeme MethodSyntax
 IsStream n = At place_of λ place. do
   IsWord (codes "stream")
   name ← IsIdent
-  IsSymbol 40
+  IsSymbol char.open_paren
   input ← IsName
   IsComma
   output ← IsName
-  IsSymbol 41
+  IsSymbol char.close_paren
   options ← IsMethodEnd n
-  Nothing (record { place = place; name = name; input = input; output = output; client_streaming = true; server_streaming = true; options = options })
+  Nothing (record {
+    place = place;
+    name = name;
+    input = input;
+    output = output;
+    client_streaming = true;
+    server_streaming = true;
+    options = options;
+  })
 
 -- `stream`, as a statement, stands in proto2 files only.
 unfoldable pub IsStreamIn : Syntax → ℕ → Rel Lexeme MethodSyntax
@@ -563,15 +673,18 @@ IsVersion = do
 unfoldable pub IsSyntax : Rel Lexeme Syntax
 IsSyntax = do
   IsWord (codes "syntax")
-  IsSymbol 61
+  IsSymbol char.equals
   syntax ← IsVersion
-  IsSymbol 59
+  IsSymbol char.semicolon
   Nothing syntax
 
 -- ---- import = "import" [ "weak" | "public" ] str ";"
 
 unfoldable pub IsVisibility : Rel Lexeme ImportVis
-IsVisibility = Either (do IsWord (codes "weak"); Nothing vis.Weak) (Either (do IsWord (codes "public"); Nothing vis.Public) (Nothing vis.Default))
+IsVisibility =
+    Either
+    (do IsWord (codes "weak"); Nothing vis.Weak)
+    (Either (do IsWord (codes "public"); Nothing vis.Public) (Nothing vis.Default))
 
 -- The decoded text of `import` is a proto path.
 abbrev pub SaysPath : Pieces → Bytes → Type 0
@@ -588,7 +701,7 @@ IsImport = At place_of λ place. do
   IsWord (codes "import")
   vis ← IsVisibility
   path ← IsPath
-  IsSymbol 59
+  IsSymbol char.semicolon
   Nothing (record { place = place; vis = vis; path = path })
 
 -- ---- package = "package" ident { "." ident } ";"
@@ -597,7 +710,7 @@ unfoldable pub IsPackage : Rel Lexeme PackageSyntax
 IsPackage = At place_of λ place. do
   IsWord (codes "package")
   name ← IsDotted
-  IsSymbol 59
+  IsSymbol char.semicolon
   Nothing (record { place = place; name = name })
 
 -- ---- file = [ syntax ] { import | package | option | message | enum | extend | service | ";" }

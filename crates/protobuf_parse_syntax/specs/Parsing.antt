@@ -1,14 +1,16 @@
 -- What is promised of a file's tokens, and of its text.
-use Rattle.std.specs.Prelude.{◌≡◌, ◌<◌, ◌⊎◌, List, [], ◌∷◌, ◌++◌, true, Result, MatchResult}
-use Rattle.std.specs.Str.{IsUtf8}
-use Rattle.protobuf_parse_base.specs.Paths.{IsProtoPath}
+use Rattle.std.specs.Prelude.{◌≡◌, ◌<◌, ◌⊎◌, List, [], ◌∷◌, ◌++◌, Some, true, Result, MatchResult}
+use Rattle.protobuf_parse_base.specs.Paths.{path_fault}
+use Rattle.protobuf_parse_base.specs.Relations.{BeginsOtherwise}
 use Rattle.protobuf_parse_base.specs.Whole.{StopsAt}
 use Rattle.protobuf_parse_syntax.specs.Text.{Bytes}
-use Rattle.protobuf_parse_syntax.specs.Tokens.{Lexeme, DecodesAll}
+use Rattle.protobuf_parse_syntax.specs.Characters as char
+use Rattle.protobuf_parse_syntax.specs.Tokens.{Lexeme}
 use Rattle.protobuf_parse_syntax.specs.Cut.{Stream, HasTokens, IsRefused, out_of_memory, located}
 use Rattle.protobuf_parse_syntax.specs.Trees.{Pieces, FileSyntax}
-use Rattle.protobuf_parse_syntax.specs.Classes.{symbol, ident, float, is_one_of, is_floating}
-use Rattle.protobuf_parse_syntax.specs.Grammar.{IsStr, IsFile, name_of, place_of}
+use Rattle.protobuf_parse_syntax.specs.Classes.{symbol, ident, float, text as string_token}
+use Rattle.protobuf_parse_syntax.specs.Classes.{is_one_of, is_floating}
+use Rattle.protobuf_parse_syntax.specs.Grammar.{IsStr, StandsFor, IsFile, name_of, place_of}
 use Rattle.protobuf_parse_syntax.specs.declared.error.ParserError.{ParserError}
 use Rattle.protobuf_parse_syntax.specs.declared.error.ParserError.TheVariants as error
 use Rattle.protobuf_parse_syntax.specs.declared.error.ParserErrorWithLocation.{ParserErrorWithLocation}
@@ -23,7 +25,8 @@ abbrev pub NoTree : List Lexeme → Type 0
 NoTree ts = (t : FileSyntax) → IsFile ts t → ⊥
 
 -- a token at the place, of which, with what stands before and behind it, P holds
-pub record StandsAt (P : List Lexeme → Lexeme → List Lexeme → Type 0) (ts : List Lexeme) (place : Place) : Type 0 where
+pub record StandsAt (P : List Lexeme → Lexeme → List Lexeme → Type 0)
+    (ts : List Lexeme) (place : Place) : Type 0 where
   pub front : List Lexeme
   pub token : Lexeme
   pub back : List Lexeme
@@ -41,64 +44,84 @@ LargeToken front t back = IsLarge t.kind
 
 -- the first token of a part of an option's name, directly behind a dot
 abbrev pub NextPart : List Lexeme → Lexeme → List Lexeme → Type 0
-NextPart front t back = (before : List Lexeme) × (dot : Lexeme) × (front ≡ before ++ dot ∷ []) × (is_one_of (symbol 46 ∷ []) dot ≡ true) × (is_one_of (ident [] ∷ symbol 40 ∷ []) t ≡ true)
+NextPart front t back =
+    (before : List Lexeme) × (dot : Lexeme) × (front ≡ before ++ dot ∷ [])
+    × (is_one_of (symbol char.dot ∷ []) dot ≡ true)
+    × (is_one_of (ident [] ∷ symbol char.open_paren ∷ []) t ≡ true)
 
 -- a float; or a sign, and a float, `inf` or `nan` behind it
 abbrev pub Floats : List Lexeme → Lexeme → List Lexeme → Type 0
 Floats front t [] = is_one_of (float ∷ []) t ≡ true
-Floats front t (u ∷ back) = (is_one_of (float ∷ []) t ≡ true) ⊎ ((is_one_of (symbol 43 ∷ symbol 45 ∷ []) t ≡ true) × (is_floating u ≡ true))
+Floats front t (u ∷ back) =
+    (is_one_of (float ∷ []) t ≡ true)
+    ⊎ ((is_one_of (symbol char.plus ∷ symbol char.minus ∷ []) t ≡ true) × (is_floating u ≡ true))
 
--- Why neighbouring strings say nothing that may stand there: they decode to no version (S10), to no text at all
--- (S15), or to no proto path (S19).
+-- Why neighbouring strings say nothing that may stand there: they stand for a text that is no
+-- version (S10), for no text at all (S15), or for a text that has this fault as a proto path (S19).
 abbrev pub SaysNothing : Pieces → ParserError → Type 0
-SaysNothing pieces error.UnknownSyntax = (syntax : Syntax) → DecodesAll pieces (name_of syntax) → ⊥
-SaysNothing pieces error.StrLitDecode = (v : Bytes) → DecodesAll pieces v → IsUtf8 v → ⊥
-SaysNothing pieces (error.BadImportPath e) = (v : Bytes) → DecodesAll pieces v → IsProtoPath v → ⊥
+SaysNothing pieces error.UnknownSyntax =
+    (text : Bytes) × StandsFor pieces text × ((syntax : Syntax) → text ≡ name_of syntax → ⊥)
+SaysNothing pieces error.StrLitDecode = (text : Bytes) → StandsFor pieces text → ⊥
+SaysNothing pieces (error.BadImportPath e) =
+    (text : Bytes) × StandsFor pieces text × (path_fault text ≡ Some e)
 SaysNothing pieces _ = ⊥
 
--- strings that say nothing begin with the token
-pub record WrongStrings (e : ParserError) (front : List Lexeme) (t : Lexeme) (back : List Lexeme) : Type 0 where
+-- Strings that say nothing begin with the token; no string stands behind them.
+pub record WrongStrings (e : ParserError)
+    (front : List Lexeme) (t : Lexeme) (back : List Lexeme) : Type 0 where
   pub strings : List Lexeme
   pub others : List Lexeme
   pub pieces : Pieces
   pub parts : t ∷ back ≡ strings ++ others
   pub is : IsStr strings pieces
+  pub last : BeginsOtherwise (is_one_of (string_token ∷ [])) others
   pub says : SaysNothing pieces e
 
 -- What a fault of the grammar at a place says of the tokens, which end at `last`.
 --
--- S5, S8, S9, S11 to S14, S16, S17: no list of tokens that begins with those up to and with the one at the place
--- has a tree, or none has that ends there; at S5 that token is an integer that is too large. S7, S10, S15, S18,
--- S19: there is no tree, and the token of the fault stands at the place.
-abbrev pub IsFault : List Lexeme → Place → ParserError → Place → Type 0
-IsFault ts last error.IncorrectInput place = StopsAt place_of IsFile ts last place
-IsFault ts last error.ExpectConstant place = StopsAt place_of IsFile ts last place
-IsFault ts last error.LabelNotAllowed place = StopsAt place_of IsFile ts last place
-IsFault ts last error.LabelRequired place = StopsAt place_of IsFile ts last place
-IsFault ts last error.GroupNameShouldStartWithUpperCase place = StopsAt place_of IsFile ts last place
-IsFault ts last error.MapFieldNotAllowed place = StopsAt place_of IsFile ts last place
-IsFault ts last error.OneOfInGroup place = StopsAt place_of IsFile ts last place
-IsFault ts last error.OnlyFieldsInGroup place = StopsAt place_of IsFile ts last place
-IsFault ts last error.IntegerOverflow place = StopsAt place_of IsFile ts last place × StandsAt LargeToken ts place
-IsFault ts last error.OptionNameTooLong place = NoTree ts × StandsAt NextPart ts place
-IsFault ts last error.FloatConstant place = NoTree ts × StandsAt Floats ts place
-IsFault ts last error.UnknownSyntax place = NoTree ts × StandsAt (WrongStrings error.UnknownSyntax) ts place
-IsFault ts last error.StrLitDecode place = NoTree ts × StandsAt (WrongStrings error.StrLitDecode) ts place
-IsFault ts last (error.BadImportPath e) place = NoTree ts × StandsAt (WrongStrings (error.BadImportPath e)) ts place
-IsFault ts last _ place = ⊥
+-- S5, S8, S9, S11 to S14, S16, S17: no list of tokens that begins with those up to and with the one
+-- at the place has a tree, or none has that ends there; at S5 that token is an integer that is too
+-- large. S7, S10, S15, S18, S19: there is no tree, and the token of the fault stands at the place.
+abbrev pub IsGrammarFault : List Lexeme → Place → ParserError → Place → Type 0
+IsGrammarFault ts last error.IncorrectInput place = StopsAt place_of IsFile ts last place
+IsGrammarFault ts last error.ExpectConstant place = StopsAt place_of IsFile ts last place
+IsGrammarFault ts last error.LabelNotAllowed place = StopsAt place_of IsFile ts last place
+IsGrammarFault ts last error.LabelRequired place = StopsAt place_of IsFile ts last place
+IsGrammarFault ts last error.GroupNameShouldStartWithUpperCase place =
+    StopsAt place_of IsFile ts last place
+IsGrammarFault ts last error.MapFieldNotAllowed place = StopsAt place_of IsFile ts last place
+IsGrammarFault ts last error.OneOfInGroup place = StopsAt place_of IsFile ts last place
+IsGrammarFault ts last error.OnlyFieldsInGroup place = StopsAt place_of IsFile ts last place
+IsGrammarFault ts last error.IntegerOverflow place =
+    StopsAt place_of IsFile ts last place × StandsAt LargeToken ts place
+IsGrammarFault ts last error.OptionNameTooLong place = NoTree ts × StandsAt NextPart ts place
+IsGrammarFault ts last error.FloatConstant place = NoTree ts × StandsAt Floats ts place
+IsGrammarFault ts last error.UnknownSyntax place =
+    NoTree ts × StandsAt (WrongStrings error.UnknownSyntax) ts place
+IsGrammarFault ts last error.StrLitDecode place =
+    NoTree ts × StandsAt (WrongStrings error.StrLitDecode) ts place
+IsGrammarFault ts last (error.BadImportPath e) place =
+    NoTree ts × StandsAt (WrongStrings (error.BadImportPath e)) ts place
+IsGrammarFault ts last _ place = ⊥
 
 -- ---- texts
 
--- The text has at most 2147483647 bytes, is cut whole, nests at most 100 deep, and its tokens say the tree.
+-- The text has at most 2147483647 bytes, is cut whole, nests at most 100 deep, and its tokens say
+-- the tree.
 pub record HasTree (text : Bytes) (t : FileSyntax) : Type 0 where
   pub stream : Stream
   pub tokens : HasTokens text stream
   pub file : IsFile stream.tokens t
 
--- What a fault at a place says of a text: it has no tokens, and why; or it has tokens, and what the fault says of them.
+-- What a fault at a place says of a text: it has no tokens, and why; or it has tokens, and what the
+-- fault says of them.
 abbrev pub IsFaultOf : Bytes → ParserError → Place → Type 0
-IsFaultOf text e place = IsRefused text e place ⊎ ((s : Stream) × HasTokens text s × IsFault s.tokens s.end e place)
+IsFaultOf text e place =
+    IsRefused text e place
+    ⊎ ((s : Stream) × HasTokens text s × IsGrammarFault s.tokens s.end e place)
 
 -- a text that has no tokens is refused with its fault there, unless memory runs out
 abbrev pub TellsFaults : {A : Type 0} → Bytes → Result A ParserErrorWithLocation → Type 0
-TellsFaults text r = (e : ParserError) (at : Place) → IsRefused text e at → MatchResult r (λ _. ⊥) (λ f. (f ≡ out_of_memory) ⊎ (f ≡ located e at))
+TellsFaults text r =
+    (e : ParserError) (at : Place) → IsRefused text e at →
+    MatchResult r (λ _. ⊥) (λ f. (f ≡ out_of_memory) ⊎ (f ≡ located e at))

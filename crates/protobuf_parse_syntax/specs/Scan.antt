@@ -1,7 +1,7 @@
 -- What the scanners of the front of a text answer.
 use Rattle.std.specs.Prelude.{◌≡◌, ◌≤◌, ◌⊎◌, ℕ, ◌+◌, Bool, true, false, ◌||◌, if◌then◌else◌, ◌==◌, List, [], ◌∷◌, length, slice_index, Option, Some, None}
-use Rattle.protobuf_parse_syntax.specs.Text.{Bytes, is_in, AllIn, StopsAt, IsBlank, IsToken, IsFault}
-use Rattle.protobuf_parse_syntax.specs.declared.lexer.bytes.Class.TheVariants as class
+use Rattle.protobuf_parse_syntax.specs.Text.{Bytes, is_in, AllIn, RunStopsAt, IsBlank, IsToken, IsFault}
+use Rattle.protobuf_parse_syntax.specs.declared.lexer.bytes.ByteClass.TheVariants as class
 use Rattle.protobuf_parse_syntax.specs.declared.lexer.front.Piece.{Piece}
 use Rattle.protobuf_parse_syntax.specs.declared.lexer.front.Piece.TheVariants as piece
 
@@ -16,7 +16,7 @@ closing quote false at (b ∷ z) =
 pub record EndsFraction (z : Bytes) (whole point : ℕ) : Type 0 where
   pub within : point ≤ length z
   pub ends : ((point ≡ whole) × (slice_index z whole ≡ 46 → ⊥))
-      ⊎ ((slice_index z whole ≡ 46) × (whole + 1 ≤ point) × AllIn class.Digit z (whole + 1) point × StopsAt class.Digit z point)
+      ⊎ ((slice_index z whole ≡ 46) × (whole + 1 ≤ point) × AllIn class.Digit z (whole + 1) point × RunStopsAt class.Digit z point)
 
 abbrev pub BeginsNumber : Bytes → Type 0
 BeginsNumber z = (is_in class.Digit (slice_index z 0) ≡ true) ⊎ ((slice_index z 0 ≡ 46) × (is_in class.Digit (slice_index z 1) ≡ true))

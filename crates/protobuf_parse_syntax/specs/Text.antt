@@ -1,11 +1,13 @@
 -- What stands at the front of a text: the "Lexical elements" of the Protocol Buffers Language
 -- Specification (https://protobuf.dev/reference/protobuf/proto3-spec/), with comments and blanks.
 -- A text is its bytes, mostly z; the numbers n and m count bytes from its front on.
-use Rattle.std.specs.Prelude.{◌≡◌, ◌≤◌, ◌<◌, ◌⊎◌, ℕ, ◌+◌, ◌-◌, ◌^◌, Bool, true, false, not, ◌&&◌, ◌||◌, if◌then◌else◌, ◌==◌, nat_le, List, [], ◌∷◌, length, slice_index, slice_range, take, drop}
+use Rattle.std.specs.Prelude.{◌≡◌, ◌≤◌, ◌<◌, ◌⊎◌, ℕ, ◌+◌, ◌-◌, ◌^◌, Bool, true, false, not, ◌&&◌}
+use Rattle.std.specs.Prelude.{◌||◌, if◌then◌else◌, ◌==◌, nat_le, List, [], ◌∷◌, length, slice_index}
+use Rattle.std.specs.Prelude.{slice_range, take, drop}
 use Rattle.std.specs.Char.{is_ascii_digit, is_ascii_hexdigit, is_ascii_alphanumeric}
 use Rattle.std.specs.Str.Parse.{digits_value}
-use Rattle.protobuf_parse_syntax.specs.declared.lexer.bytes.Class.{Class}
-use Rattle.protobuf_parse_syntax.specs.declared.lexer.bytes.Class.TheVariants as class
+use Rattle.protobuf_parse_syntax.specs.declared.lexer.bytes.ByteClass.{ByteClass}
+use Rattle.protobuf_parse_syntax.specs.declared.lexer.bytes.ByteClass.TheVariants as class
 use Rattle.protobuf_parse_syntax.specs.declared.error.ParserError.{ParserError}
 use Rattle.protobuf_parse_syntax.specs.declared.error.ParserError.TheVariants as error
 use Rattle.protobuf_parse_syntax.specs.declared.lexer.token.TokenKind.{TokenKind}
@@ -16,9 +18,9 @@ Bytes = List ℕ
 
 -- ---- classes of bytes
 
--- space, tab, line feed, vertical tab, form feed, carriage return; a byte of a line; a letter, digit
--- or underscore; a digit; an octal digit; a hexadecimal digit
-abbrev pub is_in : Class → ℕ → Bool
+-- space, tab, line feed, vertical tab, form feed, carriage return; a byte of a line; a letter,
+-- digit or underscore; a digit; an octal digit; a hexadecimal digit
+abbrev pub is_in : ByteClass → ℕ → Bool
 is_in class.Blank b = b == 32 || (nat_le 9 b && nat_le b 13)
 is_in class.Line b = not (b == 10)
 is_in class.Ident b = is_ascii_alphanumeric b || b == 95
@@ -27,12 +29,12 @@ is_in class.Octal b = nat_le 48 b && nat_le b 55
 is_in class.Hex b = is_ascii_hexdigit b
 
 -- the bytes from i up to n are of the class
-abbrev pub AllIn : Class → Bytes → ℕ → ℕ → Type 0
+abbrev pub AllIn : ByteClass → Bytes → ℕ → ℕ → Type 0
 AllIn c z i n = (k : ℕ) → i ≤ k → k < n → is_in c (slice_index z k) ≡ true
 
 -- no byte of the class stands at n
-abbrev pub StopsAt : Class → Bytes → ℕ → Type 0
-StopsAt c z n = n < length z → is_in c (slice_index z n) ≡ false
+abbrev pub RunStopsAt : ByteClass → Bytes → ℕ → Type 0
+RunStopsAt c z n = n < length z → is_in c (slice_index z n) ≡ false
 
 -- ---- blanks and comments
 
@@ -41,7 +43,7 @@ pub record IsSpaces (z : Bytes) (n : ℕ) : Type 0 where
   pub some : 0 < n
   pub within : n ≤ length z
   pub each : AllIn class.Blank z 0 n
-  pub stops : StopsAt class.Blank z n
+  pub stops : RunStopsAt class.Blank z n
 
 -- `//` to the end of its line
 pub record IsLine (z : Bytes) (n : ℕ) : Type 0 where
@@ -50,7 +52,7 @@ pub record IsLine (z : Bytes) (n : ℕ) : Type 0 where
   pub some : 2 ≤ n
   pub within : n ≤ length z
   pub each : AllIn class.Line z 2 n
-  pub stops : StopsAt class.Line z n
+  pub stops : RunStopsAt class.Line z n
 
 -- `*/` stands at k
 abbrev pub Closes : Bytes → ℕ → Type 0
@@ -70,7 +72,7 @@ IsBlank z n = IsSpaces z n ⊎ IsLine z n ⊎ IsBlock z n
 
 -- ---- identifiers: ident = letter { letter | decimalDigit | "_" }, where "_" counts as a letter
 
-pub record IsIdent (z : Bytes) (n : ℕ) : Type 0 where
+pub record IsIdentText (z : Bytes) (n : ℕ) : Type 0 where
   pub some : 0 < n
   pub within : n ≤ length z
   pub each : AllIn class.Ident z 0 n
@@ -85,13 +87,15 @@ abbrev pub is_empty : Bytes → Bool
 is_empty [] = true
 is_empty (b ∷ z) = false
 
--- These bytes are the rest of a string, with its closing quote: no line feed and no NUL stands there,
--- and a quote closes the string unless a backslash takes it. The test is whether one takes the first.
+-- These bytes are the rest of a string, with its closing quote: no line feed and no NUL stands
+-- there, and a quote closes the string unless a backslash takes it. The test is whether one takes
+-- the first.
 abbrev pub is_rest : ℕ → Bool → Bytes → Bool
 is_rest quote is_escaped [] = false
 is_rest quote true (b ∷ z) = if b == 10 || b == 0 then false else is_rest quote false z
 is_rest quote false (b ∷ z) =
-    if b == 10 || b == 0 then false else (if b == quote then is_empty z else is_rest quote (b == 92) z)
+    if b == 10 || b == 0 then false
+    else (if b == quote then is_empty z else is_rest quote (b == 92) z)
 
 pub record IsString (z : Bytes) (n : ℕ) : Type 0 where
   pub some : 0 < n
@@ -124,9 +128,11 @@ pub record IsOctal (z : Bytes) (n : ℕ) : Type 0 where
   pub each : AllIn class.Octal z 1 n
 
 -- an integer of n bytes, whose number is v
-abbrev pub IsInteger : Bytes → ℕ → ℕ → Type 0
-IsInteger z n v =
-    (IsDecimal z n × (v ≡ digits_value 10 (slice_range z 0 n))) ⊎ (IsHex z n × (v ≡ digits_value 16 (slice_range z 2 n))) ⊎ (IsOctal z n × (v ≡ digits_value 8 (slice_range z 1 n)))
+abbrev pub IsIntegerText : Bytes → ℕ → ℕ → Type 0
+IsIntegerText z n v =
+    (IsDecimal z n × (v ≡ digits_value 10 (slice_range z 0 n)))
+    ⊎ (IsHex z n × (v ≡ digits_value 16 (slice_range z 2 n)))
+    ⊎ (IsOctal z n × (v ≡ digits_value 8 (slice_range z 1 n)))
 
 -- ---- floats: decimals "." [ decimals ] [ exponent ] | decimals exponent | "." decimals [ exponent ]
 
@@ -145,12 +151,15 @@ pub record IsExponent (j : ℕ) (z : Bytes) (n : ℕ) : Type 0 where
   pub within : n ≤ length z
   pub each : AllIn class.Digit z from n
 
--- digits up to `whole`, a point and digits behind it up to `point`, and an exponent, each perhaps missing
+-- digits up to `whole`, a point and digits behind it up to `point`, and an exponent, each perhaps
+-- missing
 pub record IsFloat (z : Bytes) (n : ℕ) : Type 0 where
   pub whole : ℕ
   pub point : ℕ
   pub digits : AllIn class.Digit z 0 whole
-  pub fraction : (point ≡ whole) ⊎ ((slice_index z whole ≡ 46) × (whole + 1 ≤ point) × AllIn class.Digit z (whole + 1) point)
+  pub fraction :
+      (point ≡ whole)
+      ⊎ ((slice_index z whole ≡ 46) × (whole + 1 ≤ point) × AllIn class.Digit z (whole + 1) point)
   pub exponent : (n ≡ point) ⊎ IsExponent point z n
   -- some digit stands before the exponent
   pub some : (0 < whole) ⊎ (whole + 1 < point)
@@ -160,11 +169,11 @@ pub record IsFloat (z : Bytes) (n : ℕ) : Type 0 where
 
 -- ---- the longest literal
 
-abbrev pub IsNumber : Bytes → ℕ → Type 0
-IsNumber z n = IsDecimal z n ⊎ IsHex z n ⊎ IsOctal z n ⊎ IsFloat z n
+abbrev pub IsNumberText : Bytes → ℕ → Type 0
+IsNumberText z n = IsDecimal z n ⊎ IsHex z n ⊎ IsOctal z n ⊎ IsFloat z n
 
 abbrev pub IsLiteral : Bytes → ℕ → Type 0
-IsLiteral z n = IsIdent z n ⊎ IsString z n ⊎ IsNumber z n
+IsLiteral z n = IsIdentText z n ⊎ IsString z n ⊎ IsNumberText z n
 
 -- the longest front that is so, and that no front is
 abbrev pub Longest : (Bytes → ℕ → Type 0) → Bytes → ℕ → Type 0
@@ -190,19 +199,28 @@ is_symbol b = nat_le 33 b && nat_le b 126 && not (b == 34) && not (b == 39)
 -- The token of the kind has n bytes there: the longest literal, which for a number no identifier's
 -- character follows, else one symbol.
 abbrev pub IsToken : Bytes → ℕ → TokenKind → Type 0
-IsToken z n kind.Ident = IsIdent z n × IsLongest z n
+IsToken z n kind.Ident = IsIdentText z n × IsLongest z n
 IsToken z n kind.Str = IsString z n × IsLongest z n
-IsToken z n (kind.Integer v) = IsInteger z n v × (v < 2 ^ 64) × IsLongest z n × StopsAt class.Ident z n
-IsToken z n kind.Float = IsFloat z n × IsLongest z n × StopsAt class.Ident z n
-IsToken z n (kind.Symbol b) = (n ≡ 1) × (0 < length z) × (b ≡ slice_index z 0) × (is_symbol b ≡ true) × NoFront IsLiteral z × HasNoComment z
+IsToken z n (kind.Integer v) =
+    IsIntegerText z n v × (v < 2 ^ 64) × IsLongest z n × RunStopsAt class.Ident z n
+IsToken z n kind.Float = IsFloat z n × IsLongest z n × RunStopsAt class.Ident z n
+IsToken z n (kind.Symbol b) =
+    (n ≡ 1) × (0 < length z) × (b ≡ slice_index z 0) × (is_symbol b ≡ true) × NoFront IsLiteral z
+    × HasNoComment z
 
 -- What is wrong there: an unclosed comment, an unclosed string, a number directly before an
 -- identifier's character, any other integer that is too large, or a character that begins no token.
 abbrev pub IsFault : Bytes → ParserError → Type 0
-IsFault z error.UnterminatedComment = (slice_index z 0 ≡ 47) × (slice_index z 1 ≡ 42) × NoFront IsBlock z
+IsFault z error.UnterminatedComment =
+    (slice_index z 0 ≡ 47) × (slice_index z 1 ≡ 42) × NoFront IsBlock z
 IsFault z error.UnterminatedString = IsQuote (slice_index z 0) × NoFront IsLiteral z
-IsFault z error.BadNumber = (n : ℕ) × IsNumber z n × IsLongest z n × (n < length z) × (is_in class.Ident (slice_index z n) ≡ true)
-IsFault z error.IntegerOverflow = (n : ℕ) × (v : ℕ) × IsInteger z n v × IsLongest z n × StopsAt class.Ident z n × (2 ^ 64 ≤ v)
+IsFault z error.BadNumber =
+    (n : ℕ) × IsNumberText z n × IsLongest z n × (n < length z)
+    × (is_in class.Ident (slice_index z n) ≡ true)
+IsFault z error.IntegerOverflow =
+    (n : ℕ) × (v : ℕ) × IsIntegerText z n v × IsLongest z n × RunStopsAt class.Ident z n
+    × (2 ^ 64 ≤ v)
 IsFault z error.UnexpectedCharacter =
-    (0 < length z) × (is_in class.Blank (slice_index z 0) ≡ false) × HasNoComment z × NoFront IsLiteral z × (is_symbol (slice_index z 0) ≡ false) × (IsQuote (slice_index z 0) → ⊥)
+    (0 < length z) × (is_in class.Blank (slice_index z 0) ≡ false) × HasNoComment z
+    × NoFront IsLiteral z × (is_symbol (slice_index z 0) ≡ false) × (IsQuote (slice_index z 0) → ⊥)
 IsFault z _ = ⊥

@@ -1,12 +1,15 @@
--- Tokens: how deep their brackets nest, and what their strings say: strLit, charValue and its escapes in
--- the "Lexical elements" of the Protocol Buffers Language Specification
+-- Tokens: how deep their brackets nest, and what their strings say: strLit, charValue and its
+-- escapes in the "Lexical elements" of the Protocol Buffers Language Specification
 -- (https://protobuf.dev/reference/protobuf/proto3-spec/).
-use Rattle.std.specs.Prelude.{◌≡◌, ◌≤◌, ◌<◌, ◌⊎◌, ℕ, ◌+◌, ◌-◌, ◌&&◌, nat_le, Bool, false, ◌||◌, ◌==◌, if◌then◌else◌, List, [], ◌∷◌, ◌++◌, length, slice_index, slice_range, slice_get, take, drop, count_by, encode_utf8, Option, Some, None}
+use Rattle.std.specs.Prelude.{◌≡◌, ◌≤◌, ◌<◌, ◌⊎◌, ℕ, ◌+◌, ◌-◌, ◌&&◌, nat_le, Bool, false, ◌||◌}
+use Rattle.std.specs.Prelude.{◌==◌, if◌then◌else◌, List, [], ◌∷◌, ◌++◌, length, slice_index}
+use Rattle.std.specs.Prelude.{slice_range, slice_get, take, drop, count_by, encode_utf8, Option}
+use Rattle.std.specs.Prelude.{Some, None}
 use Rattle.std.specs.Char.{IsScalar}
 use Rattle.std.specs.Str.Parse.{digits_value}
-use Rattle.protobuf_parse_syntax.specs.Text.{Bytes, AllIn, StopsAt}
-use Rattle.protobuf_parse_syntax.specs.declared.lexer.bytes.Class.{Class}
-use Rattle.protobuf_parse_syntax.specs.declared.lexer.bytes.Class.TheVariants as class
+use Rattle.protobuf_parse_syntax.specs.Text.{Bytes, AllIn, RunStopsAt}
+use Rattle.protobuf_parse_syntax.specs.declared.lexer.bytes.ByteClass.{ByteClass}
+use Rattle.protobuf_parse_syntax.specs.declared.lexer.bytes.ByteClass.TheVariants as class
 use Rattle.protobuf_parse_syntax.specs.declared.lexer.token.TokenKind.{TokenKind}
 use Rattle.protobuf_parse_syntax.specs.declared.lexer.token.TokenKind.TheVariants as kind
 use Rattle.protobuf_parse_syntax.specs.declared.lexer.token.Place.{Place}
@@ -43,8 +46,8 @@ closed ts = count_by (λ t. is_closing t.kind) ts
 abbrev pub IsDeep : List Lexeme → Type 0
 IsDeep ts = closed ts + 100 < opened ts
 
--- The depth of the tokens is the greatest number, over their fronts, of opened less closed brackets.
--- It is at most 100.
+-- The depth of the tokens is the greatest number, over their fronts, of opened less closed
+-- brackets. It is at most 100.
 abbrev pub IsShallow : List Lexeme → Type 0
 IsShallow ts = (n : ℕ) → IsDeep (take n ts) → ⊥
 
@@ -64,39 +67,58 @@ is_quote b = b == 34 || b == 39
 
 -- what stands between the quotes at the ends of a text
 abbrev pub unquoted : Bytes → Bytes
-unquoted z = if nat_le 2 (length z) && is_quote (slice_index z 0) && is_quote (slice_index z (length z - 1)) then slice_range z 1 (length z - 1) else []
+unquoted z =
+    if nat_le 2 (length z) && is_quote (slice_index z 0) && is_quote (slice_index z (length z - 1))
+    then slice_range z 1 (length z - 1) else []
 
 -- what a backslash and this byte stand for: \a \b \f \n \r \t \v \\ \' \" \?
 abbrev pub letter_byte : ℕ → Option ℕ
 letter_byte c =
-    if c == 97 then Some 7 else (if c == 98 then Some 8 else (if c == 102 then Some 12 else (if c == 110 then Some 10 else (if c == 114 then Some 13
-    else (if c == 116 then Some 9 else (if c == 118 then Some 11 else (if c == 92 || c == 39 || c == 34 || c == 63 then Some c else None)))))))
+    if c == 97 then Some 7 else (if c == 98 then Some 8 else (if c == 102 then Some 12
+    else (if c == 110 then Some 10 else (if c == 114 then Some 13 else (if c == 116 then Some 9
+    else (if c == 118 then Some 11
+    else (if c == 92 || c == 39 || c == 34 || c == 63 then Some c else None)))))))
 
 -- digits of the class from `from` up to n, as many as stand there, at most up to `limit`
-pub record IsDigits (c : Class) (z : Bytes) (from limit n : ℕ) : Type 0 where
+pub record IsDigits (c : ByteClass) (z : Bytes) (from limit n : ℕ) : Type 0 where
   pub some : from < n
   pub within : n ≤ length z
   pub short : n ≤ limit
   pub each : AllIn c z from n
-  pub stops : n < limit → StopsAt c z n
+  pub stops : n < limit → RunStopsAt c z n
 
--- The n bytes at the front of z, of which the first is a backslash, are an escape and stand for these
--- bytes: of a letter; of one to three octal digits, up to 377; of \x and one or two hexadecimal digits;
--- of \u and four or \U and eight, which name a character.
+-- The n bytes at the front of z, of which the first is a backslash, are an escape and stand for
+-- these bytes: of a letter; of one to three octal digits, up to 377; of \x and one or two
+-- hexadecimal digits; of \u and four or \U and eight, which name a character.
 pub data IsEscape : Bytes → ℕ → Bytes → Type 0 where
   letter : {z : Bytes} (b : ℕ) → letter_byte (slice_index z 1) ≡ Some b → IsEscape z 2 (b ∷ [])
-  octal : {z : Bytes} (n : ℕ) → IsDigits class.Octal z 1 4 n → digits_value 8 (slice_range z 1 n) ≤ 255 → IsEscape z n (digits_value 8 (slice_range z 1 n) ∷ [])
-  hex : {z : Bytes} (n : ℕ) → (slice_index z 1 ≡ 120) ⊎ (slice_index z 1 ≡ 88) → IsDigits class.Hex z 2 4 n → IsEscape z n (digits_value 16 (slice_range z 2 n) ∷ [])
-  short : {z : Bytes} → slice_index z 1 ≡ 117 → 6 ≤ length z → AllIn class.Hex z 2 6 → IsScalar (digits_value 16 (slice_range z 2 6)) → IsEscape z 6 (encode_utf8 (digits_value 16 (slice_range z 2 6)))
-  long : {z : Bytes} → slice_index z 1 ≡ 85 → 10 ≤ length z → AllIn class.Hex z 2 10 → IsScalar (digits_value 16 (slice_range z 2 10)) → IsEscape z 10 (encode_utf8 (digits_value 16 (slice_range z 2 10)))
+  octal :
+      {z : Bytes} (n : ℕ) → IsDigits class.Octal z 1 4 n →
+      digits_value 8 (slice_range z 1 n) ≤ 255 →
+      IsEscape z n (digits_value 8 (slice_range z 1 n) ∷ [])
+  hex :
+      {z : Bytes} (n : ℕ) → (slice_index z 1 ≡ 120) ⊎ (slice_index z 1 ≡ 88) →
+      IsDigits class.Hex z 2 4 n → IsEscape z n (digits_value 16 (slice_range z 2 n) ∷ [])
+  short :
+      {z : Bytes} → slice_index z 1 ≡ 117 → 6 ≤ length z → AllIn class.Hex z 2 6 →
+      IsScalar (digits_value 16 (slice_range z 2 6)) →
+      IsEscape z 6 (encode_utf8 (digits_value 16 (slice_range z 2 6)))
+  long :
+      {z : Bytes} → slice_index z 1 ≡ 85 → 10 ≤ length z → AllIn class.Hex z 2 10 →
+      IsScalar (digits_value 16 (slice_range z 2 10)) →
+      IsEscape z 10 (encode_utf8 (digits_value 16 (slice_range z 2 10)))
 
 -- the text between a string's quotes stands for these bytes
 pub data Decodes : Bytes → Bytes → Type 0 where
   done : Decodes [] []
   plain : {z v : Bytes} (b : ℕ) → (b ≡ 92 → ⊥) → Decodes z v → Decodes (b ∷ z) (b ∷ v)
-  escape : {z v : Bytes} (n : ℕ) (w : Bytes) → slice_index z 0 ≡ 92 → IsEscape z n w → Decodes (drop n z) v → Decodes z (w ++ v)
+  escape :
+      {z v : Bytes} (n : ℕ) (w : Bytes) → slice_index z 0 ≡ 92 → IsEscape z n w →
+      Decodes (drop n z) v → Decodes z (w ++ v)
 
 -- several pieces, one after the other
 pub data DecodesAll : List Bytes → Bytes → Type 0 where
   none : DecodesAll [] []
-  piece : {zs : List Bytes} {v : Bytes} (z w : Bytes) → Decodes z w → DecodesAll zs v → DecodesAll (z ∷ zs) (w ++ v)
+  piece :
+      {zs : List Bytes} {v : Bytes} (z w : Bytes) → Decodes z w → DecodesAll zs v →
+      DecodesAll (z ∷ zs) (w ++ v)

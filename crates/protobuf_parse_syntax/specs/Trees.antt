@@ -1,5 +1,7 @@
--- What a text says, without where it lies in memory: a record or a data type for each type of the tree.
-use Rattle.std.specs.Prelude.{ℤ, pos, Bool, List, [], ◌∷◌, map, fold, Option, Some, None, string_bytes}
+-- What a text says, without where it lies in memory: a record or a data type for each type of the
+-- tree.
+use Rattle.std.specs.Prelude.{ℤ, pos, Bool, List, [], ◌∷◌, map, fold, Option, Some, None}
+use Rattle.std.specs.Prelude.{string_bytes}
 use Rattle.protobuf_parse_base.specs.PathViews.{path_buf_text}
 use Rattle.protobuf_parse_syntax.specs.Text.{Bytes}
 use Rattle.protobuf_parse_syntax.specs.declared.lexer.token.Place.{Place}
@@ -11,8 +13,10 @@ use Rattle.protobuf_parse_syntax.specs.declared.tree.Package.{Package}
 use Rattle.protobuf_parse_syntax.specs.declared.tree.FileStatement.{FileStatement}
 use Rattle.protobuf_parse_syntax.specs.declared.tree.FileStatement.TheVariants as file_statement
 use Rattle.protobuf_parse_syntax.specs.declared.tree.FileTree.{FileTree}
-use Rattle.protobuf_parse_syntax.specs.declared.tree.constant.ProtobufConstant.{ProtobufConstant, fold-ProtobufConstant}
-use Rattle.protobuf_parse_syntax.specs.declared.tree.constant.ProtobufConstant.TheOpen.{ProtobufConstant-F, ConstantField-F}
+use Rattle.protobuf_parse_syntax.specs.declared.tree.constant.ProtobufConstant.{ProtobufConstant}
+use Rattle.protobuf_parse_syntax.specs.declared.tree.constant.ProtobufConstant.{fold-ProtobufConstant}
+use Rattle.protobuf_parse_syntax.specs.declared.tree.constant.ProtobufConstant.TheOpen.{ProtobufConstant-F}
+use Rattle.protobuf_parse_syntax.specs.declared.tree.constant.ProtobufConstant.TheOpen.{ConstantField-F}
 use Rattle.protobuf_parse_syntax.specs.declared.tree.constant.ConstantField.{ConstantField}
 use Rattle.protobuf_parse_syntax.specs.declared.tree.constant.ConstantFieldName.{ConstantFieldName}
 use Rattle.protobuf_parse_syntax.specs.declared.tree.constant.ConstantFieldName.TheVariants as constant_name
@@ -27,9 +31,11 @@ use Rattle.protobuf_parse_syntax.specs.declared.tree.field.Scalar.{Scalar}
 use Rattle.protobuf_parse_syntax.specs.declared.tree.field.Type.{«Type», fold-Type}
 use Rattle.protobuf_parse_syntax.specs.declared.tree.field.Type.TheOpen.{Type-F}
 use Rattle.protobuf_parse_syntax.specs.declared.tree.field.Field.{Field}
-use Rattle.protobuf_parse_syntax.specs.declared.tree.field.FieldStatement.{FieldStatement, fold-FieldStatement}
+use Rattle.protobuf_parse_syntax.specs.declared.tree.field.FieldStatement.{FieldStatement}
+use Rattle.protobuf_parse_syntax.specs.declared.tree.field.FieldStatement.{fold-FieldStatement}
 use Rattle.protobuf_parse_syntax.specs.declared.tree.field.Group.{Group}
-use Rattle.protobuf_parse_syntax.specs.declared.tree.field.FieldStatement.TheOpen.{FieldStatement-F, Group-F}
+use Rattle.protobuf_parse_syntax.specs.declared.tree.field.FieldStatement.TheOpen.{FieldStatement-F}
+use Rattle.protobuf_parse_syntax.specs.declared.tree.field.FieldStatement.TheOpen.{Group-F}
 use Rattle.protobuf_parse_syntax.specs.declared.tree.declaration.FieldNumberRange.{FieldNumberRange}
 use Rattle.protobuf_parse_syntax.specs.declared.tree.declaration.Reserved.{Reserved}
 use Rattle.protobuf_parse_syntax.specs.declared.tree.declaration.Reserved.TheVariants as reserved
@@ -48,8 +54,10 @@ use Rattle.protobuf_parse_syntax.specs.declared.tree.declaration.Service.{Servic
 use Rattle.protobuf_parse_syntax.specs.declared.tree.declaration.ServiceStatement.{ServiceStatement}
 use Rattle.protobuf_parse_syntax.specs.declared.tree.declaration.ServiceStatement.TheVariants as service_statement
 use Rattle.protobuf_parse_syntax.specs.declared.tree.declaration.Message.{Message, fold-Message}
-use Rattle.protobuf_parse_syntax.specs.declared.tree.declaration.MessageStatement.{MessageStatement, fold-MessageStatement}
-use Rattle.protobuf_parse_syntax.specs.declared.tree.declaration.MessageStatement.TheOpen.{MessageStatement-F, Message-F}
+use Rattle.protobuf_parse_syntax.specs.declared.tree.declaration.MessageStatement.{MessageStatement}
+use Rattle.protobuf_parse_syntax.specs.declared.tree.declaration.MessageStatement.{fold-MessageStatement}
+use Rattle.protobuf_parse_syntax.specs.declared.tree.declaration.MessageStatement.TheOpen.{MessageStatement-F}
+use Rattle.protobuf_parse_syntax.specs.declared.tree.declaration.MessageStatement.TheOpen.{Message-F}
 
 -- ---- strings
 
@@ -62,7 +70,8 @@ pieces_of s = map string_bytes s.pieces.items
 
 -- ---- constants
 
--- the name of a field in a message constant: plain, or in brackets the name of an extension or a type URL
+-- the name of a field in a message constant: plain, or in brackets the name of an extension or a
+-- type URL
 pub data ConstantNameSyntax : Type 0 where
   regular_name : Bytes → ConstantNameSyntax
   extension_name : Bytes → ConstantNameSyntax
@@ -112,11 +121,13 @@ constant_step (ProtobufConstant-F.String s) = string (pieces_of s)
 constant_step (ProtobufConstant-F.List cs) = list (constants cs.items)
 constant_step (ProtobufConstant-F.Message fs) = fields (constant_fields fs.items)
 
-abbrev pub constant_field_step : ConstantField-F ConstantSyntax ConstantFieldSyntax → ConstantFieldSyntax
+abbrev pub constant_field_step :
+    ConstantField-F ConstantSyntax ConstantFieldSyntax → ConstantFieldSyntax
 constant_field_step f = record { name = constant_name_view f.name; value = f.value }
 
 abbrev pub constant_view : ProtobufConstant → ConstantSyntax
-constant_view = fold-ProtobufConstant ConstantSyntax ConstantFieldSyntax constant_step constant_field_step
+constant_view =
+    fold-ProtobufConstant ConstantSyntax ConstantFieldSyntax constant_step constant_field_step
 
 abbrev pub constant_field_view : ConstantField → ConstantFieldSyntax
 constant_field_view f = record { name = constant_name_view f.name; value = constant_view f.value }
@@ -178,7 +189,14 @@ pub record FieldSyntax : Type 0 where
   pub options : List OptionSyntax
 
 abbrev pub field_view : Field → FieldSyntax
-field_view f = record { place = f.place; label = f.label; type_ = type_view f.type_; name = string_bytes f.name; number = f.number; options = map option_view f.options.items }
+field_view f = record {
+  place = f.place;
+  label = f.label;
+  type_ = type_view f.type_;
+  name = string_bytes f.name;
+  number = f.number;
+  options = map option_view f.options.items;
+}
 
 -- a statement that declares a field, or a group of fields
 mutual
@@ -205,17 +223,31 @@ abbrev pub group_of : GroupSyntax → FieldStatementSyntax
 group_of g = group g.place g.label g.name g.number (field_statements g.fields)
 
 abbrev pub group_step : Group-F FieldStatementSyntax GroupSyntax → GroupSyntax
-group_step g = record { place = g.place; label = g.label; name = string_bytes g.name; number = g.number; fields = g.fields.items }
+group_step g = record {
+  place = g.place;
+  label = g.label;
+  name = string_bytes g.name;
+  number = g.number;
+  fields = g.fields.items;
+}
 
-abbrev pub field_statement_step : FieldStatement-F FieldStatementSyntax GroupSyntax → FieldStatementSyntax
+abbrev pub field_statement_step :
+    FieldStatement-F FieldStatementSyntax GroupSyntax → FieldStatementSyntax
 field_statement_step (FieldStatement-F.Field f) = field (field_view f)
 field_statement_step (FieldStatement-F.Group g) = group_of g
 
 abbrev pub field_statement_view : FieldStatement → FieldStatementSyntax
-field_statement_view = fold-FieldStatement FieldStatementSyntax GroupSyntax field_statement_step group_step
+field_statement_view =
+    fold-FieldStatement FieldStatementSyntax GroupSyntax field_statement_step group_step
 
 abbrev pub group_view : Group → GroupSyntax
-group_view g = record { place = g.place; label = g.label; name = string_bytes g.name; number = g.number; fields = map field_statement_view g.fields.items }
+group_view g = record {
+  place = g.place;
+  label = g.label;
+  name = string_bytes g.name;
+  number = g.number;
+  fields = map field_statement_view g.fields.items;
+}
 
 -- ---- parts of messages and enums
 
@@ -284,13 +316,26 @@ oneof_statement_view (oneof_statement.Option o) = oneof_option (option_statement
 oneof_statement_view (oneof_statement.Field f) = oneof_field (field_statement_view f)
 
 abbrev pub oneof_view : OneOf → OneofSyntax
-oneof_view o = record { place = o.place; name = string_bytes o.name; body = map oneof_statement_view o.body.items }
+oneof_view o = record {
+  place = o.place;
+  name = string_bytes o.name;
+  body = map oneof_statement_view o.body.items;
+}
 
 abbrev pub extend_view : Extend → ExtendSyntax
-extend_view e = record { place = e.place; extendee = string_bytes e.extendee; fields = map field_statement_view e.fields.items }
+extend_view e = record {
+  place = e.place;
+  extendee = string_bytes e.extendee;
+  fields = map field_statement_view e.fields.items;
+}
 
 abbrev pub value_view : EnumValue → EnumValueSyntax
-value_view v = record { place = v.place; name = string_bytes v.name; number = v.number; options = map option_view v.options.items }
+value_view v = record {
+  place = v.place;
+  name = string_bytes v.name;
+  number = v.number;
+  options = map option_view v.options.items;
+}
 
 abbrev pub enum_statement_view : EnumStatement → EnumStatementSyntax
 enum_statement_view (enum_statement.Reserved r) = enum_reserved (reserved_statement_view r)
@@ -298,7 +343,11 @@ enum_statement_view (enum_statement.Option o) = enum_option (option_statement_vi
 enum_statement_view (enum_statement.Value v) = enum_value (value_view v)
 
 abbrev pub enum_view : Enumeration → EnumSyntax
-enum_view e = record { place = e.place; name = string_bytes e.name; body = map enum_statement_view e.body.items }
+enum_view e = record {
+  place = e.place;
+  name = string_bytes e.name;
+  body = map enum_statement_view e.body.items;
+}
 
 -- ---- messages
 
@@ -332,8 +381,10 @@ nested_message m = message_message m.place m.name (message_statements m.body)
 abbrev pub message_step : Message-F MessageStatementSyntax MessageSyntax → MessageSyntax
 message_step m = record { place = m.place; name = string_bytes m.name; body = m.body.items }
 
-abbrev pub message_statement_step : MessageStatement-F MessageStatementSyntax MessageSyntax → MessageStatementSyntax
-message_statement_step (MessageStatement-F.Reserved r) = message_reserved (reserved_statement_view r)
+abbrev pub message_statement_step :
+    MessageStatement-F MessageStatementSyntax MessageSyntax → MessageStatementSyntax
+message_statement_step (MessageStatement-F.Reserved r) =
+    message_reserved (reserved_statement_view r)
 message_statement_step (MessageStatement-F.OneOf o) = message_oneof (oneof_view o)
 message_statement_step (MessageStatement-F.Extend e) = message_extend (extend_view e)
 message_statement_step (MessageStatement-F.Message m) = nested_message m
@@ -343,7 +394,8 @@ message_statement_step (MessageStatement-F.Option o) = message_option (option_st
 message_statement_step (MessageStatement-F.Field f) = message_field (field_statement_view f)
 
 abbrev pub message_statement_view : MessageStatement → MessageStatementSyntax
-message_statement_view = fold-MessageStatement MessageStatementSyntax MessageSyntax message_statement_step message_step
+message_statement_view =
+    fold-MessageStatement MessageStatementSyntax MessageSyntax message_statement_step message_step
 
 abbrev pub message_view : Message → MessageSyntax
 message_view = fold-Message MessageStatementSyntax MessageSyntax message_statement_step message_step
@@ -369,14 +421,26 @@ pub record ServiceSyntax : Type 0 where
   pub body : List ServiceStatementSyntax
 
 abbrev pub method_view : Method → MethodSyntax
-method_view m = record { place = m.place; name = string_bytes m.name; input = string_bytes m.input; output = string_bytes m.output; client_streaming = m.client_streaming; server_streaming = m.server_streaming; options = map option_statement_view m.options.items }
+method_view m = record {
+  place = m.place;
+  name = string_bytes m.name;
+  input = string_bytes m.input;
+  output = string_bytes m.output;
+  client_streaming = m.client_streaming;
+  server_streaming = m.server_streaming;
+  options = map option_statement_view m.options.items;
+}
 
 abbrev pub service_statement_view : ServiceStatement → ServiceStatementSyntax
 service_statement_view (service_statement.Method m) = service_method (method_view m)
 service_statement_view (service_statement.Option o) = service_option (option_statement_view o)
 
 abbrev pub service_view : Service → ServiceSyntax
-service_view s = record { place = s.place; name = string_bytes s.name; body = map service_statement_view s.body.items }
+service_view s = record {
+  place = s.place;
+  name = string_bytes s.name;
+  body = map service_statement_view s.body.items;
+}
 
 -- ---- files
 

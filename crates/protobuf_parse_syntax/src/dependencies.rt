@@ -2,7 +2,7 @@
 
 ghost use Rattle.std.specs.Prelude.{◌≡◌, ◌≤◌, ◌⊎◌, ◌++◌, [], ◌∷◌, length, map, IfOk, IfErr, OnOk, string_bytes, if◌then◌else◌};
 ghost use Rattle.protobuf_parse_base.specs.PathViews.{path_buf_text};
-ghost use Rattle.protobuf_parse_syntax.specs.Cut.{out_of_memory, place_of as place_at};
+ghost use Rattle.protobuf_parse_syntax.specs.Cut.{out_of_memory, error_place as place_at};
 ghost use Rattle.protobuf_parse_syntax.specs.Dependencies as spec;
 ghost use Rattle.protobuf_parse_syntax.specs.Dependencies.{dependencies_of, dependencies_view};
 ghost use Rattle.protobuf_parse_syntax.specs.Parsing.{HasTree, IsFaultOf, TellsFaults};
@@ -49,9 +49,9 @@ pub fn parse_dependencies(
     Ok(found)
 }
 
-/// What a file's statements import. A text has no more statements than bytes.
+/// What a file's statements import. The tree of a text has no more of them than a position can count.
 #[tactic(auto, unfolding(crate::specs::Dependencies::dependencies_of))]
-fn imports_of(alloc: Global, statements: &[FileStatement]) -> Result<Dependencies, AllocError>
+pub fn imports_of(alloc: Global, statements: &[FileStatement]) -> Result<Dependencies, AllocError>
     requires { length statements.now ≤ 2147483647 }
     ensures { IfOk result (λ d. dependencies_view d ≡ dependencies_of (map statement_view statements.now)) }
 {

@@ -7,7 +7,7 @@ mod lexer;
 mod parser;
 mod tree;
 
-pub use dependencies::{Dependencies, parse_dependencies};
+pub use dependencies::{Dependencies, imports_of, parse_dependencies};
 pub use error::{ParserError, ParserErrorWithLocation};
 pub use lexer::laws::{
     cuts_are_unique, decoding_is_unique, escaped_bytes_decode, places_count_characters,
@@ -16,6 +16,7 @@ pub use lexer::laws::{
 pub use lexer::str_lit::{StrLit, StrLitDecodeError, unquoted};
 pub use lexer::token::{Place, Token, TokenKind, TokenStream};
 pub use lexer::tokenize;
+pub use parser::laws::trees_are_shallow;
 pub use parser::{parse_file, tree_of};
 pub use tree::{
     ConstantField, ConstantFieldName, EnumStatement, EnumValue, Enumeration, Extend, Extensions,

@@ -5,6 +5,7 @@ mod cursor;
 mod enumeration;
 mod field;
 mod file;
+pub mod laws;
 mod list;
 mod message;
 mod name;
@@ -13,10 +14,12 @@ mod refusal;
 mod service;
 mod words;
 
-ghost use Rattle.std.specs.Prelude.{◌≡◌, ◌⊎◌, IfOk, IfErr};
-ghost use Rattle.protobuf_parse_syntax.specs.Cut.{out_of_memory, stream as tokens_of, place_of as place_at};
+ghost use Rattle.std.specs.Prelude.{◌≡◌, ◌≤◌, ◌⊎◌, IfOk, IfErr};
+ghost use Rattle.protobuf_parse_syntax.specs.Counts.{statements_in};
+ghost use Rattle.protobuf_parse_syntax.specs.Cut.{out_of_memory, stream as tokens_of, error_place as place_at};
 ghost use Rattle.protobuf_parse_syntax.specs.Grammar.{IsFile};
-ghost use Rattle.protobuf_parse_syntax.specs.Parsing.{IsFault, HasTree, IsFaultOf, TellsFaults};
+ghost use Rattle.protobuf_parse_syntax.specs.Nesting.{ShallowFile};
+ghost use Rattle.protobuf_parse_syntax.specs.Parsing.{IsGrammarFault, HasTree, IsFaultOf, TellsFaults};
 ghost use Rattle.protobuf_parse_syntax.specs.Trees.{FileSyntax, file_view};
 
 use crate::error::{ParserError, ParserErrorWithLocation};
@@ -36,6 +39,12 @@ pub fn parse_file(alloc: Global, text: &str) -> Result<FileTree, ParserErrorWith
     // What is read is the one tree of the text.
     ensures found { IfOk result (λ t. HasTree text.now (file_view t)) }
     ensures only { IfOk result (λ t. (u : FileSyntax) → HasTree text.now u → u ≡ file_view t) }
+
+    // It has at most 2147483647 statements, those of all bodies counted.
+    ensures few { IfOk result (λ t. statements_in (file_view t) ≤ 2147483647) }
+
+    // Its constants nest at most 100 deep, and so do its messages and groups.
+    ensures shallow { IfOk result (λ t. ShallowFile (file_view t)) }
 
     // What is refused has no tree, and that fault stands there.
     ensures none { IfErr result (λ e. (e ≡ out_of_memory)
@@ -59,7 +68,7 @@ pub fn tree_of(alloc: Global, stream: &TokenStream<'_>) -> Result<FileTree, Pars
 
     // What is refused has that fault there.
     ensures refused { IfErr result (λ e. (e ≡ out_of_memory)
-        ⊎ IsFault (tokens_of stream.now).tokens stream.now.end e.error (place_at e)) }
+        ⊎ IsGrammarFault (tokens_of stream.now).tokens stream.now.end e.error (place_at e)) }
 {
     let mut tokens = Cursor::new(stream.tokens.as_slice(), stream.end);
     // No part nests deeper than there are tokens.

@@ -9,11 +9,12 @@ use Rattle.std.proofs.lemmas.List.Elements.{filter-append}
 use Rattle.std.proofs.lemmas.Grind.{flat_map-append}
 use Rattle.protobuf_parse_model.specs.declared.descriptor.DescriptorProto.{DescriptorProto, out-DescriptorProto}
 use Rattle.protobuf_parse_model.specs.Descriptors.{Text, FileDescriptor, FieldDescriptor, MessageParts, MessageDescriptor, a_message, messages_of_list, message_parts, message_view, message_view_is, field_view}
+use Rattle.protobuf_parse_model.specs.Declarations.{Declared}
 use Rattle.protobuf_parse_wire.specs.declared.reader.index.Index.{Index}
 use Rattle.protobuf_parse_wire.specs.Groups.{group}
 use Rattle.std.specs.HashMap.{IsEmpty}
 use Rattle.protobuf_parse_wire.specs.Declarations as declarations
-use Rattle.protobuf_parse_wire.specs.Declarations.{Declaration, within, declared_message, declared_messages, declared_in, package_scope, messages_named, messages_of, extends, extensions_of}
+use Rattle.protobuf_parse_wire.specs.Declarations.{Declaration, within, declared_message, declared_messages, declared_in, package_scope, extensions_within, messages_named, messages_of, extends, extensions_of}
 use Rattle.protobuf_parse_wire.specs.Indexed.{parts_seen, messages_in, extensions_in, Adds, AddsMessages, Indexes}
 
 -- one more element of a list that is mapped
@@ -81,6 +82,28 @@ pub message_added : (scope name : Text) (r : Bor DescriptorProto) (old a b new :
 message_added scope name r old a b new named same put extensions nested =
     added_parts scope name (message_view r.now) (message_parts r.now) (map message_view (out-DescriptorProto r.now).nested_type.items) r old a b new refl (message_view_is r.now) named same put extensions nested
 
+-- extensions without their full names
+
+abbrev field_of : Declared FieldDescriptor → FieldDescriptor
+field_of e = e.what
+
+fields_within : (scope : Text) (fs : List FieldDescriptor) → map field_of (extensions_within scope fs) ≡ fs
+fields_within scope [] = refl
+fields_within scope (f ∷ fs) = ap (λ (gs : List FieldDescriptor). f ∷ gs) (fields_within scope fs)
+
+fields_inside : (ds : List Declaration) → map field_of (flat_map (λ (d : Declaration). extensions_within d.name d.parts.extension) ds) ≡ flat_map (λ (d : Declaration). d.parts.extension) ds
+fields_inside [] = refl
+fields_inside (d ∷ ds) =
+    map-append field_of (extensions_within d.name d.parts.extension) (flat_map (λ (x : Declaration). extensions_within x.name x.parts.extension) ds)
+    ∙ ap (λ (fs : List FieldDescriptor). fs ++ map field_of (flat_map (λ (x : Declaration). extensions_within x.name x.parts.extension) ds)) (fields_within d.name d.parts.extension)
+    ∙ ap (λ (fs : List FieldDescriptor). d.parts.extension ++ fs) (fields_inside ds)
+
+extensions_are : (file : FileDescriptor) → flat_map (λ (d : Declaration). d.parts.extension) (declared_in file) ++ file.extension ≡ declarations.extensions_in file
+extensions_are file =
+    sym (map-append field_of (flat_map (λ (d : Declaration). extensions_within d.name d.parts.extension) (declared_in file)) (extensions_within (package_scope file.«package») file.extension)
+    ∙ ap (λ (fs : List FieldDescriptor). fs ++ map field_of (extensions_within (package_scope file.«package») file.extension)) (fields_inside (declared_in file))
+    ∙ ap (λ (fs : List FieldDescriptor). flat_map (λ (d : Declaration). d.parts.extension) (declared_in file) ++ fs) (fields_within (package_scope file.«package») file.extension))
+
 -- a file: its messages, then the extensions outside them
 pub file_added : (file : FileDescriptor) (scope : Text) (ms : List MessageDescriptor) (es : List FieldDescriptor) (old mid new : Index) → scope ≡ package_scope file.«package» → ms ≡ file.message_type → es ≡ file.extension
     → AddsMessages old mid (flat_map (declared_message scope) ms) → Adds mid new [] es → Adds old new (declared_in file) (declarations.extensions_in file)
@@ -88,7 +111,8 @@ file_added file scope ms es old mid new scoped inside outside first second =
     let ds = flat_map (declared_message scope) ms in
     let all : Adds old new ds (flat_map (λ d. d.parts.extension) ds ++ es) = subst (λ (xs : List Declaration). Adds old new xs (flat_map (λ d. d.parts.extension) ds ++ es)) (append-nil ds) (adds_more old mid new ds [] _ es first second) in
     let same : ds ≡ declared_in file = ap (λ s. flat_map (declared_message s) ms) scoped ∙ ap (flat_map (declared_message (package_scope file.«package»))) inside in
-    subst (λ (fs : List FieldDescriptor). Adds old new (declared_in file) (flat_map (λ d. d.parts.extension) (declared_in file) ++ fs)) outside (subst (λ (xs : List Declaration). Adds old new xs (flat_map (λ d. d.parts.extension) xs ++ es)) same all)
+    let whole : Adds old new (declared_in file) (flat_map (λ d. d.parts.extension) (declared_in file) ++ file.extension) = subst (λ (fs : List FieldDescriptor). Adds old new (declared_in file) (flat_map (λ d. d.parts.extension) (declared_in file) ++ fs)) outside (subst (λ (xs : List Declaration). Adds old new xs (flat_map (λ d. d.parts.extension) xs ++ es)) same all) in
+    subst (λ (fs : List FieldDescriptor). Adds old new (declared_in file) fs) (extensions_are file) whole
 
 -- what an index that began empty has
 pub indexes_all : (start index : Index) (files : List FileDescriptor) → IsEmpty start.messages → IsEmpty start.extensions → Adds start index (flat_map declared_in files) (flat_map declarations.extensions_in files) → Indexes files index

@@ -9,12 +9,13 @@ use Rattle.std.proofs.lemmas.Str.{is_utf8-from_IsUtf8}
 use Rattle.protobuf_parse_model.specs.Descriptors.{Text}
 use Rattle.protobuf_parse_wire.specs.declared.kind.Kind.{Kind}
 use Rattle.protobuf_parse_wire.specs.declared.kind.Kind.TheVariants as kinds
-use Rattle.protobuf_parse_wire.specs.Kinds.{Word, varint, eight_bytes, four_bytes, Code, unsigned, twos_complement, zigzag, Shape, whole, truth, text, octets, message, shape}
+use Rattle.protobuf_parse_wire.specs.Kinds.{Word, varint, eight_bytes, four_bytes, Code, unsigned, twos_complement, zigzag, Shape, whole, truth, text, octets, message, shape, InRange}
 use Rattle.protobuf_parse_wire.specs.Trees as trees
 use Rattle.protobuf_parse_wire.specs.Trees.{Field, fields_of_list}
 use Rattle.protobuf_parse_wire.specs.Wire.{zigzag_of, SaysWord, SaysNumber, SaysTruth, SaysDelimited, HasBytes, HasMessages}
 use Rattle.protobuf_parse_wire.specs.Reading.{Inner, word_at, decoded, unzigzag, payload_at}
-use Rattle.protobuf_parse_wire.specs.Law.{InRange, IsText}
+use Rattle.protobuf_parse_wire.specs.Law.{IsText}
+use Rattle.protobuf_parse_wire.proofs.Ranges.{Converts, converts}
 use Rattle.protobuf_parse_wire.proofs.Varint.{varint_again, delimited_again, four_again, eight_again}
 
 -- ---- each code, at each number of bits
@@ -89,22 +90,26 @@ whole_again inner name word w code v u bs rest says b = rw (word_again word u bs
 below64 : (u : ℕ) {A : Type 0} → (u < 2 ^ 32) × A → (u < 2 ^ 64) × A
 below64 u b = let lt = b.0 in (omega arith, b.1)
 
-pub number_again : (inner : Inner) (name : Option Text) (k : Kind) (v : ℤ) (bs rest : List ℕ) → SaysNumber (shape k) v bs → InRange (shape k) v → payload_at inner name (shape k) (bs ++ rest) ≡ Ok (trees.number v, rest)
-number_again inner name kinds.Int32 v bs rest says fits = whole_again inner name varint w32 twos_complement v says.0 bs rest says.2 (extended_back v says.0 says.1 fits)
-number_again inner name kinds.Int64 v bs rest says fits = whole_again inner name varint w64 twos_complement v says.0 bs rest says.2 (signed64_back v says.0 says.1 fits)
-number_again inner name kinds.Uint32 v bs rest says fits = whole_again inner name varint w32 unsigned v says.0 bs rest says.2 (below64 says.0 (unsigned32_back v says.0 says.1 fits))
-number_again inner name kinds.Uint64 v bs rest says fits = whole_again inner name varint w64 unsigned v says.0 bs rest says.2 (unsigned64_back v says.0 says.1 fits)
-number_again inner name kinds.Sint32 v bs rest says fits = whole_again inner name varint w32 zigzag v says.0 bs rest says.2 (zigzag32_back v says.0 says.1 fits)
-number_again inner name kinds.Sint64 v bs rest says fits = whole_again inner name varint w64 zigzag v says.0 bs rest says.2 (zigzag64_back v says.0 says.1 fits)
-number_again inner name kinds.Fixed32 v bs rest says fits = whole_again inner name four_bytes w32 unsigned v says.0 bs rest says.2 (unsigned32_back v says.0 says.1 fits)
-number_again inner name kinds.Sfixed32 v bs rest says fits = whole_again inner name four_bytes w32 twos_complement v says.0 bs rest says.2 (signed32_back v says.0 says.1 fits)
-number_again inner name kinds.Fixed64 v bs rest says fits = whole_again inner name eight_bytes w64 unsigned v says.0 bs rest says.2 (unsigned64_back v says.0 says.1 fits)
-number_again inner name kinds.Sfixed64 v bs rest says fits = whole_again inner name eight_bytes w64 twos_complement v says.0 bs rest says.2 (signed64_back v says.0 says.1 fits)
-number_again inner name kinds.Enum v bs rest says fits = whole_again inner name varint w32 twos_complement v says.0 bs rest says.2 (extended_back v says.0 says.1 fits)
-number_again inner name kinds.Bool v bs rest says fits = absurd says
-number_again inner name kinds.String v bs rest says fits = absurd says
-number_again inner name kinds.Bytes v bs rest says fits = absurd says
-number_again inner name kinds.Message v bs rest says fits = absurd says
+converted_again : (inner : Inner) (name : Option Text) (k : Kind) (v : ℤ) (bs rest : List ℕ) → SaysNumber (shape k) v bs → Converts (shape k) v → payload_at inner name (shape k) (bs ++ rest) ≡ Ok (trees.number v, rest)
+converted_again inner name kinds.Int32 v bs rest says fits = whole_again inner name varint w32 twos_complement v says.0 bs rest says.2 (extended_back v says.0 says.1 fits)
+converted_again inner name kinds.Int64 v bs rest says fits = whole_again inner name varint w64 twos_complement v says.0 bs rest says.2 (signed64_back v says.0 says.1 fits)
+converted_again inner name kinds.Uint32 v bs rest says fits = whole_again inner name varint w32 unsigned v says.0 bs rest says.2 (below64 says.0 (unsigned32_back v says.0 says.1 fits))
+converted_again inner name kinds.Uint64 v bs rest says fits = whole_again inner name varint w64 unsigned v says.0 bs rest says.2 (unsigned64_back v says.0 says.1 fits)
+converted_again inner name kinds.Sint32 v bs rest says fits = whole_again inner name varint w32 zigzag v says.0 bs rest says.2 (zigzag32_back v says.0 says.1 fits)
+converted_again inner name kinds.Sint64 v bs rest says fits = whole_again inner name varint w64 zigzag v says.0 bs rest says.2 (zigzag64_back v says.0 says.1 fits)
+converted_again inner name kinds.Fixed32 v bs rest says fits = whole_again inner name four_bytes w32 unsigned v says.0 bs rest says.2 (unsigned32_back v says.0 says.1 fits)
+converted_again inner name kinds.Sfixed32 v bs rest says fits = whole_again inner name four_bytes w32 twos_complement v says.0 bs rest says.2 (signed32_back v says.0 says.1 fits)
+converted_again inner name kinds.Fixed64 v bs rest says fits = whole_again inner name eight_bytes w64 unsigned v says.0 bs rest says.2 (unsigned64_back v says.0 says.1 fits)
+converted_again inner name kinds.Sfixed64 v bs rest says fits = whole_again inner name eight_bytes w64 twos_complement v says.0 bs rest says.2 (signed64_back v says.0 says.1 fits)
+converted_again inner name kinds.Enum v bs rest says fits = whole_again inner name varint w32 twos_complement v says.0 bs rest says.2 (extended_back v says.0 says.1 fits)
+converted_again inner name kinds.Bool v bs rest says fits = absurd says
+converted_again inner name kinds.String v bs rest says fits = absurd says
+converted_again inner name kinds.Bytes v bs rest says fits = absurd says
+converted_again inner name kinds.Message v bs rest says fits = absurd says
+
+pub number_again : (inner : Inner) (name : Option Text) (k : Kind) (v : ℤ) (bs rest : List ℕ) → SaysNumber (shape k) v bs → InRange (shape k) v
+    → payload_at inner name (shape k) (bs ++ rest) ≡ Ok (trees.number v, rest)
+number_again inner name k v bs rest says fits = converted_again inner name k v bs rest says (converts (shape k) v fits)
 
 pub truth_again : (inner : Inner) (name : Option Text) (s : Shape) (b : Bool) (bs rest : List ℕ) → SaysTruth s b bs → payload_at inner name s (bs ++ rest) ≡ Ok (trees.truth b, rest)
 unfolding payload_at

@@ -21,7 +21,7 @@ varint_more (suc n) [] high rest low some long continues e small is = absurd (om
 varint_more (suc n) (b ∷ bs) high rest low some long continues e small is =
     let k : suc n - 1 ≡ n = omega arith in
     let e' : varint_at n bs ≡ Ok (high, rest) = ap (λ (m : ℕ). varint_at m bs) (sym k) ∙ ap (varint_at (suc n - 1)) (sym (take_all (suc (length bs) - 1) bs (omega arith))) ∙ e in
-    rw (le-ltb b 128 continues, e', lt-ltb high (2 ^ 57) small, is) (ap (λ (x : ℕ). Ok (x, rest)) (sym (joined b high small)))
+    rw (le-ltb b 128 continues, e', lt-ltb (b % 128 + 128 * high) (2 ^ 64) (omega arith), is) (ap (λ (x : ℕ). Ok (x, rest)) (sym (joined b high small)))
 
 -- the same where those bytes hold no varint
 pub varint_stops : (room : ℕ) (bs : List ℕ) (e : ReadFault) → (room ≡ 0 → ⊥) → 1 ≤ length bs → 128 ≤ get_or bs 0 0 → varint_at (room - 1) (take (length bs - 1) (drop 1 bs)) ≡ Err e → varint_at room bs ≡ Err e

@@ -1,3 +1,4 @@
+pub mod Ranges
 pub mod Bits
 pub mod Adding
 pub mod Distinct
@@ -7,6 +8,12 @@ pub mod Varint
 pub mod Back
 pub mod Again
 pub mod Appending
+pub mod Encoded
+pub mod Written
 mod Rows
-mod Writable
-mod Options
+pub mod Writable
+pub mod Options
+pub mod OptionBytes
+pub mod OptionDepth
+pub mod Agreement
+pub mod AgreementBack

@@ -16,8 +16,7 @@ use Rattle.protobuf_parse_model.specs.declared.descriptor.FieldType.TheVariants 
 use Rattle.protobuf_parse_model.specs.Descriptors.{Text, FieldDescriptor, FileDescriptor, MessageParts}
 use Rattle.protobuf_parse_model.specs.Faults.{Fault, Among, here, there}
 use Rattle.protobuf_parse_model.specs.Declarations.{Declared}
-use Rattle.protobuf_parse_model.specs.Lookup.{meaning}
-use Rattle.protobuf_parse_model.specs.Environment.{OptionsOf}
+use Rattle.protobuf_parse_model.specs.declared.customs.Construct.{Construct}
 use Rattle.protobuf_parse_model.specs.Duplicates.{fault_when}
 use Rattle.protobuf_parse_model.specs.BuiltinOptions.{string_faults}
 use Rattle.protobuf_parse_wire.specs.declared.kind.Kind.{Kind}
@@ -26,12 +25,14 @@ use Rattle.protobuf_parse_wire.specs.Kinds.{shape, kind_of}
 use Rattle.protobuf_parse_wire.specs.Trees as trees
 use Rattle.protobuf_parse_wire.specs.Trees.{EntryTree}
 use Rattle.protobuf_parse_wire.specs.Views.{Item, entries_of_list}
-use Rattle.protobuf_parse_wire.specs.Declarations.{messages_of, extensions_in, extensions_of, extends}
+use Rattle.protobuf_parse_wire.specs.Declarations.{messages_of, declared_extensions, extensions_in, extensions_of, extends}
 use Rattle.protobuf_parse_wire.specs.Law.{Suit, ValueSuits, Enters}
-use Rattle.protobuf_parse_wire.specs.OptionFields.{OptionScope, options_message, fields_of_message, field_named, if_extends, number_of_value, part_field, type_name_of, takes_by, is_entry}
-use Rattle.protobuf_parse_wire.specs.CustomOptions.{message_item, value_items, list_items, field_items, constant_fields, path_items, named_items, option_items, denotes}
-use Rattle.protobuf_parse_wire.specs.CustomFaults.{integer_faults, truth_faults, value_name_faults, string_value_faults, message_value_faults, number_faults, constant_name_faults, value_faults, list_faults, field_faults, part_text, path_text, part_faults, step_faults, path_faults, custom_faults, named_faults, statement_faults}
+use Rattle.protobuf_parse_wire.specs.OptionFields.{OptionScope, options_message, fields_of_message, field_named, if_extends, is_message, extension_meant, extension_named, number_of_value, part_field, constant_field, type_name_of, takes}
+use Rattle.protobuf_parse_wire.specs.CustomOptions.{message_item, value_items, list_items, field_items, path_items, named_items, option_items, denotes}
+use Rattle.protobuf_parse_wire.specs.CustomFaults.{integer_faults, truth_faults, value_name_faults, string_value_faults, message_value_faults, number_faults, constant_name_faults, value_faults, list_faults, field_faults, part_faults, step_faults, path_faults, custom_faults, named_faults, statement_faults}
+use Rattle.protobuf_parse_model.specs.Environment.{part_text, path_text}
 use Rattle.protobuf_parse_wire.specs.OptionLaw.{IsEntered, fields_at, IsReadable, OptionsAreRead}
+use Rattle.protobuf_parse_wire.proofs.Ranges.{in_range}
 use Rattle.protobuf_parse_wire.proofs.Again as again
 use Rattle.protobuf_parse_model.proofs.Lookups.{found_is, meaning_declared}
 use Rattle.protobuf_parse_wire.proofs.Writable.{no_left, no_right, number_kept, plain_step_has_fault}
@@ -46,11 +47,11 @@ contains_from_among [] x h = elim h [ ]
 contains_from_among (x ∷ xs) _ here = (0, omega arith, refl)
 contains_from_among (y ∷ xs) x (there h) = contains_later y xs x (contains_from_among xs x h)
 
-among_left : {A : Type 0} {x : A} {xs : List A} (ys : List A) → Among xs x → Among (xs ++ ys) x
+pub among_left : {A : Type 0} {x : A} {xs : List A} (ys : List A) → Among xs x → Among (xs ++ ys) x
 among_left ys here = here
 among_left ys (there h) = there (among_left ys h)
 
-among_right : {A : Type 0} {x : A} (xs : List A) {ys : List A} → Among ys x → Among (xs ++ ys) x
+pub among_right : {A : Type 0} {x : A} (xs : List A) {ys : List A} → Among ys x → Among (xs ++ ys) x
 among_right [] h = h
 among_right (y ∷ xs) h = there (among_right xs h)
 
@@ -86,26 +87,22 @@ entry_suits files fs f k v u e p = (f, record { declared = contains_from_among f
 
 -- ---- one value of one field, by the field's type
 
-number_suits : (files : List FileDescriptor) (fs : List FieldDescriptor) (f : FieldDescriptor) → IsUsed fs f → (is_map : Bool) (t : FieldType) → f.type_ ≡ t → (z : ℤ) → integer_faults f.name (takes_by is_map t) z ≡ [] → Suits files fs (item_at (nat_abs f.number) t (trees.number z))
-number_suits files fs f u is_map types.Int32 s z e = entry_suits files fs f kinds.Int32 (trees.number z) u (ap kind_of s) (number_kept kinds.Int32 f.name z e)
-number_suits files fs f u is_map types.Int64 s z e = entry_suits files fs f kinds.Int64 (trees.number z) u (ap kind_of s) (number_kept kinds.Int64 f.name z e)
-number_suits files fs f u is_map types.Uint32 s z e = entry_suits files fs f kinds.Uint32 (trees.number z) u (ap kind_of s) (number_kept kinds.Uint32 f.name z e)
-number_suits files fs f u is_map types.Uint64 s z e = entry_suits files fs f kinds.Uint64 (trees.number z) u (ap kind_of s) (number_kept kinds.Uint64 f.name z e)
-number_suits files fs f u is_map types.Sint32 s z e = entry_suits files fs f kinds.Sint32 (trees.number z) u (ap kind_of s) (number_kept kinds.Sint32 f.name z e)
-number_suits files fs f u is_map types.Sint64 s z e = entry_suits files fs f kinds.Sint64 (trees.number z) u (ap kind_of s) (number_kept kinds.Sint64 f.name z e)
-number_suits files fs f u is_map types.Fixed32 s z e = entry_suits files fs f kinds.Fixed32 (trees.number z) u (ap kind_of s) (number_kept kinds.Fixed32 f.name z e)
-number_suits files fs f u is_map types.Sfixed32 s z e = entry_suits files fs f kinds.Sfixed32 (trees.number z) u (ap kind_of s) (number_kept kinds.Sfixed32 f.name z e)
-number_suits files fs f u is_map types.Fixed64 s z e = entry_suits files fs f kinds.Fixed64 (trees.number z) u (ap kind_of s) (number_kept kinds.Fixed64 f.name z e)
-number_suits files fs f u is_map types.Sfixed64 s z e = entry_suits files fs f kinds.Sfixed64 (trees.number z) u (ap kind_of s) (number_kept kinds.Sfixed64 f.name z e)
-number_suits files fs f u true types.Message s z e = absurd cc
-number_suits files fs f u false types.Message s z e = absurd cc
-number_suits files fs f u is_map _ s z e = absurd cc
+number_suits : (files : List FileDescriptor) (fs : List FieldDescriptor) (f : FieldDescriptor) → IsUsed fs f → (t : FieldType) → f.type_ ≡ t → (z : ℤ) → integer_faults f.name (takes t) z ≡ [] → Suits files fs (item_at (nat_abs f.number) t (trees.number z))
+number_suits files fs f u types.Int32 s z e = entry_suits files fs f kinds.Int32 (trees.number z) u (ap kind_of s) (number_kept kinds.Int32 f.name z e)
+number_suits files fs f u types.Int64 s z e = entry_suits files fs f kinds.Int64 (trees.number z) u (ap kind_of s) (number_kept kinds.Int64 f.name z e)
+number_suits files fs f u types.Uint32 s z e = entry_suits files fs f kinds.Uint32 (trees.number z) u (ap kind_of s) (number_kept kinds.Uint32 f.name z e)
+number_suits files fs f u types.Uint64 s z e = entry_suits files fs f kinds.Uint64 (trees.number z) u (ap kind_of s) (number_kept kinds.Uint64 f.name z e)
+number_suits files fs f u types.Sint32 s z e = entry_suits files fs f kinds.Sint32 (trees.number z) u (ap kind_of s) (number_kept kinds.Sint32 f.name z e)
+number_suits files fs f u types.Sint64 s z e = entry_suits files fs f kinds.Sint64 (trees.number z) u (ap kind_of s) (number_kept kinds.Sint64 f.name z e)
+number_suits files fs f u types.Fixed32 s z e = entry_suits files fs f kinds.Fixed32 (trees.number z) u (ap kind_of s) (number_kept kinds.Fixed32 f.name z e)
+number_suits files fs f u types.Sfixed32 s z e = entry_suits files fs f kinds.Sfixed32 (trees.number z) u (ap kind_of s) (number_kept kinds.Sfixed32 f.name z e)
+number_suits files fs f u types.Fixed64 s z e = entry_suits files fs f kinds.Fixed64 (trees.number z) u (ap kind_of s) (number_kept kinds.Fixed64 f.name z e)
+number_suits files fs f u types.Sfixed64 s z e = entry_suits files fs f kinds.Sfixed64 (trees.number z) u (ap kind_of s) (number_kept kinds.Sfixed64 f.name z e)
+number_suits files fs f u _ s z e = absurd cc
 
-truth_suits : (files : List FileDescriptor) (fs : List FieldDescriptor) (f : FieldDescriptor) → IsUsed fs f → (is_map : Bool) (t : FieldType) → f.type_ ≡ t → (b : Bool) → truth_faults f.name (takes_by is_map t) ≡ [] → Suits files fs (item_at (nat_abs f.number) t (trees.truth b))
-truth_suits files fs f u is_map types.Bool s b e = entry_suits files fs f kinds.Bool (trees.truth b) u (ap kind_of s) tt
-truth_suits files fs f u true types.Message s b e = absurd cc
-truth_suits files fs f u false types.Message s b e = absurd cc
-truth_suits files fs f u is_map _ s b e = absurd cc
+truth_suits : (files : List FileDescriptor) (fs : List FieldDescriptor) (f : FieldDescriptor) → IsUsed fs f → (t : FieldType) → f.type_ ≡ t → (b : Bool) → truth_faults f.name (takes t) ≡ [] → Suits files fs (item_at (nat_abs f.number) t (trees.truth b))
+truth_suits files fs f u types.Bool s b e = entry_suits files fs f kinds.Bool (trees.truth b) u (ap kind_of s) tt
+truth_suits files fs f u _ s b e = absurd cc
 
 text_is_utf8 : (option : Text) (o : Option (List ℕ)) → string_faults option (text_when o) ≡ [] → IsUtf8 (unwrap_or o [])
 text_is_utf8 option None e = absurd cc
@@ -115,36 +112,30 @@ text_is_utf8 option (Some v) e = at (is_utf8 v) refl e
     at true h k = IsUtf8-from_is_utf8 v h
     at false h k = absurd cc
 
-string_suits : (files : List FileDescriptor) (fs : List FieldDescriptor) (f : FieldDescriptor) → IsUsed fs f → (is_map : Bool) (t : FieldType) → f.type_ ≡ t → (option : Text) (pieces : Pieces) → string_value_faults option f.name (takes_by is_map t) pieces ≡ [] → Suits files fs (item_at (nat_abs f.number) t (trees.bytes (unwrap_or (decode pieces) [])))
-string_suits files fs f u is_map types.String s option pieces e = entry_suits files fs f kinds.String (trees.bytes (unwrap_or (decode pieces) [])) u (ap kind_of s) (text_is_utf8 option (decode pieces) e)
-string_suits files fs f u is_map types.Bytes s option pieces e = entry_suits files fs f kinds.Bytes (trees.bytes (unwrap_or (decode pieces) [])) u (ap kind_of s) tt
-string_suits files fs f u true types.Message s option pieces e = absurd cc
-string_suits files fs f u false types.Message s option pieces e = absurd cc
-string_suits files fs f u is_map _ s option pieces e = absurd cc
+string_suits : (files : List FileDescriptor) (fs : List FieldDescriptor) (f : FieldDescriptor) → IsUsed fs f → (t : FieldType) → f.type_ ≡ t → (option : Text) (pieces : Pieces) → string_value_faults option f.name (takes t) pieces ≡ [] → Suits files fs (item_at (nat_abs f.number) t (trees.bytes (unwrap_or (decode pieces) [])))
+string_suits files fs f u types.String s option pieces e = entry_suits files fs f kinds.String (trees.bytes (unwrap_or (decode pieces) [])) u (ap kind_of s) (text_is_utf8 option (decode pieces) e)
+string_suits files fs f u types.Bytes s option pieces e = entry_suits files fs f kinds.Bytes (trees.bytes (unwrap_or (decode pieces) [])) u (ap kind_of s) tt
+string_suits files fs f u _ s option pieces e = absurd cc
 
 abbrev numbers : ℕ → FieldType → Option ℤ → List Item
 numbers n t o = flat_map (λ (z : ℤ). item_at n t (trees.number z)) (option_to_list o)
 
-value_name_suits : (files : List FileDescriptor) (fs : List FieldDescriptor) (f : FieldDescriptor) → IsUsed fs f → (is_map : Bool) (t : FieldType) → f.type_ ≡ t → (value : Text) (o : Option ℤ) → ((z : ℤ) → o ≡ Some z → FitsSigned w32 z) → value_name_faults f.name (takes_by is_map t) value o ≡ [] → Suits files fs (numbers (nat_abs f.number) t o)
-value_name_suits files fs f u is_map types.Enum s value (Some z) small e = entry_suits files fs f kinds.Enum (trees.number z) u (ap kind_of s) (small z refl)
-value_name_suits files fs f u is_map types.Enum s value None small e = tt
-value_name_suits files fs f u true types.Message s value o small e = absurd cc
-value_name_suits files fs f u false types.Message s value o small e = absurd cc
-value_name_suits files fs f u is_map _ s value o small e = absurd cc
+value_name_suits : (files : List FileDescriptor) (fs : List FieldDescriptor) (f : FieldDescriptor) → IsUsed fs f → (t : FieldType) → f.type_ ≡ t → (value : Text) (o : Option ℤ) → ((z : ℤ) → o ≡ Some z → FitsSigned w32 z) → value_name_faults f.name (takes t) value o ≡ [] → Suits files fs (numbers (nat_abs f.number) t o)
+value_name_suits files fs f u types.Enum s value (Some z) small e = entry_suits files fs f kinds.Enum (trees.number z) u (ap kind_of s) (in_range (shape kinds.Enum) z (small z refl))
+value_name_suits files fs f u types.Enum s value None small e = tt
+value_name_suits files fs f u _ s value o small e = absurd cc
 
 -- what stands in the message that a field holds
 abbrev Inside : List FileDescriptor → FieldDescriptor → List Item → Type 0
 Inside files f items = (name : Text) × (f.type_name ≡ Some name) × Enters files name (λ fs. Suit files fs (entries_of_list items))
 
-message_suits : (files : List FileDescriptor) (fs : List FieldDescriptor) (f : FieldDescriptor) → IsUsed fs f → (is_map : Bool) (t : FieldType) → f.type_ ≡ t → (inside : List Fault) (items : List Item) → message_value_faults f.name (takes_by is_map t) inside ≡ [] → (f.type_ ≡ types.Message → inside ≡ [] → Inside files f items) → Suits files fs (item_at (nat_abs f.number) t (trees.message (entries_of_list items)))
-message_suits files fs f u true types.Message s inside items e g = absurd cc
-message_suits files fs f u false types.Message s inside items e g = entry_suits files fs f kinds.Message (trees.message (entries_of_list items)) u (ap kind_of s) (g s e)
-message_suits files fs f u is_map _ s inside items e g = absurd cc
+message_suits : (files : List FileDescriptor) (fs : List FieldDescriptor) (f : FieldDescriptor) → IsUsed fs f → (t : FieldType) → f.type_ ≡ t → (inside : List Fault) (items : List Item) → message_value_faults f.name (takes t) inside ≡ [] → (f.type_ ≡ types.Message → inside ≡ [] → Inside files f items) → Suits files fs (item_at (nat_abs f.number) t (trees.message (entries_of_list items)))
+message_suits files fs f u types.Message s inside items e g = entry_suits files fs f kinds.Message (trees.message (entries_of_list items)) u (ap kind_of s) (g s e)
+message_suits files fs f u _ s inside items e g = absurd cc
 
-step_suits : (files : List FileDescriptor) (fs : List FieldDescriptor) (f : FieldDescriptor) → IsUsed fs f → (is_map : Bool) (t : FieldType) → f.type_ ≡ t → (part : Text) (inside : List Fault) (items : List Item) → step_faults part (takes_by is_map t) inside ≡ [] → (f.type_ ≡ types.Message → inside ≡ [] → Inside files f items) → Suits files fs (item_at (nat_abs f.number) t (trees.message (entries_of_list items)))
-step_suits files fs f u true types.Message s part inside items e g = entry_suits files fs f kinds.Message (trees.message (entries_of_list items)) u (ap kind_of s) (g s e)
-step_suits files fs f u false types.Message s part inside items e g = entry_suits files fs f kinds.Message (trees.message (entries_of_list items)) u (ap kind_of s) (g s e)
-step_suits files fs f u is_map _ s part inside items e g = absurd cc
+step_suits : (files : List FileDescriptor) (fs : List FieldDescriptor) (f : FieldDescriptor) → IsUsed fs f → (t : FieldType) → f.type_ ≡ t → (part : Text) (inside : List Fault) (items : List Item) → step_faults part (takes t) inside ≡ [] → (f.type_ ≡ types.Message → inside ≡ [] → Inside files f items) → Suits files fs (item_at (nat_abs f.number) t (trees.message (entries_of_list items)))
+step_suits files fs f u types.Message s part inside items e g = entry_suits files fs f kinds.Message (trees.message (entries_of_list items)) u (ap kind_of s) (g s e)
+step_suits files fs f u _ s part inside items e g = absurd cc
 
 -- ---- the message that a field holds
 
@@ -190,77 +181,116 @@ suit_found files fs faults items (Some f) each e = suit_append files fs (items f
 field_among : (files : List FileDescriptor) (message name : Text) (f : FieldDescriptor) → field_named files message name ≡ Some f → Among (fields_at files message) f
 field_among files message name f e = among_left (extensions_of files message) (found_is (λ (g : FieldDescriptor). bytes_eq g.name name) (fields_of_message files message) f e).0
 
--- of the field that a name in a message constant means
-constant_suits : (at : OptionScope) (option message : Text) (name : ConstantNameSyntax) (faults : FieldDescriptor → List Fault) (items : FieldDescriptor → List Item) → ((f : FieldDescriptor) → Among (fields_at at.files message) f → faults f ≡ [] → Suits at.files (fields_at at.files message) (items f)) → flat_map faults (constant_fields at.files message name) ≡ [] → Suits at.files (fields_at at.files message) (flat_map items (constant_fields at.files message name))
-constant_suits at option message (regular_name name) faults items each e = suit_found at.files (fields_at at.files message) faults items (field_named at.files message name) (λ f h k. each f (field_among at.files message name f h) k) e
-constant_suits at option message (extension_name name) faults items each e = tt
-constant_suits at option message (url_name name) faults items each e = tt
+if_extends_is : (files : List FileDescriptor) (message : Text) (o : Option (Declared FieldDescriptor)) (f : FieldDescriptor) → if_extends files message o ≡ Some f → (d : Declared FieldDescriptor) × (o ≡ Some d) × (d.what ≡ f) × (extends message d.what ≡ true)
+if_extends_is files message None f e = absurd cc
+if_extends_is files message (Some d) f e = at (extends message d.what) (is_message files message) refl e
+  where
+    at : (b c : Bool) → extends message d.what ≡ b → cond (b && c) (Some d.what) None ≡ Some f → (x : Declared FieldDescriptor) × (Some d ≡ Some x) × (x.what ≡ f) × (extends message x.what ≡ true)
+    at true true h k = (d, refl, cc, h)
+    at true false h k = absurd cc
+    at false c h k = absurd cc
+
+-- an extension of a file is one of the files that have it
+among_mapped : {A B : Type 0} (g : A → B) (xs : List A) (x : A) → Among xs x → Among (map g xs) (g x)
+among_mapped g [] x h = elim h [ ]
+among_mapped g (x ∷ xs) _ here = here
+among_mapped g (y ∷ xs) x (there h) = there (among_mapped g xs x h)
+
+-- what stands in one of the lists stands in all of them joined
+pub among_joined : {A B : Type 0} (g : A → List B) (xs : List A) (x : A) (y : B) → Among xs x → Among (g x) y → Among (flat_map g xs) y
+among_joined g [] x y h k = elim h [ ]
+among_joined g (x ∷ xs) _ y here k = among_left (flat_map g xs) k
+among_joined g (z ∷ xs) x y (there h) k = among_right (g z) (among_joined g xs x y h k)
+
+pub data SplitAmong {A : Type 0} (xs ys : List A) (x : A) : Type 0 where
+  left : Among xs x → SplitAmong xs ys x
+  right : Among ys x → SplitAmong xs ys x
+
+pub split_among : {A : Type 0} (xs ys : List A) (x : A) → Among (xs ++ ys) x → SplitAmong xs ys x
+split_among [] ys x h = right h
+split_among (x ∷ xs) ys _ here = left here
+split_among (y ∷ xs) ys x (there h) = later (split_among xs ys x h)
+  where
+    later : SplitAmong xs ys x → SplitAmong (y ∷ xs) ys x
+    later (left k) = left (there k)
+    later (right k) = right k
+
+-- the extensions of files that are seen stand in all that are reached
+seen_stand : (visible files : List FileDescriptor) → ((file : FileDescriptor) → Among visible file → Among files file) → (d : Declared FieldDescriptor) → Among (flat_map declared_extensions visible) d → Among (flat_map extensions_in files) d.what
+seen_stand [] files seen d h = elim h [ ]
+seen_stand (file ∷ visible) files seen d h = at (split_among (declared_extensions file) (flat_map declared_extensions visible) d h) (λ k. seen_stand visible files (λ other o. seen other (there o)) d k)
+  where
+    at : SplitAmong (declared_extensions file) (flat_map declared_extensions visible) d → (Among (flat_map declared_extensions visible) d → Among (flat_map extensions_in files) d.what) → Among (flat_map extensions_in files) d.what
+    at (left k) others = among_joined extensions_in files file d.what (seen file here) (among_mapped (λ (e : Declared FieldDescriptor). e.what) (declared_extensions file) d k)
+    at (right k) others = others k
+
+extension_among : (at : OptionScope) → IsReadable at → (message name : Text) (f : FieldDescriptor) → extension_named at message name ≡ Some f → Among (fields_at at.files message) f
+extension_among at r message name f e =
+    let x = if_extends_is at.files message (extension_meant at name) f e in
+    let a = meaning_declared (flat_map declared_extensions at.visible) at.scope name x.0 x.1 in
+    subst (λ g. Among (fields_at at.files message) g) x.2 (among_right (fields_of_message at.files message) (among_filtered (extends message) (flat_map extensions_in at.files) x.0.what (seen_stand at.visible at.files r.seen x.0 a) x.3))
+
+-- the field that a name in a message constant means
+constant_among : (at : OptionScope) → IsReadable at → (message : Text) (name : ConstantNameSyntax) (f : FieldDescriptor) → constant_field at message name ≡ Some f → Among (fields_at at.files message) f
+constant_among at r message (regular_name name) f e = field_among at.files message name f e
+constant_among at r message (extension_name name) f e = extension_among at r message name f e
+constant_among at r message (url_name name) f e = absurd cc
 
 mutual
-  value_suits : (at : OptionScope) → IsReadable at → (option message : Text) (f : FieldDescriptor) → Among (fields_at at.files message) f → number_faults f ≡ [] → (c : ConstantSyntax) → value_faults at.files option f c ≡ [] → Suits at.files (fields_at at.files message) (value_items at.files f c)
-  value_suits at r option message f a n (integer z) e = number_suits at.files (fields_at at.files message) f (used (fields_at at.files message) f a n) (is_entry at.files (type_name_of f)) f.type_ refl z e
-  value_suits at r option message f a n (truth b) e = truth_suits at.files (fields_at at.files message) f (used (fields_at at.files message) f a n) (is_entry at.files (type_name_of f)) f.type_ refl b e
-  value_suits at r option message f a n (dotted name) e = value_name_suits at.files (fields_at at.files message) f (used (fields_at at.files message) f a n) (is_entry at.files (type_name_of f)) f.type_ refl name (number_of_value at.files (type_name_of f) name) (r.small (type_name_of f) name) e
-  value_suits at r option message f a n (string pieces) e = string_suits at.files (fields_at at.files message) f (used (fields_at at.files message) f a n) (is_entry at.files (type_name_of f)) f.type_ refl option pieces e
+  value_suits : (at : OptionScope) → IsReadable at → (option message : Text) (f : FieldDescriptor) → Among (fields_at at.files message) f → number_faults f ≡ [] → (c : ConstantSyntax) → value_faults at option f c ≡ [] → Suits at.files (fields_at at.files message) (value_items at f c)
+  value_suits at r option message f a n (integer z) e = number_suits at.files (fields_at at.files message) f (used (fields_at at.files message) f a n) f.type_ refl z e
+  value_suits at r option message f a n (truth b) e = truth_suits at.files (fields_at at.files message) f (used (fields_at at.files message) f a n) f.type_ refl b e
+  value_suits at r option message f a n (dotted name) e = value_name_suits at.files (fields_at at.files message) f (used (fields_at at.files message) f a n) f.type_ refl name (number_of_value at.files (type_name_of f) name) (r.small (type_name_of f) name) e
+  value_suits at r option message f a n (string pieces) e = string_suits at.files (fields_at at.files message) f (used (fields_at at.files message) f a n) f.type_ refl option pieces e
   value_suits at r option message f a n (list cs) e = list_suits at r option message f a n cs e
   value_suits at r option message f a n (fields fs) e =
-      message_suits at.files (fields_at at.files message) f (used (fields_at at.files message) f a n) (is_entry at.files (type_name_of f)) f.type_ refl (field_faults at.files option (type_name_of f) fs) (field_items at.files (type_name_of f) fs) e
-      (λ s h. held_inside at r message f a (field_items at.files (type_name_of f) fs) s (field_suits at r option (type_name_of f) fs h))
+      message_suits at.files (fields_at at.files message) f (used (fields_at at.files message) f a n) f.type_ refl (field_faults at option (type_name_of f) fs) (field_items at (type_name_of f) fs) e
+      (λ s h. held_inside at r message f a (field_items at (type_name_of f) fs) s (field_suits at r option (type_name_of f) fs h))
 
-  list_suits : (at : OptionScope) → IsReadable at → (option message : Text) (f : FieldDescriptor) → Among (fields_at at.files message) f → number_faults f ≡ [] → (cs : ConstantList) → list_faults at.files option f cs ≡ [] → Suits at.files (fields_at at.files message) (list_items at.files f cs)
+  list_suits : (at : OptionScope) → IsReadable at → (option message : Text) (f : FieldDescriptor) → Among (fields_at at.files message) f → number_faults f ≡ [] → (cs : ConstantList) → list_faults at option f cs ≡ [] → Suits at.files (fields_at at.files message) (list_items at f cs)
   list_suits at r option message f a n no_constants e = tt
   list_suits at r option message f a n (more_constants c cs) e =
-      suit_append at.files (fields_at at.files message) (value_items at.files f c) (list_items at.files f cs)
-      (value_suits at r option message f a n c (no_left (value_faults at.files option f c) (list_faults at.files option f cs) e))
-      (list_suits at r option message f a n cs (no_right (value_faults at.files option f c) (list_faults at.files option f cs) e))
+      suit_append at.files (fields_at at.files message) (value_items at f c) (list_items at f cs)
+      (value_suits at r option message f a n c (no_left (value_faults at option f c) (list_faults at option f cs) e))
+      (list_suits at r option message f a n cs (no_right (value_faults at option f c) (list_faults at option f cs) e))
 
-  field_suits : (at : OptionScope) → IsReadable at → (option message : Text) (fs : ConstantFieldList) → field_faults at.files option message fs ≡ [] → Suits at.files (fields_at at.files message) (field_items at.files message fs)
+  field_suits : (at : OptionScope) → IsReadable at → (option message : Text) (fs : ConstantFieldList) → field_faults at option message fs ≡ [] → Suits at.files (fields_at at.files message) (field_items at message fs)
   field_suits at r option message no_fields e = tt
   field_suits at r option message (more_fields name c fs) e =
-      suit_append at.files (fields_at at.files message) (flat_map (λ (g : FieldDescriptor). value_items at.files g c) (constant_fields at.files message name)) (field_items at.files message fs)
-      (constant_suits at option message name (λ (g : FieldDescriptor). number_faults g ++ value_faults at.files option g c) (λ (g : FieldDescriptor). value_items at.files g c) (λ g a h. value_suits at r option message g a (no_left (number_faults g) (value_faults at.files option g c) h) c (no_right (number_faults g) (value_faults at.files option g c) h))
-      (no_right (constant_name_faults at.files message name) (flat_map (λ (g : FieldDescriptor). number_faults g ++ value_faults at.files option g c) (constant_fields at.files message name)) (no_left (constant_name_faults at.files message name ++ flat_map (λ (g : FieldDescriptor). number_faults g ++ value_faults at.files option g c) (constant_fields at.files message name)) (field_faults at.files option message fs) e)))
-      (field_suits at r option message fs (no_right (constant_name_faults at.files message name ++ flat_map (λ (g : FieldDescriptor). number_faults g ++ value_faults at.files option g c) (constant_fields at.files message name)) (field_faults at.files option message fs) e))
+      suit_append at.files (fields_at at.files message) (flat_map (λ (g : FieldDescriptor). value_items at g c) (option_to_list (constant_field at message name))) (field_items at message fs)
+      (suit_found at.files (fields_at at.files message) (λ (g : FieldDescriptor). number_faults g ++ value_faults at option g c) (λ (g : FieldDescriptor). value_items at g c) (constant_field at message name)
+      (λ g h k. value_suits at r option message g (constant_among at r message name g h) (no_left (number_faults g) (value_faults at option g c) k) c (no_right (number_faults g) (value_faults at option g c) k))
+      (no_right (constant_name_faults at message name) (flat_map (λ (g : FieldDescriptor). number_faults g ++ value_faults at option g c) (option_to_list (constant_field at message name))) (no_left (constant_name_faults at message name ++ flat_map (λ (g : FieldDescriptor). number_faults g ++ value_faults at option g c) (option_to_list (constant_field at message name))) (field_faults at option message fs) e)))
+      (field_suits at r option message fs (no_right (constant_name_faults at message name ++ flat_map (λ (g : FieldDescriptor). number_faults g ++ value_faults at option g c) (option_to_list (constant_field at message name))) (field_faults at option message fs) e))
 
 -- ---- names
 
-if_extends_is : (message : Text) (o : Option (Declared FieldDescriptor)) (f : FieldDescriptor) → if_extends message o ≡ Some f → (d : Declared FieldDescriptor) × (o ≡ Some d) × (d.what ≡ f) × (extends message d.what ≡ true)
-if_extends_is message None f e = absurd cc
-if_extends_is message (Some d) f e = at (extends message d.what) refl e
-  where
-    at : (b : Bool) → extends message d.what ≡ b → cond b (Some d.what) None ≡ Some f → (x : Declared FieldDescriptor) × (Some d ≡ Some x) × (x.what ≡ f) × (extends message x.what ≡ true)
-    at true h k = (d, refl, cc, h)
-    at false h k = absurd cc
-
 part_among : (at : OptionScope) → IsReadable at → (message : Text) (p : OptionPartSyntax) (f : FieldDescriptor) → part_field at message p ≡ Some f → Among (fields_at at.files message) f
 part_among at r message (direct name) f e = field_among at.files message name f e
-part_among at r message (extension name) f e =
-    let x = if_extends_is message (meaning at.extensions at.scope name) f e in
-    let a = meaning_declared at.extensions at.scope name x.0 x.1 in
-    subst (λ g. Among (fields_at at.files message) g) x.2 (among_right (fields_of_message at.files message) (among_filtered (extends message) (flat_map extensions_in at.files) x.0.what (r.seen x.0 a) x.3))
+part_among at r message (extension name) f e = extension_among at r message name f e
 
 path_suits : (at : OptionScope) → IsReadable at → (option : Text) (value : ConstantSyntax) (message : Text) (parts : List OptionPartSyntax) → path_faults at option value message parts ≡ [] → Suits at.files (fields_at at.files message) (path_items at value message parts)
 path_suits at r option value message [] e = tt
 path_suits at r option value message (p ∷ []) e =
-    suit_found at.files (fields_at at.files message) (λ (g : FieldDescriptor). number_faults g ++ value_faults at.files option g value) (λ (g : FieldDescriptor). value_items at.files g value) (part_field at message p)
-    (λ g h k. value_suits at r option message g (part_among at r message p g h) (no_left (number_faults g) (value_faults at.files option g value) k) value (no_right (number_faults g) (value_faults at.files option g value) k))
+    suit_found at.files (fields_at at.files message) (λ (g : FieldDescriptor). number_faults g ++ value_faults at option g value) (λ (g : FieldDescriptor). value_items at g value) (part_field at message p)
+    (λ g h k. value_suits at r option message g (part_among at r message p g h) (no_left (number_faults g) (value_faults at option g value) k) value (no_right (number_faults g) (value_faults at option g value) k))
     (no_right (part_faults at message p) _ e)
 path_suits at r option value message (p ∷ q ∷ ps) e =
-    suit_found at.files (fields_at at.files message) (λ (g : FieldDescriptor). number_faults g ++ step_faults (part_text p) (takes_by (is_entry at.files (type_name_of g)) g.type_) (path_faults at option value (type_name_of g) (q ∷ ps))) (λ (g : FieldDescriptor). message_item g (path_items at value (type_name_of g) (q ∷ ps))) (part_field at message p)
-    (λ g h k. step_suits at.files (fields_at at.files message) g (used (fields_at at.files message) g (part_among at r message p g h) (no_left (number_faults g) _ k)) (is_entry at.files (type_name_of g)) g.type_ refl (part_text p) (path_faults at option value (type_name_of g) (q ∷ ps)) (path_items at value (type_name_of g) (q ∷ ps)) (no_right (number_faults g) _ k)
+    suit_found at.files (fields_at at.files message) (λ (g : FieldDescriptor). number_faults g ++ step_faults (part_text p) (takes g.type_) (path_faults at option value (type_name_of g) (q ∷ ps))) (λ (g : FieldDescriptor). message_item g (path_items at value (type_name_of g) (q ∷ ps))) (part_field at message p)
+    (λ g h k. step_suits at.files (fields_at at.files message) g (used (fields_at at.files message) g (part_among at r message p g h) (no_left (number_faults g) _ k)) g.type_ refl (part_text p) (path_faults at option value (type_name_of g) (q ∷ ps)) (path_items at value (type_name_of g) (q ∷ ps)) (no_right (number_faults g) _ k)
     (λ s i. held_inside at r message g (part_among at r message p g h) (path_items at value (type_name_of g) (q ∷ ps)) s (path_suits at r option value (type_name_of g) (q ∷ ps) i)))
     (no_right (part_faults at message p) _ e)
 
-custom_suits : (at : OptionScope) → IsReadable at → (construct : OptionsOf) (value : ConstantSyntax) (parts : List OptionPartSyntax) → custom_faults at construct value parts ≡ [] → Suits at.files (fields_at at.files (options_message construct)) (path_items at value (options_message construct) parts)
+custom_suits : (at : OptionScope) → IsReadable at → (construct : Construct) (value : ConstantSyntax) (parts : List OptionPartSyntax) → custom_faults at construct value parts ≡ [] → Suits at.files (fields_at at.files (options_message construct)) (path_items at value (options_message construct) parts)
 custom_suits at r construct value [] e = tt
 custom_suits at r construct value (direct name ∷ ps) e = absurd (plain_step_has_fault construct name e)
 custom_suits at r construct value (extension name ∷ ps) e = path_suits at r (path_text (extension name ∷ ps)) value (options_message construct) (extension name ∷ ps) e
 
-named_suits : (at : OptionScope) → IsReadable at → (construct : OptionsOf) (value : ConstantSyntax) (name : OptionNameSyntax) → named_faults at construct value name ≡ [] → Suits at.files (fields_at at.files (options_message construct)) (named_items at (options_message construct) value name)
+named_suits : (at : OptionScope) → IsReadable at → (construct : Construct) (value : ConstantSyntax) (name : OptionNameSyntax) → named_faults at construct value name ≡ [] → Suits at.files (fields_at at.files (options_message construct)) (named_items at (options_message construct) value name)
 named_suits at r construct value (builtin name) e = tt
 named_suits at r construct value (custom parts) e = custom_suits at r construct value parts e
 
-all_suit : (at : OptionScope) → IsReadable at → (construct : OptionsOf) (os : List OptionSyntax) → statement_faults at construct os ≡ [] → Suits at.files (fields_at at.files (options_message construct)) (flat_map (option_items at construct) os)
+all_suit : (at : OptionScope) → IsReadable at → (construct : Construct) (os : List OptionSyntax) → statement_faults at construct os ≡ [] → Suits at.files (fields_at at.files (options_message construct)) (flat_map (option_items at construct) os)
 all_suit at r construct [] e = tt
 all_suit at r construct (o ∷ os) e =
     suit_append at.files (fields_at at.files (options_message construct)) (option_items at construct o) (flat_map (option_items at construct) os)

@@ -7,11 +7,11 @@ use Rattle.std.proofs.lemmas.Nat.{from_le_bytes-to_le_bytes_4, from_le_bytes-to_
 use Rattle.protobuf_parse_wire.specs.Wire.{groups, IsChain, EndsAboveZero, IsShortest, IsVarint, SaysDelimited}
 use Rattle.protobuf_parse_wire.specs.Reading.{◌>>=◌, varint_at, part_at, delimited_at, four_at, eight_at}
 
-positive : (b : ℕ) (bs : List ℕ) → IsChain (b ∷ bs) → EndsAboveZero (b ∷ bs) → 0 < groups (b ∷ bs)
+pub positive : (b : ℕ) (bs : List ℕ) → IsChain (b ∷ bs) → EndsAboveZero (b ∷ bs) → 0 < groups (b ∷ bs)
 positive b [] chain ends = omega arith
 positive b (c ∷ bs) chain ends = let h = positive c bs chain.2 ends in omega arith
 
-shortest_inside : (c : ℕ) (cs : List ℕ) → EndsAboveZero (c ∷ cs) → IsShortest (c ∷ cs)
+pub shortest_inside : (c : ℕ) (cs : List ℕ) → EndsAboveZero (c ∷ cs) → IsShortest (c ∷ cs)
 shortest_inside c [] ends = tt
 shortest_inside c (d ∷ ds) ends = ends
 
@@ -30,7 +30,7 @@ again (suc n) b (c ∷ cs) rest chain ends more fits lt =
     let above : 0 < groups (c ∷ cs) = positive c cs chain.2 ends in
     let some : 0 < n = some_left n (b % 128) (groups (c ∷ cs)) above fits in
     let ih : varint_at n (c ∷ (cs ++ rest)) ≡ Ok (groups (c ∷ cs), rest) = again n c cs rest chain.2 (shortest_inside c cs ends) some (omega arith) (omega arith) in
-    rw (le-ltb b 128 chain.0, ih, lt-ltb (groups (c ∷ cs)) (2 ^ 57) (omega arith)) refl
+    rw (le-ltb b 128 chain.0, ih, lt-ltb (b % 128 + 128 * groups (c ∷ cs)) (2 ^ 64) lt) refl
   where
     some_left : (n low high : ℕ) → 0 < high → low + 128 * high < below (suc n) → 0 < n
     some_left zero low high above fits = absurd (omega arith)

@@ -1,59 +1,29 @@
 -- Where no fault stands in custom options, what they denote can be written.
-use Rattle.std.proofs.Common.{◌≡◌, ℕ, ℤ, pos, negsuc, Bool, true, false, not, cond, List, [], ◌∷◌, ◌++◌, map, flat_map, Option, Some, None, refl, arith, bytes_eq, codes}
+use Rattle.std.proofs.Common.{◌≡◌, ℕ, ℤ, Bool, true, false, not, cond, List, [], ◌∷◌, ◌++◌, map, flat_map, Option, Some, None, refl, bytes_eq, codes}
 use Rattle.std.specs.Option.{option_to_list}
 use Rattle.std.specs.Int.{w32}
 use Rattle.std.specs.Int.RustNames.{FitsSigned}
-use Rattle.std.proofs.Math.Facts.{yes_ltb, ltb_yes, yes_leb}
-use Rattle.std.proofs.lemmas.Bool.{ltb-true, lt-ltb}
-use lib.Signed.{le_z_yes, lt_z_yes}
 use Rattle.protobuf_parse_syntax.specs.Trees.{Pieces, ConstantSyntax, integer, truth, dotted, string, list, fields, ConstantList, no_constants, more_constants, ConstantFieldList, no_fields, more_fields, OptionPartSyntax, direct, extension, OptionNameSyntax, builtin, custom, OptionSyntax}
 use Rattle.protobuf_parse_model.specs.declared.error.ElabErrorKind.TheVariants.{IntegerOutOfRange, UninterpretedOptionName, ExtensionIsNotMessage, UnknownFieldName}
 use Rattle.protobuf_parse_model.specs.declared.descriptor.FieldType.{FieldType}
 use Rattle.protobuf_parse_model.specs.declared.descriptor.FieldType.TheVariants as types
-use Rattle.protobuf_parse_model.specs.Descriptors.{Text, FieldDescriptor, FileDescriptor}
+use Rattle.protobuf_parse_model.specs.Descriptors.{Text, FieldDescriptor}
 use Rattle.protobuf_parse_model.specs.Faults.{Fault}
 use Rattle.protobuf_parse_model.specs.Duplicates.{stands_in}
-use Rattle.protobuf_parse_model.specs.Environment.{OptionsOf}
+use Rattle.protobuf_parse_model.specs.declared.customs.Construct.{Construct}
 use Rattle.protobuf_parse_wire.specs.declared.kind.Kind.{Kind}
 use Rattle.protobuf_parse_wire.specs.declared.kind.Kind.TheVariants as kinds
-use Rattle.protobuf_parse_wire.specs.Kinds as shapes
-use Rattle.protobuf_parse_wire.specs.Kinds.{Shape, whole, truth as is_truth, text, octets as is_octets, message as is_message, shape, kind_of}
+use Rattle.protobuf_parse_wire.specs.Kinds.{Shape, shape, kind_of, fits, InRange}
 use Rattle.protobuf_parse_wire.specs.Trees as trees
 use Rattle.protobuf_parse_wire.specs.Trees.{EntryTree}
 use Rattle.protobuf_parse_wire.specs.Views.{Item, entries_of_list}
-use Rattle.protobuf_parse_wire.specs.Law.{InRange}
+use Rattle.protobuf_parse_wire.proofs.Ranges.{in_range}
 use Rattle.protobuf_parse_wire.specs.Writing.{AreWritable}
-use Rattle.protobuf_parse_wire.specs.OptionFields.{OptionScope, options_message, number_of_value, part_field, type_name_of, integers, takes_by, is_entry, fits}
+use Rattle.protobuf_parse_wire.specs.OptionFields.{OptionScope, options_message, number_of_value, part_field, constant_field, type_name_of, integers, takes}
 use Rattle.protobuf_parse_wire.specs.OptionLaw.{HasSmallValues}
-use Rattle.protobuf_parse_wire.specs.CustomOptions.{value_items, list_items, field_items, constant_fields, path_items, message_item, named_items, option_items, denotes}
-use Rattle.protobuf_parse_wire.specs.CustomFaults.{integer_faults, truth_faults, value_name_faults, string_value_faults, message_value_faults, number_faults, constant_name_faults, value_faults, list_faults, field_faults, part_text, path_text, part_faults, step_faults, path_faults, table_of, names_in, builtin_step_faults, custom_faults, named_faults, statement_faults}
-
--- ---- ranges
-
--- the test is the range
-pub fits_in_range : (s : Shape) (v : ℤ) → fits s v ≡ true → InRange s v
-fits_in_range (whole word w shapes.unsigned) (pos n) e = (le_z_yes (yes_leb (omega arith)), lt_z_yes (yes_ltb (ltb-true _ _ e)))
-fits_in_range (whole word w shapes.unsigned) (negsuc n) e = absurd cc
-fits_in_range (whole word w shapes.twos_complement) (pos n) e = record { sfits = ltb-true _ _ e }
-fits_in_range (whole word w shapes.twos_complement) (negsuc n) e = record { sfits = ltb-true _ _ e }
-fits_in_range (whole word w shapes.zigzag) (pos n) e = record { sfits = ltb-true _ _ e }
-fits_in_range (whole word w shapes.zigzag) (negsuc n) e = record { sfits = ltb-true _ _ e }
-fits_in_range is_truth v e = absurd cc
-fits_in_range text v e = absurd cc
-fits_in_range is_octets v e = absurd cc
-fits_in_range is_message v e = absurd cc
-
-pub in_range_fits : (s : Shape) (v : ℤ) → InRange s v → fits s v ≡ true
-in_range_fits (whole word w shapes.unsigned) (pos n) p = lt-ltb _ _ (ltb_yes p.1.lt)
-in_range_fits (whole word w shapes.unsigned) (negsuc n) p = absurd p.0.le
-in_range_fits (whole word w shapes.twos_complement) (pos n) p = lt-ltb _ _ p.sfits
-in_range_fits (whole word w shapes.twos_complement) (negsuc n) p = lt-ltb _ _ p.sfits
-in_range_fits (whole word w shapes.zigzag) (pos n) p = lt-ltb _ _ p.sfits
-in_range_fits (whole word w shapes.zigzag) (negsuc n) p = lt-ltb _ _ p.sfits
-in_range_fits is_truth v p = absurd p
-in_range_fits text v p = absurd p
-in_range_fits is_octets v p = absurd p
-in_range_fits is_message v p = absurd p
+use Rattle.protobuf_parse_wire.specs.CustomOptions.{value_items, list_items, field_items, path_items, message_item, named_items, option_items, denotes}
+use Rattle.protobuf_parse_wire.specs.CustomFaults.{integer_faults, truth_faults, value_name_faults, string_value_faults, message_value_faults, number_faults, constant_name_faults, value_faults, list_faults, field_faults, part_faults, step_faults, path_faults, table_of, names_in, builtin_step_faults, custom_faults, named_faults, statement_faults}
+use Rattle.protobuf_parse_model.specs.Environment.{part_text, path_text}
 
 -- ---- lists
 
@@ -83,95 +53,85 @@ abbrev item_at : ℕ → FieldType → EntryTree → List Item
 item_at n t v = map (λ (k : Kind). record { number = n; kind = k; value = v }) (option_to_list (kind_of t))
 
 kept : (s : Shape) (v : ℤ) (b : Bool) (x : Fault) → fits s v ≡ b → cond (not b) (x ∷ []) [] ≡ [] → InRange s v
-kept s v true x h e = fits_in_range s v h
+kept s v true x h e = h
 kept s v false x h e = absurd cc
 
 pub number_kept : (k : Kind) (name : Text) (v : ℤ) → integer_faults name (integers k) v ≡ [] → InRange (shape k) v
 number_kept k name v e = kept (shape k) v (fits (shape k) v) (record { kind = IntegerOutOfRange; what = name }) refl e
 
-number_fit : (name : Text) (is_map : Bool) (t : FieldType) (n : ℕ) (z : ℤ) → integer_faults name (takes_by is_map t) z ≡ [] → AreFit (item_at n t (trees.number z))
-number_fit name is_map types.Int32 n z e = (number_kept kinds.Int32 name z e, tt)
-number_fit name is_map types.Int64 n z e = (number_kept kinds.Int64 name z e, tt)
-number_fit name is_map types.Uint32 n z e = (number_kept kinds.Uint32 name z e, tt)
-number_fit name is_map types.Uint64 n z e = (number_kept kinds.Uint64 name z e, tt)
-number_fit name is_map types.Sint32 n z e = (number_kept kinds.Sint32 name z e, tt)
-number_fit name is_map types.Sint64 n z e = (number_kept kinds.Sint64 name z e, tt)
-number_fit name is_map types.Fixed32 n z e = (number_kept kinds.Fixed32 name z e, tt)
-number_fit name is_map types.Sfixed32 n z e = (number_kept kinds.Sfixed32 name z e, tt)
-number_fit name is_map types.Fixed64 n z e = (number_kept kinds.Fixed64 name z e, tt)
-number_fit name is_map types.Sfixed64 n z e = (number_kept kinds.Sfixed64 name z e, tt)
-number_fit name true types.Message n z e = absurd cc
-number_fit name false types.Message n z e = absurd cc
-number_fit name is_map _ n z e = absurd cc
+number_fit : (name : Text) (t : FieldType) (n : ℕ) (z : ℤ) → integer_faults name (takes t) z ≡ [] → AreFit (item_at n t (trees.number z))
+number_fit name types.Int32 n z e = (number_kept kinds.Int32 name z e, tt)
+number_fit name types.Int64 n z e = (number_kept kinds.Int64 name z e, tt)
+number_fit name types.Uint32 n z e = (number_kept kinds.Uint32 name z e, tt)
+number_fit name types.Uint64 n z e = (number_kept kinds.Uint64 name z e, tt)
+number_fit name types.Sint32 n z e = (number_kept kinds.Sint32 name z e, tt)
+number_fit name types.Sint64 n z e = (number_kept kinds.Sint64 name z e, tt)
+number_fit name types.Fixed32 n z e = (number_kept kinds.Fixed32 name z e, tt)
+number_fit name types.Sfixed32 n z e = (number_kept kinds.Sfixed32 name z e, tt)
+number_fit name types.Fixed64 n z e = (number_kept kinds.Fixed64 name z e, tt)
+number_fit name types.Sfixed64 n z e = (number_kept kinds.Sfixed64 name z e, tt)
+number_fit name _ n z e = absurd cc
 
-truth_fit : (name : Text) (is_map : Bool) (t : FieldType) (n : ℕ) (b : Bool) → truth_faults name (takes_by is_map t) ≡ [] → AreFit (item_at n t (trees.truth b))
-truth_fit name is_map types.Bool n b e = (tt, tt)
-truth_fit name true types.Message n b e = absurd cc
-truth_fit name false types.Message n b e = absurd cc
-truth_fit name is_map _ n b e = absurd cc
+truth_fit : (name : Text) (t : FieldType) (n : ℕ) (b : Bool) → truth_faults name (takes t) ≡ [] → AreFit (item_at n t (trees.truth b))
+truth_fit name types.Bool n b e = (tt, tt)
+truth_fit name _ n b e = absurd cc
 
-string_fit : (option name : Text) (is_map : Bool) (t : FieldType) (n : ℕ) (pieces : Pieces) (bs : List ℕ) → string_value_faults option name (takes_by is_map t) pieces ≡ [] → AreFit (item_at n t (trees.bytes bs))
-string_fit option name is_map types.String n pieces bs e = (tt, tt)
-string_fit option name is_map types.Bytes n pieces bs e = (tt, tt)
-string_fit option name true types.Message n pieces bs e = absurd cc
-string_fit option name false types.Message n pieces bs e = absurd cc
-string_fit option name is_map _ n pieces bs e = absurd cc
+string_fit : (option name : Text) (t : FieldType) (n : ℕ) (pieces : Pieces) (bs : List ℕ) → string_value_faults option name (takes t) pieces ≡ [] → AreFit (item_at n t (trees.bytes bs))
+string_fit option name types.String n pieces bs e = (tt, tt)
+string_fit option name types.Bytes n pieces bs e = (tt, tt)
+string_fit option name _ n pieces bs e = absurd cc
 
-message_fit : (name : Text) (is_map : Bool) (t : FieldType) (n : ℕ) (inside : List Fault) (items : List Item) → message_value_faults name (takes_by is_map t) inside ≡ [] → (inside ≡ [] → AreFit items) → AreFit (item_at n t (trees.message (entries_of_list items)))
-message_fit name true types.Message n inside items e f = absurd cc
-message_fit name false types.Message n inside items e f = ((tt, f e), tt)
-message_fit name is_map _ n inside items e f = absurd cc
+message_fit : (name : Text) (t : FieldType) (n : ℕ) (inside : List Fault) (items : List Item) → message_value_faults name (takes t) inside ≡ [] → (inside ≡ [] → AreFit items) → AreFit (item_at n t (trees.message (entries_of_list items)))
+message_fit name types.Message n inside items e f = ((tt, f e), tt)
+message_fit name _ n inside items e f = absurd cc
 
-step_fit : (part : Text) (is_map : Bool) (t : FieldType) (n : ℕ) (inside : List Fault) (items : List Item) → step_faults part (takes_by is_map t) inside ≡ [] → (inside ≡ [] → AreFit items) → AreFit (item_at n t (trees.message (entries_of_list items)))
-step_fit part true types.Message n inside items e f = ((tt, f e), tt)
-step_fit part false types.Message n inside items e f = ((tt, f e), tt)
-step_fit part is_map _ n inside items e f = absurd cc
+step_fit : (part : Text) (t : FieldType) (n : ℕ) (inside : List Fault) (items : List Item) → step_faults part (takes t) inside ≡ [] → (inside ≡ [] → AreFit items) → AreFit (item_at n t (trees.message (entries_of_list items)))
+step_fit part types.Message n inside items e f = ((tt, f e), tt)
+step_fit part _ n inside items e f = absurd cc
 
 abbrev numbers : ℕ → FieldType → Option ℤ → List Item
 numbers n t o = flat_map (λ (z : ℤ). item_at n t (trees.number z)) (option_to_list o)
 
-value_name_fit : (name value : Text) (is_map : Bool) (t : FieldType) (n : ℕ) (o : Option ℤ) → ((z : ℤ) → o ≡ Some z → FitsSigned w32 z) → value_name_faults name (takes_by is_map t) value o ≡ [] → AreFit (numbers n t o)
-value_name_fit name value is_map types.Enum n (Some z) small e = (small z refl, tt)
-value_name_fit name value is_map types.Enum n None small e = tt
-value_name_fit name value true types.Message n o small e = absurd cc
-value_name_fit name value false types.Message n o small e = absurd cc
-value_name_fit name value is_map _ n o small e = absurd cc
+value_name_fit : (name value : Text) (t : FieldType) (n : ℕ) (o : Option ℤ) → ((z : ℤ) → o ≡ Some z → FitsSigned w32 z) → value_name_faults name (takes t) value o ≡ [] → AreFit (numbers n t o)
+value_name_fit name value types.Enum n (Some z) small e = (in_range (shape kinds.Enum) z (small z refl), tt)
+value_name_fit name value types.Enum n None small e = tt
+value_name_fit name value _ n o small e = absurd cc
 
 -- ---- constants
 
 mutual
-  value_fit : (files : List FileDescriptor) → HasSmallValues files → (option : Text) (f : FieldDescriptor) (c : ConstantSyntax) → value_faults files option f c ≡ [] → AreFit (value_items files f c)
-  value_fit files small option f (integer z) e = number_fit f.name (is_entry files (type_name_of f)) f.type_ _ z e
-  value_fit files small option f (truth b) e = truth_fit f.name (is_entry files (type_name_of f)) f.type_ _ b e
-  value_fit files small option f (dotted name) e = value_name_fit f.name name (is_entry files (type_name_of f)) f.type_ _ (number_of_value files (type_name_of f) name) (small (type_name_of f) name) e
-  value_fit files small option f (string pieces) e = string_fit option f.name (is_entry files (type_name_of f)) f.type_ _ pieces _ e
-  value_fit files small option f (list cs) e = list_fit files small option f cs e
-  value_fit files small option f (fields fs) e = message_fit f.name (is_entry files (type_name_of f)) f.type_ _ (field_faults files option (type_name_of f) fs) (field_items files (type_name_of f) fs) e (λ h. field_fit files small option (type_name_of f) fs h)
+  value_fit : (at : OptionScope) → HasSmallValues at.files → (option : Text) (f : FieldDescriptor) (c : ConstantSyntax) → value_faults at option f c ≡ [] → AreFit (value_items at f c)
+  value_fit at small option f (integer z) e = number_fit f.name f.type_ _ z e
+  value_fit at small option f (truth b) e = truth_fit f.name f.type_ _ b e
+  value_fit at small option f (dotted name) e = value_name_fit f.name name f.type_ _ (number_of_value at.files (type_name_of f) name) (small (type_name_of f) name) e
+  value_fit at small option f (string pieces) e = string_fit option f.name f.type_ _ pieces _ e
+  value_fit at small option f (list cs) e = list_fit at small option f cs e
+  value_fit at small option f (fields fs) e = message_fit f.name f.type_ _ (field_faults at option (type_name_of f) fs) (field_items at (type_name_of f) fs) e (λ h. field_fit at small option (type_name_of f) fs h)
 
-  list_fit : (files : List FileDescriptor) → HasSmallValues files → (option : Text) (f : FieldDescriptor) (cs : ConstantList) → list_faults files option f cs ≡ [] → AreFit (list_items files f cs)
-  list_fit files small option f no_constants e = tt
-  list_fit files small option f (more_constants c cs) e =
-      fit_append (value_items files f c) (list_items files f cs)
-      (value_fit files small option f c (no_left (value_faults files option f c) (list_faults files option f cs) e))
-      (list_fit files small option f cs (no_right (value_faults files option f c) (list_faults files option f cs) e))
+  list_fit : (at : OptionScope) → HasSmallValues at.files → (option : Text) (f : FieldDescriptor) (cs : ConstantList) → list_faults at option f cs ≡ [] → AreFit (list_items at f cs)
+  list_fit at small option f no_constants e = tt
+  list_fit at small option f (more_constants c cs) e =
+      fit_append (value_items at f c) (list_items at f cs)
+      (value_fit at small option f c (no_left (value_faults at option f c) (list_faults at option f cs) e))
+      (list_fit at small option f cs (no_right (value_faults at option f c) (list_faults at option f cs) e))
 
-  field_fit : (files : List FileDescriptor) → HasSmallValues files → (option message : Text) (fs : ConstantFieldList) → field_faults files option message fs ≡ [] → AreFit (field_items files message fs)
-  field_fit files small option message no_fields e = tt
-  field_fit files small option message (more_fields name c fs) e =
-      let front = no_left (constant_name_faults files message name ++ flat_map (λ (g : FieldDescriptor). number_faults g ++ value_faults files option g c) (constant_fields files message name)) (field_faults files option message fs) e in
-      fit_append (flat_map (λ (g : FieldDescriptor). value_items files g c) (constant_fields files message name)) (field_items files message fs)
-      (fit_each (λ (g : FieldDescriptor). number_faults g ++ value_faults files option g c) (λ (g : FieldDescriptor). value_items files g c) (λ g h. value_fit files small option g c (no_right (number_faults g) _ h)) (constant_fields files message name) (no_right (constant_name_faults files message name) (flat_map (λ (g : FieldDescriptor). number_faults g ++ value_faults files option g c) (constant_fields files message name)) front))
-      (field_fit files small option message fs (no_right (constant_name_faults files message name ++ flat_map (λ (g : FieldDescriptor). number_faults g ++ value_faults files option g c) (constant_fields files message name)) (field_faults files option message fs) e))
+  field_fit : (at : OptionScope) → HasSmallValues at.files → (option message : Text) (fs : ConstantFieldList) → field_faults at option message fs ≡ [] → AreFit (field_items at message fs)
+  field_fit at small option message no_fields e = tt
+  field_fit at small option message (more_fields name c fs) e =
+      let front = no_left (constant_name_faults at message name ++ flat_map (λ (g : FieldDescriptor). number_faults g ++ value_faults at option g c) (option_to_list (constant_field at message name))) (field_faults at option message fs) e in
+      fit_append (flat_map (λ (g : FieldDescriptor). value_items at g c) (option_to_list (constant_field at message name))) (field_items at message fs)
+      (fit_each (λ (g : FieldDescriptor). number_faults g ++ value_faults at option g c) (λ (g : FieldDescriptor). value_items at g c) (λ g h. value_fit at small option g c (no_right (number_faults g) _ h)) (option_to_list (constant_field at message name)) (no_right (constant_name_faults at message name) (flat_map (λ (g : FieldDescriptor). number_faults g ++ value_faults at option g c) (option_to_list (constant_field at message name))) front))
+      (field_fit at small option message fs (no_right (constant_name_faults at message name ++ flat_map (λ (g : FieldDescriptor). number_faults g ++ value_faults at option g c) (option_to_list (constant_field at message name))) (field_faults at option message fs) e))
 
 -- ---- names
 
 path_fit : (at : OptionScope) → HasSmallValues at.files → (option : Text) (value : ConstantSyntax) (message : Text) (parts : List OptionPartSyntax) → path_faults at option value message parts ≡ [] → AreFit (path_items at value message parts)
 path_fit at small option value message [] e = tt
 path_fit at small option value message (p ∷ []) e =
-    fit_each (λ (g : FieldDescriptor). number_faults g ++ value_faults at.files option g value) (λ (g : FieldDescriptor). value_items at.files g value) (λ g h. value_fit at.files small option g value (no_right (number_faults g) _ h)) _ (no_right (part_faults at message p) _ e)
+    fit_each (λ (g : FieldDescriptor). number_faults g ++ value_faults at option g value) (λ (g : FieldDescriptor). value_items at g value) (λ g h. value_fit at small option g value (no_right (number_faults g) _ h)) _ (no_right (part_faults at message p) _ e)
 path_fit at small option value message (p ∷ q ∷ ps) e =
-    fit_each (λ (g : FieldDescriptor). number_faults g ++ step_faults (part_text p) (takes_by (is_entry at.files (type_name_of g)) g.type_) (path_faults at option value (type_name_of g) (q ∷ ps))) (λ (g : FieldDescriptor). message_item g (path_items at value (type_name_of g) (q ∷ ps)))
-    (λ g h. step_fit (part_text p) (is_entry at.files (type_name_of g)) g.type_ _ (path_faults at option value (type_name_of g) (q ∷ ps)) (path_items at value (type_name_of g) (q ∷ ps)) (no_right (number_faults g) _ h) (λ k. path_fit at small option value (type_name_of g) (q ∷ ps) k)) (option_to_list (part_field at message p)) (no_right (part_faults at message p) _ e)
+    fit_each (λ (g : FieldDescriptor). number_faults g ++ step_faults (part_text p) (takes g.type_) (path_faults at option value (type_name_of g) (q ∷ ps))) (λ (g : FieldDescriptor). message_item g (path_items at value (type_name_of g) (q ∷ ps)))
+    (λ g h. step_fit (part_text p) g.type_ _ (path_faults at option value (type_name_of g) (q ∷ ps)) (path_items at value (type_name_of g) (q ∷ ps)) (no_right (number_faults g) _ h) (λ k. path_fit at small option value (type_name_of g) (q ∷ ps) k)) (option_to_list (part_field at message p)) (no_right (part_faults at message p) _ e)
 
 -- a plain part before others always has a fault
 step_has_fault : (a b : Bool) (x y z : Fault) → cond a (x ∷ []) (cond b (y ∷ []) (z ∷ [])) ≡ [] → ⊥
@@ -179,18 +139,18 @@ step_has_fault true b x y z e = absurd cc
 step_has_fault false true x y z e = absurd cc
 step_has_fault false false x y z e = absurd cc
 
-pub plain_step_has_fault : (construct : OptionsOf) (name : Text) → builtin_step_faults (table_of construct) name ≡ [] → ⊥
+pub plain_step_has_fault : (construct : Construct) (name : Text) → builtin_step_faults (table_of construct) name ≡ [] → ⊥
 plain_step_has_fault construct name e = step_has_fault (bytes_eq name (codes "uninterpreted_option")) (stands_in name (names_in (table_of construct))) (record { kind = UninterpretedOptionName; what = name }) (record { kind = ExtensionIsNotMessage; what = name }) (record { kind = UnknownFieldName; what = name }) e
 
-custom_fit : (at : OptionScope) → HasSmallValues at.files → (construct : OptionsOf) (value : ConstantSyntax) (parts : List OptionPartSyntax) → custom_faults at construct value parts ≡ [] → AreFit (path_items at value (options_message construct) parts)
+custom_fit : (at : OptionScope) → HasSmallValues at.files → (construct : Construct) (value : ConstantSyntax) (parts : List OptionPartSyntax) → custom_faults at construct value parts ≡ [] → AreFit (path_items at value (options_message construct) parts)
 custom_fit at small construct value [] e = tt
 custom_fit at small construct value (direct name ∷ ps) e = absurd (plain_step_has_fault construct name e)
 custom_fit at small construct value (extension name ∷ ps) e = path_fit at small (path_text (extension name ∷ ps)) value (options_message construct) (extension name ∷ ps) e
 
-named_fit : (at : OptionScope) → HasSmallValues at.files → (construct : OptionsOf) (value : ConstantSyntax) (name : OptionNameSyntax) → named_faults at construct value name ≡ [] → AreFit (named_items at (options_message construct) value name)
+named_fit : (at : OptionScope) → HasSmallValues at.files → (construct : Construct) (value : ConstantSyntax) (name : OptionNameSyntax) → named_faults at construct value name ≡ [] → AreFit (named_items at (options_message construct) value name)
 named_fit at small construct value (builtin name) e = tt
 named_fit at small construct value (custom parts) e = custom_fit at small construct value parts e
 
 -- what the statements of one construct denote can be written, so that there are bytes which spell it
-pub denotes_writable : (at : OptionScope) → HasSmallValues at.files → (construct : OptionsOf) (os : List OptionSyntax) → statement_faults at construct os ≡ [] → AreWritable (denotes at construct os)
+pub denotes_writable : (at : OptionScope) → HasSmallValues at.files → (construct : Construct) (os : List OptionSyntax) → statement_faults at construct os ≡ [] → AreWritable (denotes at construct os)
 denotes_writable at small construct os e = fit_each (λ (o : OptionSyntax). named_faults at construct o.value o.name) (option_items at construct) (λ o h. named_fit at small construct o.value o.name h) os e

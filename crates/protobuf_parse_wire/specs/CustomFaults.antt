@@ -1,32 +1,24 @@
 -- What is wrong in the custom options of a file.
 use Rattle.std.specs.Prelude.{ℤ, pos, int_le, not, ◌&&◌, List, [], ◌∷◌, ◌++◌, map, flat_map, codes, bytes_eq, Option, Some, None, is_some, option_to_list, if◌then◌else◌}
-use Rattle.std.specs.List.{join_with_byte}
 use Rattle.protobuf_parse_syntax.specs.Trees.{Pieces, ConstantNameSyntax, regular_name, extension_name, url_name, ConstantSyntax, integer, truth, dotted, string, list, fields, ConstantList, no_constants, more_constants, ConstantFieldList, no_fields, more_fields, OptionPartSyntax, direct, extension, OptionNameSyntax, builtin, custom, OptionSyntax, FileSyntax}
 use Rattle.protobuf_parse_syntax.specs.Decoder.{decode, text_of}
-use Rattle.protobuf_parse_model.specs.declared.error.ElabErrorKind.TheVariants.{ExtensionNotFound, WrongExtensionType, ExtensionIsNotMessage, UnknownFieldName, UnknownEnumValue, UnsupportedExtensionType, IntegerOutOfRange, MessageFieldRequiresMessageConstant, FloatOptionValue, OptionFieldNumber, GroupStepInOptionName, ExtensionFieldInConstant, TypeUrlInConstant, MapFieldInConstant, UninterpretedOptionName}
+use Rattle.protobuf_parse_model.specs.declared.error.ElabErrorKind.TheVariants.{ExtensionNotFound, WrongExtensionType, ExtensionIsNotMessage, UnknownFieldName, UnknownEnumValue, UnsupportedExtensionType, IntegerOutOfRange, MessageFieldRequiresMessageConstant, FloatOptionValue, OptionFieldNumber, GroupStepInOptionName, TypeUrlInConstant, UninterpretedOptionName}
 use Rattle.protobuf_parse_model.specs.Descriptors.{Text, FieldDescriptor, FileDescriptor}
 use Rattle.protobuf_parse_model.specs.Faults.{Fault}
 use Rattle.protobuf_parse_model.specs.Declarations.{Declared}
-use Rattle.protobuf_parse_model.specs.Lookup.{meaning}
 use Rattle.protobuf_parse_model.specs.Duplicates.{fault, fault_when, stands_in}
-use Rattle.protobuf_parse_model.specs.Environment.{OptionsOf, of_file, of_message, of_field, of_oneof, of_enum, of_enum_value, of_service, of_method, no_custom}
+use Rattle.protobuf_parse_model.specs.declared.customs.Construct.{Construct}
+use Rattle.protobuf_parse_model.specs.declared.customs.Construct.TheVariants as of
+use Rattle.protobuf_parse_model.specs.Environment.{no_customs, part_text, path_text}
 use Rattle.protobuf_parse_model.specs.BuiltinOptions.{Table, BuiltinKind, string_faults, file_table, message_table, field_table, oneof_table, enum_table, enum_value_table, service_table, method_table}
 use Rattle.protobuf_parse_model.specs.FileDescriptor.{environment, file_faults}
 use Rattle.protobuf_parse_model.specs.Linking.{before_others, link_faults}
 use Rattle.protobuf_parse_model.specs.OptionSets.{OptionSet, option_sets}
-use Rattle.protobuf_parse_wire.specs.Kinds.{shape}
-use Rattle.protobuf_parse_wire.specs.Declarations.{extends}
-use Rattle.protobuf_parse_wire.specs.OptionFields.{OptionScope, options_message, field_named, number_of_value, part_field, type_name_of, Takes, integers, truths, names_of_values, texts, octets, messages, maps, floats, groups, takes, fits}
-use Rattle.protobuf_parse_wire.specs.CustomOptions.{constant_fields, scope_of}
+use Rattle.protobuf_parse_wire.specs.Kinds.{shape, fits}
+use Rattle.protobuf_parse_wire.specs.OptionFields.{OptionScope, options_message, field_named, number_of_value, extension_meant, extends_message, part_field, constant_field, type_name_of, Takes, integers, truths, names_of_values, texts, octets, messages, floats, groups, takes}
+use Rattle.protobuf_parse_wire.specs.CustomOptions.{scope_of}
 
 -- ---- names as they are written
-
-abbrev pub part_text : OptionPartSyntax → Text
-part_text (direct name) = name
-part_text (extension name) = codes "(" ++ name ++ codes ")"
-
-abbrev pub path_text : List OptionPartSyntax → Text
-path_text parts = join_with_byte 46 (map part_text parts)
 
 abbrev pub bracketed : Text → Text
 bracketed name = codes "[" ++ name ++ codes "]"
@@ -58,61 +50,71 @@ string_value_faults option name texts pieces = string_faults option (text_of pie
 string_value_faults option name octets pieces = string_faults option (decode pieces)
 string_value_faults option name other pieces = not_taken name other
 
--- E27 for a message constant that is given to a map, E21 for one that is given to any other field but a message
+-- E21 for a message constant that is given to any other field but a message
 abbrev pub message_value_faults : Text → Takes → List Fault → List Fault
 message_value_faults name messages inside = inside
-message_value_faults name maps inside = fault MapFieldInConstant name
 message_value_faults name other inside = fault MessageFieldRequiresMessageConstant name
 
 -- E23 for a number that can't stand in a tag
 abbrev pub number_faults : FieldDescriptor → List Fault
 number_faults f = fault_when (not (int_le (pos 1) f.number && int_le f.number (pos 536870911))) OptionFieldNumber f.name
 
+-- ---- fields and extensions
+
+-- E17 for a name that no field of the message has
+abbrev pub field_name_faults : OptionScope → Text → Text → List Fault
+field_name_faults at message name =
+    fault_when (not (is_some (field_named at.files message name))) UnknownFieldName name
+
+-- E14 for an extension that isn't found, E15 for one that extends no such message
+abbrev pub extension_faults : List FileDescriptor → Text → Text → Option (Declared FieldDescriptor) → List Fault
+extension_faults files message name None = fault ExtensionNotFound name
+extension_faults files message name (Some d) =
+    fault_when (not (extends_message files message d.what)) WrongExtensionType name
+
 -- ---- constants
 
--- E17 for a name that no field of the message has, E25 for an extension, E26 for a type URL
-abbrev pub constant_name_faults : List FileDescriptor → Text → ConstantNameSyntax → List Fault
-constant_name_faults files message (regular_name name) = fault_when (not (is_some (field_named files message name))) UnknownFieldName name
-constant_name_faults files message (extension_name name) = fault ExtensionFieldInConstant (bracketed name)
-constant_name_faults files message (url_name name) = fault TypeUrlInConstant (bracketed name)
+-- in a constant for a message: E26 for a type URL
+abbrev pub constant_name_faults : OptionScope → Text → ConstantNameSyntax → List Fault
+constant_name_faults at message (regular_name name) = field_name_faults at message name
+constant_name_faults at message (extension_name name) =
+    extension_faults at.files message name (extension_meant at name)
+constant_name_faults at message (url_name name) = fault TypeUrlInConstant (bracketed name)
 
 abbrev mutual
   -- of the constant that the option of that name gives to a field
-  pub value_faults : List FileDescriptor → Text → FieldDescriptor → ConstantSyntax → List Fault
-  value_faults files option f (integer z) = integer_faults f.name (takes files f) z
-  value_faults files option f (truth b) = truth_faults f.name (takes files f)
-  value_faults files option f (dotted name) = value_name_faults f.name (takes files f) name (number_of_value files (type_name_of f) name)
-  value_faults files option f (string pieces) = string_value_faults option f.name (takes files f) pieces
-  value_faults files option f (list cs) = list_faults files option f cs
-  value_faults files option f (fields fs) = message_value_faults f.name (takes files f) (field_faults files option (type_name_of f) fs)
+  pub value_faults : OptionScope → Text → FieldDescriptor → ConstantSyntax → List Fault
+  value_faults at option f (integer z) = integer_faults f.name (takes f.type_) z
+  value_faults at option f (truth b) = truth_faults f.name (takes f.type_)
+  value_faults at option f (dotted name) =
+      value_name_faults f.name (takes f.type_) name (number_of_value at.files (type_name_of f) name)
+  value_faults at option f (string pieces) = string_value_faults option f.name (takes f.type_) pieces
+  value_faults at option f (list cs) = list_faults at option f cs
+  value_faults at option f (fields fs) =
+      message_value_faults f.name (takes f.type_) (field_faults at option (type_name_of f) fs)
 
-  pub list_faults : List FileDescriptor → Text → FieldDescriptor → ConstantList → List Fault
-  list_faults files option f no_constants = []
-  list_faults files option f (more_constants c cs) = value_faults files option f c ++ list_faults files option f cs
+  pub list_faults : OptionScope → Text → FieldDescriptor → ConstantList → List Fault
+  list_faults at option f no_constants = []
+  list_faults at option f (more_constants c cs) =
+      value_faults at option f c ++ list_faults at option f cs
 
-  pub field_faults : List FileDescriptor → Text → Text → ConstantFieldList → List Fault
-  field_faults files option message no_fields = []
-  field_faults files option message (more_fields name c fs) =
-      constant_name_faults files message name
-      ++ flat_map (λ (g : FieldDescriptor). number_faults g ++ value_faults files option g c) (constant_fields files message name)
-      ++ field_faults files option message fs
+  pub field_faults : OptionScope → Text → Text → ConstantFieldList → List Fault
+  field_faults at option message no_fields = []
+  field_faults at option message (more_fields name c fs) =
+      constant_name_faults at message name
+      ++ flat_map (λ (g : FieldDescriptor). number_faults g ++ value_faults at option g c) (option_to_list (constant_field at message name))
+      ++ field_faults at option message fs
 
 -- ---- names
 
--- E14 for an extension that isn't found, E15 for one that extends another message
-abbrev pub extension_faults : Text → Text → Option (Declared FieldDescriptor) → List Fault
-extension_faults message name None = fault ExtensionNotFound name
-extension_faults message name (Some d) = fault_when (not (extends message d.what)) WrongExtensionType name
-
--- E17 for a name that no field of the message has
 abbrev pub part_faults : OptionScope → Text → OptionPartSyntax → List Fault
-part_faults at message (direct name) = fault_when (not (is_some (field_named at.files message name))) UnknownFieldName name
-part_faults at message (extension name) = extension_faults message name (meaning at.extensions at.scope name)
+part_faults at message (direct name) = field_name_faults at message name
+part_faults at message (extension name) =
+    extension_faults at.files message name (extension_meant at name)
 
 -- where other parts follow: E24 for a group, E16 for any other field but a message
 abbrev pub step_faults : Text → Takes → List Fault → List Fault
 step_faults part messages inside = inside
-step_faults part maps inside = inside
 step_faults part groups inside = fault GroupStepInOptionName part
 step_faults part other inside = fault ExtensionIsNotMessage part
 
@@ -121,49 +123,54 @@ abbrev pub path_faults : OptionScope → Text → ConstantSyntax → Text → Li
 path_faults at option value message [] = []
 path_faults at option value message (p ∷ []) =
     part_faults at message p
-    ++ flat_map (λ (g : FieldDescriptor). number_faults g ++ value_faults at.files option g value) (option_to_list (part_field at message p))
+    ++ flat_map (λ (g : FieldDescriptor). number_faults g ++ value_faults at option g value) (option_to_list (part_field at message p))
 path_faults at option value message (p ∷ q ∷ ps) =
     part_faults at message p
-    ++ flat_map (λ (g : FieldDescriptor). number_faults g ++ step_faults (part_text p) (takes at.files g) (path_faults at option value (type_name_of g) (q ∷ ps))) (option_to_list (part_field at message p))
+    ++ flat_map (λ (g : FieldDescriptor). number_faults g ++ step_faults (part_text p) (takes g.type_) (path_faults at option value (type_name_of g) (q ∷ ps))) (option_to_list (part_field at message p))
 
-abbrev pub table_of : OptionsOf → Table
-table_of of_file = file_table
-table_of of_message = message_table
-table_of of_field = field_table
-table_of of_oneof = oneof_table
-table_of of_enum = enum_table
-table_of of_enum_value = enum_value_table
-table_of of_service = service_table
-table_of of_method = method_table
+abbrev pub table_of : Construct → Table
+table_of of.File = file_table
+table_of of.Message = message_table
+table_of of.Field = field_table
+table_of of.Oneof = oneof_table
+table_of of.Enum = enum_table
+table_of of.EnumValue = enum_value_table
+table_of of.Service = service_table
+table_of of.Method = method_table
 
 abbrev pub names_in : Table → List Text
 names_in table = map (λ (entry : Text × BuiltinKind). entry.0) table
 
--- A name that goes on from a built-in option: E28 from `uninterpreted_option`, E16 from any other, as none is a message,
--- E17 where there is no such option.
+-- A name that goes on from a built-in option: E28 from `uninterpreted_option`, E16 from any other,
+-- as none is a message, E17 where there is no such option.
 abbrev pub builtin_step_faults : Table → Text → List Fault
 builtin_step_faults table name =
     if bytes_eq name (codes "uninterpreted_option") then fault UninterpretedOptionName name
     else (if stands_in name (names_in table) then fault ExtensionIsNotMessage name else fault UnknownFieldName name)
 
-abbrev pub custom_faults : OptionScope → OptionsOf → ConstantSyntax → List OptionPartSyntax → List Fault
+abbrev pub custom_faults : OptionScope → Construct → ConstantSyntax → List OptionPartSyntax → List Fault
 custom_faults at construct value [] = []
 custom_faults at construct value (direct name ∷ ps) = builtin_step_faults (table_of construct) name
 custom_faults at construct value (extension name ∷ ps) = path_faults at (path_text (extension name ∷ ps)) value (options_message construct) (extension name ∷ ps)
 
-abbrev pub named_faults : OptionScope → OptionsOf → ConstantSyntax → OptionNameSyntax → List Fault
+abbrev pub named_faults : OptionScope → Construct → ConstantSyntax → OptionNameSyntax → List Fault
 named_faults at construct value (builtin name) = []
 named_faults at construct value (custom parts) = custom_faults at construct value parts
 
 -- ---- the statements of a construct, and of a file
 
-abbrev pub statement_faults : OptionScope → OptionsOf → List OptionSyntax → List Fault
+abbrev pub statement_faults : OptionScope → Construct → List OptionSyntax → List Fault
 statement_faults at construct os = flat_map (λ (o : OptionSyntax). named_faults at construct o.value o.name) os
 
-abbrev pub option_faults : List FileDescriptor → List (Declared FieldDescriptor) → FileSyntax → List Fault
-option_faults files extensions t = flat_map (λ (s : OptionSet). statement_faults (scope_of files extensions s) s.construct s.statements) (option_sets t)
+abbrev pub option_faults : (files visible : List FileDescriptor) → FileSyntax → List Fault
+option_faults files visible t =
+    flat_map (λ (s : OptionSet). statement_faults (scope_of files visible s) s.construct s.statements) (option_sets t)
 
--- All faults that stand in a file: those of names that are declared twice in the files that it reaches, or else its own and
--- those of its custom options.
-abbrev pub elaboration_faults : (reached seen : List FileSyntax) → List FileDescriptor → List (Declared FieldDescriptor) → FileSyntax → List Fault
-elaboration_faults reached seen files extensions t = before_others (link_faults reached) (file_faults (environment seen no_custom t) t ++ option_faults files extensions t)
+-- All faults that stand in a file which reaches the trees `reached` and sees the trees `seen`:
+-- those of names that are declared twice in what it reaches; or else its own; or else, where its
+-- descriptor says what every type is, those of its custom options, by the descriptors of the files
+-- that it reaches and of those that it sees.
+abbrev pub elaboration_faults : (reached seen : List FileSyntax) (files visible : List FileDescriptor) → FileSyntax → List Fault
+elaboration_faults reached seen files visible t =
+    before_others (link_faults reached)
+    (before_others (file_faults (environment seen no_customs t) t) (option_faults files visible t))

@@ -1,17 +1,19 @@
--- What the custom options of a construct denote: a list of entries, one for each value that a statement gives, in source
--- order; and which bytes stand for them in the descriptor. Where a fault stands the entries may be anything.
+-- What the custom options of a construct denote: a list of entries, one for each value that a
+-- statement gives, in source order; and which bytes stand for them in the descriptor. Where a fault
+-- stands the entries may be anything.
 --
--- Each part of a name but the last becomes an entry with a message, in which the rest stands. A list gives its items one
--- by one. The name of an enum's value is its number, a message constant a message with an entry for each field.
--- Protocol Buffers Language Guide (proto2), "Custom Options"; Protocol Buffers Encoding, "Message Structure"
--- (https://protobuf.dev).
+-- Each part of a name but the last becomes an entry with a message, in which the rest stands. A
+-- list gives its items one by one. The name of an enum's value is its number, a message constant a
+-- message with an entry for each field; for a map it is the message of one of its entries.
+-- Protocol Buffers Language Guide (proto2), "Custom Options"; Protocol Buffers Encoding,
+-- "Message Structure" (https://protobuf.dev).
 use Rattle.std.specs.Prelude.{◌≡◌, ℤ, nat_abs, List, [], ◌∷◌, ◌++◌, map, flat_map, unwrap_or, option_to_list}
-use Rattle.protobuf_parse_syntax.specs.Trees.{ConstantNameSyntax, regular_name, extension_name, url_name, ConstantSyntax, integer, truth, dotted, string, list, fields, ConstantList, no_constants, more_constants, ConstantFieldList, no_fields, more_fields, OptionPartSyntax, OptionNameSyntax, builtin, custom, OptionSyntax, FileSyntax}
+use Rattle.protobuf_parse_syntax.specs.Trees.{ConstantSyntax, integer, truth, dotted, string, list, fields, ConstantList, no_constants, more_constants, ConstantFieldList, no_fields, more_fields, OptionPartSyntax, OptionNameSyntax, builtin, custom, OptionSyntax, FileSyntax}
 use Rattle.protobuf_parse_syntax.specs.Decoder.{decode}
 use Rattle.protobuf_parse_model.specs.Descriptors.{Text, FieldDescriptor, FileDescriptor}
 use Rattle.protobuf_parse_model.specs.Faults.{Among}
-use Rattle.protobuf_parse_model.specs.Declarations.{Declared}
-use Rattle.protobuf_parse_model.specs.Environment.{OptionsOf, CustomBytes}
+use Rattle.protobuf_parse_model.specs.declared.customs.Construct.{Construct}
+use Rattle.protobuf_parse_model.specs.Environment.{CustomBytes, spelled_so}
 use Rattle.protobuf_parse_model.specs.FileDescriptor.{environment, file_of}
 use Rattle.protobuf_parse_model.specs.OptionSets.{OptionSet, option_sets}
 use Rattle.protobuf_parse_wire.specs.declared.kind.Kind.{Kind}
@@ -20,7 +22,7 @@ use Rattle.protobuf_parse_wire.specs.Trees as trees
 use Rattle.protobuf_parse_wire.specs.Trees.{EntryTree, Entries}
 use Rattle.protobuf_parse_wire.specs.Views.{Item, entries_of_list}
 use Rattle.protobuf_parse_wire.specs.Wire.{Spells}
-use Rattle.protobuf_parse_wire.specs.OptionFields.{OptionScope, options_message, field_named, number_of_value, part_field, type_name_of}
+use Rattle.protobuf_parse_wire.specs.OptionFields.{OptionScope, options_message, number_of_value, part_field, constant_field, type_name_of}
 
 -- the value under the number and the kind of the field
 abbrev pub item : FieldDescriptor → EntryTree → List Item
@@ -29,60 +31,63 @@ item f value = map (λ (k : Kind). record { number = nat_abs f.number; kind = k;
 abbrev pub message_item : FieldDescriptor → List Item → List Item
 message_item f inside = item f (trees.message (entries_of_list inside))
 
--- the field that a name in a message constant means
-abbrev pub constant_fields : List FileDescriptor → Text → ConstantNameSyntax → List FieldDescriptor
-constant_fields files message (regular_name name) = option_to_list (field_named files message name)
-constant_fields files message (extension_name name) = []
-constant_fields files message (url_name name) = []
-
 abbrev mutual
   -- what a constant gives to a field
-  pub value_items : List FileDescriptor → FieldDescriptor → ConstantSyntax → List Item
-  value_items files f (integer z) = item f (trees.number z)
-  value_items files f (truth b) = item f (trees.truth b)
-  value_items files f (dotted name) = flat_map (λ (z : ℤ). item f (trees.number z)) (option_to_list (number_of_value files (type_name_of f) name))
-  value_items files f (string pieces) = item f (trees.bytes (unwrap_or (decode pieces) []))
-  value_items files f (list cs) = list_items files f cs
-  value_items files f (fields fs) = message_item f (field_items files (type_name_of f) fs)
+  pub value_items : OptionScope → FieldDescriptor → ConstantSyntax → List Item
+  value_items at f (integer z) = item f (trees.number z)
+  value_items at f (truth b) = item f (trees.truth b)
+  value_items at f (dotted name) =
+      flat_map (λ (z : ℤ). item f (trees.number z)) (option_to_list (number_of_value at.files (type_name_of f) name))
+  value_items at f (string pieces) = item f (trees.bytes (unwrap_or (decode pieces) []))
+  value_items at f (list cs) = list_items at f cs
+  value_items at f (fields fs) = message_item f (field_items at (type_name_of f) fs)
 
-  pub list_items : List FileDescriptor → FieldDescriptor → ConstantList → List Item
-  list_items files f no_constants = []
-  list_items files f (more_constants c cs) = value_items files f c ++ list_items files f cs
+  pub list_items : OptionScope → FieldDescriptor → ConstantList → List Item
+  list_items at f no_constants = []
+  list_items at f (more_constants c cs) = value_items at f c ++ list_items at f cs
 
   -- what the fields of a message constant give to the message
-  pub field_items : List FileDescriptor → Text → ConstantFieldList → List Item
-  field_items files message no_fields = []
-  field_items files message (more_fields name c fs) = flat_map (λ (g : FieldDescriptor). value_items files g c) (constant_fields files message name) ++ field_items files message fs
+  pub field_items : OptionScope → Text → ConstantFieldList → List Item
+  field_items at message no_fields = []
+  field_items at message (more_fields name c fs) =
+      flat_map (λ (g : FieldDescriptor). value_items at g c) (option_to_list (constant_field at message name))
+      ++ field_items at message fs
 
 -- what a constant gives to the field that the parts lead to, from the message on
 abbrev pub path_items : OptionScope → ConstantSyntax → Text → List OptionPartSyntax → List Item
 path_items at value message [] = []
-path_items at value message (p ∷ []) = flat_map (λ (g : FieldDescriptor). value_items at.files g value) (option_to_list (part_field at message p))
+path_items at value message (p ∷ []) =
+    flat_map (λ (g : FieldDescriptor). value_items at g value) (option_to_list (part_field at message p))
 path_items at value message (p ∷ q ∷ ps) = flat_map (λ (g : FieldDescriptor). message_item g (path_items at value (type_name_of g) (q ∷ ps))) (option_to_list (part_field at message p))
 
 abbrev pub named_items : OptionScope → Text → ConstantSyntax → OptionNameSyntax → List Item
 named_items at message value (builtin name) = []
 named_items at message value (custom parts) = path_items at value message parts
 
-abbrev pub option_items : OptionScope → OptionsOf → OptionSyntax → List Item
+abbrev pub option_items : OptionScope → Construct → OptionSyntax → List Item
 option_items at construct o = named_items at (options_message construct) o.value o.name
 
 -- what the statements of one construct denote
-abbrev pub denotes : OptionScope → OptionsOf → List OptionSyntax → Entries
+abbrev pub denotes : OptionScope → Construct → List OptionSyntax → Entries
 denotes at construct os = entries_of_list (flat_map (option_items at construct) os)
 
 -- ---- the descriptor with its custom options
 
--- a set of options, where the files are those that descriptors name and the extensions those that the file sees
-abbrev pub scope_of : List FileDescriptor → List (Declared FieldDescriptor) → OptionSet → OptionScope
-scope_of files extensions s = record { files = files; extensions = extensions; scope = s.scope }
+-- where a set of options is seen from, in a file that reaches the first files and sees the second
+abbrev pub scope_of : (files visible : List FileDescriptor) → OptionSet → OptionScope
+scope_of files visible s = record { files = files; visible = visible; scope = s.scope }
 
 -- The bytes of each construct of the file spell what its custom options denote.
-abbrev pub SpellsOptions : List FileDescriptor → List (Declared FieldDescriptor) → FileSyntax → CustomBytes → Type 0
-SpellsOptions files extensions t spelled = (s : OptionSet) → Among (option_sets t) s → Spells (denotes (scope_of files extensions s) s.construct s.statements) (spelled s.construct s.scope s.statements)
+abbrev pub SpellsOptions : (files visible : List FileDescriptor) → FileSyntax → CustomBytes → Type 0
+SpellsOptions files visible t spelled =
+    (s : OptionSet) → Among (option_sets t) s
+    → Spells (denotes (scope_of files visible s) s.construct s.statements)
+    (spelled s.construct s.scope s.statements)
 
--- The descriptor is that of the file known by the path, which sees these files and extensions, with its custom options.
-pub record IsElaborated (seen : List FileSyntax) (files : List FileDescriptor) (extensions : List (Declared FieldDescriptor)) (path : Text) (t : FileSyntax) (d : FileDescriptor) : Type 0 where
+-- The descriptor is that of the file known by the path, with its custom options, where the file
+-- sees the trees `seen`, and the descriptors of these are `visible`, those of all files that it
+-- reaches `files`.
+pub record IsElaborated (seen : List FileSyntax) (files visible : List FileDescriptor) (path : Text) (t : FileSyntax) (d : FileDescriptor) : Type 0 where
   pub spelled : CustomBytes
-  pub spells : SpellsOptions files extensions t spelled
-  pub is : d ≡ file_of (environment seen spelled t) path t
+  pub spells : SpellsOptions files visible t spelled
+  pub is : d ≡ file_of (environment seen (spelled_so spelled) t) path t

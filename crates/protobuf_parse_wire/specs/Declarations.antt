@@ -5,6 +5,7 @@ use Rattle.std.specs.List.{flat_map, list_any}
 use Rattle.std.specs.Option.{option_map_or}
 use Rattle.std.specs.Ordering.{int_eq}
 use Rattle.std.specs.Str.{bytes_eq}
+use Rattle.protobuf_parse_model.specs.Declarations.{Declared}
 use Rattle.protobuf_parse_model.specs.Descriptors.{Text, FileDescriptor, FieldDescriptor, MessageParts, MessageDescriptor, MessageDescriptors, a_message, no_messages, messages}
 
 -- a message by its full name
@@ -33,15 +34,25 @@ package_scope (Some name) = within [] name
 abbrev pub declared_in : FileDescriptor → List Declaration
 declared_in file = flat_map (declared_message (package_scope file.«package»)) file.message_type
 
--- the extensions inside messages, and those of the file
+-- extensions that stand in the scope, by full name
+abbrev pub extensions_within : Text → List FieldDescriptor → List (Declared FieldDescriptor)
+extensions_within scope fields =
+    map (λ (f : FieldDescriptor). record { name = within scope f.name; what = f }) fields
+
+-- the extensions of a file by full name: those inside messages, and those of the file
+abbrev pub declared_extensions : FileDescriptor → List (Declared FieldDescriptor)
+declared_extensions file =
+    flat_map (λ (d : Declaration). extensions_within d.name d.parts.extension) (declared_in file)
+    ++ extensions_within (package_scope file.«package») file.extension
+
 abbrev pub extensions_in : FileDescriptor → List FieldDescriptor
-extensions_in file = flat_map (λ d. d.parts.extension) (declared_in file) ++ file.extension
+extensions_in file = map (λ (e : Declared FieldDescriptor). e.what) (declared_extensions file)
 
 -- those of the declarations that have the name
 abbrev pub messages_named : Text → List Declaration → List MessageParts
 messages_named name ds = map (λ d. d.parts) (filter (λ d. bytes_eq name d.name) ds)
 
--- whether the field is an extension of the message of that name
+-- whether the field's extendee is of that name
 abbrev pub extends : Text → FieldDescriptor → Bool
 extends name extension = option_map_or (bytes_eq name) extension.extendee false
 

@@ -1,8 +1,9 @@
 -- How each kind of value stands on the wire: the table of Protocol Buffers Encoding, "Message Structure",
 -- "More Integer Types" and "Condensed Reference Card" (https://protobuf.dev/programming-guides/encoding/).
-use Rattle.std.specs.Prelude.{ℕ, Option, Some, None}
+use Rattle.std.specs.Prelude.{ℕ, ℤ, pos, negsuc, nat_lt, ◌^◌, Bool, false, Option, Some, None, IsTrue}
 use Rattle.std.specs.Int.{w32, w64}
 use mir.Syntax.{Width}
+use mir.Val.{bits, hbits}
 use Rattle.protobuf_parse_model.specs.declared.descriptor.FieldType.{FieldType}
 use Rattle.protobuf_parse_model.specs.declared.descriptor.FieldType.TheVariants as types
 use Rattle.protobuf_parse_wire.specs.declared.kind.Kind.{Kind}
@@ -75,3 +76,26 @@ kind_of types.Message = Some kinds.Message
 kind_of types.Float = None
 kind_of types.Double = None
 kind_of types.Group = None
+
+-- from 0 up to before 2 ^ 32 or 2 ^ 64
+abbrev pub fits_unsigned : Width → ℤ → Bool
+fits_unsigned w (pos n) = nat_lt n (2 ^ bits w)
+fits_unsigned w (negsuc n) = false
+
+-- from -2 ^ 31 up to before 2 ^ 31, or the same of 63; `negsuc n` is -1 - n
+abbrev pub fits_signed : Width → ℤ → Bool
+fits_signed w (pos n) = nat_lt n (2 ^ hbits w)
+fits_signed w (negsuc n) = nat_lt n (2 ^ hbits w)
+
+-- the range of a kind's whole numbers; no other kind has any
+abbrev pub fits : Shape → ℤ → Bool
+fits (whole word w unsigned) v = fits_unsigned w v
+fits (whole word w twos_complement) v = fits_signed w v
+fits (whole word w zigzag) v = fits_signed w v
+fits truth v = false
+fits text v = false
+fits octets v = false
+fits message v = false
+
+abbrev pub InRange : Shape → ℤ → Type 0
+InRange s v = IsTrue (fits s v)

@@ -1,11 +1,9 @@
 -- What is spelled is read: the law between what bytes spell and the reader.
-use Rattle.std.specs.Prelude.{◌≡◌, ℕ, ℤ, pos, ◌+◌, ◌<◌, ◌≤◌, ◌^◌, max, List, [], ◌∷◌, ◌++◌, length, Contains, Some, Ok, IsTrue}
-use Rattle.std.specs.Int.{FitsUnsigned}
-use Rattle.std.specs.Int.RustNames.{FitsSigned}
+use Rattle.std.specs.Prelude.{◌≡◌, ℕ, pos, ◌+◌, ◌<◌, ◌≤◌, ◌^◌, max, List, [], ◌∷◌, ◌++◌, length, Contains, Some, Ok, IsTrue}
 use Rattle.std.specs.Str.{IsUtf8}
 use Rattle.protobuf_parse_model.specs.Descriptors.{Text, FileDescriptor, FieldDescriptor, MessageParts}
 use Rattle.protobuf_parse_wire.specs.declared.kind.Kind.{Kind}
-use Rattle.protobuf_parse_wire.specs.Kinds.{unsigned, twos_complement, zigzag, Shape, whole, truth, text, octets, message, shape, kind_of}
+use Rattle.protobuf_parse_wire.specs.Kinds.{Shape, InRange, whole, truth, text, octets, message, shape, kind_of}
 use Rattle.protobuf_parse_wire.specs.Trees as trees
 use Rattle.protobuf_parse_wire.specs.Trees.{EntryTree, Entries, ValueTree, Field, fields_of_list, no_entries, entry}
 use Rattle.protobuf_parse_wire.specs.Wire.{Spells}
@@ -35,16 +33,6 @@ abbrev mutual
   value_depth (trees.truth b) = 0
   value_depth (trees.bytes bs) = 0
   value_depth (trees.message es) = depth es
-
--- the range of a kind's whole numbers
-abbrev pub InRange : Shape → ℤ → Type 0
-InRange (whole word w unsigned) v = FitsUnsigned w v
-InRange (whole word w twos_complement) v = FitsSigned w v
-InRange (whole word w zigzag) v = FitsSigned w v
-InRange truth v = ⊥
-InRange text v = ⊥
-InRange octets v = ⊥
-InRange message v = ⊥
 
 -- A string is UTF-8.
 abbrev pub IsText : Shape → List ℕ → Type 0
@@ -83,4 +71,10 @@ abbrev mutual
 -- Bytes (fewer than 2 ^ 64, as every slice has) that spell a list which suits the descriptors, with at most 256 messages
 -- inside one another, are read as the numbers and values of the list.
 abbrev pub SpelledIsRead : Type 0
-SpelledIsRead = (files : List FileDescriptor) (name : Text) (es : Entries) (bs : List ℕ) → length bs < 2 ^ 64 → Enters files name (λ fields. Suit files fields es) → depth es ≤ 256 → Spells es bs → reader files name bs ≡ Ok (said es)
+SpelledIsRead =
+    (files : List FileDescriptor) (name : Text) (es : Entries) (bs : List ℕ)
+    → length bs < 2 ^ 64
+    → Enters files name (λ fields. Suit files fields es)
+    → depth es ≤ 256
+    → Spells es bs
+    → reader files name bs ≡ Ok (said es)

@@ -6,9 +6,13 @@ pub mod Declarations
 pub mod Reading
 pub mod Law
 pub mod Writing
+pub mod Encoded
 pub mod Views
 pub mod Indexed
 pub mod OptionFields
 pub mod CustomOptions
 pub mod CustomFaults
 pub mod OptionLaw
+pub mod OptionBytes
+pub mod OptionDepth
+pub mod Agreement

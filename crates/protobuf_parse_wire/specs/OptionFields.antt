@@ -1,35 +1,26 @@
 -- Which field each part of an option's name means, and what values a field takes.
 --
--- A name begins at the options message of its construct. A plain part means a field of the message, a part in parentheses
--- an extension of it, looked up as a type is: from the scope outward. The messages and enums that a field's type names
--- are those of the descriptors that declare them.
+-- A name begins at the options message of its construct. A plain part means a field of the message,
+-- a part in parentheses an extension of it, looked up as a type is: from the scope outward, among
+-- those of the files that the file sees. In a constant for a message a plain name means a field of
+-- it, and one in brackets an extension, looked up in the same way. The messages and enums that a
+-- field's type names are those of the descriptors that declare them, in all files reached.
 -- Protocol Buffers Language Guide (proto2), "Custom Options" (https://protobuf.dev).
-use Rattle.std.specs.Prelude.{ℤ, pos, negsuc, nat_lt, ◌^◌, Bool, false, List, [], ◌++◌, map, flat_map, codes, bytes_eq, Option, Some, None, unwrap_or, option_map, if◌then◌else◌}
-use mir.Syntax.{Width}
-use mir.Val.{bits, hbits}
+use Rattle.std.specs.Prelude.{ℤ, Bool, ◌&&◌, List, [], ◌++◌, map, flat_map, codes, bytes_eq, Option, Some, None, unwrap_or, option_map, if◌then◌else◌}
 use Rattle.std.specs.List.{find, list_any}
-use Rattle.protobuf_parse_syntax.specs.Trees.{OptionPartSyntax, direct, extension}
+use Rattle.protobuf_parse_syntax.specs.Trees.{ConstantNameSyntax, regular_name, extension_name, url_name, OptionPartSyntax, direct, extension}
 use Rattle.protobuf_parse_model.specs.declared.descriptor.FieldType.{FieldType}
 use Rattle.protobuf_parse_model.specs.declared.descriptor.FieldType.TheVariants as types
-use Rattle.protobuf_parse_model.specs.Options.{MessageOptionsSet}
 use Rattle.protobuf_parse_model.specs.Descriptors.{Text, FieldDescriptor, EnumValueDescriptor, EnumDescriptor, MessageParts, FileDescriptor}
 use Rattle.protobuf_parse_model.specs.Declarations.{Scope, Declared}
 use Rattle.protobuf_parse_model.specs.Lookup.{meaning}
-use Rattle.protobuf_parse_model.specs.Environment.{OptionsOf, of_file, of_message, of_field, of_oneof, of_enum, of_enum_value, of_service, of_method}
+use Rattle.protobuf_parse_model.specs.declared.customs.Construct.{Construct}
+use Rattle.protobuf_parse_model.specs.declared.customs.Construct.TheVariants as of
 use Rattle.protobuf_parse_wire.specs.declared.kind.Kind.{Kind}
 use Rattle.protobuf_parse_wire.specs.declared.kind.Kind.TheVariants as kinds
-use Rattle.protobuf_parse_wire.specs.Kinds as shapes
-use Rattle.protobuf_parse_wire.specs.Kinds.{Shape, whole}
-use Rattle.protobuf_parse_wire.specs.Declarations.{Declaration, within, package_scope, declared_in, messages_of, extends}
+use Rattle.protobuf_parse_wire.specs.Declarations.{Declaration, within, package_scope, declared_in, declared_extensions, messages_of, extends}
 
 -- ---- what files declare, by their descriptors
-
-abbrev pub extension_in : Text → FieldDescriptor → Declared FieldDescriptor
-extension_in scope f = record { name = within scope f.name; what = f }
-
--- the extensions of a file by full name, those inside messages first
-abbrev pub declared_extensions : FileDescriptor → List (Declared FieldDescriptor)
-declared_extensions file = flat_map (λ (d : Declaration). map (extension_in d.name) d.parts.extension) (declared_in file) ++ map (extension_in (package_scope file.«package»)) file.extension
 
 abbrev pub enum_in : Text → EnumDescriptor → Declared EnumDescriptor
 enum_in scope e = record { name = within scope e.name; what = e }
@@ -55,31 +46,54 @@ number_of_value files enum_name name = option_map (λ (v : EnumValueDescriptor).
 
 -- what the names of a construct's custom options may mean
 pub record OptionScope : Type 0 where
-  -- the files whose messages and enums the descriptors name
+  -- all files that are reached: type names in descriptors mean messages and enums of these
   pub files : List FileDescriptor
-  -- the extensions that the file sees
-  pub extensions : List (Declared FieldDescriptor)
+  -- those that the file sees, itself among them: names of extensions mean extensions of these
+  pub visible : List FileDescriptor
   pub scope : Scope
 
-abbrev pub options_message : OptionsOf → Text
-options_message of_file = codes ".google.protobuf.FileOptions"
-options_message of_message = codes ".google.protobuf.MessageOptions"
-options_message of_field = codes ".google.protobuf.FieldOptions"
-options_message of_oneof = codes ".google.protobuf.OneofOptions"
-options_message of_enum = codes ".google.protobuf.EnumOptions"
-options_message of_enum_value = codes ".google.protobuf.EnumValueOptions"
-options_message of_service = codes ".google.protobuf.ServiceOptions"
-options_message of_method = codes ".google.protobuf.MethodOptions"
+abbrev pub options_message : Construct → Text
+options_message of.File = codes ".google.protobuf.FileOptions"
+options_message of.Message = codes ".google.protobuf.MessageOptions"
+options_message of.Field = codes ".google.protobuf.FieldOptions"
+options_message of.Oneof = codes ".google.protobuf.OneofOptions"
+options_message of.Enum = codes ".google.protobuf.EnumOptions"
+options_message of.EnumValue = codes ".google.protobuf.EnumValueOptions"
+options_message of.Service = codes ".google.protobuf.ServiceOptions"
+options_message of.Method = codes ".google.protobuf.MethodOptions"
+
+-- the extension that a name means, whatever it extends
+abbrev pub extension_meant : OptionScope → Text → Option (Declared FieldDescriptor)
+extension_meant at name = meaning (flat_map declared_extensions at.visible) at.scope name
+
+-- whether a message has the name, and not an enum
+abbrev pub is_message : List FileDescriptor → Text → Bool
+is_message files name =
+    list_any (λ (d : Declaration). bytes_eq name d.name) (flat_map declared_in files)
+
+-- An extendee that names an enum extends no message.
+abbrev pub extends_message : List FileDescriptor → Text → FieldDescriptor → Bool
+extends_message files message f = extends message f && is_message files message
 
 -- the extension, if it extends the message
-abbrev pub if_extends : Text → Option (Declared FieldDescriptor) → Option FieldDescriptor
-if_extends message None = None
-if_extends message (Some d) = if extends message d.what then Some d.what else None
+abbrev pub if_extends : List FileDescriptor → Text → Option (Declared FieldDescriptor) → Option FieldDescriptor
+if_extends files message None = None
+if_extends files message (Some d) =
+    if extends_message files message d.what then Some d.what else None
+
+abbrev pub extension_named : OptionScope → Text → Text → Option FieldDescriptor
+extension_named at message name = if_extends at.files message (extension_meant at name)
 
 -- the field of the message that a part of a name means
 abbrev pub part_field : OptionScope → Text → OptionPartSyntax → Option FieldDescriptor
 part_field at message (direct name) = field_named at.files message name
-part_field at message (extension name) = if_extends message (meaning at.extensions at.scope name)
+part_field at message (extension name) = extension_named at message name
+
+-- the field of the message that a name in a constant for it means
+abbrev pub constant_field : OptionScope → Text → ConstantNameSyntax → Option FieldDescriptor
+constant_field at message (regular_name name) = field_named at.files message name
+constant_field at message (extension_name name) = extension_named at message name
+constant_field at message (url_name name) = None
 
 -- the full name of a field's message or enum
 abbrev pub type_name_of : FieldDescriptor → Text
@@ -94,54 +108,27 @@ pub data Takes : Type 0 where
   texts : Takes
   octets : Takes
   messages : Takes
-  maps : Takes
   floats : Takes
   groups : Takes
 
-abbrev pub says_map_entry : Option MessageOptionsSet → Bool
-says_map_entry None = false
-says_map_entry (Some options) = unwrap_or options.map_entry false
-
--- behind a map stands a message that says so
-abbrev pub is_entry : List FileDescriptor → Text → Bool
-is_entry files message = list_any (λ (parts : MessageParts). says_map_entry parts.options) (messages_of files message)
-
-abbrev pub takes_by : Bool → FieldType → Takes
-takes_by is_map types.Int32 = integers kinds.Int32
-takes_by is_map types.Int64 = integers kinds.Int64
-takes_by is_map types.Uint32 = integers kinds.Uint32
-takes_by is_map types.Uint64 = integers kinds.Uint64
-takes_by is_map types.Sint32 = integers kinds.Sint32
-takes_by is_map types.Sint64 = integers kinds.Sint64
-takes_by is_map types.Fixed32 = integers kinds.Fixed32
-takes_by is_map types.Sfixed32 = integers kinds.Sfixed32
-takes_by is_map types.Fixed64 = integers kinds.Fixed64
-takes_by is_map types.Sfixed64 = integers kinds.Sfixed64
-takes_by is_map types.Bool = truths
-takes_by is_map types.String = texts
-takes_by is_map types.Bytes = octets
-takes_by is_map types.Enum = names_of_values
-takes_by is_map types.Message = if is_map then maps else messages
-takes_by is_map types.Float = floats
-takes_by is_map types.Double = floats
-takes_by is_map types.Group = groups
-
-abbrev pub takes : List FileDescriptor → FieldDescriptor → Takes
-takes files f = takes_by (is_entry files (type_name_of f)) f.type_
-
--- from 0 up to before 2 ^ 32 or 2 ^ 64
-abbrev pub fits_unsigned : Width → ℤ → Bool
-fits_unsigned w (pos n) = nat_lt n (2 ^ bits w)
-fits_unsigned w (negsuc n) = false
-
--- from -2 ^ 31 up to before 2 ^ 31, or the same of 63; `negsuc n` is -1 - n
-abbrev pub fits_signed : Width → ℤ → Bool
-fits_signed w (pos n) = nat_lt n (2 ^ hbits w)
-fits_signed w (negsuc n) = nat_lt n (2 ^ hbits w)
-
--- the range of a kind's whole numbers
-abbrev pub fits : Shape → ℤ → Bool
-fits (whole word w shapes.unsigned) v = fits_unsigned w v
-fits (whole word w shapes.twos_complement) v = fits_signed w v
-fits (whole word w shapes.zigzag) v = fits_signed w v
-fits _ v = false
+-- A map is a field with the messages behind it: one for each of its entries, with `key` and
+-- `value`.
+abbrev pub takes : FieldType → Takes
+takes types.Int32 = integers kinds.Int32
+takes types.Int64 = integers kinds.Int64
+takes types.Uint32 = integers kinds.Uint32
+takes types.Uint64 = integers kinds.Uint64
+takes types.Sint32 = integers kinds.Sint32
+takes types.Sint64 = integers kinds.Sint64
+takes types.Fixed32 = integers kinds.Fixed32
+takes types.Sfixed32 = integers kinds.Sfixed32
+takes types.Fixed64 = integers kinds.Fixed64
+takes types.Sfixed64 = integers kinds.Sfixed64
+takes types.Bool = truths
+takes types.String = texts
+takes types.Bytes = octets
+takes types.Enum = names_of_values
+takes types.Message = messages
+takes types.Float = floats
+takes types.Double = floats
+takes types.Group = groups

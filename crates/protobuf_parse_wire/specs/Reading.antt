@@ -31,13 +31,17 @@ Gives view (Err e) read = e ≢ Memory → read ≡ Err e
 
 -- ---- numbers and lengths
 
--- a number below 2 ^ 64 in a varint of at most so many bytes, and the bytes after it
+-- a number below 2 ^ 64
+abbrev pub if_word : ℕ → List ℕ → Read (ℕ × List ℕ)
+if_word u rest = if nat_lt u (2 ^ 64) then Ok (u, rest) else Err BadVarint
+
+-- such a number in a varint of at most so many bytes, the low group first, and the bytes after it
 unfoldable pub varint_at : ℕ → List ℕ → Read (ℕ × List ℕ)
 varint_at zero bs = Err BadVarint
 varint_at (suc n) [] = Err Truncated
 varint_at (suc n) (b ∷ bs) = if nat_lt b 128 then Ok (b, bs) else do
   high ← varint_at n bs
-  if nat_lt high.0 (2 ^ 57) then Ok (b % 128 + 128 * high.0, high.1) else Err BadVarint
+  if_word (b % 128 + 128 * high.0) high.1
 
 -- so many bytes, and those after them
 unfoldable pub part_at : ℕ → List ℕ → Read (List ℕ × List ℕ)

@@ -1,5 +1,5 @@
 -- The code's entries and fields without where they lie in memory.
-use Rattle.std.specs.Prelude.{◌≡◌, ℕ, ℤ, pos, List, [], ◌∷◌, ◌++◌, map}
+use Rattle.std.specs.Prelude.{ℕ, ℤ, pos, List, [], ◌∷◌, map}
 use Rattle.protobuf_parse_wire.specs.declared.kind.Kind.{Kind}
 use Rattle.protobuf_parse_wire.specs.declared.entry.Entry.{Entry, fold-Entry}
 use Rattle.protobuf_parse_wire.specs.declared.entry.EntryValue.{EntryValue, fold-EntryValue}
@@ -71,9 +71,3 @@ number_said kinds.truth u = pos 0
 number_said kinds.text u = pos 0
 number_said kinds.octets u = pos 0
 number_said kinds.message u = pos 0
-
--- Bytes of which this holds were added at the end.
-pub record Appends (P : List ℕ → Type 0) (old new : List ℕ) : Type 0 where
-  pub bytes : List ℕ
-  pub holds : P bytes
-  pub added : new ≡ old ++ bytes

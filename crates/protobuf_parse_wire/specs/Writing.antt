@@ -1,9 +1,8 @@
 -- What can be written.
-use Rattle.protobuf_parse_wire.specs.Kinds.{Shape, whole, truth, text, octets, message, shape}
+use Rattle.protobuf_parse_wire.specs.Kinds.{Shape, whole, truth, text, octets, message, shape, InRange}
 use Rattle.protobuf_parse_wire.specs.Trees as trees
 use Rattle.protobuf_parse_wire.specs.Trees.{EntryTree, Entries, no_entries, entry}
 use Rattle.protobuf_parse_wire.specs.Wire.{HasBytes, HasMessages}
-use Rattle.protobuf_parse_wire.specs.Law.{InRange}
 
 abbrev pub HasTruth : Shape → Type 0
 HasTruth truth = Unit {0}

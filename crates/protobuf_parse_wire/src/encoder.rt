@@ -1,11 +1,11 @@
 //! Writing entries at the end of bytes.
 
-ghost use Rattle.std.specs.Prelude.{◌≡◌, OnOk, IfOk};
-ghost use Rattle.protobuf_parse_wire.specs.Kinds.{shape, wire_type};
-ghost use Rattle.protobuf_parse_wire.specs.Wire.{IsVarint, Says, SaysDelimited, SaysNumber, Spells, zigzag_of};
-ghost use Rattle.protobuf_parse_wire.specs.Law.{InRange};
+ghost use Rattle.std.specs.Prelude.{◌≡◌, ◌++◌, OnOk, IfOk};
+ghost use Rattle.protobuf_parse_wire.specs.Kinds.{InRange, shape, wire_type};
+ghost use Rattle.protobuf_parse_wire.specs.Wire.{Spells, zigzag_of};
 ghost use Rattle.protobuf_parse_wire.specs.Writing.{AreWritable, IsWritable};
-ghost use Rattle.protobuf_parse_wire.specs.Views.{Appends, entries_view, entry_value_view};
+ghost use Rattle.protobuf_parse_wire.specs.Views.{entries_view, entry_value_view};
+ghost use Rattle.protobuf_parse_wire.specs.Encoded.{varint_of, number_bytes, delimited, payload, encoded};
 
 use crate::entry::{Entry, EntryValue};
 use crate::kind::Kind;
@@ -14,7 +14,8 @@ use std::alloc::{AllocError, Global};
 /// The bytes that spell the entries.
 pub fn encode(alloc: Global, entries: &[Entry]) -> Result<Vec<u8>, AllocError>
     requires { AreWritable (entries_view entries.now) }
-    ensures { IfOk result (λ bytes. Spells (entries_view entries.now) bytes.items) }
+    ensures encoded { IfOk result (λ bytes. bytes.items ≡ encoded (entries_view entries.now)) }
+    ensures spells { IfOk result (λ bytes. Spells (entries_view entries.now) bytes.items) }
 {
     let mut out = Vec::new(alloc);
     encode_into(alloc, &mut out, entries)?;
@@ -27,7 +28,7 @@ pub fn encode(alloc: Global, entries: &[Entry]) -> Result<Vec<u8>, AllocError>
 #[cycle(entry)]
 pub fn encode_into(alloc: Global, out: &mut Vec<u8>, entries: &[Entry]) -> Result<(), AllocError>
     requires { AreWritable (entries_view entries.now) }
-    ensures { OnOk result (Appends (Spells (entries_view entries.now)) out.old.items out.new.items) }
+    ensures { OnOk result (out.new.items ≡ out.old.items ++ encoded (entries_view entries.now)) }
 {
     'entries: for entry in entries {
         put_varint(out, u64::from(entry.number) * 8 + wire_type_of(entry.kind))?;
@@ -44,7 +45,7 @@ fn put_value(
     value: &EntryValue,
 ) -> Result<(), AllocError>
     requires { IsWritable (shape kind) (entry_value_view value.now) }
-    ensures { OnOk result (Appends (Says (shape kind) (entry_value_view value.now)) out.old.items out.new.items) }
+    ensures { OnOk result (out.new.items ≡ out.old.items ++ payload (shape kind) (entry_value_view value.now)) }
 {
     match value {
         EntryValue::Number(number) => put_number(out, kind, *number),
@@ -79,7 +80,7 @@ fn wire_type_of(kind: Kind) -> u64
 
 fn put_number(out: &mut Vec<u8>, kind: Kind, number: i128) -> Result<(), AllocError>
     requires { InRange (shape kind) number }
-    ensures { OnOk result (Appends (SaysNumber (shape kind) number) out.old.items out.new.items) }
+    ensures { OnOk result (out.new.items ≡ out.old.items ++ number_bytes (shape kind) number) }
 {
     match kind {
         Kind::Int32 | Kind::Int64 | Kind::Enum => {
@@ -108,7 +109,7 @@ fn zigzag_of(number: i64) -> u64
 
 /// Writes the length of the bytes, and them.
 fn put_delimited(out: &mut Vec<u8>, inside: &[u8]) -> Result<(), AllocError>
-    ensures { OnOk result (Appends (SaysDelimited inside.now) out.old.items out.new.items) }
+    ensures { OnOk result (out.new.items ≡ out.old.items ++ delimited inside.now) }
 {
     put_varint(out, inside.len() as u64)?;
     out.extend_from_slice(inside)
@@ -116,7 +117,7 @@ fn put_delimited(out: &mut Vec<u8>, inside: &[u8]) -> Result<(), AllocError>
 
 /// Writes the shortest varint.
 fn put_varint(out: &mut Vec<u8>, number: u64) -> Result<(), AllocError>
-    ensures { OnOk result (Appends (λ bytes. IsVarint bytes number) out.old.items out.new.items) }
+    ensures { OnOk result (out.new.items ≡ out.old.items ++ varint_of number) }
 {
     let mut rest = number;
     'groups: while rest >= 128 {

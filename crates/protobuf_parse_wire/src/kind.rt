@@ -1,8 +1,7 @@
 //! The kinds of values that are written and read.
 
 ghost use Rattle.std.specs.Prelude.{◌≡◌, ◌↔◌, IsTrue};
-ghost use Rattle.protobuf_parse_wire.specs.Kinds.{kind_of, shape};
-ghost use Rattle.protobuf_parse_wire.specs.Law.{InRange};
+ghost use Rattle.protobuf_parse_wire.specs.Kinds.{InRange, kind_of, shape};
 
 use protobuf_parse_model::FieldType;
 

@@ -7,8 +7,8 @@ ghost use Rattle.protobuf_parse_base.specs.PathViews.{path_buf_text};
 ghost use Rattle.protobuf_parse_syntax.specs.Parsing.{HasTree};
 ghost use Rattle.protobuf_parse_syntax.specs.Trees.{FileSyntax, file_view};
 ghost use Rattle.protobuf_parse.specs.Walks.{the_resolver, the_reader};
-ghost use Rattle.protobuf_parse.specs.Run.{MayAnswer, Resolved, WasRead, StandsInLoad, origin_given, row_of, rows, said, text_given, IsTheTree};
-ghost use Rattle.protobuf_parse.specs.Loading.{OrMemory, asked_by, CanGive, IsUnreadable, IsUnfound, IsUnresolved, IsParseFault, IsContentFault, IsNoText};
+ghost use Rattle.protobuf_parse.specs.Run.{Resolved, WasRead, StandsInLoad, origin_given, row_of, rows, said, text_given, IsTheTree};
+ghost use Rattle.protobuf_parse.specs.Loading.{OrMemory, asked_by, legal_by, CanGive, IsUnreadable, IsUnfound, IsUnresolved, IsParseFault, IsContentFault, IsNoText};
 
 use crate::run::fault::{ReadInputFault, ResolveFault, RunFault};
 use crate::run::log::{ReadEntry, ReadOutcome};
@@ -25,7 +25,7 @@ pub fn answer<R: ProtoPathResolver, I: InputReader>(
     path: &ProtoPathBuf,
     fs_path: Option<&str>,
 ) -> Result<ReadOutcome, AllocError>
-    ensures { IfOk result (MayAnswer (λ p a. R.may_answer sources.now.resolver.now p a) (λ p a. I.may_read sources.now.reader.now p a) (asked_by fs_path.entry) (path_buf_text path.now)) }
+    ensures { IfOk result (legal_by R.may_answer I.may_read sources.now (asked_by fs_path.entry) (path_buf_text path.now)) }
 {
     match fs_path {
         None => resolved(alloc, sources.resolver, path),

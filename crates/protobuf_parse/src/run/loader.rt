@@ -1,11 +1,12 @@
 //! Loading: each file once, its imports first.
 
-ghost use Rattle.std.specs.Prelude.{◌≡◌, true, false, ◌≤◌, ◌+◌, ◌-◌, ◌*◌, ◌^◌, ◌++◌, ◌∷◌, [], ℕ, List, map, length, Result, Option, Some, option_map, IfOk, IfErr, OnOk, OnErr, String, slice_get, string_bytes};
+ghost use Rattle.std.specs.Prelude.{◌≡◌, true, false, ◌≤◌, ◌<◌, ◌+◌, ◌-◌, ◌*◌, ◌^◌, ◌++◌, ◌∷◌, [], ℕ, List, map, length, Result, Option, Some, option_map, IfOk, IfErr, OnOk, OnErr, String, slice_get, string_bytes};
 ghost use Rattle.std.specs.Borrow.{Bor};
 ghost use Rattle.std.specs.Global.{Global};
 ghost use Rattle.std.specs.List.Sorted.{IsStrictlyIncreasing};
 ghost use Rattle.protobuf_parse_base.specs.declared.proto_path.path.ProtoPathBuf.{ProtoPathBuf};
 ghost use Rattle.protobuf_parse_base.specs.PathViews.{path_buf_text};
+ghost use Rattle.protobuf_parse_syntax.specs.Counts.{statements_in};
 ghost use Rattle.protobuf_parse_syntax.specs.Trees.{file_view};
 ghost use Rattle.protobuf_parse_syntax.specs.Trees.{FileSyntax};
 ghost use Rattle.protobuf_parse_model.specs.Descriptors as described;
@@ -13,22 +14,26 @@ ghost use Rattle.protobuf_parse_model.specs.Faults.{Elaborates, fault_view};
 ghost use Rattle.protobuf_parse_model.specs.Tables.{Tells};
 ghost use Rattle.protobuf_parse.specs.declared.run.fault.RunFault.TheVariants.{Memory};
 ghost use Rattle.protobuf_parse.specs.declared.run.log.ReadEntry.{ReadEntry};
-ghost use Rattle.protobuf_parse.specs.Walks.{Event, among, at, checks, events, import_paths, input_walk, keep, statements, walk};
+ghost use Rattle.protobuf_parse_model.specs.Descriptors.{Text};
+ghost use Rattle.protobuf_parse.specs.Walks.{Event, among, at, checks, events, input_walk, keep, statements, walk};
 ghost use Rattle.protobuf_parse.specs.Run.{Files, IsCounted, MayAnswer, are_same_bytes, input_view, StandsInCheck, StandsInCycle, StandsInElab, StandsInLong, origin_given, rows, text_given};
-ghost use Rattle.protobuf_parse.specs.Loading.{AreKnown, AreJoined, AreNumbered, AreUnloaded, Goes, GoesOn, Good, Grows, IsDecided, IsElabFault, IsMetAt, IsPlaced, IsReaders, IsShadowed, Leaves, OrMemory, ReadsTree, SettlesOver, asked_by, faults_over, file_at, file_over, file_shape, named_trees, texts, trees_of, with_next};
+ghost use Rattle.protobuf_parse.specs.Loading.{AreKnown, AreJoined, AreNumbered, Goes, GoesOn, Good, Grows, IsDecided, IsElabFault, IsPlaced, IsReaders, IsShadowed, Leaves, OrMemory, ReadsTree, SettlesOver, asked_by, faults_over, file_at, file_over, file_shape, legal_by, named_trees, texts, trees_of, with_next};
+ghost use Rattle.protobuf_parse.specs.Frames.{Joined, Meets, is_public_at, number_if, StandsMet, path_of};
 
 use crate::run::asking::{answer, content, opened, origin, unreadable};
 use crate::run::fault::RunFault;
+use crate::run::frame::LoadFrame;
 use crate::run::log::{ReadEntry, ReadOutcome, RunInput};
-use crate::run::reach::{Sights, sights_of};
+use crate::run::reach::{ImportNumbers, Sights, sights_of};
 use crate::run::source::{InputReader, ProtoPathResolver, Sources};
 use indexmap::IndexMap;
 use protobuf_parse_base::proto_path::ProtoPathBuf;
 use protobuf_parse_model::{
-    Declarations, ElabError, ElabFailure, FileDescriptorProto, Seen, elaborate, link,
+    Declarations, ElabError, ElabFailure, FileDescriptorProto, NoExtensions, Seen, elaborate, link,
 };
-use protobuf_parse_syntax::{FileStatement, FileTree};
+use protobuf_parse_syntax::{FileStatement, FileTree, ImportVis};
 use std::alloc::{AllocError, Global};
+use std::mem;
 
 /// How many files an import chain may have.
 pub const LIMIT: usize = 100;
@@ -68,6 +73,15 @@ pub struct Loader {
     /// The files whose imports are being loaded, each imported by the one before it.
     pub chain: Vec<String>,
     pub meets: u128,
+}
+
+/// What came of meeting a file.
+#[derive(Drop)]
+pub enum Met {
+    /// It is loaded already.
+    Loaded(Placed),
+    /// It was read now, and its imports are to be met.
+    Opened(LoadFrame),
 }
 
 /// Loads each input in turn.
@@ -128,12 +142,12 @@ fn load_input<R: ProtoPathResolver, I: InputReader>(
 {
     match input {
         RunInput::Named(name) => {
-            load_file(alloc, loader, sources, name, name, None)?;
+            load_file(alloc, loader, sources, name, None)?;
             Ok(())
         }
         RunInput::At { name, fs_path } => {
             check_loaded(alloc, loader, sources, name, fs_path)?;
-            load_file(alloc, loader, sources, name, name, Some(fs_path.as_str()))?;
+            load_file(alloc, loader, sources, name, Some(fs_path.as_str()))?;
             Ok(())
         }
     }
@@ -156,7 +170,7 @@ fn check_loaded<R: ProtoPathResolver, I: InputReader>(
     ensures grows { Grows loader.old.reads.items loader.new.reads.items }
     ensures more { length loader.old.reads.items ≤ length loader.new.reads.items }
     ensures goes { (files : Files) (kept : List Event)
-        → let legal = MayAnswer (λ p a. R.may_answer sources.now.resolver.now p a) (λ p a. I.may_read sources.now.reader.now p a) in
+        → let legal = legal_by R.may_answer I.may_read sources.now in
         GoesOn files (rows sources.now.bundled.now) loader.new.reads.items
         → Good legal files kept loader.old.loaded.entries loader.old.reads.items []
         → Goes legal files (kept ++ checks kept (at (path_buf_text name.now) fs_path.now)) loader.new.loaded.entries loader.new.reads.items result }
@@ -246,48 +260,95 @@ fn note(
     Ok(())
 }
 
-/// Loads a file where it is met, its imports first: as `input`, or as an import of the last file of the
-/// chain. `fs_path` is where the input itself lies, if it isn't found by the resolver.
+/// Loads an input, its imports first. `fs_path` is where it lies, if it isn't found by the resolver.
 fn load_file<R: ProtoPathResolver, I: InputReader>(
+    alloc: Global,
+    loader: &mut Loader,
+    sources: &Sources<'_, R, I>,
+    input: &ProtoPathBuf,
+    fs_path: Option<&str>,
+) -> Result<Placed, RunFault>
+    requires chain { loader.old.chain.items ≡ [] }
+    requires known { AreKnown loader.old.loaded.entries loader.old.names loader.old.reads.items }
+    requires room { loader.old.meets + 1 ≤ 2 ^ 65 + length loader.old.reads.items * 2 ^ 64 }
+    ensures grows { Grows loader.old.reads.items loader.new.reads.items }
+    ensures chain { OnOk result (loader.new.chain.items ≡ []) }
+    ensures bound { OnOk result (loader.new.meets + length loader.old.reads.items * 2 ^ 64
+        ≤ loader.old.meets + 1 + length loader.new.reads.items * 2 ^ 64) }
+    ensures leaves { (files : Files) (kept : List Event)
+        → let legal = legal_by R.may_answer I.may_read sources.now in
+        let p = path_buf_text input.now in
+        GoesOn files (rows sources.now.bundled.now) loader.new.reads.items
+        → Good legal files kept loader.old.loaded.entries loader.old.reads.items []
+        → Leaves legal files
+        (keep kept (walk files.trees p (asked_by fs_path.entry) LIMIT [] p))
+        (file_shape files.trees p) loader.new.loaded.entries loader.new.reads.items [] result }
+    ensures count { (files : Files) (kept : List Event)
+        → let legal = legal_by R.may_answer I.may_read sources.now in
+        let p = path_buf_text input.now in
+        GoesOn files (rows sources.now.bundled.now) loader.new.reads.items
+        → Good legal files kept loader.old.loaded.entries loader.old.reads.items []
+        → IsCounted (loader.new.meets + statements files.trees kept)
+        (loader.old.meets + 1 + statements files.trees (keep kept (walk files.trees p (asked_by fs_path.entry) LIMIT [] p))) result }
+    ensures decided { IsDecided (rows sources.now.bundled.now) loader.old.reads.items
+        → IsDecided (rows sources.now.bundled.now) loader.new.reads.items }
+    ensures known { OnOk result (AreKnown loader.new.loaded.entries loader.new.names loader.new.reads.items) }
+{
+    let first = meet(alloc, loader, sources, input, input, fs_path)?;
+    let mut top = match first {
+        Met::Loaded(placed) => return Ok(placed),
+        Met::Opened(frame) => frame,
+    };
+    let mut stack: Vec<LoadFrame> = Vec::new(alloc);
+    'files: loop {
+        let Some(statement) = top.tree.statements.get(top.next) else {
+            let placed = close(alloc, loader, top)?;
+            let Some(parent) = stack.pop() else {
+                return Ok(placed);
+            };
+            top = parent;
+            join(&mut top, placed)?;
+            continue;
+        };
+        let FileStatement::Import(import) = statement else {
+            top.next += 1;
+            continue;
+        };
+        let met = meet(alloc, loader, sources, input, &import.path, None)?;
+        match met {
+            Met::Loaded(placed) => join(&mut top, placed)?,
+            Met::Opened(frame) => {
+                let parent = mem::replace(&mut top, frame);
+                stack.push(parent)?;
+            }
+        }
+    }
+}
+
+/// Meets a file: as `input`, or as an import of the last file of the chain. Opens it if it isn't loaded.
+fn meet<R: ProtoPathResolver, I: InputReader>(
     alloc: Global,
     loader: &mut Loader,
     sources: &Sources<'_, R, I>,
     input: &ProtoPathBuf,
     path: &ProtoPathBuf,
     fs_path: Option<&str>,
-) -> Result<Placed, RunFault>
+) -> Result<Met, RunFault>
     requires chain { length loader.old.chain.items ≤ LIMIT }
-    requires known { AreKnown loader.old.loaded.entries loader.old.names loader.old.reads.items }
-    requires unloaded { AreUnloaded (texts loader.old.chain.items) loader.old.loaded.entries }
-    requires room { loader.old.meets + 1 ≤ 2 ^ 65 + length loader.old.reads.items * 2 ^ 64 }
+    requires room { loader.old.meets + 1 < 2 ^ 128 }
+    ensures loaded { loader.new.loaded ≡ loader.old.loaded }
+    ensures names { loader.new.names ≡ loader.old.names }
+    ensures meets { loader.new.meets ≡ loader.old.meets + 1 }
     ensures grows { Grows loader.old.reads.items loader.new.reads.items }
-    ensures chain { OnOk result (loader.new.chain.items ≡ loader.old.chain.items) }
-    ensures bound { OnOk result (loader.new.meets + length loader.old.reads.items * 2 ^ 64
-        ≤ loader.old.meets + 1 + length loader.new.reads.items * 2 ^ 64) }
-    ensures low { IfOk result (λ placed. length loader.old.chain.items + placed.height ≤ LIMIT) }
-    ensures leaves { (files : Files) (kept : List Event)
-        → let legal = MayAnswer (λ p a. R.may_answer sources.now.resolver.now p a) (λ p a. I.may_read sources.now.reader.now p a) in
-        let chain = texts loader.old.chain.items in
-        let p = path_buf_text path.now in
-        GoesOn files (rows sources.now.bundled.now) loader.new.reads.items
-        → Good legal files kept loader.old.loaded.entries loader.old.reads.items chain
-        → Leaves legal files
-        (keep kept (walk files.trees (path_buf_text input.now) (asked_by fs_path.entry) (LIMIT - length chain) chain p))
-        (file_shape files.trees p) loader.new.loaded.entries loader.new.reads.items chain result }
-    ensures count { (files : Files) (kept : List Event)
-        → let legal = MayAnswer (λ p a. R.may_answer sources.now.resolver.now p a) (λ p a. I.may_read sources.now.reader.now p a) in
-        let chain = texts loader.old.chain.items in
-        GoesOn files (rows sources.now.bundled.now) loader.new.reads.items
-        → Good legal files kept loader.old.loaded.entries loader.old.reads.items chain
-        → IsCounted (loader.new.meets + statements files.trees kept)
-        (loader.old.meets + 1 + statements files.trees (keep kept (walk files.trees (path_buf_text input.now) (asked_by fs_path.entry) (LIMIT - length chain) chain (path_buf_text path.now)))) result }
     ensures decided { IsDecided (rows sources.now.bundled.now) loader.old.reads.items
         → IsDecided (rows sources.now.bundled.now) loader.new.reads.items }
-    ensures known { OnOk result (AreKnown loader.new.loaded.entries loader.new.names loader.new.reads.items) }
-    ensures unloaded { OnOk result (AreUnloaded (texts loader.old.chain.items) loader.new.loaded.entries) }
-    ensures met { IfOk result (IsMetAt (path_buf_text path.now) loader.old.loaded.entries loader.new.loaded.entries) }
+    ensures stands { StandsMet (texts loader.old.chain.items) (path_buf_text path.now) loader.old.loaded.entries loader.old.reads.items (texts loader.new.chain.items) loader.new.reads.items result }
+    ensures leaves { (files : Files) (kept : List Event)
+        → let legal = legal_by R.may_answer I.may_read sources.now in
+        GoesOn files (rows sources.now.bundled.now) loader.new.reads.items
+        → Good legal files kept loader.old.loaded.entries loader.old.reads.items (texts loader.old.chain.items)
+        → Meets legal files kept (path_buf_text input.now) (asked_by fs_path.entry) (texts loader.old.chain.items) (path_buf_text path.now) loader.old.loaded.entries loader.new.reads.items result }
 {
-    let _known = loader.reads.as_slice();
     loader.meets += 1;
     let text = path.as_path().to_str();
     if is_on_chain(&loader.chain, text) {
@@ -297,7 +358,7 @@ fn load_file<R: ProtoPathResolver, I: InputReader>(
         if placed.height > LIMIT - loader.chain.len() {
             return Err(too_long(alloc, input));
         }
-        return Ok(placed);
+        return Ok(Met::Loaded(placed));
     }
     if loader.chain.len() == LIMIT {
         return Err(too_long(alloc, input));
@@ -305,19 +366,92 @@ fn load_file<R: ProtoPathResolver, I: InputReader>(
     let read = loader.reads.len();
     let tree = read_tree(alloc, loader, sources, path, fs_path)?;
     enter(alloc, &mut loader.chain, text)?;
-    let imports = imports_of(alloc, &tree)?;
-    let mut height = 0;
-    let mut below = Vec::new(alloc);
-    for import in &imports {
-        let placed = load_file(alloc, loader, sources, input, *import, None)?;
-        if placed.height > height {
-            height = placed.height;
-        }
-        below.push(placed.number)?;
+    let frame = LoadFrame {
+        path: String::from_str(alloc, text)?,
+        tree,
+        read,
+        next: 0,
+        height: 0,
+        below: Vec::new(alloc),
+        public: Vec::new(alloc),
+    };
+    Ok(Met::Opened(frame))
+}
+
+/// Takes the import that is next, which is loaded.
+fn join(frame: &mut LoadFrame, placed: Placed) -> Result<(), AllocError>
+    requires { frame.old.next < length frame.old.tree.statements.items }
+    ensures { OnOk result (Joined frame.old placed frame.new) }
+{
+    frame.below.push(placed.number)?;
+    let public = is_public_next(&frame.tree.statements, frame.next);
+    push_if(&mut frame.public, public, placed.number)?;
+    if placed.height > frame.height {
+        frame.height = placed.height;
     }
-    drop(imports);
+    frame.next += 1;
+    Ok(())
+}
+
+/// Whether the statement with this number is a public import.
+fn is_public_next(statements: &[FileStatement], number: usize) -> bool
+    ensures { result ≡ is_public_at (slice_get statements.now number) }
+{
+    match statements.get(number) {
+        Some(statement) => imports_publicly(statement),
+        None => false,
+    }
+}
+
+/// Whether a statement is a public import.
+fn imports_publicly(statement: &FileStatement) -> bool
+    ensures { result ≡ is_public_at (Some statement.now) }
+{
+    match statement {
+        FileStatement::Import(import) => match import.vis {
+            ImportVis::Public => true,
+            ImportVis::Default | ImportVis::Weak => false,
+        },
+        _ => false,
+    }
+}
+
+/// Puts the number behind the others, if `public` is true.
+fn push_if(numbers: &mut Vec<usize>, public: bool, number: usize) -> Result<(), AllocError>
+    ensures { OnOk result (numbers.new.items ≡ numbers.old.items ++ number_if public number) }
+{
+    if public {
+        numbers.push(number)?;
+    }
+    Ok(())
+}
+
+/// Elaborates the last file of the chain, whose imports are loaded, and adds it to the loaded ones.
+fn close(alloc: Global, loader: &mut Loader, frame: LoadFrame) -> Result<Placed, RunFault>
+    requires low { frame.height < LIMIT }
+    requires few { statements_in (file_view frame.tree) ≤ 2147483647 }
+    ensures reads { loader.new.reads ≡ loader.old.reads }
+    ensures meets { loader.new.meets ≡ loader.old.meets }
+    ensures chain { (chain : List Text) → texts loader.old.chain.items ≡ chain ++ path_of frame ∷ [] → texts loader.new.chain.items ≡ chain }
+    ensures height { IfOk result (λ placed. placed.height ≡ frame.height + 1) }
+    ensures settles { Tells loader.old.names (trees_of (named_trees loader.old.loaded.entries))
+        → SettlesOver (path_of frame) (file_view frame.tree) (frame.height + 1) frame.read frame.below.items frame.public.items loader.old.reads.items loader.old.loaded.entries loader.new.loaded.entries loader.new.names result }
+{
+    let LoadFrame {
+        path,
+        tree,
+        read,
+        next: _,
+        height,
+        below,
+        public,
+    } = frame;
     let _ = loader.chain.pop();
-    settle(alloc, loader, text, tree, height + 1, &below, read)
+    let imports = ImportNumbers {
+        all: &below,
+        public: &public,
+    };
+    settle(alloc, loader, path, tree, height + 1, &imports, read)
 }
 
 /// L7.
@@ -352,7 +486,7 @@ fn is_on_chain(chain: &[String], path: &str) -> bool
 }
 
 /// Where the file of this path stands, if it is loaded.
-pub fn place_of(loaded: &LoadedFiles, path: &str) -> Option<Placed>
+fn place_of(loaded: &LoadedFiles, path: &str) -> Option<Placed>
     ensures { IsPlaced path.now loaded.now.entries result }
 {
     match loaded.get_full(path) {
@@ -372,19 +506,6 @@ fn enter(alloc: Global, chain: &mut Vec<String>, path: &str) -> Result<(), Alloc
     Ok(())
 }
 
-/// The paths of the `import` statements of a file, in source order.
-fn imports_of(alloc: Global, tree: &FileTree) -> Result<Vec<&ProtoPathBuf>, AllocError>
-    ensures { IfOk result (λ v. map (λ (p : Bor ProtoPathBuf). path_buf_text p.now) v.items ≡ import_paths (file_view tree.now)) }
-{
-    let mut paths = Vec::new(alloc);
-    for statement in &tree.statements {
-        if let FileStatement::Import(import) = statement {
-            paths.push(&import.path)?;
-        }
-    }
-    Ok(paths)
-}
-
 /// Reads a file that isn't loaded, and notes the read.
 fn read_tree<R: ProtoPathResolver, I: InputReader>(
     alloc: Global,
@@ -397,7 +518,7 @@ fn read_tree<R: ProtoPathResolver, I: InputReader>(
     ensures names { loader.new.names ≡ loader.old.names }
     ensures chain { loader.new.chain ≡ loader.old.chain }
     ensures meets { loader.new.meets ≡ loader.old.meets }
-    ensures read { ReadsTree (MayAnswer (λ p a. R.may_answer sources.now.resolver.now p a) (λ p a. I.may_read sources.now.reader.now p a)) (rows sources.now.bundled.now) (asked_by fs_path.entry) (path_buf_text path.now) loader.old.reads.items loader.new.reads.items result }
+    ensures read { ReadsTree (legal_by R.may_answer I.may_read sources.now) (rows sources.now.bundled.now) (asked_by fs_path.entry) (path_buf_text path.now) loader.old.reads.items loader.new.reads.items result }
 {
     let outcome = answer(alloc, sources, path, fs_path)?;
     let tree = opened(alloc, sources, path.as_path().to_str(), fs_path, &outcome);
@@ -433,22 +554,23 @@ fn is_memory(fault: &RunFault) -> bool
 fn settle(
     alloc: Global,
     loader: &mut Loader,
-    path: &str,
+    path: String,
     tree: FileTree,
     height: usize,
-    imports: &[usize],
+    imports: &ImportNumbers<'_>,
     read: usize,
 ) -> Result<Placed, RunFault>
+    requires few { statements_in (file_view tree) ≤ 2147483647 }
     ensures reads { loader.new.reads ≡ loader.old.reads }
     ensures chain { loader.new.chain ≡ loader.old.chain }
     ensures meets { loader.new.meets ≡ loader.old.meets }
     ensures height { IfOk result (λ placed. placed.height ≡ height) }
     ensures settles { Tells loader.old.names (trees_of (named_trees loader.old.loaded.entries))
-        → SettlesOver path.now (file_view tree) height read imports.now loader.old.reads.items loader.old.loaded.entries loader.new.loaded.entries loader.new.names result }
+        → SettlesOver (string_bytes path) (file_view tree) height read imports.now.all.now imports.now.public.now loader.old.reads.items loader.old.loaded.entries loader.new.loaded.entries loader.new.names result }
 {
-    let sights = sights_of(alloc, &loader.loaded, &tree, imports)?;
+    let sights = sights_of(alloc, &loader.loaded, imports)?;
     loader.names.add(alloc, loader.loaded.len(), &tree)?;
-    let descriptor = descriptor_of(alloc, loader, &sights, path, &tree, read)?;
+    let descriptor = descriptor_of(alloc, loader, &sights, &path, &tree, read)?;
     let Sights {
         reach,
         handed_on,
@@ -462,25 +584,19 @@ fn settle(
         read,
         descriptor,
     };
-    let placed = add(alloc, &mut loader.loaded, path, file)?;
+    let placed = add(&mut loader.loaded, path, file)?;
     Ok(placed)
 }
 
 /// Adds a file to the loaded ones.
-fn add(
-    alloc: Global,
-    loaded: &mut LoadedFiles,
-    path: &str,
-    file: LoadedFile,
-) -> Result<Placed, AllocError>
+fn add(loaded: &mut LoadedFiles, path: String, file: LoadedFile) -> Result<Placed, AllocError>
     ensures height { IfOk result (λ placed. placed.height ≡ file.height) }
-    ensures added { IfOk result (λ placed. file_at path.now loaded.old.entries ≡ None
-        → (key : String Global) × (loaded.new.entries ≡ loaded.old.entries ++ (key, file) ∷ []) × (string_bytes key ≡ path.now) × (placed.number ≡ length loaded.old.entries)) }
+    ensures added { IfOk result (λ placed. file_at (string_bytes path) loaded.old.entries ≡ None
+        → (loaded.new.entries ≡ loaded.old.entries ++ (path, file) ∷ []) × (placed.number ≡ length loaded.old.entries)) }
 {
     let number = loaded.len();
     let height = file.height;
-    let key = String::from_str(alloc, path)?;
-    loaded.insert(key, file)?;
+    loaded.insert(path, file)?;
     Ok(Placed { number, height })
 }
 
@@ -493,6 +609,7 @@ fn descriptor_of(
     tree: &FileTree,
     read: usize,
 ) -> Result<FileDescriptorProto, RunFault>
+    requires few { statements_in (file_view tree.now) ≤ 2147483647 }
     requires reach { IsStrictlyIncreasing sights.now.reach.items }
     requires sight { IsStrictlyIncreasing sights.now.sight.items }
     ensures ok { (files : List FileSyntax) → Tells loader.now.names files → let t = file_view tree.now in
@@ -536,6 +653,7 @@ fn elaborated(
     path: &str,
     tree: &FileTree,
 ) -> Result<FileDescriptorProto, ElabFailure>
+    requires few { statements_in (file_view tree.now) ≤ 2147483647 }
     requires reach { IsStrictlyIncreasing sights.now.reach.items }
     requires sight { IsStrictlyIncreasing sights.now.sight.items }
     ensures { (files : List FileSyntax) → Tells names.now files → let t = file_view tree.now in
@@ -547,5 +665,5 @@ fn elaborated(
         reach: &sights.reach,
     };
     link(alloc, &seen)?;
-    elaborate(alloc, path, tree, &seen)
+    elaborate(alloc, path, tree, &seen, &NoExtensions)
 }

@@ -1,14 +1,11 @@
 //! Which of the loaded files a file reaches, sees and hands on, as ascending numbers.
 
-ghost use Rattle.std.specs.Prelude.{◌≡◌, ◌++◌, [], ◌∷◌, ℕ, List, IfOk, OnOk, option_to_list, slice_get};
-ghost use Rattle.protobuf_parse_syntax.specs.Trees.{file_view, statement_view};
-ghost use Rattle.protobuf_parse.specs.Walks.{import_paths, public_paths, public_paths_of};
+ghost use Rattle.std.specs.Prelude.{◌≡◌, IfOk, slice_get};
 ghost use Rattle.protobuf_parse.specs.declared.run.reach.Held.TheVariants as held_as;
 ghost use Rattle.protobuf_parse.specs.Loading as loading;
-ghost use Rattle.protobuf_parse.specs.Loading.{AreHandedOn, AreJoined, AreNumbered, ArePublic, held_by, named_trees};
+ghost use Rattle.protobuf_parse.specs.Loading.{AreJoined, held_by};
 
-use crate::run::loader::{LoadedFile, LoadedFiles, place_of};
-use protobuf_parse_syntax::{FileStatement, FileTree, ImportVis};
+use crate::run::loader::{LoadedFile, LoadedFiles};
 use std::alloc::{AllocError, Global};
 
 /// Which numbers of a loaded file.
@@ -28,75 +25,31 @@ pub struct Sights {
     pub handed_on: Vec<usize>,
 }
 
+/// The numbers of the files that a file imports, and of those that it imports publicly.
+#[derive(Clone, Copy)]
+pub struct ImportNumbers<'a> {
+    pub all: &'a [usize],
+    pub public: &'a [usize],
+}
+
 /// What the next file to be loaded reaches, sees and hands on, where its imports have these numbers.
 pub fn sights_of(
     alloc: Global,
     loaded: &LoadedFiles,
-    tree: &FileTree,
-    imports: &[usize],
+    imports: &ImportNumbers<'_>,
 ) -> Result<Sights, AllocError>
-    ensures reach { IfOk result (λ s. AreJoined held_as.Reach loaded.now.entries imports.now s.reach.items) }
-    ensures sight { IfOk result (λ s. AreJoined held_as.HandedOn loaded.now.entries imports.now s.sight.items) }
-    ensures handed_on { IfOk result (λ s. AreHandedOn loaded.now.entries (file_view tree.now) imports.now s.handed_on.items) }
+    ensures reach { IfOk result (λ s. AreJoined held_as.Reach loaded.now.entries imports.now.all.now s.reach.items) }
+    ensures sight { IfOk result (λ s. AreJoined held_as.HandedOn loaded.now.entries imports.now.all.now s.sight.items) }
+    ensures handed_on { IfOk result (λ s. AreJoined held_as.HandedOn loaded.now.entries imports.now.public.now s.handed_on.items) }
 {
-    let reach = joined(alloc, loaded, imports, Held::Reach)?;
-    let sight = joined(alloc, loaded, imports, Held::HandedOn)?;
-    let public = public_imports(alloc, loaded, tree)?;
-    let handed_on = joined(alloc, loaded, &public, Held::HandedOn)?;
+    let reach = joined(alloc, loaded, imports.all, Held::Reach)?;
+    let sight = joined(alloc, loaded, imports.all, Held::HandedOn)?;
+    let handed_on = joined(alloc, loaded, imports.public, Held::HandedOn)?;
     Ok(Sights {
         reach,
         sight,
         handed_on,
     })
-}
-
-/// The numbers of the files that a file imports publicly, which are loaded.
-fn public_imports(
-    alloc: Global,
-    loaded: &LoadedFiles,
-    tree: &FileTree,
-) -> Result<Vec<usize>, AllocError>
-    ensures { (numbers : List ℕ) → AreNumbered (named_trees loaded.now.entries) numbers (import_paths (file_view tree.now))
-        → IfOk result (λ v. AreNumbered (named_trees loaded.now.entries) v.items (public_paths (file_view tree.now))) }
-{
-    let mut public = Vec::new(alloc);
-    for statement in &tree.statements {
-        push_some(&mut public, public_import(loaded, statement))?;
-    }
-    Ok(public)
-}
-
-/// Puts a number behind the others, if there is one.
-fn push_some(numbers: &mut Vec<usize>, number: Option<usize>) -> Result<(), AllocError>
-    ensures { OnOk result (numbers.new.items ≡ numbers.old.items ++ option_to_list number) }
-{
-    if let Some(number) = number {
-        numbers.push(number)?;
-    }
-    Ok(())
-}
-
-/// The number of the file that a statement imports publicly.
-fn public_import(loaded: &LoadedFiles, statement: &FileStatement) -> Option<usize>
-    ensures { ArePublic loaded.now.entries (public_paths_of (statement_view statement.now)) result }
-{
-    match statement {
-        FileStatement::Import(import) => match import.vis {
-            ImportVis::Public => number_of(loaded, import.path.as_path().to_str()),
-            ImportVis::Default | ImportVis::Weak => None,
-        },
-        _ => None,
-    }
-}
-
-/// The number of the loaded file of this path.
-fn number_of(loaded: &LoadedFiles, path: &str) -> Option<usize>
-    ensures { ArePublic loaded.now.entries (path.now ∷ []) result }
-{
-    match place_of(loaded, path) {
-        Some(placed) => Some(placed.number),
-        None => None,
-    }
 }
 
 /// The numbers that these files hold, and that of the next file, each once.

@@ -1,12 +1,7 @@
 //! Absolute paths: identifiers with a dot before each.
-ghost use Rattle.std.specs.Prelude.{◌≡◌, ◌≢◌, ◌↔◌, ◌||◌, ◌<◌, ℕ, List, [], ◌∷◌, ◌++◌, map, length, IsTrue, IsSome, IfOk, OnOk, OnErr, IfSome, IfNone, MatchOption, nat_eq, Some};
+ghost use Rattle.std.specs.Prelude.{◌≡◌, ◌≢◌, ◌↔◌, ◌||◌, ◌<◌, ℕ, List, [], ◌∷◌, ◌++◌, map, length, IsTrue, IsSome, IfOk, OnOk, OnErr, IfSome, IfNone, MatchOption, Some};
 ghost use Rattle.std.specs.String.{string_bytes};
 ghost use Rattle.std.specs.Option.{ForSome};
-ghost use Rattle.std.specs.Cmp.Lexicographic.{pointwise, nat_list_eq_equiv};
-ghost use Rattle.std.specs.Cmp.{partial_equiv_from_equiv, on_per, on_equiv};
-ghost use Rattle.std.specs.Cmp.Rules.{hashing};
-ghost use Rattle.std.specs.Hash as fed;
-ghost use Rattle.std.proofs.Common.{rules};
 ghost use Rattle.protobuf_parse_base.specs.Names.{is_absolute, is_relative, looks_absolute, are_idents, absolute_text, absolute_idents, relative_idents, IsAbsolute, fronts};
 
 use super::dots;
@@ -15,12 +10,11 @@ use super::relative::{ProtobufRelPath, ProtobufRelPathRef};
 use crate::joins::join_at_dot;
 use std::alloc::{AllocError, Global};
 use std::fmt;
-use std::hash::{Hash, Hasher};
 
 /// An absolute path, lent: the empty text, which is the root, or identifiers with a dot before each.
 ///
 /// See the Protocol Buffers Language Specification, "Identifiers" (<https://protobuf.dev>).
-#[derive(Clone, Copy, Debug)]
+#[derive(Clone, Copy, Debug, PartialEq, Eq, Hash)]
 pub struct ProtobufAbsPathRef<'a> {
     text: &'a str,
     pub ghost well_formed: { IsTrue (is_absolute text.now) },
@@ -137,7 +131,7 @@ impl<'a> ProtobufAbsPathRef<'a> {
 }
 
 /// An absolute path that owns its text.
-#[derive(Debug, Drop)]
+#[derive(Debug, Drop, PartialEq, Eq, Hash)]
 pub struct ProtobufAbsPath {
     text: String,
     pub ghost well_formed: { IsTrue (is_absolute (string_bytes text)) },
@@ -327,36 +321,6 @@ impl ProtobufAbsPath {
     }
 }
 
-impl<'a> PartialEq for ProtobufAbsPathRef<'a> {
-    ghost use Rattle.protobuf_parse_base.specs.NameViews.{abs_ref_text};
-
-    ghost eq = { λ a b. pointwise nat_eq (abs_ref_text a) (abs_ref_text b) };
-
-    ghost laws = { on_per abs_ref_text (partial_equiv_from_equiv nat_list_eq_equiv) };
-
-    fn eq(&self, other: &Self) -> bool {
-        self.text == other.text
-    }
-}
-
-impl<'a> Eq for ProtobufAbsPathRef<'a> {
-    ghost use Rattle.protobuf_parse_base.specs.NameViews.{abs_ref_text};
-
-    ghost laws = { on_equiv abs_ref_text nat_list_eq_equiv };
-}
-
-impl<'a> Hash for ProtobufAbsPathRef<'a> {
-    ghost use Rattle.protobuf_parse_base.specs.NameViews.{abs_ref_text};
-
-    ghost hash_input = { λ path. fed.str (abs_ref_text path) };
-
-    ghost respects_eq = { Prim.search (hashing, rules) };
-
-    fn hash<H: Hasher>(&self, state: &mut H) {
-        self.text.hash(state);
-    }
-}
-
 impl<'a> fmt::Display for ProtobufAbsPathRef<'a> {
     ghost use Rattle.protobuf_parse_base.specs.NameViews.{abs_ref_text};
 
@@ -364,36 +328,6 @@ impl<'a> fmt::Display for ProtobufAbsPathRef<'a> {
 
     fn fmt<W: fmt::Write>(&self, f: &mut fmt::Formatter<W>) -> fmt::Result {
         f.write_str(self.text)
-    }
-}
-
-impl PartialEq for ProtobufAbsPath {
-    ghost use Rattle.protobuf_parse_base.specs.NameViews.{abs_text};
-
-    ghost eq = { λ a b. pointwise nat_eq (abs_text a) (abs_text b) };
-
-    ghost laws = { on_per abs_text (partial_equiv_from_equiv nat_list_eq_equiv) };
-
-    fn eq(&self, other: &Self) -> bool {
-        self.text.as_str() == other.text.as_str()
-    }
-}
-
-impl Eq for ProtobufAbsPath {
-    ghost use Rattle.protobuf_parse_base.specs.NameViews.{abs_text};
-
-    ghost laws = { on_equiv abs_text nat_list_eq_equiv };
-}
-
-impl Hash for ProtobufAbsPath {
-    ghost use Rattle.protobuf_parse_base.specs.NameViews.{abs_text};
-
-    ghost hash_input = { λ path. fed.str (abs_text path) };
-
-    ghost respects_eq = { Prim.search (hashing, rules) };
-
-    fn hash<H: Hasher>(&self, state: &mut H) {
-        self.text.as_str().hash(state);
     }
 }
 

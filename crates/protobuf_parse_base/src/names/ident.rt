@@ -1,23 +1,17 @@
 //! Identifiers.
-ghost use Rattle.std.specs.Prelude.{◌≡◌, IsTrue, IfOk, nat_eq, Some};
+ghost use Rattle.std.specs.Prelude.{◌≡◌, IsTrue, IfOk, Some};
 ghost use Rattle.std.specs.String.{string_bytes};
-ghost use Rattle.std.specs.Cmp.Lexicographic.{pointwise, nat_list_eq_equiv};
-ghost use Rattle.std.specs.Cmp.{partial_equiv_from_equiv, on_per, on_equiv};
-ghost use Rattle.std.specs.Cmp.Rules.{hashing};
-ghost use Rattle.std.specs.Hash as fed;
-ghost use Rattle.std.proofs.Common.{rules};
 ghost use Rattle.protobuf_parse_base.specs.Names.{is_ident};
 
 use super::dots;
 use std::alloc::{AllocError, Global};
 use std::fmt;
-use std::hash::{Hash, Hasher};
 
 /// An identifier, lent: a nonempty text without `/`, `.`, `:`, `(` and `)`.
 ///
 /// See the Protocol Buffers Language Specification, "Identifiers" (<https://protobuf.dev>), of whose
 /// identifiers these are a wider class.
-#[derive(Clone, Copy, Debug)]
+#[derive(Clone, Copy, Debug, PartialEq, Eq, Hash)]
 pub struct ProtobufIdentRef<'a> {
     text: &'a str,
     pub ghost well_formed: { IsTrue (is_ident text.now) },
@@ -58,7 +52,7 @@ impl<'a> ProtobufIdentRef<'a> {
 }
 
 /// An identifier that owns its text.
-#[derive(Debug, Drop)]
+#[derive(Debug, Drop, PartialEq, Eq, Hash)]
 pub struct ProtobufIdent {
     text: String,
     pub ghost well_formed: { IsTrue (is_ident (string_bytes text)) },
@@ -101,36 +95,6 @@ impl ProtobufIdent {
     }
 }
 
-impl<'a> PartialEq for ProtobufIdentRef<'a> {
-    ghost use Rattle.protobuf_parse_base.specs.NameViews.{ident_ref_text};
-
-    ghost eq = { λ a b. pointwise nat_eq (ident_ref_text a) (ident_ref_text b) };
-
-    ghost laws = { on_per ident_ref_text (partial_equiv_from_equiv nat_list_eq_equiv) };
-
-    fn eq(&self, other: &Self) -> bool {
-        self.text == other.text
-    }
-}
-
-impl<'a> Eq for ProtobufIdentRef<'a> {
-    ghost use Rattle.protobuf_parse_base.specs.NameViews.{ident_ref_text};
-
-    ghost laws = { on_equiv ident_ref_text nat_list_eq_equiv };
-}
-
-impl<'a> Hash for ProtobufIdentRef<'a> {
-    ghost use Rattle.protobuf_parse_base.specs.NameViews.{ident_ref_text};
-
-    ghost hash_input = { λ ident. fed.str (ident_ref_text ident) };
-
-    ghost respects_eq = { Prim.search (hashing, rules) };
-
-    fn hash<H: Hasher>(&self, state: &mut H) {
-        self.text.hash(state);
-    }
-}
-
 impl<'a> fmt::Display for ProtobufIdentRef<'a> {
     ghost use Rattle.protobuf_parse_base.specs.NameViews.{ident_ref_text};
 
@@ -138,36 +102,6 @@ impl<'a> fmt::Display for ProtobufIdentRef<'a> {
 
     fn fmt<W: fmt::Write>(&self, f: &mut fmt::Formatter<W>) -> fmt::Result {
         f.write_str(self.text)
-    }
-}
-
-impl PartialEq for ProtobufIdent {
-    ghost use Rattle.protobuf_parse_base.specs.NameViews.{ident_text};
-
-    ghost eq = { λ a b. pointwise nat_eq (ident_text a) (ident_text b) };
-
-    ghost laws = { on_per ident_text (partial_equiv_from_equiv nat_list_eq_equiv) };
-
-    fn eq(&self, other: &Self) -> bool {
-        self.text.as_str() == other.text.as_str()
-    }
-}
-
-impl Eq for ProtobufIdent {
-    ghost use Rattle.protobuf_parse_base.specs.NameViews.{ident_text};
-
-    ghost laws = { on_equiv ident_text nat_list_eq_equiv };
-}
-
-impl Hash for ProtobufIdent {
-    ghost use Rattle.protobuf_parse_base.specs.NameViews.{ident_text};
-
-    ghost hash_input = { λ ident. fed.str (ident_text ident) };
-
-    ghost respects_eq = { Prim.search (hashing, rules) };
-
-    fn hash<H: Hasher>(&self, state: &mut H) {
-        self.text.as_str().hash(state);
     }
 }
 

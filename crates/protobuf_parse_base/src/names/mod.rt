@@ -3,6 +3,7 @@ mod absolute;
 mod components;
 mod dots;
 mod ident;
+pub mod laws;
 mod relative;
 
 pub use absolute::{ProtobufAbsPath, ProtobufAbsPathRef};

@@ -1,11 +1,6 @@
 //! Relative paths: identifiers with dots between them.
-ghost use Rattle.std.specs.Prelude.{◌≡◌, ◌↔◌, ℕ, List, [], ◌∷◌, ◌++◌, map, IsTrue, IfOk, MatchOption, nat_eq, Some};
+ghost use Rattle.std.specs.Prelude.{◌≡◌, ◌↔◌, ℕ, List, [], ◌∷◌, ◌++◌, map, IsTrue, IfOk, MatchOption, Some};
 ghost use Rattle.std.specs.String.{string_bytes};
-ghost use Rattle.std.specs.Cmp.Lexicographic.{pointwise, nat_list_eq_equiv};
-ghost use Rattle.std.specs.Cmp.{partial_equiv_from_equiv, on_per, on_equiv};
-ghost use Rattle.std.specs.Cmp.Rules.{hashing};
-ghost use Rattle.std.specs.Hash as fed;
-ghost use Rattle.std.proofs.Common.{rules};
 ghost use Rattle.protobuf_parse_base.specs.Names.{is_relative, are_idents, relative_text, IsRelative, fronts};
 
 use super::absolute::ProtobufAbsPath;
@@ -15,12 +10,11 @@ use super::ident::{ProtobufIdent, ProtobufIdentRef};
 use crate::joins::{join_at_dot, push_part};
 use std::alloc::{AllocError, Global};
 use std::fmt;
-use std::hash::{Hash, Hasher};
 
 /// A relative path, lent: the empty text, or identifiers with dots between them.
 ///
 /// See the Protocol Buffers Language Specification, "Identifiers" (<https://protobuf.dev>).
-#[derive(Clone, Copy, Debug)]
+#[derive(Clone, Copy, Debug, PartialEq, Eq, Hash)]
 pub struct ProtobufRelPathRef<'a> {
     text: &'a str,
     pub ghost well_formed: { IsTrue (is_relative text.now) },
@@ -168,7 +162,7 @@ impl<'a> ProtobufRelPathRef<'a> {
 }
 
 /// A relative path that owns its text.
-#[derive(Debug, Drop)]
+#[derive(Debug, Drop, PartialEq, Eq, Hash)]
 pub struct ProtobufRelPath {
     text: String,
     pub ghost well_formed: { IsTrue (is_relative (string_bytes text)) },
@@ -237,36 +231,6 @@ impl ProtobufRelPath {
     }
 }
 
-impl<'a> PartialEq for ProtobufRelPathRef<'a> {
-    ghost use Rattle.protobuf_parse_base.specs.NameViews.{rel_ref_text};
-
-    ghost eq = { λ a b. pointwise nat_eq (rel_ref_text a) (rel_ref_text b) };
-
-    ghost laws = { on_per rel_ref_text (partial_equiv_from_equiv nat_list_eq_equiv) };
-
-    fn eq(&self, other: &Self) -> bool {
-        self.text == other.text
-    }
-}
-
-impl<'a> Eq for ProtobufRelPathRef<'a> {
-    ghost use Rattle.protobuf_parse_base.specs.NameViews.{rel_ref_text};
-
-    ghost laws = { on_equiv rel_ref_text nat_list_eq_equiv };
-}
-
-impl<'a> Hash for ProtobufRelPathRef<'a> {
-    ghost use Rattle.protobuf_parse_base.specs.NameViews.{rel_ref_text};
-
-    ghost hash_input = { λ path. fed.str (rel_ref_text path) };
-
-    ghost respects_eq = { Prim.search (hashing, rules) };
-
-    fn hash<H: Hasher>(&self, state: &mut H) {
-        self.text.hash(state);
-    }
-}
-
 impl<'a> fmt::Display for ProtobufRelPathRef<'a> {
     ghost use Rattle.protobuf_parse_base.specs.NameViews.{rel_ref_text};
 
@@ -274,36 +238,6 @@ impl<'a> fmt::Display for ProtobufRelPathRef<'a> {
 
     fn fmt<W: fmt::Write>(&self, f: &mut fmt::Formatter<W>) -> fmt::Result {
         f.write_str(self.text)
-    }
-}
-
-impl PartialEq for ProtobufRelPath {
-    ghost use Rattle.protobuf_parse_base.specs.NameViews.{rel_text};
-
-    ghost eq = { λ a b. pointwise nat_eq (rel_text a) (rel_text b) };
-
-    ghost laws = { on_per rel_text (partial_equiv_from_equiv nat_list_eq_equiv) };
-
-    fn eq(&self, other: &Self) -> bool {
-        self.text.as_str() == other.text.as_str()
-    }
-}
-
-impl Eq for ProtobufRelPath {
-    ghost use Rattle.protobuf_parse_base.specs.NameViews.{rel_text};
-
-    ghost laws = { on_equiv rel_text nat_list_eq_equiv };
-}
-
-impl Hash for ProtobufRelPath {
-    ghost use Rattle.protobuf_parse_base.specs.NameViews.{rel_text};
-
-    ghost hash_input = { λ path. fed.str (rel_text path) };
-
-    ghost respects_eq = { Prim.search (hashing, rules) };
-
-    fn hash<H: Hasher>(&self, state: &mut H) {
-        self.text.as_str().hash(state);
     }
 }
 

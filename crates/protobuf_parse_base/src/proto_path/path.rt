@@ -1,24 +1,18 @@
 //! Proto paths.
-ghost use Rattle.std.specs.Prelude.{◌≡◌, ◌↔◌, IsOk, ◌≢◌, IfOk, IfErr, None, Some, nat_eq};
+ghost use Rattle.std.specs.Prelude.{◌≡◌, ◌↔◌, IsOk, ◌≢◌, IfOk, IfErr, None, Some};
 ghost use Rattle.std.specs.String.{string_bytes};
-ghost use Rattle.std.specs.Cmp.Lexicographic.{pointwise, nat_list_eq_equiv};
-ghost use Rattle.std.specs.Cmp.{partial_equiv_from_equiv, on_per, on_equiv};
-ghost use Rattle.std.specs.Cmp.Rules.{hashing};
-ghost use Rattle.std.specs.Hash as fed;
-ghost use Rattle.std.proofs.Common.{rules};
 ghost use Rattle.protobuf_parse_base.specs.Paths.{path_fault, host_path_fault, kept_parts, joined, IsProtoPath};
 
 use super::check;
 use super::error::PathError;
 use std::alloc::{AllocError, Global};
 use std::fmt;
-use std::hash::{Hash, Hasher};
 
 /// A proto path, lent: one or more parts with slashes between them, each nonempty, without
 /// backslashes, and neither `.` nor `..`.
 ///
 /// See the Protocol Buffers Language Specification, "Import Statement" (<https://protobuf.dev>).
-#[derive(Clone, Copy, Debug)]
+#[derive(Clone, Copy, Debug, PartialEq, Eq, Hash)]
 pub struct ProtoPath<'a> {
     text: &'a str,
     pub ghost well_formed: { path_fault text.now ≡ None },
@@ -67,7 +61,7 @@ impl<'a> ProtoPath<'a> {
 }
 
 /// A proto path that owns its text.
-#[derive(Debug, Drop)]
+#[derive(Debug, Drop, PartialEq, Eq, Hash)]
 pub struct ProtoPathBuf {
     text: String,
     pub ghost well_formed: { path_fault (string_bytes text) ≡ None },
@@ -124,36 +118,6 @@ impl ProtoPathBuf {
     }
 }
 
-impl<'a> PartialEq for ProtoPath<'a> {
-    ghost use Rattle.protobuf_parse_base.specs.PathViews.{path_text};
-
-    ghost eq = { λ a b. pointwise nat_eq (path_text a) (path_text b) };
-
-    ghost laws = { on_per path_text (partial_equiv_from_equiv nat_list_eq_equiv) };
-
-    fn eq(&self, other: &Self) -> bool {
-        self.text == other.text
-    }
-}
-
-impl<'a> Eq for ProtoPath<'a> {
-    ghost use Rattle.protobuf_parse_base.specs.PathViews.{path_text};
-
-    ghost laws = { on_equiv path_text nat_list_eq_equiv };
-}
-
-impl<'a> Hash for ProtoPath<'a> {
-    ghost use Rattle.protobuf_parse_base.specs.PathViews.{path_text};
-
-    ghost hash_input = { λ path. fed.str (path_text path) };
-
-    ghost respects_eq = { Prim.search (hashing, rules) };
-
-    fn hash<H: Hasher>(&self, state: &mut H) {
-        self.text.hash(state);
-    }
-}
-
 impl<'a> fmt::Display for ProtoPath<'a> {
     ghost use Rattle.protobuf_parse_base.specs.PathViews.{path_text};
 
@@ -161,36 +125,6 @@ impl<'a> fmt::Display for ProtoPath<'a> {
 
     fn fmt<W: fmt::Write>(&self, f: &mut fmt::Formatter<W>) -> fmt::Result {
         f.write_str(self.text)
-    }
-}
-
-impl PartialEq for ProtoPathBuf {
-    ghost use Rattle.protobuf_parse_base.specs.PathViews.{path_buf_text};
-
-    ghost eq = { λ a b. pointwise nat_eq (path_buf_text a) (path_buf_text b) };
-
-    ghost laws = { on_per path_buf_text (partial_equiv_from_equiv nat_list_eq_equiv) };
-
-    fn eq(&self, other: &Self) -> bool {
-        self.text.as_str() == other.text.as_str()
-    }
-}
-
-impl Eq for ProtoPathBuf {
-    ghost use Rattle.protobuf_parse_base.specs.PathViews.{path_buf_text};
-
-    ghost laws = { on_equiv path_buf_text nat_list_eq_equiv };
-}
-
-impl Hash for ProtoPathBuf {
-    ghost use Rattle.protobuf_parse_base.specs.PathViews.{path_buf_text};
-
-    ghost hash_input = { λ path. fed.str (path_buf_text path) };
-
-    ghost respects_eq = { Prim.search (hashing, rules) };
-
-    fn hash<H: Hasher>(&self, state: &mut H) {
-        self.text.as_str().hash(state);
     }
 }
 

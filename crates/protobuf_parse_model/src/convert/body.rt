@@ -13,6 +13,7 @@ use crate::convert::lists::{fields_of_extend, fields_of_oneof, push_behind};
 use crate::convert::oneof::{has_own_oneof, oneof_descriptor, own_oneof};
 use crate::convert::place::FieldPlace;
 use crate::convert::statement::declared_field;
+use crate::customs::CustomOptions;
 use crate::descriptor::{
     DescriptorProto, EnumDescriptorProto, FieldDescriptorProto, OneofDescriptorProto,
 };
@@ -32,61 +33,64 @@ pub struct Body {
 }
 
 /// Adds a field, with the oneof of its own and the message behind it, where there are any.
-pub fn add_field(
+pub fn add_field<C: CustomOptions>(
     alloc: Global,
     context: &Context<'_>,
+    custom: &C,
     body: &mut Body,
     statement: &FieldStatement,
 ) -> Result<(), ElabFailure>
     requires { length body.old.oneof_decl.items < 2 ^ 31 }
-    ensures { let env = environment_in context.now in let s = tree.field_statement_view statement.now in
+    ensures { let env = environment_in (C.customs custom.now) context.now in let s = tree.field_statement_view statement.now in
         Elaborates (λ _. body_view body.new) result (field_statement_faults env s) (with_statement env (body_view body.old) (tree.message_field s)) }
 {
     if has_own_oneof(context, statement) {
-        add_in_own_oneof(alloc, context, body, statement)
+        add_in_own_oneof(alloc, context, custom, body, statement)
     } else {
-        add_plain(alloc, context, body, statement)
+        add_plain(alloc, context, custom, body, statement)
     }
 }
 
 /// Adds a field that is in no oneof.
-fn add_plain(
+fn add_plain<C: CustomOptions>(
     alloc: Global,
     context: &Context<'_>,
+    custom: &C,
     body: &mut Body,
     statement: &FieldStatement,
 ) -> Result<(), ElabFailure>
-    requires { has_own_oneof (environment_in context.now) (tree.field_statement_view statement.now) ≡ false }
-    ensures { let env = environment_in context.now in let s = tree.field_statement_view statement.now in
+    requires { has_own_oneof (environment_in (C.customs custom.now) context.now) (tree.field_statement_view statement.now) ≡ false }
+    ensures { let env = environment_in (C.customs custom.now) context.now in let s = tree.field_statement_view statement.now in
         Elaborates (λ _. body_view body.new) result (field_statement_faults env s) (with_statement env (body_view body.old) (tree.message_field s)) }
 {
     let place = FieldPlace {
         extendee: None,
         oneof_index: None,
     };
-    let declared = declared_field(alloc, context, &place, statement)?;
+    let declared = declared_field(alloc, context, custom, &place, statement)?;
     body.field.push(declared.field)?;
     push_behind(&mut body.nested_type, declared.behind)?;
     Ok(())
 }
 
 /// Adds a field that is alone in a oneof.
-fn add_in_own_oneof(
+fn add_in_own_oneof<C: CustomOptions>(
     alloc: Global,
     context: &Context<'_>,
+    custom: &C,
     body: &mut Body,
     statement: &FieldStatement,
 ) -> Result<(), ElabFailure>
     requires few { length body.old.oneof_decl.items < 2 ^ 31 }
-    requires own { has_own_oneof (environment_in context.now) (tree.field_statement_view statement.now) ≡ true }
-    ensures { let env = environment_in context.now in let s = tree.field_statement_view statement.now in
+    requires own { has_own_oneof (environment_in (C.customs custom.now) context.now) (tree.field_statement_view statement.now) ≡ true }
+    ensures { let env = environment_in (C.customs custom.now) context.now in let s = tree.field_statement_view statement.now in
         Elaborates (λ _. body_view body.new) result (field_statement_faults env s) (with_statement env (body_view body.old) (tree.message_field s)) }
 {
     let place = FieldPlace {
         extendee: None,
         oneof_index: Some(body.oneof_decl.len()),
     };
-    let declared = declared_field(alloc, context, &place, statement)?;
+    let declared = declared_field(alloc, context, custom, &place, statement)?;
     let own = own_oneof(alloc, &declared.field.name)?;
     body.oneof_decl.push(own)?;
     body.field.push(declared.field)?;
@@ -96,22 +100,23 @@ fn add_in_own_oneof(
 
 /// Adds a oneof, its fields and the messages behind them.
 #[tactic(auto, using(crate::proofs::Blaming::blames_left, crate::proofs::Blaming::blames_right))]
-pub fn add_oneof(
+pub fn add_oneof<C: CustomOptions>(
     alloc: Global,
     context: &Context<'_>,
+    custom: &C,
     body: &mut Body,
     oneof: &OneOf,
 ) -> Result<(), ElabFailure>
     requires { length body.old.oneof_decl.items < 2 ^ 31 }
-    ensures { let env = environment_in context.now in let o = tree.oneof_view oneof.now in
+    ensures { let env = environment_in (C.customs custom.now) context.now in let o = tree.oneof_view oneof.now in
         Elaborates (λ _. body_view body.new) result (oneof_faults env o) (with_statement env (body_view body.old) (tree.message_oneof o)) }
 {
     let place = FieldPlace {
         extendee: None,
         oneof_index: Some(body.oneof_decl.len()),
     };
-    let mut declared = fields_of_oneof(alloc, context, &place, oneof)?;
-    let descriptor = oneof_descriptor(alloc, context, oneof)?;
+    let mut declared = fields_of_oneof(alloc, context, custom, &place, oneof)?;
+    let descriptor = oneof_descriptor(alloc, context, custom, oneof)?;
     body.oneof_decl.push(descriptor)?;
     body.field.append(&mut declared.fields)?;
     body.nested_type.append(&mut declared.behind)?;
@@ -119,32 +124,34 @@ pub fn add_oneof(
 }
 
 /// Adds the extensions of an `extend`, and the messages behind their groups.
-pub fn add_extend(
+pub fn add_extend<C: CustomOptions>(
     alloc: Global,
     context: &Context<'_>,
+    custom: &C,
     body: &mut Body,
     extend: &Extend,
 ) -> Result<(), ElabFailure>
-    ensures { let env = environment_in context.now in let e = tree.extend_view extend.now in
+    ensures { let env = environment_in (C.customs custom.now) context.now in let e = tree.extend_view extend.now in
         Elaborates (λ _. body_view body.new) result (extend_faults env e) (with_statement env (body_view body.old) (tree.message_extend e)) }
 {
-    let mut declared = fields_of_extend(alloc, context, &extend.extendee, &extend.fields)?;
+    let mut declared = fields_of_extend(alloc, context, custom, &extend.extendee, &extend.fields)?;
     body.extension.append(&mut declared.fields)?;
     body.nested_type.append(&mut declared.behind)?;
     Ok(())
 }
 
 /// Adds an enum.
-pub fn add_enum(
+pub fn add_enum<C: CustomOptions>(
     alloc: Global,
     context: &Context<'_>,
+    custom: &C,
     body: &mut Body,
     enumeration: &Enumeration,
 ) -> Result<(), ElabFailure>
-    ensures { let env = environment_in context.now in let e = tree.enum_view enumeration.now in
-        Elaborates (λ _. body_view body.new) result (enum_faults e) (with_statement env (body_view body.old) (tree.message_enum e)) }
+    ensures { let env = environment_in (C.customs custom.now) context.now in let e = tree.enum_view enumeration.now in
+        Elaborates (λ _. body_view body.new) result (enum_faults env e) (with_statement env (body_view body.old) (tree.message_enum e)) }
 {
-    let descriptor = enum_descriptor(alloc, context, enumeration)?;
+    let descriptor = enum_descriptor(alloc, context, custom, enumeration)?;
     body.enum_type.push(descriptor)?;
     Ok(())
 }

@@ -1,6 +1,7 @@
 //! What the statements of a file declare.
 
-ghost use Rattle.std.specs.Prelude.{◌++◌, map, flat_map};
+ghost use Rattle.std.specs.Prelude.{◌++◌, ◌≤◌, map, flat_map, sum_by};
+ghost use Rattle.protobuf_parse_syntax.specs.Counts.{statement_count};
 ghost use Rattle.protobuf_parse_syntax.specs.Trees.{extend_view, file_extend, statement_view};
 ghost use Rattle.protobuf_parse_model.specs.Contexts.{environment_in};
 ghost use Rattle.protobuf_parse_model.specs.Descriptors as described;
@@ -14,6 +15,7 @@ use crate::convert::lists::fields_of_extend;
 use crate::convert::message::message_descriptor;
 use crate::convert::names::{unlike_enums, unlike_fields, unlike_messages, unlike_services};
 use crate::convert::service::service_descriptor;
+use crate::customs::CustomOptions;
 use crate::descriptor::{
     DescriptorProto, EnumDescriptorProto, FieldDescriptorProto, ServiceDescriptorProto,
 };
@@ -34,15 +36,17 @@ pub struct Contents {
 /// What these statements declare, of which no two of a kind have one name: E1. The faults inside each
 /// are told too.
 #[tactic(auto, using(crate::proofs::Blaming::blames_left, crate::proofs::Blaming::blames_right))]
-pub fn contents_of(
+pub fn contents_of<C: CustomOptions>(
     alloc: Global,
     context: &Context<'_>,
+    custom: &C,
     statements: &[FileStatement],
 ) -> Result<Contents, ElabFailure>
-    ensures { let env = environment_in context.now in let ss = map statement_view statements.now in
+    requires few { sum_by statement_count (map statement_view statements.now) ≤ 2147483647 }
+    ensures { let env = environment_in (C.customs custom.now) context.now in let ss = map statement_view statements.now in
         Elaborates parts_view result (parts_faults (parts_of env ss) ++ flat_map (statement_faults env) ss) (parts_of env ss) }
 {
-    let contents = declared(alloc, context, statements)?;
+    let contents = declared(alloc, context, custom, statements)?;
     check_names(alloc, &contents)?;
     Ok(contents)
 }
@@ -60,12 +64,14 @@ fn check_names(alloc: Global, contents: &Contents) -> Result<(), ElabFailure>
 
 /// What these statements declare.
 #[tactic(auto, using(crate::proofs::Blaming::blames_at))]
-fn declared(
+fn declared<C: CustomOptions>(
     alloc: Global,
     context: &Context<'_>,
+    custom: &C,
     statements: &[FileStatement],
 ) -> Result<Contents, ElabFailure>
-    ensures { let env = environment_in context.now in let ss = map statement_view statements.now in
+    requires few { sum_by statement_count (map statement_view statements.now) ≤ 2147483647 }
+    ensures { let env = environment_in (C.customs custom.now) context.now in let ss = map statement_view statements.now in
         Elaborates parts_view result (flat_map (statement_faults env) ss) (parts_of env ss) }
 {
     let mut contents = Contents {
@@ -75,51 +81,54 @@ fn declared(
         extension: Vec::new(alloc),
     };
     for statement in statements {
-        add_statement(alloc, context, &mut contents, statement)?;
+        add_statement(alloc, context, custom, &mut contents, statement)?;
     }
     Ok(contents)
 }
 
 /// Adds what a statement declares.
-fn add_statement(
+fn add_statement<C: CustomOptions>(
     alloc: Global,
     context: &Context<'_>,
+    custom: &C,
     contents: &mut Contents,
     statement: &FileStatement,
 ) -> Result<(), ElabFailure>
-    ensures { let env = environment_in context.now in let s = statement_view statement.now in
+    requires few { statement_count (statement_view statement.now) ≤ 2147483647 }
+    ensures { let env = environment_in (C.customs custom.now) context.now in let s = statement_view statement.now in
         Elaborates (λ _. parts_view contents.new) result (statement_faults env s) (with_file_statement env (parts_view contents.old) s) }
 {
     match statement {
         FileStatement::Message(message) => {
-            let descriptor = message_descriptor(alloc, context, message)?;
+            let descriptor = message_descriptor(alloc, context, custom, message)?;
             contents.message_type.push(descriptor)?;
         }
         FileStatement::Enumeration(enumeration) => {
-            let descriptor = enum_descriptor(alloc, context, enumeration)?;
+            let descriptor = enum_descriptor(alloc, context, custom, enumeration)?;
             contents.enum_type.push(descriptor)?;
         }
         FileStatement::Service(service) => {
-            let descriptor = service_descriptor(alloc, context, service)?;
+            let descriptor = service_descriptor(alloc, context, custom, service)?;
             contents.service.push(descriptor)?;
         }
-        FileStatement::Extend(extend) => add_extensions(alloc, context, contents, extend)?,
+        FileStatement::Extend(extend) => add_extensions(alloc, context, custom, contents, extend)?,
         FileStatement::Import(_) | FileStatement::Package(_) | FileStatement::Option(_) => {}
     }
     Ok(())
 }
 
 /// Adds the extensions of an `extend`, and the messages behind their groups.
-fn add_extensions(
+fn add_extensions<C: CustomOptions>(
     alloc: Global,
     context: &Context<'_>,
+    custom: &C,
     contents: &mut Contents,
     extend: &Extend,
 ) -> Result<(), ElabFailure>
-    ensures { let env = environment_in context.now in let e = extend_view extend.now in
+    ensures { let env = environment_in (C.customs custom.now) context.now in let e = extend_view extend.now in
         Elaborates (λ _. parts_view contents.new) result (extend_faults env e) (with_file_statement env (parts_view contents.old) (file_extend e)) }
 {
-    let mut declared = fields_of_extend(alloc, context, &extend.extendee, &extend.fields)?;
+    let mut declared = fields_of_extend(alloc, context, custom, &extend.extendee, &extend.fields)?;
     contents.extension.append(&mut declared.fields)?;
     contents.message_type.append(&mut declared.behind)?;
     Ok(())

@@ -2,20 +2,24 @@
 
 ghost use Rattle.std.specs.Prelude.{◌≡◌, ◌++◌, map, flat_map, option_map, IfOk};
 ghost use Rattle.protobuf_parse_syntax.specs.Trees as tree;
-ghost use Rattle.protobuf_parse_model.specs.BuiltinOptions.{enum_table, options_faults};
+ghost use Rattle.protobuf_parse_model.specs.BuiltinOptions.{enum_table};
+ghost use Rattle.protobuf_parse_model.specs.ConstructOptions.{construct_faults};
 ghost use Rattle.protobuf_parse_model.specs.Contexts.{environment_in, reserves_seen, texts, values_seen};
 ghost use Rattle.protobuf_parse_model.specs.Descriptors as described;
 ghost use Rattle.protobuf_parse_model.specs.Enums as enums;
 ghost use Rattle.protobuf_parse_model.specs.Faults.{Elaborates};
-ghost use Rattle.protobuf_parse_model.specs.OptionViews.{nowhere, options_seen};
+ghost use Rattle.protobuf_parse_model.specs.Environment.{customs_bytes};
+ghost use Rattle.protobuf_parse_model.specs.declared.customs.Construct.TheVariants as of;
+ghost use Rattle.protobuf_parse_model.specs.OptionViews.{options_seen};
 ghost use Rattle.protobuf_parse_model.specs.Options.{enum_options_view};
 ghost use Rattle.protobuf_parse_model.specs.OptionsSet as sets;
 
 use crate::convert::options::{
-    check_options, enum_options, enum_table, enum_value_options, enum_value_table, options_of,
+    checked_customs, enum_options, enum_table, enum_value_options, enum_value_table, options_of,
 };
 use crate::convert::refuse::check_unique;
 use crate::convert::reserved::{inclusive_ranges, names_reserved, ranges_reserved};
+use crate::customs::{Construct, CustomOptions};
 use crate::descriptor::{EnumDescriptorProto, EnumOptions, EnumValueDescriptorProto};
 use crate::error::ElabFailure;
 use crate::scope::Context;
@@ -26,16 +30,17 @@ use std::alloc::{AllocError, Global};
 ///
 /// E1 where two of its values have one name, and the faults of its options.
 #[tactic(auto, using(crate::proofs::Blaming::blames_left, crate::proofs::Blaming::blames_right))]
-pub fn enum_descriptor(
+pub fn enum_descriptor<C: CustomOptions>(
     alloc: Global,
     context: &Context<'_>,
+    custom: &C,
     enumeration: &Enumeration,
 ) -> Result<EnumDescriptorProto, ElabFailure>
-    ensures { let env = environment_in context.now in let e = tree.enum_view enumeration.now in
-        Elaborates described.enum_view result (enums.enum_faults e) (enums.enum_of env e) }
+    ensures { let env = environment_in (C.customs custom.now) context.now in let e = tree.enum_view enumeration.now in
+        Elaborates described.enum_view result (enums.enum_faults env e) (enums.enum_of env e) }
 {
-    let value = enum_values(alloc, context, &enumeration.body)?;
-    let options = checked_options(alloc, &enumeration.body)?;
+    let value = enum_values(alloc, context, custom, &enumeration.body)?;
+    let options = checked_options(alloc, context, custom, &enumeration.body)?;
     let reserves = reserves(alloc, &enumeration.body)?;
     Ok(EnumDescriptorProto {
         name: enumeration.name.clone()?,
@@ -47,30 +52,32 @@ pub fn enum_descriptor(
 }
 
 /// The descriptors of the values, whose names differ: E1.
-fn enum_values(
+fn enum_values<C: CustomOptions>(
     alloc: Global,
     context: &Context<'_>,
+    custom: &C,
     body: &[EnumStatement],
 ) -> Result<Vec<EnumValueDescriptorProto>, ElabFailure>
-    ensures { let env = environment_in context.now in let vs = flat_map enums.enum_values (map tree.enum_statement_view body.now) in
-        Elaborates (λ v. map described.enum_value_view v.items) result (enums.values_faults vs) (map (enums.value_of env) vs) }
+    ensures { let env = environment_in (C.customs custom.now) context.now in let vs = flat_map enums.enum_values (map tree.enum_statement_view body.now) in
+        Elaborates (λ v. map described.enum_value_view v.items) result (enums.values_faults env vs) (map (enums.value_of env) vs) }
 {
     let values = values(alloc, body)?;
-    unlike_values(alloc, context, &values)
+    unlike_values(alloc, context, custom, &values)
 }
 
 /// The descriptors of these values, whose names differ: E1.
 #[tactic(auto, using(crate::proofs::Blaming::blames_left, crate::proofs::Blaming::blames_right))]
-fn unlike_values(
+fn unlike_values<C: CustomOptions>(
     alloc: Global,
     context: &Context<'_>,
+    custom: &C,
     values: &[&EnumValue],
 ) -> Result<Vec<EnumValueDescriptorProto>, ElabFailure>
-    ensures { let env = environment_in context.now in let vs = values_seen values.now in
-        Elaborates (λ v. map described.enum_value_view v.items) result (enums.values_faults vs) (map (enums.value_of env) vs) }
+    ensures { let env = environment_in (C.customs custom.now) context.now in let vs = values_seen values.now in
+        Elaborates (λ v. map described.enum_value_view v.items) result (enums.values_faults env vs) (map (enums.value_of env) vs) }
 {
     check_unique(alloc, &names(alloc, values)?)?;
-    value_descriptors(alloc, context, values)
+    value_descriptors(alloc, context, custom, values)
 }
 
 /// The values of an enum.
@@ -99,49 +106,67 @@ fn names<'a>(alloc: Global, values: &[&'a EnumValue]) -> Result<Vec<&'a str>, Al
 
 /// Their descriptors.
 #[tactic(auto, using(crate::proofs::Blaming::blames_at))]
-fn value_descriptors(
+fn value_descriptors<C: CustomOptions>(
     alloc: Global,
     context: &Context<'_>,
+    custom: &C,
     values: &[&EnumValue],
 ) -> Result<Vec<EnumValueDescriptorProto>, ElabFailure>
-    ensures { let env = environment_in context.now in let vs = values_seen values.now in
-        Elaborates (λ v. map described.enum_value_view v.items) result (flat_map enums.value_faults vs) (map (enums.value_of env) vs) }
+    ensures { let env = environment_in (C.customs custom.now) context.now in let vs = values_seen values.now in
+        Elaborates (λ v. map described.enum_value_view v.items) result (flat_map (enums.value_faults env) vs) (map (enums.value_of env) vs) }
 {
     let mut descriptors = Vec::new(alloc);
     for value in values {
-        descriptors.push(value_descriptor(alloc, context, value)?)?;
+        descriptors.push(value_descriptor(alloc, context, custom, value)?)?;
     }
     Ok(descriptors)
 }
 
-fn value_descriptor(
+fn value_descriptor<C: CustomOptions>(
     alloc: Global,
     context: &Context<'_>,
+    custom: &C,
     value: &EnumValue,
 ) -> Result<EnumValueDescriptorProto, ElabFailure>
-    ensures { let env = environment_in context.now in let v = tree.value_view value.now in
-        Elaborates described.enum_value_view result (enums.value_faults v) (enums.value_of env v) }
+    ensures { let env = environment_in (C.customs custom.now) context.now in let v = tree.value_view value.now in
+        Elaborates described.enum_value_view result (enums.value_faults env v) (enums.value_of env v) }
 {
     let options = options_of(alloc, &value.options)?;
-    check_options(alloc, enum_value_table(), &options)?;
+    let bytes = checked_customs(
+        alloc,
+        context,
+        custom,
+        Construct::EnumValue,
+        enum_value_table(),
+        &options,
+    )?;
     Ok(EnumValueDescriptorProto {
         name: value.name.clone()?,
         number: value.number,
-        options: enum_value_options(alloc, &options)?,
+        options: enum_value_options(&options, bytes),
     })
 }
 
 /// What the options of an enum say.
-fn checked_options(
+fn checked_options<C: CustomOptions>(
     alloc: Global,
+    context: &Context<'_>,
+    custom: &C,
     body: &[EnumStatement],
 ) -> Result<Option<EnumOptions>, ElabFailure>
-    ensures { let os = flat_map enums.options_in_enum (map tree.enum_statement_view body.now) in
-        Elaborates (λ o. option_map enum_options_view o) result (options_faults enum_table os) (sets.enum_options nowhere os) }
+    ensures { let env = environment_in (C.customs custom.now) context.now in let os = flat_map enums.options_in_enum (map tree.enum_statement_view body.now) in
+        Elaborates (λ o. option_map enum_options_view o) result (construct_faults env of.Enum enum_table os) (sets.enum_options (customs_bytes env of.Enum os) os) }
 {
     let options = options_in(alloc, body)?;
-    check_options(alloc, enum_table(), &options)?;
-    Ok(enum_options(alloc, &options)?)
+    let bytes = checked_customs(
+        alloc,
+        context,
+        custom,
+        Construct::Enum,
+        enum_table(),
+        &options,
+    )?;
+    Ok(enum_options(&options, bytes))
 }
 
 /// The options of an enum.

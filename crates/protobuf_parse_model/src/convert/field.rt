@@ -3,7 +3,7 @@
 ghost use Rattle.std.specs.Prelude.{◌≡◌, ◌++◌, ◌<◌, ◌^◌, List, [], ◌∷◌, map, flat_map, IfSome, IfOk, option_map, string_bytes};
 ghost use Rattle.std.specs.Borrow.{Bor};
 ghost use Rattle.protobuf_parse_syntax.specs.Trees.{field_view, group_view, option_view, type_view};
-ghost use Rattle.protobuf_parse_model.specs.Contexts.{environment_in, place_view, said_by, said_view};
+ghost use Rattle.protobuf_parse_model.specs.Contexts.{environment_in, place_view, resolved_view, said_by, said_view, names_in};
 ghost use Rattle.protobuf_parse_model.specs.OptionViews.{options_seen};
 ghost use Rattle.protobuf_parse_model.specs.Descriptors as described;
 ghost use Rattle.protobuf_parse_model.specs.Faults.{Elaborates};
@@ -11,31 +11,54 @@ ghost use Rattle.protobuf_parse_model.specs.Fields as fields;
 ghost use Rattle.protobuf_parse_model.specs.Statements as statements;
 
 use crate::convert::options::{
-    check_field_options, default_value, field_options, json_name_of, options_of,
+    checked_field_customs, default_value, field_options, json_name_of, options_of,
 };
 use crate::convert::place::FieldPlace;
 use crate::convert::refuse::fault;
 use crate::convert::types::resolved_type;
+use crate::customs::CustomOptions;
 use crate::descriptor::{FieldDescriptorProto, FieldOptions, FieldType, Label};
 use crate::error::{ElabErrorKind, ElabFailure};
-use crate::scope::{Context, full_name};
+use crate::scope::{Context, ResolvedType, full_name};
 use protobuf_parse_base::text::json_name;
 use protobuf_parse_syntax::{Field, Group, ProtobufOption, Syntax, Type};
 use std::alloc::{AllocError, Global};
 
 /// The descriptor of a field that stands there among oneofs and extensions.
-#[tactic(auto, using(crate::proofs::Blaming::blames_left, crate::proofs::Blaming::blames_right))]
-pub fn field_descriptor(
+pub fn field_descriptor<C: CustomOptions>(
     alloc: Global,
     context: &Context<'_>,
+    custom: &C,
     place: &FieldPlace<'_>,
     field: &Field,
 ) -> Result<FieldDescriptorProto, ElabFailure>
-    ensures { let env = environment_in context.now in let f = field_view field.now in
+    ensures { let env = environment_in (C.customs custom.now) context.now in let f = field_view field.now in
         Elaborates described.field_view result (fields.field_faults env f) (fields.field_of env (place_view place.now) f) }
 {
     let resolved = resolved_type(alloc, context, &field.name, &field.type_)?;
-    let said = field_said(alloc, resolved.kind, &field.name, &field.options)?;
+    field_with(alloc, context, custom, place, field, resolved)
+}
+
+/// The descriptor of a field of that type.
+fn field_with<C: CustomOptions>(
+    alloc: Global,
+    context: &Context<'_>,
+    custom: &C,
+    place: &FieldPlace<'_>,
+    field: &Field,
+    resolved: ResolvedType,
+) -> Result<FieldDescriptorProto, ElabFailure>
+    ensures { let env = environment_in (C.customs custom.now) context.now in let f = field_view field.now in
+        Elaborates described.field_view result (fields.faults_of_options env resolved.kind f.name f.options) (fields.field_with env (place_view place.now) f (resolved_view resolved)) }
+{
+    let said = field_said(
+        alloc,
+        context,
+        custom,
+        resolved.kind,
+        &field.name,
+        &field.options,
+    )?;
     Ok(FieldDescriptorProto {
         name: field.name.clone()?,
         number: field.number,
@@ -60,38 +83,41 @@ pub struct FieldSaid {
 }
 
 /// What the options of a field of that type and name say.
-fn field_said(
+fn field_said<C: CustomOptions>(
     alloc: Global,
+    context: &Context<'_>,
+    custom: &C,
     kind: FieldType,
     name: &str,
     options: &[ProtobufOption],
 ) -> Result<FieldSaid, ElabFailure>
-    ensures { let os = map option_view options.now in
-        Elaborates said_view result (fields.faults_of_options kind name.now os) (said_by kind name.now os) }
+    ensures { let env = environment_in (C.customs custom.now) context.now in let os = map option_view options.now in
+        Elaborates said_view result (fields.faults_of_options env kind name.now os) (said_by env kind name.now os) }
 {
     let options = options_of(alloc, options)?;
-    said_by_options(alloc, kind, name, &options)
+    said_by_options(alloc, context, custom, kind, name, &options)
 }
 
 /// What these options of a field of that type and name say.
 #[tactic(auto, using(crate::proofs::Blaming::blames_left, crate::proofs::Blaming::blames_right))]
-fn said_by_options(
+fn said_by_options<C: CustomOptions>(
     alloc: Global,
+    context: &Context<'_>,
+    custom: &C,
     kind: FieldType,
     name: &str,
     options: &[&ProtobufOption],
 ) -> Result<FieldSaid, ElabFailure>
-    ensures { let os = options_seen options.now in
-        Elaborates said_view result (fields.faults_of_options kind name.now os) (said_by kind name.now os) }
+    ensures { let env = environment_in (C.customs custom.now) context.now in let os = options_seen options.now in
+        Elaborates said_view result (fields.faults_of_options env kind name.now os) (said_by env kind name.now os) }
 {
     let default_value = default_value(alloc, kind, name, options)?;
     let json_name = json_name_of(alloc, name, options)?;
-    check_field_options(alloc, options)?;
-    let options = field_options(alloc, options)?;
+    let bytes = checked_field_customs(alloc, context, custom, options)?;
     Ok(FieldSaid {
         default_value,
         json_name,
-        options,
+        options: field_options(options, bytes),
     })
 }
 
@@ -103,7 +129,7 @@ pub fn group_field(
     group: &Group,
 ) -> Result<FieldDescriptorProto, AllocError>
     ensures { IfOk result (λ d. let g = group_view group.now in
-        described.field_view d ≡ fields.group_field (environment_in context.now) (place_view place.now) g.label g.name g.number) }
+        described.field_view d ≡ fields.group_field (names_in context.now) (place_view place.now) g.label g.name g.number) }
 {
     let name = group_field_name(alloc, &group.name)?;
     let json_name = json_name(alloc, &name)?;

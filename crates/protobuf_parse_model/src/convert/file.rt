@@ -1,43 +1,43 @@
 //! Files.
 
-ghost use Rattle.std.specs.Prelude.{◌≡◌, ◌++◌, ◌<◌, ◌^◌, length, map, flat_map, option_map, string_bytes, IfOk};
-ghost use Rattle.std.specs.Borrow.{Bor};
-ghost use Rattle.protobuf_parse_syntax.specs.Dependencies as dependencies;
-ghost use Rattle.protobuf_parse_syntax.specs.Trees.{file_view, import_view, package_of, statement_view};
-ghost use Rattle.protobuf_parse_syntax.specs.declared.tree.Import.{Import};
-ghost use Rattle.protobuf_parse_model.specs.BuiltinOptions.{file_table, options_faults};
+ghost use Rattle.std.specs.Prelude.{◌≡◌, ◌++◌, ◌≤◌, map, flat_map, option_map, string_bytes, IfOk};
+ghost use Rattle.protobuf_parse_syntax.specs.Counts.{statements_in};
+ghost use Rattle.protobuf_parse_syntax.specs.Trees.{file_view, package_of, statement_view};
+ghost use Rattle.protobuf_parse_model.specs.BuiltinOptions.{file_table};
+ghost use Rattle.protobuf_parse_model.specs.ConstructOptions.{construct_faults};
 ghost use Rattle.protobuf_parse_model.specs.Contexts.{environment_in, environment_of_file};
 ghost use Rattle.protobuf_parse_model.specs.Descriptors as described;
 ghost use Rattle.protobuf_parse_model.specs.Faults.{Elaborates};
-ghost use Rattle.protobuf_parse_model.specs.FileDescriptor.{file_faults, file_of, options_in_file, syntax_text};
-ghost use Rattle.protobuf_parse_model.specs.OptionViews.{nowhere, options_seen};
+ghost use Rattle.protobuf_parse_model.specs.FileDescriptor.{file_faults, file_of, options_in_file, options_of_statements, syntax_text};
+ghost use Rattle.protobuf_parse_model.specs.Environment.{customs_bytes};
+ghost use Rattle.protobuf_parse_model.specs.OptionViews.{options_seen};
 ghost use Rattle.protobuf_parse_model.specs.Options.{file_options_view};
 ghost use Rattle.protobuf_parse_model.specs.OptionsSet as sets;
-ghost use Rattle.protobuf_parse_model.specs.Unsupported.{imports_beyond_positions, unsupported_in, unsupported_statement};
+ghost use Rattle.protobuf_parse_model.specs.declared.customs.Construct.TheVariants as of;
 
 use crate::convert::contents::contents_of;
-use crate::convert::customs::refuse_customs;
-use crate::convert::imports::{check_number, import_lists, imports};
-use crate::convert::options::{check_options, file_options, file_table};
+use crate::convert::options::{checked_customs, file_options, file_table};
+use crate::customs::{Construct, CustomOptions};
 use crate::descriptor::{FileDescriptorProto, FileOptions};
 use crate::error::ElabFailure;
 use crate::scope::{Context, Seen, package_scope};
-use protobuf_parse_syntax::{FileStatement, FileTree, Import, ProtobufOption, Syntax};
+use protobuf_parse_syntax::{FileStatement, FileTree, ProtobufOption, Syntax, imports_of};
 use std::alloc::{AllocError, Global};
 
 /// The descriptor of a file that is known by the path `name`, by what it sees.
 ///
 /// E1 where two messages, enums, extensions or services of the file have one name, the faults of its options
-/// and those inside what it declares; Unsupported where it sets a custom option. Where several faults stand,
-/// any one of them is told.
-pub fn file_descriptor(
+/// and those inside what it declares. Where several faults stand, any one of them is told.
+pub fn file_descriptor<C: CustomOptions>(
     alloc: Global,
     name: &str,
     tree: &FileTree,
     seen: &Seen<'_>,
+    custom: &C,
 ) -> Result<FileDescriptorProto, ElabFailure>
-    ensures { let t = file_view tree.now in let env = environment_of_file seen.now t in
-        Elaborates described.file_view result (unsupported_in t ++ file_faults env t) (file_of env name.now t) }
+    requires few { statements_in (file_view tree.now) ≤ 2147483647 }
+    ensures { let t = file_view tree.now in let env = environment_of_file (C.customs custom.now) seen.now t in
+        Elaborates described.file_view result (file_faults env t) (file_of env name.now t) }
 {
     let scope = package_scope(alloc, tree)?;
     let context = Context {
@@ -45,32 +45,33 @@ pub fn file_descriptor(
         seen: *seen,
         scope: &scope,
     };
-    descriptor_in(alloc, &context, name, tree)
+    descriptor_in(alloc, &context, custom, name, tree)
 }
 
 /// The descriptor of a file, of which each construct is seen from the context.
 #[tactic(auto, using(crate::proofs::Blaming::blames_left, crate::proofs::Blaming::blames_right))]
-fn descriptor_in(
+fn descriptor_in<C: CustomOptions>(
     alloc: Global,
     context: &Context<'_>,
+    custom: &C,
     name: &str,
     tree: &FileTree,
 ) -> Result<FileDescriptorProto, ElabFailure>
-    ensures { let t = file_view tree.now in let env = environment_in context.now in
-        Elaborates described.file_view result (unsupported_in t ++ file_faults env t) (file_of env name.now t) }
+    requires few { statements_in (file_view tree.now) ≤ 2147483647 }
+    ensures { let t = file_view tree.now in let env = environment_in (C.customs custom.now) context.now in
+        Elaborates described.file_view result (file_faults env t) (file_of env name.now t) }
 {
-    let imports = supported_imports(alloc, &tree.statements)?;
-    let contents = contents_of(alloc, context, &tree.statements)?;
-    let options = checked_options(alloc, &tree.statements)?;
+    let contents = contents_of(alloc, context, custom, &tree.statements)?;
+    let options = checked_options(alloc, context, custom, &tree.statements)?;
     let heading = heading_of(alloc, name, tree)?;
-    let lists = import_lists(alloc, &imports)?;
+    let imports = imports_of(alloc, &tree.statements)?;
     Ok(FileDescriptorProto {
         name: Some(heading.name),
-        package: heading.package,
+        package: heading.package_name,
         syntax: Some(heading.syntax),
-        dependency: lists.dependency,
-        public_dependency: lists.public_dependency,
-        weak_dependency: lists.weak_dependency,
+        dependency: imports.dependency,
+        public_dependency: imports.public_dependency,
+        weak_dependency: imports.weak_dependency,
         message_type: contents.message_type,
         enum_type: contents.enum_type,
         service: contents.service,
@@ -84,53 +85,46 @@ fn descriptor_in(
 struct Heading {
     name: String,
     syntax: String,
-    package: Option<String>,
+    package_name: Option<String>,
 }
 
 /// The path that a file is known by, its syntax and its package.
 fn heading_of(alloc: Global, name: &str, tree: &FileTree) -> Result<Heading, AllocError>
     ensures name { IfOk result (λ h. string_bytes h.name ≡ name.now) }
     ensures syntax { IfOk result (λ h. string_bytes h.syntax ≡ syntax_text tree.now.syntax) }
-    ensures package { IfOk result (λ h. option_map string_bytes h.package ≡ package_of (file_view tree.now)) }
+    ensures package_name { IfOk result (λ h. option_map string_bytes h.package_name ≡ package_of (file_view tree.now)) }
 {
     let name = String::from_str(alloc, name)?;
     let syntax = String::from_str(alloc, syntax_text(tree.syntax))?;
-    let package = package_of(alloc, tree)?;
+    let package_name = package_of(alloc, tree)?;
     Ok(Heading {
         name,
         syntax,
-        package,
+        package_name,
     })
-}
-
-/// The imports of a file, each of which has a position, where the file sets no custom option.
-#[tactic(auto, using(crate::proofs::Blaming::blames_left, crate::proofs::Blaming::blames_right))]
-fn supported_imports(
-    alloc: Global,
-    statements: &[FileStatement],
-) -> Result<Vec<&Import>, ElabFailure>
-    ensures told { let ss = map statement_view statements.now in
-        Elaborates (λ v. map (λ (i : Bor Import). import_view i.now) v.items) result (imports_beyond_positions (length (dependencies.imports ss)) ++ flat_map unsupported_statement ss) (dependencies.imports ss) }
-    ensures few { IfOk result (λ v. length v.items < 2 ^ 31) }
-{
-    let imports = imports(alloc, statements)?;
-    check_number(alloc, &imports)?;
-    refuse_customs(alloc, statements)?;
-    Ok(imports)
 }
 
 /// What the options of a file set, and the faults in them.
 #[tactic(auto, using(crate::proofs::Blaming::blames_left, crate::proofs::Blaming::blames_right))]
-fn checked_options(
+fn checked_options<C: CustomOptions>(
     alloc: Global,
+    context: &Context<'_>,
+    custom: &C,
     statements: &[FileStatement],
 ) -> Result<Option<FileOptions>, ElabFailure>
-    ensures { let os = flat_map options_in_file (map statement_view statements.now) in
-        Elaborates (λ o. option_map file_options_view o) result (options_faults file_table os) (sets.file_options nowhere os) }
+    ensures { let env = environment_in (C.customs custom.now) context.now in let os = options_of_statements (map statement_view statements.now) in
+        Elaborates (λ o. option_map file_options_view o) result (construct_faults env of.File file_table os) (sets.file_options (customs_bytes env of.File os) os) }
 {
     let options = options_in(alloc, statements)?;
-    check_options(alloc, file_table(), &options)?;
-    Ok(file_options(alloc, &options)?)
+    let bytes = checked_customs(
+        alloc,
+        context,
+        custom,
+        Construct::File,
+        file_table(),
+        &options,
+    )?;
+    Ok(file_options(alloc, &options, bytes)?)
 }
 
 /// The options of a file.

@@ -2,7 +2,7 @@
 
 ghost use Rattle.std.specs.Prelude.{◌≡◌, ◌++◌, pos, ℤ, List, [], ◌∷◌, map, flat_map, option_map, option_to_list, string_bytes, IfOk};
 ghost use Rattle.protobuf_parse_syntax.specs.Trees.{field_statement_view, field_view, group_view, type_view};
-ghost use Rattle.protobuf_parse_model.specs.Contexts.{environment_in, resolved_view};
+ghost use Rattle.protobuf_parse_model.specs.Contexts.{environment_in, resolved_view, names_in};
 ghost use Rattle.protobuf_parse_model.specs.Descriptors as described;
 ghost use Rattle.protobuf_parse_model.specs.Duplicates.{duplicates};
 ghost use Rattle.protobuf_parse_model.specs.Faults.{Elaborates};
@@ -15,6 +15,7 @@ use crate::convert::names::names_of_fields;
 use crate::convert::place::FieldPlace;
 use crate::convert::refuse::{check_unique, fault};
 use crate::convert::types::{check_type_name, entry_name, inner_type};
+use crate::customs::CustomOptions;
 use crate::descriptor::{DescriptorProto, FieldDescriptorProto, Label, MessageOptions};
 use crate::error::{ElabErrorKind, ElabFailure};
 use crate::scope::{Context, ResolvedType};
@@ -28,7 +29,7 @@ pub fn map_entry(
     name: &str,
     type_: &Type,
 ) -> Result<Option<DescriptorProto>, ElabFailure>
-    ensures { let env = environment_in context.now in
+    ensures { let env = names_in context.now in
         Elaborates (λ m. map described.message_view (option_to_list m)) result (fields.type_faults env name.now (type_view type_.now)) (messages.entries_of env name.now (type_view type_.now)) }
 {
     match type_ {
@@ -50,7 +51,7 @@ fn entry(
     key: &Type,
     value: &Type,
 ) -> Result<DescriptorProto, ElabFailure>
-    ensures { let env = environment_in context.now in let k = type_view key.now in let v = type_view value.now in
+    ensures { let env = names_in context.now in let k = type_view key.now in let v = type_view value.now in
         Elaborates described.message_view result (fields.inner_type_faults env name.now k ++ fields.inner_type_faults env name.now v) (messages.entry_of env name.now k v) }
 {
     let key = inner_type(alloc, context, name, key)?;
@@ -128,47 +129,50 @@ fn message_with(
 
 /// The message of a group.
 #[tactic(auto, using(crate::proofs::Blaming::blames_left, crate::proofs::Blaming::blames_right))]
-pub fn group_message(
+pub fn group_message<C: CustomOptions>(
     alloc: Global,
     context: &Context<'_>,
+    custom: &C,
     group: &Group,
 ) -> Result<DescriptorProto, ElabFailure>
-    ensures { let env = environment_in context.now in let g = group_view group.now in
+    ensures { let env = environment_in (C.customs custom.now) context.now in let g = group_view group.now in
         Elaborates described.message_view result (fields.group_faults env g.fields) (messages.group_message env g.name g.fields) }
 {
-    let field = grouped_fields(alloc, context, &group.fields)?;
+    let field = grouped_fields(alloc, context, custom, &group.fields)?;
     check_unique(alloc, &names_of_fields(alloc, &field)?)?;
     Ok(message_with(alloc, group.name.clone()?, field, None))
 }
 
 /// The fields of a group.
 #[tactic(auto, using(crate::proofs::Blaming::blames_at))]
-fn grouped_fields(
+fn grouped_fields<C: CustomOptions>(
     alloc: Global,
     context: &Context<'_>,
+    custom: &C,
     statements: &[FieldStatement],
 ) -> Result<Vec<FieldDescriptorProto>, ElabFailure>
-    ensures { let env = environment_in context.now in let ss = map field_statement_view statements.now in
+    ensures { let env = environment_in (C.customs custom.now) context.now in let ss = map field_statement_view statements.now in
         Elaborates (λ v. map described.field_view v.items) result (flat_map (fields.grouped_faults env) ss) (map (fields.field_statement_of env fields.plain) ss) }
 {
     let mut fields = Vec::new(alloc);
     for statement in statements {
-        fields.push(grouped_field(alloc, context, statement)?)?;
+        fields.push(grouped_field(alloc, context, custom, statement)?)?;
     }
     Ok(fields)
 }
 
 /// A field of a group. E4 for a map and for a group.
-fn grouped_field(
+fn grouped_field<C: CustomOptions>(
     alloc: Global,
     context: &Context<'_>,
+    custom: &C,
     statement: &FieldStatement,
 ) -> Result<FieldDescriptorProto, ElabFailure>
-    ensures { let env = environment_in context.now in let s = field_statement_view statement.now in
+    ensures { let env = environment_in (C.customs custom.now) context.now in let s = field_statement_view statement.now in
         Elaborates described.field_view result (fields.grouped_faults env s) (fields.field_statement_of env fields.plain s) }
 {
     match statement {
-        FieldStatement::Field(field) => grouped_plain(alloc, context, field),
+        FieldStatement::Field(field) => grouped_plain(alloc, context, custom, field),
         FieldStatement::Group(group) => {
             let name = group_field_name(alloc, &group.name)?;
             Err(fault(alloc, ElabErrorKind::DanglingTypeName, &name))
@@ -178,12 +182,13 @@ fn grouped_field(
 
 /// A field of a group, which is no group.
 #[tactic(auto, using(crate::proofs::Blaming::blames_left, crate::proofs::Blaming::blames_right))]
-fn grouped_plain(
+fn grouped_plain<C: CustomOptions>(
     alloc: Global,
     context: &Context<'_>,
+    custom: &C,
     field: &Field,
 ) -> Result<FieldDescriptorProto, ElabFailure>
-    ensures { let env = environment_in context.now in let f = field_view field.now in
+    ensures { let env = environment_in (C.customs custom.now) context.now in let f = field_view field.now in
         Elaborates described.field_view result (fields.map_faults f ++ fields.field_faults env f) (fields.field_of env fields.plain f) }
 {
     check_no_map(alloc, field)?;
@@ -191,5 +196,5 @@ fn grouped_plain(
         extendee: None,
         oneof_index: None,
     };
-    field_descriptor(alloc, context, &place, field)
+    field_descriptor(alloc, context, custom, &place, field)
 }

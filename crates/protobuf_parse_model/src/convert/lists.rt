@@ -11,6 +11,7 @@ ghost use Rattle.protobuf_parse_model.specs.Statements.{oneof_fields};
 use crate::convert::place::FieldPlace;
 use crate::convert::statement::{DeclaredField, declared_extension, declared_field};
 use crate::convert::types::type_full_name;
+use crate::customs::CustomOptions;
 use crate::descriptor::{DescriptorProto, FieldDescriptorProto};
 use crate::error::ElabFailure;
 use crate::scope::Context;
@@ -25,17 +26,18 @@ pub struct DeclaredFields {
 }
 
 /// What the statements of a oneof declare, which stands at that place among the oneofs.
-pub fn fields_of_oneof(
+pub fn fields_of_oneof<C: CustomOptions>(
     alloc: Global,
     context: &Context<'_>,
+    custom: &C,
     place: &FieldPlace<'_>,
     oneof: &OneOf,
 ) -> Result<DeclaredFields, ElabFailure>
-    ensures { let env = environment_in context.now in let ss = flat_map oneof_fields (oneof_view oneof.now).body in
+    ensures { let env = environment_in (C.customs custom.now) context.now in let ss = flat_map oneof_fields (oneof_view oneof.now).body in
         Elaborates fields_view result (flat_map (field_statement_faults env) ss) (fields_declared env (place_view place.now) ss) }
 {
     let statements = fields_in(alloc, &oneof.body)?;
-    declared_fields(alloc, context, place, &statements)
+    declared_fields(alloc, context, custom, place, &statements)
 }
 
 /// The statements of a oneof that declare fields.
@@ -53,19 +55,20 @@ fn fields_in(alloc: Global, body: &[OneOfStatement]) -> Result<Vec<&FieldStateme
 
 /// What these statements declare.
 #[tactic(auto, using(crate::proofs::Blaming::blames_at))]
-fn declared_fields(
+fn declared_fields<C: CustomOptions>(
     alloc: Global,
     context: &Context<'_>,
+    custom: &C,
     place: &FieldPlace<'_>,
     statements: &[&FieldStatement],
 ) -> Result<DeclaredFields, ElabFailure>
-    ensures { let env = environment_in context.now in let ss = statements_seen statements.now in
+    ensures { let env = environment_in (C.customs custom.now) context.now in let ss = statements_seen statements.now in
         Elaborates fields_view result (flat_map (field_statement_faults env) ss) (fields_declared env (place_view place.now) ss) }
 {
     let mut fields = Vec::new(alloc);
     let mut behind = Vec::new(alloc);
     for statement in statements {
-        let declared = declared_field(alloc, context, place, statement)?;
+        let declared = declared_field(alloc, context, custom, place, statement)?;
         fields.push(declared.field)?;
         push_behind(&mut behind, declared.behind)?;
     }
@@ -74,19 +77,20 @@ fn declared_fields(
 
 /// What the statements of an `extend` declare.
 #[tactic(auto, using(crate::proofs::Blaming::blames_at))]
-pub fn fields_of_extend(
+pub fn fields_of_extend<C: CustomOptions>(
     alloc: Global,
     context: &Context<'_>,
+    custom: &C,
     extendee: &str,
     statements: &[FieldStatement],
 ) -> Result<DeclaredFields, ElabFailure>
-    ensures { let env = environment_in context.now in let ss = map field_statement_view statements.now in
+    ensures { let env = environment_in (C.customs custom.now) context.now in let ss = map field_statement_view statements.now in
         Elaborates fields_view result (flat_map (extension_faults_of env extendee.now) ss) (fields_declared env (extending env extendee.now) ss) }
 {
     let mut fields = Vec::new(alloc);
     let mut behind = Vec::new(alloc);
     for statement in statements {
-        let declared = extension(alloc, context, extendee, statement)?;
+        let declared = extension(alloc, context, custom, extendee, statement)?;
         fields.push(declared.field)?;
         push_behind(&mut behind, declared.behind)?;
     }
@@ -96,13 +100,14 @@ pub fn fields_of_extend(
 /// What a statement of an `extend` declares. E2 or E3 where the name of the message that is extended
 /// means none.
 #[tactic(auto, using(crate::proofs::Blaming::blames_left, crate::proofs::Blaming::blames_right))]
-fn extension(
+fn extension<C: CustomOptions>(
     alloc: Global,
     context: &Context<'_>,
+    custom: &C,
     extendee: &str,
     statement: &FieldStatement,
 ) -> Result<DeclaredField, ElabFailure>
-    ensures { let env = environment_in context.now in let s = field_statement_view statement.now in
+    ensures { let env = environment_in (C.customs custom.now) context.now in let s = field_statement_view statement.now in
         Elaborates declared_view result (extension_faults_of env extendee.now s) (declared_by env (extending env extendee.now) s) }
 {
     let extendee = type_full_name(alloc, context, extendee)?;
@@ -110,7 +115,7 @@ fn extension(
         extendee: Some(&extendee),
         oneof_index: None,
     };
-    declared_extension(alloc, context, &place, statement)
+    declared_extension(alloc, context, custom, &place, statement)
 }
 
 /// Adds the message behind a field, if one stands there.

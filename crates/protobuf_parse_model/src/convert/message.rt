@@ -1,6 +1,7 @@
 //! Messages.
 
-ghost use Rattle.std.specs.Prelude.{◌≡◌, ◌++◌, ◌<◌, ◌^◌, List, [], ◌∷◌, length, map, flat_map, string_bytes, IfOk};
+ghost use Rattle.std.specs.Prelude.{◌≡◌, ◌++◌, ◌<◌, ◌≤◌, ◌^◌, List, [], ◌∷◌, length, map, flat_map, string_bytes, sum_by, IfOk};
+ghost use Rattle.protobuf_parse_syntax.specs.Counts.{in_message, message_statement_count};
 ghost use Rattle.protobuf_parse_syntax.specs.Trees.{message_statement_view, message_view};
 ghost use Rattle.protobuf_parse_model.specs.Contexts as contexts;
 ghost use Rattle.protobuf_parse_model.specs.Contexts.{body_view, environment_in, names_faults, texts, with_statement};
@@ -12,10 +13,10 @@ ghost use Rattle.protobuf_parse_model.specs.Messages as messages;
 
 use crate::convert::body::{Body, add_enum, add_extend, add_field, add_oneof};
 use crate::convert::names::{unlike_enums, unlike_fields, unlike_messages, unlike_oneofs};
-use crate::convert::refuse::fault;
 use crate::convert::rest::{Rest, rest_of_message};
+use crate::customs::CustomOptions;
 use crate::descriptor::DescriptorProto;
-use crate::error::{ElabErrorKind, ElabFailure};
+use crate::error::ElabFailure;
 use crate::scope::Context;
 use protobuf_parse_syntax::{Message, MessageStatement};
 use std::alloc::{AllocError, Global};
@@ -25,46 +26,51 @@ use std::alloc::{AllocError, Global};
 /// E1 where two fields, oneofs, extensions, enums or messages of one body have one name, E7 where a range
 /// ends at the largest number, and the faults of what stands in it.
 #[cycle(message)]
-pub fn message_descriptor(
+pub fn message_descriptor<C: CustomOptions>(
     alloc: Global,
     context: &Context<'_>,
+    custom: &C,
     message: &Message,
 ) -> Result<DescriptorProto, ElabFailure>
-    ensures { let env = environment_in context.now in let m = message_view message.now in
+    requires few { in_message (message_view message.now) ≤ 2147483647 }
+    ensures { let env = environment_in (C.customs custom.now) context.now in let m = message_view message.now in
         Elaborates described.message_view result (messages.message_faults env m) (messages.message_of env m) }
 {
-    message_of_body(alloc, context, &message.name, &message.body)
+    message_of_body(alloc, context, custom, &message.name, &message.body)
 }
 
 /// The descriptor of the message of that name and body.
 #[cycle(message)]
-fn message_of_body(
+fn message_of_body<C: CustomOptions>(
     alloc: Global,
     context: &Context<'_>,
+    custom: &C,
     name: &str,
     body: &[MessageStatement],
 ) -> Result<DescriptorProto, ElabFailure>
-    ensures { let env = environment_in context.now in let ss = map message_statement_view body.now in
+    requires few { sum_by message_statement_count (map message_statement_view body.now) ≤ 2147483647 }
+    ensures { let env = environment_in (C.customs custom.now) context.now in let ss = map message_statement_view body.now in
         Elaborates described.message_view result (messages.faults_of_body env name.now ss) (messages.message_of_body env name.now ss) }
 {
-    check_positions(alloc, name, body)?;
-    let parts = body_inside(alloc, context, name, body)?;
-    finished(alloc, name, body, parts)
+    let parts = body_inside(alloc, context, custom, name, body)?;
+    finished(alloc, context, custom, name, body, parts)
 }
 
 /// The message of that name, body and parts, once its names, ranges and options are checked.
 #[tactic(auto, using(crate::proofs::Blaming::blames_left, crate::proofs::Blaming::blames_right))]
-fn finished(
+fn finished<C: CustomOptions>(
     alloc: Global,
+    context: &Context<'_>,
+    custom: &C,
     name: &str,
     body: &[MessageStatement],
     parts: Body,
 ) -> Result<DescriptorProto, ElabFailure>
-    ensures { let ss = map message_statement_view body.now in
-        Elaborates described.message_view result (names_faults (body_view parts) ++ messages.rest_faults name.now ss) (contexts.message_with name.now (body_view parts) (contexts.rest_of ss)) }
+    ensures { let env = environment_in (C.customs custom.now) context.now in let ss = map message_statement_view body.now in
+        Elaborates described.message_view result (names_faults (body_view parts) ++ messages.rest_faults env name.now ss) (contexts.message_with name.now (body_view parts) (contexts.rest_of env ss)) }
 {
     check_names(alloc, &parts)?;
-    let rest = rest_of_message(alloc, name, body)?;
+    let rest = rest_of_message(alloc, context, custom, name, body)?;
     let name = String::from_str(alloc, name)?;
     Ok(assembled(name, parts, rest))
 }
@@ -84,18 +90,6 @@ fn assembled(name: String, body: Body, rest: Rest) -> DescriptorProto
         reserved_range: rest.reserved_range,
         reserved_name: rest.reserved_name,
         options: rest.options,
-    }
-}
-
-/// Refuses a body of more statements than a oneof has positions.
-fn check_positions(alloc: Global, name: &str, body: &[MessageStatement]) -> Result<(), ElabFailure>
-    ensures told { Elaborates (λ u. u) result (messages.positions_faults name.now (length body.now)) tt }
-    ensures small { IfOk result (λ _. length body.now < 2 ^ 31) }
-{
-    if body.len() < 0x8000_0000 {
-        Ok(())
-    } else {
-        Err(fault(alloc, ElabErrorKind::Unsupported, name))
     }
 }
 
@@ -127,14 +121,15 @@ fn scope_inside<'a>(
 
 /// What the statements inside the message of that name declare.
 #[cycle(message)]
-fn body_inside(
+fn body_inside<C: CustomOptions>(
     alloc: Global,
     context: &Context<'_>,
+    custom: &C,
     name: &str,
     body: &[MessageStatement],
 ) -> Result<Body, ElabFailure>
-    requires { length body.now < 2 ^ 31 }
-    ensures { let env = inside (environment_in context.now) name.now in let ss = map message_statement_view body.now in
+    requires few { sum_by message_statement_count (map message_statement_view body.now) ≤ 2147483647 }
+    ensures { let env = inside (environment_in (C.customs custom.now) context.now) name.now in let ss = map message_statement_view body.now in
         Elaborates body_view result (flat_map (messages.statement_faults env) ss) (contexts.body_of env ss) }
 {
     let scope = scope_inside(alloc, context.scope, name)?;
@@ -143,19 +138,20 @@ fn body_inside(
         seen: context.seen,
         scope: &scope,
     };
-    body_of(alloc, &inner, body)
+    body_of(alloc, &inner, custom, body)
 }
 
 /// What the statements of a body declare, seen from there.
 #[cycle(message)]
 #[tactic(auto, using(crate::proofs::Blaming::blames_at))]
-fn body_of(
+fn body_of<C: CustomOptions>(
     alloc: Global,
     context: &Context<'_>,
+    custom: &C,
     statements: &[MessageStatement],
 ) -> Result<Body, ElabFailure>
-    requires { length statements.now < 2 ^ 31 }
-    ensures { let env = environment_in context.now in let ss = map message_statement_view statements.now in
+    requires few { sum_by message_statement_count (map message_statement_view statements.now) ≤ 2147483647 }
+    ensures { let env = environment_in (C.customs custom.now) context.now in let ss = map message_statement_view statements.now in
         Elaborates body_view result (flat_map (messages.statement_faults env) ss) (contexts.body_of env ss) }
 {
     let mut body = Body {
@@ -166,29 +162,31 @@ fn body_of(
         extension: Vec::new(alloc),
     };
     for statement in statements {
-        add_statement(alloc, context, &mut body, statement)?;
+        add_statement(alloc, context, custom, &mut body, statement)?;
     }
     Ok(body)
 }
 
 /// Adds what a statement declares.
 #[cycle(message)]
-fn add_statement(
+fn add_statement<C: CustomOptions>(
     alloc: Global,
     context: &Context<'_>,
+    custom: &C,
     body: &mut Body,
     statement: &MessageStatement,
 ) -> Result<(), ElabFailure>
-    requires { length body.old.oneof_decl.items < 2 ^ 31 }
-    ensures { let env = environment_in context.now in let s = message_statement_view statement.now in
+    requires places { length body.old.oneof_decl.items < 2 ^ 31 }
+    requires few { message_statement_count (message_statement_view statement.now) ≤ 2147483647 }
+    ensures { let env = environment_in (C.customs custom.now) context.now in let s = message_statement_view statement.now in
         Elaborates (λ _. body_view body.new) result (messages.statement_faults env s) (with_statement env (body_view body.old) s) }
 {
     match statement {
-        MessageStatement::Field(field) => add_field(alloc, context, body, field),
-        MessageStatement::OneOf(oneof) => add_oneof(alloc, context, body, oneof),
-        MessageStatement::Extend(extend) => add_extend(alloc, context, body, extend),
-        MessageStatement::Message(message) => add_message(alloc, context, body, message),
-        MessageStatement::Enumeration(inner) => add_enum(alloc, context, body, inner),
+        MessageStatement::Field(field) => add_field(alloc, context, custom, body, field),
+        MessageStatement::OneOf(oneof) => add_oneof(alloc, context, custom, body, oneof),
+        MessageStatement::Extend(extend) => add_extend(alloc, context, custom, body, extend),
+        MessageStatement::Message(message) => add_message(alloc, context, custom, body, message),
+        MessageStatement::Enumeration(inner) => add_enum(alloc, context, custom, body, inner),
         MessageStatement::Reserved(_)
         | MessageStatement::Extensions(_)
         | MessageStatement::Option(_) => Ok(()),
@@ -197,15 +195,17 @@ fn add_statement(
 
 /// Adds a message inside this one.
 #[cycle(message)]
-fn add_message(
+fn add_message<C: CustomOptions>(
     alloc: Global,
     context: &Context<'_>,
+    custom: &C,
     body: &mut Body,
     message: &Message,
 ) -> Result<(), ElabFailure>
-    ensures { let env = environment_in context.now in let m = message_view message.now in
+    requires few { in_message (message_view message.now) ≤ 2147483647 }
+    ensures { let env = environment_in (C.customs custom.now) context.now in let m = message_view message.now in
         Elaborates (λ _. body_view body.new) result (messages.message_faults env m) (contexts.with_message (body_view body.old) (messages.message_of env m)) }
 {
-    let nested = message_descriptor(alloc, context, message)?;
+    let nested = message_descriptor(alloc, context, custom, message)?;
     Ok(body.nested_type.push(nested)?)
 }

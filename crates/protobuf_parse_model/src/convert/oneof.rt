@@ -2,18 +2,22 @@
 
 ghost use Rattle.std.specs.Prelude.{◌≡◌, ◌++◌, codes, map, flat_map, option_map, IfOk};
 ghost use Rattle.protobuf_parse_syntax.specs.Trees.{field_statement_view, oneof_statement_view, oneof_view};
-ghost use Rattle.protobuf_parse_model.specs.BuiltinOptions.{oneof_table, options_faults};
-ghost use Rattle.protobuf_parse_model.specs.Contexts.{environment_in};
+ghost use Rattle.protobuf_parse_model.specs.BuiltinOptions.{oneof_table};
+ghost use Rattle.protobuf_parse_model.specs.ConstructOptions.{construct_faults};
+ghost use Rattle.protobuf_parse_model.specs.Contexts.{environment_in, names_in};
+ghost use Rattle.protobuf_parse_model.specs.Environment.{customs_bytes};
+ghost use Rattle.protobuf_parse_model.specs.declared.customs.Construct.TheVariants as of;
 ghost use Rattle.protobuf_parse_model.specs.Descriptors as described;
 ghost use Rattle.protobuf_parse_model.specs.Faults.{Elaborates};
 ghost use Rattle.protobuf_parse_model.specs.Messages as messages;
-ghost use Rattle.protobuf_parse_model.specs.OptionViews.{nowhere, options_seen};
+ghost use Rattle.protobuf_parse_model.specs.OptionViews.{options_seen};
 ghost use Rattle.protobuf_parse_model.specs.Options.{oneof_options_view};
 ghost use Rattle.protobuf_parse_model.specs.OptionsSet as sets;
 ghost use Rattle.protobuf_parse_model.specs.Statements as statements;
 
 use crate::convert::field::says_optional;
-use crate::convert::options::{check_options, oneof_options, oneof_table};
+use crate::convert::options::{checked_customs, oneof_options, oneof_table};
+use crate::customs::{Construct, CustomOptions};
 use crate::descriptor::{OneofDescriptorProto, OneofOptions};
 use crate::error::ElabFailure;
 use crate::scope::Context;
@@ -21,15 +25,16 @@ use protobuf_parse_syntax::{FieldStatement, OneOf, OneOfStatement, ProtobufOptio
 use std::alloc::{AllocError, Global};
 
 /// The descriptor of a oneof. Its fields stand apart from it.
-pub fn oneof_descriptor(
+pub fn oneof_descriptor<C: CustomOptions>(
     alloc: Global,
     context: &Context<'_>,
+    custom: &C,
     oneof: &OneOf,
 ) -> Result<OneofDescriptorProto, ElabFailure>
-    ensures { let o = oneof_view oneof.now in
-        Elaborates described.oneof_view result (options_faults oneof_table (messages.options_in_oneof o)) (messages.oneof_of (environment_in context.now) o) }
+    ensures { let env = environment_in (C.customs custom.now) context.now in let o = oneof_view oneof.now in
+        Elaborates described.oneof_view result (construct_faults env of.Oneof oneof_table (messages.options_in_oneof o)) (messages.oneof_of env o) }
 {
-    let options = checked_options(alloc, &oneof.body)?;
+    let options = checked_options(alloc, context, custom, &oneof.body)?;
     Ok(OneofDescriptorProto {
         name: oneof.name.clone()?,
         options,
@@ -37,16 +42,25 @@ pub fn oneof_descriptor(
 }
 
 /// What the options of a oneof say.
-fn checked_options(
+fn checked_options<C: CustomOptions>(
     alloc: Global,
+    context: &Context<'_>,
+    custom: &C,
     body: &[OneOfStatement],
 ) -> Result<Option<OneofOptions>, ElabFailure>
-    ensures { let os = flat_map statements.oneof_options (map oneof_statement_view body.now) in
-        Elaborates (λ o. option_map oneof_options_view o) result (options_faults oneof_table os) (sets.oneof_options nowhere os) }
+    ensures { let env = environment_in (C.customs custom.now) context.now in let os = flat_map statements.oneof_options (map oneof_statement_view body.now) in
+        Elaborates (λ o. option_map oneof_options_view o) result (construct_faults env of.Oneof oneof_table os) (sets.oneof_options (customs_bytes env of.Oneof os) os) }
 {
     let options = options_in(alloc, body)?;
-    check_options(alloc, oneof_table(), &options)?;
-    Ok(oneof_options(alloc, &options)?)
+    let bytes = checked_customs(
+        alloc,
+        context,
+        custom,
+        Construct::Oneof,
+        oneof_table(),
+        &options,
+    )?;
+    Ok(oneof_options(&options, bytes))
 }
 
 /// The options of a oneof.
@@ -64,7 +78,7 @@ fn options_in(alloc: Global, body: &[OneOfStatement]) -> Result<Vec<&ProtobufOpt
 
 /// Whether the field is alone in a oneof of its own: in proto3 with the label `optional`.
 pub fn has_own_oneof(context: &Context<'_>, statement: &FieldStatement) -> bool
-    ensures { result ≡ messages.has_own_oneof (environment_in context.now) (field_statement_view statement.now) }
+    ensures { result ≡ messages.has_own_oneof (names_in context.now) (field_statement_view statement.now) }
 {
     match statement {
         FieldStatement::Field(field) => says_optional(context.syntax, field.label),

@@ -11,7 +11,7 @@ ghost use Rattle.std.specs.Prelude.{◌≡◌, map, IfOk};
 ghost use Rattle.protobuf_parse_syntax.specs.Trees.{option_view};
 ghost use Rattle.protobuf_parse_model.specs.OptionViews.{options_seen};
 
-pub use check::{check_field_options, check_options};
+pub use check::{checked_customs, checked_field_customs};
 use protobuf_parse_syntax::ProtobufOption;
 pub use sets::{
     enum_options, enum_value_options, field_options, file_options, message_options, method_options,

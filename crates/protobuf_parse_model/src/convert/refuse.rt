@@ -1,10 +1,9 @@
-//! Refusals: of a name that is taken, and of a construct that has no descriptor yet.
+//! Refusals: of a name that is taken, and any by its kind.
 
 ghost use Rattle.std.specs.Prelude.{◌≡◌, ℕ, List, map};
 ghost use Rattle.std.specs.Borrow.{Bor};
 ghost use Rattle.protobuf_parse_model.specs.Duplicates.{duplicates, fault};
 ghost use Rattle.protobuf_parse_model.specs.Faults.{Blames, Elaborates};
-ghost use Rattle.protobuf_parse_model.specs.Unsupported.{unsupported};
 
 use crate::error::{ElabError, ElabErrorKind, ElabFailure};
 use std::alloc::Global;
@@ -25,13 +24,6 @@ pub fn check_unique(alloc: Global, names: &[&str]) -> Result<(), ElabFailure>
         }
     }
     Ok(())
-}
-
-/// Refuses a construct that has no descriptor yet, by its word.
-pub fn unsupported(alloc: Global, word: &str) -> ElabFailure
-    ensures { Blames result (unsupported word.now) }
-{
-    fault(alloc, ElabErrorKind::Unsupported, word)
 }
 
 /// The failure that tells a fault of that kind, and the text that it speaks of.

@@ -2,22 +2,27 @@
 
 ghost use Rattle.std.specs.Prelude.{◌≡◌, ◌++◌, map, flat_map, option_map, IfOk};
 ghost use Rattle.protobuf_parse_syntax.specs.Trees.{message_statement_view, range_view};
-ghost use Rattle.protobuf_parse_model.specs.BuiltinOptions.{message_table, options_faults};
-ghost use Rattle.protobuf_parse_model.specs.Contexts.{reserved_parts, reserves_seen, rest_of, rest_view};
+ghost use Rattle.protobuf_parse_model.specs.BuiltinOptions.{message_table};
+ghost use Rattle.protobuf_parse_model.specs.ConstructOptions.{construct_faults};
+ghost use Rattle.protobuf_parse_model.specs.Contexts.{environment_in, reserved_parts, reserves_seen, rest_of, rest_view};
 ghost use Rattle.protobuf_parse_model.specs.Descriptors as described;
 ghost use Rattle.protobuf_parse_model.specs.Enums as enums;
 ghost use Rattle.protobuf_parse_model.specs.Faults.{Elaborates};
 ghost use Rattle.protobuf_parse_model.specs.Messages as messages;
-ghost use Rattle.protobuf_parse_model.specs.OptionViews.{nowhere, options_seen};
+ghost use Rattle.protobuf_parse_model.specs.Environment.{customs_bytes};
+ghost use Rattle.protobuf_parse_model.specs.declared.customs.Construct.TheVariants as of;
+ghost use Rattle.protobuf_parse_model.specs.OptionViews.{options_seen};
 ghost use Rattle.protobuf_parse_model.specs.Options.{message_options_view};
 ghost use Rattle.protobuf_parse_model.specs.OptionsSet as sets;
 
-use crate::convert::options::{check_options, message_options, message_table};
+use crate::convert::options::{checked_customs, message_options, message_table};
 use crate::convert::reserved::{
     extension_ranges, names_reserved, ranges_reserved, reserved_ranges,
 };
+use crate::customs::{Construct, CustomOptions};
 use crate::descriptor::{ExtensionRange, MessageOptions, ReservedRange};
 use crate::error::ElabFailure;
+use crate::scope::Context;
 use protobuf_parse_syntax::{FieldNumberRange, MessageStatement, ProtobufOption, Reserved};
 use std::alloc::{AllocError, Global};
 
@@ -34,17 +39,19 @@ pub struct Rest {
 ///
 /// E7 where a range ends at the largest number, and the faults of its options.
 #[tactic(auto, using(crate::proofs::Blaming::blames_left, crate::proofs::Blaming::blames_right))]
-pub fn rest_of_message(
+pub fn rest_of_message<C: CustomOptions>(
     alloc: Global,
+    context: &Context<'_>,
+    custom: &C,
     name: &str,
     body: &[MessageStatement],
 ) -> Result<Rest, ElabFailure>
-    ensures { let ss = map message_statement_view body.now in
-        Elaborates rest_view result (messages.rest_faults name.now ss) (rest_of ss) }
+    ensures { let env = environment_in (C.customs custom.now) context.now in let ss = map message_statement_view body.now in
+        Elaborates rest_view result (messages.rest_faults env name.now ss) (rest_of env ss) }
 {
     let extension_range = extensions(alloc, name, body)?;
     let (reserved_range, reserved_name) = reserved(alloc, name, body)?;
-    let options = checked_options(alloc, body)?;
+    let options = checked_options(alloc, context, custom, body)?;
     Ok(Rest {
         extension_range,
         reserved_range,
@@ -123,16 +130,25 @@ fn reserves(alloc: Global, body: &[MessageStatement]) -> Result<Vec<&Reserved>, 
 }
 
 /// What the options of a message say.
-fn checked_options(
+fn checked_options<C: CustomOptions>(
     alloc: Global,
+    context: &Context<'_>,
+    custom: &C,
     body: &[MessageStatement],
 ) -> Result<Option<MessageOptions>, ElabFailure>
-    ensures { let os = flat_map messages.options_in_message (map message_statement_view body.now) in
-        Elaborates (λ o. option_map message_options_view o) result (options_faults message_table os) (sets.message_options nowhere os) }
+    ensures { let env = environment_in (C.customs custom.now) context.now in let os = messages.options_of_body (map message_statement_view body.now) in
+        Elaborates (λ o. option_map message_options_view o) result (construct_faults env of.Message message_table os) (sets.message_options (customs_bytes env of.Message os) os) }
 {
     let options = options_in(alloc, body)?;
-    check_options(alloc, message_table(), &options)?;
-    Ok(message_options(alloc, &options)?)
+    let bytes = checked_customs(
+        alloc,
+        context,
+        custom,
+        Construct::Message,
+        message_table(),
+        &options,
+    )?;
+    Ok(message_options(&options, bytes))
 }
 
 /// The options of a message.

@@ -2,21 +2,24 @@
 
 ghost use Rattle.std.specs.Prelude.{◌≡◌, ◌++◌, [], map, flat_map, option_map, string_bytes, unwrap_or, IfOk};
 ghost use Rattle.protobuf_parse_syntax.specs.Trees as tree;
-ghost use Rattle.protobuf_parse_model.specs.BuiltinOptions.{method_table, options_faults, service_table};
-ghost use Rattle.protobuf_parse_model.specs.Contexts.{environment_in, methods_seen, texts};
+ghost use Rattle.protobuf_parse_model.specs.BuiltinOptions.{method_table, service_table};
+ghost use Rattle.protobuf_parse_model.specs.ConstructOptions.{construct_faults};
+ghost use Rattle.protobuf_parse_model.specs.Contexts.{environment_in, methods_seen, texts, names_in};
 ghost use Rattle.protobuf_parse_model.specs.Descriptors as described;
-ghost use Rattle.protobuf_parse_model.specs.Environment.{type_full_name, type_missing};
+ghost use Rattle.protobuf_parse_model.specs.Environment.{customs_bytes, type_full_name, type_missing};
+ghost use Rattle.protobuf_parse_model.specs.declared.customs.Construct.TheVariants as of;
 ghost use Rattle.protobuf_parse_model.specs.Faults.{Elaborates};
-ghost use Rattle.protobuf_parse_model.specs.OptionViews.{nowhere, options_seen};
+ghost use Rattle.protobuf_parse_model.specs.OptionViews.{options_seen};
 ghost use Rattle.protobuf_parse_model.specs.Options.{method_options_view, service_options_view};
 ghost use Rattle.protobuf_parse_model.specs.OptionsSet as sets;
 ghost use Rattle.protobuf_parse_model.specs.Services as services;
 
 use crate::convert::options::{
-    check_options, method_options, method_table, service_options, service_table,
+    checked_customs, method_options, method_table, service_options, service_table,
 };
 use crate::convert::refuse::check_unique;
 use crate::convert::types::type_full_name;
+use crate::customs::{Construct, CustomOptions};
 use crate::descriptor::{
     MethodDescriptorProto, MethodOptions, ServiceDescriptorProto, ServiceOptions,
 };
@@ -30,16 +33,17 @@ use std::alloc::{AllocError, Global};
 /// E1 where two of its methods have one name, E2 and E3 where the type of one means none, and the faults
 /// of its options.
 #[tactic(auto, using(crate::proofs::Blaming::blames_left, crate::proofs::Blaming::blames_right))]
-pub fn service_descriptor(
+pub fn service_descriptor<C: CustomOptions>(
     alloc: Global,
     context: &Context<'_>,
+    custom: &C,
     service: &Service,
 ) -> Result<ServiceDescriptorProto, ElabFailure>
-    ensures { let env = environment_in context.now in let s = tree.service_view service.now in
+    ensures { let env = environment_in (C.customs custom.now) context.now in let s = tree.service_view service.now in
         Elaborates described.service_view result (services.service_faults env s) (services.service_of env s) }
 {
-    let method = service_methods(alloc, context, &service.body)?;
-    let options = checked_options(alloc, &service.body)?;
+    let method = service_methods(alloc, context, custom, &service.body)?;
+    let options = checked_options(alloc, context, custom, &service.body)?;
     Ok(ServiceDescriptorProto {
         name: service.name.clone()?,
         method,
@@ -48,30 +52,32 @@ pub fn service_descriptor(
 }
 
 /// The descriptors of the methods, whose names differ: E1.
-fn service_methods(
+fn service_methods<C: CustomOptions>(
     alloc: Global,
     context: &Context<'_>,
+    custom: &C,
     body: &[ServiceStatement],
 ) -> Result<Vec<MethodDescriptorProto>, ElabFailure>
-    ensures { let env = environment_in context.now in let ms = flat_map services.methods_in (map tree.service_statement_view body.now) in
+    ensures { let env = environment_in (C.customs custom.now) context.now in let ms = flat_map services.methods_in (map tree.service_statement_view body.now) in
         Elaborates (λ v. map described.method_view v.items) result (services.methods_faults env ms) (map (services.method_of env) ms) }
 {
     let methods = methods(alloc, body)?;
-    unlike_methods(alloc, context, &methods)
+    unlike_methods(alloc, context, custom, &methods)
 }
 
 /// The descriptors of these methods, whose names differ: E1.
 #[tactic(auto, using(crate::proofs::Blaming::blames_left, crate::proofs::Blaming::blames_right))]
-fn unlike_methods(
+fn unlike_methods<C: CustomOptions>(
     alloc: Global,
     context: &Context<'_>,
+    custom: &C,
     methods: &[&Method],
 ) -> Result<Vec<MethodDescriptorProto>, ElabFailure>
-    ensures { let env = environment_in context.now in let ms = methods_seen methods.now in
+    ensures { let env = environment_in (C.customs custom.now) context.now in let ms = methods_seen methods.now in
         Elaborates (λ v. map described.method_view v.items) result (services.methods_faults env ms) (map (services.method_of env) ms) }
 {
     check_unique(alloc, &names(alloc, methods)?)?;
-    method_descriptors(alloc, context, methods)
+    method_descriptors(alloc, context, custom, methods)
 }
 
 /// The methods of a service.
@@ -100,33 +106,35 @@ fn names<'a>(alloc: Global, methods: &[&'a Method]) -> Result<Vec<&'a str>, Allo
 
 /// Their descriptors.
 #[tactic(auto, using(crate::proofs::Blaming::blames_at))]
-fn method_descriptors(
+fn method_descriptors<C: CustomOptions>(
     alloc: Global,
     context: &Context<'_>,
+    custom: &C,
     methods: &[&Method],
 ) -> Result<Vec<MethodDescriptorProto>, ElabFailure>
-    ensures { let env = environment_in context.now in let ms = methods_seen methods.now in
+    ensures { let env = environment_in (C.customs custom.now) context.now in let ms = methods_seen methods.now in
         Elaborates (λ v. map described.method_view v.items) result (flat_map (services.method_faults env) ms) (map (services.method_of env) ms) }
 {
     let mut descriptors = Vec::new(alloc);
     for method in methods {
-        descriptors.push(method_descriptor(alloc, context, method)?)?;
+        descriptors.push(method_descriptor(alloc, context, custom, method)?)?;
     }
     Ok(descriptors)
 }
 
 #[tactic(auto, using(crate::proofs::Blaming::blames_left, crate::proofs::Blaming::blames_right))]
-fn method_descriptor(
+fn method_descriptor<C: CustomOptions>(
     alloc: Global,
     context: &Context<'_>,
+    custom: &C,
     method: &Method,
 ) -> Result<MethodDescriptorProto, ElabFailure>
-    ensures { let env = environment_in context.now in let m = tree.method_view method.now in
+    ensures { let env = environment_in (C.customs custom.now) context.now in let m = tree.method_view method.now in
         Elaborates described.method_view result (services.method_faults env m) (services.method_of env m) }
 {
     let input_type = method_type(alloc, context, &method.input)?;
     let output_type = method_type(alloc, context, &method.output)?;
-    let options = checked_method_options(alloc, &method.options)?;
+    let options = checked_method_options(alloc, context, custom, &method.options)?;
     Ok(MethodDescriptorProto {
         name: method.name.clone()?,
         input_type,
@@ -139,23 +147,32 @@ fn method_descriptor(
 
 /// The full name of a method's type. E2 or E3 where the name means none.
 fn method_type(alloc: Global, context: &Context<'_>, name: &str) -> Result<String, ElabFailure>
-    ensures { let env = environment_in context.now in
+    ensures { let env = names_in context.now in
         Elaborates string_bytes result (type_missing env name.now) (unwrap_or (type_full_name env name.now) []) }
 {
     type_full_name(alloc, context, name)
 }
 
 /// What the options of a method say.
-fn checked_method_options(
+fn checked_method_options<C: CustomOptions>(
     alloc: Global,
+    context: &Context<'_>,
+    custom: &C,
     statements: &[OptionStatement],
 ) -> Result<Option<MethodOptions>, ElabFailure>
-    ensures { let os = map services.statement_option (map tree.option_statement_view statements.now) in
-        Elaborates (λ o. option_map method_options_view o) result (options_faults method_table os) (sets.method_options nowhere os) }
+    ensures { let env = environment_in (C.customs custom.now) context.now in let os = map services.statement_option (map tree.option_statement_view statements.now) in
+        Elaborates (λ o. option_map method_options_view o) result (construct_faults env of.Method method_table os) (sets.method_options (customs_bytes env of.Method os) os) }
 {
     let options = statement_options(alloc, statements)?;
-    check_options(alloc, method_table(), &options)?;
-    Ok(method_options(alloc, &options)?)
+    let bytes = checked_customs(
+        alloc,
+        context,
+        custom,
+        Construct::Method,
+        method_table(),
+        &options,
+    )?;
+    Ok(method_options(&options, bytes))
 }
 
 /// The options of a method.
@@ -173,16 +190,25 @@ fn statement_options(
 }
 
 /// What the options of a service say.
-fn checked_options(
+fn checked_options<C: CustomOptions>(
     alloc: Global,
+    context: &Context<'_>,
+    custom: &C,
     body: &[ServiceStatement],
 ) -> Result<Option<ServiceOptions>, ElabFailure>
-    ensures { let os = flat_map services.options_in_service (map tree.service_statement_view body.now) in
-        Elaborates (λ o. option_map service_options_view o) result (options_faults service_table os) (sets.service_options nowhere os) }
+    ensures { let env = environment_in (C.customs custom.now) context.now in let os = flat_map services.options_in_service (map tree.service_statement_view body.now) in
+        Elaborates (λ o. option_map service_options_view o) result (construct_faults env of.Service service_table os) (sets.service_options (customs_bytes env of.Service os) os) }
 {
     let options = options_in(alloc, body)?;
-    check_options(alloc, service_table(), &options)?;
-    Ok(service_options(alloc, &options)?)
+    let bytes = checked_customs(
+        alloc,
+        context,
+        custom,
+        Construct::Service,
+        service_table(),
+        &options,
+    )?;
+    Ok(service_options(&options, bytes))
 }
 
 /// The options of a service.

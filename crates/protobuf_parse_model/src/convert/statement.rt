@@ -9,6 +9,7 @@ ghost use Rattle.protobuf_parse_model.specs.Fields as fields;
 use crate::convert::field::{check_no_map, field_descriptor, group_field};
 use crate::convert::generated::{group_message, map_entry};
 use crate::convert::place::FieldPlace;
+use crate::customs::CustomOptions;
 use crate::descriptor::{DescriptorProto, FieldDescriptorProto};
 use crate::error::ElabFailure;
 use crate::scope::Context;
@@ -27,80 +28,85 @@ pub struct DeclaredField {
 ///
 /// Besides the faults of a field: E1 where two fields of a group have one name; E4 where a map or a
 /// group stands in a group.
-pub fn declared_field(
+pub fn declared_field<C: CustomOptions>(
     alloc: Global,
     context: &Context<'_>,
+    custom: &C,
     place: &FieldPlace<'_>,
     statement: &FieldStatement,
 ) -> Result<DeclaredField, ElabFailure>
-    ensures { let env = environment_in context.now in let s = field_statement_view statement.now in
+    ensures { let env = environment_in (C.customs custom.now) context.now in let s = field_statement_view statement.now in
         Elaborates declared_view result (fields.field_statement_faults env s) (declared_by env (place_view place.now) s) }
 {
     match statement {
-        FieldStatement::Field(field) => declared_plain(alloc, context, place, field),
-        FieldStatement::Group(group) => declared_group(alloc, context, place, group),
+        FieldStatement::Field(field) => declared_plain(alloc, context, custom, place, field),
+        FieldStatement::Group(group) => declared_group(alloc, context, custom, place, group),
     }
 }
 
 /// What a statement of an `extend` declares. E4 for a map.
-pub fn declared_extension(
+pub fn declared_extension<C: CustomOptions>(
     alloc: Global,
     context: &Context<'_>,
+    custom: &C,
     place: &FieldPlace<'_>,
     statement: &FieldStatement,
 ) -> Result<DeclaredField, ElabFailure>
-    ensures { let env = environment_in context.now in let s = field_statement_view statement.now in
+    ensures { let env = environment_in (C.customs custom.now) context.now in let s = field_statement_view statement.now in
         Elaborates declared_view result (fields.extension_faults env s) (declared_by env (place_view place.now) s) }
 {
     match statement {
-        FieldStatement::Field(field) => declared_unless_map(alloc, context, place, field),
-        FieldStatement::Group(group) => declared_group(alloc, context, place, group),
+        FieldStatement::Field(field) => declared_unless_map(alloc, context, custom, place, field),
+        FieldStatement::Group(group) => declared_group(alloc, context, custom, place, group),
     }
 }
 
 /// A field that is no group.
 #[tactic(auto, using(crate::proofs::Blaming::blames_left))]
-fn declared_plain(
+fn declared_plain<C: CustomOptions>(
     alloc: Global,
     context: &Context<'_>,
+    custom: &C,
     place: &FieldPlace<'_>,
     field: &Field,
 ) -> Result<DeclaredField, ElabFailure>
-    ensures { let env = environment_in context.now in let s = tree.field (field_view field.now) in
+    ensures { let env = environment_in (C.customs custom.now) context.now in let s = tree.field (field_view field.now) in
         Elaborates declared_view result (fields.field_statement_faults env s) (declared_by env (place_view place.now) s) }
 {
     let behind = map_entry(alloc, context, &field.name, &field.type_)?;
-    let field = field_descriptor(alloc, context, place, field)?;
+    let field = field_descriptor(alloc, context, custom, place, field)?;
     Ok(DeclaredField { field, behind })
 }
 
 /// A field that is no group and no map.
 #[tactic(auto, using(crate::proofs::Blaming::blames_left, crate::proofs::Blaming::blames_right))]
-fn declared_unless_map(
+fn declared_unless_map<C: CustomOptions>(
     alloc: Global,
     context: &Context<'_>,
+    custom: &C,
     place: &FieldPlace<'_>,
     field: &Field,
 ) -> Result<DeclaredField, ElabFailure>
-    ensures { let env = environment_in context.now in let s = tree.field (field_view field.now) in
+    ensures { let env = environment_in (C.customs custom.now) context.now in let s = tree.field (field_view field.now) in
         Elaborates declared_view result (fields.extension_faults env s) (declared_by env (place_view place.now) s) }
 {
     check_no_map(alloc, field)?;
-    declared_plain(alloc, context, place, field)
+    declared_plain(alloc, context, custom, place, field)
 }
 
 /// A group.
 #[tactic(auto, using(crate::specs::Statements::group_body_is))]
-fn declared_group(
+fn declared_group<C: CustomOptions>(
     alloc: Global,
     context: &Context<'_>,
+    custom: &C,
     place: &FieldPlace<'_>,
     group: &Group,
 ) -> Result<DeclaredField, ElabFailure>
-    ensures { let env = environment_in context.now in let s = group_of (group_view group.now) in
+    ensures { let env = environment_in (C.customs custom.now) context.now in let s = group_of (group_view group.now) in
         Elaborates declared_view result (fields.field_statement_faults env s) (declared_by env (place_view place.now) s) }
 {
-    let message = group_message(alloc, context, group)?;
+    let message = group_message(alloc, context, custom, group)?;
     let field = group_field(alloc, context, place, group)?;
     Ok(DeclaredField {
         field,

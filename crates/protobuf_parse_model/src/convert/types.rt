@@ -2,7 +2,7 @@
 
 ghost use Rattle.std.specs.Prelude.{◌≡◌, ◌++◌, Some, string_bytes, IfOk};
 ghost use Rattle.protobuf_parse_syntax.specs.Trees.{type_view};
-ghost use Rattle.protobuf_parse_model.specs.Contexts.{environment_in, resolved_view};
+ghost use Rattle.protobuf_parse_model.specs.Contexts.{names_in, resolved_view};
 ghost use Rattle.protobuf_parse_model.specs.Environment.{missing_name, type_full_name, type_missing, type_named};
 ghost use Rattle.protobuf_parse_model.specs.Faults.{Blames, Elaborates};
 ghost use Rattle.protobuf_parse_model.specs.Fields.{inner_type_faults, type_faults, type_of, type_of_meaning};
@@ -34,7 +34,7 @@ pub fn resolved_type(
     name: &str,
     type_: &Type,
 ) -> Result<ResolvedType, ElabFailure>
-    ensures { let env = environment_in context.now in
+    ensures { let env = names_in context.now in
         Elaborates resolved_view result (type_faults env name.now (type_view type_.now)) (type_of env name.now (type_view type_.now)) }
 {
     match type_ {
@@ -56,7 +56,7 @@ pub fn resolved_type(
 
 /// The type that a name means. E2 or E3 where it means none.
 fn named_type(alloc: Global, context: &Context<'_>, name: &str) -> Result<ResolvedType, ElabFailure>
-    ensures { let env = environment_in context.now in
+    ensures { let env = names_in context.now in
         Elaborates resolved_view result (type_missing env name.now) (type_of_meaning (type_named env name.now)) }
 {
     match type_named(alloc, context, name)? {
@@ -89,7 +89,7 @@ fn check_map(
     key: &Type,
     value: &Type,
 ) -> Result<(), ElabFailure>
-    ensures { let env = environment_in context.now in
+    ensures { let env = names_in context.now in
         Elaborates (λ u. u) result (inner_type_faults env name.now (type_view key.now) ++ inner_type_faults env name.now (type_view value.now)) tt }
 {
     inner_type(alloc, context, name, key)?;
@@ -104,7 +104,7 @@ pub fn inner_type(
     name: &str,
     type_: &Type,
 ) -> Result<ResolvedType, ElabFailure>
-    ensures { let env = environment_in context.now in
+    ensures { let env = names_in context.now in
         Elaborates resolved_view result (inner_type_faults env name.now (type_view type_.now)) (type_of env name.now (type_view type_.now)) }
 {
     match type_ {
@@ -119,7 +119,7 @@ pub fn inner_type(
 
 /// Refuses a name that means no type: E2 or E3.
 pub fn check_type_name(alloc: Global, context: &Context<'_>, name: &str) -> Result<(), ElabFailure>
-    ensures { Elaborates (λ u. u) result (type_missing (environment_in context.now) name.now) tt }
+    ensures { Elaborates (λ u. u) result (type_missing (names_in context.now) name.now) tt }
 {
     match type_named(alloc, context, name)? {
         Some(_) => Ok(()),
@@ -133,7 +133,7 @@ pub fn type_full_name(
     context: &Context<'_>,
     name: &str,
 ) -> Result<String, ElabFailure>
-    ensures { let env = environment_in context.now in
+    ensures { let env = names_in context.now in
         Elaborates (λ s. Some (string_bytes s)) result (type_missing env name.now) (type_full_name env name.now) }
 {
     match type_named(alloc, context, name)? {

@@ -5,7 +5,7 @@ ghost use Rattle.protobuf_parse_syntax.specs.Text as text;
 
 /// A class of bytes.
 #[derive(Clone, Copy)]
-pub enum Class {
+pub enum ByteClass {
     Blank,
     Line,
     Ident,
@@ -15,16 +15,16 @@ pub enum Class {
 }
 
 #[inline]
-pub fn is_in(class: Class, byte: u8) -> bool
+pub fn is_in(class: ByteClass, byte: u8) -> bool
     ensures { result ≡ text.is_in class byte }
 {
     match class {
-        Class::Blank => byte == b' ' || (9 <= byte && byte <= 13),
-        Class::Line => byte != b'\n',
-        Class::Ident => byte.is_ascii_alphanumeric() || byte == b'_',
-        Class::Digit => byte.is_ascii_digit(),
-        Class::Octal => 48 <= byte && byte <= 55,
-        Class::Hex => byte.is_ascii_hexdigit(),
+        ByteClass::Blank => byte == b' ' || (9 <= byte && byte <= 13),
+        ByteClass::Line => byte != b'\n',
+        ByteClass::Ident => byte.is_ascii_alphanumeric() || byte == b'_',
+        ByteClass::Digit => byte.is_ascii_digit(),
+        ByteClass::Octal => 48 <= byte && byte <= 55,
+        ByteClass::Hex => byte.is_ascii_hexdigit(),
     }
 }
 
@@ -39,7 +39,7 @@ pub fn byte_at(bytes: &[u8], at: usize) -> u8
 
 /// The end of the bytes of the class from `at` on.
 #[inline]
-pub fn run_end(class: Class, bytes: &[u8], at: usize) -> usize
+pub fn run_end(class: ByteClass, bytes: &[u8], at: usize) -> usize
     requires { at ≤ length bytes.now }
     ensures after { at ≤ result }
     ensures within { result ≤ length bytes.now }

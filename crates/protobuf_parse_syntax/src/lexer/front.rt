@@ -1,12 +1,12 @@
 //! What stands at the front of a text.
 
 ghost use Rattle.std.specs.Prelude.{◌≡◌, ◌≢◌, ℕ, ◌<◌, ◌≤◌, length, slice_index, true, false, MatchOption};
-ghost use Rattle.protobuf_parse_syntax.specs.Text.{is_in, IsBlock, IsQuote, IsString, IsIdent, HasNoComment, Longest, NoFront};
+ghost use Rattle.protobuf_parse_syntax.specs.Text.{is_in, IsBlock, IsQuote, IsString, IsIdentText, HasNoComment, Longest, NoFront};
 ghost use Rattle.protobuf_parse_syntax.specs.Scan as scan;
 ghost use Rattle.protobuf_parse_syntax.specs.Scan.{Stands};
 
 use crate::error::ParserError;
-use crate::lexer::bytes::{Class, byte_at, is_in, run_end};
+use crate::lexer::bytes::{ByteClass, byte_at, is_in, run_end};
 use crate::lexer::number::number_piece;
 use crate::lexer::token::TokenKind;
 
@@ -68,25 +68,27 @@ fn string_end(text: &[u8]) -> Option<usize>
 /// The end of the identifier at the front.
 fn ident_end(text: &[u8]) -> usize
     requires some { 0 < length text.now }
-    requires ident { is_in Class.Ident (slice_index text.now 0) ≡ true }
-    requires no_digit { is_in Class.Digit (slice_index text.now 0) ≡ false }
-    ensures { Longest IsIdent text.now result }
+    requires ident { is_in ByteClass.Ident (slice_index text.now 0) ≡ true }
+    requires no_digit { is_in ByteClass.Digit (slice_index text.now 0) ≡ false }
+    ensures { Longest IsIdentText text.now result }
 {
-    run_end(Class::Ident, text, 0)
+    run_end(ByteClass::Ident, text, 0)
 }
 
 /// What stands at the front, where it is no blank and no comment.
 fn token_piece(text: &[u8]) -> Piece
     requires some { 0 < length text.now }
-    requires no_blank { is_in Class.Blank (slice_index text.now 0) ≡ false }
+    requires no_blank { is_in ByteClass.Blank (slice_index text.now 0) ≡ false }
     requires no_comment { HasNoComment text.now }
     ensures { Stands text.now result }
 {
     let first = text[0];
-    if is_in(Class::Digit, first) || (first == b'.' && is_in(Class::Digit, byte_at(text, 1))) {
+    if is_in(ByteClass::Digit, first)
+        || (first == b'.' && is_in(ByteClass::Digit, byte_at(text, 1)))
+    {
         return number_piece(text);
     }
-    if is_in(Class::Ident, first) {
+    if is_in(ByteClass::Ident, first) {
         return Piece::Token(ident_end(text), TokenKind::Ident);
     }
     if first == b'"' || first == b'\'' {
@@ -110,11 +112,11 @@ pub fn front_piece(text: &[u8]) -> Piece
         return Piece::End;
     }
     let first = text[0];
-    if is_in(Class::Blank, first) {
-        return Piece::Blank(run_end(Class::Blank, text, 1));
+    if is_in(ByteClass::Blank, first) {
+        return Piece::Blank(run_end(ByteClass::Blank, text, 1));
     }
     if first == b'/' && byte_at(text, 1) == b'/' {
-        return Piece::Blank(run_end(Class::Line, text, 2));
+        return Piece::Blank(run_end(ByteClass::Line, text, 2));
     }
     if first == b'/' && byte_at(text, 1) == b'*' {
         return match block_end(text) {

@@ -3,11 +3,11 @@
 ghost use Rattle.std.specs.Prelude.{◌≡◌, ℕ, ◌<◌, ◌≤◌, ◌^◌, length, slice_index, slice_range, true, MatchOption, SomeIff};
 ghost use Rattle.std.specs.Str.Parse as parse;
 ghost use Rattle.std.specs.Char as char;
-ghost use Rattle.protobuf_parse_syntax.specs.Text.{is_in, AllIn, IsHex, IsOctal, IsDecimal, IsExponent, IsFloat, IsInteger, IsLongest, Longest, NoFront};
+ghost use Rattle.protobuf_parse_syntax.specs.Text.{is_in, AllIn, IsHex, IsOctal, IsDecimal, IsExponent, IsFloat, IsIntegerText, IsLongest, Longest, NoFront};
 ghost use Rattle.protobuf_parse_syntax.specs.Scan.{EndsFraction, BeginsNumber, Stands};
 
 use crate::error::ParserError;
-use crate::lexer::bytes::{Class, byte_at, is_in, run_end};
+use crate::lexer::bytes::{ByteClass, byte_at, is_in, run_end};
 use crate::lexer::front::Piece;
 use crate::lexer::token::TokenKind;
 
@@ -17,9 +17,9 @@ fn hex_end(text: &[u8]) -> Option<usize>
     let letter = byte_at(text, 1);
     if byte_at(text, 0) == b'0'
         && (letter == b'x' || letter == b'X')
-        && is_in(Class::Hex, byte_at(text, 2))
+        && is_in(ByteClass::Hex, byte_at(text, 2))
     {
-        Some(run_end(Class::Hex, text, 2))
+        Some(run_end(ByteClass::Hex, text, 2))
     } else {
         None
     }
@@ -28,8 +28,8 @@ fn hex_end(text: &[u8]) -> Option<usize>
 fn octal_end(text: &[u8]) -> Option<usize>
     ensures { MatchOption result (NoFront IsOctal text.now) (Longest IsOctal text.now) }
 {
-    if byte_at(text, 0) == b'0' && is_in(Class::Octal, byte_at(text, 1)) {
-        Some(run_end(Class::Octal, text, 1))
+    if byte_at(text, 0) == b'0' && is_in(ByteClass::Octal, byte_at(text, 1)) {
+        Some(run_end(ByteClass::Octal, text, 1))
     } else {
         None
     }
@@ -50,8 +50,8 @@ fn exponent_end(text: &[u8], at: usize) -> Option<usize>
     } else {
         at + 1
     };
-    if is_in(Class::Digit, byte_at(text, from)) {
-        Some(run_end(Class::Digit, text, from))
+    if is_in(ByteClass::Digit, byte_at(text, from)) {
+        Some(run_end(ByteClass::Digit, text, from))
     } else {
         None
     }
@@ -63,7 +63,7 @@ fn fraction_end(text: &[u8], whole: usize) -> usize
     ensures { EndsFraction text.now whole result }
 {
     if byte_at(text, whole) == b'.' {
-        run_end(Class::Digit, text, whole + 1)
+        run_end(ByteClass::Digit, text, whole + 1)
     } else {
         whole
     }
@@ -72,7 +72,7 @@ fn fraction_end(text: &[u8], whole: usize) -> usize
 fn float_end(text: &[u8]) -> Option<usize>
     ensures { MatchOption result (NoFront IsFloat text.now) (Longest IsFloat text.now) }
 {
-    let whole = run_end(Class::Digit, text, 0);
+    let whole = run_end(ByteClass::Digit, text, 0);
     let point = fraction_end(text, whole);
     if whole == 0 && point <= 1 {
         return None;
@@ -86,20 +86,20 @@ fn float_end(text: &[u8]) -> Option<usize>
 
 fn decimal_end(text: &[u8]) -> usize
     requires some { 0 < length text.now }
-    requires digit { is_in Class.Digit (slice_index text.now 0) ≡ true }
+    requires digit { is_in ByteClass.Digit (slice_index text.now 0) ≡ true }
     ensures { Longest IsDecimal text.now result }
 {
     if text[0] == b'0' {
         1
     } else {
-        run_end(Class::Digit, text, 0)
+        run_end(ByteClass::Digit, text, 0)
     }
 }
 
 /// What a digit counts, up to 15.
 #[inline]
 pub fn digit_value(digit: u8) -> u64
-    requires { is_in Class.Hex digit ≡ true }
+    requires { is_in ByteClass.Hex digit ≡ true }
     ensures { result ≡ char.digit_value digit }
 {
     u64::from(match digit {
@@ -113,7 +113,7 @@ pub fn digit_value(digit: u8) -> u64
 /// The number that digits spell, where it fits.
 pub fn digits_value(radix: u64, digits: &[u8]) -> Option<u64>
     requires low { 2 ≤ radix }
-    requires each { (k : ℕ) → k < length digits.now → is_in Class.Hex (slice_index digits.now k) ≡ true }
+    requires each { (k : ℕ) → k < length digits.now → is_in ByteClass.Hex (slice_index digits.now k) ≡ true }
     ensures { SomeIff result (parse.digits_value radix digits.now < 2 ^ 64) (parse.digits_value radix digits.now) }
 {
     let mut number: u64 = 0;
@@ -134,12 +134,12 @@ fn integer_piece(text: &[u8], radix: u64, from: usize, end: usize) -> Piece
     requires radix { 2 ≤ radix }
     requires order { from ≤ end }
     requires within { end ≤ length text.now }
-    requires each { AllIn Class.Hex text.now from end }
-    requires spells { (v : ℕ) → v ≡ parse.digits_value radix (slice_range text.now from end) → IsInteger text.now end v }
+    requires each { AllIn ByteClass.Hex text.now from end }
+    requires spells { (v : ℕ) → v ≡ parse.digits_value radix (slice_range text.now from end) → IsIntegerText text.now end v }
     requires longest { IsLongest text.now end }
     ensures { Stands text.now result }
 {
-    if end < text.len() && is_in(Class::Ident, text[end]) {
+    if end < text.len() && is_in(ByteClass::Ident, text[end]) {
         return Piece::Fault(ParserError::BadNumber);
     }
     match digits_value(radix, &text[from..end]) {
@@ -153,7 +153,7 @@ fn float_piece(text: &[u8], end: usize) -> Piece
     requires { Longest IsFloat text.now end }
     ensures { Stands text.now result }
 {
-    if end < text.len() && is_in(Class::Ident, text[end]) {
+    if end < text.len() && is_in(ByteClass::Ident, text[end]) {
         Piece::Fault(ParserError::BadNumber)
     } else {
         Piece::Token(end, TokenKind::Float)

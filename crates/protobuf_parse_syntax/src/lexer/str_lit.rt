@@ -7,7 +7,7 @@ ghost use Rattle.protobuf_parse_syntax.specs.Tokens.{IsDigits, DecodesAll};
 ghost use Rattle.protobuf_parse_syntax.specs.Decoding.{NamesByte, NamesNoByte, NamesChar, NamesNoChar, HasEscape, HasNoEscape, HasPart, HasNoPart, meaning_bytes, PushesPiece, RefusesBytes, RefusesText};
 ghost use Rattle.protobuf_parse_syntax.specs.declared.lexer.str_lit.StrLitDecodeError.TheVariants.{Memory};
 
-use crate::lexer::bytes::{Class, byte_at, is_in, run_end};
+use crate::lexer::bytes::{ByteClass, byte_at, is_in, run_end};
 use crate::lexer::number::digits_value;
 use std::alloc::{AllocError, AllocFailed, Global};
 use thiserror::Error;
@@ -98,7 +98,7 @@ fn letter_byte(letter: u8) -> Option<u8>
 }
 
 /// The end of the digits from `from` on, as many as stand there, at most up to `limit`.
-fn digits_end(class: Class, text: &[u8], from: usize, limit: usize) -> Option<usize>
+fn digits_end(class: ByteClass, text: &[u8], from: usize, limit: usize) -> Option<usize>
     ensures { MatchOption result ((n : ℕ) → IsDigits class text.now from limit n → ⊥) (IsDigits class text.now from limit) }
 {
     let within = text.len().min(limit);
@@ -110,9 +110,9 @@ fn digits_end(class: Class, text: &[u8], from: usize, limit: usize) -> Option<us
 }
 
 /// The escape of at most `4 - from` digits from `from` on, which name a byte.
-fn byte_escape(class: Class, radix: u64, text: &[u8], from: usize) -> Option<Part>
+fn byte_escape(class: ByteClass, radix: u64, text: &[u8], from: usize) -> Option<Part>
     requires radix { 2 ≤ radix }
-    requires digits { (b : ℕ) → is_in class b ≡ true → is_in Class.Hex b ≡ true }
+    requires digits { (b : ℕ) → is_in class b ≡ true → is_in ByteClass.Hex b ≡ true }
     ensures { MatchOption result (NamesNoByte class radix from text.now) (NamesByte class radix from text.now) }
 {
     let end = digits_end(class, text, from, 4)?;
@@ -132,7 +132,7 @@ fn char_escape(text: &[u8], end: usize) -> Option<Part>
     requires { 2 ≤ end }
     ensures { MatchOption result (NamesNoChar end text.now) (NamesChar end text.now) }
 {
-    if text.len() < end || run_end(Class::Hex, &text[..end], 2) < end {
+    if text.len() < end || run_end(ByteClass::Hex, &text[..end], 2) < end {
         return None;
     }
     let value = digits_value(16, &text[2..end])?;
@@ -151,11 +151,11 @@ fn front_escape(text: &[u8]) -> Option<Part>
     ensures { MatchOption result (HasNoEscape text.now) (HasEscape text.now) }
 {
     let letter = byte_at(text, 1);
-    if is_in(Class::Octal, letter) {
-        return byte_escape(Class::Octal, 8, text, 1);
+    if is_in(ByteClass::Octal, letter) {
+        return byte_escape(ByteClass::Octal, 8, text, 1);
     }
     if letter == b'x' || letter == b'X' {
-        return byte_escape(Class::Hex, 16, text, 2);
+        return byte_escape(ByteClass::Hex, 16, text, 2);
     }
     if letter == b'u' {
         return char_escape(text, 6);

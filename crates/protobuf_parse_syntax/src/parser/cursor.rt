@@ -69,16 +69,7 @@ impl<'t, 'text> Cursor<'t, 'text> {
     pub fn symbol(&mut self, symbol: char) -> Result<(), Refusal>
         ensures { Gives (λ u. tt) result (left self.new) ((read.symbol symbol).run (left self.old)) }
     {
-        match self.rest {
-            [token, rest @ ..] => match token.kind {
-                TokenKind::Symbol(other) if other == symbol => {
-                    self.rest = rest;
-                    Ok(())
-                }
-                _ => Err(Refusal::Next(ParserError::IncorrectInput)),
-            },
-            [] => Err(Refusal::Next(ParserError::IncorrectInput)),
-        }
+        self.symbol_or(symbol, ParserError::IncorrectInput)
     }
 
     /// Reads this symbol. The fault at any other token.
@@ -181,17 +172,8 @@ impl<'t, 'text> Cursor<'t, 'text> {
     pub fn ident(&mut self, alloc: Global) -> Result<String, Refusal>
         ensures { Gives string_bytes result (left self.new) (read.ident.run (left self.old)) }
     {
-        match self.rest {
-            [token, rest @ ..] => match token.kind {
-                TokenKind::Ident => {
-                    let ident = String::from_str(alloc, token.text)?;
-                    self.rest = rest;
-                    Ok(ident)
-                }
-                _ => Err(Refusal::Next(ParserError::IncorrectInput)),
-            },
-            [] => Err(Refusal::Next(ParserError::IncorrectInput)),
-        }
+        let text = self.ident_text()?;
+        Ok(String::from_str(alloc, text)?)
     }
 
     /// Reads a group's name, an identifier that begins with an ASCII capital. S13 at any other identifier,

@@ -2,14 +2,14 @@ use Rattle.std.proofs.Common.{◌≡◌, ◌≤◌, length, take}
 use Rattle.protobuf_parse_base.specs.Names.{fronts}
 use Rattle.protobuf_parse_model.specs.Environment.{type_named}
 use Rattle.protobuf_parse_model.specs.Lookup.{declared_in_first}
-use Rattle.protobuf_parse_model.specs.Contexts.{environment_in, seen_types, texts}
+use Rattle.protobuf_parse_model.specs.Contexts.{names_in, seen_types, texts}
 use Rattle.protobuf_parse_model.proofs.scope.type_named.Given as goal
 
 abbrev pub invariant-loop-length : goal.invariant-loop-length
 invariant-loop-length l =
     record {
       bound : l.length ≤ length l.context.scope.now;
-      none_longer : type_named (environment_in l.context) l.name ≡ declared_in_first (seen_types l.context.seen) l.name (fronts (texts (take l.length l.context.scope.now)));
+      none_longer : type_named (names_in l.context) l.name ≡ declared_in_first (seen_types l.context.seen) l.name (fronts (texts (take l.length l.context.scope.now)));
     }
 
 abbrev pub decreases-loop-length : goal.decreases-loop-length

@@ -1,11 +1,15 @@
 //! What is wrong in the options among statements.
 
-ghost use Rattle.std.specs.Prelude.{◌≡◌, ℕ, List, bytes_eq, map, option_map};
+ghost use Rattle.std.specs.Prelude.{◌≡◌, ◌++◌, ℕ, List, bytes_eq, map, option_map};
 ghost use Rattle.std.specs.Borrow.{Bor};
 ghost use Rattle.std.specs.List.{find};
 ghost use Rattle.protobuf_parse_syntax.specs.Trees.{constant_view, option_view};
 ghost use Rattle.protobuf_parse_model.specs.BuiltinOptions as spec;
+ghost use Rattle.protobuf_parse_model.specs.declared.customs.Construct.TheVariants as of;
+ghost use Rattle.protobuf_parse_model.specs.ConstructOptions.{construct_faults};
+ghost use Rattle.protobuf_parse_model.specs.Contexts.{environment_in};
 ghost use Rattle.protobuf_parse_model.specs.Duplicates.{stands_in};
+ghost use Rattle.protobuf_parse_model.specs.Environment.{customs_bytes, customs_faults};
 ghost use Rattle.protobuf_parse_model.specs.Faults.{Elaborates};
 ghost use Rattle.protobuf_parse_model.specs.Fields.{field_option_faults, field_options_faults};
 ghost use Rattle.protobuf_parse_model.specs.OptionViews.{entry_seen, kind_seen, options_seen, table_seen};
@@ -13,15 +17,49 @@ ghost use Rattle.protobuf_parse_model.specs.OptionViews.{entry_seen, kind_seen, 
 use crate::convert::options::strings::text_given;
 use crate::convert::options::tables::{BuiltinKind, field_table};
 use crate::convert::refuse::fault;
+use crate::customs::{Construct, CustomOptions};
 use crate::error::{ElabErrorKind, ElabFailure};
+use crate::scope::Context;
 use protobuf_parse_syntax::{ProtobufConstant, ProtobufOption, ProtobufOptionName};
 use std::alloc::Global;
 
-/// Refuses what is wrong in the built-in options of a construct that has the options of the table: E9
-/// for a string that is no text, E11 for a name that the table doesn't have, E12 for
+/// What the custom options of a construct become that has the built-in options of the table, once these are
+/// checked: E9 for a string that is no text, E11 for a name that the table doesn't have, E12 for
 /// `uninterpreted_option`, E13 for a value of another kind.
+#[tactic(auto, using(crate::proofs::Blaming::blames_left, crate::proofs::Blaming::blames_right))]
+pub fn checked_customs<C: CustomOptions>(
+    alloc: Global,
+    context: &Context<'_>,
+    custom: &C,
+    construct: Construct,
+    table: &[(&str, BuiltinKind)],
+    options: &[&ProtobufOption],
+) -> Result<Vec<u8>, ElabFailure>
+    ensures { let env = environment_in (C.customs custom.now) context.now in let os = options_seen options.now in
+        Elaborates (λ v. v.items) result (construct_faults env construct (table_seen table.now) os) (customs_bytes env construct os) }
+{
+    check_options(alloc, table, options)?;
+    custom.bytes(alloc, construct, context.scope, options)
+}
+
+/// As [`checked_customs`] of the options of a field, which has `default` and `json_name` too.
+#[tactic(auto, using(crate::proofs::Blaming::blames_left, crate::proofs::Blaming::blames_right))]
+pub fn checked_field_customs<C: CustomOptions>(
+    alloc: Global,
+    context: &Context<'_>,
+    custom: &C,
+    options: &[&ProtobufOption],
+) -> Result<Vec<u8>, ElabFailure>
+    ensures { let env = environment_in (C.customs custom.now) context.now in let os = options_seen options.now in
+        Elaborates (λ v. v.items) result (field_options_faults os ++ customs_faults env of.Field os) (customs_bytes env of.Field os) }
+{
+    check_field_options(alloc, options)?;
+    custom.bytes(alloc, Construct::Field, context.scope, options)
+}
+
+/// Refuses what is wrong in the built-in options of a construct that has the options of the table.
 #[tactic(auto, using(crate::proofs::Blaming::blames_at))]
-pub fn check_options(
+fn check_options(
     alloc: Global,
     table: &[(&str, BuiltinKind)],
     options: &[&ProtobufOption],
@@ -49,7 +87,7 @@ fn check_option(
 
 /// As [`check_options`] of the options of a field, which has `default` and `json_name` too.
 #[tactic(auto, using(crate::proofs::Blaming::blames_at))]
-pub fn check_field_options(alloc: Global, options: &[&ProtobufOption]) -> Result<(), ElabFailure>
+fn check_field_options(alloc: Global, options: &[&ProtobufOption]) -> Result<(), ElabFailure>
     ensures { Elaborates (λ u. u) result (field_options_faults (options_seen options.now)) tt }
 {
     for option in options {

@@ -1,11 +1,11 @@
 //! The options message of each construct, from the statements that set its options. It is there where a
-//! statement stands, and its custom options are empty. An option that the last statement with its name
+//! statement stands. An option that the last statement with its name
 //! sets to what it can't be is as one that isn't set.
 
 ghost use Rattle.std.specs.Prelude.{◌≡◌, codes, option_map, IfOk};
 ghost use Rattle.protobuf_parse_model.specs.Options as seen;
 ghost use Rattle.protobuf_parse_model.specs.OptionsSet as spec;
-ghost use Rattle.protobuf_parse_model.specs.OptionViews.{IsTextOption, nowhere, options_seen};
+ghost use Rattle.protobuf_parse_model.specs.OptionViews.{IsTextOption, options_seen};
 
 use crate::convert::options::said::{text_option, truth_option, word_option};
 use crate::descriptor::{
@@ -43,8 +43,9 @@ const IDEMPOTENCY_LEVELS: &[(&str, IdempotencyLevel)] = &[
 pub fn file_options(
     alloc: Global,
     options: &[&ProtobufOption],
+    custom: Vec<u8>,
 ) -> Result<Option<FileOptions>, AllocError>
-    ensures { IfOk result (λ o. option_map seen.file_options_view o ≡ spec.file_options nowhere (options_seen options.now)) }
+    ensures { IfOk result (λ o. option_map seen.file_options_view o ≡ spec.file_options custom.items (options_seen options.now)) }
 {
     if options.is_empty() {
         return Ok(None);
@@ -71,7 +72,7 @@ pub fn file_options(
         php_namespace: late.php_namespace,
         php_metadata_namespace: late.php_metadata_namespace,
         ruby_package: late.ruby_package,
-        custom: Vec::new(alloc),
+        custom,
     }))
 }
 
@@ -138,35 +139,29 @@ fn late_texts(alloc: Global, options: &[&ProtobufOption]) -> Result<LateTexts, A
 }
 
 /// The options of a message.
-pub fn message_options(
-    alloc: Global,
-    options: &[&ProtobufOption],
-) -> Result<Option<MessageOptions>, AllocError>
-    ensures { IfOk result (λ o. option_map seen.message_options_view o ≡ spec.message_options nowhere (options_seen options.now)) }
+pub fn message_options(options: &[&ProtobufOption], custom: Vec<u8>) -> Option<MessageOptions>
+    ensures { option_map seen.message_options_view result ≡ spec.message_options custom.items (options_seen options.now) }
 {
     if options.is_empty() {
-        return Ok(None);
+        return None;
     }
-    Ok(Some(MessageOptions {
+    Some(MessageOptions {
         message_set_wire_format: truth_option(options, "message_set_wire_format"),
         no_standard_descriptor_accessor: truth_option(options, "no_standard_descriptor_accessor"),
         deprecated: truth_option(options, "deprecated"),
         map_entry: truth_option(options, "map_entry"),
-        custom: Vec::new(alloc),
-    }))
+        custom,
+    })
 }
 
 /// The options of a field.
-pub fn field_options(
-    alloc: Global,
-    options: &[&ProtobufOption],
-) -> Result<Option<FieldOptions>, AllocError>
-    ensures { IfOk result (λ o. option_map seen.field_options_view o ≡ spec.field_options nowhere (options_seen options.now)) }
+pub fn field_options(options: &[&ProtobufOption], custom: Vec<u8>) -> Option<FieldOptions>
+    ensures { option_map seen.field_options_view result ≡ spec.field_options custom.items (options_seen options.now) }
 {
     if options.is_empty() {
-        return Ok(None);
+        return None;
     }
-    Ok(Some(FieldOptions {
+    Some(FieldOptions {
         ctype: word_option(options, "ctype", C_TYPES),
         packed: truth_option(options, "packed"),
         deprecated: truth_option(options, "deprecated"),
@@ -175,87 +170,70 @@ pub fn field_options(
         weak: truth_option(options, "weak"),
         unverified_lazy: truth_option(options, "unverified_lazy"),
         debug_redact: truth_option(options, "debug_redact"),
-        custom: Vec::new(alloc),
-    }))
+        custom,
+    })
 }
 
 /// The options of a oneof.
-pub fn oneof_options(
-    alloc: Global,
-    options: &[&ProtobufOption],
-) -> Result<Option<OneofOptions>, AllocError>
-    ensures { IfOk result (λ o. option_map seen.oneof_options_view o ≡ spec.oneof_options nowhere (options_seen options.now)) }
+pub fn oneof_options(options: &[&ProtobufOption], custom: Vec<u8>) -> Option<OneofOptions>
+    ensures { option_map seen.oneof_options_view result ≡ spec.oneof_options custom.items (options_seen options.now) }
 {
     if options.is_empty() {
-        return Ok(None);
+        return None;
     }
-    Ok(Some(OneofOptions {
-        custom: Vec::new(alloc),
-    }))
+    Some(OneofOptions { custom })
 }
 
 /// The options of an enum.
-pub fn enum_options(
-    alloc: Global,
-    options: &[&ProtobufOption],
-) -> Result<Option<EnumOptions>, AllocError>
-    ensures { IfOk result (λ o. option_map seen.enum_options_view o ≡ spec.enum_options nowhere (options_seen options.now)) }
+pub fn enum_options(options: &[&ProtobufOption], custom: Vec<u8>) -> Option<EnumOptions>
+    ensures { option_map seen.enum_options_view result ≡ spec.enum_options custom.items (options_seen options.now) }
 {
     if options.is_empty() {
-        return Ok(None);
+        return None;
     }
-    Ok(Some(EnumOptions {
+    Some(EnumOptions {
         allow_alias: truth_option(options, "allow_alias"),
         deprecated: truth_option(options, "deprecated"),
-        custom: Vec::new(alloc),
-    }))
+        custom,
+    })
 }
 
 /// The options of a value of an enum.
-pub fn enum_value_options(
-    alloc: Global,
-    options: &[&ProtobufOption],
-) -> Result<Option<EnumValueOptions>, AllocError>
-    ensures { IfOk result (λ o. option_map seen.enum_value_options_view o ≡ spec.enum_value_options nowhere (options_seen options.now)) }
+pub fn enum_value_options(options: &[&ProtobufOption], custom: Vec<u8>) -> Option<EnumValueOptions>
+    ensures { option_map seen.enum_value_options_view result ≡ spec.enum_value_options custom.items (options_seen options.now) }
 {
     if options.is_empty() {
-        return Ok(None);
+        return None;
     }
-    Ok(Some(EnumValueOptions {
+    Some(EnumValueOptions {
         deprecated: truth_option(options, "deprecated"),
-        custom: Vec::new(alloc),
-    }))
+        custom,
+    })
 }
 
 /// The options of a service.
-pub fn service_options(
-    alloc: Global,
-    options: &[&ProtobufOption],
-) -> Result<Option<ServiceOptions>, AllocError>
-    ensures { IfOk result (λ o. option_map seen.service_options_view o ≡ spec.service_options nowhere (options_seen options.now)) }
+pub fn service_options(options: &[&ProtobufOption], custom: Vec<u8>) -> Option<ServiceOptions>
+    ensures { option_map seen.service_options_view result ≡ spec.service_options custom.items (options_seen options.now) }
 {
     if options.is_empty() {
-        return Ok(None);
+        return None;
     }
-    Ok(Some(ServiceOptions {
+    Some(ServiceOptions {
         deprecated: truth_option(options, "deprecated"),
-        custom: Vec::new(alloc),
-    }))
+        custom,
+    })
 }
 
 /// The options of a method.
-pub fn method_options(
-    alloc: Global,
-    options: &[&ProtobufOption],
-) -> Result<Option<MethodOptions>, AllocError>
-    ensures { IfOk result (λ o. option_map seen.method_options_view o ≡ spec.method_options nowhere (options_seen options.now)) }
+pub fn method_options(options: &[&ProtobufOption], custom: Vec<u8>) -> Option<MethodOptions>
+    ensures { option_map seen.method_options_view result ≡ spec.method_options custom.items (options_seen options.now) }
 {
     if options.is_empty() {
-        return Ok(None);
+        return None;
     }
-    Ok(Some(MethodOptions {
+    Some(MethodOptions {
         deprecated: truth_option(options, "deprecated"),
         idempotency_level: word_option(options, "idempotency_level", IDEMPOTENCY_LEVELS),
-        custom: Vec::new(alloc),
-    }))
+        custom,
+    })
 }

@@ -2,10 +2,10 @@ use Rattle.std.proofs.Common.{◌≡◌, ◌+◌, ◌*◌, ◌≤◌, ◌<◌, l
 use Rattle.std.proofs.lemmas.List.{drop_all}
 use Rattle.protobuf_parse_wire.specs.declared.entry.Entry.{Entry}
 use Rattle.protobuf_parse_wire.specs.Trees.{Entries, entry}
-use Rattle.protobuf_parse_wire.specs.Views.{Item, Appends, entries_view, entry_value_view}
-use Rattle.protobuf_parse_wire.proofs.Appending.{Completes, goes_on, is_done, entry_is}
+use Rattle.protobuf_parse_wire.specs.Views.{Item, entries_view, entry_value_view}
+use Rattle.protobuf_parse_wire.proofs.Appending.{entry_is}
+use Rattle.protobuf_parse_wire.proofs.Written.{Completes, goes_on, is_done}
 use Rattle.protobuf_parse_wire.specs.Kinds.{shape, wire_type}
-use Rattle.protobuf_parse_wire.specs.Wire.{IsVarint, Says}
 use Rattle.protobuf_parse_wire.proofs.encoder.+entry.Goals as goal
 
 pub encode_into-entries-preserved : goal.encode_into-entries-preserved
@@ -17,11 +17,9 @@ encode_into-entries-preserved t c =
     let step : drop i list ≡ e ∷ drop (i + 1) list = rw (add-one, drop-cons list i e, ← c.entry-item.is) refl in
     let rest = entries_view (drop (i + 1) list) in
     let seen : entries_view (e ∷ drop (i + 1) list) ≡ entry e.number e.kind (entry_value_view e.value) rest = ap (λ (x : Item). entry x.number x.kind x.value rest) (entry_is e) in
-    let tag : Appends (λ bs. IsVarint bs (c.from.result * 8 + c.wire_type_of.result)) c.entries.out.items c.put_varint.new.out.items = c.in_ok-put_varint.ensures in
     let is : c.from.result * 8 + c.wire_type_of.result ≡ e.number * 8 + wire_type (shape e.kind) = omega (arith, c.from.ensures, c.wire_type_of.ensures) in
-    let payload : Appends (Says (shape e.kind) (entry_value_view e.value)) c.put_varint.new.out.items c.put_value.new.out.items = c.in_ok-put_value.ensures in
     let left : Completes (entry e.number e.kind (entry_value_view e.value) (entries_view (drop (i + 1) list))) (entries_view list) c.args.out.now.items c.entries.out.items = subst (λ (xs : Entries). Completes xs (entries_view list) c.args.out.now.items c.entries.out.items) (ap entries_view step ∙ seen) c.entries.invariant in
-    goes_on (c.from.result * 8 + c.wire_type_of.result) e.number e.kind (entry_value_view e.value) (entries_view (drop (i + 1) list)) (entries_view list) c.args.out.now.items c.entries.out.items _ _ left is tag payload
+    goes_on (c.from.result * 8 + c.wire_type_of.result) e.number e.kind (entry_value_view e.value) (entries_view (drop (i + 1) list)) (entries_view list) c.args.out.now.items c.entries.out.items c.put_varint.new.out.items _ left is c.in_ok-put_varint.ensures c.in_ok-put_value.ensures
 
 pub encode_into-returns : goal.encode_into-returns
 encode_into-returns t c =

@@ -1,8 +1,8 @@
 use Rattle.std.proofs.Common.{drop}
 use Rattle.protobuf_parse_wire.specs.Views.{entries_view}
-use Rattle.protobuf_parse_wire.proofs.Appending.{Completes}
+use Rattle.protobuf_parse_wire.proofs.Written.{Completes}
 use Rattle.protobuf_parse_wire.proofs.encoder.+entry.Given as goal
 
--- Whatever spells the entries that are left completes the list.
+-- The bytes of the entries that are left complete the list.
 abbrev pub invariant-encode_into-entries : goal.invariant-encode_into-entries
 invariant-encode_into-entries l = Completes (entries_view (drop l.entry-index l.entries)) (entries_view l.entries) l.fn.out.items l.out.items

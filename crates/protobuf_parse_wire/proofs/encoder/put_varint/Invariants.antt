@@ -1,11 +1,10 @@
-use Rattle.std.proofs.Common.{ℕ, List, ◌++◌}
-use Rattle.protobuf_parse_wire.specs.Wire.{IsVarint}
-use Rattle.protobuf_parse_wire.specs.Views.{Appends}
+use Rattle.std.proofs.Common.{◌≡◌, ◌++◌}
+use Rattle.protobuf_parse_wire.specs.Encoded.{varint_of}
 use Rattle.protobuf_parse_wire.proofs.encoder.put_varint.Given as goal
 
--- Whatever spells the rest completes the number.
+-- The varint of the rest completes the number's.
 abbrev pub invariant-groups : goal.invariant-groups
-invariant-groups l = (tail : List ℕ) → IsVarint tail l.rest → Appends (λ bs. IsVarint bs l.number) l.fn.out.items (l.out.items ++ tail)
+invariant-groups l = l.out.items ++ varint_of l.rest ≡ l.fn.out.items ++ varint_of l.number
 
 abbrev pub decreases-groups : goal.decreases-groups
 decreases-groups l = l.rest

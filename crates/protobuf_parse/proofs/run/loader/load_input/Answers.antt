@@ -3,23 +3,22 @@ use Rattle.std.proofs.lemmas.Result.{err_from_is_err_and}
 use Rattle.protobuf_parse_base.specs.PathViews.{path_buf_text}
 use Rattle.protobuf_parse.specs.Walks.{named, at, checks}
 use Rattle.protobuf_parse.specs.Run.{input_view}
-use Rattle.protobuf_parse.proofs.Knowing.{known-grows, unloaded-none}
+use Rattle.protobuf_parse.specs.Loading.{legal_by}
+use Rattle.protobuf_parse.proofs.Knowing.{known-grows}
 use Rattle.protobuf_parse.proofs.Inputs.{input-stops, input-goes, check-stops}
 use Rattle.protobuf_parse.proofs.Leaving.{goes-back}
 use Rattle.protobuf_parse.proofs.Steps.{Grows-trans}
-use Rattle.std.specs.Prelude.{String}
-use Rattle.std.specs.Global.{Global, Vec}
 use Rattle.protobuf_parse.proofs.Counting.{count-check, count-input}
 use Rattle.protobuf_parse.proofs.run.loader.load_input.Goals as goal
 
 pub returns-in_err-load_file-in-Named-clause-goes : goal.returns-in_err-load_file-in-Named-clause-goes
 returns-in_err-load_file-in-Named-clause-goes g c files kept go good =
     let p = err_from_is_err_and c.from_residual.result c.from_residual.ensures.1 in
-    rw (p.1, p.2) (input-stops _ files kept kept (named (path_buf_text c.in-Named.name)) _ c.args.loader.now.loaded.entries c.args.loader.now.loaded.entries _ _ c.args.loader.now.chain.items c.in_err-load_file-in-Named.field-0.0 (ap input_view c.in-Named.is) c.requires.chain (sym (append-nil kept)) good (λ x. c.in_err-load_file-in-Named.ensures.leaves files kept go x))
+    rw (p.1, p.2) (input-stops _ files kept kept (named (path_buf_text c.in-Named.name)) _ _ c.in_err-load_file-in-Named.field-0.0 (ap input_view c.in-Named.is) (sym (append-nil kept)) (c.in_err-load_file-in-Named.ensures.leaves files kept go good))
 
 pub returns-in_ok-load_file-in-Named-clause-goes : goal.returns-in_ok-load_file-in-Named-clause-goes
 returns-in_ok-load_file-in-Named-clause-goes g c files kept go good =
-    input-goes _ files kept kept (named (path_buf_text c.in-Named.name)) _ c.args.loader.now.loaded.entries _ _ _ c.args.loader.now.chain.items c.in_ok-load_file-in-Named.field-0 _ (ap input_view c.in-Named.is) c.requires.chain (sym (append-nil kept)) good (λ x. c.in_ok-load_file-in-Named.ensures.leaves files kept go x)
+    input-goes _ files kept kept (named (path_buf_text c.in-Named.name)) _ _ _ (ap input_view c.in-Named.is) (sym (append-nil kept)) (c.in_ok-load_file-in-Named.ensures.leaves files kept go good).0
 
 pub returns-in_err-check_loaded-in-At-clause-goes : goal.returns-in_err-check_loaded-in-At-clause-goes
 returns-in_err-check_loaded-in-At-clause-goes g c files kept go good =
@@ -32,43 +31,39 @@ returns-in_err-load_file-in-At-clause-goes g c files kept go good =
     let name = path_buf_text c.in-At.name in
     let back = goes-back files _ _ _ c.load_file-in-At.ensures.grows go in
     let base = ap (λ z. kept ++ checks kept (at name z)) (c.deref.ensures ∙ sym c.as_str.ensures.value) in
-    let empty = ap (λ (w : Vec (String Global)). w.items) c.check_loaded.ensures.chain ∙ c.requires.chain in
     let p = err_from_is_err_and c.from_residual-in_err-load_file-in-At.result c.from_residual-in_err-load_file-in-At.ensures.1 in
-    rw (p.1, p.2) (input-stops _ files kept _ (at name c.as_str.result.now) _ c.check_loaded.new.loader.loaded.entries c.check_loaded.new.loader.loaded.entries _ _ c.check_loaded.new.loader.chain.items c.in_err-load_file-in-At.field-0.0 (ap input_view c.in-At.is ∙ ap (at name) (sym c.as_str.ensures.value)) empty base (c.in_ok-check_loaded-in-At.ensures.goes files kept back good) (λ x. c.in_err-load_file-in-At.ensures.leaves files _ go x))
+    rw (p.1, p.2) (input-stops _ files kept _ (at name c.as_str.result.now) _ _ c.in_err-load_file-in-At.field-0.0 (ap input_view c.in-At.is ∙ ap (at name) (sym c.as_str.ensures.value)) base (c.in_err-load_file-in-At.ensures.leaves files _ go (c.in_ok-check_loaded-in-At.ensures.goes files kept back good)))
 
 pub returns-in_ok-load_file-in-At-clause-goes : goal.returns-in_ok-load_file-in-At-clause-goes
 returns-in_ok-load_file-in-At-clause-goes g c files kept go good =
     let name = path_buf_text c.in-At.name in
     let back = goes-back files _ _ _ c.load_file-in-At.ensures.grows go in
     let base = ap (λ z. kept ++ checks kept (at name z)) (c.deref.ensures ∙ sym c.as_str.ensures.value) in
-    let empty = ap (λ (w : Vec (String Global)). w.items) c.check_loaded.ensures.chain ∙ c.requires.chain in
-    input-goes _ files kept _ (at name c.as_str.result.now) _ c.check_loaded.new.loader.loaded.entries _ _ _ c.check_loaded.new.loader.chain.items c.in_ok-load_file-in-At.field-0 _ (ap input_view c.in-At.is ∙ ap (at name) (sym c.as_str.ensures.value)) empty base (c.in_ok-check_loaded-in-At.ensures.goes files kept back good) (λ x. c.in_ok-load_file-in-At.ensures.leaves files _ go x)
+    input-goes _ files kept _ (at name c.as_str.result.now) _ _ _ (ap input_view c.in-At.is ∙ ap (at name) (sym c.as_str.ensures.value)) base (c.in_ok-load_file-in-At.ensures.leaves files _ go (c.in_ok-check_loaded-in-At.ensures.goes files kept back good)).0
 
 pub returns-in_ok-load_file-in-Named-clause-count : goal.returns-in_ok-load_file-in-Named-clause-count
 returns-in_ok-load_file-in-Named-clause-count g c files kept go good =
-    count-input _ files (Ok c.in_ok-load_file-in-Named.field-0) kept kept (named (path_buf_text c.in-Named.name)) _ c.args.loader.now.loaded.entries _ c.args.loader.now.chain.items _ _ _ (ap input_view c.in-Named.is) c.requires.chain (sym (append-nil kept)) refl good (λ x. c.in_ok-load_file-in-Named.ensures.count files kept go x)
+    count-input (legal_by g.R.ProtoPathResolver.may_answer g.I.InputReader.may_read c.args.sources.now) files (Ok c.in_ok-load_file-in-Named.field-0) kept kept (named (path_buf_text c.in-Named.name)) _ _ _ _ (ap input_view c.in-Named.is) (sym (append-nil kept)) refl (c.in_ok-load_file-in-Named.ensures.count files kept go good)
 
 pub returns-in_err-load_file-in-Named-clause-count : goal.returns-in_err-load_file-in-Named-clause-count
 returns-in_err-load_file-in-Named-clause-count g c files kept go good =
     let p = err_from_is_err_and c.from_residual.result c.from_residual.ensures.1 in
-    rw p.1 (count-input _ files (Err c.in_err-load_file-in-Named.field-0.0) kept kept (named (path_buf_text c.in-Named.name)) _ c.args.loader.now.loaded.entries _ c.args.loader.now.chain.items _ _ _ (ap input_view c.in-Named.is) c.requires.chain (sym (append-nil kept)) refl good (λ x. c.in_err-load_file-in-Named.ensures.count files kept go x))
+    rw p.1 (count-input (legal_by g.R.ProtoPathResolver.may_answer g.I.InputReader.may_read c.args.sources.now) files (Err c.in_err-load_file-in-Named.field-0.0) kept kept (named (path_buf_text c.in-Named.name)) _ _ _ _ (ap input_view c.in-Named.is) (sym (append-nil kept)) refl (c.in_err-load_file-in-Named.ensures.count files kept go good))
 
 pub returns-in_ok-load_file-in-At-clause-count : goal.returns-in_ok-load_file-in-At-clause-count
 returns-in_ok-load_file-in-At-clause-count g c files kept go good =
     let name = path_buf_text c.in-At.name in
     let back = goes-back files _ _ _ c.load_file-in-At.ensures.grows go in
     let base = ap (λ z. kept ++ checks kept (at name z)) (c.deref.ensures ∙ sym c.as_str.ensures.value) in
-    let empty = ap (λ (w : Vec (String Global)). w.items) c.check_loaded.ensures.chain ∙ c.requires.chain in
-    count-input _ files (Ok c.in_ok-load_file-in-At.field-0) kept _ (at name c.as_str.result.now) _ c.check_loaded.new.loader.loaded.entries _ c.check_loaded.new.loader.chain.items _ _ _ (ap input_view c.in-At.is ∙ ap (at name) (sym c.as_str.ensures.value)) empty base c.check_loaded.ensures.meets (c.in_ok-check_loaded-in-At.ensures.goes files kept back good) (λ x. c.in_ok-load_file-in-At.ensures.count files _ go x)
+    count-input (legal_by g.R.ProtoPathResolver.may_answer g.I.InputReader.may_read c.args.sources.now) files (Ok c.in_ok-load_file-in-At.field-0) kept _ (at name c.as_str.result.now) _ _ _ _ (ap input_view c.in-At.is ∙ ap (at name) (sym c.as_str.ensures.value)) base c.check_loaded.ensures.meets (c.in_ok-load_file-in-At.ensures.count files _ go (c.in_ok-check_loaded-in-At.ensures.goes files kept back good))
 
 pub returns-in_err-load_file-in-At-clause-count : goal.returns-in_err-load_file-in-At-clause-count
 returns-in_err-load_file-in-At-clause-count g c files kept go good =
     let name = path_buf_text c.in-At.name in
     let back = goes-back files _ _ _ c.load_file-in-At.ensures.grows go in
     let base = ap (λ z. kept ++ checks kept (at name z)) (c.deref.ensures ∙ sym c.as_str.ensures.value) in
-    let empty = ap (λ (w : Vec (String Global)). w.items) c.check_loaded.ensures.chain ∙ c.requires.chain in
     let p = err_from_is_err_and c.from_residual-in_err-load_file-in-At.result c.from_residual-in_err-load_file-in-At.ensures.1 in
-    rw p.1 (count-input _ files (Err c.in_err-load_file-in-At.field-0.0) kept _ (at name c.as_str.result.now) _ c.check_loaded.new.loader.loaded.entries _ c.check_loaded.new.loader.chain.items _ _ _ (ap input_view c.in-At.is ∙ ap (at name) (sym c.as_str.ensures.value)) empty base c.check_loaded.ensures.meets (c.in_ok-check_loaded-in-At.ensures.goes files kept back good) (λ x. c.in_err-load_file-in-At.ensures.count files _ go x))
+    rw p.1 (count-input (legal_by g.R.ProtoPathResolver.may_answer g.I.InputReader.may_read c.args.sources.now) files (Err c.in_err-load_file-in-At.field-0.0) kept _ (at name c.as_str.result.now) _ _ _ _ (ap input_view c.in-At.is ∙ ap (at name) (sym c.as_str.ensures.value)) base c.check_loaded.ensures.meets (c.in_err-load_file-in-At.ensures.count files _ go (c.in_ok-check_loaded-in-At.ensures.goes files kept back good)))
 
 pub returns-in_err-check_loaded-in-At-clause-count : goal.returns-in_err-check_loaded-in-At-clause-count
 returns-in_err-check_loaded-in-At-clause-count g c files kept go good =

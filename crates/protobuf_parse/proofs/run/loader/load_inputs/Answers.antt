@@ -2,7 +2,8 @@ use Rattle.std.proofs.Common.{◌≡◌, [], ap, refl, map, take, arith}
 use Rattle.std.proofs.lemmas.List.{take_all}
 use Rattle.std.proofs.lemmas.Result.{err_from_is_err_and}
 use Rattle.protobuf_parse.specs.Walks.{events, statements}
-use Rattle.protobuf_parse.specs.Run.{MayAnswer, input_view, rows}
+use Rattle.protobuf_parse.specs.Run.{input_view, rows}
+use Rattle.protobuf_parse.specs.Loading.{legal_by}
 use Rattle.protobuf_parse.proofs.Counting.{count-inputs, count-inputs-stop}
 use Rattle.protobuf_parse.proofs.Inputs.{inputs-step, inputs-stop, good-start, events-none}
 use Rattle.protobuf_parse.proofs.Deciding.{decided-none}
@@ -37,7 +38,7 @@ returns-in_err-load_input g c = record {
       let good = c.loop-input.invariant.inside files back in
       let is = split-at input_view xs c.loop-input.input-index c.input-item.result (omega arith) c.input-item.is in
       let p = err_from_is_err_and c.from_residual.result c.from_residual.ensures.1 in
-      rw p.1 (count-inputs-stop (MayAnswer (λ p a. g.R.ProtoPathResolver.may_answer c.args.sources.now.resolver.now p a) (λ p a. g.I.InputReader.may_read c.args.sources.now.reader.now p a)) files _ _ _ _ _ _ _ _ is (omega arith) (c.loop-input.invariant.count files back) (c.in_err-load_input.ensures.count files _ go good));
+      rw p.1 (count-inputs-stop (legal_by g.R.ProtoPathResolver.may_answer g.I.InputReader.may_read c.args.sources.now) files _ _ _ _ _ _ _ _ is (omega arith) (c.loop-input.invariant.count files back) (c.in_err-load_input.ensures.count files _ go good));
 }
 
 pub loop-input-preserved : goal.loop-input-preserved
@@ -57,7 +58,7 @@ loop-input-preserved g c =
           let back = goes-back files _ _ _ c.load_input.ensures.grows go in
           let good = c.loop-input.invariant.inside files back in
           let next = next-at input_view xs c.loop-input.input-index c.input-item.result (omega arith) c.input-item.is in
-          count-inputs (MayAnswer (λ p a. g.R.ProtoPathResolver.may_answer c.args.sources.now.resolver.now p a) (λ p a. g.I.InputReader.may_read c.args.sources.now.reader.now p a)) files _ _ _ _ _ _ next (c.loop-input.invariant.count files back) (c.in_ok-load_input.ensures.count files _ go good);
+          count-inputs (legal_by g.R.ProtoPathResolver.may_answer g.I.InputReader.may_read c.args.sources.now) files _ _ _ _ _ _ next (c.loop-input.invariant.count files back) (c.in_ok-load_input.ensures.count files _ go good);
     }
 
 pub returns : goal.returns

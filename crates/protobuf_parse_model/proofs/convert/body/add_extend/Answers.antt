@@ -9,8 +9,8 @@ use Rattle.protobuf_parse_model.proofs.Bodies.{with_extend}
 use Rattle.protobuf_parse_model.proofs.convert.body.add_extend.Goals as goal
 
 pub returns : goal.returns
-returns c =
-    let env = environment_in c.args.context.now in
+returns g c =
+    let env = environment_in (g.C.CustomOptions.customs c.args.custom.now) c.args.context.now in
     let e = extend_view c.args.extend.now in
     let old = c.args.body.now in
     let declared = c.in_ok-declared.declared in

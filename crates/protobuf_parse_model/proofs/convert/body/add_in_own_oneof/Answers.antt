@@ -8,8 +8,8 @@ use Rattle.protobuf_parse_model.proofs.Bodies.{with_own}
 use Rattle.protobuf_parse_model.proofs.convert.body.add_in_own_oneof.Goals as goal
 
 pub returns : goal.returns
-returns c =
-    let env = environment_in c.args.context.now in
+returns g c =
+    let env = environment_in (g.C.CustomOptions.customs c.args.custom.now) c.args.context.now in
     let old = c.args.body.now in
     let d = c.in_ok-declared.ensures in
     let oneofs = ap (map oneof_view) c.in_ok-push.ensures.items ∙ map-append oneof_view old.oneof_decl.items _ in

@@ -6,8 +6,8 @@ use Rattle.protobuf_parse_model.specs.FileParts.{parts_of, parts_view}
 use Rattle.protobuf_parse_model.proofs.convert.contents.declared.Given as goal
 
 abbrev pub invariant-loop-statement : goal.invariant-loop-statement
-invariant-loop-statement l =
-    let env = environment_in l.context in
+invariant-loop-statement g l =
+    let env = environment_in (g.C.CustomOptions.customs l.custom) l.context in
     let seen = map statement_view (take l.statement-index l.statements) in
     record {
       no_fault : flat_map (statement_faults env) seen ≡ [];

@@ -5,9 +5,10 @@ use Rattle.protobuf_parse_model.specs.Enums.{value_faults, value_of}
 use Rattle.protobuf_parse_model.proofs.convert.enumeration.value_descriptors.Given as goal
 
 abbrev pub invariant-loop-value : goal.invariant-loop-value
-invariant-loop-value l =
+invariant-loop-value g l =
+    let env = environment_in (g.C.CustomOptions.customs l.custom) l.context in
     let seen = values_seen (take l.value-index l.values) in
     record {
-      no_fault : flat_map value_faults seen ≡ [];
-      all : map enum_value_view l.descriptors.items ≡ map (value_of (environment_in l.context)) seen;
+      no_fault : flat_map (value_faults env) seen ≡ [];
+      all : map enum_value_view l.descriptors.items ≡ map (value_of env) seen;
     }

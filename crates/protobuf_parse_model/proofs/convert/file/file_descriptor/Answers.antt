@@ -3,14 +3,13 @@ use Rattle.protobuf_parse_syntax.specs.Trees.{file_view}
 use Rattle.protobuf_parse_model.specs.Contexts.{seen_types, texts}
 use Rattle.protobuf_parse_model.specs.Descriptors as described
 use Rattle.protobuf_parse_model.specs.Descriptors.{Text}
-use Rattle.protobuf_parse_model.specs.Environment.{Environment, no_custom}
+use Rattle.protobuf_parse_model.specs.Environment.{Environment}
 use Rattle.protobuf_parse_model.specs.Faults.{Elaborates}
 use Rattle.protobuf_parse_model.specs.FileDescriptor.{file_faults, file_of}
-use Rattle.protobuf_parse_model.specs.Unsupported.{unsupported_in}
 use Rattle.protobuf_parse_model.proofs.convert.file.file_descriptor.Goals as goal
 
 pub returns : goal.returns
-returns c =
+returns g c =
     let t = file_view c.args.tree.now in
-    let within : List Text → Environment = λ scope. record { syntax = t.syntax; types = seen_types c.args.seen.now; scope = scope; custom = no_custom } in
-    subst (λ (scope : List Text). Elaborates described.file_view c.descriptor_in.result (unsupported_in t ++ file_faults (within scope) t) (file_of (within scope) c.args.name.now t)) (ap texts c.deref.ensures.value ∙ c.in_ok-scope.ensures) c.descriptor_in.ensures
+    let within : List Text → Environment = λ scope. record { syntax = t.syntax; types = seen_types c.args.seen.now; scope = scope; customs = g.C.CustomOptions.customs c.args.custom.now } in
+    subst (λ (scope : List Text). Elaborates described.file_view c.descriptor_in.result (file_faults (within scope) t) (file_of (within scope) c.args.name.now t)) (ap texts c.deref.ensures.value ∙ c.in_ok-scope.ensures) c.descriptor_in.ensures

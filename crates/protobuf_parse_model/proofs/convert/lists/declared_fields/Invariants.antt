@@ -6,8 +6,8 @@ use Rattle.protobuf_parse_model.specs.Messages.{messages_behind}
 use Rattle.protobuf_parse_model.proofs.convert.lists.declared_fields.Given as goal
 
 abbrev pub invariant-loop-statement : goal.invariant-loop-statement
-invariant-loop-statement l =
-    let env = environment_in l.context in
+invariant-loop-statement g l =
+    let env = environment_in (g.C.CustomOptions.customs l.custom) l.context in
     let seen = statements_seen (take l.statement-index l.statements) in
     record {
       no_fault : flat_map (field_statement_faults env) seen ≡ [];

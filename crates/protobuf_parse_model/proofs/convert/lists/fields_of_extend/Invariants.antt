@@ -7,8 +7,8 @@ use Rattle.protobuf_parse_model.specs.Messages.{extending, extension_faults_of, 
 use Rattle.protobuf_parse_model.proofs.convert.lists.fields_of_extend.Given as goal
 
 abbrev pub invariant-loop-statement : goal.invariant-loop-statement
-invariant-loop-statement l =
-    let env = environment_in l.context in
+invariant-loop-statement g l =
+    let env = environment_in (g.C.CustomOptions.customs l.custom) l.context in
     let seen = map field_statement_view (take l.statement-index l.statements) in
     record {
       no_fault : flat_map (extension_faults_of env l.extendee) seen ≡ [];

@@ -7,7 +7,7 @@ use Rattle.protobuf_parse_model.specs.Statements.{oneof_fields}
 use Rattle.protobuf_parse_model.proofs.convert.lists.fields_of_oneof.Goals as goal
 
 pub returns : goal.returns
-returns c =
-    let env = environment_in c.args.context.now in
+returns g c =
+    let env = environment_in (g.C.CustomOptions.customs c.args.custom.now) c.args.context.now in
     let is = ap statements_seen c.deref-2.ensures.value ∙ (c.in_ok-statements.ensures ∙ ap (λ z. flat_map oneof_fields (map oneof_statement_view z)) c.deref.ensures.value) in
     subst (λ (ss : List FieldStatementSyntax). Elaborates fields_view c.declared_fields.result (flat_map (field_statement_faults env) ss) (fields_declared env (place_view c.args.place.now) ss)) is c.declared_fields.ensures

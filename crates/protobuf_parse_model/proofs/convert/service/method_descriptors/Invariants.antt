@@ -5,9 +5,9 @@ use Rattle.protobuf_parse_model.specs.Services.{method_faults, method_of}
 use Rattle.protobuf_parse_model.proofs.convert.service.method_descriptors.Given as goal
 
 abbrev pub invariant-loop-method : goal.invariant-loop-method
-invariant-loop-method l =
+invariant-loop-method g l =
     let seen = methods_seen (take l.method-index l.methods) in
     record {
-      no_fault : flat_map (method_faults (environment_in l.context)) seen ≡ [];
-      all : map method_view l.descriptors.items ≡ map (method_of (environment_in l.context)) seen;
+      no_fault : flat_map (method_faults (environment_in (g.C.CustomOptions.customs l.custom) l.context)) seen ≡ [];
+      all : map method_view l.descriptors.items ≡ map (method_of (environment_in (g.C.CustomOptions.customs l.custom) l.context)) seen;
     }

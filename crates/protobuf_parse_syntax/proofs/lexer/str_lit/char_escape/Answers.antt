@@ -1,7 +1,7 @@
 use Rattle.std.proofs.Common.{ap, ◌∙◌, subst, arith}
 use Rattle.std.specs.Char.{IsScalar}
 use Rattle.protobuf_parse_syntax.specs.declared.lexer.str_lit.Meaning.TheVariants as meaning
-use Rattle.protobuf_parse_syntax.specs.declared.lexer.bytes.Class.TheVariants as class
+use Rattle.protobuf_parse_syntax.specs.declared.lexer.bytes.ByteClass.TheVariants as class
 use Rattle.protobuf_parse_syntax.specs.Escapes.{in_range}
 use Rattle.protobuf_parse_syntax.proofs.Escapes.{digits_of_front}
 use Rattle.protobuf_parse_syntax.proofs.lexer.str_lit.char_escape.Goals as goal

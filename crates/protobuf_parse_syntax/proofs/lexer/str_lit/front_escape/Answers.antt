@@ -1,6 +1,6 @@
 use Rattle.std.proofs.Common.{◌≡◌, sym, ap, ◌∙◌, subst, inl, inr, arith, MatchOption, true, false}
 use Rattle.protobuf_parse_syntax.specs.Text.{is_in}
-use Rattle.protobuf_parse_syntax.specs.declared.lexer.bytes.Class.TheVariants as class
+use Rattle.protobuf_parse_syntax.specs.declared.lexer.bytes.ByteClass.TheVariants as class
 use Rattle.protobuf_parse_syntax.specs.Tokens.{letter, letter_byte}
 use Rattle.protobuf_parse_syntax.specs.Decoding.{HasEscape, HasNoEscape}
 use Rattle.protobuf_parse_syntax.specs.Escapes.{octal_front, hex_front, short_front, long_front, no_letter}

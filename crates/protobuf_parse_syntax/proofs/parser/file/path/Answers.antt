@@ -17,4 +17,4 @@ returns-in-Ok c =
     says_path (left c.args.tokens.now) (left c.text.new.tokens) (string_bytes c.in_ok-text.text) c.in_ok-text.ensures (c.in-Ok.ensures.accepted.0 refl) ∙ ap (λ (z : Bytes). read z (left c.text.new.tokens)) (sym c.in-Ok.ensures.text)
 
 pub returns-in-Err : goal.returns-in-Err
-returns-in-Err c = says_no_path (left c.args.tokens.now) (left c.text.new.tokens) (string_bytes c.in_ok-text.text) c.in_ok-text.ensures c.in-Err.fault (λ h. false≢true (c.in-Err.ensures.accepted.1 h))
+returns-in-Err c = says_no_path (left c.args.tokens.now) (left c.text.new.tokens) (string_bytes c.in_ok-text.text) c.in_ok-text.ensures c.in-Err.fault c.in-Err.ensures.fault (λ h. false≢true (c.in-Err.ensures.accepted.1 h))

@@ -24,5 +24,5 @@ returns c =
       php_namespace = c.in_ok-late.ensures.php_namespace i;
       php_metadata_namespace = c.in_ok-late.ensures.php_metadata_namespace i;
       ruby_package = c.in_ok-late.ensures.ruby_package i;
-      custom = c.new.ensures.items i;
+      custom = c.args.custom.items;
     })

@@ -1,7 +1,0 @@
-use Rattle.std.proofs.Common.{◌≡◌, [], map, take, flat_map}
-use Rattle.protobuf_parse_syntax.specs.Trees.{option_statement_view}
-use Rattle.protobuf_parse_model.specs.Unsupported.{unsupported_option_statement}
-use Rattle.protobuf_parse_model.proofs.convert.customs.refuse_option_statements.Given as goal
-
-abbrev pub invariant-loop-statement : goal.invariant-loop-statement
-invariant-loop-statement l = flat_map unsupported_option_statement (map option_statement_view (take l.statement-index l.statements)) ≡ []

@@ -1,0 +1,119 @@
+//! Custom options: who says what they become.
+
+ghost use Rattle.std.specs.Prelude.{◌≡◌, ◌++◌, [], codes, map, flat_map, string_bytes, IfOk, OnOk};
+ghost use Rattle.protobuf_parse_syntax.specs.Trees.{option_part_view, option_view};
+ghost use Rattle.protobuf_parse_model.specs.Contexts.{texts};
+ghost use Rattle.protobuf_parse_model.specs.Environment.{Customs, no_extensions, part_text, path_text, unknown_option};
+ghost use Rattle.protobuf_parse_model.specs.Faults.{Elaborates};
+ghost use Rattle.protobuf_parse_model.specs.OptionViews.{options_seen};
+
+use crate::convert::refuse::fault;
+use crate::error::{ElabErrorKind, ElabFailure};
+use protobuf_parse_syntax::{ProtobufOption, ProtobufOptionName, ProtobufOptionNamePart};
+use std::alloc::{AllocError, Global};
+
+/// What has options: each kind has an options message of its own in google/protobuf/descriptor.proto.
+#[derive(Clone, Copy, Debug, PartialEq, Eq)]
+pub enum Construct {
+    File,
+    Message,
+    Field,
+    Oneof,
+    Enum,
+    EnumValue,
+    Service,
+    Method,
+}
+
+/// Who says what custom options become.
+pub trait CustomOptions {
+    /// What is wrong in the custom options of constructs, and the bytes that they become.
+    ghost customs: { Self → Customs };
+
+    /// The bytes that the custom options become among the statements that set the options of a construct.
+    ///
+    /// The names of extensions are looked up from the scope: the names of the package and of the messages
+    /// around the construct, the outermost first. Where something is wrong, one of the faults is told.
+    fn bytes(
+        &self,
+        alloc: Global,
+        construct: Construct,
+        scope: &[&str],
+        options: &[&ProtobufOption],
+    ) -> Result<Vec<u8>, ElabFailure>
+        ensures { let c = customs self.now in let os = options_seen options.now in
+            Elaborates (λ v. v.items) result (c.faults construct (texts scope.now) os) (c.bytes construct (texts scope.now) os) };
+}
+
+/// Knows no extension: a custom option is refused as one that isn't there, E11.
+#[derive(Clone, Copy, Debug, Drop)]
+pub struct NoExtensions;
+
+impl CustomOptions for NoExtensions {
+    ghost customs = { λ c. no_extensions };
+
+    fn bytes(
+        &self,
+        alloc: Global,
+        _construct: Construct,
+        _scope: &[&str],
+        options: &[&ProtobufOption],
+    ) -> Result<Vec<u8>, ElabFailure> {
+        refuse_customs(alloc, options)?;
+        Ok(Vec::new(alloc))
+    }
+}
+
+/// Refuses custom options: E11.
+#[tactic(auto, using(crate::proofs::Blaming::blames_at))]
+fn refuse_customs(alloc: Global, options: &[&ProtobufOption]) -> Result<(), ElabFailure>
+    ensures { let os = options_seen options.now in
+        Elaborates (λ u. u) result (flat_map unknown_option os) tt }
+{
+    for option in options {
+        refuse_custom(alloc, option)?;
+    }
+    Ok(())
+}
+
+fn refuse_custom(alloc: Global, option: &ProtobufOption) -> Result<(), ElabFailure>
+    ensures { Elaborates (λ u. u) result (unknown_option (option_view option.now)) tt }
+{
+    match &option.name {
+        ProtobufOptionName::Builtin(_) => Ok(()),
+        ProtobufOptionName::Custom(parts) => {
+            let name = path_text(alloc, parts)?;
+            Err(fault(alloc, ElabErrorKind::BuiltinOptionNotFound, &name))
+        }
+    }
+}
+
+/// The name of a custom option as it is written.
+fn path_text(alloc: Global, parts: &[ProtobufOptionNamePart]) -> Result<String, AllocError>
+    ensures { IfOk result (λ s. string_bytes s ≡ path_text (map option_part_view parts.now)) }
+{
+    let mut text = String::new(alloc);
+    let [first, others @ ..] = parts else {
+        return Ok(text);
+    };
+    push_part(&mut text, first)?;
+    for part in others {
+        text.push('.')?;
+        push_part(&mut text, part)?;
+    }
+    Ok(text)
+}
+
+/// Adds a part, an extension in parentheses.
+fn push_part(text: &mut String, part: &ProtobufOptionNamePart) -> Result<(), AllocError>
+    ensures { OnOk result (string_bytes text.new ≡ string_bytes text.old ++ part_text (option_part_view part.now)) }
+{
+    match part {
+        ProtobufOptionNamePart::Direct(name) => text.push_str(name),
+        ProtobufOptionNamePart::Ext(name) => {
+            text.push('(')?;
+            text.push_str(name)?;
+            text.push(')')
+        }
+    }
+}
