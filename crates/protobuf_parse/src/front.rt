@@ -5,7 +5,6 @@ mod command;
 mod files;
 mod includes;
 mod lines;
-mod one_file;
 
 pub use builder::{ParsedAndTypechecked, Parser};
 pub use command::program;

@@ -2,9 +2,10 @@
 
 ghost use Rattle.std.specs.Prelude.{◌≡◌, IfOk, IfErr, OnOk, OnErr, [], ◌∷◌, ◌++◌, length, map, filter, option_map, string_bytes};
 ghost use Rattle.protobuf_parse_base.specs.PathViews.{path_buf_text};
-ghost use Rattle.protobuf_parse.specs.Run.{input_view};
+ghost use Rattle.protobuf_parse.specs.Run.{IsCaused, input_view};
 ghost use Rattle.protobuf_parse.specs.Includes.{part_views};
-ghost use Rattle.protobuf_parse.specs.Parsers.{IsParsed, IsSetOfInputs, RanOverFolders, TellsFault, includes_of, inputs_at, inputs_of, is_among, is_of_input};
+ghost use Rattle.protobuf_parse.specs.Folders.{MayFind};
+ghost use Rattle.protobuf_parse.specs.Parsers.{IsParsed, IsSameParser, IsSetOfInputs, MayReadAnything, RanOverFolders, TellsFault, includes_of, inputs_at, inputs_of, is_among, is_of_input};
 
 use crate::bundled::bundled_files;
 use crate::front::files::{FsReader, copy_texts, fs_resolver};
@@ -56,47 +57,87 @@ impl Parser {
         self
     }
 
-    /// Adds an include. The one error is that memory is short.
+    /// Adds an include. Where memory is short, which is the one error, nothing changes.
+    pub fn push_include(&mut self, include: &str) -> Result<(), AllocError>
+        ensures includes { OnOk result
+            (includes_of self.new ≡ includes_of self.old ++ include.now ∷ []) }
+        ensures inputs { inputs_of self.new ≡ inputs_of self.old }
+        ensures kept { OnErr result (IsSameParser self.old self.new) }
+    {
+        push_text(&mut self.includes, include)
+    }
+
+    /// [`Parser::push_include`], and answers the parser.
     pub fn include(&mut self, include: &str) -> Result<&mut Self, AllocError>
         ensures includes { IfOk result (λ p.
             includes_of p.now ≡ includes_of self.old ++ include.now ∷ []) }
         ensures inputs { IfOk result (λ p. inputs_of p.now ≡ inputs_of self.old) }
         ensures same_reference { IfOk result (λ p. p.ghost_name ≡ self.entry.ghost_name) }
     {
-        push_text(&mut self.includes, include)?;
+        self.push_include(include)?;
         Ok(self)
     }
 
-    /// Adds includes, in order, all or none. The one error is that memory is short.
+    /// Adds includes, in order, all or none. Where memory is short, which is the one error, nothing changes.
+    pub fn push_includes(&mut self, includes: &[&str]) -> Result<(), AllocError>
+        ensures includes { OnOk result
+            (includes_of self.new ≡ includes_of self.old ++ part_views includes.now) }
+        ensures inputs { inputs_of self.new ≡ inputs_of self.old }
+        ensures kept { OnErr result (IsSameParser self.old self.new) }
+    {
+        push_texts(&mut self.includes, includes)
+    }
+
+    /// [`Parser::push_includes`], and answers the parser.
     pub fn includes(&mut self, includes: &[&str]) -> Result<&mut Self, AllocError>
         ensures includes { IfOk result (λ p.
             includes_of p.now ≡ includes_of self.old ++ part_views includes.now) }
         ensures inputs { IfOk result (λ p. inputs_of p.now ≡ inputs_of self.old) }
         ensures same_reference { IfOk result (λ p. p.ghost_name ≡ self.entry.ghost_name) }
     {
-        push_texts(&mut self.includes, includes)?;
+        self.push_includes(includes)?;
         Ok(self)
     }
 
-    /// Adds an input. The one error is that memory is short.
+    /// Adds an input. Where memory is short, which is the one error, nothing changes.
+    pub fn push_input(&mut self, input: &str) -> Result<(), AllocError>
+        ensures inputs { OnOk result
+            (inputs_of self.new ≡ inputs_of self.old ++ input.now ∷ []) }
+        ensures includes { includes_of self.new ≡ includes_of self.old }
+        ensures kept { OnErr result (IsSameParser self.old self.new) }
+    {
+        push_text(&mut self.inputs, input)
+    }
+
+    /// [`Parser::push_input`], and answers the parser.
     pub fn input(&mut self, input: &str) -> Result<&mut Self, AllocError>
         ensures inputs { IfOk result (λ p.
             inputs_of p.now ≡ inputs_of self.old ++ input.now ∷ []) }
         ensures includes { IfOk result (λ p. includes_of p.now ≡ includes_of self.old) }
         ensures same_reference { IfOk result (λ p. p.ghost_name ≡ self.entry.ghost_name) }
     {
-        push_text(&mut self.inputs, input)?;
+        self.push_input(input)?;
         Ok(self)
     }
 
-    /// Adds inputs, in order, all or none. The one error is that memory is short.
+    /// Adds inputs, in order, all or none. Where memory is short, which is the one error, nothing changes.
+    pub fn push_inputs(&mut self, inputs: &[&str]) -> Result<(), AllocError>
+        ensures inputs { OnOk result
+            (inputs_of self.new ≡ inputs_of self.old ++ part_views inputs.now) }
+        ensures includes { includes_of self.new ≡ includes_of self.old }
+        ensures kept { OnErr result (IsSameParser self.old self.new) }
+    {
+        push_texts(&mut self.inputs, inputs)
+    }
+
+    /// [`Parser::push_inputs`], and answers the parser.
     pub fn inputs(&mut self, inputs: &[&str]) -> Result<&mut Self, AllocError>
         ensures inputs { IfOk result (λ p.
             inputs_of p.now ≡ inputs_of self.old ++ part_views inputs.now) }
         ensures includes { IfOk result (λ p. includes_of p.now ≡ includes_of self.old) }
         ensures same_reference { IfOk result (λ p. p.ghost_name ≡ self.entry.ghost_name) }
     {
-        push_texts(&mut self.inputs, inputs)?;
+        self.push_inputs(inputs)?;
         Ok(self)
     }
 
@@ -111,6 +152,8 @@ impl Parser {
     ) -> Result<ParsedAndTypechecked, RunFault>
         ensures parsed { IfOk result (IsParsed (includes_of self.now) (inputs_of self.now)) }
         ensures fault { IfErr result (TellsFault (includes_of self.now) (inputs_of self.now)) }
+        ensures caused { IfErr result (λ f.
+            IsCaused (MayFind (includes_of self.now)) MayReadAnything f) }
     {
         let alloc = rt.alloc();
         let names = proto_paths_of(alloc, &self.includes, &self.inputs)?;
@@ -129,6 +172,8 @@ impl Parser {
     ) -> Result<FileDescriptorSet, RunFault>
         ensures set { IfOk result (IsSetOfInputs (includes_of self.now) (inputs_of self.now)) }
         ensures fault { IfErr result (TellsFault (includes_of self.now) (inputs_of self.now)) }
+        ensures caused { IfErr result (λ f.
+            IsCaused (MayFind (includes_of self.now)) MayReadAnything f) }
     {
         let ParsedAndTypechecked {
             relative_paths,
@@ -171,8 +216,10 @@ fn run_over_folders<R: Files + AllocGlobal>(
     names: &[ProtoPathBuf],
 ) -> Result<Vec<FileDescriptorProto>, RunFault>
     requires { length names.now ≡ length inputs.now }
-    ensures { RanOverFolders (map string_bytes includes.now) (map string_bytes inputs.now)
+    ensures ran { RanOverFolders (map string_bytes includes.now) (map string_bytes inputs.now)
         (map path_buf_text names.now) result }
+    ensures caused { IfErr result (λ f.
+        IsCaused (MayFind (map string_bytes includes.now)) MayReadAnything f) }
 {
     let folders = text_slices(alloc, includes)?;
     let resolver = fs_resolver(rt, alloc, &folders)?;
