@@ -1,5 +1,5 @@
 -- Runs over real files, and the descriptors of the inputs alone.
-use Rattle.std.specs.Prelude.{String, filter, string_bytes}
+use Rattle.std.specs.Prelude.{IfErr, String, filter, string_bytes}
 use Rattle.std.proofs.Common.{◌≡◌, ◌∙◌, ap, sym, refl, subst, ◌⊎◌, inl, inr, ℕ, ◌+◌, ◌<◌, arith, Bool, true, false, List, [], ◌∷◌, ◌++◌, append-nil, get_or, length, length-take, map, take, Result, Ok, Err}
 use Rattle.std.specs.Global.{Vec, Global}
 use Rattle.std.proofs.lemmas.Bool.{cond-false, cond-true}
@@ -14,7 +14,7 @@ use Rattle.protobuf_parse.specs.declared.run.log.ReadEntry.{ReadEntry}
 use Rattle.protobuf_parse.specs.declared.run.log.RunInput.{RunInput}
 use Rattle.protobuf_parse.specs.declared.run.log.RunInput.TheVariants as given
 use Rattle.protobuf_parse.specs.Walks.{Input, at}
-use Rattle.protobuf_parse.specs.Run.{HaveTrees, MayAnswer, RunsAsTold, input_view, shipped}
+use Rattle.protobuf_parse.specs.Run.{HaveTrees, IsCaused, MayAnswer, RunsAsTold, input_view, shipped}
 use Rattle.protobuf_parse.specs.Includes.{AreNamed}
 use Rattle.protobuf_parse.specs.Folders.{MayFind}
 use Rattle.protobuf_parse.specs.Parsers.{MayReadAnything, RanOverFolders, RunsOverFolders, TellsFault, inputs_at, is_of_input}
@@ -82,6 +82,21 @@ ran-over folders includes inputs names log taken table r f i t trees told =
     either : (q : Result (Vec FileDescriptorProto) RunFault) → RunsOverFolders includes inputs names q → RanOverFolders includes inputs names q
     either (Ok files) h = h
     either (Err e) h = inl h
+
+-- ---- where L4 and L5 come from
+
+-- those of a run over the same includes
+pub caused-over : (folders includes : List Text) (r : Result (Vec FileDescriptorProto) RunFault) → folders ≡ includes
+    → IfErr r (λ f. IsCaused (MayFind folders) MayReadAnything f)
+    → IfErr r (λ f. IsCaused (MayFind includes) MayReadAnything f)
+caused-over folders includes r is =
+    subst (λ (z : List Text). IfErr r (λ f. IsCaused (MayFind z) MayReadAnything f)) is
+
+pub run-caused : (i2 includes : List (String Global)) (f : RunFault) → i2 ≡ includes
+    → IsCaused (MayFind (map string_bytes i2)) MayReadAnything f
+    → IsCaused (MayFind (map string_bytes includes)) MayReadAnything f
+run-caused i2 includes f is =
+    subst (λ (z : List (String Global)). IsCaused (MayFind (map string_bytes z)) MayReadAnything f) is
 
 -- ---- the parser
 
