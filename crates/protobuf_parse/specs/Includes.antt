@@ -7,18 +7,20 @@ use Rattle.protobuf_parse_model.specs.Descriptors.{Text}
 use Rattle.protobuf_parse.specs.declared.run.fault.RunFault.{RunFault}
 use Rattle.protobuf_parse.specs.declared.run.fault.RunFault.TheVariants as fault
 
--- What an input is called: it resides in no include, or what is left of it is no proto path, or its proto path.
+-- What an input is called: it resides in no include, or what is left of it is no proto path, or its
+-- proto path.
 pub data Naming : Type 0 where
   outside : Naming
   unnamed : PathError → Naming
   named_as : Text → Naming
 
--- The parts of a path are what stands between its slashes, without the empty ones and `.`: `kept_parts`. These are
--- what follows the parts of a front.
+-- The parts of a path are what stands between its slashes, without the empty ones and `.`:
+-- `kept_parts`. These are what follows the parts of a front.
 abbrev pub parts_after : List Text → List Text → Option (List Text)
 parts_after [] parts = Some parts
 parts_after (first ∷ front) [] = None
-parts_after (first ∷ front) (part ∷ parts) = if bytes_eq first part then parts_after front parts else None
+parts_after (first ∷ front) (part ∷ parts) =
+    if bytes_eq first part then parts_after front parts else None
 
 -- both paths are absolute, or neither is
 abbrev pub are_alike : Bool → Bool → Bool
@@ -48,7 +50,8 @@ naming_unless None text = named_as text
 
 abbrev pub naming_of_rest : Option (List Text) → Naming
 naming_of_rest None = outside
-naming_of_rest (Some parts) = naming_unless (host_path_fault (joined parts)) (joined (kept_parts (joined parts)))
+naming_of_rest (Some parts) =
+    naming_unless (host_path_fault (joined parts)) (joined (kept_parts (joined parts)))
 
 abbrev pub naming_of : List Text → Text → Naming
 naming_of includes input = naming_of_rest (left_of includes input)
@@ -95,7 +98,8 @@ IsMisnamed input why _ = ⊥
 
 abbrev pub StandsAtInput : List Text → Text → RunFault → Type 0
 StandsAtInput includes input (fault.FileMustResideInImportPath path listed) =
-    (string_bytes path ≡ input) × (string_bytes listed ≡ includes_text includes) × (naming_of includes input ≡ outside)
+    (string_bytes path ≡ input) × (string_bytes listed ≡ includes_text includes)
+    × (naming_of includes input ≡ outside)
 StandsAtInput includes input (fault.InputPath path why) =
     (string_bytes path ≡ input) × (naming_of includes input ≡ unnamed why)
 StandsAtInput includes input _ = ⊥
@@ -107,7 +111,8 @@ is_unnamed _ = true
 -- the fault stands for the first input that gets no proto path
 abbrev pub StandsAtFirst : List Text → List Text → RunFault → Type 0
 StandsAtFirst includes inputs f =
-    (input : Text) × (find (λ (i : Text). is_unnamed (naming_of includes i)) inputs ≡ Some input) × StandsAtInput includes input f
+    (input : Text) × (find (λ (i : Text). is_unnamed (naming_of includes i)) inputs ≡ Some input)
+    × StandsAtInput includes input f
 
 -- each input has its proto path, in order
 abbrev pub AreNamed : List Text → List Text → List Text → Type 0

@@ -1,7 +1,6 @@
 -- What a parser over real files was given, and what it promises.
 use Rattle.std.specs.Prelude.{◌≡◌, ◌⊎◌, List, [], ◌∷◌, Bool, false, codes, filter, map, Option, Some, None, option_map, Result, Ok, Err, bytes_eq, string_bytes}
 use Rattle.std.specs.List.{list_any}
-use Rattle.std.specs.Borrow.{Fml, LendsSoOk, MutBor}
 use Rattle.std.specs.Global.{Vec}
 use Rattle.std.specs.declared.alloc.AllocError.{AllocError}
 use Rattle.protobuf_parse_base.specs.PathViews.{path_buf_text}
@@ -40,29 +39,35 @@ inputs_at _ _ = []
 abbrev pub MayReadAnything : MayRead
 MayReadAnything own answer = Unit {0}
 
--- A run over these inputs by these names, whose imports are found in these includes and among the files that this
--- library brings, read some log and ended so.
-abbrev pub RunsOverFolders : List Text → List Text → List Text → Result (Vec FileDescriptorProto) RunFault → Type 0
+-- A run over these inputs by these names, whose imports are found in these includes and among the
+-- files that this library brings, read some log and ended so.
+abbrev pub RunsOverFolders : List Text → List Text → List Text
+    → Result (Vec FileDescriptorProto) RunFault → Type 0
 RunsOverFolders includes inputs names result =
     (log : List ReadEntry) × HaveTrees shipped log × HaveLists shipped log
-    × RunsAsTold (MayAnswer (MayFind includes) MayReadAnything) (inputs_at names inputs) shipped log result
+    × RunsAsTold (MayAnswer (MayFind includes) MayReadAnything) (inputs_at names inputs) shipped log
+    result
 
 -- or memory ran out
-abbrev pub RanOverFolders : List Text → List Text → List Text → Result (Vec FileDescriptorProto) RunFault → Type 0
+abbrev pub RanOverFolders : List Text → List Text → List Text
+    → Result (Vec FileDescriptorProto) RunFault → Type 0
 RanOverFolders includes inputs names (Ok files) = RunsOverFolders includes inputs names (Ok files)
-RanOverFolders includes inputs names (Err f) = OrMemory f (RunsOverFolders includes inputs names (Err f))
+RanOverFolders includes inputs names (Err f) =
+    OrMemory f (RunsOverFolders includes inputs names (Err f))
 
--- No descriptors: memory ran out, or the fault stands for the first input that gets no proto path, or each input gets
--- its proto path and the run over them ended with the fault.
+-- No descriptors: memory ran out, or the fault stands for the first input that gets no proto path,
+-- or each input gets its proto path and the run over them ended with the fault.
 abbrev pub TellsFault : List Text → List Text → RunFault → Type 0
 TellsFault includes inputs f =
     OrMemory f (StandsAtFirst includes inputs f
-    ⊎ ((names : List Text) × AreNamed includes inputs names × RunsOverFolders includes inputs names (Err f)))
+    ⊎ ((names : List Text) × AreNamed includes inputs names
+    × RunsOverFolders includes inputs names (Err f)))
 
 -- each input has its proto path, and these are the descriptors of the run over them
 pub record IsParsed (includes inputs : List Text) (parsed : ParsedAndTypechecked) : Type 0 where
   pub named : AreNamed includes inputs (map path_buf_text parsed.relative_paths.items)
-  pub run : RunsOverFolders includes inputs (map path_buf_text parsed.relative_paths.items) (Ok parsed.file_descriptors)
+  pub run : RunsOverFolders includes inputs (map path_buf_text parsed.relative_paths.items)
+      (Ok parsed.file_descriptors)
   pub parser : string_bytes parsed.parser ≡ codes "pure"
 
 -- ---- the descriptors of the inputs alone
@@ -78,4 +83,5 @@ is_of_input names file = is_among names (option_map string_bytes file.name)
 abbrev pub IsSetOfInputs : List Text → List Text → FileDescriptorSet → Type 0
 IsSetOfInputs includes inputs set =
     (parsed : ParsedAndTypechecked) × IsParsed includes inputs parsed
-    × (set.file.items ≡ filter (is_of_input (map path_buf_text parsed.relative_paths.items)) parsed.file_descriptors.items)
+    × (set.file.items ≡ filter (is_of_input (map path_buf_text parsed.relative_paths.items))
+    parsed.file_descriptors.items)

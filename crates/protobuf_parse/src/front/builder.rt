@@ -18,8 +18,8 @@ use protobuf_parse_model::{FileDescriptorProto, FileDescriptorSet};
 use std::alloc::{AllocError, Global};
 use std::rt::Files;
 
-/// Parses files and checks their types. Includes are the folders where imports are looked for, and inputs
-/// the files that are parsed, each of which resides in an include.
+/// Parses files and checks their types. Includes are the folders where imports are looked for, and
+/// inputs the files that are parsed, each of which resides in an include.
 #[derive(Debug, PartialEq, Drop)]
 pub struct Parser {
     includes: Vec<String>,
@@ -78,7 +78,8 @@ impl Parser {
         Ok(self)
     }
 
-    /// Adds includes, in order, all or none. Where memory is short, which is the one error, nothing changes.
+    /// Adds includes, in order, all or none. Where memory is short, which is the one error, nothing
+    /// changes.
     pub fn push_includes(&mut self, includes: &[&str]) -> Result<(), AllocError>
         ensures includes { OnOk result
             (includes_of self.new ≡ includes_of self.old ++ part_views includes.now) }
@@ -120,7 +121,8 @@ impl Parser {
         Ok(self)
     }
 
-    /// Adds inputs, in order, all or none. Where memory is short, which is the one error, nothing changes.
+    /// Adds inputs, in order, all or none. Where memory is short, which is the one error, nothing
+    /// changes.
     pub fn push_inputs(&mut self, inputs: &[&str]) -> Result<(), AllocError>
         ensures inputs { OnOk result
             (inputs_of self.new ≡ inputs_of self.old ++ part_views inputs.now) }
@@ -143,9 +145,9 @@ impl Parser {
 
     /// Parses the inputs and all files that they import, and checks their types.
     ///
-    /// All inputs get their proto paths before any file is read: the error is L3 or L11 of the first one that
-    /// gets none. Then each input is read at its own path, and its imports are looked for in the includes
-    /// and among the files that this library brings: the errors are those of the run.
+    /// All inputs get their proto paths before any file is read: the error is L3 or L11 of the first
+    /// one that gets none. Then each input is read at its own path, and its imports are looked for in
+    /// the includes and among the files that this library brings: the errors are those of the run.
     pub fn parse_and_typecheck<R: Files + AllocGlobal>(
         &self,
         rt: &R,
@@ -165,7 +167,8 @@ impl Parser {
         })
     }
 
-    /// The descriptors of the inputs alone, in the order of [`Parser::parse_and_typecheck`], and its errors.
+    /// The descriptors of the inputs alone, in the order of [`Parser::parse_and_typecheck`], and
+    /// its errors.
     pub fn file_descriptor_set<R: Files + AllocGlobal>(
         &self,
         rt: &R,
@@ -265,7 +268,8 @@ fn files_of_inputs(
     names: &[ProtoPathBuf],
     files: Vec<FileDescriptorProto>,
 ) -> Result<Vec<FileDescriptorProto>, AllocError>
-    ensures { IfOk result (λ v. v.items ≡ filter (is_of_input (map path_buf_text names.now)) files.items) }
+    ensures { IfOk result (λ v.
+        v.items ≡ filter (is_of_input (map path_buf_text names.now)) files.items) }
 {
     let mut kept = Vec::new(alloc);
     for file in files {

@@ -19,11 +19,12 @@ enum Failure {
 }
 
 /// `parse-and-typecheck <input.proto> <include>`: writes the listing of the file and of all that it
-/// imports to `out` and answers the status 0, or writes the line of what failed to `err` and answers 1.
+/// imports to `out` and answers the status 0, or writes the line of what failed to `err` and
+/// answers 1.
 ///
 /// `args` are the two arguments, without the program's own name. They are looked at first, then a
-/// [`Parser`] with this one include and this one input runs, and its whole listing is made before any of
-/// it is written.
+/// [`Parser`] with this one include and this one input runs, and its whole listing is made before
+/// any of it is written.
 pub fn program<R: Files + AllocGlobal, O: Write, E: Write>(
     rt: &R,
     args: &[String],

@@ -14,8 +14,8 @@ use std::io::ErrorKind;
 use std::rt::Files;
 use std::{fmt, fs};
 
-/// Finds files in real folders: it looks in each include in turn. Its text lists the includes as they
-/// were given: `["a", "b"]`.
+/// Finds files in real folders: it looks in each include in turn. Its text lists the includes as
+/// they were given: `["a", "b"]`.
 #[derive(Drop)]
 pub struct FsResolver<'r, R> {
     rt: &'r R,
@@ -23,15 +23,17 @@ pub struct FsResolver<'r, R> {
     text: String,
 }
 
-/// A resolver that looks for each proto path in these includes, in order. The one error is that memory is
-/// short.
+/// A resolver that looks for each proto path in these includes, in order. The one error is that
+/// memory is short.
 pub fn fs_resolver<'r, R: Files + AllocGlobal>(
     rt: &'r R,
     alloc: Global,
     includes: &[&str],
 ) -> Result<FsResolver<'r, R>, AllocError>
-    ensures includes { IfOk result (λ r. map string_bytes r.includes.items ≡ part_views includes.now) }
-    ensures shown { IfOk result (λ r. string_bytes r.text ≡ includes_text (part_views includes.now)) }
+    ensures includes { IfOk result (λ r.
+        map string_bytes r.includes.items ≡ part_views includes.now) }
+    ensures shown { IfOk result (λ r.
+        string_bytes r.text ≡ includes_text (part_views includes.now)) }
 {
     let copies = copy_texts(alloc, includes)?;
     let text = list_includes(alloc, &copies)?;
@@ -104,8 +106,8 @@ fn look_in<R: Files + AllocGlobal>(
     }
 }
 
-/// Where the path is looked for in an include: the include, a slash, and the path. An empty include adds
-/// nothing, and a slash at its end isn't doubled.
+/// Where the path is looked for in an include: the include, a slash, and the path. An empty include
+/// adds nothing, and a slash at its end isn't doubled.
 fn join_include(alloc: Global, include: &str, path: ProtoPath<'_>) -> Result<String, AllocError>
     ensures { IfOk result (λ s. string_bytes s ≡ path_tried include.now (path_text path.entry)) }
 {

@@ -12,7 +12,8 @@ use std::alloc::{AllocError, Global};
 
 /// The proto paths of the inputs, in order.
 ///
-/// The error is that of the first input that gets none, as [`proto_path_of`] says, or want of memory.
+/// The error is that of the first input that gets none, as [`proto_path_of`] says, or want of
+/// memory.
 pub fn proto_paths_of(
     alloc: Global,
     includes: &[String],
@@ -30,9 +31,9 @@ pub fn proto_paths_of(
     Ok(names)
 }
 
-/// The proto path of an input: what is left of it once the first include is taken off that is absolute
-/// like it and whose parts are a front of its own. Parts are what stands between slashes, without the
-/// empty ones and `.`.
+/// The proto path of an input: what is left of it once the first include is taken off that is
+/// absolute like it and whose parts are a front of its own. Parts are what stands between slashes,
+/// without the empty ones and `.`.
 ///
 /// The error is L3 where no include is a front, L11 where what is left is no proto path, or want of
 /// memory.
@@ -108,7 +109,8 @@ fn put_next_includes(text: &mut String, includes: &[String]) -> Result<(), Alloc
 
 /// Adds the include in double quotes, after a comma.
 fn put_next_include(text: &mut String, include: &str) -> Result<(), AllocError>
-    ensures { OnOk result (string_bytes text.new ≡ string_bytes text.old ++ next_include include.now) }
+    ensures { OnOk result (string_bytes text.new
+        ≡ string_bytes text.old ++ next_include include.now) }
 {
     text.push_str(", ")?;
     put_quoted(text, include)
