@@ -2,6 +2,7 @@
 
 mod bytes;
 mod names;
+pub mod parsers;
 mod runs;
 mod texts;
 
