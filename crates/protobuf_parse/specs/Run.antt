@@ -19,6 +19,7 @@ use Rattle.protobuf_parse_model.specs.declared.descriptor.FileDescriptorProto.{F
 use Rattle.protobuf_parse_wire.specs.CustomFaults.{elaboration_faults}
 use Rattle.protobuf_parse_wire.specs.DescriptorsByPath.{Environments, described_at, descriptors_at}
 use Rattle.protobuf_parse_wire.specs.OptionBytes.{known_customs}
+use Rattle.protobuf_parse.specs.declared.bundled.TheConstants.{BUNDLED_FILES}
 use Rattle.protobuf_parse.specs.declared.run.fault.RunFault.{RunFault}
 use Rattle.protobuf_parse.specs.declared.run.fault.RunFault.TheVariants as fault
 use Rattle.protobuf_parse.specs.declared.run.fault.ResolveFault.{ResolveFault}
@@ -41,9 +42,9 @@ input_view (given.At name fs_path) = at (path_buf_text name) (string_bytes fs_pa
 abbrev pub rows : List (Bor (List ℕ) × Bor (List ℕ)) → List (Text × Text)
 rows table = map (λ (r : Bor (List ℕ) × Bor (List ℕ)). (r.0.now, r.1.now)) table
 
--- the files that this library brings: none yet
+-- the files that this library brings, as src/bundled.rt has them: proto paths and texts
 abbrev pub shipped : List (Text × Text)
-shipped = []
+shipped = map (λ r. (r.0.now, r.1.now)) BUNDLED_FILES.now
 
 -- ---- what was read
 

@@ -26,6 +26,7 @@ impl Answers for Plain {
             "run" => runs::run(alloc, case, given),
             "reads" => runs::reads(alloc, case, given),
             "list" => runs::list(alloc, case, row),
+            "shipped" => runs::shipped(alloc, case, given),
             "answers" => runs::answers(alloc, given),
             "read" => bytes::read(alloc, case, given),
             "write" => bytes::write(alloc, case, given),

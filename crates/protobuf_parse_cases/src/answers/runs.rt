@@ -5,9 +5,10 @@ use crate::cases::{Case, CaseFile, Row};
 use crate::files::{Files, InTurn};
 use crate::notation::{shown, text_of};
 use anyhow::{Result, anyhow};
+use protobuf_parse::pure::parse_and_typecheck_custom;
 use protobuf_parse::{
     FileDescriptorProto, InputReader, ProtoPathBuf, ProtoPathResolver, ReadEntry, ReadOutcome,
-    RunInput, RunLog, run_inputs,
+    RunFault, RunInput, RunLog, run_inputs,
 };
 use std::alloc::{AllocError, Global};
 use std::cell::Cell;
@@ -104,10 +105,28 @@ pub fn list(alloc: Global, case: &Case, row: &Row) -> Result<String> {
 
 fn list_of(alloc: Global, words: &str, files: &[CaseFile]) -> Result<String> {
     let log = log_of(alloc, words, &Files { files }, &[])?;
-    Ok(match &log.result {
-        Ok(files) => listed(alloc, files)?,
-        Err(fault) => format!(in alloc; "{fault}")?,
-    })
+    Ok(listed_or_fault(alloc, &log.result)?)
+}
+
+/// The listing over these proto paths with the files that the library brings, or the fault.
+pub fn shipped(alloc: Global, case: &Case, words: &[u8]) -> Result<String> {
+    let mut paths = Vec::new(alloc);
+    for word in text_of(words)?.split_whitespace() {
+        paths.push(path_of(alloc, word)?)?;
+    }
+    let files = Files { files: &case.files };
+    let result = parse_and_typecheck_custom(alloc, &paths, &files);
+    Ok(listed_or_fault(alloc, &result)?)
+}
+
+fn listed_or_fault(
+    alloc: Global,
+    outcome: &Result<Vec<FileDescriptorProto>, RunFault>,
+) -> Result<String, AllocError> {
+    match outcome {
+        Ok(files) => listed(alloc, files),
+        Err(fault) => format!(in alloc; "{fault}"),
+    }
 }
 
 /// What a run did whose answers are given in turn: the inputs, and behind each ` | ` an answer.
