@@ -1,15 +1,16 @@
 -- In which order files are listed makes no difference to what custom options become.
-use Rattle.std.proofs.Common.{◌≡◌, true, List, [], Some, refl}
+use Rattle.std.proofs.Common.{◌≡◌, true, absurd, List, [], Option, Some, None, refl, subst}
 use Rattle.protobuf_parse_syntax.specs.Trees.{FileSyntax}
 use Rattle.protobuf_parse_model.specs.Descriptors.{Text}
 use Rattle.protobuf_parse_model.specs.FilesByPath.{among, trees_at}
 use Rattle.protobuf_parse_model.specs.Linking.{link_faults}
 use Rattle.protobuf_parse_model.proofs.Orders.{SameMembers}
+use Rattle.protobuf_parse_syntax.proofs.PackageNames.{package_has_name}
 use Rattle.protobuf_parse_wire.specs.NamesAlike.{HasPackageName}
 use Rattle.protobuf_parse_wire.specs.OptionBytes.{known_customs}
 use Rattle.protobuf_parse_wire.proofs.DescriptorOrders.{order_makes_no_difference}
 use Rattle.protobuf_parse.specs.Walks.{Trees}
-use Rattle.protobuf_parse.specs.Run.{Files, HasTrees, plain_environments, plains_at}
+use Rattle.protobuf_parse.specs.Run.{Files, HasTrees, IsTree, plain_environments, plains_at, text_read}
 use Rattle.protobuf_parse.specs.declared.run.log.ReadEntry.{ReadEntry}
 use Rattle.protobuf_parse.specs.Loading.{GoesOn}
 
@@ -19,7 +20,12 @@ HavePackages trees = (q : Text) (t : FileSyntax) → trees q ≡ Some t → HasP
 -- and so has that of each tree of a text
 pub packages-have : (table : List (Text × Text)) (log : List ReadEntry) (trees : Trees)
     → HasTrees table log trees → HavePackages trees
-packages-have table log trees has = ?
+packages-have table log trees has q t is = at (text_read table log q) (subst (λ (o : Option FileSyntax).
+    IsTree (text_read table log q) o) is (has q))
+  where
+    at : (text : Option Text) → IsTree text (Some t) → HasPackageName t
+    at (Some text) h = package_has_name text t h.1
+    at None h = absurd h
 
 pub packages-read : (files : Files) (table : List (Text × Text)) (log : List ReadEntry)
     → GoesOn files table log → HavePackages files.trees

@@ -1,18 +1,17 @@
 -- What custom options add to the faults of fields, oneofs, extensions, enums and services.
-use Rattle.std.proofs.Common.{◌≡◌, List, [], ◌∷◌, ◌++◌, map, flat_map, refl, ap}
+use Rattle.std.proofs.Common.{List, [], ◌∷◌, ◌++◌, map, flat_map, ap}
 use Rattle.protobuf_parse_syntax.specs.Trees.{FieldSyntax, FieldStatementSyntax, field, group, OneofSyntax, ExtendSyntax, EnumValueSyntax, EnumSyntax, MethodSyntax, ServiceSyntax}
 use Rattle.protobuf_parse_model.specs.declared.customs.Construct.TheVariants as of
-use Rattle.protobuf_parse_model.specs.Descriptors.{Text}
 use Rattle.protobuf_parse_model.specs.Duplicates.{fault, duplicates}
 use Rattle.protobuf_parse_model.specs.declared.error.ElabErrorKind.TheVariants.{DanglingTypeName}
 use Rattle.protobuf_parse_model.specs.Statements.{group_body, group_field_name, oneof_fields}
 use Rattle.protobuf_parse_model.specs.Environment.{Environment, Customs, no_customs, type_missing}
 use Rattle.protobuf_parse_model.specs.BuiltinOptions.{oneof_table, enum_table, enum_value_table, service_table, method_table}
-use Rattle.protobuf_parse_model.specs.Fields.{type_of, type_faults, default_faults, json_name_faults, field_options_faults, faults_of_options, field_faults, names_of_fields, fields_of_group, map_faults, plain, grouped_faults, group_faults, field_statement_faults, extension_faults}
+use Rattle.protobuf_parse_model.specs.Fields.{type_of, type_faults, default_faults, json_name_faults, field_options_faults, field_faults, map_faults, plain, grouped_faults, group_faults, field_statement_faults, extension_faults}
 use Rattle.protobuf_parse_model.specs.Enums.{enum_values, options_of_enum, value_faults, enum_faults}
 use Rattle.protobuf_parse_model.specs.Services.{methods_in, options_of_method, options_of_service, method_faults, service_faults}
 use Rattle.protobuf_parse_model.specs.Messages.{options_in_oneof, extension_faults_of, extend_faults, oneof_faults}
-use Rattle.protobuf_parse_model.specs.OptionSets.{a_set, sets_in_group, field_sets, oneof_sets, extend_sets, value_set, enum_sets, method_set, service_sets}
+use Rattle.protobuf_parse_model.specs.OptionSets.{sets_in_group, field_sets, oneof_sets, extend_sets, value_set, enum_sets, method_set, service_sets}
 use Rattle.protobuf_parse_model.proofs.SameNames.{with_customs, fields-names}
 use Rattle.protobuf_parse_model.proofs.AddedFaults.{bare, Adds, adds-none, adds-nothing, adds-own, adds-both, adds-turned, adds-flat, adds-each, adds-options}
 

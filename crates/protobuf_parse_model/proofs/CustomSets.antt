@@ -1,9 +1,9 @@
 -- The laws of a file's custom options, by its sets of options.
-use Rattle.std.proofs.Common.{◌≡◌, ◌⊎◌, ◌↔◌, inl, inr, List, [], ◌∷◌, ◌++◌, flat_map, refl, ap, subst}
-use Rattle.protobuf_parse_syntax.specs.Trees.{OptionNameSyntax, builtin, custom, OptionSyntax, StatementSyntax, file_message, file_enum, file_extend, file_service, FileSyntax}
+use Rattle.std.proofs.Common.{◌≡◌, inl, inr, List, [], ◌∷◌, flat_map, refl, ap, subst}
+use Rattle.protobuf_parse_syntax.specs.Trees.{OptionNameSyntax, builtin, custom, StatementSyntax, file_message, file_enum, file_extend, file_service, FileSyntax}
 use Rattle.protobuf_parse_model.specs.declared.customs.Construct.TheVariants as of
 use Rattle.protobuf_parse_model.specs.Descriptors.{Text}
-use Rattle.protobuf_parse_model.specs.Faults.{Among, here, there, Fault}
+use Rattle.protobuf_parse_model.specs.Faults.{Among, here, there}
 use Rattle.protobuf_parse_model.specs.Duplicates.{duplicates}
 use Rattle.protobuf_parse_model.specs.Environment.{Environment, Customs, no_customs, no_extensions, unknown_name, unknown_option}
 use Rattle.protobuf_parse_model.specs.BuiltinOptions.{file_table}

@@ -1,21 +1,20 @@
 -- What a construct becomes has no bytes of custom options but those of its sets.
-use Rattle.std.proofs.Common.{◌≡◌, ℕ, ◌+◌, Bool, List, [], ◌∷◌, ◌++◌, map, flat_map, length, None, if◌then◌else◌, refl, ap, subst}
-use Rattle.protobuf_parse_syntax.specs.Trees.{FieldSyntax, FieldStatementSyntax, field, group, TypeSyntax, scalar, map_of, named, OneofSyntax, ExtendSyntax, EnumValueSyntax, EnumSyntax, MessageStatementSyntax, message_oneof, message_extend, message_message, message_enum, message_field, MessageStatementList, no_statements, more_statements, MessageSyntax, MethodSyntax, ServiceSyntax, StatementSyntax, file_message, file_enum, file_extend, file_service, FileSyntax}
+use Rattle.std.proofs.Common.{◌≡◌, ℕ, ◌+◌, List, [], ◌∷◌, ◌++◌, map, flat_map, length, None, if◌then◌else◌, refl, ap, subst}
+use Rattle.protobuf_parse_syntax.specs.Trees.{FieldSyntax, FieldStatementSyntax, field, group, TypeSyntax, scalar, map_of, named, EnumValueSyntax, EnumSyntax, MessageStatementSyntax, message_oneof, message_extend, message_message, message_enum, message_field, MessageStatementList, no_statements, more_statements, MessageSyntax, MethodSyntax, ServiceSyntax, StatementSyntax, file_message, file_enum, file_extend, file_service, FileSyntax}
 use Rattle.protobuf_parse_model.specs.declared.customs.Construct.TheVariants as of
 use Rattle.protobuf_parse_model.specs.Descriptors.{Text, MessageDescriptor}
 use Rattle.protobuf_parse_model.specs.Faults.{Among, here, there}
 use Rattle.protobuf_parse_model.specs.Statements.{group_body, message_body, oneof_fields}
-use Rattle.protobuf_parse_model.specs.Declarations as names
 use Rattle.protobuf_parse_model.specs.Declarations.{Scope}
 use Rattle.protobuf_parse_model.specs.Environment.{Environment, Customs, inside}
-use Rattle.protobuf_parse_model.specs.Fields.{FieldPlace, plain, field_of, field_statement_of, fields_of_group}
+use Rattle.protobuf_parse_model.specs.Fields.{FieldPlace, plain, field_of, field_statement_of}
 use Rattle.protobuf_parse_model.specs.Enums.{enum_values, options_of_enum, value_of, enum_of}
-use Rattle.protobuf_parse_model.specs.Services.{methods_in, options_of_method, options_of_service, method_of, service_of}
+use Rattle.protobuf_parse_model.specs.Services.{methods_in, options_of_service, method_of, service_of}
 use Rattle.protobuf_parse_model.specs.Messages as messages
 use Rattle.protobuf_parse_model.specs.Messages.{entries_of, messages_behind, has_own_oneof, options_in_oneof, oneof_of, oneofs_of, in_oneof, fields_of, fields_from, extending, extend_fields, options_of_body, message_from, nested_of, nested_in, message_of}
 use Rattle.protobuf_parse_model.specs.FileDescriptor as files
 use Rattle.protobuf_parse_model.specs.FileDescriptor.{options_of_statements, environment, messages_of, services_of, file_of}
-use Rattle.protobuf_parse_model.specs.OptionSets.{OptionSet, a_set, sets_in_group, field_sets, oneof_sets, extend_sets, value_set, enum_sets, sets_of, sets_in, message_sets, method_set, service_sets, statement_sets, option_sets}
+use Rattle.protobuf_parse_model.specs.OptionSets.{OptionSet, a_set, sets_in_group, field_sets, value_set, enum_sets, sets_of, sets_in, message_sets, method_set, service_sets, statement_sets, option_sets}
 use Rattle.protobuf_parse_model.specs.CustomSets.{bytes_of_set, BytesAreOfSets}
 use Rattle.protobuf_parse_model.proofs.Blaming.{among_left, among_right}
 use Rattle.protobuf_parse_model.proofs.SameNames.{with_customs}

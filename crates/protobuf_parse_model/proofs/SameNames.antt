@@ -2,9 +2,9 @@
 use Rattle.std.proofs.Common.{◌≡◌, ℕ, ◌+◌, List, [], ◌∷◌, ◌++◌, map, flat_map, length, if◌then◌else◌, refl}
 use Rattle.std.proofs.lemmas.List.{map-append}
 use Rattle.protobuf_parse_syntax.specs.Trees.{FieldStatementSyntax, field, group, TypeSyntax, scalar, map_of, named, MessageStatementSyntax, message_oneof, message_extend, message_message, message_enum, message_field, MessageStatementList, no_statements, more_statements, StatementSyntax, file_message, file_enum, file_extend, file_service}
-use Rattle.protobuf_parse_model.specs.Descriptors.{Text, OneofDescriptor}
+use Rattle.protobuf_parse_model.specs.Descriptors.{Text}
 use Rattle.protobuf_parse_model.specs.Statements.{oneof_fields}
-use Rattle.protobuf_parse_model.specs.Environment.{Environment, Customs, inside}
+use Rattle.protobuf_parse_model.specs.Environment.{Environment, Customs}
 use Rattle.protobuf_parse_model.specs.Fields.{FieldPlace, plain, field_statement_of, names_of_fields}
 use Rattle.protobuf_parse_model.specs.Messages as messages
 use Rattle.protobuf_parse_model.specs.Messages.{entries_of, messages_behind, has_own_oneof, oneofs_of, in_oneof, fields_of, fields_from, extending, message_name, names_of_messages, names_of_oneofs, names_of_enums, nested_of, nested_in}

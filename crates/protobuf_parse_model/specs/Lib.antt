@@ -23,3 +23,4 @@ pub mod FileParts
 pub mod Tables
 pub mod OptionSets
 pub mod CustomSets
+pub mod OptionTables

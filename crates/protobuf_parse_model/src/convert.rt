@@ -33,6 +33,7 @@ use crate::customs::CustomOptions;
 use crate::descriptor::FileDescriptorProto;
 use crate::error::ElabFailure;
 use crate::scope::Seen;
+pub use options::has_builtin_option;
 use protobuf_parse_syntax::FileTree;
 use std::alloc::Global;
 

@@ -9,8 +9,8 @@ mod laws;
 mod linking;
 mod scope;
 
-pub use convert::elaborate;
-pub use customs::{Construct, CustomOptions, NoExtensions, WithoutCustoms};
+pub use convert::{elaborate, has_builtin_option};
+pub use customs::{Construct, CustomOptions, NoExtensions, WithoutCustoms, path_text};
 pub use descriptor::{
     CType, DescriptorProto, EnumDescriptorProto, EnumOptions, EnumReservedRange,
     EnumValueDescriptorProto, EnumValueOptions, ExtensionRange, FieldDescriptorProto, FieldOptions,

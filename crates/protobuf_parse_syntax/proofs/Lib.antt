@@ -28,3 +28,4 @@ pub mod Versions
 pub mod Messages
 pub mod Strings
 pub mod Parts
+pub mod PackageNames

@@ -1,5 +1,5 @@
 -- Files in another order: names mean the same by their descriptors, where no name is declared twice.
-use Rattle.std.proofs.Common.{◌≡◌, ℕ, ℤ, ◌+◌, ◌<◌, Bool, true, false, cond, ◌||◌, inl, inr, List, [], ◌∷◌, ◌++◌, map, filter, flat_map, Option, Some, None, is_some, option_map, option_to_list, refl, sym, ap, ◌∙◌, subst, arith, bytes_eq}
+use Rattle.std.proofs.Common.{◌≡◌, ℕ, ◌<◌, Bool, true, false, cond, ◌||◌, inl, inr, List, [], ◌∷◌, ◌++◌, map, filter, flat_map, Option, Some, None, is_some, option_map, option_to_list, refl, sym, ap, ◌∙◌, subst, bytes_eq}
 use Rattle.std.specs.List.{find, list_any}
 use Rattle.std.proofs.Math.Path.{fun_ext}
 use Rattle.std.proofs.lemmas.Bool.{cases_Bool}
@@ -8,28 +8,25 @@ use Rattle.std.proofs.lemmas.List.{append-nil, map-append}
 use Rattle.std.proofs.lemmas.List.Elements.{filter-append}
 use Rattle.protobuf_parse_syntax.specs.Trees.{FileSyntax, OptionSyntax}
 use Rattle.protobuf_parse_model.specs.Descriptors.{Text, FieldDescriptor, EnumValueDescriptor, EnumDescriptor, MessageParts, FileDescriptor}
-use Rattle.protobuf_parse_model.specs.Faults.{Among, here, there, Fault}
-use Rattle.protobuf_parse_model.specs.Declarations.{Scope, Declared, DeclaredExtension, file_extensions}
+use Rattle.protobuf_parse_model.specs.Faults.{Among, here, there}
+use Rattle.protobuf_parse_model.specs.Declarations.{Scope, Declared}
 use Rattle.protobuf_parse_model.specs.Lookup.{Meanings, declared, meant}
 use Rattle.protobuf_parse_model.specs.FilesByPath.{Trees, among, trees_at}
 use Rattle.protobuf_parse_model.specs.Linking.{type_names, extension_names, occurrences, link_faults}
 use Rattle.protobuf_parse_model.specs.declared.customs.Construct.{Construct}
-use Rattle.protobuf_parse_model.specs.Environment.{CustomFaults, CustomBytes, Customs}
-use Rattle.protobuf_parse_model.specs.FileDescriptor.{file_of}
+use Rattle.protobuf_parse_model.specs.Environment.{CustomFaults, CustomBytes}
 use Rattle.protobuf_parse_model.proofs.Blaming.{among_left, among_right}
 use Rattle.protobuf_parse_model.proofs.Lookups.{found_is}
-use Rattle.protobuf_parse_model.proofs.Orders.{same-text, true-false, among-map, counted-from, count-two, of_path, of_trees, finds-same, type-once, extension-once}
+use Rattle.protobuf_parse_model.proofs.Orders.{same-text, among-map, counted-from, count-two, of_path, of_trees, finds-same, type-once, extension-once}
 use Rattle.protobuf_parse_wire.specs.Declarations.{Declaration, declared_in, declared_extensions, messages_named}
-use Rattle.protobuf_parse_wire.specs.Agreement.{Comes}
-use Rattle.protobuf_parse_wire.specs.OptionFields.{OptionScope, declared_enums, fields_of_message, field_named, values_in, number_of_value, is_message, extension_meant}
-use Rattle.protobuf_parse_wire.specs.CustomOptions.{denotes}
+use Rattle.protobuf_parse_wire.specs.OptionFields.{OptionScope, declared_enums, fields_of_message, field_named, values_in, number_of_value, is_message}
 use Rattle.protobuf_parse_wire.specs.CustomFaults.{statement_faults}
 use Rattle.protobuf_parse_wire.specs.Encoded.{encoded}
-use Rattle.protobuf_parse_wire.specs.OptionBytes.{option_bytes}
+use Rattle.protobuf_parse_wire.specs.OptionBytes.{known_customs, option_bytes}
 use Rattle.protobuf_parse_wire.specs.SameLookups.{SameLookups}
-use Rattle.protobuf_parse_wire.specs.NamesAlike.{message_names, enum_names, described_types}
-use Rattle.protobuf_parse_wire.specs.DescriptorsByPath.{Environments, described_at, descriptors_at, HasFileScopes, HaveSameMembers, AreWithin, AreReordered, customs_among, OrderMakesNoDifference}
-use Rattle.protobuf_parse_wire.proofs.AgreementBack.{described_are_declared}
+use Rattle.protobuf_parse_wire.specs.NamesAlike.{message_names, enum_names, described_types, described_extensions}
+use Rattle.protobuf_parse_wire.specs.DescriptorsByPath.{Environments, described_at, descriptors_at, HasFileScopes, HaveSameMembers, AreWithin, AreReordered, OrderMakesNoDifference}
+use Rattle.protobuf_parse_wire.proofs.ExtensionsAlike.{extensions_are_counted_alike}
 use Rattle.protobuf_parse_wire.proofs.NamesAlike.{types_are_counted_alike}
 use Rattle.protobuf_parse_wire.proofs.SameLookups.{lookups_decide_faults, lookups_decide_meaning}
 
@@ -158,9 +155,9 @@ module _ (trees : Trees) (env : Environments) where
     extension-tells : (name : Text) → Tells (extends_by name) declared_extensions extension_names name
     extension-tells name p t d e k =
         let found = found_is (extends_by name) (declared_extensions (described_at env p t)) d k in
-        let comes : Comes (env p t) (file_extensions t) d = described_are_declared (env p t) p t (files.scope p t e) (files.package_name p t e) d found.0 in
-        let named : Among (extension_names t) comes.extension.name = among-map (λ (x : DeclaredExtension). x.name) (file_extensions t) comes.extension comes.among in
-        counted-from name (extension_names t) (subst (λ (z : Text). Among (extension_names t) z) (ap (λ (x : Declared FieldDescriptor). x.name) comes.is ∙ same-text d.name name found.1) named)
+        let named : Among (described_extensions (described_at env p t)) d.name = among-map (λ (x : Declared FieldDescriptor). x.name) (declared_extensions (described_at env p t)) d found.0 in
+        let stands : Among (described_extensions (described_at env p t)) name = subst (λ (z : Text). Among (described_extensions (described_at env p t)) z) (same-text d.name name found.1) named in
+        subst (λ (k : ℕ). 0 < k) (extensions_are_counted_alike (env p t) p t name (files.scope p t e) (files.package_name p t e)) (counted-from name (described_extensions (described_at env p t)) stands)
 
     module _ (reached xs ys : List Text) (none : link_faults (trees_at trees reached) ≡ []) (within : AreWithin xs reached) (same : HaveSameMembers xs ys) where
       -- ---- what names mean
@@ -228,13 +225,13 @@ pub bytes-same : (trees : Trees) (env : Environments) (reached reached' seen see
 bytes-same trees env reached reached' seen seen' files r =
     fun_ext (λ (construct : Construct). fun_ext (λ (scope : Scope). fun_ext (λ (os : List OptionSyntax). ap encoded (lookups_decide_meaning (seen_from trees env reached seen scope) (seen_from trees env reached' seen' scope) (lookups-same trees env reached reached' seen seen' files r scope) construct os))))
 
-pub faults-same : (trees : Trees) (env : Environments) (reached reached' seen seen' : List Text) → HasFileScopes trees env → AreReordered trees reached reached' seen seen' → (customs_among (descriptors_at trees env reached) (descriptors_at trees env seen)).faults ≡ (customs_among (descriptors_at trees env reached') (descriptors_at trees env seen')).faults
+pub faults-same : (trees : Trees) (env : Environments) (reached reached' seen seen' : List Text) → HasFileScopes trees env → AreReordered trees reached reached' seen seen' → (known_customs (descriptors_at trees env reached) (descriptors_at trees env seen)).faults ≡ (known_customs (descriptors_at trees env reached') (descriptors_at trees env seen')).faults
 faults-same trees env reached reached' seen seen' files r =
     fun_ext (λ (construct : Construct). fun_ext (λ (scope : Scope). fun_ext (λ (os : List OptionSyntax). options-same trees env reached reached' seen seen' files r scope construct os)))
 
 pub order_makes_no_difference : OrderMakesNoDifference
 order_makes_no_difference trees env reached reached' seen seen' files r =
-    let e : (customs_among (descriptors_at trees env reached) (descriptors_at trees env seen)).faults ≡ (customs_among (descriptors_at trees env reached') (descriptors_at trees env seen')).faults = faults-same trees env reached reached' seen seen' files r in
+    let e : (known_customs (descriptors_at trees env reached) (descriptors_at trees env seen)).faults ≡ (known_customs (descriptors_at trees env reached') (descriptors_at trees env seen')).faults = faults-same trees env reached reached' seen seen' files r in
     let h : option_bytes (descriptors_at trees env reached) (descriptors_at trees env seen) ≡ option_bytes (descriptors_at trees env reached') (descriptors_at trees env seen') = bytes-same trees env reached reached' seen seen' files r in
     ap (λ (faults : CustomFaults). record { faults = faults; bytes = option_bytes (descriptors_at trees env reached) (descriptors_at trees env seen) }) e
-    ∙ ap (λ (bytes : CustomBytes). record { faults = (customs_among (descriptors_at trees env reached') (descriptors_at trees env seen')).faults; bytes = bytes }) h
+    ∙ ap (λ (bytes : CustomBytes). record { faults = (known_customs (descriptors_at trees env reached') (descriptors_at trees env seen')).faults; bytes = bytes }) h

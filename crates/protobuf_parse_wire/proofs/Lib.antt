@@ -22,5 +22,8 @@ pub mod Found
 pub mod Parts
 pub mod AgreementBack
 pub mod SameLookups
-mod NamesAlike
+pub mod NamesAlike
+pub mod ExtensionsAlike
 pub mod DescriptorOrders
+pub mod SmallValues
+pub mod Stated

@@ -3,12 +3,12 @@ use Rattle.std.proofs.Common.{◌≡◌, ℕ, ◌+◌, List, [], ◌∷◌, ◌+
 use Rattle.std.proofs.lemmas.List.{append-nil, map-append}
 use Rattle.std.proofs.lemmas.Grind.{flat_map-append}
 use Rattle.protobuf_parse_base.specs.Names.{absolute_text}
-use Rattle.protobuf_parse_syntax.specs.Trees.{TypeSyntax, scalar, map_of, named, FieldStatementSyntax, field, group, MessageStatementSyntax, message_field, message_oneof, message_extend, message_message, message_enum, MessageStatementList, no_statements, more_statements, StatementSyntax, file_message, file_enum, file_extend, FileSyntax, package_of}
+use Rattle.protobuf_parse_syntax.specs.Trees.{TypeSyntax, scalar, map_of, named, FieldStatementSyntax, field, group, MessageStatementSyntax, message_field, message_oneof, message_extend, message_message, message_enum, MessageStatementList, no_statements, more_statements, StatementSyntax, file_message, file_enum, file_extend, package_of}
 use Rattle.protobuf_parse_model.specs.Statements.{message_body, entry_name, is_map, oneof_fields}
 use Rattle.protobuf_parse_model.specs.Descriptors.{Text, EnumDescriptor, MessageDescriptor, messages_of_list}
 use Rattle.protobuf_parse_model.specs.Declarations as names
 use Rattle.protobuf_parse_model.specs.Declarations.{Scope, Declared, DeclaredType, full_name, file_scope, file_types, file_generated, generated_by, generated_of, generated_in, types_of, types_in, statement_types, statement_generated}
-use Rattle.protobuf_parse_model.specs.Linking.{type_names, occurrences}
+use Rattle.protobuf_parse_model.specs.Linking.{occurrences}
 use Rattle.protobuf_parse_model.specs.Environment.{Environment, inside}
 use Rattle.protobuf_parse_model.specs.Messages as bodies
 use Rattle.protobuf_parse_model.specs.Messages.{messages_behind, entries_of, message_from, nested_of, nested_in, message_of}
@@ -17,7 +17,7 @@ use Rattle.protobuf_parse_model.specs.FileDescriptor.{file_of}
 use Rattle.protobuf_parse_model.proofs.Orders.{count-append}
 use Rattle.protobuf_parse_wire.specs.Declarations.{Declaration, within, declared_message, declared_messages, package_scope}
 use Rattle.protobuf_parse_wire.specs.OptionFields.{enum_in}
-use Rattle.protobuf_parse_wire.specs.NamesAlike.{HasPackageName, TypesAreCountedAlike}
+use Rattle.protobuf_parse_wire.specs.NamesAlike.{TypesAreCountedAlike}
 use Rattle.protobuf_parse_wire.proofs.Agreement.{scope_inside, package_is}
 
 -- ---- names in descriptors
@@ -37,7 +37,7 @@ messages_within scope ms = flat_map names_of (flat_map (declared_message scope) 
 messages-append : (scope : Text) (ms ns : List MessageDescriptor) → messages_within scope (ms ++ ns) ≡ messages_within scope ms ++ messages_within scope ns
 messages-append scope ms ns = ap (flat_map names_of) (flat_map-append (declared_message scope) ms ns) ∙ flat_map-append names_of (flat_map (declared_message scope) ms) (flat_map (declared_message scope) ns)
 
-nested-are : (scope : Text) (ns : List MessageDescriptor) → declared_messages scope (messages_of_list ns) ≡ flat_map (declared_message scope) ns
+pub nested-are : (scope : Text) (ns : List MessageDescriptor) → declared_messages scope (messages_of_list ns) ≡ flat_map (declared_message scope) ns
 nested-are scope [] = refl
 nested-are scope (n ∷ ns) = ap (λ (ds : List Declaration). declared_message scope n ++ ds) (nested-are scope ns)
 

@@ -9,11 +9,11 @@ use Rattle.protobuf_parse_model.specs.Duplicates.{fault_when}
 use Rattle.protobuf_parse_model.specs.declared.customs.Construct.{Construct}
 use Rattle.protobuf_parse_model.specs.Environment.{part_text, path_text}
 use Rattle.protobuf_parse_wire.specs.Trees as trees
-use Rattle.protobuf_parse_wire.specs.Views.{Item, entries_of_list}
+use Rattle.protobuf_parse_wire.specs.Views.{entries_of_list}
 use Rattle.protobuf_parse_wire.specs.Declarations.{extends}
-use Rattle.protobuf_parse_wire.specs.OptionFields.{OptionScope, options_message, number_of_value, extension_meant, extends_message, if_extends, extension_named, part_field, constant_field, type_name_of, takes}
+use Rattle.protobuf_parse_wire.specs.OptionFields.{OptionScope, options_message, extension_meant, extends_message, if_extends, extension_named, part_field, constant_field, type_name_of, takes}
 use Rattle.protobuf_parse_wire.specs.CustomOptions.{item, message_item, value_items, list_items, field_items, path_items, named_items, option_items}
-use Rattle.protobuf_parse_wire.specs.CustomFaults.{value_name_faults, message_value_faults, number_faults, field_name_faults, extension_faults, constant_name_faults, value_faults, list_faults, field_faults, part_faults, step_faults, path_faults, custom_faults, named_faults, statement_faults}
+use Rattle.protobuf_parse_wire.specs.CustomFaults.{value_name_faults, message_value_faults, number_faults, field_name_faults, extension_faults, constant_name_faults, value_faults, list_faults, field_faults, part_faults, step_faults, path_faults, custom_faults, named_faults}
 use Rattle.protobuf_parse_wire.specs.SameLookups.{SameLookups, LookupsDecideFaults, LookupsDecideMeaning}
 
 -- ---- lists

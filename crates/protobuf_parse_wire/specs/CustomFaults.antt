@@ -8,9 +8,9 @@ use Rattle.protobuf_parse_model.specs.Faults.{Fault}
 use Rattle.protobuf_parse_model.specs.Declarations.{Declared}
 use Rattle.protobuf_parse_model.specs.Duplicates.{fault, fault_when, stands_in}
 use Rattle.protobuf_parse_model.specs.declared.customs.Construct.{Construct}
-use Rattle.protobuf_parse_model.specs.declared.customs.Construct.TheVariants as of
 use Rattle.protobuf_parse_model.specs.Environment.{no_customs, part_text, path_text}
-use Rattle.protobuf_parse_model.specs.BuiltinOptions.{Table, BuiltinKind, string_faults, file_table, message_table, field_table, oneof_table, enum_table, enum_value_table, service_table, method_table}
+use Rattle.protobuf_parse_model.specs.BuiltinOptions.{Table, string_faults}
+pub use Rattle.protobuf_parse_model.specs.OptionTables.{table_of, names_in}
 use Rattle.protobuf_parse_model.specs.FileDescriptor.{environment, file_faults}
 use Rattle.protobuf_parse_model.specs.Linking.{before_others, link_faults}
 use Rattle.protobuf_parse_model.specs.OptionSets.{OptionSet, option_sets}
@@ -127,19 +127,6 @@ path_faults at option value message (p ∷ []) =
 path_faults at option value message (p ∷ q ∷ ps) =
     part_faults at message p
     ++ flat_map (λ (g : FieldDescriptor). number_faults g ++ step_faults (part_text p) (takes g.type_) (path_faults at option value (type_name_of g) (q ∷ ps))) (option_to_list (part_field at message p))
-
-abbrev pub table_of : Construct → Table
-table_of of.File = file_table
-table_of of.Message = message_table
-table_of of.Field = field_table
-table_of of.Oneof = oneof_table
-table_of of.Enum = enum_table
-table_of of.EnumValue = enum_value_table
-table_of of.Service = service_table
-table_of of.Method = method_table
-
-abbrev pub names_in : Table → List Text
-names_in table = map (λ (entry : Text × BuiltinKind). entry.0) table
 
 -- A name that goes on from a built-in option: E28 from `uninterpreted_option`, E16 from any other,
 -- as none is a message, E17 where there is no such option.

@@ -1,14 +1,13 @@
 -- Files by their paths: the descriptors of lists of some of them, and what custom options mean there.
-use Rattle.std.specs.Prelude.{◌≡◌, Bool, true, List, [], ◌∷◌, map, flat_map, Some, option_to_list}
+use Rattle.std.specs.Prelude.{◌≡◌, true, List, [], map, flat_map, Some, option_to_list}
 use Rattle.protobuf_parse_syntax.specs.Trees.{FileSyntax}
 use Rattle.protobuf_parse_model.specs.Descriptors.{Text, FileDescriptor}
 use Rattle.protobuf_parse_model.specs.Declarations.{file_scope}
 use Rattle.protobuf_parse_model.specs.FilesByPath.{Trees, among, trees_at}
 use Rattle.protobuf_parse_model.specs.Linking.{link_faults}
-use Rattle.protobuf_parse_model.specs.Environment.{Environment, Customs}
+use Rattle.protobuf_parse_model.specs.Environment.{Environment}
 use Rattle.protobuf_parse_model.specs.FileDescriptor.{file_of}
-use Rattle.protobuf_parse_wire.specs.CustomFaults.{statement_faults}
-use Rattle.protobuf_parse_wire.specs.OptionBytes.{option_bytes}
+use Rattle.protobuf_parse_wire.specs.OptionBytes.{known_customs}
 use Rattle.protobuf_parse_wire.specs.NamesAlike.{HasPackageName}
 
 -- the environment of the file at each path, by its tree
@@ -41,16 +40,9 @@ pub record AreReordered (trees : Trees) (reached reached' seen seen' : List Text
   pub within : AreWithin seen reached
   pub once : link_faults (trees_at trees reached) ≡ []
 
--- what custom options mean in a file that reaches the first files and sees the second
-abbrev pub customs_among : (files visible : List FileDescriptor) → Customs
-customs_among files visible = record {
-  faults = λ construct scope os. statement_faults (record { files = files; visible = visible; scope = scope }) construct os;
-  bytes = option_bytes files visible;
-}
-
 -- The order of the files makes no difference.
 abbrev pub OrderMakesNoDifference : Type 0
 OrderMakesNoDifference =
     (trees : Trees) (env : Environments) (reached reached' seen seen' : List Text)
     → HasFileScopes trees env → AreReordered trees reached reached' seen seen'
-    → customs_among (descriptors_at trees env reached) (descriptors_at trees env seen) ≡ customs_among (descriptors_at trees env reached') (descriptors_at trees env seen')
+    → known_customs (descriptors_at trees env reached) (descriptors_at trees env seen) ≡ known_customs (descriptors_at trees env reached') (descriptors_at trees env seen')

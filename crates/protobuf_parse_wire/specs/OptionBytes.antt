@@ -12,12 +12,12 @@ abbrev pub option_bytes : (files visible : List FileDescriptor) → CustomBytes
 option_bytes files visible = λ construct scope os.
     encoded (denotes (record { files = files; visible = visible; scope = scope }) construct os)
 
--- What is wrong in custom options, and what they become, by the descriptors of all files reached and
--- of those that are seen.
+-- what custom options become in a file that reaches the first files and sees the second
 abbrev pub known_customs : (files visible : List FileDescriptor) → Customs
 known_customs files visible = record {
-  faults = λ construct scope os.
-      statement_faults (record { files = files; visible = visible; scope = scope }) construct os;
+  faults = λ construct scope os. statement_faults
+      (record { files = files; visible = visible; scope = scope })
+      construct os;
   bytes = option_bytes files visible;
 }
 

@@ -3,8 +3,12 @@
 mod constants;
 mod fields;
 mod known;
+mod known_files;
 mod lookup;
 mod paths;
 mod refuse;
+mod statements;
 mod strings;
 mod values;
+
+pub use known_files::KnownFiles;

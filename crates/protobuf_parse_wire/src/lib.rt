@@ -10,12 +10,13 @@ mod kind;
 mod law;
 mod reader;
 
+pub use customs::KnownFiles;
 pub use encoder::{encode, encode_into};
 pub use entry::{Entry, EntryValue};
 pub use fault::ReadFault;
 pub use field::{ReadField, ReadValue};
 pub use kind::Kind;
 pub use law::{
-    never_too_deep, one_spelling, option_bytes_spell, options_are_read, spelled_is_read,
+    any_order, never_too_deep, one_spelling, option_bytes_spell, options_are_read, spelled_is_read,
 };
 pub use reader::read_custom;

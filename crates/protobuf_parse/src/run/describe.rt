@@ -8,16 +8,15 @@ ghost use Rattle.protobuf_parse_model.specs.Descriptors as described;
 ghost use Rattle.protobuf_parse_model.specs.Linking.{link_faults};
 ghost use Rattle.protobuf_parse_model.specs.Tables.{Tells, picked};
 ghost use Rattle.protobuf_parse_wire.specs.Known.{files_seen};
-ghost use Rattle.protobuf_parse_wire.specs.OptionBytes.{known_customs};
-ghost use Rattle.protobuf_parse_model.specs.Environment.{Customs};
 ghost use Rattle.protobuf_parse.specs.Loading.{Describes, picked_plains, plain_or, plain_seen, plains_with};
 
 use crate::run::loader::{LoadedFile, LoadedFiles, Loader};
 use crate::run::reach::Sights;
 use protobuf_parse_model::{
-    Construct, CustomOptions, ElabFailure, FileDescriptorProto, NoExtensions, Seen, WithoutCustoms, elaborate, link,
+    ElabFailure, FileDescriptorProto, NoExtensions, Seen, WithoutCustoms, elaborate, link,
 };
-use protobuf_parse_syntax::{FileTree, ProtobufOption};
+use protobuf_parse_syntax::FileTree;
+use protobuf_parse_wire::KnownFiles;
 use std::alloc::{AllocError, Global};
 
 /// What a file becomes.
@@ -123,38 +122,5 @@ fn plain_of(file: &LoadedFile) -> &FileDescriptorProto
     match &file.plain {
         Some(plain) => plain,
         None => &file.descriptor,
-    }
-}
-
-// STUB
-pub struct KnownFiles<'a> {
-    files: &'a [&'a FileDescriptorProto],
-    visible: &'a [&'a FileDescriptorProto],
-}
-
-impl<'a> KnownFiles<'a> {
-    pub fn new(
-        alloc: Global,
-        files: &'a [&'a FileDescriptorProto],
-        visible: &'a [&'a FileDescriptorProto],
-    ) -> Result<KnownFiles<'a>, AllocError>
-        ensures { IfOk result (λ k. k.files.now ≡ files.now) }
-        ensures visible { IfOk result (λ k. k.visible.now ≡ visible.now) }
-    {
-        Ok(KnownFiles { files, visible })
-    }
-}
-
-impl CustomOptions for KnownFiles<'_> {
-    ghost customs = { λ k. known_customs (files_seen k.files.now) (files_seen k.visible.now) };
-
-    fn bytes(
-        &self,
-        alloc: Global,
-        _construct: Construct,
-        _scope: &[&str],
-        _options: &[&ProtobufOption],
-    ) -> Result<Vec<u8>, ElabFailure> {
-        Ok(Vec::new(alloc))
     }
 }

@@ -1,5 +1,6 @@
 //! What the statements among options set, and what is wrong in them.
 
+mod builtin;
 mod check;
 mod said;
 mod sets;
@@ -11,6 +12,7 @@ ghost use Rattle.std.specs.Prelude.{◌≡◌, map, IfOk};
 ghost use Rattle.protobuf_parse_syntax.specs.Trees.{option_view};
 ghost use Rattle.protobuf_parse_model.specs.OptionViews.{options_seen};
 
+pub use builtin::has_builtin_option;
 pub use check::{checked_customs, checked_field_customs};
 use protobuf_parse_syntax::ProtobufOption;
 pub use sets::{

@@ -1,0 +1,19 @@
+-- Which built-in options a construct has, by what it is.
+use Rattle.std.specs.Prelude.{List, map}
+use Rattle.protobuf_parse_model.specs.declared.customs.Construct.{Construct}
+use Rattle.protobuf_parse_model.specs.declared.customs.Construct.TheVariants as of
+use Rattle.protobuf_parse_model.specs.BuiltinOptions.{Table, BuiltinKind, file_table, message_table, field_table, oneof_table, enum_table, enum_value_table, service_table, method_table}
+use Rattle.protobuf_parse_model.specs.Descriptors.{Text}
+
+abbrev pub table_of : Construct → Table
+table_of of.File = file_table
+table_of of.Message = message_table
+table_of of.Field = field_table
+table_of of.Oneof = oneof_table
+table_of of.Enum = enum_table
+table_of of.EnumValue = enum_value_table
+table_of of.Service = service_table
+table_of of.Method = method_table
+
+abbrev pub names_in : Table → List Text
+names_in table = map (λ (entry : Text × BuiltinKind). entry.0) table
