@@ -1,6 +1,7 @@
 //! What is run, by its word.
 
 mod bytes;
+mod customs;
 mod names;
 pub mod parsers;
 mod runs;
@@ -29,6 +30,7 @@ impl Answers for Plain {
             "list" => runs::list(alloc, case, row),
             "shipped" => runs::shipped(alloc, case, given),
             "answers" => runs::answers(alloc, given),
+            "customs" => customs::customs(alloc, case, row),
             "read" => bytes::read(alloc, case, given),
             "write" => bytes::write(alloc, case, given),
             "escape" => names::escape(alloc, given),

@@ -3,9 +3,10 @@
 mod schemas;
 
 use self::schemas::schema;
+use super::runs::checked;
 use crate::cases::Case;
 use crate::notation::text_of;
-use anyhow::{Context, Result};
+use anyhow::{Context, Result, bail};
 use protobuf_parse::{FileDescriptorProto, ProtobufAbsPathRef, ReadField, ReadValue, read_custom};
 use protobuf_parse_base::text::escape_bytes;
 use protobuf_parse_wire::{Entry, EntryValue, Kind, encode};
@@ -13,12 +14,26 @@ use std::alloc::{AllocError, Global};
 use std::slice;
 
 /// The fields that the bytes of a message say, or the fault. Behind the verb stand the message's absolute
-/// name, or `root`, and behind ` in ` the descriptors.
+/// name, or `root`, and behind ` in ` the descriptors, or behind ` over ` the inputs of a run over the files
+/// of the case.
 pub fn read(alloc: Global, case: &Case, given: &[u8]) -> Result<String> {
-    let (name, words) = case.argument.split_once(" in ").context("no descriptors")?;
-    let message = message_of(name).context("no absolute name")?;
     let bytes = hex::decode(alloc, given)?;
-    read_told(alloc, &schemas_of(alloc, words)?, message, &bytes)
+    let (name, files) = match case.argument.split_once(" over ") {
+        Some((name, words)) => (name, files_of_run(alloc, words, case)?),
+        None => {
+            let (name, words) = case.argument.split_once(" in ").context("no descriptors")?;
+            (name, schemas_of(alloc, words)?)
+        }
+    };
+    let message = message_of(name).context("no absolute name")?;
+    read_told(alloc, &files, message, &bytes)
+}
+
+fn files_of_run(alloc: Global, words: &str, case: &Case) -> Result<Vec<FileDescriptorProto>> {
+    match checked(alloc, words, &case.files)? {
+        Ok(files) => Ok(files),
+        Err(fault) => bail!("{fault}"),
+    }
 }
 
 fn message_of(name: &str) -> Option<ProtobufAbsPathRef<'_>> {
@@ -33,7 +48,8 @@ fn schemas_of(alloc: Global, words: &str) -> Result<Vec<FileDescriptorProto>> {
     Ok(files)
 }
 
-fn read_told(
+/// What the bytes of the message say by the descriptors, or the fault.
+pub fn read_told(
     alloc: Global,
     files: &[FileDescriptorProto],
     message: ProtobufAbsPathRef<'_>,

@@ -110,13 +110,37 @@ fn list_of(alloc: Global, words: &str, files: &[CaseFile]) -> Result<String> {
 
 /// The listing over these proto paths with the files that the library brings, or the fault.
 pub fn shipped(alloc: Global, case: &Case, words: &[u8]) -> Result<String> {
+    let outcome = checked(alloc, text_of(words)?, &case.files)?;
+    Ok(listed_or_fault(alloc, &outcome)?)
+}
+
+/// The descriptors of a run over these proto paths with the files that the library brings, or the fault.
+pub fn checked(
+    alloc: Global,
+    words: &str,
+    files: &[CaseFile],
+) -> Result<Result<Vec<FileDescriptorProto>, RunFault>> {
     let mut paths = Vec::new(alloc);
-    for word in text_of(words)?.split_whitespace() {
+    for word in words.split_whitespace() {
         paths.push(path_of(alloc, word)?)?;
     }
-    let files = Files { files: &case.files };
-    let result = parse_and_typecheck_custom(alloc, &paths, &files);
-    Ok(listed_or_fault(alloc, &result)?)
+    Ok(parse_and_typecheck_custom(alloc, &paths, &Files { files }))
+}
+
+/// The files of a case, and one with this content that is called `f.proto`.
+pub fn files_with(alloc: Global, case: &Case, content: &[u8]) -> Result<Vec<CaseFile>, AllocError> {
+    let mut files = Vec::new(alloc);
+    for file in &case.files {
+        files.push(CaseFile {
+            path: String::from_str(alloc, &file.path)?,
+            content: Vec::from_slice(alloc, &file.content)?,
+        })?;
+    }
+    files.push(CaseFile {
+        path: String::from_str(alloc, "f.proto")?,
+        content: Vec::from_slice(alloc, content)?,
+    })?;
+    Ok(files)
 }
 
 fn listed_or_fault(
