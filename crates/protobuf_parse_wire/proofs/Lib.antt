@@ -25,3 +25,7 @@ pub mod SameLookups
 pub mod NamesAlike
 pub mod ExtensionsAlike
 pub mod DescriptorOrders
+pub mod BareDeclarations
+pub mod BareReading
+pub mod BareFiles
+pub mod WithoutOptions

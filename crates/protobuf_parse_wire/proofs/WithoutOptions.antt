@@ -1,0 +1,30 @@
+-- Files that are the same but for their options read the same bytes alike, and give names the same meaning.
+use Rattle.std.proofs.Common.{◌≡◌, List, [], ◌∷◌, map, Option, Some, None, option_to_list, refl, sym, ap, ◌∙◌}
+use Rattle.protobuf_parse_syntax.specs.Trees.{FileSyntax}
+use Rattle.protobuf_parse_model.specs.Descriptors.{Text, FileDescriptor}
+use Rattle.protobuf_parse_model.specs.FilesByPath.{Trees}
+use Rattle.protobuf_parse_model.specs.Environment.{Environment}
+use Rattle.protobuf_parse_model.specs.FileDescriptor.{file_of}
+use Rattle.protobuf_parse_wire.specs.Reading.{reader}
+use Rattle.protobuf_parse_wire.specs.DescriptorsByPath.{Environments, described_at, descriptors_at}
+use Rattle.protobuf_parse_wire.specs.WithoutOptions.{bare_file, OptionsAreNotRead, DifferInCustoms, CustomsAreOptions}
+use Rattle.protobuf_parse_wire.proofs.BareFiles.{all-alike, file-alike}
+use Rattle.protobuf_parse_wire.proofs.BareReading.{reader-bare}
+
+pub options_are_not_read : OptionsAreNotRead
+options_are_not_read files files' same message bytes =
+    sym (reader-bare files message bytes)
+    ∙ ap (λ (fs : List FileDescriptor). reader fs message bytes) same
+    ∙ reader-bare files' message bytes
+
+-- what a path's tree becomes, if there is one
+at-path : (env env' : Environments) → DifferInCustoms env env' → (p : Text) (o : Option FileSyntax) → map bare_file (map (described_at env p) (option_to_list o)) ≡ map bare_file (map (described_at env' p) (option_to_list o))
+at-path env env' differ p None = refl
+at-path env env' differ p (Some t) = ap (λ f. f ∷ []) (
+    ap (λ (e : Environment). bare_file (file_of e p t)) (differ p t)
+    ∙ file-alike (env p t).customs (env' p t).customs (env' p t) p t
+    )
+
+pub customs_are_options : CustomsAreOptions
+customs_are_options trees env env' paths differ =
+    all-alike bare_file (λ (p : Text). map (described_at env p) (option_to_list (trees p))) (λ (p : Text). map (described_at env' p) (option_to_list (trees p))) (λ (p : Text). at-path env env' differ p (trees p)) paths

@@ -1,0 +1,90 @@
+-- Files that are the same but for their options read the same bytes alike, and give names the same meaning.
+--
+-- No option of a descriptor says how bytes are read: a record goes by the number and the type of its field. None says
+-- what a name means: that is decided by where things stand and by their names. What custom options a file sets is said
+-- by the options of its descriptor alone. So the bytes that custom options became in some files make no difference to
+-- what is read, and to what custom options mean, by the descriptors of these files.
+-- Protocol Buffers Encoding, "Message Structure"; Protocol Buffers Language Guide (proto2), "Custom Options",
+-- "Packages and Name Resolution" (https://protobuf.dev).
+use Rattle.std.specs.Prelude.{◌≡◌, ℕ, List, map, None}
+use Rattle.protobuf_parse_syntax.specs.Trees.{FileSyntax}
+use Rattle.protobuf_parse_model.specs.Descriptors.{Text, FieldDescriptor, OneofDescriptor, EnumValueDescriptor, EnumDescriptor, MessageParts, MessageDescriptor, MessageDescriptors, a_message, no_messages, messages, MethodDescriptor, ServiceDescriptor, FileDescriptor}
+use Rattle.protobuf_parse_model.specs.FilesByPath.{Trees}
+use Rattle.protobuf_parse_wire.specs.Reading.{reader}
+use Rattle.protobuf_parse_wire.specs.DescriptorsByPath.{Environments, descriptors_at, customs_among}
+
+-- ---- descriptors without their options, and without those of what stands in them
+
+abbrev pub bare_field : FieldDescriptor → FieldDescriptor
+bare_field f = record f { options = None }
+
+abbrev pub bare_oneof : OneofDescriptor → OneofDescriptor
+bare_oneof o = record o { options = None }
+
+abbrev pub bare_value : EnumValueDescriptor → EnumValueDescriptor
+bare_value v = record v { options = None }
+
+abbrev pub bare_enum : EnumDescriptor → EnumDescriptor
+bare_enum e = record e { value = map bare_value e.value; options = None }
+
+abbrev pub bare_parts : MessageParts → MessageParts
+bare_parts m = record m {
+  field = map bare_field m.field;
+  oneof_decl = map bare_oneof m.oneof_decl;
+  enum_type = map bare_enum m.enum_type;
+  extension = map bare_field m.extension;
+  options = None;
+}
+
+abbrev mutual
+  pub bare_message : MessageDescriptor → MessageDescriptor
+  bare_message (a_message parts nested) = a_message (bare_parts parts) (bare_messages nested)
+
+  pub bare_messages : MessageDescriptors → MessageDescriptors
+  bare_messages no_messages = no_messages
+  bare_messages (messages m ms) = messages (bare_message m) (bare_messages ms)
+
+abbrev pub bare_method : MethodDescriptor → MethodDescriptor
+bare_method m = record m { options = None }
+
+abbrev pub bare_service : ServiceDescriptor → ServiceDescriptor
+bare_service s = record s { method = map bare_method s.method; options = None }
+
+abbrev pub bare_file : FileDescriptor → FileDescriptor
+bare_file file = record file {
+  message_type = map bare_message file.message_type;
+  enum_type = map bare_enum file.enum_type;
+  service = map bare_service file.service;
+  extension = map bare_field file.extension;
+  options = None;
+}
+
+-- The files are the same but for options.
+abbrev pub DifferInOptions : (files files' : List FileDescriptor) → Type 0
+DifferInOptions files files' = map bare_file files ≡ map bare_file files'
+
+-- ---- the laws
+
+-- The same bytes are read as the same, or the same is wrong in them.
+abbrev pub OptionsAreNotRead : Type 0
+OptionsAreNotRead =
+    (files files' : List FileDescriptor) → DifferInOptions files files'
+    → (message : Text) (bytes : List ℕ) → reader files message bytes ≡ reader files' message bytes
+
+-- Custom options mean the same, and the same is wrong in them.
+abbrev pub OptionsNameNothing : Type 0
+OptionsNameNothing =
+    (files files' visible visible' : List FileDescriptor)
+    → DifferInOptions files files' → DifferInOptions visible visible'
+    → customs_among files visible ≡ customs_among files' visible'
+
+-- the same environments, but for the custom options of each file
+abbrev pub DifferInCustoms : (env env' : Environments) → Type 0
+DifferInCustoms env env' =
+    (p : Text) (t : FileSyntax) → env p t ≡ record (env' p t) { customs = (env p t).customs }
+
+-- Custom options change nothing in descriptors but options.
+abbrev pub CustomsAreOptions : Type 0
+CustomsAreOptions =
+    (trees : Trees) (env env' : Environments) (paths : List Text) → DifferInCustoms env env'
+    → DifferInOptions (descriptors_at trees env paths) (descriptors_at trees env' paths)
