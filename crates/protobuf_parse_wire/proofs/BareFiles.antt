@@ -93,8 +93,7 @@ module _ (one other : Customs) where
   fields-from-alike : (env : Environment) (i : ℕ) (ss : List MessageStatementSyntax) → map bare_field (fields_from (by_one env) i ss) ≡ map bare_field (fields_from (by_other env) i ss)
   fields-from-alike env i [] = refl
   fields-from-alike env i (s ∷ ss) =
-      let next = λ (n : ℕ). i + n in
-      both-alike bare_field (fields_of (by_one env) i s) (fields_from (by_one env) (next (length (oneofs_of (by_one env) s))) ss) (fields_of (by_other env) i s) (fields_from (by_other env) (next (length (oneofs_of (by_other env) s))) ss) (fields-of-alike env i s)
+      both-alike bare_field (fields_of (by_one env) i s) (fields_from (by_one env) (i + length (oneofs_of (by_one env) s)) ss) (fields_of (by_other env) i s) (fields_from (by_other env) (i + length (oneofs_of (by_other env) s)) ss) (fields-of-alike env i s)
       (ap (λ (n : ℕ). map bare_field (fields_from (by_one env) (i + n) ss)) (oneofs-counted env s) ∙ fields-from-alike env (i + length (oneofs_of (by_other env) s)) ss)
 
   extensions-alike : (env : Environment) (s : MessageStatementSyntax) → map bare_field (bodies.extensions_of (by_one env) s) ≡ map bare_field (bodies.extensions_of (by_other env) s)

@@ -28,4 +28,6 @@ pub mod DescriptorOrders
 pub mod BareDeclarations
 pub mod BareReading
 pub mod BareFiles
+pub mod AlikeLookups
+pub mod BareLookups
 pub mod WithoutOptions

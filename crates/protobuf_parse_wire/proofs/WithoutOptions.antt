@@ -1,21 +1,39 @@
 -- Files that are the same but for their options read the same bytes alike, and give names the same meaning.
 use Rattle.std.proofs.Common.{◌≡◌, List, [], ◌∷◌, map, Option, Some, None, option_to_list, refl, sym, ap, ◌∙◌}
-use Rattle.protobuf_parse_syntax.specs.Trees.{FileSyntax}
+use Rattle.std.proofs.Math.Path.{fun_ext}
+use Rattle.protobuf_parse_syntax.specs.Trees.{FileSyntax, OptionSyntax}
 use Rattle.protobuf_parse_model.specs.Descriptors.{Text, FileDescriptor}
+use Rattle.protobuf_parse_model.specs.Declarations.{Scope}
 use Rattle.protobuf_parse_model.specs.FilesByPath.{Trees}
-use Rattle.protobuf_parse_model.specs.Environment.{Environment}
+use Rattle.protobuf_parse_model.specs.declared.customs.Construct.{Construct}
+use Rattle.protobuf_parse_model.specs.Environment.{CustomFaults, CustomBytes, Environment}
 use Rattle.protobuf_parse_model.specs.FileDescriptor.{file_of}
 use Rattle.protobuf_parse_wire.specs.Reading.{reader}
-use Rattle.protobuf_parse_wire.specs.DescriptorsByPath.{Environments, described_at, descriptors_at}
-use Rattle.protobuf_parse_wire.specs.WithoutOptions.{bare_file, OptionsAreNotRead, DifferInCustoms, CustomsAreOptions}
+use Rattle.protobuf_parse_wire.specs.Encoded.{encoded}
+use Rattle.protobuf_parse_wire.specs.CustomFaults.{statement_faults}
+use Rattle.protobuf_parse_wire.specs.OptionBytes.{option_bytes}
+use Rattle.protobuf_parse_wire.specs.DescriptorsByPath.{Environments, described_at, descriptors_at, customs_among}
+use Rattle.protobuf_parse_wire.specs.WithoutOptions.{bare_file, OptionsAreNotRead, OptionsNameNothing, DifferInCustoms, CustomsAreOptions}
 use Rattle.protobuf_parse_wire.proofs.BareFiles.{all-alike, file-alike}
 use Rattle.protobuf_parse_wire.proofs.BareReading.{reader-bare}
+use Rattle.protobuf_parse_wire.proofs.AlikeLookups.{faults-same, meaning-same}
+use Rattle.protobuf_parse_wire.proofs.BareLookups.{seen_from, lookups-alike}
 
 pub options_are_not_read : OptionsAreNotRead
 options_are_not_read files files' same message bytes =
     sym (reader-bare files message bytes)
     ∙ ap (λ (fs : List FileDescriptor). reader fs message bytes) same
     ∙ reader-bare files' message bytes
+
+pub options_name_nothing : OptionsNameNothing
+options_name_nothing files files' visible visible' same seen =
+    let alike = lookups-alike files files' visible visible' same seen in
+    let faults : (customs_among files visible).faults ≡ (customs_among files' visible').faults =
+      fun_ext (λ (construct : Construct). fun_ext (λ (scope : Scope). fun_ext (λ (os : List OptionSyntax). faults-same (seen_from files visible scope) (seen_from files' visible' scope) (alike scope) construct os))) in
+    let bytes : option_bytes files visible ≡ option_bytes files' visible' =
+      fun_ext (λ (construct : Construct). fun_ext (λ (scope : Scope). fun_ext (λ (os : List OptionSyntax). ap encoded (meaning-same (seen_from files visible scope) (seen_from files' visible' scope) (alike scope) construct os)))) in
+    ap (λ (fs : CustomFaults). record { faults = fs; bytes = option_bytes files visible }) faults
+    ∙ ap (λ (bs : CustomBytes). record { faults = (customs_among files' visible').faults; bytes = bs }) bytes
 
 -- what a path's tree becomes, if there is one
 at-path : (env env' : Environments) → DifferInCustoms env env' → (p : Text) (o : Option FileSyntax) → map bare_file (map (described_at env p) (option_to_list o)) ≡ map bare_file (map (described_at env' p) (option_to_list o))
