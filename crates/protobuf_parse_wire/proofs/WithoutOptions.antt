@@ -13,25 +13,29 @@ use Rattle.protobuf_parse_wire.specs.Encoded.{encoded}
 use Rattle.protobuf_parse_wire.specs.CustomFaults.{statement_faults}
 use Rattle.protobuf_parse_wire.specs.OptionBytes.{option_bytes}
 use Rattle.protobuf_parse_wire.specs.DescriptorsByPath.{Environments, described_at, descriptors_at, customs_among}
-use Rattle.protobuf_parse_wire.specs.WithoutOptions.{bare_file, OptionsAreNotRead, OptionsNameNothing, DifferInCustoms, CustomsAreOptions}
+use Rattle.protobuf_parse_wire.specs.WithoutOptions.{bare_file, ReadingIgnoresOptions, MeaningIgnoresOptions, CustomsIgnoreOptions, DifferInCustoms, CustomsAreOptions, CustomsMakeNoDifference}
 use Rattle.protobuf_parse_wire.proofs.BareFiles.{all-alike, file-alike}
 use Rattle.protobuf_parse_wire.proofs.BareReading.{reader-bare}
 use Rattle.protobuf_parse_wire.proofs.AlikeLookups.{faults-same, meaning-same}
 use Rattle.protobuf_parse_wire.proofs.BareLookups.{seen_from, lookups-alike}
 
-pub options_are_not_read : OptionsAreNotRead
-options_are_not_read files files' same message bytes =
+pub reading_ignores_options : ReadingIgnoresOptions
+reading_ignores_options files files' same message bytes =
     sym (reader-bare files message bytes)
     ∙ ap (λ (fs : List FileDescriptor). reader fs message bytes) same
     ∙ reader-bare files' message bytes
 
-pub options_name_nothing : OptionsNameNothing
-options_name_nothing files files' visible visible' same seen =
+pub meaning_ignores_options : MeaningIgnoresOptions
+meaning_ignores_options files files' visible visible' same seen scope construct os =
+    meaning-same (seen_from files visible scope) (seen_from files' visible' scope) (lookups-alike files files' visible visible' same seen scope) construct os
+
+pub customs_ignore_options : CustomsIgnoreOptions
+customs_ignore_options files files' visible visible' same seen =
     let alike = lookups-alike files files' visible visible' same seen in
     let faults : (customs_among files visible).faults ≡ (customs_among files' visible').faults =
       fun_ext (λ (construct : Construct). fun_ext (λ (scope : Scope). fun_ext (λ (os : List OptionSyntax). faults-same (seen_from files visible scope) (seen_from files' visible' scope) (alike scope) construct os))) in
     let bytes : option_bytes files visible ≡ option_bytes files' visible' =
-      fun_ext (λ (construct : Construct). fun_ext (λ (scope : Scope). fun_ext (λ (os : List OptionSyntax). ap encoded (meaning-same (seen_from files visible scope) (seen_from files' visible' scope) (alike scope) construct os)))) in
+      fun_ext (λ (construct : Construct). fun_ext (λ (scope : Scope). fun_ext (λ (os : List OptionSyntax). ap encoded (meaning_ignores_options files files' visible visible' same seen scope construct os)))) in
     ap (λ (fs : CustomFaults). record { faults = fs; bytes = option_bytes files visible }) faults
     ∙ ap (λ (bs : CustomBytes). record { faults = (customs_among files' visible').faults; bytes = bs }) bytes
 
@@ -46,3 +50,11 @@ at-path env env' differ p (Some t) = ap (λ f. f ∷ []) (
 pub customs_are_options : CustomsAreOptions
 customs_are_options trees env env' paths differ =
     all-alike bare_file (λ (p : Text). map (described_at env p) (option_to_list (trees p))) (λ (p : Text). map (described_at env' p) (option_to_list (trees p))) (λ (p : Text). at-path env env' differ p (trees p)) paths
+
+pub customs_make_no_difference : CustomsMakeNoDifference
+customs_make_no_difference trees env env' reached seen differ =
+    let reach = customs_are_options trees env env' reached differ in
+    let sight = customs_are_options trees env env' seen differ in (
+      reading_ignores_options (descriptors_at trees env reached) (descriptors_at trees env' reached) reach,
+      customs_ignore_options (descriptors_at trees env reached) (descriptors_at trees env' reached) (descriptors_at trees env seen) (descriptors_at trees env' seen) reach sight,
+    )

@@ -7,10 +7,13 @@
 -- Protocol Buffers Encoding, "Message Structure"; Protocol Buffers Language Guide (proto2), "Custom Options",
 -- "Packages and Name Resolution" (https://protobuf.dev).
 use Rattle.std.specs.Prelude.{◌≡◌, ℕ, List, map, None}
-use Rattle.protobuf_parse_syntax.specs.Trees.{FileSyntax}
+use Rattle.protobuf_parse_syntax.specs.Trees.{FileSyntax, OptionSyntax}
 use Rattle.protobuf_parse_model.specs.Descriptors.{Text, FieldDescriptor, OneofDescriptor, EnumValueDescriptor, EnumDescriptor, MessageParts, MessageDescriptor, MessageDescriptors, a_message, no_messages, messages, MethodDescriptor, ServiceDescriptor, FileDescriptor}
+use Rattle.protobuf_parse_model.specs.Declarations.{Scope}
 use Rattle.protobuf_parse_model.specs.FilesByPath.{Trees}
+use Rattle.protobuf_parse_model.specs.declared.customs.Construct.{Construct}
 use Rattle.protobuf_parse_wire.specs.Reading.{reader}
+use Rattle.protobuf_parse_wire.specs.CustomOptions.{denotes}
 use Rattle.protobuf_parse_wire.specs.DescriptorsByPath.{Environments, descriptors_at, customs_among}
 
 -- ---- descriptors without their options, and without those of what stands in them
@@ -63,20 +66,31 @@ bare_file file = record file {
 abbrev pub DifferInOptions : (files files' : List FileDescriptor) → Type 0
 DifferInOptions files files' = map bare_file files ≡ map bare_file files'
 
--- ---- the laws
+-- ---- the laws, of such files
 
 -- The same bytes are read as the same, or the same is wrong in them.
-abbrev pub OptionsAreNotRead : Type 0
-OptionsAreNotRead =
+abbrev pub ReadingIgnoresOptions : Type 0
+ReadingIgnoresOptions =
     (files files' : List FileDescriptor) → DifferInOptions files files'
     → (message : Text) (bytes : List ℕ) → reader files message bytes ≡ reader files' message bytes
 
--- Custom options mean the same, and the same is wrong in them.
-abbrev pub OptionsNameNothing : Type 0
-OptionsNameNothing =
+-- Custom options denote the same.
+abbrev pub MeaningIgnoresOptions : Type 0
+MeaningIgnoresOptions =
+    (files files' visible visible' : List FileDescriptor)
+    → DifferInOptions files files' → DifferInOptions visible visible'
+    → (scope : Scope) (construct : Construct) (os : List OptionSyntax)
+    → denotes (record { files = files; visible = visible; scope = scope }) construct os
+    ≡ denotes (record { files = files'; visible = visible'; scope = scope }) construct os
+
+-- The same is wrong in them, and they become the same bytes.
+abbrev pub CustomsIgnoreOptions : Type 0
+CustomsIgnoreOptions =
     (files files' visible visible' : List FileDescriptor)
     → DifferInOptions files files' → DifferInOptions visible visible'
     → customs_among files visible ≡ customs_among files' visible'
+
+-- ---- and of the files at paths, whatever custom options they set themselves
 
 -- the same environments, but for the custom options of each file
 abbrev pub DifferInCustoms : (env env' : Environments) → Type 0
@@ -88,3 +102,10 @@ abbrev pub CustomsAreOptions : Type 0
 CustomsAreOptions =
     (trees : Trees) (env env' : Environments) (paths : List Text) → DifferInCustoms env env'
     → DifferInOptions (descriptors_at trees env paths) (descriptors_at trees env' paths)
+
+-- So they make no difference to what is read, nor to what custom options mean.
+abbrev pub CustomsMakeNoDifference : Type 0
+CustomsMakeNoDifference =
+    (trees : Trees) (env env' : Environments) (reached seen : List Text) → DifferInCustoms env env'
+    → ((message : Text) (bytes : List ℕ) → reader (descriptors_at trees env reached) message bytes ≡ reader (descriptors_at trees env' reached) message bytes)
+    × (customs_among (descriptors_at trees env reached) (descriptors_at trees env seen) ≡ customs_among (descriptors_at trees env' reached) (descriptors_at trees env' seen))
