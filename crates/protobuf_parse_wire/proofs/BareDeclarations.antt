@@ -1,9 +1,8 @@
 -- Files without their options declare the same, without its options.
-use Rattle.std.proofs.Common.{◌≡◌, Bool, true, false, cond, ◌||◌, List, [], ◌∷◌, ◌++◌, map, filter, flat_map, Option, Some, None, option_map, refl, sym, ap, ◌∙◌, bytes_eq}
+use Rattle.std.proofs.Common.{◌≡◌, Bool, true, false, cond, ◌||◌, List, [], ◌∷◌, ◌++◌, map, filter, flat_map, Some, option_map, refl, sym, ap, ◌∙◌, bytes_eq}
 use Rattle.std.specs.List.{find, list_any}
 use Rattle.std.proofs.lemmas.List.{map-append}
-use Rattle.std.proofs.lemmas.Simd.{map-map}
-use Rattle.protobuf_parse_model.specs.Descriptors.{Text, FieldDescriptor, EnumDescriptor, MessageParts, MessageDescriptor, MessageDescriptors, a_message, no_messages, messages, FileDescriptor}
+use Rattle.protobuf_parse_model.specs.Descriptors.{Text, FieldDescriptor, EnumDescriptor, MessageDescriptor, MessageDescriptors, a_message, no_messages, messages, FileDescriptor}
 use Rattle.protobuf_parse_model.specs.Declarations.{Declared}
 use Rattle.protobuf_parse_wire.specs.Declarations.{Declaration, within, declared_message, declared_messages, package_scope, declared_in, extensions_within, declared_extensions, extensions_in, messages_named, extends, messages_of, extensions_of}
 use Rattle.protobuf_parse_wire.specs.OptionFields.{enum_in, declared_enums}
@@ -92,8 +91,8 @@ pub extensions-bare : (file : FileDescriptor) → declared_extensions (bare_file
 extensions-bare file =
     let scope = package_scope file.«package» in
     let inside : flat_map inside_message (declared_in (bare_file file)) ≡ map bare_extension (flat_map inside_message (declared_in file)) =
-      ap (flat_map inside_message) (file-bare file)
-      ∙ all-become bare_declaration bare_extension inside_message inside_message (λ (d : Declaration). within-bare d.name d.parts.extension) (declared_in file) in
+    ap (flat_map inside_message) (file-bare file)
+    ∙ all-become bare_declaration bare_extension inside_message inside_message (λ (d : Declaration). within-bare d.name d.parts.extension) (declared_in file) in
     both-become bare_extension (flat_map inside_message (declared_in file)) (extensions_within scope file.extension) (flat_map inside_message (declared_in (bare_file file))) (extensions_within scope (map bare_field file.extension)) inside (within-bare scope file.extension)
 
 pub all-extensions-bare : (files : List FileDescriptor) → flat_map declared_extensions (map bare_file files) ≡ map bare_extension (flat_map declared_extensions files)
@@ -124,8 +123,8 @@ enums-bare : (file : FileDescriptor) → declared_enums (bare_file file) ≡ map
 enums-bare file =
     let scope = package_scope file.«package» in
     let inside : flat_map enums_inside (declared_in (bare_file file)) ≡ map bare_declared_enum (flat_map enums_inside (declared_in file)) =
-      ap (flat_map enums_inside) (file-bare file)
-      ∙ all-become bare_declaration bare_declared_enum enums_inside enums_inside (λ (d : Declaration). enums-within-bare d.name d.parts.enum_type) (declared_in file) in
+    ap (flat_map enums_inside) (file-bare file)
+    ∙ all-become bare_declaration bare_declared_enum enums_inside enums_inside (λ (d : Declaration). enums-within-bare d.name d.parts.enum_type) (declared_in file) in
     both-become bare_declared_enum (flat_map enums_inside (declared_in file)) (map (enum_in scope) file.enum_type) (flat_map enums_inside (declared_in (bare_file file))) (map (enum_in scope) (map bare_enum file.enum_type)) inside (enums-within-bare scope file.enum_type)
 
 pub all-enums-bare : (files : List FileDescriptor) → flat_map declared_enums (map bare_file files) ≡ map bare_declared_enum (flat_map declared_enums files)

@@ -1,5 +1,5 @@
 -- In files that are the same but for their options names mean the same, but for options.
-use Rattle.std.proofs.Common.{◌≡◌, ℤ, Bool, true, false, cond, List, [], ◌∷◌, map, flat_map, Option, Some, None, option_map, refl, sym, ap, ◌∙◌, bytes_eq}
+use Rattle.std.proofs.Common.{◌≡◌, Bool, true, false, cond, List, [], ◌∷◌, map, flat_map, Option, Some, None, option_map, refl, sym, ap, ◌∙◌, bytes_eq}
 use Rattle.std.specs.List.{find, list_any}
 use Rattle.std.specs.Option.{option_or}
 use Rattle.std.proofs.Math.Path.{fun_ext}
@@ -8,8 +8,8 @@ use Rattle.protobuf_parse_model.specs.Descriptors.{Text, FieldDescriptor, EnumDe
 use Rattle.protobuf_parse_model.specs.Declarations.{Scope, Declared, full_name}
 use Rattle.protobuf_parse_model.specs.Lookup.{Meanings, begins_with_dot, declared, declared_in_first, meant, meaning}
 use Rattle.protobuf_parse_wire.specs.Declarations.{Declaration, declared_in, declared_extensions, messages_of}
-use Rattle.protobuf_parse_wire.specs.OptionFields.{OptionScope, declared_enums, fields_of_message, field_named, values_in, number_of_value, is_message, extension_meant}
-use Rattle.protobuf_parse_wire.specs.WithoutOptions.{bare_field, bare_value, bare_parts, bare_file, DifferInOptions}
+use Rattle.protobuf_parse_wire.specs.OptionFields.{OptionScope, declared_enums, fields_of_message, field_named, values_in, number_of_value, is_message}
+use Rattle.protobuf_parse_wire.specs.WithoutOptions.{bare_field, bare_value, bare_parts, bare_file, DifferOnlyInOptions}
 use Rattle.protobuf_parse_wire.proofs.BareDeclarations.{all-become, found-becomes, any-becomes, bare_declaration, declared-bare, messages-of-bare, bare_extension, all-extensions-bare, bare_declared_enum, all-enums-bare}
 use Rattle.protobuf_parse_wire.proofs.AlikeLookups.{AlikeLookups}
 
@@ -95,7 +95,7 @@ extension-bare visible scope name =
 abbrev pub seen_from : (files visible : List FileDescriptor) → Scope → OptionScope
 seen_from files visible scope = record { files = files; visible = visible; scope = scope }
 
-pub lookups-alike : (files files' visible visible' : List FileDescriptor) → DifferInOptions files files' → DifferInOptions visible visible' → (scope : Scope) → AlikeLookups (seen_from files visible scope) (seen_from files' visible' scope)
+pub lookups-alike : (files files' visible visible' : List FileDescriptor) → DifferOnlyInOptions files files' → DifferOnlyInOptions visible visible' → (scope : Scope) → AlikeLookups (seen_from files visible scope) (seen_from files' visible' scope)
 lookups-alike files files' visible visible' same seen scope = record {
   fields = λ message name. sym (field-bare files message name) ∙ ap (λ fs. field_named fs message name) same ∙ field-bare files' message name;
   values = λ enum_name name. sym (number-bare files enum_name name) ∙ ap (λ fs. number_of_value fs enum_name name) same ∙ number-bare files' enum_name name;

@@ -4,16 +4,14 @@ use Rattle.std.proofs.Math.Path.{fun_ext}
 use Rattle.protobuf_parse_syntax.specs.Trees.{FileSyntax, OptionSyntax}
 use Rattle.protobuf_parse_model.specs.Descriptors.{Text, FileDescriptor}
 use Rattle.protobuf_parse_model.specs.Declarations.{Scope}
-use Rattle.protobuf_parse_model.specs.FilesByPath.{Trees}
 use Rattle.protobuf_parse_model.specs.declared.customs.Construct.{Construct}
 use Rattle.protobuf_parse_model.specs.Environment.{CustomFaults, CustomBytes, Environment}
 use Rattle.protobuf_parse_model.specs.FileDescriptor.{file_of}
 use Rattle.protobuf_parse_wire.specs.Reading.{reader}
 use Rattle.protobuf_parse_wire.specs.Encoded.{encoded}
-use Rattle.protobuf_parse_wire.specs.CustomFaults.{statement_faults}
 use Rattle.protobuf_parse_wire.specs.OptionBytes.{option_bytes}
 use Rattle.protobuf_parse_wire.specs.DescriptorsByPath.{Environments, described_at, descriptors_at, customs_among}
-use Rattle.protobuf_parse_wire.specs.WithoutOptions.{bare_file, ReadingIgnoresOptions, MeaningIgnoresOptions, CustomsIgnoreOptions, DifferInCustoms, CustomsAreOptions, CustomsMakeNoDifference}
+use Rattle.protobuf_parse_wire.specs.WithoutOptions.{bare_file, ReadingIgnoresOptions, MeaningIgnoresOptions, CustomsIgnoreOptions, DifferOnlyInCustoms, CustomsAreOptions, CustomsMakeNoDifference}
 use Rattle.protobuf_parse_wire.proofs.BareFiles.{all-alike, file-alike}
 use Rattle.protobuf_parse_wire.proofs.BareReading.{reader-bare}
 use Rattle.protobuf_parse_wire.proofs.AlikeLookups.{faults-same, meaning-same}
@@ -33,14 +31,14 @@ pub customs_ignore_options : CustomsIgnoreOptions
 customs_ignore_options files files' visible visible' same seen =
     let alike = lookups-alike files files' visible visible' same seen in
     let faults : (customs_among files visible).faults ≡ (customs_among files' visible').faults =
-      fun_ext (λ (construct : Construct). fun_ext (λ (scope : Scope). fun_ext (λ (os : List OptionSyntax). faults-same (seen_from files visible scope) (seen_from files' visible' scope) (alike scope) construct os))) in
+    fun_ext (λ (construct : Construct). fun_ext (λ (scope : Scope). fun_ext (λ (os : List OptionSyntax). faults-same (seen_from files visible scope) (seen_from files' visible' scope) (alike scope) construct os))) in
     let bytes : option_bytes files visible ≡ option_bytes files' visible' =
-      fun_ext (λ (construct : Construct). fun_ext (λ (scope : Scope). fun_ext (λ (os : List OptionSyntax). ap encoded (meaning_ignores_options files files' visible visible' same seen scope construct os)))) in
+    fun_ext (λ (construct : Construct). fun_ext (λ (scope : Scope). fun_ext (λ (os : List OptionSyntax). ap encoded (meaning_ignores_options files files' visible visible' same seen scope construct os)))) in
     ap (λ (fs : CustomFaults). record { faults = fs; bytes = option_bytes files visible }) faults
     ∙ ap (λ (bs : CustomBytes). record { faults = (customs_among files' visible').faults; bytes = bs }) bytes
 
 -- what a path's tree becomes, if there is one
-at-path : (env env' : Environments) → DifferInCustoms env env' → (p : Text) (o : Option FileSyntax) → map bare_file (map (described_at env p) (option_to_list o)) ≡ map bare_file (map (described_at env' p) (option_to_list o))
+at-path : (env env' : Environments) → DifferOnlyInCustoms env env' → (p : Text) (o : Option FileSyntax) → map bare_file (map (described_at env p) (option_to_list o)) ≡ map bare_file (map (described_at env' p) (option_to_list o))
 at-path env env' differ p None = refl
 at-path env env' differ p (Some t) = ap (λ f. f ∷ []) (
     ap (λ (e : Environment). bare_file (file_of e p t)) (differ p t)

@@ -1,11 +1,12 @@
--- Files that are the same but for their options read the same bytes alike, and give names the same meaning.
+-- By files that are the same but for their options the same bytes are read as the same, and custom
+-- options mean the same.
 --
--- No option of a descriptor says how bytes are read: a record goes by the number and the type of its field. None says
--- what a name means: that is decided by where things stand and by their names. What custom options a file sets is said
--- by the options of its descriptor alone. So the bytes that custom options became in some files make no difference to
--- what is read, and to what custom options mean, by the descriptors of these files.
--- Protocol Buffers Encoding, "Message Structure"; Protocol Buffers Language Guide (proto2), "Custom Options",
--- "Packages and Name Resolution" (https://protobuf.dev).
+-- No option of a descriptor says how bytes are read: a record goes by the number and the type of its
+-- field. None says what a name means: that is decided by full names and by extendees. What the custom
+-- options of a file become stands in the options of its descriptor alone, so it makes no difference to
+-- what is read by that descriptor, nor to what custom options mean.
+-- Protocol Buffers Encoding, "Message Structure"; Protocol Buffers Language Guide (proto2), "Custom
+-- Options", "Packages and Name Resolution" (https://protobuf.dev).
 use Rattle.std.specs.Prelude.{◌≡◌, ℕ, List, map, None}
 use Rattle.protobuf_parse_syntax.specs.Trees.{FileSyntax, OptionSyntax}
 use Rattle.protobuf_parse_model.specs.Descriptors.{Text, FieldDescriptor, OneofDescriptor, EnumValueDescriptor, EnumDescriptor, MessageParts, MessageDescriptor, MessageDescriptors, a_message, no_messages, messages, MethodDescriptor, ServiceDescriptor, FileDescriptor}
@@ -63,22 +64,22 @@ bare_file file = record file {
 }
 
 -- The files are the same but for options.
-abbrev pub DifferInOptions : (files files' : List FileDescriptor) → Type 0
-DifferInOptions files files' = map bare_file files ≡ map bare_file files'
+abbrev pub DifferOnlyInOptions : (files files' : List FileDescriptor) → Type 0
+DifferOnlyInOptions files files' = map bare_file files ≡ map bare_file files'
 
 -- ---- the laws, of such files
 
 -- The same bytes are read as the same, or the same is wrong in them.
 abbrev pub ReadingIgnoresOptions : Type 0
 ReadingIgnoresOptions =
-    (files files' : List FileDescriptor) → DifferInOptions files files'
+    (files files' : List FileDescriptor) → DifferOnlyInOptions files files'
     → (message : Text) (bytes : List ℕ) → reader files message bytes ≡ reader files' message bytes
 
 -- Custom options denote the same.
 abbrev pub MeaningIgnoresOptions : Type 0
 MeaningIgnoresOptions =
     (files files' visible visible' : List FileDescriptor)
-    → DifferInOptions files files' → DifferInOptions visible visible'
+    → DifferOnlyInOptions files files' → DifferOnlyInOptions visible visible'
     → (scope : Scope) (construct : Construct) (os : List OptionSyntax)
     → denotes (record { files = files; visible = visible; scope = scope }) construct os
     ≡ denotes (record { files = files'; visible = visible'; scope = scope }) construct os
@@ -87,25 +88,28 @@ MeaningIgnoresOptions =
 abbrev pub CustomsIgnoreOptions : Type 0
 CustomsIgnoreOptions =
     (files files' visible visible' : List FileDescriptor)
-    → DifferInOptions files files' → DifferInOptions visible visible'
+    → DifferOnlyInOptions files files' → DifferOnlyInOptions visible visible'
     → customs_among files visible ≡ customs_among files' visible'
 
 -- ---- and of the files at paths, whatever custom options they set themselves
 
 -- the same environments, but for the custom options of each file
-abbrev pub DifferInCustoms : (env env' : Environments) → Type 0
-DifferInCustoms env env' =
+abbrev pub DifferOnlyInCustoms : (env env' : Environments) → Type 0
+DifferOnlyInCustoms env env' =
     (p : Text) (t : FileSyntax) → env p t ≡ record (env' p t) { customs = (env p t).customs }
 
 -- Custom options change nothing in descriptors but options.
 abbrev pub CustomsAreOptions : Type 0
 CustomsAreOptions =
-    (trees : Trees) (env env' : Environments) (paths : List Text) → DifferInCustoms env env'
-    → DifferInOptions (descriptors_at trees env paths) (descriptors_at trees env' paths)
+    (trees : Trees) (env env' : Environments) (paths : List Text) → DifferOnlyInCustoms env env'
+    → DifferOnlyInOptions (descriptors_at trees env paths) (descriptors_at trees env' paths)
 
 -- So they make no difference to what is read, nor to what custom options mean.
 abbrev pub CustomsMakeNoDifference : Type 0
 CustomsMakeNoDifference =
-    (trees : Trees) (env env' : Environments) (reached seen : List Text) → DifferInCustoms env env'
-    → ((message : Text) (bytes : List ℕ) → reader (descriptors_at trees env reached) message bytes ≡ reader (descriptors_at trees env' reached) message bytes)
-    × (customs_among (descriptors_at trees env reached) (descriptors_at trees env seen) ≡ customs_among (descriptors_at trees env' reached) (descriptors_at trees env' seen))
+    (trees : Trees) (env env' : Environments) (reached seen : List Text) → DifferOnlyInCustoms env env'
+    → ((message : Text) (bytes : List ℕ)
+    → reader (descriptors_at trees env reached) message bytes
+    ≡ reader (descriptors_at trees env' reached) message bytes)
+    × (customs_among (descriptors_at trees env reached) (descriptors_at trees env seen)
+    ≡ customs_among (descriptors_at trees env' reached) (descriptors_at trees env' seen))
