@@ -25,3 +25,6 @@ pub mod SameLookups
 pub mod NamesAlike
 pub mod ExtensionsAlike
 pub mod DescriptorOrders
+pub mod MessagesAlike
+pub mod Entered
+pub mod Recovery

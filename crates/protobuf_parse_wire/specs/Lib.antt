@@ -21,3 +21,4 @@ pub mod Agreement
 pub mod SameLookups
 pub mod NamesAlike
 pub mod DescriptorsByPath
+pub mod Recovery
