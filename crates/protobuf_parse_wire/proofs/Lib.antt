@@ -28,3 +28,6 @@ pub mod DescriptorOrders
 pub mod MessagesAlike
 pub mod Entered
 pub mod Recovery
+pub mod Sound
+pub mod SoundSets
+pub mod SmallValues
