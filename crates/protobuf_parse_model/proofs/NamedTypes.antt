@@ -1,10 +1,11 @@
 -- Where no fault stands in a file, the names of types in its descriptor are those of declared types.
-use Rattle.std.proofs.Common.{◌≡◌, ℕ, ◌+◌, ℤ, pos, Bool, true, false, List, [], ◌∷◌, ◌++◌, map, flat_map, length, Option, Some, None, is_some, IsSome, option_map, option_to_list, unwrap_or, if◌then◌else◌, codes, refl, ap, ◌∙◌}
+use Rattle.std.proofs.Common.{◌≡◌, ℕ, ◌+◌, ℤ, pos, Bool, true, false, List, [], ◌∷◌, ◌++◌, map, flat_map, length, Option, Some, None, is_some, IsSome, option_map, option_to_list, unwrap_or, if◌then◌else◌, codes, refl, sym, ap, subst, ◌∙◌}
 use Rattle.std.specs.List.{AllByRecursion}
 use Rattle.protobuf_parse_syntax.specs.Trees.{TypeSyntax, scalar, map_of, named, FieldSyntax, FieldStatementSyntax, field, group, OneofSyntax, ExtendSyntax, MessageStatementSyntax, message_oneof, message_extend, message_message, message_field, MessageStatementList, no_statements, more_statements, MessageSyntax, MethodSyntax, ServiceSyntax, StatementSyntax, file_message, file_extend, file_service, FileSyntax}
 use Rattle.protobuf_parse_syntax.specs.declared.tree.field.Scalar.{Scalar}
 use Rattle.protobuf_parse_syntax.specs.declared.tree.field.Scalar.TheVariants as word
 use Rattle.protobuf_parse_model.specs.declared.error.ElabErrorKind.TheVariants.{DanglingTypeName}
+use Rattle.protobuf_parse_model.specs.declared.descriptor.FieldType.TheVariants as kind
 use Rattle.protobuf_parse_model.specs.Options.{MessageOptionsSet}
 use Rattle.protobuf_parse_model.specs.Descriptors.{Text, FieldDescriptor, MessageParts, MessageDescriptor, messages_of_list, MethodDescriptor, ServiceDescriptor, FileDescriptor}
 use Rattle.protobuf_parse_model.specs.Faults.{Among, here, there, Fault}
@@ -23,7 +24,7 @@ use Rattle.protobuf_parse_model.specs.Messages.{message_with, entry_field, entri
 use Rattle.protobuf_parse_model.specs.Services.{methods_in, options_of_method, options_of_service, method_of, service_of, method_faults, methods_faults, service_faults}
 use Rattle.protobuf_parse_model.specs.FileDescriptor as files
 use Rattle.protobuf_parse_model.specs.FileDescriptor.{options_of_statements, types_of_files, environment, messages_of, services_of, file_of, file_duplicates, file_faults}
-use Rattle.protobuf_parse_model.specs.NamedTypes.{in_message, in_messages, fields_in, extensions_in, names_of_field, names_of_method, names_of_service, names_in, has_name, names_declared, NamesAreDeclared, TypesAreNamed, ExtendeesAreNamed}
+use Rattle.protobuf_parse_model.specs.NamedTypes.{in_message, in_messages, fields_in, extensions_in, names_of_field, names_of_method, names_of_service, names_in, has_name, names_declared, if_message, message_name, messages_declared, NamesAreDeclared, TypesAreNamed, ExtendeesAreNamed, MessagesAreNamed}
 use Rattle.protobuf_parse_model.proofs.Blaming.{among_left, among_right}
 use Rattle.protobuf_parse_model.proofs.Lookups.{meaning_declared}
 use Rattle.protobuf_parse_model.proofs.Orders.{among-map}
@@ -130,7 +131,13 @@ full-stands : (n : Text) (o : Option DeclaredType) → missing n o ≡ [] → Is
 full-stands n None h = absurd cc
 full-stands n (Some d) h = refl
 
-module _ (P : Text → Type 0) (customs : Customs) where
+-- only of a message is the kind so
+message-kind : (k : TypeKind) → kind_of_type k ≡ kind.Message → k ≡ a_message
+message-kind a_message e = refl
+message-kind an_enum e = absurd cc
+
+-- `P` holds of the names of types, `M` of those of messages
+module _ (P M : Text → Type 0) (any : (name : Text) → M name → P name) (customs : Customs) where
   -- the environment of a descriptor, with these custom options; that of its faults may be with others
   abbrev with_customs : Environment → Environment
   with_customs env = record env { customs = customs }
@@ -139,11 +146,13 @@ module _ (P : Text → Type 0) (customs : Customs) where
   record TypeIsNamed (t : FieldTypeOf) : Type 0 where
     stands : is_some t.name ≡ has_name t.kind
     each : AllByRecursion P (option_to_list t.name)
+    message : (name : Text) → t.kind ≡ kind.Message → t.name ≡ Some name → M name
 
   -- the same of a field, with what it extends
   record FieldIsNamed (f : FieldDescriptor) : Type 0 where
     stands : is_some f.type_name ≡ has_name f.type_
     each : AllByRecursion P (names_of_field f)
+    message : (name : Text) → f.type_ ≡ kind.Message → f.type_name ≡ Some name → M name
 
   -- and of an extension, which says what it extends
   record ExtensionIsNamed (f : FieldDescriptor) : Type 0 where
@@ -169,54 +178,66 @@ module _ (P : Text → Type 0) (customs : Customs) where
     extensions : AllByRecursion ExtensionIsNamed (extensions_in f)
     services : AllByRecursion P (flat_map names_of_service f.service)
 
-  -- the full names of what names mean there have the property
+  -- the full name of a type has the property, and that of a message the other too
+  abbrev TypeStands : DeclaredType → Type 0
+  TypeStands d = P d.name × (d.what ≡ a_message → M d.name)
+
+  -- so has that of what names mean there
   abbrev Known : Environment → Type 0
-  Known env = (scope : Scope) (name : Text) (d : DeclaredType) → meant env.types scope name ≡ Some d → P d.name
+  Known env = (scope : Scope) (name : Text) (d : DeclaredType) → meant env.types scope name ≡ Some d → TypeStands d
 
   -- ---- types
 
   -- by what the name of a type means
-  meaning-named : (n : Text) (o : Option DeclaredType) → ((d : DeclaredType) → o ≡ Some d → P d.name) → missing n o ≡ [] → TypeIsNamed (type_of_meaning o)
+  meaning-named : (n : Text) (o : Option DeclaredType) → ((d : DeclaredType) → o ≡ Some d → TypeStands d) → missing n o ≡ [] → TypeIsNamed (type_of_meaning o)
   meaning-named n None k h = absurd cc
-  meaning-named n (Some d) k h = record { stands = kind-named d.what; each = (k d refl, tt) }
+  meaning-named n (Some d) k h = record {
+    stands = kind-named d.what;
+    each = ((k d refl).0, tt);
+    message = λ name is e. let p : d.name ≡ name = cc in subst M p ((k d refl).1 (message-kind d.what is));
+  }
 
   -- the key or the value of a map
   inner-named : (env : Environment) → Known env → (name : Text) (t : TypeSyntax) → inner_type_faults env name t ≡ [] → TypeIsNamed (type_of (with_customs env) name t)
-  inner-named env known name (scalar s) h = record { stands = scalar-plain s; each = tt }
+  inner-named env known name (scalar s) h = record { stands = scalar-plain s; each = tt; message = λ n is e. absurd cc }
   inner-named env known name (named n) h = meaning-named n (type_named env n) (known env.scope n) h
   inner-named env known name (map_of key value) h = absurd cc
 
   -- the type of a field, which may be a map
-  type-is-named : (env : Environment) → Known env → (name : Text) (t : TypeSyntax) → AllByRecursion P (if is_map t then full_name env.scope (entry_name name) ∷ [] else []) → type_faults env name t ≡ [] → TypeIsNamed (type_of (with_customs env) name t)
+  type-is-named : (env : Environment) → Known env → (name : Text) (t : TypeSyntax) → AllByRecursion M (if is_map t then full_name env.scope (entry_name name) ∷ [] else []) → type_faults env name t ≡ [] → TypeIsNamed (type_of (with_customs env) name t)
   type-is-named env known name (scalar s) g h = inner-named env known name (scalar s) h
   type-is-named env known name (named n) g h = inner-named env known name (named n) h
-  type-is-named env known name (map_of key value) g h = record { stands = refl; each = g }
+  type-is-named env known name (map_of key value) g h = record {
+    stands = refl;
+    each = (any (full_name env.scope (entry_name name)) g.0, tt);
+    message = λ n is e. let p : full_name env.scope (entry_name name) ≡ n = cc in subst M p g.0;
+  }
 
   -- the full name that a name may have
-  full-each : (o : Option DeclaredType) → ((d : DeclaredType) → o ≡ Some d → P d.name) → AllByRecursion P (option_to_list (option_map (λ (d : DeclaredType). d.name) o))
+  full-each : (o : Option DeclaredType) → ((d : DeclaredType) → o ≡ Some d → TypeStands d) → AllByRecursion P (option_to_list (option_map (λ (d : DeclaredType). d.name) o))
   full-each None k = tt
-  full-each (Some d) k = (k d refl, tt)
+  full-each (Some d) k = ((k d refl).0, tt)
 
   -- the full name that a name without faults has
-  full-named : (n : Text) (o : Option DeclaredType) → ((d : DeclaredType) → o ≡ Some d → P d.name) → missing n o ≡ [] → P (unwrap_or (option_map (λ (d : DeclaredType). d.name) o) [])
+  full-named : (n : Text) (o : Option DeclaredType) → ((d : DeclaredType) → o ≡ Some d → TypeStands d) → missing n o ≡ [] → P (unwrap_or (option_map (λ (d : DeclaredType). d.name) o) [])
   full-named n None k h = absurd cc
-  full-named n (Some d) k h = k d refl
+  full-named n (Some d) k h = (k d refl).0
 
   -- ---- fields
 
   -- a field without faults in its type
-  field-named : (env : Environment) → Known env → (place : FieldPlace) (f : FieldSyntax) → AllByRecursion P (option_to_list place.extendee) → AllByRecursion P (generated_by env.scope (field f)) → type_faults env f.name f.type_ ≡ [] → FieldIsNamed (field_of (with_customs env) place f)
+  field-named : (env : Environment) → Known env → (place : FieldPlace) (f : FieldSyntax) → AllByRecursion P (option_to_list place.extendee) → AllByRecursion M (generated_by env.scope (field f)) → type_faults env f.name f.type_ ≡ [] → FieldIsNamed (field_of (with_customs env) place f)
   field-named env known place f e g h =
       let t : TypeIsNamed (type_of (with_customs env) f.name f.type_) = type-is-named env known f.name f.type_ g h in
-      record { stands = t.stands; each = all-both P (option_to_list (type_of (with_customs env) f.name f.type_).name) (option_to_list place.extendee) t.each e }
+      record { stands = t.stands; each = all-both P (option_to_list (type_of (with_customs env) f.name f.type_).name) (option_to_list place.extendee) t.each e; message = t.message }
 
   -- a field or a group
-  statement-named : (env : Environment) → Known env → (place : FieldPlace) (s : FieldStatementSyntax) → AllByRecursion P (option_to_list place.extendee) → AllByRecursion P (generated_by env.scope s) → own_faults env s ≡ [] → FieldIsNamed (field_statement_of (with_customs env) place s)
+  statement-named : (env : Environment) → Known env → (place : FieldPlace) (s : FieldStatementSyntax) → AllByRecursion P (option_to_list place.extendee) → AllByRecursion M (generated_by env.scope s) → own_faults env s ≡ [] → FieldIsNamed (field_statement_of (with_customs env) place s)
   statement-named env known place (field f) e g h = field-named env known place f e g h
-  statement-named env known place (group at label name number fields) e g h = record { stands = refl; each = (g.0, e) }
+  statement-named env known place (group at label name number fields) e g h = record { stands = refl; each = (any (full_name env.scope name) g.0, e); message = λ n is k. absurd cc }
 
   -- no message stands behind a field that is no map
-  no-map : (b : Bool) (what x : Text) → fault_when b DanglingTypeName what ≡ [] → AllByRecursion P (if b then x ∷ [] else [])
+  no-map : (b : Bool) (what x : Text) → fault_when b DanglingTypeName what ≡ [] → AllByRecursion M (if b then x ∷ [] else [])
   no-map true what x h = absurd cc
   no-map false what x h = tt
 
@@ -236,7 +257,7 @@ module _ (P : Text → Type 0) (customs : Customs) where
 
   -- the field of a key or a value
   entry-field-named : (name : Text) (number : ℤ) (t : FieldTypeOf) → TypeIsNamed t → FieldIsNamed (entry_field name number t)
-  entry-field-named name number t h = record { stands = h.stands; each = all-both P (option_to_list t.name) [] h.each tt }
+  entry-field-named name number t h = record { stands = h.stands; each = all-both P (option_to_list t.name) [] h.each tt; message = h.message }
 
   -- the entry of a map
   entries-named : (env : Environment) → Known env → (name : Text) (t : TypeSyntax) → type_faults env name t ≡ [] → AllByRecursion MessageIsNamed (entries_of (with_customs env) name t)
@@ -266,11 +287,11 @@ module _ (P : Text → Type 0) (customs : Customs) where
 
   -- a field of a message or a oneof
   abbrev FieldIsClean : Environment → FieldStatementSyntax → Type 0
-  FieldIsClean env s = IsClean (field_statement_faults env) P (generated_by env.scope) s
+  FieldIsClean env s = IsClean (field_statement_faults env) M (generated_by env.scope) s
 
   -- a field of an `extend`
   abbrev ExtensionIsClean : Environment → Text → FieldStatementSyntax → Type 0
-  ExtensionIsClean env extendee s = IsClean (extension_faults_of env extendee) P (generated_by env.scope) s
+  ExtensionIsClean env extendee s = IsClean (extension_faults_of env extendee) M (generated_by env.scope) s
 
   -- fields in one place
   fields-named : (env : Environment) → Known env → (place : FieldPlace) (ss : List FieldStatementSyntax) → AllByRecursion P (option_to_list place.extendee) → AllByRecursion (FieldIsClean env) ss → AllByRecursion FieldIsNamed (map (field_statement_of (with_customs env) place) ss)
@@ -293,10 +314,10 @@ module _ (P : Text → Type 0) (customs : Customs) where
       }
 
   -- the fields of an `extend`
-  extend-named : (env : Environment) → Known env → (e : ExtendSyntax) → extend_faults env e ≡ [] → AllByRecursion P (flat_map (generated_by env.scope) e.fields) → AllByRecursion ExtensionIsNamed (extend_fields (with_customs env) e)
+  extend-named : (env : Environment) → Known env → (e : ExtendSyntax) → extend_faults env e ≡ [] → AllByRecursion M (flat_map (generated_by env.scope) e.fields) → AllByRecursion ExtensionIsNamed (extend_fields (with_customs env) e)
   extend-named env known e h g =
       all-map ExtensionIsNamed (field_statement_of (with_customs env) (extending (with_customs env) e.extendee)) (ExtensionIsClean env e.extendee) (extension-named env known e.extendee) e.fields
-      (clean-each (extension_faults_of env e.extendee) P (generated_by env.scope) e.fields h g)
+      (clean-each (extension_faults_of env e.extendee) M (generated_by env.scope) e.fields h g)
 
   -- the messages behind them
   extend-behind : (env : Environment) → Known env → (e : ExtendSyntax) → extend_faults env e ≡ [] → AllByRecursion MessageIsNamed (flat_map (messages_behind (with_customs env)) e.fields)
@@ -309,7 +330,7 @@ module _ (P : Text → Type 0) (customs : Customs) where
 
   -- a statement of a message
   abbrev StatementIsClean : Environment → MessageStatementSyntax → Type 0
-  StatementIsClean env s = IsClean (messages.statement_faults env) P (generated_of env.scope) s
+  StatementIsClean env s = IsClean (messages.statement_faults env) M (generated_of env.scope) s
 
   -- a field of a message extends nothing
   no-extendee : (b : Bool) (index : ℕ) → AllByRecursion P (option_to_list (if b then in_oneof index else plain).extendee)
@@ -317,9 +338,9 @@ module _ (P : Text → Type 0) (customs : Customs) where
   no-extendee false index = tt
 
   -- the fields of a oneof
-  oneof-clean : (env : Environment) (o : OneofSyntax) → oneof_faults env o ≡ [] → AllByRecursion P (flat_map (generated_by env.scope) (flat_map oneof_fields o.body)) → AllByRecursion (FieldIsClean env) (flat_map oneof_fields o.body)
+  oneof-clean : (env : Environment) (o : OneofSyntax) → oneof_faults env o ≡ [] → AllByRecursion M (flat_map (generated_by env.scope) (flat_map oneof_fields o.body)) → AllByRecursion (FieldIsClean env) (flat_map oneof_fields o.body)
   oneof-clean env o h g =
-      clean-each (field_statement_faults env) P (generated_by env.scope) (flat_map oneof_fields o.body)
+      clean-each (field_statement_faults env) M (generated_by env.scope) (flat_map oneof_fields o.body)
       (no-left (flat_map (field_statement_faults env) (flat_map oneof_fields o.body)) (construct_faults env of.Oneof oneof_table (options_in_oneof o)) h) g
 
   -- the fields of a statement
@@ -359,16 +380,16 @@ module _ (P : Text → Type 0) (customs : Customs) where
   }
 
   -- the statements of a message inside another
-  clean-in : (env : Environment) (ss : MessageStatementList) → faults_in env ss ≡ [] → AllByRecursion P (generated_in env.scope ss) → AllByRecursion (StatementIsClean env) (message_body ss)
+  clean-in : (env : Environment) (ss : MessageStatementList) → faults_in env ss ≡ [] → AllByRecursion M (generated_in env.scope ss) → AllByRecursion (StatementIsClean env) (message_body ss)
   clean-in env no_statements h g = tt
   clean-in env (more_statements s ss) h g = (
-    record { none = no-left (messages.statement_faults env s) (faults_in env ss) h; each = all-left P (generated_of env.scope s) (generated_in env.scope ss) g },
-    clean-in env ss (no-right (messages.statement_faults env s) (faults_in env ss) h) (all-right P (generated_of env.scope s) (generated_in env.scope ss) g),
+    record { none = no-left (messages.statement_faults env s) (faults_in env ss) h; each = all-left M (generated_of env.scope s) (generated_in env.scope ss) g },
+    clean-in env ss (no-right (messages.statement_faults env s) (faults_in env ss) h) (all-right M (generated_of env.scope s) (generated_in env.scope ss) g),
   )
 
   mutual
     -- the messages of a statement
-    nested-of : (env : Environment) → Known env → (s : MessageStatementSyntax) → messages.statement_faults env s ≡ [] → AllByRecursion P (generated_of env.scope s) → AllByRecursion MessageIsNamed (nested_of (with_customs env) s)
+    nested-of : (env : Environment) → Known env → (s : MessageStatementSyntax) → messages.statement_faults env s ≡ [] → AllByRecursion M (generated_of env.scope s) → AllByRecursion MessageIsNamed (nested_of (with_customs env) s)
     nested-of env known (message_message at name body) h g =
         let none : faults_in (inside env name) body ≡ [] = no-right (whole_faults env name (message_body body) (nested_in (inside env name) body)) (faults_in (inside env name) body) h in
         (message-named env known name (message_body body) (nested_in (with_customs (inside env name)) body) (clean-in (inside env name) body none g) (nested-in (inside env name) known body none g), tt)
@@ -378,18 +399,18 @@ module _ (P : Text → Type 0) (customs : Customs) where
     nested-of env known _ h g = tt
 
     -- the messages of statements
-    nested-in : (env : Environment) → Known env → (ss : MessageStatementList) → faults_in env ss ≡ [] → AllByRecursion P (generated_in env.scope ss) → AllByRecursion MessageIsNamed (nested_in (with_customs env) ss)
+    nested-in : (env : Environment) → Known env → (ss : MessageStatementList) → faults_in env ss ≡ [] → AllByRecursion M (generated_in env.scope ss) → AllByRecursion MessageIsNamed (nested_in (with_customs env) ss)
     nested-in env known no_statements h g = tt
     nested-in env known (more_statements s ss) h g =
         all-both MessageIsNamed (nested_of (with_customs env) s) (nested_in (with_customs env) ss)
-        (nested-of env known s (no-left (messages.statement_faults env s) (faults_in env ss) h) (all-left P (generated_of env.scope s) (generated_in env.scope ss) g))
-        (nested-in env known ss (no-right (messages.statement_faults env s) (faults_in env ss) h) (all-right P (generated_of env.scope s) (generated_in env.scope ss) g))
+        (nested-of env known s (no-left (messages.statement_faults env s) (faults_in env ss) h) (all-left M (generated_of env.scope s) (generated_in env.scope ss) g))
+        (nested-in env known ss (no-right (messages.statement_faults env s) (faults_in env ss) h) (all-right M (generated_of env.scope s) (generated_in env.scope ss) g))
 
   -- a message of a file
-  message-of-named : (env : Environment) → Known env → (m : MessageSyntax) → message_faults env m ≡ [] → AllByRecursion P (flat_map (generated_of (inside env m.name).scope) m.body) → MessageIsNamed (message_of (with_customs env) m)
+  message-of-named : (env : Environment) → Known env → (m : MessageSyntax) → message_faults env m ≡ [] → AllByRecursion M (flat_map (generated_of (inside env m.name).scope) m.body) → MessageIsNamed (message_of (with_customs env) m)
   message-of-named env known m h g =
       let none : flat_map (messages.statement_faults (inside env m.name)) m.body ≡ [] = no-right (whole_faults env m.name m.body (flat_map (nested_of (inside env m.name)) m.body)) (flat_map (messages.statement_faults (inside env m.name)) m.body) h in
-      let clean : AllByRecursion (StatementIsClean (inside env m.name)) m.body = clean-each (messages.statement_faults (inside env m.name)) P (generated_of (inside env m.name).scope) m.body none g in
+      let clean : AllByRecursion (StatementIsClean (inside env m.name)) m.body = clean-each (messages.statement_faults (inside env m.name)) M (generated_of (inside env m.name).scope) m.body none g in
       message-named env known m.name m.body (flat_map (nested_of (with_customs (inside env m.name))) m.body) clean
       (all-flat MessageIsNamed (nested_of (with_customs (inside env m.name))) (StatementIsClean (inside env m.name)) (λ (s : MessageStatementSyntax) (c : StatementIsClean (inside env m.name) s). nested-of (inside env m.name) known s c.none c.each) m.body clean)
 
@@ -416,7 +437,7 @@ module _ (P : Text → Type 0) (customs : Customs) where
 
   -- a statement of a file
   abbrev FileStatementIsClean : Environment → StatementSyntax → Type 0
-  FileStatementIsClean env s = IsClean (files.statement_faults env) P (statement_generated env.scope) s
+  FileStatementIsClean env s = IsClean (files.statement_faults env) M (statement_generated env.scope) s
 
   -- the messages of a statement
   messages-of : (env : Environment) → Known env → (s : StatementSyntax) → FileStatementIsClean env s → AllByRecursion MessageIsNamed (messages_of (with_customs env) s)
@@ -435,12 +456,12 @@ module _ (P : Text → Type 0) (customs : Customs) where
   services-of env known _ c = tt
 
   -- a file
-  file-named : (env : Environment) → Known env → (path : Text) (t : FileSyntax) → file_faults env t ≡ [] → AllByRecursion P (flat_map (statement_generated env.scope) t.statements) → FileIsNamed (file_of (with_customs env) path t)
+  file-named : (env : Environment) → Known env → (path : Text) (t : FileSyntax) → file_faults env t ≡ [] → AllByRecursion M (flat_map (statement_generated env.scope) t.statements) → FileIsNamed (file_of (with_customs env) path t)
   file-named env known path t h g =
       let options = construct_faults env of.File file_table (options_of_statements t.statements) in
       let inner = flat_map (files.statement_faults env) t.statements in
       let none : inner ≡ [] = no-right (file_duplicates env t ++ options) inner h in
-      let clean : AllByRecursion (FileStatementIsClean env) t.statements = clean-each (files.statement_faults env) P (statement_generated env.scope) t.statements none g in
+      let clean : AllByRecursion (FileStatementIsClean env) t.statements = clean-each (files.statement_faults env) M (statement_generated env.scope) t.statements none g in
       let ms = flat_map (messages_of (with_customs env)) t.statements in
       let all : AllByRecursion MessageIsNamed ms = all-flat MessageIsNamed (messages_of (with_customs env)) (FileStatementIsClean env) (messages-of env known) t.statements clean in
       record {
@@ -463,40 +484,101 @@ module _ (P : Text → Type 0) (customs : Customs) where
       (all-flat P names_of_field ExtensionIsNamed (λ (d : FieldDescriptor) (k : ExtensionIsNamed d). k.is_field.each) (extensions_in f) h.extensions))
       h.services
 
+-- ---- members
+
+-- what stands in the first of two lists, or in a list with all of it
+front : {A : Type 0} (xs xs' zs : List A) (x : A) → ((y : A) → Among xs y → Among xs' y) → Among (xs ++ zs) x → Among (xs' ++ zs) x
+front [] xs' zs x f h = among_right xs' h
+front (y ∷ xs) xs' zs _ f here = among_left zs (f y here)
+front (y ∷ xs) xs' zs x f (there h) = front xs xs' zs x (λ z k. f z (there k)) h
+
+-- the same of the second
+back : {A : Type 0} (xs ys ys' : List A) (x : A) → (Among ys x → Among ys' x) → Among (xs ++ ys) x → Among (xs ++ ys') x
+back [] ys ys' x f h = f h
+back (z ∷ xs) ys ys' _ f here = here
+back (z ∷ xs) ys ys' x f (there h) = there (back xs ys ys' x f h)
+
+-- the name of a message is one of a type
+message-told : (ds : List DeclaredType) (n : Text) → Among (flat_map message_name ds) n → Among (map (λ (d : DeclaredType). d.name) ds) n
+message-told [] n h = elim h [ ]
+message-told (d ∷ ds) n h = at d.what h (message-told ds n)
+  where
+    at : (k : TypeKind) → Among (if_message k d.name ++ flat_map message_name ds) n → (Among (flat_map message_name ds) n → Among (map (λ (x : DeclaredType). x.name) ds) n) → Among (map (λ (x : DeclaredType). x.name) (d ∷ ds)) n
+    at a_message k rest = back (d.name ∷ []) (flat_map message_name ds) (map (λ (x : DeclaredType). x.name) ds) n rest k
+    at an_enum k rest = there (rest k)
+
+-- a message that is declared has its name among those of messages
+message-from : (ds : List DeclaredType) (d : DeclaredType) → Among ds d → d.what ≡ a_message → Among (flat_map message_name ds) d.name
+message-from [] d h e = elim h [ ]
+message-from (d ∷ ds) _ here e = among_left (flat_map message_name ds) (subst (λ (k : TypeKind). Among (if_message k d.name) d.name) (sym e) here)
+message-from (x ∷ ds) d (there h) e = among_right (message_name x) (message-from ds d h e)
+
 -- ---- the laws
 
 -- a type of that name is declared in the files, or generated behind the file's own maps and groups
 abbrev Stands : List FileSyntax → FileSyntax → Text → Type 0
 Stands seen t name = Among (names_declared seen ++ file_generated t) name
 
+-- so is a message of that name
+abbrev MessageStands : List FileSyntax → FileSyntax → Text → Type 0
+MessageStands seen t name = Among (messages_declared seen ++ file_generated t) name
+
+-- a message is a type
+is-type : (seen : List FileSyntax) (t : FileSyntax) (name : Text) → MessageStands seen t name → Stands seen t name
+is-type seen t name h = front (messages_declared seen) (names_declared seen) (file_generated t) name (message-told (types_of_files seen)) h
+
+-- all of this of a file that sees these
+abbrev IsNamed : List FileSyntax → FileSyntax → Customs → FileDescriptor → Type 0
+IsNamed seen t customs f = FileIsNamed (Stands seen t) (MessageStands seen t) (is-type seen t) customs f
+
+abbrev IsField : List FileSyntax → FileSyntax → Customs → FieldDescriptor → Type 0
+IsField seen t customs f = FieldIsNamed (Stands seen t) (MessageStands seen t) (is-type seen t) customs f
+
+abbrev IsExtension : List FileSyntax → FileSyntax → Customs → FieldDescriptor → Type 0
+IsExtension seen t customs f = ExtensionIsNamed (Stands seen t) (MessageStands seen t) (is-type seen t) customs f
+
 -- a file without faults
-sound : (seen : List FileSyntax) (checked customs : Customs) (path : Text) (t : FileSyntax) → file_faults (environment seen checked t) t ≡ [] → FileIsNamed (Stands seen t) customs (file_of (environment seen customs t) path t)
+sound : (seen : List FileSyntax) (checked customs : Customs) (path : Text) (t : FileSyntax) → file_faults (environment seen checked t) t ≡ [] → IsNamed seen t customs (file_of (environment seen customs t) path t)
 sound seen checked customs path t h =
-    file-named (Stands seen t) customs (environment seen checked t)
-    (λ (scope : Scope) (name : Text) (d : DeclaredType) e. among_left (file_generated t) (among-map (λ (x : DeclaredType). x.name) (types_of_files seen) d (meaning_declared (types_of_files seen) scope name d e)))
-    path t h (all-from (Stands seen t) (file_generated t) (λ (name : Text) k. among_right (names_declared seen) k))
+    file-named (Stands seen t) (MessageStands seen t) (is-type seen t) customs (environment seen checked t)
+    (λ (scope : Scope) (name : Text) (d : DeclaredType) e. let stands = meaning_declared (types_of_files seen) scope name d e in (
+      among_left (file_generated t) (among-map (λ (x : DeclaredType). x.name) (types_of_files seen) d stands),
+      λ is. among_left (file_generated t) (message-from (types_of_files seen) d stands is),
+    ))
+    path t h (all-from (MessageStands seen t) (file_generated t) (λ (name : Text) k. among_right (messages_declared seen) k))
 
 -- each name of a type is that of a declared type
 pub names_are_declared : NamesAreDeclared
 names_are_declared seen checked customs path t name h k =
-    all-among (Stands seen t) k (names-each (Stands seen t) customs (file_of (environment seen customs t) path t) (sound seen checked customs path t h))
+    all-among (Stands seen t) k (names-each (Stands seen t) (MessageStands seen t) (is-type seen t) customs (file_of (environment seen customs t) path t) (sound seen checked customs path t h))
+
+-- each field and extension is named so
+field-is : (seen : List FileSyntax) (checked customs : Customs) (path : Text) (t : FileSyntax) (f : FieldDescriptor) → file_faults (environment seen checked t) t ≡ [] → Among (fields_in (file_of (environment seen customs t) path t) ++ extensions_in (file_of (environment seen customs t) path t)) f → IsField seen t customs f
+field-is seen checked customs path t f h k =
+    let file = file_of (environment seen customs t) path t in
+    let s : IsNamed seen t customs file = sound seen checked customs path t h in
+    let extensions : AllByRecursion (IsField seen t customs) (extensions_in file) = each (extensions_in file) s.extensions in
+    let all : AllByRecursion (IsField seen t customs) (fields_in file ++ extensions_in file) = all-both (IsField seen t customs) (fields_in file) (extensions_in file) s.fields extensions in
+    all-among (IsField seen t customs) k all
+  where
+    each : (fs : List FieldDescriptor) → AllByRecursion (IsExtension seen t customs) fs → AllByRecursion (IsField seen t customs) fs
+    each [] w = tt
+    each (d ∷ ds) w = (w.0.is_field, each ds w.1)
 
 -- each field and extension says the name of its type where it has one
 pub types_are_named : TypesAreNamed
 types_are_named seen checked customs path t f h k =
-    let file = file_of (environment seen customs t) path t in
-    let s : FileIsNamed (Stands seen t) customs file = sound seen checked customs path t h in
-    let extensions : AllByRecursion (FieldIsNamed (Stands seen t) customs) (extensions_in file) = each (extensions_in file) s.extensions in
-    let all : AllByRecursion (FieldIsNamed (Stands seen t) customs) (fields_in file ++ extensions_in file) = all-both (FieldIsNamed (Stands seen t) customs) (fields_in file) (extensions_in file) s.fields extensions in
-    let is : FieldIsNamed (Stands seen t) customs f = all-among (FieldIsNamed (Stands seen t) customs) k all in
+    let is : IsField seen t customs f = field-is seen checked customs path t f h k in
     is.stands
-  where
-    each : (fs : List FieldDescriptor) → AllByRecursion (ExtensionIsNamed (Stands seen t) customs) fs → AllByRecursion (FieldIsNamed (Stands seen t) customs) fs
-    each [] w = tt
-    each (d ∷ ds) w = (w.0.is_field, each ds w.1)
 
 -- each extension says what it extends
 pub extendees_are_named : ExtendeesAreNamed
 extendees_are_named seen checked customs path t f h k =
-    let is : ExtensionIsNamed (Stands seen t) customs f = all-among (ExtensionIsNamed (Stands seen t) customs) k (sound seen checked customs path t h).extensions in
+    let is : IsExtension seen t customs f = all-among (IsExtension seen t customs) k (sound seen checked customs path t h).extensions in
     is.extends
+
+-- the type of a field that has a message is a message
+pub messages_are_named : MessagesAreNamed
+messages_are_named seen checked customs path t f name h k is says =
+    let of_field : IsField seen t customs f = field-is seen checked customs path t f h k in
+    of_field.message name is says

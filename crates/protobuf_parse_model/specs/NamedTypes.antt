@@ -3,13 +3,14 @@
 -- A descriptor says by full names what the type of a field is, which message an extension extends, and what a method takes
 -- and returns: the fields `type_name` and `extendee` of FieldDescriptorProto, `input_type` and `output_type` of
 -- MethodDescriptorProto (google/protobuf/descriptor.proto).
-use Rattle.std.specs.Prelude.{◌≡◌, Bool, true, false, List, [], ◌∷◌, ◌++◌, map, flat_map, is_some, IsSome, option_to_list}
+use Rattle.std.specs.Prelude.{◌≡◌, Bool, true, false, List, [], ◌∷◌, ◌++◌, map, flat_map, Some, is_some, IsSome, option_to_list}
 use Rattle.protobuf_parse_syntax.specs.Trees.{FileSyntax}
 use Rattle.protobuf_parse_model.specs.declared.descriptor.FieldType.{FieldType}
 use Rattle.protobuf_parse_model.specs.declared.descriptor.FieldType.TheVariants as kind
 use Rattle.protobuf_parse_model.specs.Descriptors.{Text, FieldDescriptor, MessageParts, MessageDescriptor, MessageDescriptors, a_message, no_messages, messages, MethodDescriptor, ServiceDescriptor, FileDescriptor}
 use Rattle.protobuf_parse_model.specs.Faults.{Among}
-use Rattle.protobuf_parse_model.specs.Declarations.{DeclaredType, file_generated}
+use Rattle.protobuf_parse_model.specs.Declarations as declarations
+use Rattle.protobuf_parse_model.specs.Declarations.{DeclaredType, TypeKind, file_generated}
 use Rattle.protobuf_parse_model.specs.Environment.{Customs}
 use Rattle.protobuf_parse_model.specs.FileDescriptor.{types_of_files, environment, file_of, file_faults}
 
@@ -59,6 +60,17 @@ has_name _ = false
 abbrev pub names_declared : List FileSyntax → List Text
 names_declared files = map (λ (d : DeclaredType). d.name) (types_of_files files)
 
+abbrev pub if_message : TypeKind → Text → List Text
+if_message declarations.a_message name = name ∷ []
+if_message declarations.an_enum name = []
+
+abbrev pub message_name : DeclaredType → List Text
+message_name d = if_message d.what d.name
+
+-- those of the messages alone
+abbrev pub messages_declared : List FileSyntax → List Text
+messages_declared files = flat_map message_name (types_of_files files)
+
 -- Each name of a type is that of a message or an enum that a file declares that it sees, or of a message behind one of its
 -- own maps and groups.
 abbrev pub NamesAreDeclared : Type 0
@@ -80,3 +92,11 @@ ExtendeesAreNamed = (seen : List FileSyntax) (checked customs : Customs) (path :
     → file_faults (environment seen checked t) t ≡ []
     → Among (extensions_in (file_of (environment seen customs t) path t)) f
     → IsSome f.extendee
+
+-- What says that its type is a message names a message, and no enum.
+abbrev pub MessagesAreNamed : Type 0
+MessagesAreNamed = (seen : List FileSyntax) (checked customs : Customs) (path : Text) (t : FileSyntax) (f : FieldDescriptor) (name : Text)
+    → file_faults (environment seen checked t) t ≡ []
+    → Among (fields_in (file_of (environment seen customs t) path t) ++ extensions_in (file_of (environment seen customs t) path t)) f
+    → f.type_ ≡ kind.Message → f.type_name ≡ Some name
+    → Among (messages_declared seen ++ file_generated t) name

@@ -2,7 +2,7 @@
 
 ghost use Rattle.protobuf_parse_model.specs.Declarations.{TypeKind};
 ghost use Rattle.protobuf_parse_model.specs.Lookup.{MeansTheLongest, MeansNothing, MeansItself};
-ghost use Rattle.protobuf_parse_model.specs.NamedTypes.{NamesAreDeclared, TypesAreNamed, ExtendeesAreNamed};
+ghost use Rattle.protobuf_parse_model.specs.NamedTypes.{NamesAreDeclared, TypesAreNamed, ExtendeesAreNamed, MessagesAreNamed};
 ghost use Rattle.protobuf_parse_model.specs.CustomSets.{FaultsAreOfSets, NoneIsNoneInSets, BytesAreOfSets, OptionsAreBuiltin};
 
 /// What the name of a type means is declared in the longest front of the scope in which a type has that
@@ -19,11 +19,12 @@ pub fn types_are_looked_up()
 /// groups. So it is of the types of fields and extensions, of the messages that extensions extend, and of
 /// what methods take and return, in nested messages and in those behind maps and groups too. None is left
 /// out: a field says the name of its type just where that is a message, an enum or a group, and each
-/// extension says what it extends.
+/// extension says what it extends. The type of what has a message is a message, and no enum.
 pub fn types_are_declared()
     ensures declared { NamesAreDeclared }
     ensures named { TypesAreNamed }
     ensures extendees { ExtendeesAreNamed }
+    ensures messages { MessagesAreNamed }
 {}
 
 /// Just those faults stand in a file that stand there besides custom options, or in the custom options of

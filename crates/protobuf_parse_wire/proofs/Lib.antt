@@ -33,3 +33,9 @@ pub mod BareFiles
 pub mod AlikeLookups
 pub mod BareLookups
 pub mod WithoutOptions
+pub mod MessagesAlike
+pub mod Entered
+pub mod Recovery
+pub mod Sound
+pub mod SoundSets
+pub mod EnumNumbers

@@ -23,3 +23,4 @@ pub mod NamesAlike
 pub mod DescriptorsByPath
 pub mod SmallValues
 pub mod WithoutOptions
+pub mod Recovery

@@ -18,6 +18,6 @@ pub use field::{ReadField, ReadValue};
 pub use kind::Kind;
 pub use law::{
     any_order, never_too_deep, one_spelling, option_bytes_spell, options_are_not_read,
-    options_are_read, spelled_is_read,
+    options_are_read, options_are_recovered, spelled_is_read,
 };
 pub use reader::read_custom;
