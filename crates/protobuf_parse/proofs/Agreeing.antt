@@ -48,7 +48,7 @@ sees-to old new p q agree (sees_itself _) = sees_itself p
 sees-to old new p q agree (by_import _ m _ t is a rest) = by_import p m q t
     (agree p (stays p) ∙ is) a (hands-to old new m q (λ r h. agree r (leads p m r t is a h)) rest)
 
-reaches-on : (trees : Trees) (p q r : Text) → Reaches trees p q → Reaches trees q r
+pub reaches-on : (trees : Trees) (p q r : Text) → Reaches trees p q → Reaches trees q r
     → Reaches trees p r
 reaches-on trees p q r (stays _) h = h
 reaches-on trees p q r (leads _ m _ t is a rest) h =

@@ -407,25 +407,29 @@ module _ (files : Files) (inputs : List Input) (clean : IsClean files inputs) wh
             met-is (name_of w.0) r m.0 m.1 (w.2 m.0 m.2)
       ]
 
-  reached-is : (p q : Text) → Reaches files.trees p q → IsFileOf files.trees inputs p
+  pub reached-is : (p q : Text) → Reaches files.trees p q → IsFileOf files.trees inputs p
       → IsFileOf files.trees inputs q
   reached-is p q (stays _) h = h
   reached-is p q (leads _ m _ t is a rest) h = reached-is m q rest (import-is p m t is a h)
 
-  -- and none of them declares a name twice
-  declared-once : (p : Text) (t : FileSyntax) → files.trees p ≡ Some t
-      → IsFileOf files.trees inputs p → DeclaresOnce files p
-  declared-once p t is h =
+  -- no fault stands in them
+  pub faultless-file : (p : Text) (t : FileSyntax) → files.trees p ≡ Some t
+      → IsFileOf files.trees inputs p → faults_in files p (Some t) ≡ []
+  faultless-file p t is h =
       elim (bool_cases (fails files (elab p))) [
         | inl w ↦ absurd
             (never_both _ (has-elab p all ∙ h)
             (clean-has (fails files) all (elab p) (elab-same p) clean w))
-        | inr w ↦ none-before (link_faults (trees_at files.trees (files.reached p)))
-            (others files p t)
-            (nothing-there (faults_in files p (Some t))
+        | inr w ↦ nothing-there (faults_in files p (Some t))
             (subst (λ (o : Option FileSyntax). not (is_nothing (faults_in files p o)) ≡ false)
-            is w))
+            is w)
       ]
+
+  -- and none of them declares a name twice
+  declared-once : (p : Text) (t : FileSyntax) → files.trees p ≡ Some t
+      → IsFileOf files.trees inputs p → DeclaresOnce files p
+  declared-once p t is h = none-before (link_faults (trees_at files.trees (files.reached p)))
+      (others files p t) (faultless-file p t is h)
 
 -- ** further inputs
 

@@ -26,4 +26,5 @@ pub mod Stepping
 pub mod Meeting
 pub mod Agreeing
 pub mod Further
+pub mod Recovering
 pub mod Following

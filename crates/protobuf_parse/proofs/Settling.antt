@@ -235,7 +235,7 @@ pub none-before : (firsts others : List elaborating.Fault) → before_others fir
 none-before [] others h = refl
 none-before (a ∷ firsts) others h = h
 
-none-after : (firsts others : List elaborating.Fault) → before_others firsts others ≡ [] → others ≡ []
+pub none-after : (firsts others : List elaborating.Fault) → before_others firsts others ≡ [] → others ≡ []
 none-after [] others h = h
 none-after (a ∷ firsts) others h = cc
 

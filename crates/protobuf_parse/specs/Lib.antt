@@ -10,3 +10,4 @@ pub mod Folders
 pub mod Parsers
 pub mod Frames
 pub mod Stability
+pub mod Recovered

@@ -1,0 +1,59 @@
+-- What is read back from the custom options of an accepted run, by one who knows its descriptors alone.
+--
+-- An options message is read as any message: by the fields of it, and by the extensions of it in the
+-- files at hand (Protocol Buffers Language Guide (proto2), "Custom Options", https://protobuf.dev).
+use Rattle.std.specs.Prelude.{◌≡◌, ℕ, ◌<◌, ◌^◌, true, List, length, Option, Some, Result, Ok, Err}
+use Rattle.std.specs.Global.{Vec}
+use Rattle.protobuf_parse_syntax.specs.Trees.{FileSyntax}
+use Rattle.protobuf_parse_model.specs.Descriptors.{Text, FileDescriptor}
+use Rattle.protobuf_parse_model.specs.CustomSets.{bytes_of_set}
+use Rattle.protobuf_parse_model.specs.Faults.{Among}
+use Rattle.protobuf_parse_model.specs.FilesByPath.{among}
+use Rattle.protobuf_parse_model.specs.OptionSets.{OptionSet, option_sets}
+use Rattle.protobuf_parse_model.specs.declared.descriptor.FileDescriptorProto.{FileDescriptorProto}
+use Rattle.protobuf_parse_wire.specs.CustomOptions.{denotes, scope_of}
+use Rattle.protobuf_parse_wire.specs.DescriptorsByPath.{descriptors_at}
+use Rattle.protobuf_parse_wire.specs.Law.{said}
+use Rattle.protobuf_parse_wire.specs.OptionFields.{options_message}
+use Rattle.protobuf_parse_wire.specs.Reading.{reader}
+use Rattle.protobuf_parse_wire.specs.Recovery.{HasCustom, HaveDistinctNumbers}
+use Rattle.protobuf_parse_wire.specs.Trees.{Entries}
+use Rattle.protobuf_parse.specs.Walks.{Input, elab_paths, events}
+use Rattle.protobuf_parse.specs.Run.{Files, AreListed, HasTrees, customs_of, environment_of, plains_at}
+use Rattle.protobuf_parse.specs.declared.run.fault.RunFault.{RunFault}
+use Rattle.protobuf_parse.specs.declared.run.log.ReadEntry.{ReadEntry}
+
+-- the descriptors of these files, with all their options, as the run hands them out
+abbrev pub handed_out : Files → List Text → List FileDescriptor
+handed_out files ps = descriptors_at files.trees (environment_of files) ps
+
+-- the bytes that stand in the descriptor of the file p for the custom options of a construct
+abbrev pub bytes_in : Files → Text → OptionSet → List ℕ
+bytes_in files p s = bytes_of_set (customs_of files p) s
+
+-- what its statements denote, by the files that p reaches and those that it sees
+abbrev pub denoted_in : Files → Text → OptionSet → Entries
+denoted_in files p s =
+    denotes (scope_of (handed_out files (files.reached p)) (handed_out files (files.seen p)) s)
+    s.construct s.statements
+
+-- Where numbers of fields are distinct in the files that p reaches, the reader gives the numbers and the
+-- values that the statements denote, by these files' descriptors and the construct's options message.
+-- (Custom options change no number. The bytes are as many as a `Vec` can have.)
+abbrev pub IsReadBack : Files → Text → OptionSet → Type 0
+IsReadBack files p s =
+    HasCustom s.statements
+    → HaveDistinctNumbers (plains_at files (files.reached p))
+    → length (bytes_in files p s) < 2 ^ 64
+    → reader (handed_out files (files.reached p)) (options_message s.construct) (bytes_in files p s)
+    ≡ Ok (said (denoted_in files p s))
+
+-- So are all custom options of an accepted run's files.
+abbrev pub AreReadBack : List Input → List (Text × Text) → List ReadEntry → Result (Vec FileDescriptorProto) RunFault → Type 0
+AreReadBack inputs bundled log (Ok _) =
+    (trees : Text → Option FileSyntax) (reached seen : Text → List Text)
+    → HasTrees bundled log trees → AreListed trees reached seen
+    → (p : Text) (t : FileSyntax) (s : OptionSet)
+    → among p (elab_paths (events trees inputs)) ≡ true → trees p ≡ Some t → Among (option_sets t) s
+    → IsReadBack (record { bundled = bundled; reads = log; trees = trees; reached = reached; seen = seen }) p s
+AreReadBack inputs bundled log (Err _) = Unit {0}
