@@ -48,7 +48,7 @@ number_first : (o p : Option EnumValueDescriptor) → option_map
 number_first None p = refl
 number_first (Some v) p = refl
 
-number_split : (name : Text) (xs ys : List EnumValueDescriptor) → number_among (xs ++ ys) name
+pub number_split : (name : Text) (xs ys : List EnumValueDescriptor) → number_among (xs ++ ys) name
     ≡ option_or (number_among xs name) (number_among ys name)
 number_split name xs ys = ap (option_map (λ (v : EnumValueDescriptor). v.number))
     (find-append (λ (v : EnumValueDescriptor). bytes_eq v.name name) xs ys) ∙ number_first

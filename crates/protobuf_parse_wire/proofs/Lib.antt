@@ -23,3 +23,4 @@ pub mod Parts
 pub mod AgreementBack
 pub mod SmallValues
 pub mod Stated
+pub mod ByName

@@ -19,3 +19,4 @@ pub mod Known
 pub mod Given
 pub mod Agreement
 pub mod SmallValues
+pub mod ByName
