@@ -1,13 +1,12 @@
 //! Looking up what files declare, by name.
 
-ghost use Rattle.std.specs.Prelude.{◌≡◌, [], ◌∷◌, bytes_eq, flat_map, map, option_map, string_bytes, IfOk};
-ghost use Rattle.std.specs.List.{list_any};
+ghost use Rattle.std.specs.Prelude.{◌≡◌, flat_map, map, option_map, string_bytes, IfOk};
 ghost use Rattle.protobuf_parse_model.specs.Contexts.{texts};
 ghost use Rattle.protobuf_parse_model.specs.Declarations as names;
-ghost use Rattle.protobuf_parse_model.specs.Descriptors.{enum_value_view, enum_view, field_view};
+ghost use Rattle.protobuf_parse_model.specs.Descriptors.{enum_value_view, field_view};
 ghost use Rattle.protobuf_parse_model.specs.Lookup.{declared, meaning};
-ghost use Rattle.protobuf_parse_wire.specs.Declarations.{Declaration, declared_extensions};
-ghost use Rattle.protobuf_parse_wire.specs.Known.{enum_known, extension_seen, extensions_known, field_among, field_seen, fields_among, files_seen, message_known, messages_known, number_among, undeclared, values_among, values_of};
+ghost use Rattle.protobuf_parse_wire.specs.Declarations.{declared_extensions};
+ghost use Rattle.protobuf_parse_wire.specs.Known.{extension_seen, extensions_known, field_among, field_seen, files_seen, number_among, undeclared};
 ghost use Rattle.protobuf_parse_wire.specs.OptionFields.{field_named, is_message, number_of_value};
 
 use crate::customs::by_name;
