@@ -7,8 +7,7 @@ use Rattle.protobuf_parse_model.specs.Descriptors.{Text, FieldDescriptor, EnumDe
 use Rattle.protobuf_parse_model.specs.declared.error.ElabErrorKind.TheVariants.{ExtensionNotFound, WrongExtensionType}
 use Rattle.protobuf_parse_model.specs.Duplicates.{fault, fault_when}
 use Rattle.protobuf_parse_model.specs.Declarations.{Declared}
-use Rattle.protobuf_parse_wire.specs.Declarations.{Declaration}
-use Rattle.protobuf_parse_wire.specs.Known.{field_among, fields_among, number_among, undeclared, values_of, values_among}
+use Rattle.protobuf_parse_wire.specs.Known.{number_among, undeclared}
 use Rattle.protobuf_parse_wire.specs.OptionFields.{extends_message, if_extends}
 use Rattle.protobuf_parse_wire.specs.CustomFaults.{extension_faults}
 
@@ -17,30 +16,6 @@ pub mapped_rest : {X Y : Type 0} (f : X → Y) (xs : List X) (i : ℕ) (x : X) �
     ≡ get_or xs i x → map f (drop i xs) ≡ f x ∷ map f (drop (i + 1) xs)
 mapped_rest f xs i x lt is = rw (add-one, drop-cons xs i x lt, ← is) refl
 
-fields_split : (message : Text) (d : Declaration) (ds : List Declaration) → fields_among message
-    (d ∷ ds) ≡ fields_among message (d ∷ []) ++ fields_among message ds
-fields_split message d ds = at (bytes_eq message d.name) refl
-  where
-    at : (b : Bool) → bytes_eq message d.name ≡ b → fields_among message (d ∷ ds)
-        ≡ fields_among message (d ∷ []) ++ fields_among message ds
-    at true e = rw (e, append-nil d.parts.field) refl
-    at false e = rw e refl
-
-pub field_found : (message name : Text) (d : Declaration) (ds : List Declaration)
-    (f : FieldDescriptor) → Some f ≡ field_among (fields_among message (d ∷ [])) name → Some f
-    ≡ field_among (fields_among message (d ∷ ds)) name
-field_found message name d ds f is = sym
-    (ap (λ fs. field_among fs name) (fields_split message d ds) ∙ find-append _
-    (fields_among message (d ∷ [])) (fields_among message ds) ∙ ap
-    (λ o. option_or o (field_among (fields_among message ds) name)) (sym is))
-
-pub field_later : (message name : Text) (d : Declaration) (ds : List Declaration) → None
-    ≡ field_among (fields_among message (d ∷ [])) name → field_among
-    (fields_among message (d ∷ ds)) name ≡ field_among (fields_among message ds) name
-field_later message name d ds none = ap (λ fs. field_among fs name) (fields_split message d ds)
-    ∙ find-append _ (fields_among message (d ∷ [])) (fields_among message ds) ∙ ap
-    (λ o. option_or o (field_among (fields_among message ds) name)) (sym none)
-
 number_first : (o p : Option EnumValueDescriptor) → option_map
     (λ (v : EnumValueDescriptor). v.number) (option_or o p) ≡ option_or
     (option_map (λ (v : EnumValueDescriptor). v.number) o)
@@ -48,20 +23,12 @@ number_first : (o p : Option EnumValueDescriptor) → option_map
 number_first None p = refl
 number_first (Some v) p = refl
 
-number_split : (name : Text) (xs ys : List EnumValueDescriptor) → number_among (xs ++ ys) name
+pub number_split : (name : Text) (xs ys : List EnumValueDescriptor) → number_among (xs ++ ys) name
     ≡ option_or (number_among xs name) (number_among ys name)
 number_split name xs ys = ap (option_map (λ (v : EnumValueDescriptor). v.number))
     (find-append (λ (v : EnumValueDescriptor). bytes_eq v.name name) xs ys) ∙ number_first
     (find (λ (v : EnumValueDescriptor). bytes_eq v.name name) xs)
     (find (λ (v : EnumValueDescriptor). bytes_eq v.name name) ys)
-
-pub number_found : (enum_name name : Text) (e : Declared EnumDescriptor)
-    (es : List (Declared EnumDescriptor)) (o : Option ℤ) → o ≡ number_among
-    (values_of enum_name e) name → number_among (values_among enum_name (e ∷ es)) name
-    ≡ option_or o (number_among (values_among enum_name es) name)
-number_found enum_name name e es o is = number_split name (values_of enum_name e)
-    (values_among enum_name es) ∙ ap
-    (λ p. option_or p (number_among (values_among enum_name es) name)) (sym is)
 
 pub first_some : {A : Type 0} (o p : Option A) → is_some o ≡ true → o ≡ option_or o p
 first_some None p e = absurd cc

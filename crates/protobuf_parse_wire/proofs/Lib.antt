@@ -39,3 +39,4 @@ pub mod Recovery
 pub mod Sound
 pub mod SoundSets
 pub mod EnumNumbers
+pub mod ByName

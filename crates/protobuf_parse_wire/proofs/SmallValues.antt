@@ -1,5 +1,5 @@
 -- What has small numbers is found to have them.
-use Rattle.std.proofs.Common.{◌≡◌, ℕ, zero, suc, ◌<◌, ℤ, Bool, true, false, List, [], ◌∷◌, ◌++◌, map, flat_map, length, take, get_or, Option, Some, None, option_map, cond, bytes_eq, sym, subst, arith}
+use Rattle.std.proofs.Common.{◌≡◌, ℕ, zero, suc, ◌<◌, ℤ, Bool, true, false, List, [], ◌∷◌, ◌++◌, map, flat_map, length, take, get_or, Option, Some, option_map, cond, bytes_eq, sym, subst, arith}
 use Rattle.std.specs.Int.{w32}
 use Rattle.std.specs.Int.RustNames.{FitsSigned}
 use Rattle.std.specs.List.{find}

@@ -1,5 +1,5 @@
 -- What is wrong in the custom options of a file.
-use Rattle.std.specs.Prelude.{ℤ, pos, int_le, not, ◌&&◌, List, [], ◌∷◌, ◌++◌, map, flat_map, codes, bytes_eq, Option, Some, None, is_some, option_to_list, if◌then◌else◌}
+use Rattle.std.specs.Prelude.{ℤ, pos, int_le, not, ◌&&◌, List, [], ◌∷◌, ◌++◌, flat_map, codes, bytes_eq, Option, Some, None, is_some, option_to_list, if◌then◌else◌}
 use Rattle.protobuf_parse_syntax.specs.Trees.{Pieces, ConstantNameSyntax, regular_name, extension_name, url_name, ConstantSyntax, integer, truth, dotted, string, list, fields, ConstantList, no_constants, more_constants, ConstantFieldList, no_fields, more_fields, OptionPartSyntax, direct, extension, OptionNameSyntax, builtin, custom, OptionSyntax, FileSyntax}
 use Rattle.protobuf_parse_syntax.specs.Decoder.{decode, text_of}
 use Rattle.protobuf_parse_model.specs.declared.error.ElabErrorKind.TheVariants.{ExtensionNotFound, WrongExtensionType, ExtensionIsNotMessage, UnknownFieldName, UnknownEnumValue, UnsupportedExtensionType, IntegerOutOfRange, MessageFieldRequiresMessageConstant, FloatOptionValue, OptionFieldNumber, GroupStepInOptionName, TypeUrlInConstant, UninterpretedOptionName}

@@ -24,3 +24,4 @@ pub mod DescriptorsByPath
 pub mod SmallValues
 pub mod WithoutOptions
 pub mod Recovery
+pub mod ByName

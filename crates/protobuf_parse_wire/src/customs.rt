@@ -1,5 +1,6 @@
 //! What the custom options of a construct become, by the descriptors of files.
 
+mod by_name;
 mod constants;
 mod fields;
 mod known;

@@ -1,6 +1,6 @@
 //! Reading bytes by descriptors.
 
-mod groups;
+pub mod groups;
 mod index;
 mod numbers;
 mod records;

@@ -1,20 +1,19 @@
 //! Looking up what files declare, by name.
 
-ghost use Rattle.std.specs.Prelude.{◌≡◌, [], ◌∷◌, bytes_eq, flat_map, map, option_map, string_bytes, IfOk};
-ghost use Rattle.std.specs.List.{list_any};
+ghost use Rattle.std.specs.Prelude.{◌≡◌, flat_map, map, option_map, string_bytes, IfOk};
 ghost use Rattle.protobuf_parse_model.specs.Contexts.{texts};
 ghost use Rattle.protobuf_parse_model.specs.Declarations as names;
-ghost use Rattle.protobuf_parse_model.specs.Descriptors.{enum_value_view, enum_view, field_view};
+ghost use Rattle.protobuf_parse_model.specs.Descriptors.{enum_value_view, field_view};
 ghost use Rattle.protobuf_parse_model.specs.Lookup.{declared, meaning};
-ghost use Rattle.protobuf_parse_wire.specs.Declarations.{Declaration, declared_extensions};
-ghost use Rattle.protobuf_parse_wire.specs.Known.{enum_known, extension_seen, extensions_known, field_among, field_seen, fields_among, files_seen, message_known, messages_known, number_among, undeclared, values_among, values_of};
+ghost use Rattle.protobuf_parse_wire.specs.Declarations.{declared_extensions};
+ghost use Rattle.protobuf_parse_wire.specs.Known.{extension_seen, extensions_known, field_among, field_seen, files_seen, number_among, undeclared};
 ghost use Rattle.protobuf_parse_wire.specs.OptionFields.{field_named, is_message, number_of_value};
 
+use crate::customs::by_name;
 use crate::customs::known::Known;
 use crate::customs::known_files::KnownFiles;
-use protobuf_parse_model::{
-    DescriptorProto, EnumDescriptorProto, EnumValueDescriptorProto, FieldDescriptorProto,
-};
+use crate::reader::groups;
+use protobuf_parse_model::{EnumValueDescriptorProto, FieldDescriptorProto};
 use std::alloc::{AllocError, Global};
 
 // ---- fields of messages
@@ -28,41 +27,11 @@ pub fn field_named<'a>(
     ensures { option_map field_seen result ≡ field_named
         (files_seen known.now.files.now) message.now name.now }
 {
-    field_of(&known.messages, message, name)
+    by_name::field_of(groups::group(&known.messages, message), name)
 }
 
-fn field_of<'a>(
-    messages: &[Known<&'a DescriptorProto>],
-    message: &str,
-    name: &str,
-) -> Option<&'a FieldDescriptorProto>
-    ensures { option_map field_seen result ≡ field_among
-        (fields_among message.now (messages_known messages.now)) name.now }
-{
-    'messages: for known in messages {
-        if let Some(field) = field_if_named(known, message, name) {
-            return Some(field);
-        }
-    }
-    None
-}
-
-fn field_if_named<'a>(
-    known: &Known<&'a DescriptorProto>,
-    message: &str,
-    name: &str,
-) -> Option<&'a FieldDescriptorProto>
-    ensures { option_map field_seen result ≡ field_among
-        (fields_among message.now (message_known known.now ∷ [])) name.now }
-{
-    if message == known.name.as_str() {
-        field_among(&known.what.field, name)
-    } else {
-        None
-    }
-}
-
-fn field_among<'a>(
+/// The first field of that name.
+pub fn field_among<'a>(
     fields: &'a [FieldDescriptorProto],
     name: &str,
 ) -> Option<&'a FieldDescriptorProto>
@@ -80,19 +49,7 @@ fn field_among<'a>(
 pub fn is_message(known: &KnownFiles<'_>, name: &str) -> bool
     ensures { result ≡ is_message (files_seen known.now.files.now) name.now }
 {
-    is_named(&known.messages, name)
-}
-
-fn is_named(messages: &[Known<&DescriptorProto>], name: &str) -> bool
-    ensures { result ≡ list_any (λ (d : Declaration). bytes_eq name.now d.name)
-        (messages_known messages.now) }
-{
-    'messages: for known in messages {
-        if name == known.name.as_str() {
-            return true;
-        }
-    }
-    false
+    !groups::group(&known.messages, name).is_empty()
 }
 
 // ---- values of enums
@@ -102,33 +59,11 @@ pub fn number_of_value(known: &KnownFiles<'_>, enum_name: &str, name: &str) -> O
     ensures { result ≡ number_of_value
         (files_seen known.now.files.now) enum_name.now name.now }
 {
-    number_in(&known.enums, enum_name, name)
+    by_name::number_of(groups::group(&known.enums, enum_name), name)
 }
 
-fn number_in(enums: &[Known<&EnumDescriptorProto>], enum_name: &str, name: &str) -> Option<i32>
-    ensures { result ≡ number_among
-        (values_among enum_name.now (map enum_known enums.now)) name.now }
-{
-    'enums: for known in enums {
-        let number = number_if_named(known, enum_name, name);
-        if number.is_some() {
-            return number;
-        }
-    }
-    None
-}
-
-fn number_if_named(known: &Known<&EnumDescriptorProto>, enum_name: &str, name: &str) -> Option<i32>
-    ensures { result ≡ number_among (values_of enum_name.now (enum_known known.now)) name.now }
-{
-    if known.name.as_str() == enum_name {
-        number_among(&known.what.value, name)
-    } else {
-        None
-    }
-}
-
-fn number_among(values: &[EnumValueDescriptorProto], name: &str) -> Option<i32>
+/// The number of the first value of that name.
+pub fn number_among(values: &[EnumValueDescriptorProto], name: &str) -> Option<i32>
     ensures { result ≡ number_among (map enum_value_view values.now) name.now }
 {
     'values: for value in values {

@@ -6,7 +6,7 @@ ghost use Rattle.protobuf_parse_model.specs.Faults.{Blames, Elaborates};
 ghost use Rattle.protobuf_parse_model.specs.OptionTables.{table_of};
 ghost use Rattle.protobuf_parse_model.specs.OptionViews.{options_seen};
 ghost use Rattle.protobuf_parse_wire.specs.CustomFaults.{builtin_step_faults, custom_faults, named_faults, statement_faults};
-ghost use Rattle.protobuf_parse_wire.specs.CustomOptions.{denotes, named_items, option_items, path_items};
+ghost use Rattle.protobuf_parse_wire.specs.CustomOptions.{denotes, option_items, path_items};
 ghost use Rattle.protobuf_parse_wire.specs.Encoded.{encoded};
 ghost use Rattle.protobuf_parse_wire.specs.Given.{place_view};
 ghost use Rattle.protobuf_parse_wire.specs.OptionFields.{options_message};

@@ -1,4 +1,4 @@
-use Rattle.std.proofs.Common.{◌≡◌, ◌∙◌, ap, subst, sym}
+use Rattle.std.proofs.Common.{◌∙◌, ap, subst, sym}
 use Rattle.protobuf_parse_model.specs.OptionViews.{options_seen}
 use Rattle.protobuf_parse_wire.specs.Encoded.{encoded}
 use Rattle.protobuf_parse_wire.specs.Given.{place_view}
