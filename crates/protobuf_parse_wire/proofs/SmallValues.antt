@@ -117,7 +117,7 @@ file_enums env _ h = tt
 -- ---- files
 
 -- the enums of a descriptor
-abbrev SmallFile : FileDescriptor → Type 0
+abbrev pub SmallFile : FileDescriptor → Type 0
 SmallFile file = AllByRecursion SmallMessage file.message_type × AllByRecursion SmallEnum file.enum_type
 
 pub file_small : (env : Environment) (path : Text) (t : FileSyntax) → SoundFile t → SmallFile (file_of env path t)
