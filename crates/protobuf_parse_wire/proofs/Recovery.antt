@@ -1,8 +1,8 @@
 -- What custom options denote is read back in files without faults.
-use Rattle.std.proofs.Common.{◌≡◌, ℕ, ◌≤◌, ◌⊎◌, inl, inr, Bool, true, false, cond, not, ◌&&◌, ◌||◌, List, [], ◌∷◌, ◌++◌, flat_map, Option, Some, None, option_to_list, sym, ap, subst, ◌∙◌, refl, arith, bytes_eq}
+use Rattle.std.proofs.Common.{◌≡◌, ◌≤◌, ◌⊎◌, inl, inr, Bool, true, false, not, ◌&&◌, List, [], ◌∷◌, ◌++◌, flat_map, Option, Some, None, option_to_list, sym, ap, subst, ◌∙◌, refl, arith, bytes_eq}
 use Rattle.std.specs.List.{list_any}
 use Rattle.std.proofs.lemmas.Bool.{or_cases}
-use Rattle.protobuf_parse_syntax.specs.Trees.{ConstantSyntax, OptionPartSyntax, direct, extension, OptionNameSyntax, custom, OptionSyntax, FileSyntax}
+use Rattle.protobuf_parse_syntax.specs.Trees.{ConstantSyntax, OptionPartSyntax, direct, extension, OptionNameSyntax, builtin, custom, OptionSyntax, FileSyntax}
 use Rattle.protobuf_parse_syntax.proofs.Nesting.{tree_shallow}
 use Rattle.protobuf_parse_model.specs.Descriptors.{Text, FieldDescriptor, FileDescriptor}
 use Rattle.protobuf_parse_model.specs.declared.error.ElabErrorKind.TheVariants.{WrongExtensionType}
@@ -10,18 +10,20 @@ use Rattle.protobuf_parse_model.specs.Duplicates.{fault_when}
 use Rattle.protobuf_parse_model.specs.Declarations.{Declared}
 use Rattle.protobuf_parse_model.specs.declared.customs.Construct.{Construct}
 use Rattle.protobuf_parse_model.specs.Environment.{path_text}
-use Rattle.protobuf_parse_model.specs.Faults.{Among, here, there, Fault}
+use Rattle.protobuf_parse_model.specs.Faults.{Among, here, there}
 use Rattle.protobuf_parse_model.specs.FilesByPath.{Trees, among}
 use Rattle.protobuf_parse_model.specs.OptionSets.{OptionSet, option_sets}
 use Rattle.protobuf_parse_model.proofs.Orders.{same-text}
 use Rattle.protobuf_parse_wire.specs.Declarations.{Declaration, declared_in, extends}
 use Rattle.protobuf_parse_wire.specs.Law.{depth}
 use Rattle.protobuf_parse_wire.specs.OptionLaw.{IsEntered, HasSmallValues, IsReadable}
-use Rattle.protobuf_parse_wire.specs.OptionFields.{OptionScope, options_message, is_message, extends_message, extension_meant, part_field}
-use Rattle.protobuf_parse_wire.specs.CustomFaults.{extension_faults, number_faults, value_faults, step_faults, part_faults, path_faults, custom_faults, named_faults, statement_faults}
-use Rattle.protobuf_parse_wire.specs.CustomOptions.{denotes, scope_of}
+use Rattle.protobuf_parse_wire.specs.OptionFields.{OptionScope, options_message, is_message, extension_meant, part_field}
+use Rattle.protobuf_parse_wire.specs.CustomFaults.{extension_faults, number_faults, value_faults, path_faults, custom_faults, named_faults, statement_faults}
+use Rattle.protobuf_parse_wire.specs.CustomOptions.{named_items, option_items, denotes, scope_of}
+use Rattle.protobuf_parse_wire.specs.Encoded.{encoded}
+use Rattle.protobuf_parse_wire.specs.Views.{entries_of_list}
 use Rattle.protobuf_parse_wire.specs.NamesAlike.{HasPackageName}
-use Rattle.protobuf_parse_wire.specs.Recovery.{plainly, plain_at, AreReachedFiles, HasCustom, OptionsAreRecovered}
+use Rattle.protobuf_parse_wire.specs.Recovery.{plainly, plain_at, AreReachedFiles, HasCustom, OptionsAreRecovered, PlainOptionsAreNoBytes}
 use Rattle.protobuf_parse_wire.proofs.Entered.{declared_entered, held_entered, described, describes}
 use Rattle.protobuf_parse_wire.proofs.Sound.{SoundFile, text_sound, package_named}
 use Rattle.protobuf_parse_wire.proofs.SoundSets.{set_shallow}
@@ -115,3 +117,21 @@ options_are_recovered trees sees reached p t s r listed has_tree none stands has
     (entered trees sees reached r (options_message s.construct) (set_of_message at s.construct s.statements clean has))
     clean (omega (arith, few)) short
     (option_bytes_spell files visible t (small trees sees reached r) none s stands)
+
+-- ---- sets without custom options
+
+-- a built-in option denotes nothing
+nothing_named : (at : OptionScope) (message : Text) (value : ConstantSyntax) (name : OptionNameSyntax) → ((part : OptionPartSyntax) (parts : List OptionPartSyntax) → name ≡ custom (part ∷ parts) → ⊥) → named_items at message value name ≡ []
+nothing_named at message value (builtin name) plain = refl
+nothing_named at message value (custom []) plain = refl
+nothing_named at message value (custom (part ∷ parts)) plain = absurd (plain part parts refl)
+
+nothing_set : (at : OptionScope) (construct : Construct) (os : List OptionSyntax) → (HasCustom os → ⊥) → flat_map (option_items at construct) os ≡ []
+nothing_set at construct [] plain = refl
+nothing_set at construct (o ∷ os) plain =
+    ap (λ items. items ++ flat_map (option_items at construct) os) (nothing_named at (options_message construct) o.value o.name (λ part parts e. plain (o, here, part, parts, e)))
+    ∙ nothing_set at construct os (λ has. plain (has.0, there has.1, has.2, has.3, has.4))
+
+pub plain_options_are_no_bytes : PlainOptionsAreNoBytes
+plain_options_are_no_bytes files visible s plain =
+    ap (λ items. encoded (entries_of_list items)) (nothing_set (scope_of files visible s) s.construct s.statements plain)
