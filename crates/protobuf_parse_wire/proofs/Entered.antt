@@ -1,5 +1,5 @@
 -- In files without faults each message that is declared is entered, and so is each that a field holds.
-use Rattle.std.proofs.Common.{◌≡◌, ℕ, suc, ◌+◌, ◌<◌, ◌≤◌, ◌⊎◌, inl, inr, Bool, true, false, cond, ◌||◌, List, [], ◌∷◌, ◌++◌, map, filter, flat_map, length, Option, Some, None, is_some, option_to_list, refl, sym, ap, subst, ◌∙◌, arith, bytes_eq}
+use Rattle.std.proofs.Common.{◌≡◌, ℕ, suc, ◌+◌, ◌<◌, ◌≤◌, ◌⊎◌, inl, inr, Bool, true, false, cond, List, [], ◌∷◌, ◌++◌, map, filter, flat_map, length, Option, Some, None, is_some, option_to_list, refl, sym, ap, subst, ◌∙◌, arith, bytes_eq}
 use Rattle.std.proofs.lemmas.Bool.{or_cases, or_right}
 use Rattle.std.proofs.lemmas.Grind.{flat_map-append}
 use Rattle.std.proofs.lemmas.List.{append-nil, map-append}
@@ -16,13 +16,13 @@ use Rattle.protobuf_parse_model.specs.NamedTypes.{in_message, in_messages, messa
 use Rattle.protobuf_parse_model.specs.FilesByPath.{Trees, among, trees_at}
 use Rattle.protobuf_parse_model.specs.Linking.{type_names, occurrences}
 use Rattle.protobuf_parse_model.proofs.NamedTypes.{types_are_named, messages_are_named}
-use Rattle.protobuf_parse_model.proofs.Orders.{same-text, first-among, among-map, counted-from, count-append, type-once}
+use Rattle.protobuf_parse_model.proofs.Orders.{same-text, first-among, counted-from, count-append, type-once}
 use Rattle.protobuf_parse_wire.specs.Declarations as wire
 use Rattle.protobuf_parse_wire.specs.Declarations.{Declaration, within, package_scope, declared_message, declared_messages, declared_in, declared_extensions, extensions_within, messages_named, messages_of, extensions_of, extends}
 use Rattle.protobuf_parse_wire.specs.NamesAlike.{HasPackageName, message_names, enum_names}
 use Rattle.protobuf_parse_wire.specs.OptionFields.{fields_of_message}
 use Rattle.protobuf_parse_wire.specs.OptionLaw.{IsEntered, fields_at}
-use Rattle.protobuf_parse_wire.specs.DescriptorsByPath.{Environments, described_at, descriptors_at, AreWithin}
+use Rattle.protobuf_parse_wire.specs.DescriptorsByPath.{Environments, described_at, descriptors_at}
 use Rattle.protobuf_parse_wire.specs.Recovery.{plainly, plain_at, AreReachedFiles}
 use Rattle.protobuf_parse_wire.proofs.MessagesAlike.{messages_are_counted_alike}
 use Rattle.protobuf_parse_wire.proofs.NamesAlike.{types_are_counted_alike}
@@ -358,6 +358,9 @@ module _ (trees : Trees) (sees : Text → List Text) (reached : List Text) (r : 
         where
           none : true ≡ false → ⊥
           none h = cc
-      at (Some name) e =
-          (name, e, seen_entered one.path one.tree name one.listed one.has_tree
-          (messages_are_named (trees_at trees (sees one.path)) no_customs no_customs one.path one.tree f name (r.faultless one.path one.tree one.listed one.has_tree) one.stands is e))
+      at (Some name) e = (
+        name,
+        e,
+        seen_entered one.path one.tree name one.listed one.has_tree
+            (messages_are_named (trees_at trees (sees one.path)) no_customs no_customs one.path one.tree f name (r.faultless one.path one.tree one.listed one.has_tree) one.stands is e),
+      )

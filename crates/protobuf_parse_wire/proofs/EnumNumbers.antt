@@ -1,12 +1,12 @@
 -- The values of the enums of a descriptor have the numbers that the tree gives them.
-use Rattle.std.proofs.Common.{◌≡◌, ℤ, Bool, true, false, cond, List, [], ◌∷◌, ◌++◌, map, flat_map, Option, Some, None, option_map, refl, subst, bytes_eq}
+use Rattle.std.proofs.Common.{◌≡◌, ℤ, Bool, true, false, cond, List, [], ◌∷◌, map, flat_map, Option, Some, None, option_map, refl, subst, bytes_eq}
 use Rattle.std.specs.List.{AllByRecursion, find}
 use Rattle.std.specs.Int.{w32}
 use Rattle.std.specs.Int.RustNames.{FitsSigned}
 use Rattle.protobuf_parse_syntax.specs.Trees as tree
 use Rattle.protobuf_parse_syntax.specs.Trees.{TypeSyntax, FieldStatementSyntax, EnumStatementSyntax, EnumValueSyntax, EnumSyntax, MessageStatementSyntax, MessageStatementList, MessageSyntax, StatementSyntax, FileSyntax}
-use Rattle.protobuf_parse_model.specs.Descriptors.{Text, EnumValueDescriptor, EnumDescriptor, MessageParts, MessageDescriptor, MessageDescriptors, a_message, no_messages, messages, messages_of_list, FileDescriptor}
-use Rattle.protobuf_parse_model.specs.Faults.{Among, here, there}
+use Rattle.protobuf_parse_model.specs.Descriptors.{Text, EnumValueDescriptor, EnumDescriptor, MessageDescriptor, MessageDescriptors, a_message, no_messages, messages, messages_of_list, FileDescriptor}
+use Rattle.protobuf_parse_model.specs.Faults.{Among}
 use Rattle.protobuf_parse_model.specs.Statements.{message_body, oneof_fields}
 use Rattle.protobuf_parse_model.specs.Declarations.{Declared}
 use Rattle.protobuf_parse_model.specs.Environment.{Environment, inside}
@@ -17,11 +17,11 @@ use Rattle.protobuf_parse_model.specs.FileDescriptor as files
 use Rattle.protobuf_parse_model.specs.FileDescriptor.{file_of}
 use Rattle.protobuf_parse_model.proofs.Lookups.{found_is}
 use Rattle.protobuf_parse_wire.specs.Declarations.{Declaration, within, package_scope, declared_message, declared_messages, declared_in}
-use Rattle.protobuf_parse_wire.specs.OptionFields.{enum_in, declared_enums, values_in, number_of_value}
+use Rattle.protobuf_parse_wire.specs.OptionFields.{enum_in, declared_enums, values_in}
 use Rattle.protobuf_parse_wire.specs.OptionLaw.{HasSmallValues}
-use Rattle.protobuf_parse_wire.proofs.Entered.{FromOne, from_one, MappedFrom, mapped_from}
+use Rattle.protobuf_parse_wire.proofs.Entered.{from_one, mapped_from}
 use Rattle.protobuf_parse_wire.proofs.Options.{SplitAmong, left, right, split_among}
-use Rattle.protobuf_parse_wire.proofs.Sound.{SoundValue, SoundEnumStatement, SoundEnum, SoundMessageStatement, SoundBody, SoundMessage, SoundStatement, SoundFile}
+use Rattle.protobuf_parse_wire.proofs.Sound.{SoundEnumStatement, SoundEnum, SoundMessageStatement, SoundBody, SoundMessage, SoundStatement, SoundFile}
 use Rattle.protobuf_parse_wire.proofs.SoundSets.{both, flat, mapped, of_one}
 
 -- ---- descriptors
@@ -117,7 +117,7 @@ file_enums env _ h = tt
 -- ---- files
 
 -- the enums of a descriptor
-abbrev SmallFile : FileDescriptor → Type 0
+abbrev pub SmallFile : FileDescriptor → Type 0
 SmallFile file = AllByRecursion SmallMessage file.message_type × AllByRecursion SmallEnum file.enum_type
 
 pub file_small : (env : Environment) (path : Text) (t : FileSyntax) → SoundFile t → SmallFile (file_of env path t)

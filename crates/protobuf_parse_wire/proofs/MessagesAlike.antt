@@ -15,7 +15,7 @@ use Rattle.protobuf_parse_model.specs.Messages.{messages_behind, entries_of, mes
 use Rattle.protobuf_parse_model.specs.FileDescriptor as files
 use Rattle.protobuf_parse_model.specs.FileDescriptor.{file_of}
 use Rattle.protobuf_parse_model.proofs.Orders.{count-append}
-use Rattle.protobuf_parse_wire.specs.Declarations.{Declaration, within, declared_message, package_scope}
+use Rattle.protobuf_parse_wire.specs.Declarations.{Declaration, within, declared_message}
 use Rattle.protobuf_parse_wire.specs.NamesAlike.{message_names, HasPackageName}
 use Rattle.protobuf_parse_wire.proofs.Agreement.{scope_inside, package_is}
 use Rattle.protobuf_parse_wire.proofs.NamesAlike.{nested-are}

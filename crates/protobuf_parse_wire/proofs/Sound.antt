@@ -1,15 +1,14 @@
 -- What a text's grammar says of its tree: option names of at most 100 parts, numbers of enum values of 32 bits, and
 -- names of packages.
-use Rattle.std.proofs.Common.{◌≡◌, ℕ, zero, suc, ◌+◌, ◌<◌, ◌≤◌, ◌⊎◌, inl, inr, ℤ, pos, negsuc, Bool, true, false, cond, List, [], ◌∷◌, ◌++◌, length, Option, Some, None, refl, sym, ap, subst, ◌∙◌, arith, nat_le, take, fold, codes}
+use Rattle.std.proofs.Common.{◌≡◌, ℕ, zero, suc, ◌<◌, ◌≤◌, ◌⊎◌, inl, inr, Bool, true, false, cond, List, [], ◌∷◌, ◌++◌, length, Option, Some, None, refl, sym, subst, arith, nat_le, take, fold, codes}
 use Rattle.std.specs.Prelude.{⊤, IfSome}
 use Rattle.std.specs.List.{AllByRecursion}
 use Rattle.std.specs.Int.{w32}
 use Rattle.std.specs.Int.RustNames.{FitsSigned}
 use Rattle.std.proofs.lemmas.Bool.{leb-true}
 use Rattle.std.proofs.lemmas.List.{length-take-le}
-use Rattle.protobuf_parse_base.specs.Relations.{Nothing, Never, One, Level, Then, Either, Many, Separated, none, more, Unless, At, somes}
+use Rattle.protobuf_parse_base.specs.Relations.{Nothing, Never, Level, Then, Either, Many, Separated, none, more, Unless, At, somes}
 use Rattle.protobuf_parse_syntax.specs.Tokens.{Lexeme}
-use Rattle.protobuf_parse_syntax.specs.Characters as char
 use Rattle.protobuf_parse_syntax.specs.declared.lexer.token.Place.{Place}
 use Rattle.protobuf_parse_syntax.specs.declared.lexer.token.TokenKind.{TokenKind}
 use Rattle.protobuf_parse_syntax.specs.declared.lexer.token.TokenKind.TheVariants as kind
@@ -18,7 +17,7 @@ use Rattle.protobuf_parse_syntax.specs.declared.tree.Syntax.TheVariants.{Proto2,
 use Rattle.protobuf_parse_syntax.specs.declared.tree.field.Label.{Label}
 use Rattle.protobuf_parse_syntax.specs.Text.{Bytes}
 use Rattle.protobuf_parse_syntax.specs.Classes.{sees_at, ident, is_one_of, words}
-use Rattle.protobuf_parse_syntax.specs.Grammar.{table_words, statement_words, labels, if_so, any_ident, small_at, small_number, negative, AtMost, Item, Statements, Braced, IsIdent, IsDotted, IsNextPart, option_name, IsOptionName, IsAssignment, IsOption, AreOptions, IsFieldNumber, IsNumberUpTo, PlainFieldOf, GroupOf, AfterLabel, FieldOf, IsField, IsOneofField, IsOneofStatement, IsOneof, IsExtend, IsEnumNumber, IsEnumValue, IsEnumStatement, IsEnum, MessageStatementOf, MessageOf, IsMessage, IsMethodEnd, IsRpc, IsStream, IsStreamIn, IsServiceStatement, IsService, IsPackage, IsFileStatement, IsFileOf, IsFile}
+use Rattle.protobuf_parse_syntax.specs.Grammar.{table_words, statement_words, labels, if_so, small_at, negative, AtMost, Item, Statements, Braced, IsIdent, IsDotted, option_name, IsOptionName, IsAssignment, IsOption, AreOptions, IsFieldNumber, IsNumberUpTo, PlainFieldOf, GroupOf, AfterLabel, FieldOf, IsField, IsOneofField, IsOneofStatement, IsOneof, IsExtend, IsEnumNumber, IsEnumValue, IsEnumStatement, IsEnum, MessageStatementOf, MessageOf, IsMessage, IsMethodEnd, IsRpc, IsStream, IsStreamIn, IsServiceStatement, IsService, IsPackage, IsFileStatement, IsFileOf, IsFile}
 use Rattle.protobuf_parse_syntax.specs.Trees as tree
 use Rattle.protobuf_parse_syntax.specs.Trees.{OptionPartSyntax, OptionSyntax, OptionStatementSyntax, FieldStatementSyntax, FieldStatementList, OneofStatementSyntax, OneofSyntax, ExtendSyntax, EnumValueSyntax, EnumStatementSyntax, EnumSyntax, MessageStatementSyntax, MessageStatementList, MessageSyntax, MethodSyntax, ServiceStatementSyntax, ServiceSyntax, PackageSyntax, StatementSyntax, FileSyntax}
 use Rattle.protobuf_parse_model.specs.Faults.{Among, here, there}

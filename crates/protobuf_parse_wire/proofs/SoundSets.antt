@@ -1,5 +1,5 @@
 -- In the tree of a text each statement of each set of options is shallow.
-use Rattle.std.proofs.Common.{◌≡◌, ℕ, suc, ◌≤◌, List, [], ◌∷◌, ◌++◌, map, flat_map, All, refl, arith, max}
+use Rattle.std.proofs.Common.{ℕ, ◌≤◌, List, [], ◌∷◌, ◌++◌, map, flat_map, All, arith, max}
 use Rattle.std.specs.List.{AllByRecursion}
 use Rattle.std.proofs.lemmas.List.Elements.{All-head, All-tail}
 use Rattle.protobuf_parse_syntax.specs.Trees as tree
@@ -9,13 +9,13 @@ use Rattle.protobuf_parse_syntax.specs.Nesting.{ShallowOption, ShallowOptionStat
 use Rattle.protobuf_parse_model.specs.Faults.{Among, here, there}
 use Rattle.protobuf_parse_model.specs.Statements.{group_body, message_body, oneof_fields, oneof_options}
 use Rattle.protobuf_parse_model.specs.Declarations.{Scope, inside, file_scope}
-use Rattle.protobuf_parse_model.specs.Enums.{enum_values, options_in_enum, options_of_enum}
+use Rattle.protobuf_parse_model.specs.Enums.{enum_values, options_in_enum}
 use Rattle.protobuf_parse_model.specs.Services.{methods_in, statement_option, options_in_service, options_of_method}
-use Rattle.protobuf_parse_model.specs.Messages.{options_in_oneof, options_in_message, options_of_body}
+use Rattle.protobuf_parse_model.specs.Messages.{options_in_message, options_of_body}
 use Rattle.protobuf_parse_model.specs.FileDescriptor.{options_in_file}
 use Rattle.protobuf_parse_model.specs.OptionSets.{OptionSet, sets_in_group, field_sets, oneof_sets, extend_sets, value_set, enum_sets, sets_of, sets_in, message_sets, method_set, service_sets, statement_sets, option_sets}
 use Rattle.protobuf_parse_wire.specs.OptionDepth.{constant_depth, list_depth, fields_depth, IsShallow}
-use Rattle.protobuf_parse_wire.proofs.Sound.{SoundOption, SoundOptionStatement, SoundField, SoundFields, SoundOneofStatement, SoundOneof, SoundExtend, SoundValue, SoundEnumStatement, SoundEnum, SoundMessageStatement, SoundBody, SoundMessage, SoundMethod, SoundServiceStatement, SoundService, SoundStatement, SoundFile}
+use Rattle.protobuf_parse_wire.proofs.Sound.{SoundOption, SoundOptionStatement, SoundField, SoundFields, SoundOneofStatement, SoundOneof, SoundExtend, SoundEnumStatement, SoundEnum, SoundMessageStatement, SoundBody, SoundMessage, SoundServiceStatement, SoundService, SoundStatement, SoundFile}
 
 -- ---- constants
 

@@ -54,8 +54,7 @@ HasCustom os =
     (o : OptionSyntax) × Among os o × (part : OptionPartSyntax) × (parts : List OptionPartSyntax) × (o.name ≡ custom (part ∷ parts))
 
 -- Where no fault stands in the custom options of a file among these, the bytes of each set that has
--- some are read, by its options message, as the numbers and values that its statements denote. Of a
--- set that has none there are no bytes.
+-- some are read, by its options message, as the numbers and values that its statements denote.
 abbrev pub OptionsAreRecovered : Type 0
 OptionsAreRecovered =
     (trees : Trees) (sees : Text → List Text) (reached : List Text) (p : Text) (t : FileSyntax) (s : OptionSet)
@@ -67,3 +66,9 @@ OptionsAreRecovered =
     → Among (option_sets t) s → HasCustom s.statements
     → length bytes < 2 ^ 64
     → reader files (options_message s.construct) bytes ≡ Ok (said (denotes (scope_of files visible s) s.construct s.statements)))
+
+-- A set that has none becomes no bytes.
+abbrev pub PlainOptionsAreNoBytes : Type 0
+PlainOptionsAreNoBytes =
+    (files visible : List FileDescriptor) (s : OptionSet)
+    → (HasCustom s.statements → ⊥) → option_bytes files visible s.construct s.scope s.statements ≡ []

@@ -1,5 +1,8 @@
-use Rattle.protobuf_parse_wire.proofs.Recovery as recovery
+use Rattle.protobuf_parse_wire.proofs.Recovery.{options_are_recovered, plain_options_are_no_bytes}
 use Rattle.protobuf_parse_wire.proofs.law.options_are_recovered.Goals as goal
 
-pub returns : goal.returns
-returns c = recovery.options_are_recovered
+pub returns-clause-custom : goal.returns-clause-custom
+returns-clause-custom c = options_are_recovered
+
+pub returns-clause-plain : goal.returns-clause-plain
+returns-clause-plain c = plain_options_are_no_bytes
