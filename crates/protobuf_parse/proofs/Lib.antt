@@ -18,6 +18,8 @@ pub mod Spelling
 pub mod Reordering
 pub mod Settling
 pub mod Listed
+pub mod Including
+pub mod Building
 pub mod Stacks
 pub mod Taking
 pub mod Stepping

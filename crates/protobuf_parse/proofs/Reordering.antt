@@ -1,5 +1,5 @@
 -- In which order files are listed makes no difference to what custom options become.
-use Rattle.std.proofs.Common.{◌≡◌, true, absurd, List, [], Option, Some, None, refl, subst}
+use Rattle.std.proofs.Common.{◌≡◌, true, List, [], Option, Some, None, refl, subst}
 use Rattle.protobuf_parse_syntax.specs.Trees.{FileSyntax}
 use Rattle.protobuf_parse_model.specs.Descriptors.{Text}
 use Rattle.protobuf_parse_model.specs.FilesByPath.{among, trees_at}

@@ -1,5 +1,5 @@
 -- What custom options add to a file: faults beside its others, and bytes in its descriptor.
-use Rattle.std.proofs.Common.{◌≡◌, ⊥, absurd, inl, inr, ℕ, List, [], ◌∷◌, flat_map, Option, Some, None, Result, Ok, Err, refl, sym, ◌∙◌, ap, subst}
+use Rattle.std.proofs.Common.{◌≡◌, inl, inr, ℕ, List, [], ◌∷◌, flat_map, Option, Some, None, Result, Ok, Err, refl, sym, ◌∙◌, ap, subst}
 use Rattle.protobuf_parse_syntax.specs.Trees.{FileSyntax, OptionSyntax}
 use Rattle.protobuf_parse_model.specs.Descriptors.{Text, FileDescriptor}
 use Rattle.protobuf_parse_model.specs.Environment.{Customs, no_customs, no_extensions}

@@ -5,5 +5,8 @@ pub mod Imports
 pub mod Walks
 pub mod Run
 pub mod Loading
+pub mod Includes
+pub mod Folders
+pub mod Parsers
 pub mod Frames
 pub mod Stability

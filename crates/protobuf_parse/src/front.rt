@@ -1,8 +1,12 @@
 //! What people run: the listing of descriptors, and the program.
 
+mod builder;
 mod command;
+mod files;
+mod includes;
 mod lines;
-mod one_file;
 
+pub use builder::{ParsedAndTypechecked, Parser};
 pub use command::program;
+pub use files::{FsReader, FsResolver, fs_resolver};
 pub use lines::listing;

@@ -6,7 +6,9 @@ mod front;
 pub mod pure;
 mod run;
 
-pub use front::{listing, program};
+pub use front::{
+    FsReader, FsResolver, ParsedAndTypechecked, Parser, fs_resolver, listing, program,
+};
 pub use protobuf_parse_base::names::{
     Components, ProtobufAbsPath, ProtobufAbsPathRef, ProtobufIdent, ProtobufIdentRef,
     ProtobufRelPath, ProtobufRelPathRef,

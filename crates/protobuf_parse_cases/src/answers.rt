@@ -3,6 +3,7 @@
 mod bytes;
 mod customs;
 mod names;
+pub mod parsers;
 mod runs;
 mod texts;
 

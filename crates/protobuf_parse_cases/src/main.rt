@@ -8,7 +8,7 @@ mod files;
 mod notation;
 mod report;
 
-use crate::answers::Nested;
+use crate::answers::parsers::OnFiles;
 use crate::report::report_of;
 use anyhow::Result;
 use std::fs;
@@ -34,7 +34,7 @@ fn run<R: Runtime<A = std::alloc::Global>>(rt: &R) -> Result<bool> {
     let mut all_well = true;
     for name in &file_names(rt)? {
         let content = fs::read(rt, name.as_str())?;
-        let report = report_of(rt.alloc(), name, &content, &Nested)?;
+        let report = report_of(rt.alloc(), name, &content, &OnFiles { rt })?;
         print!(rt; "{}", report.text)?;
         all_well = all_well && report.is_well;
     }

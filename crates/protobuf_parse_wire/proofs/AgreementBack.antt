@@ -87,7 +87,7 @@ held_by scope (n ∷ ns) d h =
     at (left k) others = (n, here, k)
     at (right k) others = let o = others k in (o.0, there o.1, o.2)
 
-nested_are : (scope : Text) (ns : List MessageDescriptor) → declared_messages scope (messages_of_list ns) ≡ flat_map (declared_message scope) ns
+pub nested_are : (scope : Text) (ns : List MessageDescriptor) → declared_messages scope (messages_of_list ns) ≡ flat_map (declared_message scope) ns
 nested_are scope [] = refl
 nested_are scope (n ∷ ns) = ap (λ (ds : List Declaration). declared_message scope n ++ ds) (nested_are scope ns)
 

@@ -14,7 +14,7 @@ use Rattle.protobuf_parse_model.specs.Lookup.{Meanings, declared, meant}
 use Rattle.protobuf_parse_model.specs.FilesByPath.{Trees, among, trees_at}
 use Rattle.protobuf_parse_model.specs.Linking.{type_names, extension_names, occurrences, link_faults}
 use Rattle.protobuf_parse_model.specs.declared.customs.Construct.{Construct}
-use Rattle.protobuf_parse_model.specs.Environment.{CustomFaults, CustomBytes}
+use Rattle.protobuf_parse_model.specs.Environment.{CustomFaults, CustomBytes, Customs}
 use Rattle.protobuf_parse_model.proofs.Blaming.{among_left, among_right}
 use Rattle.protobuf_parse_model.proofs.Lookups.{found_is}
 use Rattle.protobuf_parse_model.proofs.Orders.{same-text, among-map, counted-from, count-two, of_path, of_trees, finds-same, type-once, extension-once}
@@ -202,36 +202,63 @@ module _ (trees : Trees) (env : Environments) where
 
 -- ---- the laws
 
--- what is seen from a scope of a file
+-- what is seen from a scope of a file that reaches and sees the files of these paths
 abbrev pub seen_from : Trees → Environments → (reached seen : List Text) → Scope → OptionScope
-seen_from trees env reached seen scope = record { files = descriptors_at trees env reached; visible = descriptors_at trees env seen; scope = scope }
-
--- names mean the same in any order
-pub lookups-same : (trees : Trees) (env : Environments) (reached reached' seen seen' : List Text) → HasFileScopes trees env → AreReordered trees reached reached' seen seen' → (scope : Scope) → SameLookups (seen_from trees env reached seen scope) (seen_from trees env reached' seen' scope)
-lookups-same trees env reached reached' seen seen' files r scope = record {
-  fields = fields-same trees env files reached reached reached' r.once (λ p h. h) r.reach;
-  values = values-same trees env files reached reached reached' r.once (λ p h. h) r.reach;
-  messages = messages-same trees env files reached reached reached' r.once (λ p h. h) r.reach;
-  extensions = λ name. ap (λ (of : Meanings FieldDescriptor). meant of scope name) (extensions-same trees env files reached seen seen' r.once r.within r.sight);
+seen_from trees env reached seen scope = record {
+  files = descriptors_at trees env reached;
+  visible = descriptors_at trees env seen;
+  scope = scope;
 }
 
--- the same is wrong
-pub options-same : (trees : Trees) (env : Environments) (reached reached' seen seen' : List Text) → HasFileScopes trees env → AreReordered trees reached reached' seen seen' → (scope : Scope) (construct : Construct) (os : List OptionSyntax) → statement_faults (seen_from trees env reached seen scope) construct os ≡ statement_faults (seen_from trees env reached' seen' scope) construct os
-options-same trees env reached reached' seen seen' files r scope construct os =
-    lookups_decide_faults (seen_from trees env reached seen scope) (seen_from trees env reached' seen' scope) (lookups-same trees env reached reached' seen seen' files r scope) construct os
+-- what its custom options mean
+abbrev pub meant_from : Trees → Environments → (reached seen : List Text) → Customs
+meant_from trees env reached seen =
+    known_customs (descriptors_at trees env reached) (descriptors_at trees env seen)
 
--- and the bytes are the same
-pub bytes-same : (trees : Trees) (env : Environments) (reached reached' seen seen' : List Text) → HasFileScopes trees env → AreReordered trees reached reached' seen seen' → option_bytes (descriptors_at trees env reached) (descriptors_at trees env seen) ≡ option_bytes (descriptors_at trees env reached') (descriptors_at trees env seen')
-bytes-same trees env reached reached' seen seen' files r =
-    fun_ext (λ (construct : Construct). fun_ext (λ (scope : Scope). fun_ext (λ (os : List OptionSyntax). ap encoded (lookups_decide_meaning (seen_from trees env reached seen scope) (seen_from trees env reached' seen' scope) (lookups-same trees env reached reached' seen seen' files r scope) construct os))))
+module _ (trees : Trees) (env : Environments) (reached reached' seen seen' : List Text) (files : HasFileScopes trees env) (r : AreReordered trees reached reached' seen seen') where
+  -- names mean the same
+  pub lookups-same : (scope : Scope)
+      → SameLookups (seen_from trees env reached seen scope) (seen_from trees env reached' seen' scope)
+  lookups-same scope = record {
+    fields = fields-same trees env files reached reached reached' r.once (λ p h. h) r.reach;
+    values = values-same trees env files reached reached reached' r.once (λ p h. h) r.reach;
+    messages = messages-same trees env files reached reached reached' r.once (λ p h. h) r.reach;
+    extensions = λ name.
+        ap (λ (of : Meanings FieldDescriptor). meant of scope name)
+        (extensions-same trees env files reached seen seen' r.once r.within r.sight);
+  }
 
-pub faults-same : (trees : Trees) (env : Environments) (reached reached' seen seen' : List Text) → HasFileScopes trees env → AreReordered trees reached reached' seen seen' → (known_customs (descriptors_at trees env reached) (descriptors_at trees env seen)).faults ≡ (known_customs (descriptors_at trees env reached') (descriptors_at trees env seen')).faults
-faults-same trees env reached reached' seen seen' files r =
-    fun_ext (λ (construct : Construct). fun_ext (λ (scope : Scope). fun_ext (λ (os : List OptionSyntax). options-same trees env reached reached' seen seen' files r scope construct os)))
+  -- the same is wrong
+  pub options-same : (scope : Scope) (construct : Construct) (os : List OptionSyntax)
+      → statement_faults (seen_from trees env reached seen scope) construct os
+      ≡ statement_faults (seen_from trees env reached' seen' scope) construct os
+  options-same scope construct os =
+      lookups_decide_faults (seen_from trees env reached seen scope) (seen_from trees env reached' seen' scope)
+      (lookups-same scope) construct os
+
+  -- and the bytes are the same
+  pub spelling-same : (scope : Scope) (construct : Construct) (os : List OptionSyntax)
+      → (meant_from trees env reached seen).bytes construct scope os
+      ≡ (meant_from trees env reached' seen').bytes construct scope os
+  spelling-same scope construct os =
+      ap encoded (lookups_decide_meaning (seen_from trees env reached seen scope) (seen_from trees env reached' seen' scope)
+      (lookups-same scope) construct os)
+
+  -- all this as functions
+  pub faults-same : (meant_from trees env reached seen).faults ≡ (meant_from trees env reached' seen').faults
+  faults-same = fun_ext (λ (construct : Construct). fun_ext (λ (scope : Scope). fun_ext (λ (os : List OptionSyntax). options-same scope construct os)))
+
+  pub bytes-same :
+      option_bytes (descriptors_at trees env reached) (descriptors_at trees env seen)
+      ≡ option_bytes (descriptors_at trees env reached') (descriptors_at trees env seen')
+  bytes-same = fun_ext (λ (construct : Construct). fun_ext (λ (scope : Scope). fun_ext (λ (os : List OptionSyntax). spelling-same scope construct os)))
+
+  pub customs-same : meant_from trees env reached seen ≡ meant_from trees env reached' seen'
+  customs-same =
+      let bytes : CustomBytes = (meant_from trees env reached seen).bytes in
+      let faults' : CustomFaults = (meant_from trees env reached' seen').faults in
+      ap (λ (f : CustomFaults). record { faults = f; bytes = bytes }) faults-same
+      ∙ ap (λ (b : CustomBytes). record { faults = faults'; bytes = b }) bytes-same
 
 pub order_makes_no_difference : OrderMakesNoDifference
-order_makes_no_difference trees env reached reached' seen seen' files r =
-    let e : (known_customs (descriptors_at trees env reached) (descriptors_at trees env seen)).faults ≡ (known_customs (descriptors_at trees env reached') (descriptors_at trees env seen')).faults = faults-same trees env reached reached' seen seen' files r in
-    let h : option_bytes (descriptors_at trees env reached) (descriptors_at trees env seen) ≡ option_bytes (descriptors_at trees env reached') (descriptors_at trees env seen') = bytes-same trees env reached reached' seen seen' files r in
-    ap (λ (faults : CustomFaults). record { faults = faults; bytes = option_bytes (descriptors_at trees env reached) (descriptors_at trees env seen) }) e
-    ∙ ap (λ (bytes : CustomBytes). record { faults = (known_customs (descriptors_at trees env reached') (descriptors_at trees env seen')).faults; bytes = bytes }) h
+order_makes_no_difference trees env reached reached' seen seen' files r = customs-same trees env reached reached' seen seen' files r

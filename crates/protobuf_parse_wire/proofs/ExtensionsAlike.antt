@@ -1,7 +1,6 @@
 -- A file's descriptor has the names of extensions that its tree has, each as often.
 use Rattle.std.proofs.Common.{◌≡◌, ℕ, ◌+◌, List, [], ◌∷◌, ◌++◌, map, flat_map, refl, sym, ap, subst, ◌∙◌, arith}
 use Rattle.std.proofs.lemmas.List.{append-nil, map-append}
-use Rattle.std.proofs.lemmas.Grind.{flat_map-append}
 use Rattle.protobuf_parse_base.specs.Names.{absolute_text}
 use Rattle.protobuf_parse_syntax.specs.Trees.{TypeSyntax, scalar, map_of, named, FieldStatementSyntax, field, group, ExtendSyntax, MessageStatementSyntax, message_field, message_oneof, message_extend, message_message, MessageStatementList, no_statements, more_statements, StatementSyntax, file_message, file_extend, package_of}
 use Rattle.protobuf_parse_model.specs.Statements.{message_body, oneof_fields}
@@ -18,7 +17,8 @@ use Rattle.protobuf_parse_model.proofs.Orders.{count-append}
 use Rattle.protobuf_parse_wire.specs.Declarations.{Declaration, within, declared_message, package_scope, extensions_within}
 use Rattle.protobuf_parse_wire.specs.NamesAlike.{ExtensionsAreCountedAlike}
 use Rattle.protobuf_parse_wire.proofs.Agreement.{scope_inside, package_is}
-use Rattle.protobuf_parse_wire.proofs.NamesAlike.{nested-are}
+use Rattle.protobuf_parse_wire.proofs.AgreementBack.{nested_are}
+use Rattle.protobuf_parse_wire.proofs.NamesAlike.{told_within, told-append}
 
 -- ---- names in descriptors
 
@@ -32,10 +32,7 @@ names_of d = fields_within d.name d.parts.extension
 
 -- of those inside messages in a scope
 abbrev messages_within : Text → List MessageDescriptor → List Text
-messages_within scope ms = flat_map names_of (flat_map (declared_message scope) ms)
-
-messages-append : (scope : Text) (ms ns : List MessageDescriptor) → messages_within scope (ms ++ ns) ≡ messages_within scope ms ++ messages_within scope ns
-messages-append scope ms ns = ap (flat_map names_of) (flat_map-append (declared_message scope) ms ns) ∙ flat_map-append names_of (flat_map (declared_message scope) ms) (flat_map (declared_message scope) ns)
+messages_within scope ms = told_within names_of scope ms
 
 -- inside a message: its own, and those of the messages in its scope
 message-names : (env : Environment) (name : Text) (body : List MessageStatementSyntax) (ns : List MessageDescriptor) → messages_within (absolute_text env.scope) (message_from env name body ns ∷ [])
@@ -44,7 +41,7 @@ message-names env name body ns =
     let inner : Text = within (absolute_text env.scope) name in
     let own : List FieldDescriptor = flat_map (bodies.extensions_of (inside env name)) body in
     ap (flat_map names_of) (append-nil (declared_message (absolute_text env.scope) (message_from env name body ns)))
-    ∙ ap (λ (ds : List Declaration). fields_within inner own ++ flat_map names_of ds) (nested-are inner ns)
+    ∙ ap (λ (ds : List Declaration). fields_within inner own ++ flat_map names_of ds) (nested_are inner ns)
     ∙ ap (λ (s : Text). fields_within s own ++ messages_within s ns) (sym (scope_inside env.scope name))
 
 -- ---- behind maps and groups there are none
@@ -61,7 +58,7 @@ none-behind env (group place label name number fields) = refl
 none-behind_all : (env : Environment) (fs : List FieldStatementSyntax) → messages_within (absolute_text env.scope) (flat_map (messages_behind env) fs) ≡ []
 none-behind_all env [] = refl
 none-behind_all env (f ∷ fs) =
-    messages-append (absolute_text env.scope) (messages_behind env f) (flat_map (messages_behind env) fs)
+    told-append names_of (absolute_text env.scope) (messages_behind env f) (flat_map (messages_behind env) fs)
     ∙ ap (λ (ns : List Text). ns ++ messages_within (absolute_text env.scope) (flat_map (messages_behind env) fs)) (none-behind env f)
     ∙ none-behind_all env fs
 
@@ -89,7 +86,7 @@ module _ (n : Text) where
       sums _ _ _ _ _ _ _ _ _
       (ap (occurrences n) (map-append (λ (e : DeclaredExtension). e.name) told told') ∙ count-append n (named_extensions told) (named_extensions told'))
       (ap (occurrences n) (map-append (λ (f : FieldDescriptor). within scope f.name) own own') ∙ count-append n (fields_within scope own) (fields_within scope own'))
-      (ap (occurrences n) (messages-append scope ms ms') ∙ count-append n (messages_within scope ms) (messages_within scope ms'))
+      (ap (occurrences n) (told-append names_of scope ms ms') ∙ count-append n (messages_within scope ms) (messages_within scope ms'))
       h k
     where
       sums : (t e m t1 t2 e1 e2 m1 m2 : ℕ) → t ≡ t1 + t2 → e ≡ e1 + e2 → m ≡ m1 + m2 → t1 ≡ e1 + m1 → t2 ≡ e2 + m2 → t ≡ e + m

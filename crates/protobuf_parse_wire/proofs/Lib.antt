@@ -27,3 +27,9 @@ pub mod ExtensionsAlike
 pub mod DescriptorOrders
 pub mod SmallValues
 pub mod Stated
+pub mod BareDeclarations
+pub mod BareReading
+pub mod BareFiles
+pub mod AlikeLookups
+pub mod BareLookups
+pub mod WithoutOptions

@@ -5,7 +5,7 @@ use Rattle.std.proofs.lemmas.Grind.{flat_map-append}
 use Rattle.protobuf_parse_base.specs.Names.{absolute_text}
 use Rattle.protobuf_parse_syntax.specs.Trees.{TypeSyntax, scalar, map_of, named, FieldStatementSyntax, field, group, MessageStatementSyntax, message_field, message_oneof, message_extend, message_message, message_enum, MessageStatementList, no_statements, more_statements, StatementSyntax, file_message, file_enum, file_extend, package_of}
 use Rattle.protobuf_parse_model.specs.Statements.{message_body, entry_name, is_map, oneof_fields}
-use Rattle.protobuf_parse_model.specs.Descriptors.{Text, EnumDescriptor, MessageDescriptor, messages_of_list}
+use Rattle.protobuf_parse_model.specs.Descriptors.{Text, EnumDescriptor, MessageDescriptor}
 use Rattle.protobuf_parse_model.specs.Declarations as names
 use Rattle.protobuf_parse_model.specs.Declarations.{Scope, Declared, DeclaredType, full_name, file_scope, file_types, file_generated, generated_by, generated_of, generated_in, types_of, types_in, statement_types, statement_generated}
 use Rattle.protobuf_parse_model.specs.Linking.{occurrences}
@@ -15,10 +15,11 @@ use Rattle.protobuf_parse_model.specs.Messages.{messages_behind, entries_of, mes
 use Rattle.protobuf_parse_model.specs.FileDescriptor as files
 use Rattle.protobuf_parse_model.specs.FileDescriptor.{file_of}
 use Rattle.protobuf_parse_model.proofs.Orders.{count-append}
-use Rattle.protobuf_parse_wire.specs.Declarations.{Declaration, within, declared_message, declared_messages, package_scope}
+use Rattle.protobuf_parse_wire.specs.Declarations.{Declaration, within, declared_message, package_scope}
 use Rattle.protobuf_parse_wire.specs.OptionFields.{enum_in}
 use Rattle.protobuf_parse_wire.specs.NamesAlike.{TypesAreCountedAlike}
 use Rattle.protobuf_parse_wire.proofs.Agreement.{scope_inside, package_is}
+use Rattle.protobuf_parse_wire.proofs.AgreementBack.{nested_are}
 
 -- ---- names in descriptors
 
@@ -30,16 +31,18 @@ enums_within scope es = map (λ (e : EnumDescriptor). within scope e.name) es
 abbrev names_of : Declaration → List Text
 names_of d = d.name ∷ enums_within d.name d.parts.enum_type
 
--- of messages in a scope, with all that stands inside them
+-- what is told of messages in a scope and of all that stands inside them
+abbrev pub told_within : (Declaration → List Text) → Text → List MessageDescriptor → List Text
+told_within tell scope ms = flat_map tell (flat_map (declared_message scope) ms)
+
+pub told-append : (tell : Declaration → List Text) (scope : Text) (ms ns : List MessageDescriptor)
+    → told_within tell scope (ms ++ ns) ≡ told_within tell scope ms ++ told_within tell scope ns
+told-append tell scope ms ns =
+    ap (flat_map tell) (flat_map-append (declared_message scope) ms ns)
+    ∙ flat_map-append tell (flat_map (declared_message scope) ms) (flat_map (declared_message scope) ns)
+
 abbrev messages_within : Text → List MessageDescriptor → List Text
-messages_within scope ms = flat_map names_of (flat_map (declared_message scope) ms)
-
-messages-append : (scope : Text) (ms ns : List MessageDescriptor) → messages_within scope (ms ++ ns) ≡ messages_within scope ms ++ messages_within scope ns
-messages-append scope ms ns = ap (flat_map names_of) (flat_map-append (declared_message scope) ms ns) ∙ flat_map-append names_of (flat_map (declared_message scope) ms) (flat_map (declared_message scope) ns)
-
-pub nested-are : (scope : Text) (ns : List MessageDescriptor) → declared_messages scope (messages_of_list ns) ≡ flat_map (declared_message scope) ns
-nested-are scope [] = refl
-nested-are scope (n ∷ ns) = ap (λ (ds : List Declaration). declared_message scope n ++ ds) (nested-are scope ns)
+messages_within scope ms = told_within names_of scope ms
 
 -- of a message: its own, and those in its scope
 message-names : (env : Environment) (name : Text) (body : List MessageStatementSyntax) (ns : List MessageDescriptor) → messages_within (absolute_text env.scope) (message_from env name body ns ∷ [])
@@ -48,7 +51,7 @@ message-names env name body ns =
     let inner : Text = within (absolute_text env.scope) name in
     let es : List EnumDescriptor = flat_map (bodies.enums_of (inside env name)) body in
     ap (flat_map names_of) (append-nil (declared_message (absolute_text env.scope) (message_from env name body ns)))
-    ∙ ap (λ (ds : List Declaration). inner ∷ (enums_within inner es ++ flat_map names_of ds)) (nested-are inner ns)
+    ∙ ap (λ (ds : List Declaration). inner ∷ (enums_within inner es ++ flat_map names_of ds)) (nested_are inner ns)
     ∙ ap (λ (s : Text). inner ∷ (enums_within s es ++ messages_within s ns)) (sym (scope_inside env.scope name))
 
 -- ---- behind maps and groups
@@ -65,7 +68,7 @@ behind-names env (group place label name number fields) = refl
 behind-all : (env : Environment) (fs : List FieldStatementSyntax) → messages_within (absolute_text env.scope) (flat_map (messages_behind env) fs) ≡ flat_map (generated_by env.scope) fs
 behind-all env [] = refl
 behind-all env (f ∷ fs) =
-    messages-append (absolute_text env.scope) (messages_behind env f) (flat_map (messages_behind env) fs)
+    told-append names_of (absolute_text env.scope) (messages_behind env f) (flat_map (messages_behind env) fs)
     ∙ ap (λ (ns : List Text). ns ++ messages_within (absolute_text env.scope) (flat_map (messages_behind env) fs)) (behind-names env f)
     ∙ ap (λ (ns : List Text). generated_by env.scope f ++ ns) (behind-all env fs)
 
@@ -85,7 +88,7 @@ module _ (n : Text) where
       (ap (occurrences n) (map-append (λ (d : DeclaredType). d.name) told told') ∙ count-append n (named_types told) (named_types told'))
       (count-append n generated generated')
       (ap (occurrences n) (map-append (λ (e : EnumDescriptor). within scope e.name) es es') ∙ count-append n (enums_within scope es) (enums_within scope es'))
-      (ap (occurrences n) (messages-append scope ms ms') ∙ count-append n (messages_within scope ms) (messages_within scope ms'))
+      (ap (occurrences n) (told-append names_of scope ms ms') ∙ count-append n (messages_within scope ms) (messages_within scope ms'))
       h k
     where
       sums : (t g e m t1 t2 g1 g2 e1 e2 m1 m2 : ℕ) → t ≡ t1 + t2 → g ≡ g1 + g2 → e ≡ e1 + e2 → m ≡ m1 + m2 → t1 + g1 ≡ e1 + m1 → t2 + g2 ≡ e2 + m2 → t + g ≡ e + m

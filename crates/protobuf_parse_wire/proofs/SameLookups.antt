@@ -1,162 +1,22 @@
 -- Where names mean the same, the same is wrong in custom options and they denote the same.
-use Rattle.std.proofs.Common.{◌≡◌, ℤ, Bool, not, ◌&&◌, List, [], ◌∷◌, ◌++◌, flat_map, Option, Some, None, is_some, if◌then◌else◌, option_to_list, refl, ap, ◌∙◌}
-use Rattle.protobuf_parse_syntax.specs.Trees.{ConstantNameSyntax, regular_name, extension_name, url_name, ConstantSyntax, integer, truth, dotted, string, list, fields, ConstantList, no_constants, more_constants, ConstantFieldList, no_fields, more_fields, OptionPartSyntax, direct, extension, OptionNameSyntax, builtin, custom, OptionSyntax}
-use Rattle.protobuf_parse_model.specs.declared.error.ElabErrorKind.TheVariants.{UnknownFieldName, WrongExtensionType}
-use Rattle.protobuf_parse_model.specs.Descriptors.{Text, FieldDescriptor}
-use Rattle.protobuf_parse_model.specs.Faults.{Fault}
-use Rattle.protobuf_parse_model.specs.Declarations.{Declared}
-use Rattle.protobuf_parse_model.specs.Duplicates.{fault_when}
-use Rattle.protobuf_parse_model.specs.declared.customs.Construct.{Construct}
-use Rattle.protobuf_parse_model.specs.Environment.{part_text, path_text}
-use Rattle.protobuf_parse_wire.specs.Trees as trees
-use Rattle.protobuf_parse_wire.specs.Views.{entries_of_list}
-use Rattle.protobuf_parse_wire.specs.Declarations.{extends}
-use Rattle.protobuf_parse_wire.specs.OptionFields.{OptionScope, options_message, extension_meant, extends_message, if_extends, extension_named, part_field, constant_field, type_name_of, takes}
-use Rattle.protobuf_parse_wire.specs.CustomOptions.{item, message_item, value_items, list_items, field_items, path_items, named_items, option_items}
-use Rattle.protobuf_parse_wire.specs.CustomFaults.{value_name_faults, message_value_faults, number_faults, field_name_faults, extension_faults, constant_name_faults, value_faults, list_faults, field_faults, part_faults, step_faults, path_faults, custom_faults, named_faults}
+use Rattle.std.proofs.Common.{option_map, ap}
+use Rattle.protobuf_parse_wire.specs.OptionFields.{OptionScope}
 use Rattle.protobuf_parse_wire.specs.SameLookups.{SameLookups, LookupsDecideFaults, LookupsDecideMeaning}
+use Rattle.protobuf_parse_wire.specs.WithoutOptions.{bare_field}
+use Rattle.protobuf_parse_wire.proofs.BareDeclarations.{bare_extension}
+use Rattle.protobuf_parse_wire.proofs.AlikeLookups.{AlikeLookups, faults-same, meaning-same}
 
--- ---- lists
-
-both-same : {A : Type 0} (xs xs' ys ys' : List A) → xs ≡ xs' → ys ≡ ys' → xs ++ ys ≡ xs' ++ ys'
-both-same xs xs' ys ys' e h = ap (λ zs. zs ++ ys) e ∙ ap (λ zs. xs' ++ zs) h
-
-flat-same : {A B : Type 0} (f g : A → List B) → ((x : A) → f x ≡ g x) → (xs : List A) → flat_map f xs ≡ flat_map g xs
-flat-same f g each [] = refl
-flat-same f g each (x ∷ xs) = both-same (f x) (g x) (flat_map f xs) (flat_map g xs) (each x) (flat-same f g each xs)
-
--- of what is found
-found-same : {A B : Type 0} (f g : A → List B) → ((x : A) → f x ≡ g x) → (o o' : Option A) → o ≡ o' → flat_map f (option_to_list o) ≡ flat_map g (option_to_list o')
-found-same {A} f g each o o' e = flat-same f g each (option_to_list o) ∙ ap (λ (p : Option A). flat_map g (option_to_list p)) e
-
-module _ (at at' : OptionScope) (same : SameLookups at at') where
-  -- ---- fields and extensions
-
-  extends-same : (message : Text) (f : FieldDescriptor) → extends_message at.files message f ≡ extends_message at'.files message f
-  extends-same message f = ap (λ (b : Bool). extends message f && b) (same.messages message)
-
-  if_extends-same : (message : Text) (o : Option (Declared FieldDescriptor)) → if_extends at.files message o ≡ if_extends at'.files message o
-  if_extends-same message None = refl
-  if_extends-same message (Some d) = ap (λ (b : Bool). if b then Some d.what else None) (extends-same message d.what)
-
-  extension-same : (message name : Text) → extension_named at message name ≡ extension_named at' message name
-  extension-same message name = if_extends-same message (extension_meant at name) ∙ ap (if_extends at'.files message) (same.extensions name)
-
-  part-same : (message : Text) (p : OptionPartSyntax) → part_field at message p ≡ part_field at' message p
-  part-same message (direct name) = same.fields message name
-  part-same message (extension name) = extension-same message name
-
-  constant-same : (message : Text) (name : ConstantNameSyntax) → constant_field at message name ≡ constant_field at' message name
-  constant-same message (regular_name name) = same.fields message name
-  constant-same message (extension_name name) = extension-same message name
-  constant-same message (url_name name) = refl
-
-  -- ---- faults of names
-
-  field_name-same : (message name : Text) → field_name_faults at message name ≡ field_name_faults at' message name
-  field_name-same message name = ap (λ (o : Option FieldDescriptor). fault_when (not (is_some o)) UnknownFieldName name) (same.fields message name)
-
-  meant-same : (message name : Text) (o : Option (Declared FieldDescriptor)) → extension_faults at.files message name o ≡ extension_faults at'.files message name o
-  meant-same message name None = refl
-  meant-same message name (Some d) = ap (λ (b : Bool). fault_when (not b) WrongExtensionType name) (extends-same message d.what)
-
-  extension_faults-same : (message name : Text) → extension_faults at.files message name (extension_meant at name) ≡ extension_faults at'.files message name (extension_meant at' name)
-  extension_faults-same message name = meant-same message name (extension_meant at name) ∙ ap (extension_faults at'.files message name) (same.extensions name)
-
-  constant_name-same : (message : Text) (name : ConstantNameSyntax) → constant_name_faults at message name ≡ constant_name_faults at' message name
-  constant_name-same message (regular_name name) = field_name-same message name
-  constant_name-same message (extension_name name) = extension_faults-same message name
-  constant_name-same message (url_name name) = refl
-
-  part_faults-same : (message : Text) (p : OptionPartSyntax) → part_faults at message p ≡ part_faults at' message p
-  part_faults-same message (direct name) = field_name-same message name
-  part_faults-same message (extension name) = extension_faults-same message name
-
-  -- ---- faults of constants
-
-  mutual
-    value_faults-same : (option : Text) (f : FieldDescriptor) (c : ConstantSyntax) → value_faults at option f c ≡ value_faults at' option f c
-    value_faults-same option f (dotted name) = ap (value_name_faults f.name (takes f.type_) name) (same.values (type_name_of f) name)
-    value_faults-same option f (list cs) = list_faults-same option f cs
-    value_faults-same option f (fields fs) = ap (message_value_faults f.name (takes f.type_)) (field_faults-same option (type_name_of f) fs)
-    value_faults-same option f (integer z) = refl
-    value_faults-same option f (truth b) = refl
-    value_faults-same option f (string pieces) = refl
-
-    list_faults-same : (option : Text) (f : FieldDescriptor) (cs : ConstantList) → list_faults at option f cs ≡ list_faults at' option f cs
-    list_faults-same option f no_constants = refl
-    list_faults-same option f (more_constants c cs) = both-same (value_faults at option f c) (value_faults at' option f c) (list_faults at option f cs) (list_faults at' option f cs) (value_faults-same option f c) (list_faults-same option f cs)
-
-    field_faults-same : (option message : Text) (fs : ConstantFieldList) → field_faults at option message fs ≡ field_faults at' option message fs
-    field_faults-same option message no_fields = refl
-    field_faults-same option message (more_fields name c fs) =
-        both-same _ _ (field_faults at option message fs) (field_faults at' option message fs)
-        (both-same (constant_name_faults at message name) (constant_name_faults at' message name) _ _ (constant_name-same message name)
-        (found-same (λ (g : FieldDescriptor). number_faults g ++ value_faults at option g c) (λ (g : FieldDescriptor). number_faults g ++ value_faults at' option g c) (λ g. ap (λ (xs : List Fault). number_faults g ++ xs) (value_faults-same option g c)) (constant_field at message name) (constant_field at' message name) (constant-same message name)))
-        (field_faults-same option message fs)
-
-  -- ---- faults of paths
-
-  path_faults-same : (option : Text) (value : ConstantSyntax) (message : Text) (parts : List OptionPartSyntax) → path_faults at option value message parts ≡ path_faults at' option value message parts
-  path_faults-same option value message [] = refl
-  path_faults-same option value message (p ∷ []) =
-      both-same (part_faults at message p) (part_faults at' message p) _ _ (part_faults-same message p)
-      (found-same (λ (g : FieldDescriptor). number_faults g ++ value_faults at option g value) (λ (g : FieldDescriptor). number_faults g ++ value_faults at' option g value) (λ g. ap (λ (xs : List Fault). number_faults g ++ xs) (value_faults-same option g value)) (part_field at message p) (part_field at' message p) (part-same message p))
-  path_faults-same option value message (p ∷ q ∷ ps) =
-      both-same (part_faults at message p) (part_faults at' message p) _ _ (part_faults-same message p)
-      (found-same (λ (g : FieldDescriptor). number_faults g ++ step_faults (part_text p) (takes g.type_) (path_faults at option value (type_name_of g) (q ∷ ps))) (λ (g : FieldDescriptor). number_faults g ++ step_faults (part_text p) (takes g.type_) (path_faults at' option value (type_name_of g) (q ∷ ps)))
-      (λ g. ap (λ (xs : List Fault). number_faults g ++ step_faults (part_text p) (takes g.type_) xs) (path_faults-same option value (type_name_of g) (q ∷ ps))) (part_field at message p) (part_field at' message p) (part-same message p))
-
-  custom_faults-same : (construct : Construct) (value : ConstantSyntax) (parts : List OptionPartSyntax) → custom_faults at construct value parts ≡ custom_faults at' construct value parts
-  custom_faults-same construct value [] = refl
-  custom_faults-same construct value (direct name ∷ ps) = refl
-  custom_faults-same construct value (extension name ∷ ps) = path_faults-same (path_text (extension name ∷ ps)) value (options_message construct) (extension name ∷ ps)
-
-  named_faults-same : (construct : Construct) (value : ConstantSyntax) (name : OptionNameSyntax) → named_faults at construct value name ≡ named_faults at' construct value name
-  named_faults-same construct value (builtin name) = refl
-  named_faults-same construct value (custom parts) = custom_faults-same construct value parts
-
-  -- ---- what constants give
-
-  mutual
-    value_items-same : (f : FieldDescriptor) (c : ConstantSyntax) → value_items at f c ≡ value_items at' f c
-    value_items-same f (dotted name) = ap (λ (o : Option ℤ). flat_map (λ (z : ℤ). item f (trees.number z)) (option_to_list o)) (same.values (type_name_of f) name)
-    value_items-same f (list cs) = list_items-same f cs
-    value_items-same f (fields fs) = ap (message_item f) (field_items-same (type_name_of f) fs)
-    value_items-same f (integer z) = refl
-    value_items-same f (truth b) = refl
-    value_items-same f (string pieces) = refl
-
-    list_items-same : (f : FieldDescriptor) (cs : ConstantList) → list_items at f cs ≡ list_items at' f cs
-    list_items-same f no_constants = refl
-    list_items-same f (more_constants c cs) = both-same (value_items at f c) (value_items at' f c) (list_items at f cs) (list_items at' f cs) (value_items-same f c) (list_items-same f cs)
-
-    field_items-same : (message : Text) (fs : ConstantFieldList) → field_items at message fs ≡ field_items at' message fs
-    field_items-same message no_fields = refl
-    field_items-same message (more_fields name c fs) =
-        both-same _ _ (field_items at message fs) (field_items at' message fs)
-        (found-same (λ (g : FieldDescriptor). value_items at g c) (λ (g : FieldDescriptor). value_items at' g c) (λ g. value_items-same g c) (constant_field at message name) (constant_field at' message name) (constant-same message name))
-        (field_items-same message fs)
-
-  -- ---- what paths give
-
-  path_items-same : (value : ConstantSyntax) (message : Text) (parts : List OptionPartSyntax) → path_items at value message parts ≡ path_items at' value message parts
-  path_items-same value message [] = refl
-  path_items-same value message (p ∷ []) = found-same (λ (g : FieldDescriptor). value_items at g value) (λ (g : FieldDescriptor). value_items at' g value) (λ g. value_items-same g value) (part_field at message p) (part_field at' message p) (part-same message p)
-  path_items-same value message (p ∷ q ∷ ps) =
-      found-same (λ (g : FieldDescriptor). message_item g (path_items at value (type_name_of g) (q ∷ ps))) (λ (g : FieldDescriptor). message_item g (path_items at' value (type_name_of g) (q ∷ ps)))
-      (λ g. ap (message_item g) (path_items-same value (type_name_of g) (q ∷ ps))) (part_field at message p) (part_field at' message p) (part-same message p)
-
-  named_items-same : (message : Text) (value : ConstantSyntax) (name : OptionNameSyntax) → named_items at message value name ≡ named_items at' message value name
-  named_items-same message value (builtin name) = refl
-  named_items-same message value (custom parts) = path_items-same value message parts
-
--- ---- the laws
+-- So they mean the same but for options.
+alike : (at at' : OptionScope) → SameLookups at at' → AlikeLookups at at'
+alike at at' same = record {
+  fields = λ message name. ap (option_map bare_field) (same.fields message name);
+  values = same.values;
+  messages = same.messages;
+  extensions = λ name. ap (option_map bare_extension) (same.extensions name);
+}
 
 pub lookups_decide_faults : LookupsDecideFaults
-lookups_decide_faults at at' same construct os =
-    flat-same (λ (o : OptionSyntax). named_faults at construct o.value o.name) (λ (o : OptionSyntax). named_faults at' construct o.value o.name) (λ o. named_faults-same at at' same construct o.value o.name) os
+lookups_decide_faults at at' same construct os = faults-same at at' (alike at at' same) construct os
 
 pub lookups_decide_meaning : LookupsDecideMeaning
-lookups_decide_meaning at at' same construct os =
-    ap entries_of_list (flat-same (option_items at construct) (option_items at' construct) (λ o. named_items-same at at' same (options_message construct) o.value o.name) os)
+lookups_decide_meaning at at' same construct os = meaning-same at at' (alike at at' same) construct os

@@ -14,7 +14,11 @@ use Rattle.protobuf_parse_wire.specs.OptionFields.{OptionScope, constant_field, 
 use Rattle.protobuf_parse_wire.specs.Views.{Item}
 
 abbrev pub place_view : OptionPlace → OptionScope
-place_view p = record { files = files_seen p.files.now; visible = files_seen p.visible.now; scope = texts p.scope.now }
+place_view p = record {
+  files = files_seen p.known.now.files.now;
+  visible = files_seen p.known.now.visible.now;
+  scope = texts p.scope.now;
+}
 
 -- of a value for the field that a name means
 abbrev pub given_faults : OptionScope → Text → ConstantSyntax → FieldDescriptor → List Fault

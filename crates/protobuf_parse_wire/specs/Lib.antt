@@ -22,3 +22,4 @@ pub mod SameLookups
 pub mod NamesAlike
 pub mod DescriptorsByPath
 pub mod SmallValues
+pub mod WithoutOptions

@@ -11,8 +11,12 @@ use Rattle.protobuf_parse_wire.specs.CustomFaults.{statement_faults}
 
 -- names mean the same from both
 pub record SameLookups (at at' : OptionScope) : Type 0 where
-  pub fields : (message name : Text) → field_named at.files message name ≡ field_named at'.files message name
-  pub values : (enum_name name : Text) → number_of_value at.files enum_name name ≡ number_of_value at'.files enum_name name
+  pub fields :
+      (message name : Text)
+      → field_named at.files message name ≡ field_named at'.files message name
+  pub values :
+      (enum_name name : Text)
+      → number_of_value at.files enum_name name ≡ number_of_value at'.files enum_name name
   pub messages : (name : Text) → is_message at.files name ≡ is_message at'.files name
   pub extensions : (name : Text) → extension_meant at name ≡ extension_meant at' name
 

@@ -5,10 +5,12 @@ ghost use Rattle.std.specs.List.Sorted.{IsStrictlyIncreasing};
 ghost use Rattle.protobuf_parse_syntax.specs.Counts.{statements_in};
 ghost use Rattle.protobuf_parse_syntax.specs.Trees.{FileSyntax, file_view};
 ghost use Rattle.protobuf_parse_model.specs.Descriptors as described;
+ghost use Rattle.protobuf_parse_model.specs.Faults.{Elaborates};
+ghost use Rattle.protobuf_parse_model.specs.FileDescriptor.{environment, file_faults, file_of};
 ghost use Rattle.protobuf_parse_model.specs.Linking.{link_faults};
 ghost use Rattle.protobuf_parse_model.specs.Tables.{Tells, picked};
 ghost use Rattle.protobuf_parse_wire.specs.Known.{files_seen};
-ghost use Rattle.protobuf_parse.specs.Loading.{Describes, picked_plains, plain_or, plain_seen, plains_with};
+ghost use Rattle.protobuf_parse.specs.Loading.{Describes, customs_over, picked_plains, plain_or, plain_seen, plains_with};
 
 use crate::run::loader::{LoadedFile, LoadedFiles, Loader};
 use crate::run::reach::Sights;
@@ -72,14 +74,33 @@ fn with_customs(
         → Describes loader.now.loaded.entries files seen.now.reach.now seen.now.sight.now path.now (file_view tree.now) result }
 {
     let plain = elaborate(alloc, path, tree, seen, &WithoutCustoms)?;
-    let files = plains(alloc, &loader.loaded, &plain, seen.reach)?;
-    let visible = plains(alloc, &loader.loaded, &plain, seen.sight)?;
-    let known = KnownFiles::new(alloc, &files, &visible)?;
-    let descriptor = elaborate(alloc, path, tree, seen, &known)?;
+    let descriptor = spelled(alloc, &loader.loaded, seen, &plain, path, tree)?;
     Ok(Described {
         descriptor,
         plain: Some(plain),
     })
+}
+
+/// What it becomes where `plain` is its descriptor without custom options.
+fn spelled(
+    alloc: Global,
+    loaded: &LoadedFiles,
+    seen: &Seen<'_>,
+    plain: &FileDescriptorProto,
+    path: &str,
+    tree: &FileTree,
+) -> Result<FileDescriptorProto, ElabFailure>
+    requires few { statements_in (file_view tree.now) ≤ 2147483647 }
+    ensures { (files : List FileSyntax) → Tells seen.now.declarations.now files
+        → let plains = plains_with loaded.now.entries (described.file_view plain.now) in
+        let sight = seen.now.sight.now in let customs = customs_over plains seen.now.reach.now sight in
+        let t = file_view tree.now in let env = environment (picked files sight) customs t in
+        Elaborates described.file_view result (file_faults env t) (file_of env path.now t) }
+{
+    let files = plains(alloc, loaded, plain, seen.reach)?;
+    let visible = plains(alloc, loaded, plain, seen.sight)?;
+    let known = KnownFiles::new(alloc, &files, &visible)?;
+    elaborate(alloc, path, tree, seen, &known)
 }
 
 /// The descriptors of the files with these numbers, without custom options. The next file's is `own`.

@@ -30,7 +30,7 @@ use std::alloc::Global;
 pub fn push_value(
     value: &ProtobufConstant,
     alloc: Global,
-    at: &OptionPlace<'_>,
+    at: &OptionPlace<'_, '_>,
     option: &str,
     field: &FieldDescriptorProto,
     entries: &mut Vec<Entry>,
@@ -87,7 +87,7 @@ fn push_truth(
 
 fn push_value_name(
     alloc: Global,
-    at: &OptionPlace<'_>,
+    at: &OptionPlace<'_, '_>,
     option: &str,
     field: &FieldDescriptorProto,
     name: &str,
@@ -97,7 +97,7 @@ fn push_value_name(
         Elaborates (λ u. map entry_view entries.new.items) result (value_faults s option.now f c)
         (map entry_view entries.old.items ++ value_items s f c) }
 {
-    let number = lookup::number_of_value(alloc, at.files, type_name_of(field), name)?;
+    let number = lookup::number_of_value(at.known, type_name_of(field), name);
     check_value_name(alloc, field, name, number)?;
     if let Some(number) = number {
         push_item(entries, field, EntryValue::Number(i128::from(number)))?;
@@ -129,7 +129,7 @@ fn push_string(
 fn push_list(
     items: &[ProtobufConstant],
     alloc: Global,
-    at: &OptionPlace<'_>,
+    at: &OptionPlace<'_, '_>,
     option: &str,
     field: &FieldDescriptorProto,
     entries: &mut Vec<Entry>,
@@ -150,7 +150,7 @@ fn push_list(
 fn push_message(
     fields: &[ConstantField],
     alloc: Global,
-    at: &OptionPlace<'_>,
+    at: &OptionPlace<'_, '_>,
     option: &str,
     field: &FieldDescriptorProto,
     entries: &mut Vec<Entry>,
@@ -178,7 +178,7 @@ fn push_message(
 fn push_fields(
     fields: &[ConstantField],
     alloc: Global,
-    at: &OptionPlace<'_>,
+    at: &OptionPlace<'_, '_>,
     option: &str,
     message: &str,
     entries: &mut Vec<Entry>,
@@ -199,7 +199,7 @@ fn push_fields(
 fn push_field(
     field: &ConstantField,
     alloc: Global,
-    at: &OptionPlace<'_>,
+    at: &OptionPlace<'_, '_>,
     option: &str,
     message: &str,
     entries: &mut Vec<Entry>,
@@ -219,7 +219,7 @@ fn push_field(
 pub fn push_given(
     value: &ProtobufConstant,
     alloc: Global,
-    at: &OptionPlace<'_>,
+    at: &OptionPlace<'_, '_>,
     option: &str,
     field: &FieldDescriptorProto,
     entries: &mut Vec<Entry>,

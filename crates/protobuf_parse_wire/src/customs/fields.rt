@@ -9,21 +9,19 @@ ghost use Rattle.protobuf_parse_wire.specs.Given.{place_view};
 ghost use Rattle.protobuf_parse_wire.specs.Known.{field_seen, files_seen};
 ghost use Rattle.protobuf_parse_wire.specs.OptionFields.{constant_field, extends_message, extension_meant, extension_named, field_named, part_field, type_name_of};
 
+use crate::customs::known_files::KnownFiles;
 use crate::customs::lookup;
 use crate::customs::refuse::fault;
-use protobuf_parse_model::{ElabErrorKind, ElabFailure, FieldDescriptorProto, FileDescriptorProto};
+use protobuf_parse_model::{ElabErrorKind, ElabFailure, FieldDescriptorProto};
 use protobuf_parse_syntax::{ConstantFieldName, ProtobufOptionNamePart};
 use std::alloc::{AllocError, Global};
 
 /// From where options are seen.
 #[derive(Clone, Copy)]
-pub struct OptionPlace<'a> {
-    /// All files that are reached.
-    pub files: &'a [&'a FileDescriptorProto],
-    /// Those that the file sees, itself among them.
-    pub visible: &'a [&'a FileDescriptorProto],
+pub struct OptionPlace<'p, 'a> {
+    pub known: &'p KnownFiles<'a>,
     /// The names of the package and of the messages around the construct, the outermost first.
-    pub scope: &'a [&'a str],
+    pub scope: &'p [&'p str],
 }
 
 /// The full name of the field's message or enum.
@@ -39,7 +37,7 @@ pub fn type_name_of(field: &FieldDescriptorProto) -> &str
 /// The field of that name of the message. E17 where it has none.
 fn named_field<'a>(
     alloc: Global,
-    at: &OptionPlace<'a>,
+    at: &OptionPlace<'_, 'a>,
     message: &str,
     name: &str,
 ) -> Result<&'a FieldDescriptorProto, ElabFailure>
@@ -47,7 +45,7 @@ fn named_field<'a>(
         Elaborates (λ f. Some (field_seen f)) result (field_name_faults s message.now name.now)
         (field_named s.files message.now name.now) }
 {
-    match lookup::field_named(alloc, at.files, message, name)? {
+    match lookup::field_named(at.known, message, name) {
         Some(field) => Ok(field),
         None => Err(fault(alloc, ElabErrorKind::UnknownFieldName, name)),
     }
@@ -57,7 +55,7 @@ fn named_field<'a>(
 /// such message.
 fn named_extension<'a>(
     alloc: Global,
-    at: &OptionPlace<'a>,
+    at: &OptionPlace<'_, 'a>,
     message: &str,
     name: &str,
 ) -> Result<&'a FieldDescriptorProto, ElabFailure>
@@ -66,38 +64,30 @@ fn named_extension<'a>(
         (extension_faults s.files message.now name.now (extension_meant s name.now))
         (extension_named s message.now name.now) }
 {
-    let Some(field) = lookup::extension_meant(alloc, at.visible, at.scope, name)? else {
+    let Some(field) = lookup::extension_meant(alloc, at.known, at.scope, name)? else {
         return Err(fault(alloc, ElabErrorKind::ExtensionNotFound, name));
     };
-    if !extends_message(alloc, at.files, message, field)? {
+    if !extends_message(at.known, message, field) {
         return Err(fault(alloc, ElabErrorKind::WrongExtensionType, name));
     }
     Ok(field)
 }
 
 /// Whether the field extends the message of that full name.
-fn extends_message(
-    alloc: Global,
-    files: &[&FileDescriptorProto],
-    message: &str,
-    field: &FieldDescriptorProto,
-) -> Result<bool, AllocError>
-    ensures { IfOk result (λ b. b ≡ extends_message (files_seen files.now) message.now
-        (field_view field.now)) }
+fn extends_message(known: &KnownFiles<'_>, message: &str, field: &FieldDescriptorProto) -> bool
+    ensures { result ≡ extends_message (files_seen known.now.files.now) message.now
+        (field_view field.now) }
 {
     let Some(extendee) = &field.extendee else {
-        return Ok(false);
+        return false;
     };
-    if message != extendee.as_str() {
-        return Ok(false);
-    }
-    lookup::is_message(alloc, files, message)
+    message == extendee.as_str() && lookup::is_message(known, message)
 }
 
 /// The field of the message that a part of an option's name means.
 pub fn part_field<'a>(
     alloc: Global,
-    at: &OptionPlace<'a>,
+    at: &OptionPlace<'_, 'a>,
     message: &str,
     part: &ProtobufOptionNamePart,
 ) -> Result<&'a FieldDescriptorProto, ElabFailure>
@@ -114,7 +104,7 @@ pub fn part_field<'a>(
 /// The field of the message that a name in a constant for it means. E26 for a type URL.
 pub fn constant_field<'a>(
     alloc: Global,
-    at: &OptionPlace<'a>,
+    at: &OptionPlace<'_, 'a>,
     message: &str,
     name: &ConstantFieldName,
 ) -> Result<&'a FieldDescriptorProto, ElabFailure>

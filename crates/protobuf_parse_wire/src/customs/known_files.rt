@@ -1,12 +1,14 @@
 //! Custom options by the descriptors of files.
 
-ghost use Rattle.std.specs.Prelude.{◌≡◌, map, IfOk};
+ghost use Rattle.std.specs.Prelude.{◌≡◌, flat_map, map, IfOk};
 ghost use Rattle.std.specs.Int.{w32};
 ghost use Rattle.std.specs.Int.RustNames.{FitsSigned};
 ghost use Rattle.std.proofs.Props.{props};
 ghost use Rattle.protobuf_parse_model.specs.Descriptors.{enum_value_view};
-ghost use Rattle.protobuf_parse_wire.specs.Known.{enum_known, files_seen};
+ghost use Rattle.protobuf_parse_wire.specs.Declarations.{declared_extensions, declared_in};
+ghost use Rattle.protobuf_parse_wire.specs.Known.{enum_known, extensions_known, files_seen, messages_known};
 ghost use Rattle.protobuf_parse_wire.specs.OptionBytes.{known_customs};
+ghost use Rattle.protobuf_parse_wire.specs.OptionFields.{declared_enums};
 ghost use Rattle.protobuf_parse_wire.specs.OptionLaw.{HasSmallValues};
 ghost use Rattle.protobuf_parse_wire.specs.SmallValues.{AreSmall, HaveSmall};
 
@@ -14,8 +16,8 @@ use crate::customs::fields::OptionPlace;
 use crate::customs::known::{self, Known};
 use crate::customs::statements::bytes_of;
 use protobuf_parse_model::{
-    Construct, CustomOptions, ElabFailure, EnumDescriptorProto, EnumValueDescriptorProto,
-    FileDescriptorProto,
+    Construct, CustomOptions, DescriptorProto, ElabFailure, EnumDescriptorProto,
+    EnumValueDescriptorProto, FieldDescriptorProto, FileDescriptorProto,
 };
 use protobuf_parse_syntax::ProtobufOption;
 use std::alloc::{AllocError, Global};
@@ -24,10 +26,22 @@ use std::alloc::{AllocError, Global};
 ///
 /// The names of extensions mean extensions of the files that are seen; the names of types in descriptors
 /// mean messages and enums of all files.
-#[derive(Clone, Copy)]
+///
+/// What the files declare is listed once.
+#[derive(Drop)]
 pub struct KnownFiles<'a> {
-    files: &'a [&'a FileDescriptorProto],
-    visible: &'a [&'a FileDescriptorProto],
+    pub(crate) files: &'a [&'a FileDescriptorProto],
+    pub(crate) visible: &'a [&'a FileDescriptorProto],
+    pub(crate) messages: Vec<Known<&'a DescriptorProto>>,
+    pub(crate) enums: Vec<Known<&'a EnumDescriptorProto>>,
+    /// Those of the visible files.
+    pub(crate) extensions: Vec<Known<&'a FieldDescriptorProto>>,
+    ghost all_messages: { messages_known messages.items ≡ flat_map declared_in
+        (files_seen files.now) } by { Prim.hlevel props },
+    ghost all_enums: { map enum_known enums.items ≡ flat_map declared_enums
+        (files_seen files.now) } by { Prim.hlevel props },
+    ghost all_extensions: { extensions_known extensions.items ≡ flat_map declared_extensions
+        (files_seen visible.now) } by { Prim.hlevel props },
     ghost small: { HasSmallValues (files_seen files.now) } by { Prim.hlevel props },
 }
 
@@ -42,9 +56,17 @@ impl<'a> KnownFiles<'a> {
         ensures { IfOk result (λ k. ⟦<KnownFiles<'a> as CustomOptions>⟧.customs k
             ≡ known_customs (files_seen files.now) (files_seen visible.now)) }
     {
+        let messages = known::messages_of(alloc, files)?;
         let enums = known::enums_of(alloc, files)?;
         read_enums(&enums);
-        Ok(KnownFiles { files, visible })
+        let extensions = known::extensions_of(alloc, visible)?;
+        Ok(KnownFiles {
+            files,
+            visible,
+            messages,
+            enums,
+            extensions,
+        })
     }
 }
 
@@ -58,11 +80,7 @@ impl CustomOptions for KnownFiles<'_> {
         scope: &[&str],
         options: &[&ProtobufOption],
     ) -> Result<Vec<u8>, ElabFailure> {
-        let at = OptionPlace {
-            files: self.files,
-            visible: self.visible,
-            scope,
-        };
+        let at = OptionPlace { known: self, scope };
         bytes_of(alloc, &at, construct, options)
     }
 }

@@ -10,10 +10,10 @@ ghost use Rattle.protobuf_parse_wire.specs.Declarations.{Declaration, declared_e
 ghost use Rattle.protobuf_parse_wire.specs.Known.{enum_known, extension_seen, extensions_known, field_among, field_seen, fields_among, files_seen, message_known, messages_known, number_among, undeclared, values_among, values_of};
 ghost use Rattle.protobuf_parse_wire.specs.OptionFields.{field_named, is_message, number_of_value};
 
-use crate::customs::known::{self, Known};
+use crate::customs::known::Known;
+use crate::customs::known_files::KnownFiles;
 use protobuf_parse_model::{
     DescriptorProto, EnumDescriptorProto, EnumValueDescriptorProto, FieldDescriptorProto,
-    FileDescriptorProto,
 };
 use std::alloc::{AllocError, Global};
 
@@ -21,16 +21,14 @@ use std::alloc::{AllocError, Global};
 
 /// The field of that name of the message of that full name.
 pub fn field_named<'a>(
-    alloc: Global,
-    files: &[&'a FileDescriptorProto],
+    known: &KnownFiles<'a>,
     message: &str,
     name: &str,
-) -> Result<Option<&'a FieldDescriptorProto>, AllocError>
-    ensures { IfOk result (λ f. option_map field_seen f ≡ field_named
-        (files_seen files.now) message.now name.now) }
+) -> Option<&'a FieldDescriptorProto>
+    ensures { option_map field_seen result ≡ field_named
+        (files_seen known.now.files.now) message.now name.now }
 {
-    let messages = known::messages_of(alloc, files)?;
-    Ok(field_of(&messages, message, name))
+    field_of(&known.messages, message, name)
 }
 
 fn field_of<'a>(
@@ -79,15 +77,10 @@ fn field_among<'a>(
 }
 
 /// Whether a message has the full name.
-pub fn is_message(
-    alloc: Global,
-    files: &[&FileDescriptorProto],
-    name: &str,
-) -> Result<bool, AllocError>
-    ensures { IfOk result (λ b. b ≡ is_message (files_seen files.now) name.now) }
+pub fn is_message(known: &KnownFiles<'_>, name: &str) -> bool
+    ensures { result ≡ is_message (files_seen known.now.files.now) name.now }
 {
-    let messages = known::messages_of(alloc, files)?;
-    Ok(is_named(&messages, name))
+    is_named(&known.messages, name)
 }
 
 fn is_named(messages: &[Known<&DescriptorProto>], name: &str) -> bool
@@ -105,17 +98,11 @@ fn is_named(messages: &[Known<&DescriptorProto>], name: &str) -> bool
 // ---- values of enums
 
 /// The number of the value of that name, in the enum of that full name.
-pub fn number_of_value(
-    alloc: Global,
-    files: &[&FileDescriptorProto],
-    enum_name: &str,
-    name: &str,
-) -> Result<Option<i32>, AllocError>
-    ensures { IfOk result (λ n. n ≡ number_of_value
-        (files_seen files.now) enum_name.now name.now) }
+pub fn number_of_value(known: &KnownFiles<'_>, enum_name: &str, name: &str) -> Option<i32>
+    ensures { result ≡ number_of_value
+        (files_seen known.now.files.now) enum_name.now name.now }
 {
-    let enums = known::enums_of(alloc, files)?;
-    Ok(number_in(&enums, enum_name, name))
+    number_in(&known.enums, enum_name, name)
 }
 
 fn number_in(enums: &[Known<&EnumDescriptorProto>], enum_name: &str, name: &str) -> Option<i32>
@@ -157,16 +144,15 @@ fn number_among(values: &[EnumValueDescriptorProto], name: &str) -> Option<i32>
 /// The extension that the name means in the scope.
 pub fn extension_meant<'a>(
     alloc: Global,
-    visible: &[&'a FileDescriptorProto],
+    known: &KnownFiles<'a>,
     scope: &[&str],
     name: &str,
 ) -> Result<Option<&'a FieldDescriptorProto>, AllocError>
     ensures { IfOk result (λ f. option_map field_seen f ≡ undeclared
-        (meaning (flat_map declared_extensions (files_seen visible.now))
+        (meaning (flat_map declared_extensions (files_seen known.now.visible.now))
         (texts scope.now) name.now)) }
 {
-    let extensions = known::extensions_of(alloc, visible)?;
-    match meaning(alloc, &extensions, scope, name)? {
+    match meaning(alloc, &known.extensions, scope, name)? {
         Some(known) => Ok(Some(known.what)),
         None => Ok(None),
     }

@@ -10,7 +10,6 @@ ghost use Rattle.protobuf_parse_wire.specs.CustomOptions.{denotes, named_items, 
 ghost use Rattle.protobuf_parse_wire.specs.Encoded.{encoded};
 ghost use Rattle.protobuf_parse_wire.specs.Given.{place_view};
 ghost use Rattle.protobuf_parse_wire.specs.OptionFields.{options_message};
-ghost use Rattle.protobuf_parse_wire.specs.OptionLaw.{HasSmallValues};
 ghost use Rattle.protobuf_parse_wire.specs.Views.{entry_view};
 
 use crate::customs::fields::OptionPlace;
@@ -27,11 +26,10 @@ use std::alloc::Global;
 /// The bytes that spell what the statements of the construct denote.
 pub fn bytes_of(
     alloc: Global,
-    at: &OptionPlace<'_>,
+    at: &OptionPlace<'_, '_>,
     construct: Construct,
     options: &[&ProtobufOption],
 ) -> Result<Vec<u8>, ElabFailure>
-    requires { HasSmallValues (place_view at.now).files }
     ensures { let s = place_view at.now in let os = options_seen options.now in
         Elaborates (λ v. v.items) result (statement_faults s construct os)
         (encoded (denotes s construct os)) }
@@ -46,7 +44,7 @@ pub fn bytes_of(
 #[tactic(auto, using(protobuf_parse_model::proofs::Blaming::blames_at))]
 fn push_options(
     alloc: Global,
-    at: &OptionPlace<'_>,
+    at: &OptionPlace<'_, '_>,
     construct: Construct,
     options: &[&ProtobufOption],
     entries: &mut Vec<Entry>,
@@ -63,7 +61,7 @@ fn push_options(
 
 fn push_option(
     alloc: Global,
-    at: &OptionPlace<'_>,
+    at: &OptionPlace<'_, '_>,
     construct: Construct,
     option: &ProtobufOption,
     entries: &mut Vec<Entry>,
@@ -83,7 +81,7 @@ fn push_option(
 
 fn push_custom(
     alloc: Global,
-    at: &OptionPlace<'_>,
+    at: &OptionPlace<'_, '_>,
     construct: Construct,
     parts: &[ProtobufOptionNamePart],
     value: &ProtobufConstant,

@@ -7,6 +7,9 @@ use Rattle.protobuf_parse_wire.proofs.customs.known_files.KnownFiles.new.Goals a
 pub invariant_of-result : goal.invariant_of-result
 invariant_of-result c =
     record {
+      all_messages = c.in_ok-messages.ensures;
+      all_enums = c.in_ok-enums.ensures;
+      all_extensions = c.in_ok-extensions.ensures;
       small = small_values (files_seen c.args.files.now) (map enum_known c.deref.result.now)
           (ap (map enum_known) c.deref.ensures.value ∙ c.in_ok-enums.ensures) c.read_enums.ensures;
     }

@@ -1,0 +1,33 @@
+-- Where a resolver over real folders looks for a proto path.
+use Rattle.std.specs.Prelude.{◌≡◌, ◌||◌, List, [], ◌∷◌, ◌++◌, Contains, Option, Some, None, Result, Ok, Err, nat_eq, if◌then◌else◌, string_bytes}
+use Rattle.std.specs.List.{ends_with}
+use Rattle.protobuf_parse_base.specs.Paths.{is_empty}
+use Rattle.protobuf_parse_model.specs.Descriptors.{Text}
+use Rattle.protobuf_parse.specs.declared.run.fault.ResolveFault.{ResolveFault}
+use Rattle.protobuf_parse.specs.declared.run.fault.ResolveFault.TheVariants as refused
+use Rattle.protobuf_parse.specs.declared.run.source.ResolvedProtoFile.{ResolvedProtoFile}
+
+-- Where a proto path is looked for in an include: the include, `/`, and the path. An empty include
+-- adds nothing, and a `/` at its end isn't doubled.
+abbrev pub path_tried : Text → Text → Text
+path_tried include path =
+    if is_empty include || ends_with nat_eq include (47 ∷ [])
+    then include ++ path
+    else include ++ 47 ∷ path
+
+-- what may be answered where one path is tried: a file there or a fault of that file, or no such
+-- file
+abbrev pub IsTriedAt : Text → Result (Option ResolvedProtoFile) ResolveFault → Type 0
+IsTriedAt file (Ok (Some found)) = string_bytes found.path ≡ file
+IsTriedAt file (Ok None) = Unit {0}
+IsTriedAt file (Err (refused.CouldNotRead path)) = string_bytes path ≡ file
+IsTriedAt file (Err (refused.Refused reason)) = ⊥
+IsTriedAt file (Err refused.Memory) = Unit {0}
+
+-- there is no such file in any include, or memory ran out, or one of the paths tried was answered
+-- so
+abbrev pub MayFind : List Text → Text → Result (Option ResolvedProtoFile) ResolveFault → Type 0
+MayFind includes path (Ok None) = Unit {0}
+MayFind includes path (Err refused.Memory) = Unit {0}
+MayFind includes path answer =
+    (include : Text) × Contains includes include × IsTriedAt (path_tried include path) answer
