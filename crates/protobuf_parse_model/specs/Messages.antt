@@ -18,7 +18,7 @@ use Rattle.protobuf_parse_model.specs.Descriptors.{Text, Range, FieldDescriptor,
 use Rattle.protobuf_parse_model.specs.Faults.{Fault}
 use Rattle.protobuf_parse_model.specs.Statements.{group_body, message_body, entry_name, field_statement_name, oneof_fields}
 use Rattle.protobuf_parse_model.specs.Statements as statements
-use Rattle.protobuf_parse_model.specs.Duplicates.{fault_when, duplicates}
+use Rattle.protobuf_parse_model.specs.Duplicates.{fault, fault_when, duplicates}
 use Rattle.protobuf_parse_model.specs.declared.customs.Construct.TheVariants as of
 use Rattle.protobuf_parse_model.specs.Environment.{Environment, customs_bytes, inside, type_full_name, type_missing}
 use Rattle.protobuf_parse_model.specs.BuiltinOptions.{message_table, oneof_table}
