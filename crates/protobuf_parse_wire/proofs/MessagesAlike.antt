@@ -18,7 +18,7 @@ use Rattle.protobuf_parse_model.proofs.Orders.{count-append}
 use Rattle.protobuf_parse_wire.specs.Declarations.{Declaration, within, declared_message}
 use Rattle.protobuf_parse_wire.specs.NamesAlike.{message_names, HasPackageName}
 use Rattle.protobuf_parse_wire.proofs.Agreement.{scope_inside, package_is}
-use Rattle.protobuf_parse_wire.proofs.NamesAlike.{nested-are}
+use Rattle.protobuf_parse_wire.proofs.AgreementBack.{nested_are}
 
 -- the full names of messages in a scope, with all that stands inside them
 abbrev names_within : Text → List MessageDescriptor → List Text
@@ -33,7 +33,7 @@ own-names : (env : Environment) (name : Text) (body : List MessageStatementSynta
 own-names env name body ns =
     let inner : Text = within (absolute_text env.scope) name in
     ap (map (λ (d : Declaration). d.name)) (append-nil (declared_message (absolute_text env.scope) (message_from env name body ns)))
-    ∙ ap (λ (ds : List Declaration). inner ∷ map (λ (d : Declaration). d.name) ds) (nested-are inner ns)
+    ∙ ap (λ (ds : List Declaration). inner ∷ map (λ (d : Declaration). d.name) ds) (nested_are inner ns)
     ∙ ap (λ (s : Text). inner ∷ names_within s ns) (sym (scope_inside env.scope name))
 
 -- ---- behind maps and groups

@@ -36,7 +36,9 @@ HaveDistinctNumbers files =
     (d : Declaration) → Among (flat_map declared_in files) d
     → IsTrue (have_distinct_numbers (d.parts.field ++ extensions_of files d.name))
 
--- The paths are those of a file and of all that it reaches, and without faults but in custom options.
+-- The files of the paths are without faults, their custom options left out, and see only files among
+-- them. So are a file and all that it reaches, in a run that is accepted; but no fault is told of numbers
+-- that aren't distinct.
 pub record AreReachedFiles (trees : Trees) (sees : Text → List Text) (reached : List Text) : Type 0 where
   -- each has the tree of a text
   pub texts : (p : Text) (t : FileSyntax) → among p reached ≡ true → trees p ≡ Some t → (text : Bytes) × HasTree text t
