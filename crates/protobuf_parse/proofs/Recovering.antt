@@ -1,5 +1,5 @@
--- The custom options of an accepted run's files are read back.
-use Rattle.std.proofs.Common.{◌≡◌, ℕ, true, List, [], Option, Some, None, Result, Ok, Err, refl, sym, ◌∙◌, ap, subst}
+-- What stands for the custom options of an accepted run's files, and what is read back.
+use Rattle.std.proofs.Common.{◌≡◌, ℕ, ◌<◌, ◌^◌, true, length, List, [], Option, Some, None, Result, Ok, Err, refl, sym, ◌∙◌, ap, subst}
 use Rattle.std.specs.Global.{Vec}
 use Rattle.protobuf_parse_syntax.specs.Text.{Bytes}
 use Rattle.protobuf_parse_syntax.specs.Parsing.{HasTree}
@@ -16,13 +16,20 @@ use Rattle.protobuf_parse_wire.specs.CustomFaults.{option_faults}
 use Rattle.protobuf_parse_wire.specs.CustomOptions.{denotes, scope_of}
 use Rattle.protobuf_parse_wire.specs.Law.{said}
 use Rattle.protobuf_parse_wire.specs.OptionFields.{options_message}
-use Rattle.protobuf_parse_wire.specs.Recovery.{AreReachedFiles, HaveDistinctNumbers}
+use Rattle.protobuf_parse_wire.specs.OptionLaw.{HasSmallValues}
+use Rattle.protobuf_parse_wire.specs.Reading.{reader}
+use Rattle.protobuf_parse_wire.specs.Recovery.{AreReachedFiles, HasCustom, HaveDistinctNumbers}
 use Rattle.protobuf_parse_wire.specs.Trees.{Entries}
-use Rattle.protobuf_parse_wire.proofs.Recovery.{options_are_recovered}
+use Rattle.protobuf_parse_wire.specs.Wire.{Spells}
+use Rattle.protobuf_parse_wire.proofs.Entered.{described}
+use Rattle.protobuf_parse_wire.proofs.EnumNumbers.{SmallFile, file_small, values_small}
+use Rattle.protobuf_parse_wire.proofs.OptionBytes.{option_bytes_spell}
+use Rattle.protobuf_parse_wire.proofs.Recovery.{options_are_recovered, plain_options_are_no_bytes}
+use Rattle.protobuf_parse_wire.proofs.Sound.{text_sound}
 use Rattle.protobuf_parse_wire.proofs.WithoutOptions.{customs_are_options, customs_make_no_difference, meaning_ignores_options}
 use Rattle.protobuf_parse.specs.Walks.{Asked, Input, Reaches, elab_paths, events}
 use Rattle.protobuf_parse.specs.Run.{Files, AreListed, Ends, HasTrees, IsTree, RunsAsTold, environment_of, faults_in, plain_environments, plains_at, text_read}
-use Rattle.protobuf_parse.specs.Recovered.{AreReadBack, IsReadBack, bytes_in, handed_out}
+use Rattle.protobuf_parse.specs.Recovered.{HoldsOptions, OptionsAreHeld, bytes_in, denoted_in, handed_out}
 use Rattle.protobuf_parse.specs.Stability.{IsClean, IsFileOf, WereRead}
 use Rattle.protobuf_parse.specs.declared.run.fault.RunFault.{RunFault}
 use Rattle.protobuf_parse.specs.declared.run.log.ReadEntry.{ReadEntry}
@@ -79,30 +86,59 @@ module _ (files : Files) (inputs : List Input) (clean : IsClean files inputs) (r
     numbers = numbers;
   }
 
-  pub read-back : (s : OptionSet) → Among (option_sets t) s → IsReadBack files p s
-  read-back s among custom numbers small =
-      let plain = plain_environments files in
-      let whole = environment_of files in
-      let reached = files.reached p in
-      let seen = files.seen p in
-      let recovered = options_are_recovered files.trees files.seen reached p t s
-      (are-reached numbers) ((read.listed.reaches p).all p (stays p)) is options-faultless among
-      custom small in
-      let alike = customs_make_no_difference files.trees whole plain reached seen (λ q u. refl) in
-      let same = meaning_ignores_options (handed_out files reached) (plains_at files reached)
-      (handed_out files seen) (plains_at files seen)
-      (customs_are_options files.trees whole plain reached (λ q u. refl))
-      (customs_are_options files.trees whole plain seen (λ q u. refl))
-      s.scope s.construct s.statements in
-      alike.0 (options_message s.construct) (bytes_in files p s)
-      ∙ (recovered ∙ sym (ap (λ (es : Entries). Ok (said es)) same))
+  -- enums' values have 32 bits, as the grammar says
+  small : HasSmallValues (plains_at files (files.reached p))
+  small = values_small (plains_at files (files.reached p)) (λ file h.
+      let d = described files.trees (plain_environments files) (files.reached p) file h in
+      let text = text-at d.path d.tree d.has_tree in
+      subst SmallFile d.is (file_small (plain_environments files d.path d.tree) d.path d.tree
+      (text_sound text.0 d.tree text.1)))
 
-pub all-read-back : (legal : Asked → Text → ReadOutcome → Type 0) (inputs : List Input)
+  module _ (s : OptionSet) (stands : Among (option_sets t) s) where
+    abbrev reached : List Text
+    reached = files.reached p
+
+    abbrev seen : List Text
+    seen = files.seen p
+
+    -- custom options make no difference to what is denoted
+    same : denoted_in files p s
+        ≡ denotes (scope_of (plains_at files reached) (plains_at files seen) s) s.construct s.statements
+    same = meaning_ignores_options (handed_out files reached) (plains_at files reached)
+        (handed_out files seen) (plains_at files seen)
+        (customs_are_options files.trees (environment_of files) (plain_environments files) reached
+        (λ q u. refl))
+        (customs_are_options files.trees (environment_of files) (plain_environments files) seen
+        (λ q u. refl))
+        s.scope s.construct s.statements
+
+    read-back : HasCustom s.statements → HaveDistinctNumbers (plains_at files reached)
+        → length (bytes_in files p s) < 2 ^ 64
+        → reader (handed_out files reached) (options_message s.construct) (bytes_in files p s)
+        ≡ Ok (said (denoted_in files p s))
+    read-back custom numbers short =
+        let alike = customs_make_no_difference files.trees (environment_of files)
+        (plain_environments files) reached seen (λ q u. refl) in
+        alike.0 (options_message s.construct) (bytes_in files p s)
+        ∙ (options_are_recovered files.trees files.seen reached p t s (are-reached numbers)
+        ((read.listed.reaches p).all p (stays p)) is options-faultless stands custom short
+        ∙ sym (ap (λ (es : Entries). Ok (said es)) same))
+
+    pub holds-options : HoldsOptions files p s
+    holds-options = record {
+      spelled = subst (λ (es : Entries). Spells es (bytes_in files p s)) (sym same)
+          (option_bytes_spell (plains_at files reached) (plains_at files seen) t small
+          options-faultless s stands);
+      nothing = plain_options_are_no_bytes (plains_at files reached) (plains_at files seen) s;
+      read = read-back;
+    }
+
+pub all-held : (legal : Asked → Text → ReadOutcome → Type 0) (inputs : List Input)
     (bundled : List (Text × Text)) (log : List ReadEntry)
     (result : Result (Vec FileDescriptorProto) RunFault)
-    → RunsAsTold legal inputs bundled log result → AreReadBack inputs bundled log result
-all-read-back legal inputs bundled log (Ok ds) told = λ trees reached seen has listed p t s m is among.
+    → RunsAsTold legal inputs bundled log result → OptionsAreHeld inputs bundled log result
+all-held legal inputs bundled log (Ok ds) told = λ trees reached seen has listed p t s m is among.
     let files : Files = record { bundled = bundled; reads = log; trees = trees; reached = reached; seen = seen } in
-    read-back files inputs (told trees reached seen has listed).none_fails
+    holds-options files inputs (told trees reached seen has listed).none_fails
     (record { trees = has; listed = listed }) p t is m s among
-all-read-back legal inputs bundled log (Err f) told = tt
+all-held legal inputs bundled log (Err f) told = tt

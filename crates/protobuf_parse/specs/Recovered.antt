@@ -1,8 +1,9 @@
--- What is read back from the custom options of an accepted run, by one who knows its descriptors alone.
+-- What stands in the descriptors of an accepted run for custom options, and what is read back from it by one who
+-- knows these descriptors alone.
 --
 -- An options message is read as any message: by the fields of it, and by the extensions of it in the
 -- files at hand (Protocol Buffers Language Guide (proto2), "Custom Options", https://protobuf.dev).
-use Rattle.std.specs.Prelude.{◌≡◌, ℕ, ◌<◌, ◌^◌, true, List, length, Option, Some, Result, Ok, Err}
+use Rattle.std.specs.Prelude.{◌≡◌, ℕ, ◌<◌, ◌^◌, true, List, [], length, Option, Some, Result, Ok, Err}
 use Rattle.std.specs.Global.{Vec}
 use Rattle.protobuf_parse_syntax.specs.Trees.{FileSyntax}
 use Rattle.protobuf_parse_model.specs.Descriptors.{Text, FileDescriptor}
@@ -18,6 +19,7 @@ use Rattle.protobuf_parse_wire.specs.OptionFields.{options_message}
 use Rattle.protobuf_parse_wire.specs.Reading.{reader}
 use Rattle.protobuf_parse_wire.specs.Recovery.{HasCustom, HaveDistinctNumbers}
 use Rattle.protobuf_parse_wire.specs.Trees.{Entries}
+use Rattle.protobuf_parse_wire.specs.Wire.{Spells}
 use Rattle.protobuf_parse.specs.Walks.{Input, elab_paths, events}
 use Rattle.protobuf_parse.specs.Run.{Files, AreListed, HasTrees, customs_of, environment_of, plains_at}
 use Rattle.protobuf_parse.specs.declared.run.fault.RunFault.{RunFault}
@@ -37,23 +39,28 @@ denoted_in files p s =
     denotes (scope_of (handed_out files (files.reached p)) (handed_out files (files.seen p)) s)
     s.construct s.statements
 
--- Where numbers of fields are distinct in the files that p reaches, the reader gives the numbers and the
--- values that the statements denote, by these files' descriptors and the construct's options message.
--- (Custom options change no number. The bytes are as many as a `Vec` can have.)
-abbrev pub IsReadBack : Files → Text → OptionSet → Type 0
-IsReadBack files p s =
-    HasCustom s.statements
-    → HaveDistinctNumbers (plains_at files (files.reached p))
-    → length (bytes_in files p s) < 2 ^ 64
-    → reader (handed_out files (files.reached p)) (options_message s.construct) (bytes_in files p s)
-    ≡ Ok (said (denoted_in files p s))
+-- What stands in p's descriptor for the custom options of a construct.
+pub record HoldsOptions (files : Files) (p : Text) (s : OptionSet) : Type 0 where
+  -- bytes that spell what its statements denote
+  pub spelled : Spells (denoted_in files p s) (bytes_in files p s)
+  -- none, where no custom option is set
+  pub nothing : (HasCustom s.statements → ⊥) → bytes_in files p s ≡ []
+  -- Where one is set, and numbers of fields are distinct in the files that p reaches, the reader gives
+  -- the numbers and the values that the statements denote, by the construct's options message and the
+  -- descriptors of these files. (Custom options change no number. The bytes are as many as a `Vec` can
+  -- have.)
+  pub read : HasCustom s.statements
+      → HaveDistinctNumbers (plains_at files (files.reached p))
+      → length (bytes_in files p s) < 2 ^ 64
+      → reader (handed_out files (files.reached p)) (options_message s.construct) (bytes_in files p s)
+      ≡ Ok (said (denoted_in files p s))
 
--- So are all custom options of an accepted run's files.
-abbrev pub AreReadBack : List Input → List (Text × Text) → List ReadEntry → Result (Vec FileDescriptorProto) RunFault → Type 0
-AreReadBack inputs bundled log (Ok _) =
+-- So it is for each construct of an accepted run's files whose options can be set.
+abbrev pub OptionsAreHeld : List Input → List (Text × Text) → List ReadEntry → Result (Vec FileDescriptorProto) RunFault → Type 0
+OptionsAreHeld inputs bundled log (Ok _) =
     (trees : Text → Option FileSyntax) (reached seen : Text → List Text)
     → HasTrees bundled log trees → AreListed trees reached seen
     → (p : Text) (t : FileSyntax) (s : OptionSet)
     → among p (elab_paths (events trees inputs)) ≡ true → trees p ≡ Some t → Among (option_sets t) s
-    → IsReadBack (record { bundled = bundled; reads = log; trees = trees; reached = reached; seen = seen }) p s
-AreReadBack inputs bundled log (Err _) = Unit {0}
+    → HoldsOptions (record { bundled = bundled; reads = log; trees = trees; reached = reached; seen = seen }) p s
+OptionsAreHeld inputs bundled log (Err _) = Unit {0}

@@ -2,7 +2,7 @@
 
 ghost use Rattle.std.specs.Prelude.{◌≡◌, map, IfOk, IfErr};
 ghost use Rattle.protobuf_parse.specs.Run.{FindsNothing, HaveLists, HaveTrees, IsCaused, IsMet, MayAnswer, RunsAsTold, RunsByResolver, input_view, rows};
-ghost use Rattle.protobuf_parse.specs.Recovered.{AreReadBack};
+ghost use Rattle.protobuf_parse.specs.Recovered.{OptionsAreHeld};
 ghost use Rattle.protobuf_parse.specs.Walks.{named};
 ghost use Rattle.protobuf_parse.specs.Loading.{Entry};
 ghost use Rattle.protobuf_parse_base.specs.PathViews.{path_buf_text};
@@ -44,7 +44,7 @@ pub fn run_inputs<'a, R: ProtoPathResolver, I: InputReader>(
     ensures lists { HaveLists (rows bundled.now) result.reads.items }
     ensures told { RunsAsTold (MayAnswer (λ p a. R.may_answer resolver.now p a) (λ p a. I.may_read reader.now p a)) (map input_view inputs.now) (rows bundled.now) result.reads.items result.result }
     ensures caused { IfErr result.result (λ f. IsCaused (λ p a. R.may_answer resolver.now p a) (λ p a. I.may_read reader.now p a) f) }
-    ensures recovered { AreReadBack (map input_view inputs.now) (rows bundled.now)
+    ensures options { OptionsAreHeld (map input_view inputs.now) (rows bundled.now)
         result.reads.items result.result }
     ensures meets { IsMet (map input_view inputs.now) (rows bundled.now) result.reads.items result.meets result.result }
 {

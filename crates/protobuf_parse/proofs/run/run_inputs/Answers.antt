@@ -6,7 +6,7 @@ use Rattle.std.proofs.lemmas.List.{length-map}
 use Rattle.protobuf_parse.proofs.Deciding.{goes-on, have-trees, run-files}
 use Rattle.protobuf_parse.proofs.Listed.{have-lists}
 use Rattle.protobuf_parse.proofs.Following.{all-follow}
-use Rattle.protobuf_parse.proofs.Recovering.{all-read-back}
+use Rattle.protobuf_parse.proofs.Recovering.{all-held}
 use Rattle.protobuf_parse.proofs.Telling.{accepted, broken, stopped}
 use Rattle.protobuf_parse.proofs.run.run_inputs.Goals as goal
 use Rattle.protobuf_parse.proofs.run.run_inputs.Goals.{in-Ok+in-Ok-descriptors, in-Ok+in-Err-descriptors, in-Err}
@@ -38,8 +38,8 @@ returns-clause-caused g c =
     let h = returns-clause-told g c t.0 l.0 l.1 (λ p. (t.1 p).0) l.2 in
     caused (λ p a. g.R.ProtoPathResolver.may_answer c.args.resolver.now p a) (λ p a. g.I.InputReader.may_read c.args.reader.now p a) _ _ _ (all-follow _ _) h
 
-pub returns-clause-recovered : goal.returns-clause-recovered
-returns-clause-recovered g c = all-read-back _ _ _ _ _ (returns-clause-told g c)
+pub returns-clause-options : goal.returns-clause-options
+returns-clause-options g c = all-held _ _ _ _ _ (returns-clause-told g c)
 
 pub returns-clause-meets : goal.returns-clause-meets
 returns-clause-meets g c trees has =
