@@ -35,6 +35,7 @@ pub mod BareLookups
 pub mod WithoutOptions
 pub mod MessagesAlike
 pub mod Entered
+pub mod KeptLookups
 pub mod Recovery
 pub mod Sound
 pub mod SoundSets
