@@ -36,6 +36,7 @@ pub mod WithoutOptions
 pub mod MessagesAlike
 pub mod Entered
 pub mod KeptLookups
+pub mod MoreFiles
 pub mod Recovery
 pub mod Sound
 pub mod SoundSets
