@@ -38,6 +38,7 @@ pub mod Entered
 pub mod KeptLookups
 pub mod MoreFiles
 pub mod Recovery
+pub mod RecoveryAbove
 pub mod Sound
 pub mod SoundSets
 pub mod EnumNumbers
