@@ -1,5 +1,5 @@
 -- Names keep their meaning where more files are at hand, if no name is declared twice in all of them.
-use Rattle.std.proofs.Common.{◌≡◌, ℤ, Bool, true, false, ◌||◌, ◌⊎◌, inl, inr, List, [], ◌++◌, map, filter, flat_map, cond, Option, Some, None, option_map, option_to_list, refl, sym, ap, ◌∙◌, bytes_eq}
+use Rattle.std.proofs.Common.{◌≡◌, ℤ, Bool, true, false, inl, inr, List, [], ◌++◌, map, filter, flat_map, cond, Option, Some, None, option_map, option_to_list, refl, sym, ap, ◌∙◌, bytes_eq}
 use Rattle.std.specs.List.{find, list_any}
 use Rattle.std.specs.Option.{option_or}
 use Rattle.std.proofs.lemmas.Bool.{or_cases, or_left, or_right}
@@ -12,7 +12,7 @@ use Rattle.protobuf_parse_model.specs.Declarations.{Scope, Declared}
 use Rattle.protobuf_parse_model.specs.FilesByPath.{Trees, among, trees_at}
 use Rattle.protobuf_parse_model.specs.Linking.{link_faults}
 use Rattle.protobuf_parse_wire.specs.Declarations.{Declaration, declared_in, messages_named, messages_of}
-use Rattle.protobuf_parse_wire.specs.OptionFields.{OptionScope, declared_enums, fields_of_message, field_named, values_in, number_of_value, is_message}
+use Rattle.protobuf_parse_wire.specs.OptionFields.{declared_enums, fields_of_message, field_named, values_in, number_of_value, is_message}
 use Rattle.protobuf_parse_wire.specs.DescriptorsByPath.{Environments, described_at, descriptors_at, HasFileScopes, HaveSameMembers, AreWithin}
 use Rattle.protobuf_parse_wire.specs.MoreFiles.{KeepsLookups, known_at, MoreFilesKeepMeaning}
 use Rattle.protobuf_parse_wire.proofs.DescriptorOrders.{fields-same, values-same, messages-same}

@@ -1,21 +1,20 @@
 -- What custom options denote is read back by the descriptors of more files than those that their file reaches.
-use Rattle.std.proofs.Common.{◌≡◌, ◌<◌, ◌^◌, Bool, true, false, cond, List, [], ◌∷◌, ◌++◌, map, flat_map, length, Option, Some, None, Ok, option_to_list, refl, sym, ap, subst, ◌∙◌, bytes_eq}
+use Rattle.std.proofs.Common.{◌≡◌, ◌<◌, ◌^◌, Bool, true, false, cond, List, [], ◌∷◌, ◌++◌, map, flat_map, length, Option, Some, None, Ok, option_to_list, refl, ap, subst, ◌∙◌, bytes_eq}
 use Rattle.std.proofs.lemmas.Bool.{or_right}
-use Rattle.protobuf_parse_syntax.specs.Trees.{OptionSyntax, FileSyntax}
+use Rattle.protobuf_parse_syntax.specs.Trees.{FileSyntax}
 use Rattle.protobuf_parse_model.specs.Descriptors.{Text, FileDescriptor}
 use Rattle.protobuf_parse_model.specs.Declarations.{Scope}
 use Rattle.protobuf_parse_model.specs.Faults.{Fault}
 use Rattle.protobuf_parse_model.specs.FilesByPath.{Trees, among, trees_at}
 use Rattle.protobuf_parse_model.specs.Linking.{link_faults}
 use Rattle.protobuf_parse_model.specs.OptionSets.{OptionSet, option_sets}
-use Rattle.protobuf_parse_model.specs.declared.customs.Construct.{Construct}
 use Rattle.protobuf_parse_model.proofs.Orders.{first-among}
 use Rattle.protobuf_parse_wire.specs.CustomFaults.{statement_faults, option_faults}
-use Rattle.protobuf_parse_wire.specs.CustomOptions.{denotes, scope_of}
+use Rattle.protobuf_parse_wire.specs.CustomOptions.{scope_of}
 use Rattle.protobuf_parse_wire.specs.DescriptorsByPath.{Environments, described_at, descriptors_at, HasFileScopes, AreWithin}
 use Rattle.protobuf_parse_wire.specs.Encoded.{encoded}
 use Rattle.protobuf_parse_wire.specs.Law.{said}
-use Rattle.protobuf_parse_wire.specs.MoreFiles.{KeepsLookups, KeepsMeaning, known_at}
+use Rattle.protobuf_parse_wire.specs.MoreFiles.{KeepsLookups, KeepsMeaning}
 use Rattle.protobuf_parse_wire.specs.OptionFields.{OptionScope, options_message}
 use Rattle.protobuf_parse_wire.specs.Reading.{reader}
 use Rattle.protobuf_parse_wire.specs.Recovery.{plainly, plain_at, AreReachedFiles, OptionsAreRecoveredAbove}
