@@ -1,8 +1,7 @@
 -- What custom options mean where more files are at hand than those that their file reaches.
 --
--- By more files more names have a meaning, so that what was wrong may be right. But in options
--- in which nothing is wrong each name keeps the meaning that it has, where no full name is declared
--- twice.
+-- In options in which nothing is wrong each name keeps its meaning, where no full name is declared
+-- twice in all of these files. Of others nothing is said: by more files they may be right.
 use Rattle.std.specs.Prelude.{◌≡◌, ℤ, true, List, [], Some}
 use Rattle.protobuf_parse_syntax.specs.Trees.{OptionSyntax}
 use Rattle.protobuf_parse_model.specs.Descriptors.{Text, FieldDescriptor, FileDescriptor}
