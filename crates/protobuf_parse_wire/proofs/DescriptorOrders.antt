@@ -175,7 +175,7 @@ module _ (trees : Trees) (env : Environments) where
               ∙ ap (flat_map (λ (parts : MessageParts). parts.field)) (map-append (λ (x : Declaration). x.parts) (filter (λ (x : Declaration). bytes_eq message x.name) a) (filter (λ (x : Declaration). bytes_eq message x.name) b))
               ∙ flat_map-append (λ (parts : MessageParts). parts.field) (messages_named message a) (messages_named message b)
 
-      fields-same : (message name : Text) → field_named (descriptors_at trees env xs) message name ≡ field_named (descriptors_at trees env ys) message name
+      pub fields-same : (message name : Text) → field_named (descriptors_at trees env xs) message name ≡ field_named (descriptors_at trees env ys) message name
       fields-same message name =
           ap (find (named_field name)) (fields-spread message (descriptors_at trees env xs))
           ∙ by-type (named_field name) (fields_in message) message (field-tells message name)
@@ -184,14 +184,14 @@ module _ (trees : Trees) (env : Environments) where
       values-spread : (enum_name : Text) (ds : List FileDescriptor) → values_in ds enum_name ≡ flat_map (enum_values_in enum_name) ds
       values-spread enum_name ds = spread (values_named enum_name) refl (flat_map-append (λ (e : Declared EnumDescriptor). cond (bytes_eq e.name enum_name) e.what.value [])) declared_enums ds
 
-      values-same : (enum_name name : Text) → number_of_value (descriptors_at trees env xs) enum_name name ≡ number_of_value (descriptors_at trees env ys) enum_name name
+      pub values-same : (enum_name name : Text) → number_of_value (descriptors_at trees env xs) enum_name name ≡ number_of_value (descriptors_at trees env ys) enum_name name
       values-same enum_name name = ap (option_map (λ (v : EnumValueDescriptor). v.number)) (
           ap (find (named_value name)) (values-spread enum_name (descriptors_at trees env xs))
           ∙ by-type (named_value name) (enum_values_in enum_name) enum_name (value-tells enum_name name)
           ∙ ap (find (named_value name)) (sym (values-spread enum_name (descriptors_at trees env ys)))
           )
 
-      messages-same : (name : Text) → is_message (descriptors_at trees env xs) name ≡ is_message (descriptors_at trees env ys) name
+      pub messages-same : (name : Text) → is_message (descriptors_at trees env xs) name ≡ is_message (descriptors_at trees env ys) name
       messages-same name =
           any-found (is_so_named name) (flat_map declared_in (descriptors_at trees env xs))
           ∙ ap is_some (by-type (is_so_named name) declared_in name (message-tells name))

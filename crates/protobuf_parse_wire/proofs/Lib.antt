@@ -35,7 +35,10 @@ pub mod BareLookups
 pub mod WithoutOptions
 pub mod MessagesAlike
 pub mod Entered
+pub mod KeptLookups
+pub mod MoreFiles
 pub mod Recovery
+pub mod RecoveryAbove
 pub mod Sound
 pub mod SoundSets
 pub mod EnumNumbers

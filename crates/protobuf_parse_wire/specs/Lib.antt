@@ -23,5 +23,6 @@ pub mod NamesAlike
 pub mod DescriptorsByPath
 pub mod SmallValues
 pub mod WithoutOptions
+pub mod MoreFiles
 pub mod Recovery
 pub mod ByName

@@ -55,19 +55,35 @@ abbrev pub HasCustom : List OptionSyntax → Type 0
 HasCustom os =
     (o : OptionSyntax) × Among os o × (part : OptionPartSyntax) × (parts : List OptionPartSyntax) × (o.name ≡ custom (part ∷ parts))
 
--- Where no fault stands in the custom options of a file among these, the bytes of each set that has
--- some are read, by its options message, as the numbers and values that its statements denote.
-abbrev pub OptionsAreRecovered : Type 0
-OptionsAreRecovered =
-    (trees : Trees) (sees : Text → List Text) (reached : List Text) (p : Text) (t : FileSyntax) (s : OptionSet)
-    → (let files : List FileDescriptor = plain_at trees sees reached in
+-- Where no fault stands in the custom options of the file p, which reaches the files `reached`, the bytes of
+-- a set that has some are read, by its options message and the descriptors of the files `more`, as the
+-- numbers and values that its statements denote.
+abbrev pub IsRecovered : Trees → (Text → List Text) → (reached more : List Text) → Text → FileSyntax → OptionSet → Type 0
+IsRecovered trees sees reached more p t s =
+    let files : List FileDescriptor = plain_at trees sees reached in
     let visible : List FileDescriptor = plain_at trees sees (sees p) in
     let bytes : List ℕ = option_bytes files visible s.construct s.scope s.statements in
-    AreReachedFiles trees sees reached → among p reached ≡ true → trees p ≡ Some t
+    (trees p ≡ Some t
     → option_faults files visible t ≡ []
     → Among (option_sets t) s → HasCustom s.statements
     → length bytes < 2 ^ 64
-    → reader files (options_message s.construct) bytes ≡ Ok (said (denotes (scope_of files visible s) s.construct s.statements)))
+    → reader (plain_at trees sees more) (options_message s.construct) bytes
+    ≡ Ok (said (denotes (scope_of files visible s) s.construct s.statements)))
+
+-- So they are by the descriptors of all that a file reaches, for each file that is among these; what
+-- this file reaches itself is among them, too.
+abbrev pub OptionsAreRecoveredAbove : Type 0
+OptionsAreRecoveredAbove =
+    (trees : Trees) (sees : Text → List Text) (reached more : List Text) (p : Text) (t : FileSyntax) (s : OptionSet)
+    → AreReachedFiles trees sees more → AreWithin reached more → among p more ≡ true
+    → IsRecovered trees sees reached more p t s
+
+-- In particular they are by the descriptors of what the file itself reaches.
+abbrev pub OptionsAreRecovered : Type 0
+OptionsAreRecovered =
+    (trees : Trees) (sees : Text → List Text) (reached : List Text) (p : Text) (t : FileSyntax) (s : OptionSet)
+    → AreReachedFiles trees sees reached → among p reached ≡ true
+    → IsRecovered trees sees reached reached p t s
 
 -- A set that has none becomes no bytes.
 abbrev pub PlainOptionsAreNoBytes : Type 0

@@ -17,7 +17,7 @@ pub use fault::ReadFault;
 pub use field::{ReadField, ReadValue};
 pub use kind::Kind;
 pub use law::{
-    any_order, never_too_deep, one_spelling, option_bytes_spell, options_are_not_read,
+    any_order, more_files, never_too_deep, one_spelling, option_bytes_spell, options_are_not_read,
     options_are_read, options_are_recovered, spelled_is_read,
 };
 pub use reader::read_custom;
