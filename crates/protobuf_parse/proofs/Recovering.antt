@@ -8,7 +8,7 @@ use Rattle.protobuf_parse_model.specs.Descriptors.{Text}
 use Rattle.protobuf_parse_model.specs.Faults.{Among, Fault}
 use Rattle.protobuf_parse_model.specs.Environment.{no_customs}
 use Rattle.protobuf_parse_model.specs.FileDescriptor.{environment, file_faults}
-use Rattle.protobuf_parse_model.specs.FilesByPath.{among, stays, trees_at}
+use Rattle.protobuf_parse_model.specs.FilesByPath.{among, leads, stays, trees_at}
 use Rattle.protobuf_parse_model.specs.Linking.{before_others, link_faults}
 use Rattle.protobuf_parse_model.specs.OptionSets.{OptionSet, option_sets}
 use Rattle.protobuf_parse_model.specs.declared.descriptor.FileDescriptorProto.{FileDescriptorProto}
@@ -24,13 +24,14 @@ use Rattle.protobuf_parse_wire.specs.Wire.{Spells}
 use Rattle.protobuf_parse_wire.proofs.Entered.{described}
 use Rattle.protobuf_parse_wire.proofs.EnumNumbers.{SmallFile, file_small, values_small}
 use Rattle.protobuf_parse_wire.proofs.OptionBytes.{option_bytes_spell}
-use Rattle.protobuf_parse_wire.proofs.Recovery.{options_are_recovered, plain_options_are_no_bytes}
+use Rattle.protobuf_parse_wire.proofs.Recovery.{plain_options_are_no_bytes}
+use Rattle.protobuf_parse_wire.proofs.RecoveryAbove.{options_are_recovered_above}
 use Rattle.protobuf_parse_wire.proofs.Sound.{text_sound}
 use Rattle.protobuf_parse_wire.proofs.WithoutOptions.{customs_are_options, customs_make_no_difference, meaning_ignores_options}
 use Rattle.protobuf_parse.specs.Walks.{Asked, Input, Reaches, elab_paths, events}
 use Rattle.protobuf_parse.specs.Run.{Files, AreListed, Ends, HasTrees, IsTree, RunsAsTold, environment_of, faults_in, plain_environments, plains_at, text_read}
-use Rattle.protobuf_parse.specs.Recovered.{HoldsOptions, OptionsAreHeld, bytes_in, denoted_in, handed_out}
-use Rattle.protobuf_parse.specs.Stability.{IsClean, IsFileOf, WereRead}
+use Rattle.protobuf_parse.specs.Recovered.{HoldsOptions, IsReadBack, OptionsAreHeld, bytes_in, denoted_in, handed_out}
+use Rattle.protobuf_parse.specs.Stability.{IsClean, IsFileOf, WereRead, order}
 use Rattle.protobuf_parse.specs.declared.run.fault.RunFault.{RunFault}
 use Rattle.protobuf_parse.specs.declared.run.log.ReadEntry.{ReadEntry}
 use Rattle.protobuf_parse.specs.declared.run.log.ReadOutcome.{ReadOutcome}
@@ -40,11 +41,11 @@ use Rattle.protobuf_parse.proofs.Knowing.{sees-reaches}
 use Rattle.protobuf_parse.proofs.Settling.{none-after, none-before}
 use Rattle.protobuf_parse.proofs.Spelling.{others}
 
-module _ (files : Files) (inputs : List Input) (clean : IsClean files inputs) (read : WereRead files)
-    (p : Text) (t : FileSyntax) (is : files.trees p ≡ Some t) (m : IsFileOf files.trees inputs p) where
-  -- a file that it reaches is one of the run
-  reached-file : (q : Text) → among q (files.reached p) ≡ true → IsFileOf files.trees inputs q
-  reached-file q h = reached-is files inputs clean p q ((read.listed.reaches p).only q h) m
+module _ (files : Files) (inputs : List Input) (clean : IsClean files inputs) (read : WereRead files) where
+  -- a file that a file of the run reaches is one of the run
+  reached-file : (p q : Text) → IsFileOf files.trees inputs p → among q (files.reached p) ≡ true
+      → IsFileOf files.trees inputs q
+  reached-file p q m h = reached-is files inputs clean p q ((read.listed.reaches p).only q h) m
 
   -- in which no fault stands
   no-others : (q : Text) (u : FileSyntax) → files.trees q ≡ Some u → IsFileOf files.trees inputs q
@@ -59,10 +60,12 @@ module _ (files : Files) (inputs : List Input) (clean : IsClean files inputs) (r
       (file_faults (environment (trees_at files.trees (files.seen q)) no_customs u) u) _
       (no-others q u at h)
 
-  options-faultless : option_faults (plains_at files (files.reached p)) (plains_at files (files.seen p)) t ≡ []
-  options-faultless = none-after
-      (file_faults (environment (trees_at files.trees (files.seen p)) no_customs t) t) _
-      (no-others p t is m)
+  options-faultless : (q : Text) (u : FileSyntax) → files.trees q ≡ Some u
+      → IsFileOf files.trees inputs q
+      → option_faults (plains_at files (files.reached q)) (plains_at files (files.seen q)) u ≡ []
+  options-faultless q u at h = none-after
+      (file_faults (environment (trees_at files.trees (files.seen q)) no_customs u) u) _
+      (no-others q u at h)
 
   text-at : (q : Text) (u : FileSyntax) → files.trees q ≡ Some u → (text : Bytes) × HasTree text u
   text-at q u at = of (text_read files.bundled files.reads q)
@@ -73,28 +76,31 @@ module _ (files : Files) (inputs : List Input) (clean : IsClean files inputs) (r
       of (Some text) h = (text, h.1)
       of None h = absurd h
 
-  are-reached : HaveDistinctNumbers (plains_at files (files.reached p))
-      → AreReachedFiles files.trees files.seen (files.reached p)
-  are-reached numbers = record {
-    texts = λ q u h at. text-at q u at;
-    sight = λ q h r seen. (read.listed.reaches p).all r
-        (reaches-on files.trees p q r ((read.listed.reaches p).only q h)
-        (sees-reaches files.trees q r ((read.listed.sees q).only r seen)));
-    once = none-before (link_faults (trees_at files.trees (files.reached p))) (others files p t)
-        (faultless-file files inputs clean p t is m);
-    faultless = λ q u h at. own-faultless q u at (reached-file q h);
+  -- a file of the run, and all that it reaches
+  are-reached : (q : Text) (u : FileSyntax) → files.trees q ≡ Some u → IsFileOf files.trees inputs q
+      → HaveDistinctNumbers (plains_at files (files.reached q))
+      → AreReachedFiles files.trees files.seen (files.reached q)
+  are-reached q u is m numbers = record {
+    texts = λ r v h at. text-at r v at;
+    sight = λ r h x seen. (read.listed.reaches q).all x
+        (reaches-on files.trees q r x ((read.listed.reaches q).only r h)
+        (sees-reaches files.trees r x ((read.listed.sees r).only x seen)));
+    once = none-before (link_faults (trees_at files.trees (files.reached q))) (others files q u)
+        (faultless-file files inputs clean q u is m);
+    faultless = λ r v h at. own-faultless r v at (reached-file q r m h);
     numbers = numbers;
   }
 
   -- enums' values have 32 bits, as the grammar says
-  small : HasSmallValues (plains_at files (files.reached p))
-  small = values_small (plains_at files (files.reached p)) (λ file h.
+  small : (p : Text) → HasSmallValues (plains_at files (files.reached p))
+  small p = values_small (plains_at files (files.reached p)) (λ file h.
       let d = described files.trees (plain_environments files) (files.reached p) file h in
       let text = text-at d.path d.tree d.has_tree in
       subst SmallFile d.is (file_small (plain_environments files d.path d.tree) d.path d.tree
       (text_sound text.0 d.tree text.1)))
 
-  module _ (s : OptionSet) (stands : Among (option_sets t) s) where
+  module _ (p : Text) (t : FileSyntax) (is : files.trees p ≡ Some t)
+      (m : IsFileOf files.trees inputs p) (s : OptionSet) (stands : Among (option_sets t) s) where
     abbrev reached : List Text
     reached = files.reached p
 
@@ -112,23 +118,32 @@ module _ (files : Files) (inputs : List Input) (clean : IsClean files inputs) (r
         (λ q u. refl))
         s.scope s.construct s.statements
 
-    read-back : HasCustom s.statements → HaveDistinctNumbers (plains_at files reached)
-        → length (bytes_in files p s) < 2 ^ 64
-        → reader (handed_out files reached) (options_message s.construct) (bytes_in files p s)
-        ≡ Ok (said (denoted_in files p s))
-    read-back custom numbers short =
+    -- a file that reaches it has a tree
+    tree-of : (q : Text) → Reaches files.trees q p → (u : FileSyntax) × (files.trees q ≡ Some u)
+    tree-of q (stays _) = (t, is)
+    tree-of q (leads _ r _ u at a rest) = (u, at)
+
+    read-back : HasCustom s.statements → (q : Text) → among q (order files.trees inputs) ≡ true
+        → among p (files.reached q) ≡ true → HaveDistinctNumbers (plains_at files (files.reached q))
+        → IsReadBack files p q s
+    read-back custom q n h numbers short =
+        let above = (read.listed.reaches q).only p h in
+        let u = tree-of q above in
+        let within : (r : Text) → among r reached ≡ true → among r (files.reached q) ≡ true =
+        λ r k. (read.listed.reaches q).all r
+        (reaches-on files.trees q p r above ((read.listed.reaches p).only r k)) in
         let alike = customs_make_no_difference files.trees (environment_of files)
-        (plain_environments files) reached seen (λ q u. refl) in
+        (plain_environments files) (files.reached q) seen (λ r v. refl) in
         alike.0 (options_message s.construct) (bytes_in files p s)
-        ∙ (options_are_recovered files.trees files.seen reached p t s (are-reached numbers)
-        ((read.listed.reaches p).all p (stays p)) is options-faultless stands custom short
+        ∙ (options_are_recovered_above files.trees files.seen reached (files.reached q) p t s
+        (are-reached q u.0 u.1 n numbers) within h is (options-faultless p t is m) stands custom short
         ∙ sym (ap (λ (es : Entries). Ok (said es)) same))
 
-    pub holds-options : HoldsOptions files p s
+    pub holds-options : HoldsOptions files (order files.trees inputs) p s
     holds-options = record {
       spelled = subst (λ (es : Entries). Spells es (bytes_in files p s)) (sym same)
-          (option_bytes_spell (plains_at files reached) (plains_at files seen) t small
-          options-faultless s stands);
+          (option_bytes_spell (plains_at files reached) (plains_at files seen) t (small p)
+          (options-faultless p t is m) s stands);
       nothing = plain_options_are_no_bytes (plains_at files reached) (plains_at files seen) s;
       read = read-back;
     }
