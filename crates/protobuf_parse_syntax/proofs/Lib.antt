@@ -14,6 +14,7 @@ pub mod Imports
 pub mod Formats
 pub mod Escapes
 pub mod Places
+pub mod Plain
 pub mod Words
 pub mod Fields
 pub mod FieldViews

@@ -1,7 +1,9 @@
 -- What the scanners of the front of a text answer.
-use Rattle.std.specs.Prelude.{◌≡◌, ◌≤◌, ◌⊎◌, ℕ, ◌+◌, Bool, true, false, ◌||◌, if◌then◌else◌, ◌==◌, List, [], ◌∷◌, length, slice_index, Option, Some, None}
+use Rattle.std.specs.Prelude.{◌≡◌, ◌≤◌, ◌<◌, ◌⊎◌, ℕ, ◌+◌, Bool, true, false, ◌||◌, if◌then◌else◌, ◌==◌, List, [], ◌∷◌, length, slice_index, Option, Some, None}
 use Rattle.protobuf_parse_syntax.specs.Text.{Bytes, is_in, AllIn, RunStopsAt, IsBlank, IsToken, IsFault}
 use Rattle.protobuf_parse_syntax.specs.declared.lexer.bytes.ByteClass.TheVariants as class
+use Rattle.protobuf_parse_syntax.specs.declared.lexer.token.TokenKind.{TokenKind}
+use Rattle.protobuf_parse_syntax.specs.declared.lexer.token.TokenKind.TheVariants as kind
 use Rattle.protobuf_parse_syntax.specs.declared.lexer.front.Piece.{Piece}
 use Rattle.protobuf_parse_syntax.specs.declared.lexer.front.Piece.TheVariants as piece
 
@@ -20,6 +22,16 @@ pub record EndsFraction (z : Bytes) (whole point : ℕ) : Type 0 where
 
 abbrev pub BeginsNumber : Bytes → Type 0
 BeginsNumber z = (is_in class.Digit (slice_index z 0) ≡ true) ⊎ ((slice_index z 0 ≡ 46) × (is_in class.Digit (slice_index z 1) ≡ true))
+
+-- no line feed, and no byte of a longer character
+abbrev pub AllPlain : Bytes → Type 0
+AllPlain z = (k : ℕ) → k < length z → (slice_index z k < 128) × (slice_index z k ≡ 10 → ⊥)
+
+-- a token's bytes, which are plain unless it is a string or a float
+abbrev pub IsPlain : TokenKind → Bytes → Type 0
+IsPlain kind.Str z = Unit {0}
+IsPlain kind.Float z = Unit {0}
+IsPlain _ z = AllPlain z
 
 -- the piece stands at the front of the text
 abbrev pub Stands : Bytes → Piece → Type 0

@@ -2,10 +2,11 @@
 
 ghost use Rattle.std.specs.Prelude.{◌≡◌, ◌<◌, ◌≤◌, ◌+◌, ◌^◌, length};
 ghost use Rattle.protobuf_parse_syntax.specs.Place.{after};
+ghost use Rattle.protobuf_parse_syntax.specs.Scan.{IsPlain};
 ghost use Rattle.protobuf_parse_syntax.specs.Cut as cut;
 
 use crate::error::{ParserError, ParserErrorWithLocation};
-use crate::lexer::token::Place;
+use crate::lexer::token::{Place, TokenKind};
 
 /// The place after these bytes, which begin at `place`.
 #[inline]
@@ -16,6 +17,12 @@ pub fn place_after(place: Place, bytes: &[u8]) -> Place
     ensures line { result.line ≤ place.line + length bytes.now }
     ensures col { result.col ≤ place.col + length bytes.now }
 {
+    if let [b' '] = bytes {
+        return Place {
+            line: place.line,
+            col: place.col + 1,
+        };
+    }
     let mut line = place.line;
     let mut col = place.col;
     for byte in bytes {
@@ -27,6 +34,25 @@ pub fn place_after(place: Place, bytes: &[u8]) -> Place
         }
     }
     Place { line, col }
+}
+
+/// The place after a token, which begins at `place`. Only strings may have bytes over 127.
+#[inline]
+pub fn place_past(place: Place, kind: TokenKind, word: &[u8]) -> Place
+    requires line { place.line + length word.now < 2 ^ 32 }
+    requires col { place.col + length word.now < 2 ^ 32 }
+    requires plain { IsPlain kind word.now }
+    ensures value { result ≡ after place word.now }
+    ensures line { result.line ≤ place.line + length word.now }
+    ensures col { result.col ≤ place.col + length word.now }
+{
+    match kind {
+        TokenKind::Str | TokenKind::Float => place_after(place, word),
+        TokenKind::Ident | TokenKind::Integer(_) | TokenKind::Symbol(_) => Place {
+            line: place.line,
+            col: place.col + word.len() as u32,
+        },
+    }
 }
 
 /// The error at the place.
