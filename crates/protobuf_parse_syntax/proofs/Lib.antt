@@ -20,6 +20,7 @@ pub mod Fields
 pub mod FieldViews
 pub mod Quotes
 pub mod Escaping
+pub mod Lanes
 pub mod Left
 pub mod Loops
 pub mod Views

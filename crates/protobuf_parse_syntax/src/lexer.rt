@@ -8,6 +8,7 @@ ghost use Rattle.protobuf_parse_syntax.specs.Cut.{mark_len, IsShort, stream, Has
 mod bytes;
 mod depth;
 mod front;
+mod lanes;
 pub mod laws;
 mod number;
 pub mod place;
