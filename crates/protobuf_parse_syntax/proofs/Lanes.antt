@@ -1,4 +1,4 @@
--- From the mask of sixteen bytes to the run of them that are of a class.
+-- From the mask of sixteen bytes to the run of them that pass a test.
 use Rattle.std.proofs.Common.{◌≡◌, ℕ, ◌+◌, ◌-◌, ◌%◌, ◌^◌, ◌<◌, ◌≤◌, Bool, true, false, not, List, [], ◌∷◌, map, length, get_or, replicate, Fits, w8, refl, sym, ap, ap₂, ◌∙◌, subst, arith, inl, inr}
 use Rattle.std.proofs.lemmas.Bool.{agree_below, agree_below_at, not-true, not-false, cases_eq, eq-eqb, ne_eqb, cond-true, cond-false}
 use Rattle.std.proofs.lemmas.Simd.{map-map, mask_l-mod, length-chunk, get_or-chunk, leading_from_mask_l, trailing_mask_l}
@@ -6,8 +6,6 @@ use Rattle.std.proofs.lemmas.List.{length-map}
 use Rattle.std.proofs.lemmas.List.Sums.{prefix_len-le-length, prefix_len_passes, prefix_len_stops}
 use Rattle.std.specs.List.{prefix_len}
 use lib.Lanes.{chunk, zip2, mask_l, top}
-use Rattle.protobuf_parse_syntax.specs.declared.lexer.bytes.ByteClass.{ByteClass}
-use Rattle.protobuf_parse_syntax.specs.Text.{is_in}
 use Rattle.protobuf_parse_syntax.specs.Scan.{IsRunIn, first_set}
 
 zip2-map : (h : ℕ → ℕ → ℕ) (f g : ℕ → ℕ) (xs : List ℕ) → zip2 h (map f xs) (map g xs) ≡ map (λ x. h (f x) (g x)) xs
@@ -33,7 +31,7 @@ run_is p v n long few =
       | inr some ↦ cond-false _ _ _ (ne_eqb _ _ some) ∙ trailing_mask_l p 64 v (omega arith) (omega arith)
     ]
 
-module _ (c : ByteClass) (d : List ℕ) (i n r : ℕ) (z : List ℕ) (room : i + n ≤ length d) (few : n ≤ 64)
+module _ (q : ℕ → Bool) (d : List ℕ) (i n r : ℕ) (z : List ℕ) (room : i + n ≤ length d) (few : n ≤ 64)
     (fits : (k : ℕ) → Fits w8 (get_or d k 0)) (found : r ≡ first_set (mask_l (map (top 7) z) % 2 ^ 64) n)
     (f : ℕ → ℕ) (lanes : z ≡ map f (chunk i n d)) where
   abbrev stops : ℕ → Bool
@@ -55,11 +53,8 @@ module _ (c : ByteClass) (d : List ℕ) (i n r : ℕ) (z : List ℕ) (room : i +
       let at = get_or-chunk i n d (k - i) 0 (omega (arith, counted, long)) ∙ ap (λ j. get_or d j 0) back in
       subst (λ x. stops x ≡ false) at (not-true _ (prefix_len_passes (λ x. not (stops x)) (chunk i n d) (k - i) 0 (omega (arith, counted))))
 
-  abbrev q : ℕ → Bool
-  q x = is_in c x
-
-  -- a lane stops just where the class ends
-  pub run_in : agree_below stops (λ x. not (q x)) 256 ≡ true → IsRunIn c d i n r
+  -- a lane stops just where the test fails
+  pub run_in : agree_below stops (λ x. not (q x)) 256 ≡ true → IsRunIn q d i n r
   run_in all = (
     (
       omega (arith, counted, long, prefix_len-le-length (λ x. not (stops x)) (chunk i n d)),

@@ -1,8 +1,8 @@
-//! Runs of an identifier's bytes, sixteen at a time.
+//! Runs of bytes, sixteen at a time.
 
 ghost use Rattle.std.specs.Prelude.{◌≡◌, ℕ, ◌+◌, ◌<◌, ◌≤◌, length, slice_index, true, false};
 ghost use Rattle.protobuf_parse_syntax.specs.Scan as scan;
-ghost use Rattle.protobuf_parse_syntax.specs.Scan.{IsRunIn};
+ghost use Rattle.protobuf_parse_syntax.specs.Scan.{AllPass, IsRunIn, is_plain};
 ghost use Rattle.protobuf_parse_syntax.specs.Text as text;
 
 use crate::lexer::bytes::{ByteClass, run_end};
@@ -27,7 +27,7 @@ fn first_set(mask: u64, lanes: usize) -> usize
 #[inline(always)]
 fn ident_run(bytes: &[u8], at: usize) -> usize
     requires { at + LANES ≤ length bytes.now }
-    ensures { IsRunIn ByteClass.Ident bytes.now at LANES result }
+    ensures { IsRunIn (text.is_in ByteClass.Ident) bytes.now at LANES result }
 {
     let next = u8x16::from_slice(&bytes[at..]);
     let from_a = (next | u8x16::splat(0x20)) - u8x16::splat(b'a');
@@ -55,4 +55,67 @@ pub fn ident_run_end(bytes: &[u8], at: usize) -> usize
         end += LANES;
     }
     run_end(ByteClass::Ident, bytes, end)
+}
+
+/// How many of the next bytes, from the first, are no line feed.
+#[inline(always)]
+fn line_run(bytes: &[u8], at: usize) -> usize
+    requires { at + LANES ≤ length bytes.now }
+    ensures { IsRunIn (text.is_in ByteClass.Line) bytes.now at LANES result }
+{
+    let stops = u8x16::from_slice(&bytes[at..]).simd_eq(u8x16::splat(b'\n'));
+    first_set(stops.to_bitmask(), LANES)
+}
+
+/// The end of the line's bytes from `at` on.
+#[inline]
+pub fn line_run_end(bytes: &[u8], at: usize) -> usize
+    requires { at ≤ length bytes.now }
+    ensures after { at ≤ result }
+    ensures within { result ≤ length bytes.now }
+    ensures passes { (k : ℕ) → at ≤ k → k < result → text.is_in ByteClass.Line (slice_index bytes.now k) ≡ true }
+    ensures stops { result < length bytes.now → text.is_in ByteClass.Line (slice_index bytes.now result) ≡ false }
+{
+    let mut end = at;
+    'by_block: while bytes.len() - end >= LANES {
+        let run = line_run(bytes, end);
+        if run < LANES {
+            return end + run;
+        }
+        end += LANES;
+    }
+    run_end(ByteClass::Line, bytes, end)
+}
+
+/// How many of the next bytes, from the first, are plain.
+#[inline(always)]
+fn plain_run(bytes: &[u8], at: usize) -> usize
+    requires { at + LANES ≤ length bytes.now }
+    ensures { IsRunIn is_plain bytes.now at LANES result }
+{
+    let next = u8x16::from_slice(&bytes[at..]);
+    let stops = next.simd_ge(u8x16::splat(0x80)) | next.simd_eq(u8x16::splat(b'\n'));
+    first_set(stops.to_bitmask(), LANES)
+}
+
+/// The end of the plain bytes from `at` on: no line feed, and no byte of a longer character.
+#[inline]
+pub fn plain_run_end(bytes: &[u8], at: usize) -> usize
+    requires { at ≤ length bytes.now }
+    ensures after { at ≤ result }
+    ensures within { result ≤ length bytes.now }
+    ensures passes { AllPass is_plain bytes.now at result }
+{
+    let mut end = at;
+    'by_block: while bytes.len() - end >= LANES {
+        let run = plain_run(bytes, end);
+        if run < LANES {
+            return end + run;
+        }
+        end += LANES;
+    }
+    while end < bytes.len() && bytes[end] < 0x80 && bytes[end] != b'\n' {
+        end += 1;
+    }
+    end
 }

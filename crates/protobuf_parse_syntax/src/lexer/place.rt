@@ -1,12 +1,37 @@
 //! Lines and columns.
 
 ghost use Rattle.std.specs.Prelude.{◌≡◌, ◌<◌, ◌≤◌, ◌+◌, ◌^◌, length};
-ghost use Rattle.protobuf_parse_syntax.specs.Place.{after};
+ghost use Rattle.protobuf_parse_syntax.specs.Place.{after, step};
 ghost use Rattle.protobuf_parse_syntax.specs.Scan.{IsPlain};
 ghost use Rattle.protobuf_parse_syntax.specs.Cut as cut;
 
 use crate::error::{ParserError, ParserErrorWithLocation};
+use crate::lexer::lanes::plain_run_end;
 use crate::lexer::token::{Place, TokenKind};
+
+/// The place after one byte more. The bytes 128 to 191 go on with a character that begins before them.
+#[inline]
+fn step(place: Place, byte: u8) -> Place
+    requires line { place.line + 1 < 2 ^ 32 }
+    requires col { place.col + 1 < 2 ^ 32 }
+    ensures value { result ≡ step place byte }
+    ensures line { result.line ≤ place.line + 1 }
+    ensures col { result.col ≤ place.col + 1 }
+{
+    if byte == b'\n' {
+        Place {
+            line: place.line + 1,
+            col: 1,
+        }
+    } else if byte < 0x80 || 0xc0 <= byte {
+        Place {
+            line: place.line,
+            col: place.col + 1,
+        }
+    } else {
+        place
+    }
+}
 
 /// The place after these bytes, which begin at `place`.
 #[inline]
@@ -23,17 +48,18 @@ pub fn place_after(place: Place, bytes: &[u8]) -> Place
             col: place.col + 1,
         };
     }
-    let mut line = place.line;
-    let mut col = place.col;
-    for byte in bytes {
-        if *byte == b'\n' {
-            line += 1;
-            col = 1;
-        } else if *byte < 0x80 || 0xc0 <= *byte {
-            col += 1;
+    let mut now = place;
+    let mut at = 0;
+    while at < bytes.len() {
+        let end = plain_run_end(bytes, at);
+        now.col += (end - at) as u32;
+        at = end;
+        if at < bytes.len() {
+            now = step(now, bytes[at]);
+            at += 1;
         }
     }
-    Place { line, col }
+    now
 }
 
 /// The place after a token, which begins at `place`. Only strings may have bytes over 127.
