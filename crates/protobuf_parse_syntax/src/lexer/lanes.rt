@@ -9,7 +9,7 @@ use crate::lexer::bytes::{ByteClass, run_end};
 use std::simd::prelude::*;
 
 /// How many bytes are looked at together.
-const LANES: usize = 16;
+pub const LANES: usize = 16;
 
 /// The place of the lowest bit that is set, or the number of lanes.
 #[inline(always)]

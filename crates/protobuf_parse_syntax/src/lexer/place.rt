@@ -6,7 +6,7 @@ ghost use Rattle.protobuf_parse_syntax.specs.Scan.{IsPlain};
 ghost use Rattle.protobuf_parse_syntax.specs.Cut as cut;
 
 use crate::error::{ParserError, ParserErrorWithLocation};
-use crate::lexer::lanes::plain_run_end;
+use crate::lexer::lanes::{LANES, plain_run_end};
 use crate::lexer::token::{Place, TokenKind};
 
 /// The place after one byte more. The bytes 128 to 191 go on with a character that begins before them.
@@ -33,6 +33,45 @@ fn step(place: Place, byte: u8) -> Place
     }
 }
 
+/// The place after these bytes, which begin at `place` and are taken one by one.
+#[inline]
+#[tactic(auto, using(crate::proofs::Plain::after_next))]
+fn place_after_each(place: Place, bytes: &[u8]) -> Place
+    requires line { place.line + length bytes.now < 2 ^ 32 }
+    requires col { place.col + length bytes.now < 2 ^ 32 }
+    ensures value { result ≡ after place bytes.now }
+    ensures line { result.line ≤ place.line + length bytes.now }
+    ensures col { result.col ≤ place.col + length bytes.now }
+{
+    let mut now = place;
+    for byte in bytes {
+        now = step(now, *byte);
+    }
+    now
+}
+
+/// The place after these bytes, which begin at `place` and are taken in runs.
+fn place_after_runs(place: Place, bytes: &[u8]) -> Place
+    requires line { place.line + length bytes.now < 2 ^ 32 }
+    requires col { place.col + length bytes.now < 2 ^ 32 }
+    ensures value { result ≡ after place bytes.now }
+    ensures line { result.line ≤ place.line + length bytes.now }
+    ensures col { result.col ≤ place.col + length bytes.now }
+{
+    let mut now = place;
+    let mut at = 0;
+    while at < bytes.len() {
+        let end = plain_run_end(bytes, at);
+        now.col += (end - at) as u32;
+        at = end;
+        if at < bytes.len() {
+            now = step(now, bytes[at]);
+            at += 1;
+        }
+    }
+    now
+}
+
 /// The place after these bytes, which begin at `place`.
 #[inline]
 pub fn place_after(place: Place, bytes: &[u8]) -> Place
@@ -48,18 +87,11 @@ pub fn place_after(place: Place, bytes: &[u8]) -> Place
             col: place.col + 1,
         };
     }
-    let mut now = place;
-    let mut at = 0;
-    while at < bytes.len() {
-        let end = plain_run_end(bytes, at);
-        now.col += (end - at) as u32;
-        at = end;
-        if at < bytes.len() {
-            now = step(now, bytes[at]);
-            at += 1;
-        }
+    if bytes.len() < LANES {
+        place_after_each(place, bytes)
+    } else {
+        place_after_runs(place, bytes)
     }
-    now
 }
 
 /// The place after a token, which begins at `place`. Only strings may have bytes over 127.

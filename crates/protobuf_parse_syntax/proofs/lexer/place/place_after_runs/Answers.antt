@@ -2,7 +2,7 @@ use Rattle.std.proofs.Common.{get_or, arith, ap, sym, ◌∙◌}
 use Rattle.protobuf_parse_syntax.specs.Place.{step}
 use Rattle.protobuf_parse_syntax.specs.declared.lexer.token.Place.{Place}
 use Rattle.protobuf_parse_syntax.proofs.Plain.{after_next, run_place}
-use Rattle.protobuf_parse_syntax.proofs.lexer.place.place_after.Goals as goal
+use Rattle.protobuf_parse_syntax.proofs.lexer.place.place_after_runs.Goals as goal
 
 pub loop-at-preserved-then-at-bytes : goal.loop-at-preserved-then-at-bytes
 loop-at-preserved-then-at-bytes c =

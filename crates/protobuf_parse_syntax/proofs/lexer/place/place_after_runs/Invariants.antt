@@ -1,6 +1,6 @@
 use Rattle.std.proofs.Common.{◌≡◌, ◌+◌, ◌-◌, ◌≤◌, length, take}
 use Rattle.protobuf_parse_syntax.specs.Place.{after}
-use Rattle.protobuf_parse_syntax.proofs.lexer.place.place_after.Given as goal
+use Rattle.protobuf_parse_syntax.proofs.lexer.place.place_after_runs.Given as goal
 
 abbrev pub invariant-loop-at : goal.invariant-loop-at
 invariant-loop-at l =
