@@ -1,6 +1,6 @@
 //! Runs of bytes, sixteen at a time.
 
-ghost use Rattle.std.specs.Prelude.{◌≡◌, ℕ, ◌+◌, ◌<◌, ◌≤◌, length, slice_index, true, false};
+ghost use Rattle.std.specs.Prelude.{◌≡◌, ◌+◌, ◌≤◌, length};
 ghost use Rattle.protobuf_parse_syntax.specs.Scan as scan;
 ghost use Rattle.protobuf_parse_syntax.specs.Scan.{AllPass, IsRunIn, is_plain};
 ghost use Rattle.protobuf_parse_syntax.specs.Text as text;
@@ -43,8 +43,8 @@ pub fn ident_run_end(bytes: &[u8], at: usize) -> usize
     requires { at ≤ length bytes.now }
     ensures after { at ≤ result }
     ensures within { result ≤ length bytes.now }
-    ensures passes { (k : ℕ) → at ≤ k → k < result → text.is_in ByteClass.Ident (slice_index bytes.now k) ≡ true }
-    ensures stops { result < length bytes.now → text.is_in ByteClass.Ident (slice_index bytes.now result) ≡ false }
+    ensures passes { text.AllIn ByteClass.Ident bytes.now at result }
+    ensures stops { text.RunStopsAt ByteClass.Ident bytes.now result }
 {
     let mut end = at;
     'by_block: while bytes.len() - end >= LANES {
@@ -73,8 +73,8 @@ pub fn line_run_end(bytes: &[u8], at: usize) -> usize
     requires { at ≤ length bytes.now }
     ensures after { at ≤ result }
     ensures within { result ≤ length bytes.now }
-    ensures passes { (k : ℕ) → at ≤ k → k < result → text.is_in ByteClass.Line (slice_index bytes.now k) ≡ true }
-    ensures stops { result < length bytes.now → text.is_in ByteClass.Line (slice_index bytes.now result) ≡ false }
+    ensures passes { text.AllIn ByteClass.Line bytes.now at result }
+    ensures stops { text.RunStopsAt ByteClass.Line bytes.now result }
 {
     let mut end = at;
     'by_block: while bytes.len() - end >= LANES {
