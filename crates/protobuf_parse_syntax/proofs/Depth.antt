@@ -100,3 +100,11 @@ kept xs i d o c o' c' within was counts few =
       few_closed = small.1;
       shallow = still_shallow xs i d within o c o' c' was.opened was.closed counts few was.shallow;
     }
+
+-- no more are open than may be
+pub few_open : (xs : List Token) (i o c : ℕ) → Kept xs i o c → o - c ≤ 100
+few_open xs i o c was =
+    elim (cases_lt 100 (o - c)) [
+      | inl more ↦ absurd (was.shallow i (omega arith) (omega (arith, was.opened, was.closed)))
+      | inr few ↦ few
+    ]

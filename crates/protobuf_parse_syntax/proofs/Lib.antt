@@ -14,11 +14,13 @@ pub mod Imports
 pub mod Formats
 pub mod Escapes
 pub mod Places
+pub mod Plain
 pub mod Words
 pub mod Fields
 pub mod FieldViews
 pub mod Quotes
 pub mod Escaping
+pub mod Lanes
 pub mod Left
 pub mod Loops
 pub mod Views

@@ -1,7 +1,10 @@
 -- What the scanners of the front of a text answer.
-use Rattle.std.specs.Prelude.{◌≡◌, ◌≤◌, ◌⊎◌, ℕ, ◌+◌, Bool, true, false, ◌||◌, if◌then◌else◌, ◌==◌, List, [], ◌∷◌, length, slice_index, Option, Some, None}
+use Rattle.std.specs.Prelude.{◌≡◌, ◌≤◌, ◌<◌, ◌⊎◌, ℕ, ◌+◌, Bool, true, false, not, nat_lt, ◌&&◌, ◌||◌, if◌then◌else◌, ◌==◌, List, [], ◌∷◌, length, slice_index, Option, Some, None}
+use Rattle.std.specs.Int.{w64, trailing_zeros}
 use Rattle.protobuf_parse_syntax.specs.Text.{Bytes, is_in, AllIn, RunStopsAt, IsBlank, IsToken, IsFault}
 use Rattle.protobuf_parse_syntax.specs.declared.lexer.bytes.ByteClass.TheVariants as class
+use Rattle.protobuf_parse_syntax.specs.declared.lexer.token.TokenKind.{TokenKind}
+use Rattle.protobuf_parse_syntax.specs.declared.lexer.token.TokenKind.TheVariants as kind
 use Rattle.protobuf_parse_syntax.specs.declared.lexer.front.Piece.{Piece}
 use Rattle.protobuf_parse_syntax.specs.declared.lexer.front.Piece.TheVariants as piece
 
@@ -20,6 +23,30 @@ pub record EndsFraction (z : Bytes) (whole point : ℕ) : Type 0 where
 
 abbrev pub BeginsNumber : Bytes → Type 0
 BeginsNumber z = (is_in class.Digit (slice_index z 0) ≡ true) ⊎ ((slice_index z 0 ≡ 46) × (is_in class.Digit (slice_index z 1) ≡ true))
+
+-- the bytes from i up to n pass the test
+abbrev pub AllPass : (ℕ → Bool) → Bytes → ℕ → ℕ → Type 0
+AllPass test z i n = (k : ℕ) → i ≤ k → k < n → test (slice_index z k) ≡ true
+
+-- the first `run` of the n bytes from i on pass the test, and the next one of the n does not
+abbrev pub IsRunIn : (ℕ → Bool) → Bytes → ℕ → ℕ → ℕ → Type 0
+IsRunIn test z i n run =
+    ((run ≤ n) × AllPass test z i (i + run))
+    × (run < n → test (slice_index z (i + run)) ≡ false)
+
+-- the place of the lowest bit that is set, or n
+abbrev pub first_set : ℕ → ℕ → ℕ
+first_set mask n = if mask == 0 then n else trailing_zeros w64 mask
+
+-- no line feed, and no byte of a longer character
+abbrev pub is_plain : ℕ → Bool
+is_plain b = nat_lt b 128 && not (b == 10)
+
+-- a token's bytes, which are plain unless it is a string or a float
+abbrev pub IsPlain : TokenKind → Bytes → Type 0
+IsPlain kind.Str z = Unit {0}
+IsPlain kind.Float z = Unit {0}
+IsPlain _ z = AllPass is_plain z 0 (length z)
 
 -- the piece stands at the front of the text
 abbrev pub Stands : Bytes → Piece → Type 0

@@ -8,6 +8,7 @@ ghost use Rattle.protobuf_parse_syntax.specs.Cut.{mark_len, IsShort, stream, Has
 mod bytes;
 mod depth;
 mod front;
+mod lanes;
 pub mod laws;
 mod number;
 pub mod place;
@@ -17,7 +18,7 @@ pub mod token;
 use crate::error::{ParserError, ParserErrorWithLocation};
 use crate::lexer::depth::too_deep;
 use crate::lexer::front::{Piece, front_piece};
-use crate::lexer::place::{located, place_after};
+use crate::lexer::place::{located, place_after, place_past};
 use crate::lexer::token::{Place, Token, TokenStream};
 use std::alloc::Global;
 
@@ -60,7 +61,7 @@ fn cut<'a>(alloc: Global, text: &'a str) -> Result<TokenStream<'a>, ParserErrorW
                     text: word,
                     place,
                 })?;
-                place = place_after(place, word.as_bytes());
+                place = place_past(place, kind, word.as_bytes());
                 rest = after;
             }
             Piece::Fault(error) => return Err(located(error, place)),

@@ -3,6 +3,17 @@
 ghost use Rattle.std.specs.Prelude.{◌≡◌, ◌≢◌, ℕ, ◌<◌, ◌≤◌, length, slice_index, true, false};
 ghost use Rattle.protobuf_parse_syntax.specs.Text as text;
 
+// Each byte of an identifier stands at its own place, and a comma at every other place.
+static IDENT_MAP: [u8; 256] = *b"\
+    ,,,,,,,,,,,,,,,,,,,,,,,,,,,,,,,,\
+    ,,,,,,,,,,,,,,,,0123456789,,,,,,\
+    ,ABCDEFGHIJKLMNOPQRSTUVWXYZ,,,,_\
+    ,abcdefghijklmnopqrstuvwxyz,,,,,\
+    ,,,,,,,,,,,,,,,,,,,,,,,,,,,,,,,,\
+    ,,,,,,,,,,,,,,,,,,,,,,,,,,,,,,,,\
+    ,,,,,,,,,,,,,,,,,,,,,,,,,,,,,,,,\
+    ,,,,,,,,,,,,,,,,,,,,,,,,,,,,,,,,";
+
 /// A class of bytes.
 #[derive(Clone, Copy)]
 pub enum ByteClass {
@@ -14,6 +25,14 @@ pub enum ByteClass {
     Hex,
 }
 
+/// Whether the byte is a letter, a digit or an underscore.
+#[inline]
+fn is_ident(byte: u8) -> bool
+    ensures { result ≡ text.is_in ByteClass.Ident byte }
+{
+    IDENT_MAP[byte as usize] != b','
+}
+
 #[inline]
 pub fn is_in(class: ByteClass, byte: u8) -> bool
     ensures { result ≡ text.is_in class byte }
@@ -21,7 +40,7 @@ pub fn is_in(class: ByteClass, byte: u8) -> bool
     match class {
         ByteClass::Blank => byte == b' ' || (9 <= byte && byte <= 13),
         ByteClass::Line => byte != b'\n',
-        ByteClass::Ident => byte.is_ascii_alphanumeric() || byte == b'_',
+        ByteClass::Ident => is_ident(byte),
         ByteClass::Digit => byte.is_ascii_digit(),
         ByteClass::Octal => 48 <= byte && byte <= 55,
         ByteClass::Hex => byte.is_ascii_hexdigit(),

@@ -18,11 +18,11 @@ pub fn too_deep(list: &[Token]) -> Option<Place>
     for token in list {
         if is_opening(token.kind) {
             opened += 1;
+            if opened.saturating_sub(closed) > MAX_DEPTH {
+                return Some(token.place);
+            }
         } else if is_closing(token.kind) {
             closed += 1;
-        }
-        if opened.saturating_sub(closed) > MAX_DEPTH {
-            return Some(token.place);
         }
     }
     None

@@ -7,6 +7,7 @@ ghost use Rattle.protobuf_parse_syntax.specs.Scan.{Stands};
 
 use crate::error::ParserError;
 use crate::lexer::bytes::{ByteClass, byte_at, is_in, run_end};
+use crate::lexer::lanes::{ident_run_end, line_run_end};
 use crate::lexer::number::number_piece;
 use crate::lexer::token::TokenKind;
 
@@ -72,7 +73,7 @@ fn ident_end(text: &[u8]) -> usize
     requires no_digit { is_in ByteClass.Digit (slice_index text.now 0) ≡ false }
     ensures { Longest IsIdentText text.now result }
 {
-    run_end(ByteClass::Ident, text, 0)
+    ident_run_end(text, 0)
 }
 
 /// What stands at the front, where it is no blank and no comment.
@@ -116,7 +117,7 @@ pub fn front_piece(text: &[u8]) -> Piece
         return Piece::Blank(run_end(ByteClass::Blank, text, 1));
     }
     if first == b'/' && byte_at(text, 1) == b'/' {
-        return Piece::Blank(run_end(ByteClass::Line, text, 2));
+        return Piece::Blank(line_run_end(text, 2));
     }
     if first == b'/' && byte_at(text, 1) == b'*' {
         return match block_end(text) {

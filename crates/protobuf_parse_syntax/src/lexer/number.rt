@@ -3,7 +3,7 @@
 ghost use Rattle.std.specs.Prelude.{◌≡◌, ℕ, ◌<◌, ◌≤◌, ◌^◌, length, slice_index, slice_range, true, MatchOption, SomeIff};
 ghost use Rattle.std.specs.Str.Parse as parse;
 ghost use Rattle.std.specs.Char as char;
-ghost use Rattle.protobuf_parse_syntax.specs.Text.{is_in, AllIn, IsHex, IsOctal, IsDecimal, IsExponent, IsFloat, IsIntegerText, IsLongest, Longest, NoFront};
+ghost use Rattle.protobuf_parse_syntax.specs.Text.{is_in, AllIn, RunStopsAt, IsHex, IsOctal, IsDecimal, IsExponent, IsFloat, IsIntegerText, IsLongest, Longest, NoFront};
 ghost use Rattle.protobuf_parse_syntax.specs.Scan.{EndsFraction, BeginsNumber, Stands};
 
 use crate::error::ParserError;
@@ -69,10 +69,13 @@ fn fraction_end(text: &[u8], whole: usize) -> usize
     }
 }
 
-fn float_end(text: &[u8]) -> Option<usize>
+/// The end of the float whose whole digits, perhaps none, go up to `whole`.
+fn float_end(text: &[u8], whole: usize) -> Option<usize>
+    requires within { whole ≤ length text.now }
+    requires digits { AllIn ByteClass.Digit text.now 0 whole }
+    requires stops { RunStopsAt ByteClass.Digit text.now whole }
     ensures { MatchOption result (NoFront IsFloat text.now) (Longest IsFloat text.now) }
 {
-    let whole = run_end(ByteClass::Digit, text, 0);
     let point = fraction_end(text, whole);
     if whole == 0 && point <= 1 {
         return None;
@@ -84,16 +87,16 @@ fn float_end(text: &[u8]) -> Option<usize>
     }
 }
 
-fn decimal_end(text: &[u8]) -> usize
+/// The end of the decimal integer whose digits go up to `whole`.
+fn decimal_end(text: &[u8], whole: usize) -> usize
+    requires within { whole ≤ length text.now }
+    requires digits { AllIn ByteClass.Digit text.now 0 whole }
+    requires stops { RunStopsAt ByteClass.Digit text.now whole }
     requires some { 0 < length text.now }
     requires digit { is_in ByteClass.Digit (slice_index text.now 0) ≡ true }
     ensures { Longest IsDecimal text.now result }
 {
-    if text[0] == b'0' {
-        1
-    } else {
-        run_end(ByteClass::Digit, text, 0)
-    }
+    if text[0] == b'0' { 1 } else { whole }
 }
 
 /// What a digit counts, up to 15.
@@ -166,7 +169,8 @@ pub fn number_piece(text: &[u8]) -> Piece
     requires begins { BeginsNumber text.now }
     ensures { Stands text.now result }
 {
-    if let Some(end) = float_end(text) {
+    let whole = run_end(ByteClass::Digit, text, 0);
+    if let Some(end) = float_end(text, whole) {
         return float_piece(text, end);
     }
     if let Some(end) = hex_end(text) {
@@ -175,5 +179,5 @@ pub fn number_piece(text: &[u8]) -> Piece
     if let Some(end) = octal_end(text) {
         return integer_piece(text, 8, 1, end);
     }
-    integer_piece(text, 10, 0, decimal_end(text))
+    integer_piece(text, 10, 0, decimal_end(text, whole))
 }

@@ -5,6 +5,8 @@ use Rattle.protobuf_parse_syntax.specs.Tokens.{lexeme}
 use Rattle.protobuf_parse_syntax.specs.Cut.{Cuts, done}
 use Rattle.protobuf_parse_syntax.specs.Place.{after}
 use Rattle.protobuf_parse_syntax.proofs.Cuts.{blank_cut, token_cut, blank_step, token_step, push_step, end_step, refused}
+use Rattle.protobuf_parse_syntax.specs.Scan.{IsPlain}
+use Rattle.protobuf_parse_syntax.proofs.Plain.{token_plain}
 use Rattle.protobuf_parse_syntax.proofs.lexer.cut.Goals as goal
 
 pub split_at-requires : goal.split_at-requires
@@ -16,6 +18,14 @@ pub split_at-requires-in-Token : goal.split_at-requires-in-Token
 split_at-requires-in-Token c =
     let is = subst (λ z. IsToken z c.in-Token.len c.in-Token.kind) c.as_bytes.ensures.value c.in-Token.ensures in
     token_cut c.loop-tokens.rest.now c.in-Token.len c.in-Token.kind c.loop-tokens.invariant.0 is
+
+pub place_past-place-requires-clause-plain : goal.place_past-place-requires-clause-plain
+place_past-place-requires-clause-plain c =
+    let z = c.loop-tokens.rest.now in
+    let n = c.in-Token.len in
+    let is = subst (λ x. IsToken x n c.in-Token.kind) c.as_bytes.ensures.value c.in-Token.ensures in
+    let front = c.as_bytes-in-Token.ensures.value ∙ c.split_at-in-Token.ensures.front in
+    subst (IsPlain c.in-Token.kind) (sym front) (token_plain z n c.in-Token.kind is)
 
 pub returns-in-End : goal.returns-in-End
 returns-in-End c =
@@ -54,8 +64,8 @@ loop-tokens-preserved c =
           subst (λ l. Cuts c.args.text.now (map lexeme l ++ ts) q r) (sym items)
           (subst (λ l. Cuts c.args.text.now l q r) (sym (push_step c.loop-tokens.tokens.items _ ts))
           (c.loop-tokens.invariant.3 _ q r
-          (token_step n c.in-Token.kind c.loop-tokens.place c.place_after-place-in-Token.result q z c.split_at-in-Token.result.0.now c.split_at-in-Token.result.1.now r ts is c.split_at-in-Token.ensures.front c.split_at-in-Token.ensures.back
-          (c.place_after-place-in-Token.ensures.value ∙ ap (after c.loop-tokens.place) same) cut))),
+          (token_step n c.in-Token.kind c.loop-tokens.place c.place_past-place.result q z c.split_at-in-Token.result.0.now c.split_at-in-Token.result.1.now r ts is c.split_at-in-Token.ensures.front c.split_at-in-Token.ensures.back
+          (c.place_past-place.ensures.value ∙ ap (after c.loop-tokens.place) same) cut))),
     )
 
 pub returns-in-Fault : goal.returns-in-Fault
