@@ -1,8 +1,9 @@
 //! A run: from inputs to the descriptors of all files that they reach.
 
 ghost use Rattle.std.specs.Prelude.{◌≡◌, map, IfOk, IfErr};
-ghost use Rattle.protobuf_parse.specs.Run.{FindsNothing, HaveLists, HaveTrees, IsCaused, IsMet, MayAnswer, RunsAsTold, RunsByResolver, input_view, rows};
+ghost use Rattle.protobuf_parse.specs.Run.{AreAskedOnce, HaveLists, HaveTrees, IsCaused, IsMet, MayAnswer, RunsAsTold, input_view, rows};
 ghost use Rattle.protobuf_parse.specs.Recovered.{AreReadBack};
+ghost use Rattle.protobuf_parse.specs.Shipped.{IsNeverAsked, RunsByResolver};
 ghost use Rattle.protobuf_parse.specs.Walks.{named};
 ghost use Rattle.protobuf_parse.specs.Loading.{Entry};
 ghost use Rattle.protobuf_parse_base.specs.PathViews.{path_buf_text};
@@ -44,6 +45,9 @@ pub fn run_inputs<'a, R: ProtoPathResolver, I: InputReader>(
     ensures lists { HaveLists (rows bundled.now) result.reads.items }
     ensures told { RunsAsTold (MayAnswer (λ p a. R.may_answer resolver.now p a) (λ p a. I.may_read reader.now p a)) (map input_view inputs.now) (rows bundled.now) result.reads.items result.result }
     ensures caused { IfErr result.result (λ f. IsCaused (λ p a. R.may_answer resolver.now p a) (λ p a. I.may_read reader.now p a) f) }
+    ensures once { AreAskedOnce
+        (MayAnswer (λ p a. R.may_answer resolver.now p a) (λ p a. I.may_read reader.now p a))
+        (map input_view inputs.now) (rows bundled.now) result.reads.items }
     ensures recovered { AreReadBack (map input_view inputs.now) (rows bundled.now)
         result.reads.items result.result }
     ensures meets { IsMet (map input_view inputs.now) (rows bundled.now) result.reads.items result.meets result.result }
@@ -101,7 +105,7 @@ pub fn parse_and_typecheck_custom<R: ProtoPathResolver>(
 ) -> Result<Vec<FileDescriptorProto>, RunFault>
     ensures told { RunsByResolver (λ p a. R.may_answer resolver.now p a) (map (λ (b : ProtoPathBuf). named (path_buf_text b)) input.now) result }
     ensures caused { IfErr result (λ f. IsCaused (λ p a. R.may_answer resolver.now p a)
-        FindsNothing f) }
+        IsNeverAsked f) }
 {
     let mut inputs = Vec::new(alloc);
     for path in input {

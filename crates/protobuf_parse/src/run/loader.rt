@@ -15,7 +15,7 @@ ghost use Rattle.protobuf_parse.specs.declared.run.fault.RunFault.TheVariants.{M
 ghost use Rattle.protobuf_parse.specs.declared.run.log.ReadEntry.{ReadEntry};
 ghost use Rattle.protobuf_parse_model.specs.Descriptors.{Text};
 ghost use Rattle.protobuf_parse.specs.Walks.{Event, among, at, checks, events, input_walk, keep, statements, walk};
-ghost use Rattle.protobuf_parse.specs.Run.{Files, IsCounted, MayAnswer, are_same_bytes, input_view, StandsInCheck, StandsInCycle, StandsInElab, StandsInLong, origin_given, rows, text_given};
+ghost use Rattle.protobuf_parse.specs.Run.{Files, IsCounted, are_same_bytes, input_view, StandsInCheck, StandsInCycle, StandsInElab, StandsInLong, origin_given, rows, text_given};
 ghost use Rattle.protobuf_parse.specs.Loading.{AreKnown, AreJoined, AreNumbered, Describes, Goes, GoesOn, Good, Grows, IsDecided, IsElabFault, IsPlaced, IsReaders, IsShadowed, Leaves, OrMemory, ReadsTree, SettlesOver, asked_by, faults_over, file_at, file_shape, legal_by, named_trees, plains_over, texts, trees_of, with_next};
 ghost use Rattle.protobuf_parse.specs.Frames.{Joined, Meets, is_public_at, number_if, StandsMet, path_of};
 
@@ -97,7 +97,7 @@ pub fn load_inputs<R: ProtoPathResolver, I: InputReader>(
     requires chain { loader.old.chain.items ≡ [] }
     requires meets { loader.old.meets ≡ 0 }
     ensures goes { (files : Files)
-        → let legal = MayAnswer (λ p a. R.may_answer sources.now.resolver.now p a) (λ p a. I.may_read sources.now.reader.now p a) in
+        → let legal = legal_by R.may_answer I.may_read sources.now in
         GoesOn files (rows sources.now.bundled.now) loader.new.reads.items
         → Goes legal files (events files.trees (map input_view inputs.now)) loader.new.loaded.entries loader.new.reads.items result }
     ensures count { (files : Files) → GoesOn files (rows sources.now.bundled.now) loader.new.reads.items
@@ -126,12 +126,12 @@ fn load_input<R: ProtoPathResolver, I: InputReader>(
     ensures bound { OnOk result (loader.new.meets + length loader.old.reads.items * 2 ^ 64
         ≤ loader.old.meets + 1 + length loader.new.reads.items * 2 ^ 64) }
     ensures goes { (files : Files) (kept : List Event)
-        → let legal = MayAnswer (λ p a. R.may_answer sources.now.resolver.now p a) (λ p a. I.may_read sources.now.reader.now p a) in
+        → let legal = legal_by R.may_answer I.may_read sources.now in
         GoesOn files (rows sources.now.bundled.now) loader.new.reads.items
         → Good legal files kept loader.old.loaded.entries loader.old.reads.items []
         → Goes legal files (keep (kept ++ checks kept (input_view input.now)) (input_walk files.trees (input_view input.now))) loader.new.loaded.entries loader.new.reads.items result }
     ensures count { (files : Files) (kept : List Event)
-        → let legal = MayAnswer (λ p a. R.may_answer sources.now.resolver.now p a) (λ p a. I.may_read sources.now.reader.now p a) in
+        → let legal = legal_by R.may_answer I.may_read sources.now in
         GoesOn files (rows sources.now.bundled.now) loader.new.reads.items
         → Good legal files kept loader.old.loaded.entries loader.old.reads.items []
         → IsCounted (loader.new.meets + statements files.trees kept)

@@ -1,6 +1,7 @@
 use Rattle.std.proofs.Common.{inr, refl, map, arith}
 use Rattle.protobuf_parse.specs.Walks.{events}
 use Rattle.protobuf_parse.specs.Run.{MayAnswer, input_view, rows}
+use Rattle.protobuf_parse.proofs.Asking.{all-asked-once}
 use Rattle.protobuf_parse.proofs.Causing.{caused}
 use Rattle.std.proofs.lemmas.List.{length-map}
 use Rattle.protobuf_parse.proofs.Deciding.{goes-on, have-trees, run-files}
@@ -37,6 +38,9 @@ returns-clause-caused g c =
     let l = have-lists _ _ t.0 (λ p. (t.1 p).0) in
     let h = returns-clause-told g c t.0 l.0 l.1 (λ p. (t.1 p).0) l.2 in
     caused (λ p a. g.R.ProtoPathResolver.may_answer c.args.resolver.now p a) (λ p a. g.I.InputReader.may_read c.args.reader.now p a) _ _ _ (all-follow _ _) h
+
+pub returns-clause-once : goal.returns-clause-once
+returns-clause-once g c = all-asked-once _ _ _ _ _ (returns-clause-told g c)
 
 pub returns-clause-recovered : goal.returns-clause-recovered
 returns-clause-recovered g c = all-read-back _ _ _ _ _ (returns-clause-told g c)
