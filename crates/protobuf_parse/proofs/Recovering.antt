@@ -1,5 +1,5 @@
 -- The custom options of an accepted run's files are read back.
-use Rattle.std.proofs.Common.{◌≡◌, ℕ, true, List, [], Option, Some, None, Result, Ok, Err, refl, sym, ◌∙◌, ap, subst}
+use Rattle.std.proofs.Common.{◌≡◌, ℕ, true, List, [], Option, Some, None, Result, Ok, Err, refl, sym, ◌∙◌, ap, subst, ◌<◌, ◌^◌, length, arith}
 use Rattle.std.specs.Global.{Vec}
 use Rattle.protobuf_parse_syntax.specs.Text.{Bytes}
 use Rattle.protobuf_parse_syntax.specs.Parsing.{HasTree}
@@ -16,6 +16,7 @@ use Rattle.protobuf_parse_wire.specs.CustomFaults.{option_faults}
 use Rattle.protobuf_parse_wire.specs.CustomOptions.{denotes, scope_of}
 use Rattle.protobuf_parse_wire.specs.Law.{said}
 use Rattle.protobuf_parse_wire.specs.OptionFields.{options_message}
+use Rattle.protobuf_parse_wire.specs.Reading.{reader}
 use Rattle.protobuf_parse_wire.specs.Recovery.{AreReachedFiles, HaveDistinctNumbers}
 use Rattle.protobuf_parse_wire.specs.Trees.{Entries}
 use Rattle.protobuf_parse_wire.proofs.Recovery.{options_are_recovered}
@@ -32,6 +33,10 @@ use Rattle.protobuf_parse.proofs.Further.{faultless-file, reached-is}
 use Rattle.protobuf_parse.proofs.Knowing.{sees-reaches}
 use Rattle.protobuf_parse.proofs.Settling.{none-after, none-before}
 use Rattle.protobuf_parse.proofs.Spelling.{others}
+
+-- a `Vec` has fewer bytes than there are addresses
+small-bytes : (bytes : Vec ℕ) → length bytes.items < 2 ^ 64
+small-bytes bytes = omega (arith, bytes.ok.0, bytes.ok.1, bytes.small)
 
 module _ (files : Files) (inputs : List Input) (clean : IsClean files inputs) (read : WereRead files)
     (p : Text) (t : FileSyntax) (is : files.trees p ≡ Some t) (m : IsFileOf files.trees inputs p) where
@@ -80,22 +85,23 @@ module _ (files : Files) (inputs : List Input) (clean : IsClean files inputs) (r
   }
 
   pub read-back : (s : OptionSet) → Among (option_sets t) s → IsReadBack files p s
-  read-back s among custom numbers small =
+  read-back s among custom numbers bytes held =
       let plain = plain_environments files in
       let whole = environment_of files in
       let reached = files.reached p in
       let seen = files.seen p in
       let recovered = options_are_recovered files.trees files.seen reached p t s
       (are-reached numbers) ((read.listed.reaches p).all p (stays p)) is options-faultless among
-      custom small in
+      custom (subst (λ (bs : Text). length bs < 2 ^ 64) held (small-bytes bytes)) in
       let alike = customs_make_no_difference files.trees whole plain reached seen (λ q u. refl) in
       let same = meaning_ignores_options (handed_out files reached) (plains_at files reached)
       (handed_out files seen) (plains_at files seen)
       (customs_are_options files.trees whole plain reached (λ q u. refl))
       (customs_are_options files.trees whole plain seen (λ q u. refl))
       s.scope s.construct s.statements in
-      alike.0 (options_message s.construct) (bytes_in files p s)
-      ∙ (recovered ∙ sym (ap (λ (es : Entries). Ok (said es)) same))
+      ap (λ (bs : Text). reader (handed_out files reached) (options_message s.construct) bs) held
+      ∙ (alike.0 (options_message s.construct) (bytes_in files p s)
+      ∙ (recovered ∙ sym (ap (λ (es : Entries). Ok (said es)) same)))
 
 pub all-read-back : (legal : Asked → Text → ReadOutcome → Type 0) (inputs : List Input)
     (bundled : List (Text × Text)) (log : List ReadEntry)

@@ -2,7 +2,7 @@
 --
 -- An options message is read as any message: by the fields of it, and by the extensions of it in the
 -- files at hand (Protocol Buffers Language Guide (proto2), "Custom Options", https://protobuf.dev).
-use Rattle.std.specs.Prelude.{◌≡◌, ℕ, ◌<◌, ◌^◌, true, List, length, Option, Some, Result, Ok, Err}
+use Rattle.std.specs.Prelude.{◌≡◌, ℕ, true, List, Option, Some, Result, Ok, Err}
 use Rattle.std.specs.Global.{Vec}
 use Rattle.protobuf_parse_syntax.specs.Trees.{FileSyntax}
 use Rattle.protobuf_parse_model.specs.Descriptors.{Text, FileDescriptor}
@@ -38,14 +38,14 @@ denoted_in files p s =
     s.construct s.statements
 
 -- Where numbers of fields are distinct in the files that p reaches, the reader gives the numbers and the
--- values that the statements denote, by these files' descriptors and the construct's options message.
--- (Custom options change no number. The bytes are as many as a `Vec` can have.)
+-- values that the statements denote, by these files' descriptors and the construct's options message, from
+-- a `Vec` of these bytes, as the one in p's descriptor. (Custom options change no number.)
 abbrev pub IsReadBack : Files → Text → OptionSet → Type 0
 IsReadBack files p s =
     HasCustom s.statements
     → HaveDistinctNumbers (plains_at files (files.reached p))
-    → length (bytes_in files p s) < 2 ^ 64
-    → reader (handed_out files (files.reached p)) (options_message s.construct) (bytes_in files p s)
+    → (bytes : Vec ℕ) → bytes.items ≡ bytes_in files p s
+    → reader (handed_out files (files.reached p)) (options_message s.construct) bytes.items
     ≡ Ok (said (denoted_in files p s))
 
 -- So are all custom options of an accepted run's files.

@@ -299,10 +299,13 @@ Ends legal files events (Ok ds) = IsAccepted legal files events ds.items
 Ends legal files events (Err f) = IsRefused legal files events f ⊎ IsBroken legal files events f
 
 -- L5 comes only where the resolver may give such a fault for that path, and L4 only where the reader
--- may give that fault for that path.
+-- may give that fault for that path. Neither is want of memory.
 abbrev pub IsCaused : MayResolve → MayRead → RunFault → Type 0
-IsCaused resolve read (fault.Resolver path why) = (given : ResolveFault) × resolve (string_bytes path) (Err given) × (said why ≡ said given)
-IsCaused resolve read (fault.CouldNotReadFile path why) = read (string_bytes path) (Err why)
+IsCaused resolve read (fault.Resolver path why) =
+    (given : ResolveFault) × Resolved resolve (string_bytes path) (outcome.ResolverFault given)
+    × (said why ≡ said given)
+IsCaused resolve read (fault.CouldNotReadFile path why) =
+    WasRead read (string_bytes path) (outcome.ReaderFault why)
 IsCaused resolve read _ = Unit {0}
 
 -- files were met exactly so often where there is a result, and at most so often where there is none
