@@ -1,5 +1,5 @@
 -- Nothing is asked twice, and no reader is asked where no input lies at a path of its own.
-use Rattle.std.proofs.Common.{◌≡◌, ℕ, zero, suc, Bool, true, false, ◌||◌, ◌⊎◌, inl, inr, length, List, [], ◌∷◌, ◌++◌, map, Option, Some, None, Result, Ok, Err, refl, sym, ◌∙◌, ap, subst, append_assoc, append-nil, if◌then◌else◌}
+use Rattle.std.proofs.Common.{◌≡◌, ℕ, zero, suc, Bool, true, false, ◌||◌, inl, inr, length, List, [], ◌∷◌, ◌++◌, map, Option, Some, None, Result, Ok, Err, refl, sym, ◌∙◌, ap, subst, append_assoc, append-nil, if◌then◌else◌}
 use Rattle.std.specs.Prelude.{bytes_eq}
 use Rattle.std.specs.Global.{Vec}
 use Rattle.std.proofs.lemmas.Grind.{flat_map-append}
@@ -12,8 +12,8 @@ use Rattle.protobuf_parse_model.specs.declared.descriptor.FileDescriptorProto.{F
 use Rattle.protobuf_parse.specs.declared.run.fault.RunFault.{RunFault}
 use Rattle.protobuf_parse.specs.declared.run.log.ReadEntry.{ReadEntry}
 use Rattle.protobuf_parse.specs.declared.run.log.ReadOutcome.{ReadOutcome}
-use Rattle.protobuf_parse.specs.Walks.{Asked, the_resolver, the_reader, Input, named, at, Event, cycle, long, load, check, elab, has, keep, among, Trees, import_paths, joined, inside, walk, Read, reads_in, checks, name_of, asked_of, input_walk, events_after, events, until}
-use Rattle.protobuf_parse.specs.Run.{Answers, AreAskedOnce, Ends, Files, HasTrees, IsAccepted, IsAskedOnce, IsBroken, IsRefused, RunsAsTold, fails, if_placed, if_reader, if_resolver, placed, placed_in, resolved_in}
+use Rattle.protobuf_parse.specs.Walks.{Asked, the_resolver, the_reader, Input, named, at, Event, cycle, long, load, check, elab, has, keep, among, Trees, import_paths, joined, inside, walk, Read, reads_in, checks, input_walk, events_after, events, until}
+use Rattle.protobuf_parse.specs.Run.{Answers, AreAskedOnce, Ends, Files, IsAskedOnce, RunsAsTold, fails, if_placed, if_reader, placed, placed_in, resolved_in}
 use Rattle.protobuf_parse.specs.Loading.{Legal}
 use Rattle.protobuf_parse.proofs.Following.{AllFollow, all-follow, follows-front}
 use Rattle.protobuf_parse.proofs.Keeping.{bool_cases, has-last, keep-fresh, has-left, never_both, reads_in-append, text-true}

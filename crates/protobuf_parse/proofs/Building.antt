@@ -1,6 +1,6 @@
 -- Runs over real files, and the descriptors of the inputs alone.
 use Rattle.std.specs.Prelude.{IfErr, String, filter, string_bytes}
-use Rattle.std.proofs.Common.{◌≡◌, ◌∙◌, ap, sym, refl, subst, ◌⊎◌, inl, inr, ℕ, ◌+◌, ◌<◌, arith, Bool, true, false, List, [], ◌∷◌, ◌++◌, append-nil, get_or, length, length-take, map, take, Result, Ok, Err}
+use Rattle.std.proofs.Common.{◌≡◌, ◌∙◌, ap, sym, refl, subst, inl, inr, ℕ, ◌+◌, ◌<◌, arith, Bool, true, false, List, [], ◌∷◌, ◌++◌, append-nil, get_or, length, length-take, map, take, Result, Ok, Err}
 use Rattle.std.specs.Global.{Vec, Global}
 use Rattle.std.proofs.lemmas.Bool.{cond-false, cond-true}
 use Rattle.std.proofs.lemmas.List.{length-map, map-append, take_more}

@@ -5,15 +5,14 @@ use Rattle.protobuf_parse_syntax.specs.Text.{Bytes}
 use Rattle.protobuf_parse_syntax.specs.Parsing.{HasTree}
 use Rattle.protobuf_parse_syntax.specs.Trees.{FileSyntax}
 use Rattle.protobuf_parse_model.specs.Descriptors.{Text}
-use Rattle.protobuf_parse_model.specs.Faults.{Among, Fault}
+use Rattle.protobuf_parse_model.specs.Faults.{Among}
 use Rattle.protobuf_parse_model.specs.Environment.{no_customs}
 use Rattle.protobuf_parse_model.specs.FileDescriptor.{environment, file_faults}
 use Rattle.protobuf_parse_model.specs.FilesByPath.{among, stays, trees_at}
-use Rattle.protobuf_parse_model.specs.Linking.{before_others, link_faults}
+use Rattle.protobuf_parse_model.specs.Linking.{link_faults}
 use Rattle.protobuf_parse_model.specs.OptionSets.{OptionSet, option_sets}
 use Rattle.protobuf_parse_model.specs.declared.descriptor.FileDescriptorProto.{FileDescriptorProto}
 use Rattle.protobuf_parse_wire.specs.CustomFaults.{option_faults}
-use Rattle.protobuf_parse_wire.specs.CustomOptions.{denotes, scope_of}
 use Rattle.protobuf_parse_wire.specs.Law.{said}
 use Rattle.protobuf_parse_wire.specs.OptionFields.{options_message}
 use Rattle.protobuf_parse_wire.specs.Reading.{reader}
@@ -21,8 +20,8 @@ use Rattle.protobuf_parse_wire.specs.Recovery.{AreReachedFiles, HaveDistinctNumb
 use Rattle.protobuf_parse_wire.specs.Trees.{Entries}
 use Rattle.protobuf_parse_wire.proofs.Recovery.{options_are_recovered}
 use Rattle.protobuf_parse_wire.proofs.WithoutOptions.{customs_are_options, customs_make_no_difference, meaning_ignores_options}
-use Rattle.protobuf_parse.specs.Walks.{Asked, Input, Reaches, elab_paths, events}
-use Rattle.protobuf_parse.specs.Run.{Files, AreListed, Ends, HasTrees, IsTree, RunsAsTold, environment_of, faults_in, plain_environments, plains_at, text_read}
+use Rattle.protobuf_parse.specs.Walks.{Asked, Input}
+use Rattle.protobuf_parse.specs.Run.{Files, IsTree, RunsAsTold, environment_of, plain_environments, plains_at, text_read}
 use Rattle.protobuf_parse.specs.Recovered.{AreReadBack, IsReadBack, bytes_in, handed_out}
 use Rattle.protobuf_parse.specs.Stability.{IsClean, IsFileOf, WereRead}
 use Rattle.protobuf_parse.specs.declared.run.fault.RunFault.{RunFault}
