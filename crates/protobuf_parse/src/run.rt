@@ -43,10 +43,11 @@ pub fn run_inputs<'a, R: ProtoPathResolver, I: InputReader>(
 ) -> RunLog
     ensures trees { HaveTrees (rows bundled.now) result.reads.items }
     ensures lists { HaveLists (rows bundled.now) result.reads.items }
-    ensures told { RunsAsTold (MayAnswer (λ p a. R.may_answer resolver.now p a) (λ p a. I.may_read reader.now p a)) (map input_view inputs.now) (rows bundled.now) result.reads.items result.result }
-    ensures caused { IfErr result.result (λ f. IsCaused (λ p a. R.may_answer resolver.now p a) (λ p a. I.may_read reader.now p a) f) }
-    ensures once { AreAskedOnce
-        (MayAnswer (λ p a. R.may_answer resolver.now p a) (λ p a. I.may_read reader.now p a))
+    ensures told { RunsAsTold (MayAnswer (R.may_answer resolver.now) (I.may_read reader.now))
+        (map input_view inputs.now) (rows bundled.now) result.reads.items result.result }
+    ensures caused { IfErr result.result (λ f.
+        IsCaused (R.may_answer resolver.now) (I.may_read reader.now) f) }
+    ensures once { AreAskedOnce (MayAnswer (R.may_answer resolver.now) (I.may_read reader.now))
         (map input_view inputs.now) (rows bundled.now) result.reads.items }
     ensures recovered { AreReadBack (map input_view inputs.now) (rows bundled.now)
         result.reads.items result.result }
@@ -103,9 +104,9 @@ pub fn parse_and_typecheck_custom<R: ProtoPathResolver>(
     input: &[ProtoPathBuf],
     resolver: &R,
 ) -> Result<Vec<FileDescriptorProto>, RunFault>
-    ensures told { RunsByResolver (λ p a. R.may_answer resolver.now p a) (map (λ (b : ProtoPathBuf). named (path_buf_text b)) input.now) result }
-    ensures caused { IfErr result (λ f. IsCaused (λ p a. R.may_answer resolver.now p a)
-        IsNeverAsked f) }
+    ensures told { RunsByResolver (R.may_answer resolver.now)
+        (map (λ (b : ProtoPathBuf). named (path_buf_text b)) input.now) result }
+    ensures caused { IfErr result (λ f. IsCaused (R.may_answer resolver.now) IsNeverAsked f) }
 {
     let mut inputs = Vec::new(alloc);
     for path in input {

@@ -15,37 +15,37 @@ pub returns-in_err-to_proto_path_buf-clause-told
     : goal.returns-in_err-to_proto_path_buf-clause-told
 returns-in_err-to_proto_path_buf-clause-told g c =
     let p = err_from_is_err_and c.from_residual.result c.from_residual.ensures.1 in
-    unstarted (λ p a. g.R.ProtoPathResolver.may_answer c.args.resolver.now p a)
+    unstarted (g.R.ProtoPathResolver.may_answer c.args.resolver.now)
     (map (λ (b : ProtoPathBuf). named (path_buf_text b)) c.args.input.now) _ p.0 p.1 p.2
 
 pub returns-in_err-to_proto_path_buf-clause-caused
     : goal.returns-in_err-to_proto_path_buf-clause-caused
 returns-in_err-to_proto_path_buf-clause-caused g c =
     let p = err_from_is_err_and c.from_residual.result c.from_residual.ensures.1 in
-    uncaused (λ p a. g.R.ProtoPathResolver.may_answer c.args.resolver.now p a) IsNeverAsked
+    uncaused (g.R.ProtoPathResolver.may_answer c.args.resolver.now) IsNeverAsked
     _ p.0 p.1 p.2
 
 pub returns-in_err-push-clause-told : goal.returns-in_err-push-clause-told
 returns-in_err-push-clause-told g c =
     let r = c.from_residual-in_err-push in
     let p = err_from_is_err_and r.result r.ensures.1 in
-    unstarted (λ p a. g.R.ProtoPathResolver.may_answer c.args.resolver.now p a)
+    unstarted (g.R.ProtoPathResolver.may_answer c.args.resolver.now)
     (map (λ (b : ProtoPathBuf). named (path_buf_text b)) c.args.input.now) _ p.0 p.1 p.2
 
 pub returns-in_err-push-clause-caused : goal.returns-in_err-push-clause-caused
 returns-in_err-push-clause-caused g c =
     let r = c.from_residual-in_err-push in
     let p = err_from_is_err_and r.result r.ensures.1 in
-    uncaused (λ p a. g.R.ProtoPathResolver.may_answer c.args.resolver.now p a) IsNeverAsked
+    uncaused (g.R.ProtoPathResolver.may_answer c.args.resolver.now) IsNeverAsked
     _ p.0 p.1 p.2
 
 pub returns-clause-told : goal.returns-clause-told
 returns-clause-told g c =
     let whole : take c.loop-path.path-index c.args.input.now ≡ c.args.input.now = take_all _ _ (omega arith) in
     let is = ap (map input_view) c.deref.ensures.value ∙ (c.loop-path.invariant ∙ ap (map (λ (b : ProtoPathBuf). named (path_buf_text b))) whole) in
-    by-resolver (λ p a. g.R.ProtoPathResolver.may_answer c.args.resolver.now p a) (λ own answer. answer ≡ Err NotFound) c.run_inputs.result.reads.items _ c.args.input.now _ _ is c.bundled_files.ensures c.run_inputs.ensures.trees c.run_inputs.ensures.told
+    by-resolver (g.R.ProtoPathResolver.may_answer c.args.resolver.now) (λ own answer. answer ≡ Err NotFound) c.run_inputs.result.reads.items _ c.args.input.now _ _ is c.bundled_files.ensures c.run_inputs.ensures.trees c.run_inputs.ensures.told
 
 pub returns-clause-caused : goal.returns-clause-caused
 returns-clause-caused g c =
-    by-resolver-caused (λ p a. g.R.ProtoPathResolver.may_answer c.args.resolver.now p a) _ _
+    by-resolver-caused (g.R.ProtoPathResolver.may_answer c.args.resolver.now) _ _
     (returns-clause-told g c)
