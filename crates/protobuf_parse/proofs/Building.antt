@@ -1,6 +1,6 @@
 -- Runs over real files, and the descriptors of the inputs alone.
 use Rattle.std.specs.Prelude.{IfErr, String, filter, string_bytes}
-use Rattle.std.proofs.Common.{◌≡◌, ◌∙◌, ap, sym, refl, subst, ◌⊎◌, inl, inr, ℕ, ◌+◌, ◌<◌, arith, Bool, true, false, List, [], ◌∷◌, ◌++◌, append-nil, get_or, length, length-take, map, take, Result, Ok, Err}
+use Rattle.std.proofs.Common.{◌≡◌, ◌∙◌, ap, sym, refl, subst, inl, inr, ℕ, ◌+◌, ◌<◌, arith, Bool, true, false, List, [], ◌∷◌, ◌++◌, append-nil, get_or, length, length-take, map, take, Result, Ok, Err}
 use Rattle.std.specs.Global.{Vec, Global}
 use Rattle.std.proofs.lemmas.Bool.{cond-false, cond-true}
 use Rattle.std.proofs.lemmas.List.{length-map, map-append, take_more}
@@ -18,7 +18,7 @@ use Rattle.protobuf_parse.specs.Run.{HaveTrees, IsCaused, MayAnswer, RunsAsTold,
 use Rattle.protobuf_parse.specs.Includes.{AreNamed}
 use Rattle.protobuf_parse.specs.Folders.{MayFind}
 use Rattle.protobuf_parse.specs.Parsers.{MayReadAnything, RanOverFolders, RunsOverFolders, TellsFault, inputs_at, is_of_input}
-use Rattle.protobuf_parse.proofs.Listed.{have-lists}
+use Rattle.protobuf_parse.proofs.Telling.{with-shipped}
 
 -- one that passes the test is kept, and one that doesn't is left out
 pub kept_one : {X : Type 0} (p : X → Bool) (seen : List X) (x : X) (old new : List X) → p x ≡ true → old ≡ filter p seen → new ≡ old ++ x ∷ [] → new ≡ filter p (seen ++ x ∷ [])
@@ -77,7 +77,7 @@ pub ran-over : (folders includes inputs names : List Text) (log : List ReadEntry
     → folders ≡ includes → taken ≡ inputs_at names inputs → table ≡ shipped → HaveTrees table log → RunsAsTold (MayAnswer (MayFind folders) MayReadAnything) taken table log r
     → RanOverFolders includes inputs names r
 ran-over folders includes inputs names log taken table r f i t trees told =
-    either r (log, subst (λ (z : List (Text × Text)). HaveTrees z log) t trees, have-lists shipped log, by-folders folders includes log taken (inputs_at names inputs) table r f i t told)
+    either r (with-shipped (MayFind includes) MayReadAnything (inputs_at names inputs) log r (subst (λ (z : List (Text × Text)). HaveTrees z log) t trees) (by-folders folders includes log taken (inputs_at names inputs) table r f i t told))
   where
     either : (q : Result (Vec FileDescriptorProto) RunFault) → RunsOverFolders includes inputs names q → RanOverFolders includes inputs names q
     either (Ok files) h = h

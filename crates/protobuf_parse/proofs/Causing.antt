@@ -11,20 +11,21 @@ use Rattle.protobuf_parse.specs.declared.run.fault.ReadInputFault.{ReadInputFaul
 use Rattle.protobuf_parse.specs.declared.run.log.ReadOutcome.{ReadOutcome}
 use Rattle.protobuf_parse.specs.declared.run.log.ReadOutcome.TheVariants as outcome
 use Rattle.protobuf_parse.specs.Walks.{Asked, the_resolver, the_reader, Event, cycle, long, load, check, elab, Read, reads_in}
-use Rattle.protobuf_parse.specs.Run.{Answers, Ends, Files, IsCaused, IsRefused, MayAnswer, MayRead, MayResolve, StandsAt, answer_at, answer_for, fails}
+use Rattle.protobuf_parse.specs.Run.{Answers, Ends, Files, IsCaused, IsRefused, MayAnswer, MayRead, MayResolve, Resolved, StandsAt, WasRead, answer_at, answer_for, fails}
 use Rattle.protobuf_parse.proofs.Keeping.{reads_in-append}
 use Rattle.protobuf_parse.proofs.Following.{AllFollow, Follows, at-is-last, first-is-last, follows-at, found, unread}
 
 module _ (resolve : MayResolve) (read : MayRead) where
   by-resolver : (a : Asked) (p : Text) (why : ResolveFault) → MayAnswer resolve read a p
-      (outcome.ResolverFault why) → resolve p (Err why)
-  by-resolver the_resolver p why h = h.1
+      (outcome.ResolverFault why) → Resolved resolve p (outcome.ResolverFault why)
+  by-resolver the_resolver p why h = h
   by-resolver (the_reader own) p why h = absurd h
 
   by-reader : (a : Asked) (own p : Text) (why : ReadInputFault) → a ≡ the_reader own
-      → MayAnswer resolve read a p (outcome.ReaderFault why) → read own (Err why)
+      → MayAnswer resolve read a p (outcome.ReaderFault why)
+      → WasRead read own (outcome.ReaderFault why)
   by-reader a own p why is h =
-      (subst (λ (b : Asked). MayAnswer resolve read b p (outcome.ReaderFault why)) is h).1
+      subst (λ (b : Asked). MayAnswer resolve read b p (outcome.ReaderFault why)) is h
 
   -- the event fails behind these, and its read is the last
   module _ (files : Files) (before : List Event) (each : AllFollow [] before) where
@@ -53,13 +54,14 @@ module _ (resolve : MayResolve) (read : MayRead) where
     caused-at (load asked p) (fault.Resolver path why) next a s =
         let r = loaded-by asked p (outcome.ResolverFault s.1) next a s.2 in (
           s.1,
-          subst (λ (q : Text). resolve q (Err s.1)) (sym s.0) (by-resolver asked p s.1 r),
+          subst (λ (q : Text). Resolved resolve q (outcome.ResolverFault s.1)) (sym s.0)
+              (by-resolver asked p s.1 r),
           s.3,
         )
     caused-at (load asked p) (fault.CouldNotReadFile path why) next a s =
         by-reader asked _ p why s.0 (loaded-by asked p (outcome.ReaderFault why) next a s.1)
     caused-at (check n own p) (fault.CouldNotReadFile path why) next a s =
-        subst (λ (q : Text). read q (Err why)) (sym s.0)
+        subst (λ (q : Text). WasRead read q (outcome.ReaderFault why)) (sym s.0)
         (by-reader (the_reader own) own p why refl
         (checked-by own p n (outcome.ReaderFault why) next a s.1))
     caused-at (check n own p) (fault.Resolver path why) next a s = absurd s

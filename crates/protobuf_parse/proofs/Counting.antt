@@ -3,7 +3,6 @@ use Rattle.std.proofs.Common.{◌≡◌, ℕ, ◌+◌, ◌<◌, ◌≤◌, true,
 use Rattle.protobuf_parse_syntax.specs.Trees.{FileSyntax}
 use Rattle.protobuf_parse_model.specs.Descriptors.{Text}
 use Rattle.protobuf_parse.specs.declared.run.fault.RunFault.{RunFault}
-use Rattle.protobuf_parse.specs.declared.run.loader.Placed.{Placed}
 use Rattle.protobuf_parse.specs.Walks.{Asked, the_resolver, Event, Input, cycle, long, load, check, elab, has, keep, at, named, Trees, checks, import_paths, input_walk, events, events_after, reads_in, statements}
 use Rattle.protobuf_parse.specs.Run.{Files, IsCounted}
 use Rattle.protobuf_parse.specs.Loading.{Legal}
@@ -47,7 +46,7 @@ module _ (legal : Legal) (files : Files) where
   abbrev count : List Event → ℕ
   count events = statements files.trees events
 
-  pub count-input : (r : Result Placed RunFault) (kept base : List Event) (i v : Input) (start old new : ℕ) → v ≡ i → base ≡ kept ++ checks kept i → old ≡ start → IsCounted (new + count base) (old + 1 + count (keep base (input_walk files.trees i))) r → IsCounted (new + count kept) (start + 1 + count (keep (kept ++ checks kept v) (input_walk files.trees v))) r
+  pub count-input : (r : Result (Unit {0}) RunFault) (kept base : List Event) (i v : Input) (start old new : ℕ) → v ≡ i → base ≡ kept ++ checks kept i → old ≡ start → IsCounted (new + count base) (old + 1 + count (keep base (input_walk files.trees i))) r → IsCounted (new + count kept) (start + 1 + count (keep (kept ++ checks kept v) (input_walk files.trees v))) r
   count-input r kept base i v start old new is b began h =
       let y : IsCounted (new + count (kept ++ checks kept i)) (old + 1 + count (keep (kept ++ checks kept i) (input_walk files.trees i))) r = subst (λ (z : List Event). IsCounted (new + count z) (old + 1 + count (keep z (input_walk files.trees i))) r) b h in
       let left = ap (λ z. new + z) (after-checks files.trees kept i) in

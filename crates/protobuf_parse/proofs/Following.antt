@@ -157,6 +157,10 @@ found test (x ∷ es) e h =
           }
     ]
 
+pub follows-front : (acc xs ys : List Event) → AllFollow acc (xs ++ ys) → AllFollow acc xs
+follows-front acc [] ys h = tt
+follows-front acc (x ∷ xs) ys h = (h.0, follows-front (acc ++ x ∷ []) xs ys h.1)
+
 pub follows-at : (acc before after : List Event) (e : Event) → AllFollow acc (before ++ e ∷ after)
     → AllFollow acc before × Follows (acc ++ before) e
 follows-at acc [] after e h =

@@ -1,11 +1,11 @@
 -- The inputs of a run, one after another.
-use Rattle.std.proofs.Common.{◌≡◌, false, inl, inr, List, [], ◌∷◌, ◌++◌, None, refl, sym, ◌∙◌, ap, subst, append_assoc, append-nil}
+use Rattle.std.proofs.Common.{◌≡◌, false, inl, inr, List, [], ◌∷◌, ◌++◌, None, Result, Ok, Err, refl, sym, ◌∙◌, ap, subst, append_assoc, append-nil}
 use Rattle.protobuf_parse_model.specs.Descriptors.{Text}
 use Rattle.protobuf_parse.specs.declared.run.fault.RunFault.{RunFault}
 use Rattle.protobuf_parse.specs.declared.run.log.ReadEntry.{ReadEntry}
 use Rattle.protobuf_parse.specs.Walks.{the_resolver, load, elab, has, Input, at, Event, keep, checks, input_walk, events_after, events, Trees}
 use Rattle.protobuf_parse.specs.Run.{Files}
-use Rattle.protobuf_parse.specs.Loading.{Legal, Entry, file_at, Good, Stops}
+use Rattle.protobuf_parse.specs.Loading.{Legal, Entry, file_at, Goes, Good, Stops}
 use Rattle.protobuf_parse.proofs.Keeping.{has-elab, not_true}
 use Rattle.protobuf_parse.proofs.Steps.{stops-more, file-none}
 
@@ -70,11 +70,15 @@ module _ (legal : Legal) (files : Files) where
     apart = λ p h. refl;
   }
 
-  pub input-stops : (kept base : List Event) (i v : Input) (log : List ReadEntry) (f : RunFault) → v ≡ i → base ≡ kept ++ checks kept i → Stops legal files (keep base (input_walk files.trees i)) log f → Stops legal files (keep (kept ++ checks kept v) (input_walk files.trees v)) log f
+  input-stops : (kept base : List Event) (i v : Input) (log : List ReadEntry) (f : RunFault) → v ≡ i → base ≡ kept ++ checks kept i → Stops legal files (keep base (input_walk files.trees i)) log f → Stops legal files (keep (kept ++ checks kept v) (input_walk files.trees v)) log f
   input-stops kept base i v log f is b stops = rw is (subst (λ (z : List Event). Stops legal files (keep z (input_walk files.trees i)) log f) b stops)
 
-  pub input-goes : (kept base : List Event) (i v : Input) (loaded : List Entry) (log : List ReadEntry) → v ≡ i → base ≡ kept ++ checks kept i → Good legal files (keep base (input_walk files.trees i)) loaded log [] → Good legal files (keep (kept ++ checks kept v) (input_walk files.trees v)) loaded log []
+  input-goes : (kept base : List Event) (i v : Input) (loaded : List Entry) (log : List ReadEntry) → v ≡ i → base ≡ kept ++ checks kept i → Good legal files (keep base (input_walk files.trees i)) loaded log [] → Good legal files (keep (kept ++ checks kept v) (input_walk files.trees v)) loaded log []
   input-goes kept base i v loaded log is b good = rw is (subst (λ (z : List Event). Good legal files (keep z (input_walk files.trees i)) loaded log []) b good)
+
+  pub input-ends : (r : Result (Unit {0}) RunFault) (kept base : List Event) (i v : Input) (loaded : List Entry) (log : List ReadEntry) → v ≡ i → base ≡ kept ++ checks kept i → Goes legal files (keep base (input_walk files.trees i)) loaded log r → Goes legal files (keep (kept ++ checks kept v) (input_walk files.trees v)) loaded log r
+  input-ends (Ok done) kept base i v loaded log is b h = input-goes kept base i v loaded log is b h
+  input-ends (Err f) kept base i v loaded log is b h = input-stops kept base i v log f is b h
 
   pub check-stops : (kept : List Event) (i v : Input) (log : List ReadEntry) (f : RunFault) → v ≡ i → Stops legal files (kept ++ checks kept i) log f → Stops legal files (keep (kept ++ checks kept v) (input_walk files.trees v)) log f
   check-stops kept i v log f is h = rw is (stops-more legal files (kept ++ checks kept i) (input_walk files.trees i) log f h)

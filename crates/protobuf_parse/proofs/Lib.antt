@@ -28,3 +28,4 @@ pub mod Agreeing
 pub mod Further
 pub mod Recovering
 pub mod Following
+pub mod Asking

@@ -1,5 +1,5 @@
 -- What stands for the custom options of an accepted run's files, and what is read back.
-use Rattle.std.proofs.Common.{◌≡◌, ℕ, ◌<◌, ◌^◌, true, length, List, [], Option, Some, None, Result, Ok, Err, refl, sym, ◌∙◌, ap, subst}
+use Rattle.std.proofs.Common.{◌≡◌, ℕ, ◌<◌, ◌^◌, true, length, List, [], Option, Some, None, Result, Ok, Err, refl, sym, ◌∙◌, ap, subst, arith}
 use Rattle.std.specs.Global.{Vec}
 use Rattle.protobuf_parse_syntax.specs.Text.{Bytes}
 use Rattle.protobuf_parse_syntax.specs.Parsing.{HasTree}
@@ -40,6 +40,10 @@ use Rattle.protobuf_parse.proofs.Further.{faultless-file, reached-is}
 use Rattle.protobuf_parse.proofs.Knowing.{sees-reaches}
 use Rattle.protobuf_parse.proofs.Settling.{none-after, none-before}
 use Rattle.protobuf_parse.proofs.Spelling.{others}
+
+-- a `Vec` has fewer bytes than there are addresses
+small-bytes : (bytes : Vec ℕ) → length bytes.items < 2 ^ 64
+small-bytes bytes = omega (arith, bytes.ok.0, bytes.ok.1, bytes.small)
 
 module _ (files : Files) (inputs : List Input) (clean : IsClean files inputs) (read : WereRead files) where
   -- a file that a file of the run reaches is one of the run
@@ -126,7 +130,7 @@ module _ (files : Files) (inputs : List Input) (clean : IsClean files inputs) (r
     read-back : HasCustom s.statements → (q : Text) → among q (order files.trees inputs) ≡ true
         → among p (files.reached q) ≡ true → HaveDistinctNumbers (plains_at files (files.reached q))
         → IsReadBack files p q s
-    read-back custom q n h numbers short =
+    read-back custom q n h numbers bytes held =
         let above = (read.listed.reaches q).only p h in
         let u = tree-of q above in
         let within : (r : Text) → among r reached ≡ true → among r (files.reached q) ≡ true =
@@ -134,10 +138,13 @@ module _ (files : Files) (inputs : List Input) (clean : IsClean files inputs) (r
         (reaches-on files.trees q p r above ((read.listed.reaches p).only r k)) in
         let alike = customs_make_no_difference files.trees (environment_of files)
         (plain_environments files) (files.reached q) seen (λ r v. refl) in
-        alike.0 (options_message s.construct) (bytes_in files p s)
+        let short = subst (λ (bs : Text). length bs < 2 ^ 64) held (small-bytes bytes) in
+        ap (λ (bs : Text). reader (handed_out files (files.reached q)) (options_message s.construct) bs)
+        held
+        ∙ (alike.0 (options_message s.construct) (bytes_in files p s)
         ∙ (options_are_recovered_above files.trees files.seen reached (files.reached q) p t s
         (are-reached q u.0 u.1 n numbers) within h is (options-faultless p t is m) stands custom short
-        ∙ sym (ap (λ (es : Entries). Ok (said es)) same))
+        ∙ sym (ap (λ (es : Entries). Ok (said es)) same)))
 
     pub holds-options : HoldsOptions files (order files.trees inputs) p s
     holds-options = record {

@@ -291,12 +291,12 @@ module _ (legal : Legal) (files : Files) (kept events : List Event) (i : Text) (
       rw (elab-next stack top meets loaded log r le) (stops-more legal files (r.now ++ elab (path_of top) ∷ []) (todo files.trees i [] stack) log f h)
 
   -- the lowest file is the input
-  pub running-end : (stack : List LoadFrame) (top : LoadFrame) (placed : Placed) (p : Text) (meets : ℕ) (loaded later : List Entry) (log : List ReadEntry) (r : Running meets stack top loaded log) → stack ≡ [] → length top.tree.statements.items ≤ top.next → path_of top ≡ p → Leaves legal files (r.now ++ elab (path_of top) ∷ []) (file_shape files.trees (path_of top)) later log (chain_of [] stack) (Ok placed) → Leaves legal files events (file_shape files.trees p) later log [] (Ok placed)
-  running-end stack top placed p meets loaded later log r empty le is k =
+  pub running-end : (stack : List LoadFrame) (top : LoadFrame) (placed : Placed) (meets : ℕ) (loaded later : List Entry) (log : List ReadEntry) (r : Running meets stack top loaded log) → stack ≡ [] → length top.tree.statements.items ≤ top.next → Leaves legal files (r.now ++ elab (path_of top) ∷ []) (file_shape files.trees (path_of top)) later log (chain_of [] stack) (Ok placed) → Good legal files events later log []
+  running-end stack top placed meets loaded later log r empty le k =
       let now : List Event = r.now ++ elab (path_of top) ∷ [] in
       let e : events ≡ now = elab-next stack top meets loaded log r le ∙ ap (λ z. keep now (todo files.trees i [] z)) empty in
       let g : Good legal files now later log [] = subst (λ (z : List Text). Good legal files now later log z) (ap (chain_of []) empty) k.0 in
-      rw (e, ← is) (g, k.1)
+      rw e g
 
   pub counted-end : (top : LoadFrame) (meets : ℕ) (loaded : List Entry) (log : List ReadEntry) (r : Running meets [] top loaded log) → length top.tree.statements.items ≤ top.next → meets + statements files.trees kept ≡ start + 1 + statements files.trees events
   counted-end top meets loaded log r le =

@@ -1,6 +1,6 @@
 -- What a run promises, from what its loading left.
 use Rattle.std.proofs.Common.{◌≡◌, Bool, true, ◌⊎◌, inl, inr, List, [], ◌∷◌, ◌++◌, map, Some, None, Result, Err, refl, sym, ◌∙◌, ap, append-nil, find, subst}
-use Rattle.std.specs.Prelude.{string_bytes}
+use Rattle.std.specs.Prelude.{IfErr, string_bytes}
 use Rattle.std.specs.Global.{Vec}
 use Rattle.std.specs.List.{AllByRecursion}
 use Rattle.protobuf_parse_model.specs.Descriptors.{Text}
@@ -10,10 +10,18 @@ use Rattle.protobuf_parse.specs.declared.run.fault.RunFault.{RunFault}
 use Rattle.protobuf_parse.specs.declared.run.fault.RunFault.TheVariants as fault
 use Rattle.protobuf_parse.specs.declared.run.loader.LoadedFile.{LoadedFile}
 use Rattle.protobuf_parse.specs.declared.run.log.ReadEntry.{ReadEntry}
-use Rattle.protobuf_parse.specs.Walks.{Event, Input, events, until}
-use Rattle.protobuf_parse.specs.Run.{Files, AreDescriptors, IsAccepted, IsRefused, IsBroken, MayResolve, RunsByResolver, fails, shipped, HaveTrees, RunsAsTold, MayAnswer, FindsNothing}
+use Rattle.protobuf_parse.specs.declared.run.log.ReadOutcome.{ReadOutcome}
+use Rattle.protobuf_parse.specs.Walks.{the_resolver, Event, Input, named, events, until}
+use Rattle.protobuf_parse.specs.Run.{Files, AreDescriptors, HasTrees, IsAccepted, IsCaused, IsRefused, IsBroken, MayRead, MayResolve, fails, shipped, HaveTrees, RunsAsTold, MayAnswer}
+use Rattle.protobuf_parse.specs.Shipped.{IsNeverAsked, RunsByResolver, RunsWithShipped}
 use Rattle.protobuf_parse.specs.Loading.{Legal, Entry, Good, Stops, IsLoaded, paths_of}
+use Rattle.protobuf_parse_base.specs.PathViews.{path_buf_text}
+use Rattle.protobuf_parse_base.specs.declared.proto_path.path.ProtoPathBuf.{ProtoPathBuf}
+use Rattle.protobuf_parse.proofs.Asking.{all-asked-once, paths-named, told-of}
+use Rattle.protobuf_parse.proofs.Causing.{caused}
 use Rattle.protobuf_parse.proofs.Deciding.{untold, run-files}
+use Rattle.protobuf_parse.proofs.Following.{all-follow}
+use Rattle.protobuf_parse.proofs.Recovering.{all-held}
 use Rattle.protobuf_parse.proofs.Listed.{have-lists}
 use Rattle.protobuf_parse.proofs.Keeping.{bool_cases}
 
@@ -74,22 +82,64 @@ module _ (legal : Legal) (files : Files) (told : List Event) where
     reads = h.answers;
   })
 
--- memory runs out before the first input
-pub unstarted : (resolve : MayResolve) (inputs : List Input) (r : Result (Vec FileDescriptorProto) RunFault) (f : RunFault) → r ≡ Err f → f ≡ fault.Memory → RunsByResolver resolve inputs r
-unstarted resolve inputs r f is m = (
-  [],
-  (λ p. None, λ p. untold),
-  have-lists shipped [],
-  λ trees reached seen has listed. rw is (inr (record {
-    memory = m;
-    done = [];
-    rest = until (fails (run-files shipped [] trees reached seen)) (events trees inputs);
-    beginning = refl;
-    reads = tt;
-  })),
-)
+-- ** runs with the files that this library brings
 
--- a run with the files that this library brings
-pub by-resolver : (resolve : MayResolve) (log : List ReadEntry) (given inputs : List Input) (table : List (Text × Text)) (r : Result (Vec FileDescriptorProto) RunFault) → given ≡ inputs → table ≡ shipped → HaveTrees table log → RunsAsTold (MayAnswer resolve FindsNothing) given table log r → RunsByResolver resolve inputs r
-by-resolver resolve log given inputs table r is same trees told =
-    (log, (rw same at trees), have-lists shipped log, subst (λ (z : List Input). RunsAsTold (MayAnswer resolve FindsNothing) z shipped log r) is (rw same at told))
+-- all of it, from what the run was told
+pub with-shipped : (resolve : MayResolve) (read : MayRead) (inputs : List Input)
+    (log : List ReadEntry) (r : Result (Vec FileDescriptorProto) RunFault)
+    → HaveTrees shipped log → RunsAsTold (MayAnswer resolve read) inputs shipped log r
+    → RunsWithShipped resolve read inputs r
+with-shipped resolve read inputs log r trees told = record {
+  log = log;
+  trees = trees;
+  lists = have-lists shipped log;
+  told = told;
+  once = all-asked-once (MayAnswer resolve read) inputs shipped log r told;
+  options = all-held (MayAnswer resolve read) inputs shipped log r told;
+}
+
+-- memory runs out before the first input
+pub unstarted : (resolve : MayResolve) (inputs : List Input)
+    (r : Result (Vec FileDescriptorProto) RunFault) (f : RunFault) → r ≡ Err f
+    → f ≡ fault.Memory → RunsByResolver resolve inputs r
+unstarted resolve inputs r f is m = with-shipped resolve IsNeverAsked inputs [] r
+    (λ p. None, λ p. untold)
+    (λ trees reached seen has listed. rw is (inr (record {
+      memory = m;
+      done = [];
+      rest = until (fails (run-files shipped [] trees reached seen)) (events trees inputs);
+      beginning = refl;
+      reads = tt;
+    })))
+
+-- a run over the inputs of these paths, with the files that this library brings
+pub by-resolver : (resolve : MayResolve) (read : MayRead) (log : List ReadEntry)
+    (given : List Input) (paths : List ProtoPathBuf) (table : List (Text × Text))
+    (r : Result (Vec FileDescriptorProto) RunFault)
+    → given ≡ map (λ (b : ProtoPathBuf). named (path_buf_text b)) paths → table ≡ shipped
+    → HaveTrees table log → RunsAsTold (MayAnswer resolve read) given table log r
+    → RunsByResolver resolve (map (λ (b : ProtoPathBuf). named (path_buf_text b)) paths) r
+by-resolver resolve read log given paths table r is same trees told =
+    with-shipped resolve IsNeverAsked inputs log r (rw same at trees)
+    (told-of (MayAnswer resolve read) (MayAnswer resolve IsNeverAsked) legal inputs shipped log r
+    (paths-named paths)
+    (subst (λ (z : List Input). RunsAsTold (MayAnswer resolve read) z shipped log r) is
+    (rw same at told)))
+  where
+    inputs : List Input
+    inputs = map (λ (b : ProtoPathBuf). named (path_buf_text b)) paths
+
+    legal : (p : Text) (o : ReadOutcome) → MayAnswer resolve read the_resolver p o
+        → MayAnswer resolve IsNeverAsked the_resolver p o
+    legal p o h = h
+
+-- where its faults of a resolver come from, and that none is a reader's
+pub by-resolver-caused : (resolve : MayResolve) (inputs : List Input)
+    (r : Result (Vec FileDescriptorProto) RunFault) → RunsByResolver resolve inputs r
+    → IfErr r (λ f. IsCaused resolve IsNeverAsked f)
+by-resolver-caused resolve inputs r run =
+    let t = run.trees in
+    let has : HasTrees shipped run.log t.0 = λ p. (t.1 p).0 in
+    let l = run.lists t.0 has in
+    caused resolve IsNeverAsked _ (events t.0 inputs) r (all-follow t.0 inputs)
+    (run.told t.0 l.0 l.1 has l.2)

@@ -11,3 +11,4 @@ pub mod Parsers
 pub mod Frames
 pub mod Stability
 pub mod Recovered
+pub mod Shipped

@@ -2,7 +2,6 @@
 use Rattle.std.specs.Prelude.{◌≡◌, ◌⊎◌, List, [], ◌∷◌, Bool, false, codes, filter, map, Option, Some, None, option_map, Result, Ok, Err, bytes_eq, string_bytes}
 use Rattle.std.specs.List.{list_any}
 use Rattle.std.specs.Global.{Vec}
-use Rattle.std.specs.declared.alloc.AllocError.{AllocError}
 use Rattle.protobuf_parse_base.specs.PathViews.{path_buf_text}
 use Rattle.protobuf_parse_model.specs.Descriptors.{Text}
 use Rattle.protobuf_parse_model.specs.declared.descriptor.FileDescriptorProto.{FileDescriptorProto}
@@ -10,9 +9,9 @@ use Rattle.protobuf_parse_model.specs.declared.descriptor.FileDescriptorSet.{Fil
 use Rattle.protobuf_parse.specs.declared.front.builder.Parser.{Parser}
 use Rattle.protobuf_parse.specs.declared.front.builder.ParsedAndTypechecked.{ParsedAndTypechecked}
 use Rattle.protobuf_parse.specs.declared.run.fault.RunFault.{RunFault}
-use Rattle.protobuf_parse.specs.declared.run.log.ReadEntry.{ReadEntry}
 use Rattle.protobuf_parse.specs.Walks.{Input, at}
-use Rattle.protobuf_parse.specs.Run.{HaveLists, HaveTrees, MayAnswer, MayRead, RunsAsTold, shipped}
+use Rattle.protobuf_parse.specs.Run.{MayRead}
+use Rattle.protobuf_parse.specs.Shipped.{RunsWithShipped}
 use Rattle.protobuf_parse.specs.Loading.{OrMemory}
 use Rattle.protobuf_parse.specs.Includes.{AreNamed, StandsAtFirst}
 use Rattle.protobuf_parse.specs.Folders.{MayFind}
@@ -40,13 +39,11 @@ abbrev pub MayReadAnything : MayRead
 MayReadAnything own answer = Unit {0}
 
 -- A run over these inputs by these names, whose imports are found in these includes and among the
--- files that this library brings, read some log and ended so.
+-- files that this library brings.
 abbrev pub RunsOverFolders : List Text → List Text → List Text
     → Result (Vec FileDescriptorProto) RunFault → Type 0
 RunsOverFolders includes inputs names result =
-    (log : List ReadEntry) × HaveTrees shipped log × HaveLists shipped log
-    × RunsAsTold (MayAnswer (MayFind includes) MayReadAnything) (inputs_at names inputs) shipped log
-    result
+    RunsWithShipped (MayFind includes) MayReadAnything (inputs_at names inputs) result
 
 -- or memory ran out
 abbrev pub RanOverFolders : List Text → List Text → List Text

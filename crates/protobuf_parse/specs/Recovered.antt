@@ -3,7 +3,7 @@
 --
 -- An options message is read as any message: by the fields of it, and by the extensions of it in the
 -- files at hand (Protocol Buffers Language Guide (proto2), "Custom Options", https://protobuf.dev).
-use Rattle.std.specs.Prelude.{◌≡◌, ℕ, ◌<◌, ◌^◌, true, List, [], length, Option, Some, Result, Ok, Err}
+use Rattle.std.specs.Prelude.{◌≡◌, ℕ, true, List, [], Option, Some, Result, Ok, Err}
 use Rattle.std.specs.Global.{Vec}
 use Rattle.protobuf_parse_syntax.specs.Trees.{FileSyntax}
 use Rattle.protobuf_parse_model.specs.Descriptors.{Text, FileDescriptor}
@@ -40,12 +40,13 @@ denoted_in files p s =
     denotes (scope_of (handed_out files (files.reached p)) (handed_out files (files.seen p)) s)
     s.construct s.statements
 
--- The reader gives the numbers and the values that the statements denote, by the construct's options
--- message and the descriptors of the files that q reaches. (The bytes are as many as a `Vec` can have.)
+-- From a `Vec` of these bytes, as the one in p's descriptor, the reader gives the numbers and the values
+-- that the statements denote, by the construct's options message and the descriptors of the files that q
+-- reaches.
 abbrev pub IsReadBack : Files → (p q : Text) → OptionSet → Type 0
 IsReadBack files p q s =
-    length (bytes_in files p s) < 2 ^ 64
-    → reader (handed_out files (files.reached q)) (options_message s.construct) (bytes_in files p s)
+    (bytes : Vec ℕ) → bytes.items ≡ bytes_in files p s
+    → reader (handed_out files (files.reached q)) (options_message s.construct) bytes.items
     ≡ Ok (said (denoted_in files p s))
 
 -- What stands in p's descriptor for the custom options of a construct, where these are the files of the

@@ -1,5 +1,5 @@
 -- What a run read, which of its events fails, and which fault stands at an event.
-use Rattle.std.specs.Prelude.{◌≡◌, ◌⊎◌, ◌≤◌, ◌+◌, ℕ, length, Bool, true, false, not, List, [], ◌∷◌, ◌++◌, map, Option, Some, None, is_some, option_map, slice_get, Result, Ok, Err, if◌then◌else◌, bytes_eq, string_bytes, find}
+use Rattle.std.specs.Prelude.{◌≡◌, ◌⊎◌, ◌≤◌, ◌+◌, ℕ, length, Bool, true, false, not, List, [], ◌∷◌, ◌++◌, map, Option, Some, None, is_some, option_map, flat_map, slice_get, Result, Ok, Err, if◌then◌else◌, bytes_eq, string_bytes, find}
 use Rattle.std.specs.Global.{Vec}
 use Rattle.std.specs.Borrow.{Bor}
 use Rattle.std.specs.Str.{IsUtf8}
@@ -12,7 +12,7 @@ use Rattle.protobuf_parse_model.specs.Descriptors as described
 use Rattle.protobuf_parse_model.specs.Descriptors.{Text, FileDescriptor}
 use Rattle.protobuf_parse_model.specs.Environment.{Customs, Environment, no_customs}
 use Rattle.protobuf_parse_model.specs.FileDescriptor.{environment, file_of}
-use Rattle.protobuf_parse_model.specs.FilesByPath.{AreJust, trees_at}
+use Rattle.protobuf_parse_model.specs.FilesByPath.{AreDistinct, AreJust, trees_at}
 use Rattle.protobuf_parse_model.specs.Faults as elaborating
 use Rattle.protobuf_parse_model.specs.Faults.{Among, fault_view}
 use Rattle.protobuf_parse_model.specs.declared.descriptor.FileDescriptorProto.{FileDescriptorProto}
@@ -299,10 +299,13 @@ Ends legal files events (Ok ds) = IsAccepted legal files events ds.items
 Ends legal files events (Err f) = IsRefused legal files events f ⊎ IsBroken legal files events f
 
 -- L5 comes only where the resolver may give such a fault for that path, and L4 only where the reader
--- may give that fault for that path.
+-- may give that fault for that path. Neither is want of memory.
 abbrev pub IsCaused : MayResolve → MayRead → RunFault → Type 0
-IsCaused resolve read (fault.Resolver path why) = (given : ResolveFault) × resolve (string_bytes path) (Err given) × (said why ≡ said given)
-IsCaused resolve read (fault.CouldNotReadFile path why) = read (string_bytes path) (Err why)
+IsCaused resolve read (fault.Resolver path why) =
+    (given : ResolveFault) × Resolved resolve (string_bytes path) (outcome.ResolverFault given)
+    × (said why ≡ said given)
+IsCaused resolve read (fault.CouldNotReadFile path why) =
+    WasRead read (string_bytes path) (outcome.ReaderFault why)
 IsCaused resolve read _ = Unit {0}
 
 -- files were met exactly so often where there is a result, and at most so often where there is none
@@ -323,11 +326,43 @@ RunsAsTold legal inputs bundled log result =
     (trees : Trees) (reached seen : Text → List Text) → HasTrees bundled log trees → AreListed trees reached seen
     → Ends legal (record { bundled = bundled; reads = log; trees = trees; reached = reached; seen = seen }) (events trees inputs) result
 
--- a reader that finds nothing
-abbrev pub FindsNothing : MayRead
-FindsNothing own answer = answer ≡ Err unread.NotFound
+-- ---- nothing is asked twice
 
--- A run over these inputs, by such a resolver and with the files that this library brings, read some log and ended so.
-abbrev pub RunsByResolver : MayResolve → List Input → Result (Vec FileDescriptorProto) RunFault → Type 0
-RunsByResolver resolve inputs result =
-    (log : List ReadEntry) × HaveTrees shipped log × HaveLists shipped log × RunsAsTold (MayAnswer resolve FindsNothing) inputs shipped log result
+-- the paths for which the resolver is asked, in order
+abbrev pub if_resolver : Asked → Text → List Text
+if_resolver the_resolver p = p ∷ []
+if_resolver (the_reader own) p = []
+
+abbrev pub resolved_in : List Read → List Text
+resolved_in reads = flat_map (λ (r : Read). if_resolver r.asked r.path) reads
+
+-- the inputs for which the reader is asked, in order
+abbrev pub if_reader : Asked → Text → List Input
+if_reader the_resolver p = []
+if_reader (the_reader own) p = at p own ∷ []
+
+abbrev pub placed_in : List Read → List Input
+placed_in reads = flat_map (λ (r : Read). if_reader r.asked r.path) reads
+
+-- the inputs at paths of their own
+abbrev pub if_placed : Input → List Input
+if_placed (named p) = []
+if_placed (at p own) = at p own ∷ []
+
+abbrev pub placed : List Input → List Input
+placed inputs = flat_map if_placed inputs
+
+-- The log answers the first reads of the run, in order. The resolver is asked for distinct paths, and the
+-- reader for the first inputs at paths of their own, each once.
+pub record IsAskedOnce (legal : Asked → Text → ReadOutcome → Type 0) (trees : Trees) (inputs : List Input) (log : List ReadEntry) : Type 0 where
+  pub reads : List Read
+  pub later : List Read
+  pub first : reads_in (events trees inputs) ≡ reads ++ later
+  pub answers : Answers legal reads log
+  pub resolver : AreDistinct (resolved_in reads)
+  pub unasked : List Input
+  pub reader : placed inputs ≡ placed_in reads ++ unasked
+
+-- So it is whichever trees the texts have that were read.
+abbrev pub AreAskedOnce : (Asked → Text → ReadOutcome → Type 0) → List Input → List (Text × Text) → List ReadEntry → Type 0
+AreAskedOnce legal inputs bundled log = (trees : Trees) → HasTrees bundled log trees → IsAskedOnce legal trees inputs log

@@ -1,8 +1,9 @@
 //! A run: from inputs to the descriptors of all files that they reach.
 
 ghost use Rattle.std.specs.Prelude.{◌≡◌, map, IfOk, IfErr};
-ghost use Rattle.protobuf_parse.specs.Run.{FindsNothing, HaveLists, HaveTrees, IsCaused, IsMet, MayAnswer, RunsAsTold, RunsByResolver, input_view, rows};
+ghost use Rattle.protobuf_parse.specs.Run.{AreAskedOnce, HaveLists, HaveTrees, IsCaused, IsMet, MayAnswer, RunsAsTold, input_view, rows};
 ghost use Rattle.protobuf_parse.specs.Recovered.{OptionsAreHeld};
+ghost use Rattle.protobuf_parse.specs.Shipped.{IsNeverAsked, RunsByResolver};
 ghost use Rattle.protobuf_parse.specs.Walks.{named};
 ghost use Rattle.protobuf_parse.specs.Loading.{Entry};
 ghost use Rattle.protobuf_parse_base.specs.PathViews.{path_buf_text};
@@ -42,8 +43,12 @@ pub fn run_inputs<'a, R: ProtoPathResolver, I: InputReader>(
 ) -> RunLog
     ensures trees { HaveTrees (rows bundled.now) result.reads.items }
     ensures lists { HaveLists (rows bundled.now) result.reads.items }
-    ensures told { RunsAsTold (MayAnswer (λ p a. R.may_answer resolver.now p a) (λ p a. I.may_read reader.now p a)) (map input_view inputs.now) (rows bundled.now) result.reads.items result.result }
-    ensures caused { IfErr result.result (λ f. IsCaused (λ p a. R.may_answer resolver.now p a) (λ p a. I.may_read reader.now p a) f) }
+    ensures told { RunsAsTold (MayAnswer (R.may_answer resolver.now) (I.may_read reader.now))
+        (map input_view inputs.now) (rows bundled.now) result.reads.items result.result }
+    ensures caused { IfErr result.result (λ f.
+        IsCaused (R.may_answer resolver.now) (I.may_read reader.now) f) }
+    ensures once { AreAskedOnce (MayAnswer (R.may_answer resolver.now) (I.may_read reader.now))
+        (map input_view inputs.now) (rows bundled.now) result.reads.items }
     ensures options { OptionsAreHeld (map input_view inputs.now) (rows bundled.now)
         result.reads.items result.result }
     ensures meets { IsMet (map input_view inputs.now) (rows bundled.now) result.reads.items result.meets result.result }
@@ -99,9 +104,9 @@ pub fn parse_and_typecheck_custom<R: ProtoPathResolver>(
     input: &[ProtoPathBuf],
     resolver: &R,
 ) -> Result<Vec<FileDescriptorProto>, RunFault>
-    ensures told { RunsByResolver (λ p a. R.may_answer resolver.now p a) (map (λ (b : ProtoPathBuf). named (path_buf_text b)) input.now) result }
-    ensures caused { IfErr result (λ f. IsCaused (λ p a. R.may_answer resolver.now p a)
-        FindsNothing f) }
+    ensures told { RunsByResolver (R.may_answer resolver.now)
+        (map (λ (b : ProtoPathBuf). named (path_buf_text b)) input.now) result }
+    ensures caused { IfErr result (λ f. IsCaused (R.may_answer resolver.now) IsNeverAsked f) }
 {
     let mut inputs = Vec::new(alloc);
     for path in input {

@@ -1,10 +1,15 @@
 //! Descriptors by a resolver of the caller's own.
 
+ghost use Rattle.std.specs.Prelude.{IfErr};
+ghost use Rattle.protobuf_parse_tests.specs.Sources.{IsGiven, IsOfTheFiles};
+
 use protobuf_parse::pure::parse_and_typecheck_custom;
 use protobuf_parse::{
-    ProtoPath, ProtoPathBuf, ProtoPathResolver, ResolveFault, ResolvedProtoFile, RunFault, listing,
+    FileDescriptorProto, InputReader, ProtoPath, ProtoPathBuf, ProtoPathResolver, ReadInputFault,
+    ResolveFault, ResolvedProtoFile, RunFault, RunInput, listing, run_inputs,
 };
 use std::alloc::{AllocError, Global};
+use std::cell::Cell;
 use std::fmt;
 use std::test::Fail;
 
@@ -26,7 +31,7 @@ fn found(alloc: Global, name: &str, text: &str) -> Result<ResolvedProtoFile, All
 }
 
 impl ProtoPathResolver for Fruit {
-    ghost may_answer = { λ _ _ _. Unit {0} };
+    ghost may_answer = { λ _ _ answer. IsGiven answer };
 
     fn resolve(
         &self,
@@ -55,11 +60,18 @@ fn path(alloc: Global, text: &str) -> Result<ProtoPathBuf, Fail> {
     }
 }
 
+/// What `Fruit` finds. It refuses nothing, so all that can be wrong is in the files, or memory is short.
+fn fruits(alloc: Global, paths: &[ProtoPathBuf]) -> Result<Vec<FileDescriptorProto>, RunFault>
+    ensures { IfErr result IsOfTheFiles }
+{
+    parse_and_typecheck_custom(alloc, paths, &Fruit)
+}
+
 #[test]
 fn describes_what_a_resolver_finds(rt: HostRuntime) -> Result<(), Fail> {
     let alloc = rt.alloc();
     let paths = vec![in alloc; path(alloc, "b.proto")?]?;
-    let described = parse_and_typecheck_custom(alloc, &paths, &Fruit)?;
+    let described = fruits(alloc, &paths)?;
     let want = "file a.proto\n  syntax proto3\n  message Apple\n\
         file b.proto\n  syntax proto3\n  import public a.proto\n  message Banana\n    \
         field optional int32 a = 1 json \"a\"\n";
@@ -71,11 +83,144 @@ fn describes_what_a_resolver_finds(rt: HostRuntime) -> Result<(), Fail> {
 fn tells_what_no_resolver_finds(rt: HostRuntime) -> Result<(), Fail> {
     let alloc = rt.alloc();
     let paths = vec![in alloc; path(alloc, "b.proto")?, path(alloc, "c")?]?;
-    let refused = parse_and_typecheck_custom(alloc, &paths, &Fruit);
+    let refused = fruits(alloc, &paths);
     let fault = RunFault::FileNotFoundInImportPath(
         String::from_str(alloc, "c")?,
         String::from_str(alloc, "Fruit")?,
     );
     assert!(rt; refused == Err(fault));
+    Ok(())
+}
+
+/// Finds `top.proto`, which imports two files that import `base.proto`, and counts how often it is asked:
+/// as a resolver, and as a reader of files that say nothing. What it says of `odd.proto` is another each time.
+#[derive(Drop)]
+struct Counted {
+    found: Cell<usize>,
+    read: Cell<usize>,
+}
+
+impl Counted {
+    fn new() -> Self {
+        Counted {
+            found: Cell::new(0),
+            read: Cell::new(0),
+        }
+    }
+}
+
+impl fmt::Display for Counted {
+    fn fmt<W: fmt::Write>(&self, f: &mut fmt::Formatter<W>) -> fmt::Result {
+        f.write_str("Counted")
+    }
+}
+
+fn once_more(count: &Cell<usize>) -> usize {
+    let before = count.get();
+    count.set(before.wrapping_add(1));
+    before
+}
+
+impl ProtoPathResolver for Counted {
+    ghost may_answer = { λ _ _ _. Unit {0} };
+
+    fn resolve(
+        &self,
+        alloc: Global,
+        path: ProtoPath<'_>,
+    ) -> Result<Option<ResolvedProtoFile>, ResolveFault> {
+        let before = once_more(&self.found);
+        let text = match path.to_str() {
+            "top.proto" => "import 'left.proto'; import 'right.proto'; import 'left.proto';",
+            "left.proto" | "right.proto" => "import public 'base.proto'; import 'base.proto';",
+            "base.proto" => "message Base {}",
+            "odd.proto" if before == 0 => "",
+            _ => return Ok(None),
+        };
+        match found(alloc, path.to_str(), text) {
+            Ok(file) => Ok(Some(file)),
+            Err(_) => Err(ResolveFault::Memory),
+        }
+    }
+}
+
+impl InputReader for Counted {
+    ghost may_read = { λ _ _ _. Unit {0} };
+
+    fn read(&self, alloc: Global, _path: &str) -> Result<Vec<u8>, ReadInputFault> {
+        once_more(&self.read);
+        Ok(Vec::new(alloc))
+    }
+}
+
+/// An input that the resolver finds.
+fn named(alloc: Global, name: &str) -> Result<RunInput, Fail> {
+    Ok(RunInput::Named(path(alloc, name)?))
+}
+
+/// An input that lies in the folder `own`.
+fn placed(alloc: Global, name: &str) -> Result<RunInput, Fail> {
+    Ok(RunInput::At {
+        name: path(alloc, name)?,
+        fs_path: format!(in alloc; "own/{name}")?,
+    })
+}
+
+#[test]
+fn asks_a_resolver_once_for_a_path(rt: HostRuntime) -> Result<(), Fail> {
+    let alloc = rt.alloc();
+    let inputs = vec![in alloc;
+        named(alloc, "top.proto")?,
+        named(alloc, "base.proto")?,
+        named(alloc, "top.proto")?,
+    ]?;
+    let counted = Counted::new();
+    let log = run_inputs(alloc, &inputs, &counted, &counted, &[]);
+    assert_eq!(rt; log.result.is_ok(), true);
+    assert_eq!(rt; log.reads.len(), 4);
+    assert_eq!(rt; counted.found.get(), 4);
+    assert_eq!(rt; counted.read.get(), 0);
+    Ok(())
+}
+
+#[test]
+fn asks_a_reader_once_for_an_input(rt: HostRuntime) -> Result<(), Fail> {
+    let alloc = rt.alloc();
+    let inputs = vec![in alloc;
+        placed(alloc, "odd.proto")?,
+        placed(alloc, "odd.proto")?,
+        named(alloc, "odd.proto")?,
+        placed(alloc, "base.proto")?,
+    ]?;
+    let counted = Counted::new();
+    let log = run_inputs(alloc, &inputs, &counted, &counted, &[]);
+    assert_eq!(rt; log.result.is_ok(), true);
+    assert_eq!(rt; log.reads.len(), 3);
+    assert_eq!(rt; counted.found.get(), 0);
+    assert_eq!(rt; counted.read.get(), 3);
+    Ok(())
+}
+
+#[test]
+fn asks_no_second_time_before_a_fault(rt: HostRuntime) -> Result<(), Fail> {
+    let alloc = rt.alloc();
+    let inputs = vec![in alloc;
+        named(alloc, "odd.proto")?,
+        named(alloc, "odd.proto")?,
+        placed(alloc, "odd.proto")?,
+        named(alloc, "left.proto")?,
+        named(alloc, "none.proto")?,
+        named(alloc, "right.proto")?,
+    ]?;
+    let counted = Counted::new();
+    let log = run_inputs(alloc, &inputs, &counted, &counted, &[]);
+    let fault = RunFault::FileNotFoundInImportPath(
+        String::from_str(alloc, "none.proto")?,
+        String::from_str(alloc, "Counted")?,
+    );
+    assert!(rt; log.result == Err(fault));
+    assert_eq!(rt; log.reads.len(), 5);
+    assert_eq!(rt; counted.found.get(), 4);
+    assert_eq!(rt; counted.read.get(), 1);
     Ok(())
 }

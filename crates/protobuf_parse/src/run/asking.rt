@@ -38,7 +38,7 @@ fn resolved<R: ProtoPathResolver>(
     resolver: &R,
     path: &ProtoPathBuf,
 ) -> Result<ReadOutcome, AllocError>
-    ensures { IfOk result (Resolved (λ p a. R.may_answer resolver.now p a) (path_buf_text path.now)) }
+    ensures { IfOk result (Resolved (R.may_answer resolver.now) (path_buf_text path.now)) }
 {
     match resolver.resolve(alloc, path.as_path()) {
         Ok(Some(file)) => Ok(ReadOutcome::Content {
@@ -52,7 +52,7 @@ fn resolved<R: ProtoPathResolver>(
 }
 
 fn read<I: InputReader>(alloc: Global, reader: &I, fs_path: &str) -> Result<ReadOutcome, AllocError>
-    ensures { IfOk result (WasRead (λ p a. I.may_read reader.now p a) fs_path.now) }
+    ensures { IfOk result (WasRead (I.may_read reader.now) fs_path.now) }
 {
     match reader.read(alloc, fs_path) {
         Ok(content) => Ok(ReadOutcome::Content {

@@ -15,8 +15,8 @@ ghost use Rattle.protobuf_parse.specs.declared.run.fault.RunFault.TheVariants.{M
 ghost use Rattle.protobuf_parse.specs.declared.run.log.ReadEntry.{ReadEntry};
 ghost use Rattle.protobuf_parse_model.specs.Descriptors.{Text};
 ghost use Rattle.protobuf_parse.specs.Walks.{Event, among, at, checks, events, input_walk, keep, statements, walk};
-ghost use Rattle.protobuf_parse.specs.Run.{Files, IsCounted, MayAnswer, are_same_bytes, input_view, StandsInCheck, StandsInCycle, StandsInElab, StandsInLong, origin_given, rows, text_given};
-ghost use Rattle.protobuf_parse.specs.Loading.{AreKnown, AreJoined, AreNumbered, Describes, Goes, GoesOn, Good, Grows, IsDecided, IsElabFault, IsPlaced, IsReaders, IsShadowed, Leaves, OrMemory, ReadsTree, SettlesOver, asked_by, faults_over, file_at, file_shape, legal_by, named_trees, plains_over, texts, trees_of, with_next};
+ghost use Rattle.protobuf_parse.specs.Run.{Files, IsCounted, are_same_bytes, input_view, StandsInCheck, StandsInCycle, StandsInElab, StandsInLong, origin_given, rows, text_given};
+ghost use Rattle.protobuf_parse.specs.Loading.{AreKnown, AreJoined, AreNumbered, Describes, Goes, GoesOn, Good, Grows, IsDecided, IsElabFault, IsPlaced, IsReaders, IsShadowed, OrMemory, ReadsTree, SettlesOver, asked_by, faults_over, file_at, legal_by, named_trees, plains_over, texts, trees_of, with_next};
 ghost use Rattle.protobuf_parse.specs.Frames.{Joined, Meets, is_public_at, number_if, StandsMet, path_of};
 
 use crate::run::asking::{answer, content, opened, origin, unreadable};
@@ -97,7 +97,7 @@ pub fn load_inputs<R: ProtoPathResolver, I: InputReader>(
     requires chain { loader.old.chain.items ≡ [] }
     requires meets { loader.old.meets ≡ 0 }
     ensures goes { (files : Files)
-        → let legal = MayAnswer (λ p a. R.may_answer sources.now.resolver.now p a) (λ p a. I.may_read sources.now.reader.now p a) in
+        → let legal = legal_by R.may_answer I.may_read sources.now in
         GoesOn files (rows sources.now.bundled.now) loader.new.reads.items
         → Goes legal files (events files.trees (map input_view inputs.now)) loader.new.loaded.entries loader.new.reads.items result }
     ensures count { (files : Files) → GoesOn files (rows sources.now.bundled.now) loader.new.reads.items
@@ -126,12 +126,12 @@ fn load_input<R: ProtoPathResolver, I: InputReader>(
     ensures bound { OnOk result (loader.new.meets + length loader.old.reads.items * 2 ^ 64
         ≤ loader.old.meets + 1 + length loader.new.reads.items * 2 ^ 64) }
     ensures goes { (files : Files) (kept : List Event)
-        → let legal = MayAnswer (λ p a. R.may_answer sources.now.resolver.now p a) (λ p a. I.may_read sources.now.reader.now p a) in
+        → let legal = legal_by R.may_answer I.may_read sources.now in
         GoesOn files (rows sources.now.bundled.now) loader.new.reads.items
         → Good legal files kept loader.old.loaded.entries loader.old.reads.items []
         → Goes legal files (keep (kept ++ checks kept (input_view input.now)) (input_walk files.trees (input_view input.now))) loader.new.loaded.entries loader.new.reads.items result }
     ensures count { (files : Files) (kept : List Event)
-        → let legal = MayAnswer (λ p a. R.may_answer sources.now.resolver.now p a) (λ p a. I.may_read sources.now.reader.now p a) in
+        → let legal = legal_by R.may_answer I.may_read sources.now in
         GoesOn files (rows sources.now.bundled.now) loader.new.reads.items
         → Good legal files kept loader.old.loaded.entries loader.old.reads.items []
         → IsCounted (loader.new.meets + statements files.trees kept)
@@ -141,14 +141,10 @@ fn load_input<R: ProtoPathResolver, I: InputReader>(
     ensures known { OnOk result (AreKnown loader.new.loaded.entries loader.new.names loader.new.reads.items) }
 {
     match input {
-        RunInput::Named(name) => {
-            load_file(alloc, loader, sources, name, None)?;
-            Ok(())
-        }
+        RunInput::Named(name) => load_file(alloc, loader, sources, name, None),
         RunInput::At { name, fs_path } => {
             check_loaded(alloc, loader, sources, name, fs_path)?;
-            load_file(alloc, loader, sources, name, Some(fs_path.as_str()))?;
-            Ok(())
+            load_file(alloc, loader, sources, name, Some(fs_path.as_str()))
         }
     }
 }
@@ -267,7 +263,7 @@ fn load_file<R: ProtoPathResolver, I: InputReader>(
     sources: &Sources<'_, R, I>,
     input: &ProtoPathBuf,
     fs_path: Option<&str>,
-) -> Result<Placed, RunFault>
+) -> Result<(), RunFault>
     requires chain { loader.old.chain.items ≡ [] }
     requires known { AreKnown loader.old.loaded.entries loader.old.names loader.old.reads.items }
     requires room { loader.old.meets + 1 ≤ 2 ^ 65 + length loader.old.reads.items * 2 ^ 64 }
@@ -275,14 +271,14 @@ fn load_file<R: ProtoPathResolver, I: InputReader>(
     ensures chain { OnOk result (loader.new.chain.items ≡ []) }
     ensures bound { OnOk result (loader.new.meets + length loader.old.reads.items * 2 ^ 64
         ≤ loader.old.meets + 1 + length loader.new.reads.items * 2 ^ 64) }
-    ensures leaves { (files : Files) (kept : List Event)
+    ensures goes { (files : Files) (kept : List Event)
         → let legal = legal_by R.may_answer I.may_read sources.now in
         let p = path_buf_text input.now in
         GoesOn files (rows sources.now.bundled.now) loader.new.reads.items
         → Good legal files kept loader.old.loaded.entries loader.old.reads.items []
-        → Leaves legal files
+        → Goes legal files
         (keep kept (walk files.trees p (asked_by fs_path.entry) LIMIT [] p))
-        (file_shape files.trees p) loader.new.loaded.entries loader.new.reads.items [] result }
+        loader.new.loaded.entries loader.new.reads.items result }
     ensures count { (files : Files) (kept : List Event)
         → let legal = legal_by R.may_answer I.may_read sources.now in
         let p = path_buf_text input.now in
@@ -296,7 +292,7 @@ fn load_file<R: ProtoPathResolver, I: InputReader>(
 {
     let first = meet(alloc, loader, sources, input, input, fs_path)?;
     let mut top = match first {
-        Met::Loaded(placed) => return Ok(placed),
+        Met::Loaded(_) => return Ok(()),
         Met::Opened(frame) => frame,
     };
     let mut stack: Vec<LoadFrame> = Vec::new(alloc);
@@ -304,7 +300,7 @@ fn load_file<R: ProtoPathResolver, I: InputReader>(
         let Some(statement) = top.tree.statements.get(top.next) else {
             let placed = close(alloc, loader, top)?;
             let Some(parent) = stack.pop() else {
-                return Ok(placed);
+                return Ok(());
             };
             top = parent;
             join(&mut top, placed)?;

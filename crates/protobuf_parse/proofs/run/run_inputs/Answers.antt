@@ -1,6 +1,7 @@
 use Rattle.std.proofs.Common.{inr, refl, map, arith}
 use Rattle.protobuf_parse.specs.Walks.{events}
 use Rattle.protobuf_parse.specs.Run.{MayAnswer, input_view, rows}
+use Rattle.protobuf_parse.proofs.Asking.{all-asked-once}
 use Rattle.protobuf_parse.proofs.Causing.{caused}
 use Rattle.std.proofs.lemmas.List.{length-map}
 use Rattle.protobuf_parse.proofs.Deciding.{goes-on, have-trees, run-files}
@@ -19,7 +20,7 @@ returns-clause-lists g c = have-lists _ _
 
 pub returns-clause-told : goal.returns-clause-told
 returns-clause-told g c trees reached seen has listed =
-    let legal = MayAnswer (λ p a. g.R.ProtoPathResolver.may_answer c.args.resolver.now p a) (λ p a. g.I.InputReader.may_read c.args.reader.now p a) in
+    let legal = MayAnswer (g.R.ProtoPathResolver.may_answer c.args.resolver.now) (g.I.InputReader.may_read c.args.reader.now) in
     let table = rows c.args.bundled.now in
     let log = c.load_inputs-outcome.new.loader.reads.items in
     let files = run-files table log trees reached seen in
@@ -36,7 +37,10 @@ returns-clause-caused g c =
     let t = have-trees _ _ c.load_inputs-outcome.ensures.decided in
     let l = have-lists _ _ t.0 (λ p. (t.1 p).0) in
     let h = returns-clause-told g c t.0 l.0 l.1 (λ p. (t.1 p).0) l.2 in
-    caused (λ p a. g.R.ProtoPathResolver.may_answer c.args.resolver.now p a) (λ p a. g.I.InputReader.may_read c.args.reader.now p a) _ _ _ (all-follow _ _) h
+    caused (g.R.ProtoPathResolver.may_answer c.args.resolver.now) (g.I.InputReader.may_read c.args.reader.now) _ _ _ (all-follow _ _) h
+
+pub returns-clause-once : goal.returns-clause-once
+returns-clause-once g c = all-asked-once _ _ _ _ _ (returns-clause-told g c)
 
 pub returns-clause-options : goal.returns-clause-options
 returns-clause-options g c = all-held _ _ _ _ _ (returns-clause-told g c)

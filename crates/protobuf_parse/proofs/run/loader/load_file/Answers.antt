@@ -68,8 +68,8 @@ meet-requires-in-files-clause-chain g c =
     let n = texts-length c.files.loader.chain.items in
     omega (arith, e, f, h, n, c.files.invariant.low)
 
-pub returns-in_err-met-clause-leaves : goal.returns-in_err-met-clause-leaves
-returns-in_err-met-clause-leaves g c files kept go good =
+pub returns-in_err-met-clause-goes : goal.returns-in_err-met-clause-goes
+returns-in_err-met-clause-goes g c files kept go good =
     let at : slice_get c.files.top.tree.statements.items c.files.top.next ≡ Some (file_statement.Import c.in-Import.import) = at_get c.files.top.tree.statements.items c.files.top.next c.in-Some.statement.now (rw c.deref.ensures.value at c.in-Some.ensures.lookup.3.0) (rw c.deref.ensures.value at c.in-Some.ensures.lookup.1) ∙ ap Some c.in-Import.is in
     let legal = legal_by g.R.ProtoPathResolver.may_answer g.I.InputReader.may_read c.args.sources.now in
     let back = goes-back files _ _ _ c.meet-in-files.ensures.grows go in
@@ -127,8 +127,8 @@ files-preserved-in-Continue-branch-5 g c =
           rw same (running-known legal files kept _ (path_buf_text c.args.input.now) c.args.loader.now.meets c.files.stack.items c.files.top c.join-in-Loaded-met.new.frame c.in-Loaded-met.placed c.in-Import.import _ _ (texts c.files.loader.chain.items) _ _ _ r c.files.invariant.chain at c.meet-in-files.ensures.meets c.meet-in-files.ensures.grows (λ x. rw c.in-Loaded-met.is at (c.in_ok-met.ensures.leaves files r.now go x)) j);
     }
 
-pub returns-in_err-join-in-Loaded-met-clause-leaves : goal.returns-in_err-join-in-Loaded-met-clause-leaves
-returns-in_err-join-in-Loaded-met-clause-leaves g c files kept go good =
+pub returns-in_err-join-in-Loaded-met-clause-goes : goal.returns-in_err-join-in-Loaded-met-clause-goes
+returns-in_err-join-in-Loaded-met-clause-goes g c files kept go good =
     let legal = legal_by g.R.ProtoPathResolver.may_answer g.I.InputReader.may_read c.args.sources.now in
     let back = goes-back files _ _ _ c.meet-in-files.ensures.grows go in
     let r = c.files.invariant.inside files kept back good in
@@ -144,8 +144,8 @@ returns-in_err-join-in-Loaded-met-clause-count g c files kept go good =
     let p = err_from_is_err_and c.from_residual-in_err-join-in-Loaded-met.result c.from_residual-in_err-join-in-Loaded-met.ensures.1 in
     rw p.1 (counted-next legal files kept _ (path_buf_text c.args.input.now) c.args.loader.now.meets c.files.stack.items c.files.top c.in-Import.import _ _ _ _ r at c.meet-in-files.ensures.meets)
 
-pub returns-in_err-push-in-Opened-met-clause-leaves : goal.returns-in_err-push-in-Opened-met-clause-leaves
-returns-in_err-push-in-Opened-met-clause-leaves g c files kept go good =
+pub returns-in_err-push-in-Opened-met-clause-goes : goal.returns-in_err-push-in-Opened-met-clause-goes
+returns-in_err-push-in-Opened-met-clause-goes g c files kept go good =
     let at : slice_get c.files.top.tree.statements.items c.files.top.next ≡ Some (file_statement.Import c.in-Import.import) = at_get c.files.top.tree.statements.items c.files.top.next c.in-Some.statement.now (rw c.deref.ensures.value at c.in-Some.ensures.lookup.3.0) (rw c.deref.ensures.value at c.in-Some.ensures.lookup.1) ∙ ap Some c.in-Import.is in
     let legal = legal_by g.R.ProtoPathResolver.may_answer g.I.InputReader.may_read c.args.sources.now in
     let o : IsOpened (texts c.files.loader.chain.items) (path_buf_text c.in-Import.import.path) c.files.loader.loaded.entries c.files.loader.reads.items (texts c.meet-in-files.new.loader.chain.items) c.meet-in-files.new.loader.reads.items c.in-Opened-met.frame = (rw c.in-Opened-met.is at c.in_ok-met.ensures.stands) in
@@ -250,8 +250,8 @@ files-preserved-in_default-statement g c =
           running-other legal files kept _ (path_buf_text c.args.input.now) c.args.loader.now.meets c.files.stack.items c.files.top next c.in-Some.statement.now _ _ _ (c.files.invariant.inside files kept go good) at other is;
     }
 
-pub returns-in_err-placed-clause-leaves : goal.returns-in_err-placed-clause-leaves
-returns-in_err-placed-clause-leaves g c files kept go good =
+pub returns-in_err-placed-clause-goes : goal.returns-in_err-placed-clause-goes
+returns-in_err-placed-clause-goes g c files kept go good =
     let le : length c.files.top.tree.statements.items ≤ c.files.top.next = (rw c.deref.ensures.value at c.in_default.ensures.lookup.3) in
     let reads = ap (λ (w : Vec ReadEntry). w.items) c.close.ensures.reads in
     let legal = legal_by g.R.ProtoPathResolver.may_answer g.I.InputReader.may_read c.args.sources.now in
@@ -276,8 +276,8 @@ returns-in_err-placed-clause-decided g c d =
     let reads = ap (λ (w : Vec ReadEntry). w.items) c.close.ensures.reads in
     decided-same (rows c.args.sources.now.bundled.now) _ _ reads (c.files.invariant.decided d)
 
-pub returns-in_default-pop-clause-leaves : goal.returns-in_default-pop-clause-leaves
-returns-in_default-pop-clause-leaves g c files kept go good =
+pub returns-in_default-pop-clause-goes : goal.returns-in_default-pop-clause-goes
+returns-in_default-pop-clause-goes g c files kept go good =
     let le : length c.files.top.tree.statements.items ≤ c.files.top.next = (rw c.deref.ensures.value at c.in_default.ensures.lookup.3) in
     let reads = ap (λ (w : Vec ReadEntry). w.items) c.close.ensures.reads in
     let zero_left : length c.files.stack.items ≡ 0 = omega (arith, c.in_default-pop.ensures.cases.0, c.files.stack.ok.0) in
@@ -287,8 +287,7 @@ returns-in_default-pop-clause-leaves g c files kept go good =
     let back = goes-same files _ _ _ reads go in
     let r = c.files.invariant.inside files kept back good in
     let k = running-closes legal files kept _ (path_buf_text c.args.input.now) c.args.loader.now.meets c.files.stack.items c.files.top _ _ c.close.new.loader.loaded.entries _ c.close.new.loader.names _ (Ok c.in_ok-placed.placed) r _ _ go c.files.invariant.known c.files.invariant.taken none c.files.invariant.off le (omega (arith, c.files.invariant.low)) (c.in_ok-placed.ensures.settles c.files.invariant.known.tells) in
-    let is : path_of c.files.top ≡ path_buf_text c.args.input.now = (rw empty at c.files.invariant.lowest) in
-    rw reads (running-end legal files kept _ (path_buf_text c.args.input.now) c.args.loader.now.meets c.files.stack.items c.files.top c.in_ok-placed.placed (path_buf_text c.args.input.now) _ _ _ _ r empty le is k)
+    rw reads (running-end legal files kept _ (path_buf_text c.args.input.now) c.args.loader.now.meets c.files.stack.items c.files.top c.in_ok-placed.placed _ _ _ _ r empty le k)
 
 pub returns-in_default-pop-clause-count : goal.returns-in_default-pop-clause-count
 returns-in_default-pop-clause-count g c files kept go good =
@@ -372,8 +371,8 @@ files-preserved-in_default g c =
           rw (reads, c.close.ensures.meets) (running-close legal files kept _ (path_buf_text c.args.input.now) c.args.loader.now.meets c.pop.new.self.items c.files.stack.items c.files.top c.in-Some-pop.parent c.join.new.frame c.in_ok-placed.placed w.1.import _ _ _ _ r s le k w.1.at w.1.named j);
     }
 
-pub returns-in_err-join-clause-leaves : goal.returns-in_err-join-clause-leaves
-returns-in_err-join-clause-leaves g c files kept go good =
+pub returns-in_err-join-clause-goes : goal.returns-in_err-join-clause-goes
+returns-in_err-join-clause-goes g c files kept go good =
     let le : length c.files.top.tree.statements.items ≤ c.files.top.next = (rw c.deref.ensures.value at c.in_default.ensures.lookup.3) in
     let reads = ap (λ (w : Vec ReadEntry). w.items) c.close.ensures.reads in
     let legal = legal_by g.R.ProtoPathResolver.may_answer g.I.InputReader.may_read c.args.sources.now in

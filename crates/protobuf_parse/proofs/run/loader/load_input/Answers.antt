@@ -1,90 +1,51 @@
-use Rattle.std.proofs.Common.{Ok, Err, ◌∙◌, ◌++◌, ap, arith, refl, sym, append-nil}
+use Rattle.std.proofs.Common.{◌∙◌, ◌++◌, ap, refl, sym, append-nil}
 use Rattle.std.proofs.lemmas.Result.{err_from_is_err_and}
 use Rattle.protobuf_parse_base.specs.PathViews.{path_buf_text}
 use Rattle.protobuf_parse.specs.Walks.{named, at, checks}
 use Rattle.protobuf_parse.specs.Run.{input_view}
 use Rattle.protobuf_parse.specs.Loading.{legal_by}
 use Rattle.protobuf_parse.proofs.Knowing.{known-grows}
-use Rattle.protobuf_parse.proofs.Inputs.{input-stops, input-goes, check-stops}
+use Rattle.protobuf_parse.proofs.Inputs.{input-ends, check-stops}
 use Rattle.protobuf_parse.proofs.Leaving.{goes-back}
-use Rattle.protobuf_parse.proofs.Steps.{Grows-trans}
 use Rattle.protobuf_parse.proofs.Counting.{count-check, count-input}
 use Rattle.protobuf_parse.proofs.run.loader.load_input.Goals as goal
 
-pub returns-in_err-load_file-in-Named-clause-goes : goal.returns-in_err-load_file-in-Named-clause-goes
-returns-in_err-load_file-in-Named-clause-goes g c files kept go good =
-    let p = err_from_is_err_and c.from_residual.result c.from_residual.ensures.1 in
-    rw (p.1, p.2) (input-stops _ files kept kept (named (path_buf_text c.in-Named.name)) _ _ c.in_err-load_file-in-Named.field-0.0 (ap input_view c.in-Named.is) (sym (append-nil kept)) (c.in_err-load_file-in-Named.ensures.leaves files kept go good))
+pub returns-in-Named-clause-goes : goal.returns-in-Named-clause-goes
+returns-in-Named-clause-goes g c files kept go good =
+    input-ends (legal_by g.R.ProtoPathResolver.may_answer g.I.InputReader.may_read c.args.sources.now) files _ kept kept (named (path_buf_text c.in-Named.name)) _ _ _ (ap input_view c.in-Named.is) (sym (append-nil kept)) (c.load_file.ensures.goes files kept go good)
 
-pub returns-in_ok-load_file-in-Named-clause-goes : goal.returns-in_ok-load_file-in-Named-clause-goes
-returns-in_ok-load_file-in-Named-clause-goes g c files kept go good =
-    input-goes _ files kept kept (named (path_buf_text c.in-Named.name)) _ _ _ (ap input_view c.in-Named.is) (sym (append-nil kept)) (c.in_ok-load_file-in-Named.ensures.leaves files kept go good).0
-
-pub returns-in_err-check_loaded-in-At-clause-goes : goal.returns-in_err-check_loaded-in-At-clause-goes
-returns-in_err-check_loaded-in-At-clause-goes g c files kept go good =
-    let name = path_buf_text c.in-At.name in
-    let p = err_from_is_err_and c.from_residual-in_err-check_loaded-in-At.result c.from_residual-in_err-check_loaded-in-At.ensures.1 in
-    rw (p.1, p.2) (check-stops _ files kept (at name c.deref.result.now) _ _ c.in_err-check_loaded-in-At.field-0.0 (ap input_view c.in-At.is ∙ ap (at name) (sym c.deref.ensures)) (c.in_err-check_loaded-in-At.ensures.goes files kept go good))
-
-pub returns-in_err-load_file-in-At-clause-goes : goal.returns-in_err-load_file-in-At-clause-goes
-returns-in_err-load_file-in-At-clause-goes g c files kept go good =
-    let name = path_buf_text c.in-At.name in
-    let back = goes-back files _ _ _ c.load_file-in-At.ensures.grows go in
-    let base = ap (λ z. kept ++ checks kept (at name z)) (c.deref.ensures ∙ sym c.as_str.ensures.value) in
-    let p = err_from_is_err_and c.from_residual-in_err-load_file-in-At.result c.from_residual-in_err-load_file-in-At.ensures.1 in
-    rw (p.1, p.2) (input-stops _ files kept _ (at name c.as_str.result.now) _ _ c.in_err-load_file-in-At.field-0.0 (ap input_view c.in-At.is ∙ ap (at name) (sym c.as_str.ensures.value)) base (c.in_err-load_file-in-At.ensures.leaves files _ go (c.in_ok-check_loaded-in-At.ensures.goes files kept back good)))
-
-pub returns-in_ok-load_file-in-At-clause-goes : goal.returns-in_ok-load_file-in-At-clause-goes
-returns-in_ok-load_file-in-At-clause-goes g c files kept go good =
-    let name = path_buf_text c.in-At.name in
-    let back = goes-back files _ _ _ c.load_file-in-At.ensures.grows go in
-    let base = ap (λ z. kept ++ checks kept (at name z)) (c.deref.ensures ∙ sym c.as_str.ensures.value) in
-    input-goes _ files kept _ (at name c.as_str.result.now) _ _ _ (ap input_view c.in-At.is ∙ ap (at name) (sym c.as_str.ensures.value)) base (c.in_ok-load_file-in-At.ensures.leaves files _ go (c.in_ok-check_loaded-in-At.ensures.goes files kept back good)).0
-
-pub returns-in_ok-load_file-in-Named-clause-count : goal.returns-in_ok-load_file-in-Named-clause-count
-returns-in_ok-load_file-in-Named-clause-count g c files kept go good =
-    count-input (legal_by g.R.ProtoPathResolver.may_answer g.I.InputReader.may_read c.args.sources.now) files (Ok c.in_ok-load_file-in-Named.field-0) kept kept (named (path_buf_text c.in-Named.name)) _ _ _ _ (ap input_view c.in-Named.is) (sym (append-nil kept)) refl (c.in_ok-load_file-in-Named.ensures.count files kept go good)
-
-pub returns-in_err-load_file-in-Named-clause-count : goal.returns-in_err-load_file-in-Named-clause-count
-returns-in_err-load_file-in-Named-clause-count g c files kept go good =
-    let p = err_from_is_err_and c.from_residual.result c.from_residual.ensures.1 in
-    rw p.1 (count-input (legal_by g.R.ProtoPathResolver.may_answer g.I.InputReader.may_read c.args.sources.now) files (Err c.in_err-load_file-in-Named.field-0.0) kept kept (named (path_buf_text c.in-Named.name)) _ _ _ _ (ap input_view c.in-Named.is) (sym (append-nil kept)) refl (c.in_err-load_file-in-Named.ensures.count files kept go good))
-
-pub returns-in_ok-load_file-in-At-clause-count : goal.returns-in_ok-load_file-in-At-clause-count
-returns-in_ok-load_file-in-At-clause-count g c files kept go good =
-    let name = path_buf_text c.in-At.name in
-    let back = goes-back files _ _ _ c.load_file-in-At.ensures.grows go in
-    let base = ap (λ z. kept ++ checks kept (at name z)) (c.deref.ensures ∙ sym c.as_str.ensures.value) in
-    count-input (legal_by g.R.ProtoPathResolver.may_answer g.I.InputReader.may_read c.args.sources.now) files (Ok c.in_ok-load_file-in-At.field-0) kept _ (at name c.as_str.result.now) _ _ _ _ (ap input_view c.in-At.is ∙ ap (at name) (sym c.as_str.ensures.value)) base c.check_loaded.ensures.meets (c.in_ok-load_file-in-At.ensures.count files _ go (c.in_ok-check_loaded-in-At.ensures.goes files kept back good))
-
-pub returns-in_err-load_file-in-At-clause-count : goal.returns-in_err-load_file-in-At-clause-count
-returns-in_err-load_file-in-At-clause-count g c files kept go good =
-    let name = path_buf_text c.in-At.name in
-    let back = goes-back files _ _ _ c.load_file-in-At.ensures.grows go in
-    let base = ap (λ z. kept ++ checks kept (at name z)) (c.deref.ensures ∙ sym c.as_str.ensures.value) in
-    let p = err_from_is_err_and c.from_residual-in_err-load_file-in-At.result c.from_residual-in_err-load_file-in-At.ensures.1 in
-    rw p.1 (count-input (legal_by g.R.ProtoPathResolver.may_answer g.I.InputReader.may_read c.args.sources.now) files (Err c.in_err-load_file-in-At.field-0.0) kept _ (at name c.as_str.result.now) _ _ _ _ (ap input_view c.in-At.is ∙ ap (at name) (sym c.as_str.ensures.value)) base c.check_loaded.ensures.meets (c.in_err-load_file-in-At.ensures.count files _ go (c.in_ok-check_loaded-in-At.ensures.goes files kept back good)))
-
-pub returns-in_err-check_loaded-in-At-clause-count : goal.returns-in_err-check_loaded-in-At-clause-count
-returns-in_err-check_loaded-in-At-clause-count g c files kept go good =
-    let p = err_from_is_err_and c.from_residual-in_err-check_loaded-in-At.result c.from_residual-in_err-check_loaded-in-At.ensures.1 in
-    rw p.1 (count-check files.trees kept (input_view c.args.input.now) _ _ c.check_loaded.ensures.meets)
-
-pub returns-in_err-load_file-in-At-clause-decided : goal.returns-in_err-load_file-in-At-clause-decided
-returns-in_err-load_file-in-At-clause-decided g c d = c.in_err-load_file-in-At.ensures.decided (c.in_ok-check_loaded-in-At.ensures.decided d)
-
-pub returns-in_ok-load_file-in-At-clause-decided : goal.returns-in_ok-load_file-in-At-clause-decided
-returns-in_ok-load_file-in-At-clause-decided g c d = c.in_ok-load_file-in-At.ensures.decided (c.in_ok-check_loaded-in-At.ensures.decided d)
-
-pub returns-in_err-load_file-in-At-clause-grows : goal.returns-in_err-load_file-in-At-clause-grows
-returns-in_err-load_file-in-At-clause-grows g c = Grows-trans _ _ _ c.check_loaded.ensures.grows c.load_file-in-At.ensures.grows
-
-pub returns-in_ok-load_file-in-At-clause-grows : goal.returns-in_ok-load_file-in-At-clause-grows
-returns-in_ok-load_file-in-At-clause-grows g c = Grows-trans _ _ _ c.check_loaded.ensures.grows c.load_file-in-At.ensures.grows
-
-pub returns-in_ok-load_file-in-At-clause-bound : goal.returns-in_ok-load_file-in-At-clause-bound
-returns-in_ok-load_file-in-At-clause-bound g c = omega (arith, c.in_ok-load_file-in-At.ensures.bound, c.check_loaded.ensures.meets, c.check_loaded.ensures.more)
+pub returns-in-Named-clause-count : goal.returns-in-Named-clause-count
+returns-in-Named-clause-count g c files kept go good =
+    count-input (legal_by g.R.ProtoPathResolver.may_answer g.I.InputReader.may_read c.args.sources.now) files _ kept kept (named (path_buf_text c.in-Named.name)) _ _ _ _ (ap input_view c.in-Named.is) (sym (append-nil kept)) refl (c.load_file.ensures.count files kept go good)
 
 pub load_file-requires-in-At-clause-known : goal.load_file-requires-in-At-clause-known
 load_file-requires-in-At-clause-known g c =
     known-grows _ _ c.args.loader.now.reads.items _ c.check_loaded.ensures.grows (rw (ap (λ m. m.entries) c.check_loaded.ensures.loaded, c.check_loaded.ensures.names) c.requires.known)
+
+pub returns-in_err-check_loaded-in-At-clause-goes : goal.returns-in_err-check_loaded-in-At-clause-goes
+returns-in_err-check_loaded-in-At-clause-goes g c files kept go good =
+    let name = path_buf_text c.in-At.name in
+    let p = err_from_is_err_and c.from_residual.result c.from_residual.ensures.1 in
+    rw (p.1, p.2) (check-stops _ files kept (at name c.deref.result.now) _ _ c.in_err-check_loaded-in-At.field-0.0 (ap input_view c.in-At.is ∙ ap (at name) (sym c.deref.ensures)) (c.in_err-check_loaded-in-At.ensures.goes files kept go good))
+
+pub returns-in_err-check_loaded-in-At-clause-count : goal.returns-in_err-check_loaded-in-At-clause-count
+returns-in_err-check_loaded-in-At-clause-count g c files kept go good =
+    let p = err_from_is_err_and c.from_residual.result c.from_residual.ensures.1 in
+    rw p.1 (count-check files.trees kept (input_view c.args.input.now) _ _ c.check_loaded.ensures.meets)
+
+pub returns-in_ok-check_loaded-in-At-clause-goes : goal.returns-in_ok-check_loaded-in-At-clause-goes
+returns-in_ok-check_loaded-in-At-clause-goes g c files kept go good =
+    let name = path_buf_text c.in-At.name in
+    let back = goes-back files _ _ _ c.load_file-in-At.ensures.grows go in
+    let base = ap (λ z. kept ++ checks kept (at name z)) (c.deref.ensures ∙ sym c.as_str.ensures.value) in
+    input-ends (legal_by g.R.ProtoPathResolver.may_answer g.I.InputReader.may_read c.args.sources.now) files _ kept _ (at name c.as_str.result.now) _ _ _ (ap input_view c.in-At.is ∙ ap (at name) (sym c.as_str.ensures.value)) base (c.load_file-in-At.ensures.goes files _ go (c.in_ok-check_loaded-in-At.ensures.goes files kept back good))
+
+pub returns-in_ok-check_loaded-in-At-clause-count : goal.returns-in_ok-check_loaded-in-At-clause-count
+returns-in_ok-check_loaded-in-At-clause-count g c files kept go good =
+    let name = path_buf_text c.in-At.name in
+    let back = goes-back files _ _ _ c.load_file-in-At.ensures.grows go in
+    let base = ap (λ z. kept ++ checks kept (at name z)) (c.deref.ensures ∙ sym c.as_str.ensures.value) in
+    count-input (legal_by g.R.ProtoPathResolver.may_answer g.I.InputReader.may_read c.args.sources.now) files _ kept _ (at name c.as_str.result.now) _ _ _ _ (ap input_view c.in-At.is ∙ ap (at name) (sym c.as_str.ensures.value)) base c.check_loaded.ensures.meets (c.load_file-in-At.ensures.count files _ go (c.in_ok-check_loaded-in-At.ensures.goes files kept back good))
+
+pub returns-in_ok-check_loaded-in-At-clause-decided : goal.returns-in_ok-check_loaded-in-At-clause-decided
+returns-in_ok-check_loaded-in-At-clause-decided g c d = c.load_file-in-At.ensures.decided (c.in_ok-check_loaded-in-At.ensures.decided d)
