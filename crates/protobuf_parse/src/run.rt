@@ -1,7 +1,8 @@
 //! A run: from inputs to the descriptors of all files that they reach.
 
 ghost use Rattle.std.specs.Prelude.{◌≡◌, map, IfOk, IfErr};
-ghost use Rattle.protobuf_parse.specs.Run.{AreAskedOnce, HaveLists, HaveTrees, IsCaused, IsMet, MayAnswer, RunsAsTold, input_view, rows};
+ghost use Rattle.protobuf_parse.specs.Run.{AreAskedOnce, HaveLists, HaveTrees, IsCaused, IsMet};
+ghost use Rattle.protobuf_parse.specs.Run.{MayAnswer, RunsAsTold, input_view, rows};
 ghost use Rattle.protobuf_parse.specs.Recovered.{OptionsAreHeld};
 ghost use Rattle.protobuf_parse.specs.Shipped.{IsNeverAsked, RunsByResolver};
 ghost use Rattle.protobuf_parse.specs.Walks.{named};
@@ -51,7 +52,8 @@ pub fn run_inputs<'a, R: ProtoPathResolver, I: InputReader>(
         (map input_view inputs.now) (rows bundled.now) result.reads.items }
     ensures options { OptionsAreHeld (map input_view inputs.now) (rows bundled.now)
         result.reads.items result.result }
-    ensures meets { IsMet (map input_view inputs.now) (rows bundled.now) result.reads.items result.meets result.result }
+    ensures meets { IsMet (map input_view inputs.now)
+        (rows bundled.now) result.reads.items result.meets result.result }
 {
     let mut loader = Loader {
         loaded: IndexMap::new(alloc),

@@ -66,10 +66,12 @@ pub fn elaborate<C: CustomOptions>(
     custom: &C,
 ) -> Result<FileDescriptorProto, ElabFailure>
     requires few { statements_in (file_view tree.now) ≤ 2147483647 }
-    ensures by_table { let t = file_view tree.now in let env = environment_of_file (C.customs custom.now) seen.now t in
+    ensures by_table { let t = file_view tree.now in
+        let env = environment_of_file (C.customs custom.now) seen.now t in
         Elaborates described.file_view result (file_faults env t) (file_of env name.now t) }
     ensures by_files { (files : List FileSyntax) → Tells seen.now.declarations.now files →
-        let t = file_view tree.now in let env = environment (picked files seen.now.sight.now) (C.customs custom.now) t in
+        let t = file_view tree.now in
+        let env = environment (picked files seen.now.sight.now) (C.customs custom.now) t in
         Elaborates described.file_view result (file_faults env t) (file_of env name.now t) }
 {
     file_descriptor(alloc, name, tree, seen, custom)

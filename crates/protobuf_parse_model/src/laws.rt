@@ -2,8 +2,10 @@
 
 ghost use Rattle.protobuf_parse_model.specs.Declarations.{TypeKind};
 ghost use Rattle.protobuf_parse_model.specs.Lookup.{MeansTheLongest, MeansNothing, MeansItself};
-ghost use Rattle.protobuf_parse_model.specs.NamedTypes.{NamesAreDeclared, TypesAreNamed, ExtendeesAreNamed, MessagesAreNamed};
-ghost use Rattle.protobuf_parse_model.specs.CustomSets.{FaultsAreOfSets, NoneIsNoneInSets, BytesAreOfSets, OptionsAreBuiltin};
+ghost use Rattle.protobuf_parse_model.specs.NamedTypes.{NamesAreDeclared, TypesAreNamed};
+ghost use Rattle.protobuf_parse_model.specs.NamedTypes.{ExtendeesAreNamed, MessagesAreNamed};
+ghost use Rattle.protobuf_parse_model.specs.CustomSets.{FaultsAreOfSets, NoneIsNoneInSets};
+ghost use Rattle.protobuf_parse_model.specs.CustomSets.{BytesAreOfSets, OptionsAreBuiltin};
 
 /// What the name of a type means is declared in the longest front of the scope in which a type has that
 /// name; a name that means nothing is declared in no front; a name with a first dot means the type of

@@ -16,10 +16,12 @@ mod words;
 
 ghost use Rattle.std.specs.Prelude.{◌≡◌, ◌≤◌, ◌⊎◌, IfOk, IfErr};
 ghost use Rattle.protobuf_parse_syntax.specs.Counts.{statements_in};
-ghost use Rattle.protobuf_parse_syntax.specs.Cut.{out_of_memory, stream as tokens_of, error_place as place_at};
+ghost use Rattle.protobuf_parse_syntax.specs.Cut.{out_of_memory, stream as tokens_of};
+ghost use Rattle.protobuf_parse_syntax.specs.Cut.{error_place as place_at};
 ghost use Rattle.protobuf_parse_syntax.specs.Grammar.{IsFile};
 ghost use Rattle.protobuf_parse_syntax.specs.Nesting.{ShallowFile};
-ghost use Rattle.protobuf_parse_syntax.specs.Parsing.{IsGrammarFault, HasTree, IsFaultOf, TellsFaults};
+ghost use Rattle.protobuf_parse_syntax.specs.Parsing.{IsGrammarFault, HasTree, IsFaultOf};
+ghost use Rattle.protobuf_parse_syntax.specs.Parsing.{TellsFaults};
 ghost use Rattle.protobuf_parse_syntax.specs.Trees.{FileSyntax, file_view};
 
 use crate::error::{ParserError, ParserErrorWithLocation};

@@ -1,5 +1,7 @@
 -- The first of what stands under a name, as this is gone through; and what the code's maps have.
-use Rattle.std.proofs.Common.{◌≡◌, ℕ, suc, ℤ, arith, ◌==◌, Bool, true, false, not, List, [], ◌∷◌, ◌++◌, map, length, Option, Some, None, option_map, is_some, refl, sym, ap, ◌∙◌, bytes_eq, string_bytes}
+use Rattle.std.proofs.Common.{◌≡◌, ℕ, suc, ℤ, arith, ◌==◌, Bool, true, false, not, List, [], ◌∷◌}
+use Rattle.std.proofs.Common.{◌++◌, map, length, Option, Some, None, option_map, is_some, refl, sym}
+use Rattle.std.proofs.Common.{ap, ◌∙◌, bytes_eq, string_bytes}
 use Rattle.std.specs.Bool.{one_answer}
 use Rattle.std.specs.List.{list_any}
 use Rattle.std.specs.Option.{option_or}
@@ -10,11 +12,14 @@ use Rattle.std.proofs.lemmas.Slice.Eq.{bytes_eq-Decides}
 use Rattle.protobuf_parse_model.specs.declared.descriptor.DescriptorProto.{DescriptorProto}
 use Rattle.protobuf_parse_model.specs.declared.descriptor.EnumDescriptorProto.{EnumDescriptorProto}
 use Rattle.protobuf_parse_model.specs.Declarations.{Declared}
-use Rattle.protobuf_parse_model.specs.Descriptors.{Text, FieldDescriptor, EnumDescriptor, MessageParts}
+use Rattle.protobuf_parse_model.specs.Descriptors.{Text, FieldDescriptor, EnumDescriptor}
+use Rattle.protobuf_parse_model.specs.Descriptors.{MessageParts}
 use Rattle.protobuf_parse_wire.specs.declared.customs.known.Known.{Known}
-use Rattle.protobuf_parse_wire.specs.ByName.{enum_seen, enums_named, fields_in, named, part_seen, values_in}
+use Rattle.protobuf_parse_wire.specs.ByName.{enum_seen, enums_named, fields_in, named, part_seen}
+use Rattle.protobuf_parse_wire.specs.ByName.{values_in}
 use Rattle.protobuf_parse_wire.specs.Declarations.{Declaration, messages_named}
-use Rattle.protobuf_parse_wire.specs.Known.{enum_known, field_among, messages_known, number_among, values_among}
+use Rattle.protobuf_parse_wire.specs.Known.{enum_known, field_among, messages_known, number_among}
+use Rattle.protobuf_parse_wire.specs.Known.{values_among}
 use Rattle.protobuf_parse_wire.proofs.Found.{number_split}
 
 pub is_some_mapped : {A B : Type 0} (f : A → B) (o : Option A) → is_some (option_map f o)

@@ -1,9 +1,13 @@
 -- Lists of what files declare, as they grow.
 use Rattle.std.proofs.Common.{◌≡◌, List, [], ◌∷◌, ◌++◌, map, sym, ap, ◌∙◌, append_assoc}
 use Rattle.std.specs.List.{flat_map}
-use Rattle.protobuf_parse_model.specs.declared.descriptor.DescriptorProto.{DescriptorProto, out-DescriptorProto}
-use Rattle.protobuf_parse_model.specs.Descriptors.{Text, MessageParts, MessageDescriptor, a_message, messages_of_list, message_parts, message_view, message_view_is}
-use Rattle.protobuf_parse_wire.specs.Declarations.{Declaration, within, declared_message, declared_messages}
+use Rattle.protobuf_parse_model.specs.declared.descriptor.DescriptorProto.{DescriptorProto}
+use Rattle.protobuf_parse_model.specs.declared.descriptor.DescriptorProto.{out-DescriptorProto}
+use Rattle.protobuf_parse_model.specs.Descriptors.{Text, MessageParts, MessageDescriptor, a_message}
+use Rattle.protobuf_parse_model.specs.Descriptors.{messages_of_list, message_parts, message_view}
+use Rattle.protobuf_parse_model.specs.Descriptors.{message_view_is}
+use Rattle.protobuf_parse_wire.specs.Declarations.{Declaration, within, declared_message}
+use Rattle.protobuf_parse_wire.specs.Declarations.{declared_messages}
 use Rattle.protobuf_parse_wire.specs.Indexed.{parts_seen}
 use Rattle.protobuf_parse_wire.proofs.Adding.{declared_list}
 

@@ -4,12 +4,15 @@ use Rattle.std.specs.Borrow.{Bor}
 use Rattle.protobuf_parse_model.specs.declared.descriptor.DescriptorProto.{DescriptorProto}
 use Rattle.protobuf_parse_model.specs.declared.descriptor.EnumDescriptorProto.{EnumDescriptorProto}
 use Rattle.protobuf_parse_model.specs.Declarations.{Declared}
-use Rattle.protobuf_parse_model.specs.Descriptors.{Text, FieldDescriptor, EnumDescriptor, EnumValueDescriptor, MessageParts, message_view, enum_view}
+use Rattle.protobuf_parse_model.specs.Descriptors.{Text, FieldDescriptor, EnumDescriptor}
+use Rattle.protobuf_parse_model.specs.Descriptors.{EnumValueDescriptor, MessageParts, message_view}
+use Rattle.protobuf_parse_model.specs.Descriptors.{enum_view}
 use Rattle.protobuf_parse_wire.specs.declared.customs.known.Known.{Known}
 use Rattle.protobuf_parse_wire.specs.Indexed.{parts_seen}
 
 abbrev pub named : {T : Type 0} → Text → List (Known T) → List T
-named {T = T} name ks = map (λ (k : Known T). k.what) (filter (λ (k : Known T). bytes_eq name (string_bytes k.name)) ks)
+named {T = T} name ks =
+    map (λ (k : Known T). k.what) (filter (λ (k : Known T). bytes_eq name (string_bytes k.name)) ks)
 
 abbrev pub part_seen : Bor DescriptorProto → MessageParts
 part_seen m = parts_seen (message_view m.now)
@@ -23,7 +26,9 @@ fields_in ps = flat_map (λ (parts : MessageParts). parts.field) ps
 
 -- the enums that have the full name, and the values of all of them
 abbrev pub enums_named : Text → List (Declared EnumDescriptor) → List EnumDescriptor
-enums_named name es = map (λ (e : Declared EnumDescriptor). e.what) (filter (λ (e : Declared EnumDescriptor). bytes_eq name e.name) es)
+enums_named name es =
+    map (λ (e : Declared EnumDescriptor). e.what)
+    (filter (λ (e : Declared EnumDescriptor). bytes_eq name e.name) es)
 
 abbrev pub values_in : List EnumDescriptor → List EnumValueDescriptor
 values_in es = flat_map (λ (e : EnumDescriptor). e.value) es

@@ -1,5 +1,6 @@
 -- What the code holds of the files' descriptors: references to them, and to what they declare.
-use Rattle.std.specs.Prelude.{ℤ, List, [], map, flat_map, string_bytes, bytes_eq, Option, option_map, if◌then◌else◌}
+use Rattle.std.specs.Prelude.{ℤ, List, [], map, flat_map, string_bytes, bytes_eq, Option}
+use Rattle.std.specs.Prelude.{option_map, if◌then◌else◌}
 use Rattle.std.specs.List.{find}
 use Rattle.std.specs.Borrow.{Bor}
 use Rattle.protobuf_parse_model.specs.declared.descriptor.DescriptorProto.{DescriptorProto}
@@ -7,7 +8,10 @@ use Rattle.protobuf_parse_model.specs.declared.descriptor.EnumDescriptorProto.{E
 use Rattle.protobuf_parse_model.specs.declared.descriptor.FieldDescriptorProto.{FieldDescriptorProto}
 use Rattle.protobuf_parse_model.specs.declared.descriptor.FileDescriptorProto.{FileDescriptorProto}
 use Rattle.protobuf_parse_model.specs.Declarations.{Declared}
-use Rattle.protobuf_parse_model.specs.Descriptors.{Text, FieldDescriptor, EnumDescriptor, EnumValueDescriptor, FileDescriptor, MessageParts, message_view, enum_view, field_view, file_view}
+use Rattle.protobuf_parse_model.specs.Descriptors.{Text, FieldDescriptor, EnumDescriptor}
+use Rattle.protobuf_parse_model.specs.Descriptors.{EnumValueDescriptor, FileDescriptor}
+use Rattle.protobuf_parse_model.specs.Descriptors.{MessageParts, message_view, enum_view}
+use Rattle.protobuf_parse_model.specs.Descriptors.{field_view, file_view}
 use Rattle.protobuf_parse_wire.specs.declared.customs.known.Known.{Known}
 use Rattle.protobuf_parse_wire.specs.Declarations.{Declaration, messages_named}
 use Rattle.protobuf_parse_wire.specs.Indexed.{parts_seen}

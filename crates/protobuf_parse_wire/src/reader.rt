@@ -32,7 +32,8 @@ pub fn read_custom(
     message: ProtobufAbsPathRef<'_>,
     bytes: &[u8],
 ) -> Result<Vec<ReadField>, ReadFault>
-    ensures { Gives (λ v. map read_field_view v.items) result (reader (map file_view files.now) (abs_ref_text message.entry) bytes.now) }
+    ensures { Gives (λ v. map read_field_view v.items) result
+        (reader (map file_view files.now) (abs_ref_text message.entry) bytes.now) }
 {
     read_named(alloc, files, message.as_str(), bytes)
 }
@@ -43,7 +44,8 @@ fn read_named(
     name: &str,
     bytes: &[u8],
 ) -> Result<Vec<ReadField>, ReadFault>
-    ensures { Gives (λ v. map read_field_view v.items) result (reader (map file_view files.now) name.now bytes.now) }
+    ensures { Gives (λ v. map read_field_view v.items) result
+        (reader (map file_view files.now) name.now bytes.now) }
 {
     let index = index::index_of(alloc, files)?;
     records::message_of(alloc, &index, LEVELS, Some(name), bytes)

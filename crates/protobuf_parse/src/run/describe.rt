@@ -10,7 +10,8 @@ ghost use Rattle.protobuf_parse_model.specs.FileDescriptor.{environment, file_fa
 ghost use Rattle.protobuf_parse_model.specs.Linking.{link_faults};
 ghost use Rattle.protobuf_parse_model.specs.Tables.{Tells, picked};
 ghost use Rattle.protobuf_parse_wire.specs.Known.{files_seen};
-ghost use Rattle.protobuf_parse.specs.Loading.{Describes, customs_over, picked_plains, plain_or, plain_seen, plains_with};
+ghost use Rattle.protobuf_parse.specs.Loading.{Describes, customs_over, picked_plains, plain_or};
+ghost use Rattle.protobuf_parse.specs.Loading.{plain_seen, plains_with};
 
 use crate::run::loader::{LoadedFile, LoadedFiles, Loader};
 use crate::run::reach::Sights;
@@ -41,7 +42,8 @@ pub fn elaborated(
     requires reach { IsStrictlyIncreasing sights.now.reach.items }
     requires sight { IsStrictlyIncreasing sights.now.sight.items }
     ensures { (files : List FileSyntax) → Tells loader.now.names files
-        → Describes loader.now.loaded.entries files sights.now.reach.items sights.now.sight.items path.now (file_view tree.now) result }
+        → Describes loader.now.loaded.entries files sights.now.reach.items sights.now.sight.items
+        path.now (file_view tree.now) result }
 {
     let seen = Seen {
         declarations: &loader.names,
@@ -71,7 +73,8 @@ fn with_customs(
     requires few { statements_in (file_view tree.now) ≤ 2147483647 }
     ensures { (files : List FileSyntax) → Tells seen.now.declarations.now files
         → link_faults (picked files seen.now.reach.now) ≡ []
-        → Describes loader.now.loaded.entries files seen.now.reach.now seen.now.sight.now path.now (file_view tree.now) result }
+        → Describes loader.now.loaded.entries files seen.now.reach.now seen.now.sight.now path.now
+        (file_view tree.now) result }
 {
     let plain = elaborate(alloc, path, tree, seen, &WithoutCustoms)?;
     let descriptor = spelled(alloc, &loader.loaded, seen, &plain, path, tree)?;
@@ -93,7 +96,8 @@ fn spelled(
     requires few { statements_in (file_view tree.now) ≤ 2147483647 }
     ensures { (files : List FileSyntax) → Tells seen.now.declarations.now files
         → let plains = plains_with loaded.now.entries (described.file_view plain.now) in
-        let sight = seen.now.sight.now in let customs = customs_over plains seen.now.reach.now sight in
+        let sight = seen.now.sight.now in
+        let customs = customs_over plains seen.now.reach.now sight in
         let t = file_view tree.now in let env = environment (picked files sight) customs t in
         Elaborates described.file_view result (file_faults env t) (file_of env path.now t) }
 {
@@ -110,7 +114,10 @@ fn plains<'a>(
     own: &'a FileDescriptorProto,
     numbers: &[usize],
 ) -> Result<Vec<&'a FileDescriptorProto>, AllocError>
-    ensures { IfOk result (λ v. files_seen v.items ≡ picked_plains (plains_with loaded.now.entries (described.file_view own.now)) numbers.now) }
+    ensures { IfOk result
+        (λ v. files_seen v.items
+        ≡ picked_plains (plains_with loaded.now.entries (described.file_view own.now))
+        numbers.now) }
 {
     let mut list = Vec::new(alloc);
     'files: for number in numbers {
@@ -127,7 +134,8 @@ fn plain_at<'a>(
     own: &'a FileDescriptorProto,
     number: usize,
 ) -> Option<&'a FileDescriptorProto>
-    ensures { option_map plain_seen result ≡ slice_get (plains_with loaded.now.entries (described.file_view own.now)) number }
+    ensures { option_map plain_seen result
+        ≡ slice_get (plains_with loaded.now.entries (described.file_view own.now)) number }
 {
     match loaded.get_index(number) {
         Some((_, file)) => Some(plain_of(file)),

@@ -38,9 +38,13 @@ pub fn sights_of(
     loaded: &LoadedFiles,
     imports: &ImportNumbers<'_>,
 ) -> Result<Sights, AllocError>
-    ensures reach { IfOk result (λ s. AreJoined held_as.Reach loaded.now.entries imports.now.all.now s.reach.items) }
-    ensures sight { IfOk result (λ s. AreJoined held_as.HandedOn loaded.now.entries imports.now.all.now s.sight.items) }
-    ensures handed_on { IfOk result (λ s. AreJoined held_as.HandedOn loaded.now.entries imports.now.public.now s.handed_on.items) }
+    ensures reach { IfOk result
+        (λ s. AreJoined held_as.Reach loaded.now.entries imports.now.all.now s.reach.items) }
+    ensures sight { IfOk result
+        (λ s. AreJoined held_as.HandedOn loaded.now.entries imports.now.all.now s.sight.items) }
+    ensures handed_on { IfOk result
+        (λ s. AreJoined held_as.HandedOn loaded.now.entries imports.now.public.now
+        s.handed_on.items) }
 {
     let reach = joined(alloc, loaded, imports.all, Held::Reach)?;
     let sight = joined(alloc, loaded, imports.all, Held::HandedOn)?;

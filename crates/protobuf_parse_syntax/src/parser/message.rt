@@ -28,7 +28,8 @@ pub fn message(
     syntax: Syntax,
     levels: usize,
 ) -> Result<Message, Refusal>
-    ensures { Gives view.message_view result (left tokens.new) ((nest.message syntax levels).run (left tokens.old)) }
+    ensures { Gives view.message_view result (left tokens.new)
+        ((nest.message syntax levels).run (left tokens.old)) }
 {
     if levels == 0 {
         return Err(Refusal::Here(ParserError::NestingTooDeep));
@@ -46,7 +47,8 @@ fn message_of(
     syntax: Syntax,
     levels: usize,
 ) -> Result<Message, Refusal>
-    ensures { Gives view.message_view result (left tokens.new) ((nest.message_in syntax levels).low.run (left tokens.old)) }
+    ensures { Gives view.message_view result (left tokens.new)
+        ((nest.message_in syntax levels).low.run (left tokens.old)) }
 {
     let place = tokens.place();
     tokens.word("message")?;
@@ -66,7 +68,8 @@ fn message_statements(
     syntax: Syntax,
     levels: usize,
 ) -> Result<Vec<MessageStatement>, Refusal>
-    ensures { Gives (λ v. map view.message_statement_view v.items) result (left tokens.new) ((nest.message_items syntax levels).low.run (left tokens.old)) }
+    ensures { Gives (λ v. map view.message_statement_view v.items) result (left tokens.new)
+        ((nest.message_items syntax levels).low.run (left tokens.old)) }
 {
     let mut body = Vec::new(alloc);
     'items: while begins_message_statement(tokens, syntax) {
@@ -85,7 +88,8 @@ fn message_item(
     syntax: Syntax,
     levels: usize,
 ) -> Result<Option<MessageStatement>, Refusal>
-    ensures { Gives (seen_by view.message_statement_view) result (left tokens.new) ((nest.message_item syntax levels).low.run (left tokens.old)) }
+    ensures { Gives (seen_by view.message_statement_view) result (left tokens.new)
+        ((nest.message_item syntax levels).low.run (left tokens.old)) }
 {
     if tokens.sees_symbol(';') {
         tokens.symbol(';')?;
@@ -103,7 +107,8 @@ fn message_statement(
     syntax: Syntax,
     levels: usize,
 ) -> Result<MessageStatement, Refusal>
-    ensures { Gives view.message_statement_view result (left tokens.new) ((nest.message_statement syntax levels).low.run (left tokens.old)) }
+    ensures { Gives view.message_statement_view result (left tokens.new)
+        ((nest.message_statement syntax levels).low.run (left tokens.old)) }
 {
     if tokens.sees_word("reserved") {
         return Ok(MessageStatement::Reserved(reserved(alloc, tokens)?));
@@ -137,7 +142,8 @@ fn oneof(
     syntax: Syntax,
     levels: usize,
 ) -> Result<OneOf, Refusal>
-    ensures { Gives view.oneof_view result (left tokens.new) ((nest.oneof syntax levels).low.run (left tokens.old)) }
+    ensures { Gives view.oneof_view result (left tokens.new)
+        ((nest.oneof syntax levels).low.run (left tokens.old)) }
 {
     let place = tokens.place();
     tokens.word("oneof")?;
@@ -156,7 +162,8 @@ fn oneof_statements(
     syntax: Syntax,
     levels: usize,
 ) -> Result<Vec<OneOfStatement>, Refusal>
-    ensures { Gives (λ v. map view.oneof_statement_view v.items) result (left tokens.new) ((nest.oneof_items syntax levels).low.run (left tokens.old)) }
+    ensures { Gives (λ v. map view.oneof_statement_view v.items) result (left tokens.new)
+        ((nest.oneof_items syntax levels).low.run (left tokens.old)) }
 {
     let mut body = Vec::new(alloc);
     'items: while begins_oneof_statement(tokens) {
@@ -174,7 +181,8 @@ fn oneof_item(
     syntax: Syntax,
     levels: usize,
 ) -> Result<Option<OneOfStatement>, Refusal>
-    ensures { Gives (seen_by view.oneof_statement_view) result (left tokens.new) ((nest.oneof_item syntax levels).low.run (left tokens.old)) }
+    ensures { Gives (seen_by view.oneof_statement_view) result (left tokens.new)
+        ((nest.oneof_item syntax levels).low.run (left tokens.old)) }
 {
     if tokens.sees_symbol(';') {
         tokens.symbol(';')?;
@@ -196,7 +204,8 @@ pub fn extend(
     syntax: Syntax,
     levels: usize,
 ) -> Result<Extend, Refusal>
-    ensures { Gives view.extend_view result (left tokens.new) ((nest.extend syntax levels).low.run (left tokens.old)) }
+    ensures { Gives view.extend_view result (left tokens.new)
+        ((nest.extend syntax levels).low.run (left tokens.old)) }
 {
     let place = tokens.place();
     tokens.word("extend")?;

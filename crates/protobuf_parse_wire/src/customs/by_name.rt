@@ -2,7 +2,8 @@
 
 ghost use Rattle.std.specs.Prelude.{◌≡◌, List, ℕ, map, option_map, IfOk};
 ghost use Rattle.protobuf_parse_model.specs.Descriptors.{enum_view, message_view};
-ghost use Rattle.protobuf_parse_wire.specs.ByName.{enum_seen, fields_in, named, part_seen, values_in};
+ghost use Rattle.protobuf_parse_wire.specs.ByName.{enum_seen, fields_in, named, part_seen};
+ghost use Rattle.protobuf_parse_wire.specs.ByName.{values_in};
 ghost use Rattle.protobuf_parse_wire.specs.Groups.{group};
 ghost use Rattle.protobuf_parse_wire.specs.Indexed.{parts_seen};
 ghost use Rattle.protobuf_parse_wire.specs.Known.{field_among, field_seen, number_among};

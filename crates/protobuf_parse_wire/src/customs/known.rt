@@ -1,9 +1,13 @@
 //! What files declare, in a list.
 
 ghost use Rattle.std.specs.Prelude.{◌≡◌, ◌++◌, map, flat_map, string_bytes, IfOk, OnOk};
-ghost use Rattle.protobuf_parse_model.specs.Descriptors.{enum_view, field_view, file_view, message_view};
-ghost use Rattle.protobuf_parse_wire.specs.Declarations.{Declaration, declared_extensions, declared_in, declared_message, extensions_within, package_scope, within};
-ghost use Rattle.protobuf_parse_wire.specs.Known.{enum_known, extension_known, files_seen, message_known, messages_known};
+ghost use Rattle.protobuf_parse_model.specs.Descriptors.{enum_view, field_view, file_view};
+ghost use Rattle.protobuf_parse_model.specs.Descriptors.{message_view};
+ghost use Rattle.protobuf_parse_wire.specs.Declarations.{Declaration, declared_extensions};
+ghost use Rattle.protobuf_parse_wire.specs.Declarations.{declared_in, declared_message};
+ghost use Rattle.protobuf_parse_wire.specs.Declarations.{extensions_within, package_scope, within};
+ghost use Rattle.protobuf_parse_wire.specs.Known.{enum_known, extension_known, files_seen};
+ghost use Rattle.protobuf_parse_wire.specs.Known.{message_known, messages_known};
 ghost use Rattle.protobuf_parse_wire.specs.OptionFields.{declared_enums, enum_in};
 
 use protobuf_parse_model::{

@@ -6,7 +6,8 @@ ghost use Rattle.protobuf_parse_model.specs.Declarations as names;
 ghost use Rattle.protobuf_parse_model.specs.Descriptors.{enum_value_view, field_view};
 ghost use Rattle.protobuf_parse_model.specs.Lookup.{declared, meaning};
 ghost use Rattle.protobuf_parse_wire.specs.Declarations.{declared_extensions};
-ghost use Rattle.protobuf_parse_wire.specs.Known.{extension_seen, extensions_known, field_among, field_seen, files_seen, number_among, undeclared};
+ghost use Rattle.protobuf_parse_wire.specs.Known.{extension_seen, extensions_known, field_among};
+ghost use Rattle.protobuf_parse_wire.specs.Known.{field_seen, files_seen, number_among, undeclared};
 ghost use Rattle.protobuf_parse_wire.specs.OptionFields.{field_named, is_message, number_of_value};
 
 use crate::customs::by_name;

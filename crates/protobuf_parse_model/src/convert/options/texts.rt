@@ -24,7 +24,8 @@ pub fn default_value(
     options: &[&ProtobufOption],
 ) -> Result<Option<String>, ElabFailure>
     ensures { let os = options_seen options.now in
-        Elaborates (λ o. option_map string_bytes o) result (spec.default_faults kind name.now os) (spec.default_of kind os) }
+        Elaborates (λ o. option_map string_bytes o) result (spec.default_faults kind name.now os)
+        (spec.default_of kind os) }
 {
     match first_value(options, "default") {
         Some(value) => Ok(Some(default_text(alloc, kind, name, value)?)),
@@ -40,7 +41,8 @@ fn default_text(
     value: &ProtobufConstant,
 ) -> Result<String, ElabFailure>
     ensures { let v = constant_view value.now in
-        Elaborates string_bytes result (spec.default_value_faults kind name.now (Some v)) (spec.default_text kind v) }
+        Elaborates string_bytes result (spec.default_value_faults kind name.now (Some v))
+        (spec.default_text kind v) }
 {
     match kind {
         FieldType::String => string_default(alloc, name, value),
@@ -55,7 +57,9 @@ fn string_default(
     value: &ProtobufConstant,
 ) -> Result<String, ElabFailure>
     ensures { let v = constant_view value.now in
-        Elaborates string_bytes result (spec.default_value_faults FieldType.String name.now (Some v)) (spec.default_text FieldType.String v) }
+        Elaborates string_bytes result
+        (spec.default_value_faults FieldType.String name.now (Some v))
+        (spec.default_text FieldType.String v) }
 {
     match value {
         ProtobufConstant::String(string) => text_given(alloc, "default", string),
@@ -65,7 +69,8 @@ fn string_default(
 
 fn bytes_default(alloc: Global, name: &str, value: &ProtobufConstant) -> Result<String, ElabFailure>
     ensures { let v = constant_view value.now in
-        Elaborates string_bytes result (spec.default_value_faults FieldType.Bytes name.now (Some v)) (spec.default_text FieldType.Bytes v) }
+        Elaborates string_bytes result (spec.default_value_faults FieldType.Bytes name.now (Some v))
+        (spec.default_text FieldType.Bytes v) }
 {
     match value {
         ProtobufConstant::String(string) => {

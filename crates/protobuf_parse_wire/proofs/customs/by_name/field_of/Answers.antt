@@ -10,7 +10,8 @@ returns-then-is_some c =
     let xs = c.args.messages.now in
     let i = c.messages.message-index in
     let o = option_map field_seen c.field_in-field.result in
-    let rest = mapped_rest part_seen xs i c.message-item.result c.messages-test.true c.message-item.is in
+    let rest = mapped_rest part_seen xs i c.message-item.result c.messages-test.true
+    c.message-item.is in
     let step = part_first c.args.name.now (part_seen c.message-item.result)
     (map part_seen (drop (i + 1) xs)) o c.field_in-field.ensures in
     first_some o _ (is_some_mapped field_seen c.field_in-field.result ∙ sym c.is_some.ensures
@@ -22,7 +23,8 @@ messages-preserved c =
     let xs = c.args.messages.now in
     let i = c.messages.message-index in
     let o = option_map field_seen c.field_in-field.result in
-    let rest = mapped_rest part_seen xs i c.message-item.result c.messages-test.true c.message-item.is in
+    let rest = mapped_rest part_seen xs i c.message-item.result c.messages-test.true
+    c.message-item.is in
     let step = part_first c.args.name.now (part_seen c.message-item.result)
     (map part_seen (drop (i + 1) xs)) o c.field_in-field.ensures in
     c.messages.invariant ∙ ap (λ ps. field_among (fields_in ps) c.args.name.now) rest ∙ step
