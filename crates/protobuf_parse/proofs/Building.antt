@@ -38,6 +38,21 @@ left_one p seen x old fails before =
     before ∙ sym (filter-append p seen (x ∷ [])
     ∙ (ap (λ z. filter p seen ++ z) (cond-false (p x) _ _ fails) ∙ append-nil (filter p seen)))
 
+-- whether one of a list passes a test, where one more is listed
+swap : (a b r : Bool) → (a || cond b true r) ≡ cond b true (a || r)
+swap true true r = refl
+swap true false r = refl
+swap false b r = refl
+
+or_cond : (b : Bool) → (b || false) ≡ cond b true false
+or_cond true = refl
+or_cond false = refl
+
+pub any-push : {X : Type 0} (p : X → Bool) (xs : List X) (x : X)
+    → list_any p (xs ++ x ∷ []) ≡ cond (p x) true (list_any p xs)
+any-push p [] x = or_cond (p x)
+any-push p (y ∷ xs) x = ap (λ b. p y || b) (any-push p xs x) ∙ swap (p y) (p x) (list_any p xs)
+
 pub map-same : {X : Type 0} (xs : List X) → map (λ (x : X). x) xs ≡ xs
 map-same [] = refl
 map-same (x ∷ xs) = ap (λ z. x ∷ z) (map-same xs)

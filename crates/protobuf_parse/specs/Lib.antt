@@ -5,6 +5,7 @@ pub mod Imports
 pub mod Walks
 pub mod Run
 pub mod Loading
+pub mod NameSets
 pub mod Includes
 pub mod Folders
 pub mod Parsers

@@ -33,8 +33,8 @@ use std::alloc::{AllocError, Global};
 /// Loads the inputs in turn, each file that they reach once and after its imports, and gives the
 /// descriptors in the order of loading, or the fault of the first step that fails.
 ///
-/// `bundled` has proto paths and texts: where the resolver has no file, the first row with the path stands
-/// for it.
+/// `bundled` has proto paths and texts: where the resolver has no file, the first row with the path
+/// stands for it.
 pub fn run_inputs<'a, R: ProtoPathResolver, I: InputReader>(
     alloc: Global,
     inputs: &[RunInput],
@@ -100,7 +100,8 @@ fn descriptors(alloc: Global, loaded: LoadedFiles) -> Result<Vec<FileDescriptorP
     Ok(descriptors)
 }
 
-/// The result of a run over inputs that the resolver finds, with the files that this library brings.
+/// The result of a run over inputs that the resolver finds, with the files that this library
+/// brings.
 pub fn parse_and_typecheck_custom<R: ProtoPathResolver>(
     alloc: Global,
     input: &[ProtoPathBuf],

@@ -2,15 +2,16 @@
 use Rattle.std.proofs.Common.{◌≡◌, ◌∙◌, List, [], ◌++◌, Result, ap, refl, subst, sym}
 use Rattle.protobuf_parse_syntax.specs.Trees.{FieldSyntax, TypeSyntax, scalar, map_of, named}
 use Rattle.protobuf_parse_model.specs.declared.error.ElabFailure.{ElabFailure}
+use Rattle.protobuf_parse_model.specs.declared.error.ElabFailure.TheVariants as failure
 use Rattle.protobuf_parse_model.specs.declared.scope.Context.{Context}
 use Rattle.protobuf_parse_model.specs.Descriptors.{FieldDescriptor, MessageDescriptor, Text}
 use Rattle.protobuf_parse_model.specs.Contexts.{FieldAndMessage, environment_in, names_in}
-use Rattle.protobuf_parse_model.specs.Environment.{Customs, Environment}
+use Rattle.protobuf_parse_model.specs.Environment.{Customs, Environment, type_missing}
 use Rattle.protobuf_parse_model.specs.Faults.{Blames, Elaborates, Fault}
 use Rattle.protobuf_parse_model.specs.Fields.{FieldPlace, FieldTypeOf, faults_of_options}
 use Rattle.protobuf_parse_model.specs.Fields.{field_faults, field_of, field_with, inner_type_faults}
 use Rattle.protobuf_parse_model.specs.Fields.{type_faults, type_of}
-use Rattle.protobuf_parse_model.specs.Messages.{entries_of}
+use Rattle.protobuf_parse_model.specs.Messages.{entries_of, entry_faults}
 use Rattle.protobuf_parse_model.proofs.Blaming.{blames_left}
 
 module _ (customs : Customs) (c : Context) (name : Text) where
@@ -40,6 +41,17 @@ module _ (customs : Customs) (c : Context) (name : Text) where
 
 -- ---- a field, by its type as names say it
 
+only-memory : (e : ElabFailure) (faults : List Fault) → Blames e [] → Blames e faults
+only-memory failure.Memory faults told = tt
+only-memory (failure.Fault e) faults told = elim told [ ]
+
+-- what is wrong in the message behind a field is wrong in the field's type
+entry_blames : (env : Environment) (name : Text) (t : TypeSyntax) (e : ElabFailure)
+    → Blames e (entry_faults env name t) → Blames e (type_faults env name t)
+entry_blames env name (scalar s) e told = told
+entry_blames env name (named n) e told = only-memory e (type_missing env n) told
+entry_blames env name (map_of key value) e told = told
+
 module _ (customs : Customs) (c : Context) (f : FieldSyntax) (text : Text)
     (same : text ≡ f.name) where
   abbrev within : Environment
@@ -55,6 +67,10 @@ module _ (customs : Customs) (c : Context) (f : FieldSyntax) (text : Text)
       blames_left e (type_faults within f.name f.type_)
       (faults_of_options within (type_of within f.name f.type_).kind f.name f.options)
       (subst (λ (faults : List Fault). Blames e faults) faults-are told)
+
+  pub blames_entry : (e : ElabFailure) → Blames e (entry_faults (names_in c) text f.type_)
+      → Blames e (field_faults within f)
+  blames_entry e told = blames_type e (entry_blames (names_in c) text f.type_ e told)
 
   pub field_elaborates : {X : Type 0} (view : X → FieldDescriptor) (r : Result X ElabFailure)
       (place : FieldPlace) (t : FieldTypeOf)

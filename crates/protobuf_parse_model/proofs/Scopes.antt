@@ -1,7 +1,7 @@
 -- Look-up from the innermost scope outward, step by step.
 use Rattle.std.proofs.Common.{◌≡◌, ℕ, zero, suc, ◌+◌, ◌-◌, ◌<◌, ◌≤◌, List, [], ◌∷◌, ◌++◌, length}
 use Rattle.std.proofs.Common.{take, get_or, Option, Some, None, refl, sym, ◌∙◌, ap, arith, false}
-use Rattle.std.proofs.Common.{Result, Ok, Err, nat_eq, inl, inr}
+use Rattle.std.proofs.Common.{Result, Ok, Err, nat_eq, inl, inr, append_assoc, append-nil}
 use Rattle.std.specs.Borrow.{Bor}
 use Rattle.std.specs.Option.{option_or}
 use Rattle.std.specs.Result.{is_ok}
@@ -14,8 +14,9 @@ use Rattle.std.proofs.lemmas.List.Folds.{list_any_at, list_any_none}
 use Rattle.std.proofs.lemmas.List.Sorted.{searched}
 use Rattle.std.proofs.lemmas.Map.Keys.{non_decreasing_from_sorted, sorted_from_strictly_increasing}
 use Rattle.std.proofs.lemmas.List.{map_more}
-use Rattle.protobuf_parse_base.specs.Names.{fronts}
+use Rattle.protobuf_parse_base.specs.Names.{absolute_text, fronts}
 use Rattle.protobuf_parse_base.proofs.Fronts.{fronts-push}
+use Rattle.protobuf_parse_base.proofs.NameTexts.{absolute_text-append}
 use Rattle.protobuf_parse_model.specs.Descriptors.{Text}
 use Rattle.protobuf_parse_model.specs.Contexts.{texts}
 use Rattle.protobuf_parse_model.specs.Declarations.{Declared, full_name}
@@ -52,6 +53,34 @@ module _ {A : Type 0} (of : Meanings A) (name : Text) (scope : List (Bor (List �
   none-here (suc n) whole pos le is h =
       let before : n ≡ suc n - 1 = omega arith in
       is ∙ longest n (omega arith) ∙ ap (λ o. option_or o (outward n)) (sym h) ∙ ap outward before
+
+-- ** full names, from the innermost scope outward
+
+full_name-last : (front : List Text) (last name : Text)
+    → full_name (front ++ last ∷ []) name ≡ absolute_text front ++ 46 ∷ (last ++ 46 ∷ name)
+full_name-last front last name =
+    ap (λ t. t ++ 46 ∷ name) (absolute_text-append front (last ∷ []))
+    ∙ append_assoc (absolute_text front) (46 ∷ (last ++ [])) (46 ∷ name)
+    ∙ ap (λ t. absolute_text front ++ 46 ∷ (t ++ 46 ∷ name)) (append-nil last)
+
+-- with the last name of the scope set apart
+pub full_name-outward : (scope : List (Bor (List ℕ))) (name : Text) (n : ℕ) (last : Bor (List ℕ))
+    → 0 < n → n ≤ length scope
+    → last ≡ get_or scope (n - 1) (record { ref_ptr = (0, 0); now = [] })
+    → full_name (texts (take n scope)) name
+    ≡ absolute_text (texts (take (n - 1) scope)) ++ 46 ∷ (last.now ++ 46 ∷ name)
+full_name-outward scope name zero last pos le is = absurd (omega (arith, pos))
+full_name-outward scope name (suc m) last pos le is =
+    let none : Bor (List ℕ) = record { ref_ptr = (0, 0); now = [] } in
+    let next : suc m ≡ m + 1 = omega arith in
+    let before : suc m - 1 ≡ m = omega arith in
+    let here : last ≡ get_or scope m none = is ∙ ap (λ k. get_or scope k none) before in
+    let whole : texts (take (suc m) scope) ≡ texts (take m scope) ++ last.now ∷ [] =
+    ap (λ k. texts (take k scope)) next
+    ∙ map_more (λ (s : Bor (List ℕ)). s.now) scope m none (omega (arith, le))
+    ∙ ap (λ (d : Bor (List ℕ)). texts (take m scope) ++ d.now ∷ []) (sym here) in
+    ap (λ s. full_name s name) whole ∙ full_name-last (texts (take m scope)) last.now name
+    ∙ ap (λ k. absolute_text (texts (take k scope)) ++ 46 ∷ (last.now ++ 46 ∷ name)) (sym before)
 
 -- ** a search among ascending numbers
 

@@ -40,7 +40,7 @@ use Rattle.protobuf_parse_model.specs.OptionsSet.{message_options, entry_options
 use Rattle.protobuf_parse_model.specs.Fields.{FieldTypeOf, type_of, says_optional, FieldPlace}
 use Rattle.protobuf_parse_model.specs.Fields.{plain, field_statement_of, names_of_fields}
 use Rattle.protobuf_parse_model.specs.Fields.{fields_of_group, field_statement_faults}
-use Rattle.protobuf_parse_model.specs.Fields.{extension_faults}
+use Rattle.protobuf_parse_model.specs.Fields.{extension_faults, inner_type_faults}
 use Rattle.protobuf_parse_model.specs.Enums.{enum_of, enum_faults, ranges_reserved, names_reserved}
 
 -- ---- the messages behind maps and groups
@@ -88,6 +88,13 @@ abbrev pub entries_of : Environment → Text → TypeSyntax → List MessageDesc
 entries_of env name (map_of key value) = entry_of env name key value ∷ []
 entries_of env name (scalar s) = []
 entries_of env name (named n) = []
+
+-- what is wrong in the types of that message's fields
+abbrev pub entry_faults : Environment → Text → TypeSyntax → List Fault
+entry_faults env name (map_of key value) =
+    inner_type_faults env name key ++ inner_type_faults env name value
+entry_faults env name (scalar s) = []
+entry_faults env name (named n) = []
 
 abbrev pub group_message : Environment → Text → List FieldStatementSyntax → MessageDescriptor
 group_message env name fields = message_with name (fields_of_group env fields) None

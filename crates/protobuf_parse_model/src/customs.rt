@@ -13,7 +13,8 @@ use crate::error::{ElabErrorKind, ElabFailure};
 use protobuf_parse_syntax::{ProtobufOption, ProtobufOptionName, ProtobufOptionNamePart};
 use std::alloc::{AllocError, Global};
 
-/// What has options: each kind has an options message of its own in google/protobuf/descriptor.proto.
+/// What has options: each kind has an options message of its own in
+/// google/protobuf/descriptor.proto.
 #[derive(Clone, Copy, Debug, PartialEq, Eq)]
 pub enum Construct {
     File,
@@ -31,10 +32,12 @@ pub trait CustomOptions {
     /// What is wrong in the custom options of constructs, and the bytes that they become.
     ghost customs: { Self → Customs };
 
-    /// The bytes that the custom options become among the statements that set the options of a construct.
+    /// The bytes that the custom options become among the statements that set the options of a
+    /// construct.
     ///
-    /// The names of extensions are looked up from the scope: the names of the package and of the messages
-    /// around the construct, the outermost first. Where something is wrong, one of the faults is told.
+    /// The names of extensions are looked up from the scope: the names of the package and of the
+    /// messages around the construct, the outermost first. Where something is wrong, one of the
+    /// faults is told.
     fn bytes(
         &self,
         alloc: Global,

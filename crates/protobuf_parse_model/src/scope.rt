@@ -1,13 +1,14 @@
 //! What the names of types mean.
 
-ghost use Rattle.std.specs.Prelude.{◌≡◌, ◌+◌, ◌<◌, ℕ, List, length, map, nat_eq, option_map};
-ghost use Rattle.std.specs.Prelude.{string_bytes, IfOk};
+ghost use Rattle.std.specs.Prelude.{◌≡◌, ◌+◌, ◌<◌, ◌∷◌, ◌++◌, ℕ, List, length, map, nat_eq};
+ghost use Rattle.std.specs.Prelude.{option_map, string_bytes, IfOk, OnOk};
 ghost use Rattle.std.specs.Borrow.{Bor};
 ghost use Rattle.std.specs.List.{list_any};
 ghost use Rattle.protobuf_parse_model.specs.Declarations as names;
 ghost use Rattle.protobuf_parse_model.specs.Environment.{type_named};
 ghost use Rattle.protobuf_parse_model.specs.Contexts.{declared_as, names_in, first_type};
-ghost use Rattle.protobuf_parse_model.specs.Contexts.{meaning_view, seen_types, texts, type_kind};
+ghost use Rattle.protobuf_parse_model.specs.Contexts.{declared_type, meaning_view, seen_types};
+ghost use Rattle.protobuf_parse_model.specs.Contexts.{texts, type_kind};
 
 mod declare;
 mod extensions;
@@ -86,24 +87,47 @@ pub fn type_named(
         let full_name = String::from_str(alloc, name)?;
         return Ok(declared(&context.seen, full_name));
     }
+    let mut text = full_name(alloc, context.scope, name)?;
     let mut length = context.scope.len();
     while length > 0 {
-        let full_name = full_name(alloc, &context.scope[..length], name)?;
-        if let Some(meaning) = declared(&context.seen, full_name) {
-            return Ok(Some(meaning));
+        if let Some(kind) = kind_declared(&context.seen, &text) {
+            return Ok(Some(Meaning { name: text, kind }));
         }
         length -= 1;
+        move_outward(&mut text, context.scope[length], name)?;
     }
-    let full_name = full_name(alloc, &[], name)?;
-    Ok(declared(&context.seen, full_name))
+    Ok(declared(&context.seen, text))
+}
+
+/// Makes the full name of what has the name in a scope that of what has it in the scope around,
+/// where the last name of the scope is `last`.
+fn move_outward(text: &mut String, last: &str, name: &str) -> Result<(), AllocError>
+    requires { (front : List ℕ)
+        × (string_bytes text.old ≡ front ++ 46 ∷ (last.now ++ 46 ∷ name.now)) }
+    ensures { OnOk result ((front : List ℕ) →
+        string_bytes text.old ≡ front ++ 46 ∷ (last.now ++ 46 ∷ name.now) →
+        string_bytes text.new ≡ front ++ 46 ∷ name.now) }
+{
+    let kept = text.len() - name.len() - last.len() - 2;
+    text.truncate(kept);
+    text.push('.')?;
+    text.push_str(name)?;
+    Ok(())
 }
 
 /// The type that is declared by that full name.
 fn declared(seen: &Seen<'_>, name: String) -> Option<Meaning>
     ensures { option_map meaning_view result ≡ seen_types seen.now (string_bytes name) }
 {
-    let kind = first_type(seen, declarations_of(seen.declarations, &name))?;
+    let kind = kind_declared(seen, &name)?;
     Some(Meaning { name, kind })
+}
+
+/// What kind of type is declared by that full name.
+fn kind_declared(seen: &Seen<'_>, name: &str) -> Option<TypeKind>
+    ensures { option_map (declared_type name.now) result ≡ seen_types seen.now name.now }
+{
+    first_type(seen, declarations_of(seen.declarations, name))
 }
 
 /// The declarations of that full name.

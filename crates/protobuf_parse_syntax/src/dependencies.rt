@@ -50,7 +50,8 @@ pub fn parse_dependencies(
     Ok(found)
 }
 
-/// What a file's statements import. The tree of a text has no more of them than a position can count.
+/// What a file's statements import. The tree of a text has no more of them than a position can
+/// count.
 #[tactic(auto, unfolding(crate::specs::Dependencies::dependencies_of))]
 pub fn imports_of(alloc: Global, statements: &[FileStatement]) -> Result<Dependencies, AllocError>
     requires { length statements.now ≤ 2147483647 }

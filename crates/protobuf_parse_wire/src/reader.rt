@@ -21,11 +21,12 @@ use std::alloc::Global;
 /// How many messages may stand inside one another, the outer one too.
 const LEVELS: u32 = 256;
 
-/// The fields that the bytes of a message say, in order, or the first thing that is wrong, from the left.
+/// The fields that the bytes of a message say, in order, or the first thing that is wrong, from the
+/// left.
 ///
-/// The message is the one that the files declare with the full name. A record's field is found by its number
-/// among the fields of the message and the extensions of it in all files; the message inside a record by the
-/// text of the field's type name.
+/// The message is the one that the files declare with the full name. A record's field is found by
+/// its number among the fields of the message and the extensions of it in all files; the message
+/// inside a record by the text of the field's type name.
 pub fn read_custom(
     alloc: Global,
     files: &[FileDescriptorProto],

@@ -1,11 +1,13 @@
 //! A parser over real files: includes and inputs are added, and then it runs.
 
-ghost use Rattle.std.specs.Prelude.{◌≡◌, IfOk, IfErr, OnOk, OnErr, [], ◌∷◌, ◌++◌, length, map};
-ghost use Rattle.std.specs.Prelude.{filter, option_map, string_bytes};
+ghost use Rattle.std.specs.Prelude.{◌≡◌, IfOk, IfErr, OnOk, OnErr, List, [], ◌∷◌, ◌++◌, length};
+ghost use Rattle.std.specs.Prelude.{filter, map, option_map, string_bytes};
 ghost use Rattle.protobuf_parse_base.specs.PathViews.{path_buf_text};
 ghost use Rattle.protobuf_parse.specs.Run.{IsCaused, input_view};
 ghost use Rattle.protobuf_parse.specs.Includes.{part_views};
 ghost use Rattle.protobuf_parse.specs.Folders.{MayFind};
+ghost use Rattle.protobuf_parse.specs.NameSets.{HasNames};
+ghost use Rattle.protobuf_parse_model.specs.Descriptors.{Text};
 ghost use Rattle.protobuf_parse.specs.Parsers.{IsParsed, IsSameParser, IsSetOfInputs};
 ghost use Rattle.protobuf_parse.specs.Parsers.{MayReadAnything, RanOverFolders, TellsFault};
 ghost use Rattle.protobuf_parse.specs.Parsers.{includes_of, inputs_at, inputs_of, is_among};
@@ -20,6 +22,7 @@ use crate::run::run_inputs;
 use protobuf_parse_base::proto_path::ProtoPathBuf;
 use protobuf_parse_model::{FileDescriptorProto, FileDescriptorSet};
 use std::alloc::{AllocError, Global};
+use std::collections::BTreeSet;
 use std::rt::Files;
 
 /// Parses files and checks their types. Includes are the folders where imports are looked for, and
@@ -149,9 +152,10 @@ impl Parser {
 
     /// Parses the inputs and all files that they import, and checks their types.
     ///
-    /// All inputs get their proto paths before any file is read: the error is L3 or L11 of the first
-    /// one that gets none. Then each input is read at its own path, and its imports are looked for in
-    /// the includes and among the files that this library brings: the errors are those of the run.
+    /// All inputs get their proto paths before any file is read: the error is L3 or L11 of the
+    /// first one that gets none. Then each input is read at its own path, and its imports are
+    /// looked for in the includes and among the files that this library brings: the errors are
+    /// those of the run.
     pub fn parse_and_typecheck<R: Files + AllocGlobal>(
         &self,
         rt: &R,
@@ -275,26 +279,37 @@ fn files_of_inputs(
     ensures { IfOk result (λ v.
         v.items ≡ filter (is_of_input (map path_buf_text names.now)) files.items) }
 {
+    let inputs = set_of_names(alloc, names)?;
     let mut kept = Vec::new(alloc);
     for file in files {
-        if is_input(names, &file.name) {
+        if is_input(&inputs, &file.name) {
             kept.push(file)?;
         }
     }
     Ok(kept)
 }
 
-/// Whether the name is one of these.
-fn is_input(names: &[ProtoPathBuf], name: &Option<String>) -> bool
-    ensures { result ≡ is_among (map path_buf_text names.now) (option_map string_bytes name.now) }
+/// The names as a set.
+fn set_of_names<'a>(
+    alloc: Global,
+    names: &'a [ProtoPathBuf],
+) -> Result<BTreeSet<&'a str>, AllocError>
+    ensures { IfOk result (λ s. HasNames s (map path_buf_text names.now)) }
 {
-    let Some(name) = name else {
-        return false;
-    };
-    for known in names {
-        if known.as_path().to_str() == name.as_str() {
-            return true;
-        }
+    let mut set = BTreeSet::new(alloc);
+    for name in names {
+        set.insert(name.as_path().to_str())?;
     }
-    false
+    Ok(set)
+}
+
+/// Whether the name is one of the set.
+fn is_input(inputs: &BTreeSet<&str>, name: &Option<String>) -> bool
+    ensures { (names : List Text) → HasNames inputs.now names →
+        result ≡ is_among names (option_map string_bytes name.now) }
+{
+    match name {
+        Some(name) => inputs.contains(&name.as_str()),
+        None => false,
+    }
 }

@@ -22,7 +22,8 @@ use protobuf_parse_syntax::{FileTree, ParserError, parse_file};
 use std::alloc::{AllocError, Global};
 use std::str;
 
-/// The answer to a read of a proto path: the resolver's, or the reader's at a path of the input's own.
+/// The answer to a read of a proto path: the resolver's, or the reader's at a path of the input's
+/// own.
 pub fn answer<R: ProtoPathResolver, I: InputReader>(
     alloc: Global,
     sources: &Sources<'_, R, I>,

@@ -30,7 +30,8 @@ pub struct Described {
     pub plain: Option<FileDescriptorProto>,
 }
 
-/// What a file becomes over the files that it reaches and sees, if none of their names is declared twice.
+/// What a file becomes over the files that it reaches and sees, if none of their names is declared
+/// twice.
 pub fn elaborated(
     alloc: Global,
     loader: &Loader,
@@ -61,8 +62,8 @@ pub fn elaborated(
     }
 }
 
-/// The same, with its custom options: they are looked up in the descriptors of the files that it reaches,
-/// its own among them.
+/// The same, with its custom options: they are looked up in the descriptors of the files that it
+/// reaches, its own among them.
 fn with_customs(
     alloc: Global,
     loader: &Loader,
@@ -107,7 +108,8 @@ fn spelled(
     elaborate(alloc, path, tree, seen, &known)
 }
 
-/// The descriptors of the files with these numbers, without custom options. The next file's is `own`.
+/// The descriptors of the files with these numbers, without custom options. The next file's is
+/// `own`.
 fn plains<'a>(
     alloc: Global,
     loaded: &'a LoadedFiles,

@@ -171,8 +171,8 @@ fn load_input<R: ProtoPathResolver, I: InputReader>(
     }
 }
 
-/// Where the file of an input that lies at a path of its own is loaded already, reads it there too: other
-/// content is L6.
+/// Where the file of an input that lies at a path of its own is loaded already, reads it there too:
+/// other content is L6.
 fn check_loaded<R: ProtoPathResolver, I: InputReader>(
     alloc: Global,
     loader: &mut Loader,
@@ -290,7 +290,8 @@ fn note(
     Ok(())
 }
 
-/// Loads an input, its imports first. `fs_path` is where it lies, if it isn't found by the resolver.
+/// Loads an input, its imports first. `fs_path` is where it lies, if it isn't found by the
+/// resolver.
 fn load_file<R: ProtoPathResolver, I: InputReader>(
     alloc: Global,
     loader: &mut Loader,
@@ -357,7 +358,8 @@ fn load_file<R: ProtoPathResolver, I: InputReader>(
     }
 }
 
-/// Meets a file: as `input`, or as an import of the last file of the chain. Opens it if it isn't loaded.
+/// Meets a file: as `input`, or as an import of the last file of the chain. Opens it if it isn't
+/// loaded.
 fn meet<R: ProtoPathResolver, I: InputReader>(
     alloc: Global,
     loader: &mut Loader,

@@ -15,7 +15,8 @@ use crate::joins::join_at_dot;
 use std::alloc::{AllocError, Global};
 use std::fmt;
 
-/// An absolute path, lent: the empty text, which is the root, or identifiers with a dot before each.
+/// An absolute path, lent: the empty text, which is the root, or identifiers with a dot before
+/// each.
 ///
 /// See the Protocol Buffers Language Specification, "Identifiers" (<https://protobuf.dev>).
 #[derive(Clone, Copy, Debug, PartialEq, Eq, Hash)]
@@ -232,8 +233,8 @@ impl ProtobufAbsPath {
         ProtobufAbsPath::new_from_rel(alloc, text)
     }
 
-    /// The path with the identifiers of this text, which may begin with a dot. The one error is that
-    /// memory is short.
+    /// The path with the identifiers of this text, which may begin with a dot. The one error is
+    /// that memory is short.
     pub fn from_path_maybe_dot(alloc: Global, text: &str) -> Result<Self, AllocError>
         requires nonempty { 0 < length text.now }
         requires well_formed { IsTrue (is_absolute text.now || is_relative text.now) }

@@ -34,8 +34,8 @@ pub struct Contents {
     pub extension: Vec<FieldDescriptorProto>,
 }
 
-/// What these statements declare, of which no two of a kind have one name: E1. The faults inside each
-/// are told too.
+/// What these statements declare, of which no two of a kind have one name: E1. The faults inside
+/// each are told too.
 #[tactic(auto, using(crate::proofs::Blaming::blames_left, crate::proofs::Blaming::blames_right))]
 pub fn contents_of<C: CustomOptions>(
     alloc: Global,

@@ -27,8 +27,9 @@ use std::alloc::{AllocError, Global};
 
 /// The descriptor of a file that is known by the path `name`, by what it sees.
 ///
-/// E1 where two messages, enums, extensions or services of the file have one name, the faults of its options
-/// and those inside what it declares. Where several faults stand, any one of them is told.
+/// E1 where two messages, enums, extensions or services of the file have one name, the faults of
+/// its options and those inside what it declares. Where several faults stand, any one of them is
+/// told.
 pub fn file_descriptor<C: CustomOptions>(
     alloc: Global,
     name: &str,

@@ -16,7 +16,7 @@ use crate::convert::field::{check_no_map, field_descriptor, group_field_name};
 use crate::convert::names::names_of_fields;
 use crate::convert::place::FieldPlace;
 use crate::convert::refuse::{check_unique, fault};
-use crate::convert::types::{check_type_name, entry_name, inner_type};
+use crate::convert::types::{entry_name, inner_type};
 use crate::customs::CustomOptions;
 use crate::descriptor::{DescriptorProto, FieldDescriptorProto, Label, MessageOptions};
 use crate::error::{ElabErrorKind, ElabFailure};
@@ -24,7 +24,7 @@ use crate::scope::{Context, ResolvedType};
 use protobuf_parse_syntax::{Field, FieldStatement, Group, Type};
 use std::alloc::{AllocError, Global};
 
-/// The message of a map's entries, where the type of that name is a map's.
+/// The message of a map's entries, where the type of the field of that name is a map's.
 pub fn map_entry(
     alloc: Global,
     context: &Context<'_>,
@@ -33,16 +33,12 @@ pub fn map_entry(
 ) -> Result<Option<DescriptorProto>, ElabFailure>
     ensures { let env = names_in context.now in
         Elaborates (λ m. map described.message_view (option_to_list m)) result
-        (fields.type_faults env name.now (type_view type_.now))
+        (messages.entry_faults env name.now (type_view type_.now))
         (messages.entries_of env name.now (type_view type_.now)) }
 {
     match type_ {
         Type::Map(key, value) => Ok(Some(entry(alloc, context, name, key, value)?)),
-        Type::Scalar(_) => Ok(None),
-        Type::Named(type_name) => {
-            check_type_name(alloc, context, type_name)?;
-            Ok(None)
-        }
+        Type::Scalar(_) | Type::Named(_) => Ok(None),
     }
 }
 

@@ -107,8 +107,8 @@ pub fn fields_of_extend<C: CustomOptions>(
     Ok(DeclaredFields { fields, behind })
 }
 
-/// What a statement of an `extend` declares. E2 or E3 where the name of the message that is extended
-/// means none.
+/// What a statement of an `extend` declares. E2 or E3 where the name of the message that is
+/// extended means none.
 #[tactic(auto, using(crate::proofs::Blaming::blames_left, crate::proofs::Blaming::blames_right))]
 fn extension<C: CustomOptions>(
     alloc: Global,

@@ -25,8 +25,8 @@ use std::alloc::{AllocError, Global};
 
 /// The descriptor of a message, with all that stands inside it.
 ///
-/// E1 where two fields, oneofs, extensions, enums or messages of one body have one name, E7 where a range
-/// ends at the largest number, and the faults of what stands in it.
+/// E1 where two fields, oneofs, extensions, enums or messages of one body have one name, E7 where a
+/// range ends at the largest number, and the faults of what stands in it.
 #[cycle(message)]
 pub fn message_descriptor<C: CustomOptions>(
     alloc: Global,

@@ -7,14 +7,14 @@ ghost use Rattle.protobuf_parse_model.specs.Faults.{Blames, Elaborates};
 
 use crate::error::{ElabError, ElabErrorKind, ElabFailure};
 use std::alloc::Global;
-use std::collections::HashSet;
+use std::collections::BTreeSet;
 
 /// Refuses a name that stands among those before it: E1.
 pub fn check_unique(alloc: Global, names: &[&str]) -> Result<(), ElabFailure>
     ensures { Elaborates (λ u. u) result
         (duplicates (map (λ (s : Bor (List ℕ)). s.now) names.now)) tt }
 {
-    let mut seen: HashSet<&str> = HashSet::new(alloc);
+    let mut seen: BTreeSet<&str> = BTreeSet::new(alloc);
     for name in names {
         let is_new = seen.insert(*name)?;
         if !is_new {

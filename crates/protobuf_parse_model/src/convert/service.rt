@@ -33,8 +33,8 @@ use std::alloc::{AllocError, Global};
 
 /// The descriptor of a service.
 ///
-/// E1 where two of its methods have one name, E2 and E3 where the type of one means none, and the faults
-/// of its options.
+/// E1 where two of its methods have one name, E2 and E3 where the type of one means none, and the
+/// faults of its options.
 #[tactic(auto, using(crate::proofs::Blaming::blames_left, crate::proofs::Blaming::blames_right))]
 pub fn service_descriptor<C: CustomOptions>(
     alloc: Global,

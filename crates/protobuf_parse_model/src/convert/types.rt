@@ -103,7 +103,8 @@ fn check_map(
     Ok(())
 }
 
-/// A key's or a value's type in the map of that name. E2 or E3 where a name means no type; E4 for a map.
+/// A key's or a value's type in the map of that name. E2 or E3 where a name means no type; E4 for a
+/// map.
 pub fn inner_type(
     alloc: Global,
     context: &Context<'_>,
@@ -121,16 +122,6 @@ pub fn inner_type(
         }),
         Type::Named(type_name) => named_type(alloc, context, type_name),
         Type::Map(_, _) => Err(fault(alloc, ElabErrorKind::DanglingTypeName, name)),
-    }
-}
-
-/// Refuses a name that means no type: E2 or E3.
-pub fn check_type_name(alloc: Global, context: &Context<'_>, name: &str) -> Result<(), ElabFailure>
-    ensures { Elaborates (λ u. u) result (type_missing (names_in context.now) name.now) tt }
-{
-    match type_named(alloc, context, name)? {
-        Some(_) => Ok(()),
-        None => Err(not_found(alloc, name)),
     }
 }
 

@@ -30,8 +30,8 @@ impl Declarations {
         }
     }
 
-    /// Adds each message, enum and extension that a file declares, also the messages behind its maps and
-    /// groups, as declared by the file with that number.
+    /// Adds each message, enum and extension that a file declares, also the messages behind its
+    /// maps and groups, as declared by the file with that number.
     /// The one error is that memory is short: nothing is known of the table then.
     pub fn add(&mut self, alloc: Global, file: usize, tree: &FileTree) -> Result<(), AllocError>
         ensures { OnOk result ((files : List FileSyntax) → length files ≡ file →

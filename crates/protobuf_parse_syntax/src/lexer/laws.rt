@@ -15,7 +15,8 @@ pub fn decoding_is_unique()
     ensures { IsOneDecoding }
 {}
 
-/// A place counts line feeds and the characters after the last one, and a token has that of what stands before it.
+/// A place counts line feeds and the characters after the last one, and a token has that of what
+/// stands before it.
 pub fn places_count_characters()
     ensures count { PlacesCountCharacters }
     ensures stand { TokensStandInTheText }

@@ -77,7 +77,8 @@ enum Meaning {
     Char(char),
 }
 
-/// A part at the front of a string, a byte or an escape: how many bytes it has, and what it stands for.
+/// A part at the front of a string, a byte or an escape: how many bytes it has, and what it stands
+/// for.
 #[derive(Clone, Copy)]
 struct Part {
     len: usize,

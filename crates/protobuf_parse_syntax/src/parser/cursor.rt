@@ -180,8 +180,8 @@ impl<'t, 'text> Cursor<'t, 'text> {
         Ok(String::from_str(alloc, text)?)
     }
 
-    /// Reads a group's name, an identifier that begins with an ASCII capital. S13 at any other identifier,
-    /// S8 at any other token.
+    /// Reads a group's name, an identifier that begins with an ASCII capital. S13 at any other
+    /// identifier, S8 at any other token.
     pub fn group_name(&mut self, alloc: Global) -> Result<String, Refusal>
         ensures { Gives string_bytes result (left self.new) (read.capital.run (left self.old)) }
     {
@@ -246,7 +246,8 @@ impl<'t, 'text> Cursor<'t, 'text> {
         }
     }
 
-    /// Reads a field's number or a range's end, from 0 to 2147483647. S5 at a larger integer, S8 at any other token.
+    /// Reads a field's number or a range's end, from 0 to 2147483647. S5 at a larger integer, S8 at
+    /// any other token.
     #[tactic(auto, unfolding(crate::specs::Productions::field_number), using(crate::specs::Code::fails_first))]
     pub fn field_number(&mut self) -> Result<i32, Refusal>
         ensures { Gives (λ n. n) result (left self.new) (read.field_number.run (left self.old)) }

@@ -44,8 +44,9 @@ pub fn field(
     field_of(alloc, tokens, syntax, levels, levels - 1)
 }
 
-/// A label word that begins a field is its label. In proto2 every field has a label, unless it begins with
-/// `map`; in proto3 none has the label `required`. The fields of a group have one level less.
+/// A label word that begins a field is its label. In proto2 every field has a label, unless it
+/// begins with `map`; in proto3 none has the label `required`. The fields of a group have one level
+/// less.
 #[cycle(field)]
 fn field_of(
     alloc: Global,

@@ -25,8 +25,8 @@ use crate::tree::{FileStatement, FileTree, Import, ImportVis, Package, Syntax};
 use protobuf_parse_base::proto_path::ProtoPathBuf;
 use std::alloc::Global;
 
-/// `file = [ syntax ] { import | package | option | message | enum | extend | service | ";" }`. Tokens may be left
-/// behind it.
+/// `file = [ syntax ] { import | package | option | message | enum | extend | service | ";" }`.
+/// Tokens may be left behind it.
 #[tactic(auto, unfolding(crate::specs::Nested::file), using(crate::specs::Code::fails_first))]
 pub fn file(alloc: Global, tokens: &mut Cursor<'_, '_>, levels: usize) -> Result<FileTree, Refusal>
     ensures { Gives view.file_view result (left tokens.new)

@@ -37,7 +37,8 @@ pub fn message(
     message_of(alloc, tokens, syntax, levels - 1)
 }
 
-/// `message = "message" ident "{" { ";" | reserved | oneof | extend | message | enum | extensions | option
+/// `message = "message" ident "{" { ";" | reserved | oneof | extend | message | enum | extensions |
+/// option
 /// | field } "}"`
 #[cycle(message)]
 #[tactic(auto, using(crate::specs::Code::fails_first, crate::proofs::Versions::message_in_runs, crate::proofs::Messages::view_parts))]
@@ -98,8 +99,8 @@ fn message_item(
     Ok(Some(message_statement(alloc, tokens, syntax, levels)?))
 }
 
-/// `reserved | oneof | extend | message | enum | extensions | option | field`, where `extensions` stand in proto2
-/// alone.
+/// `reserved | oneof | extend | message | enum | extensions | option | field`, where `extensions`
+/// stand in proto2 alone.
 #[cycle(message)]
 fn message_statement(
     alloc: Global,

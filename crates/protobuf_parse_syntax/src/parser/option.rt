@@ -147,7 +147,8 @@ fn next_part(alloc: Global, tokens: &mut Cursor<'_, '_>) -> Result<ProtobufOptio
     option_part(alloc, tokens)
 }
 
-/// That no part follows the 100th. S7 at the first token of another part, S8 at a dot with no part behind it.
+/// That no part follows the 100th. S7 at the first token of another part, S8 at a dot with no part
+/// behind it.
 fn no_more_parts(tokens: &mut Cursor<'_, '_>) -> Result<(), Refusal>
     ensures { Gives (λ u. []) result (left tokens.new)
         ((read.parts_up_to 0).run (left tokens.old)) }

@@ -204,8 +204,8 @@ pub fn begins_file_statement(tokens: &Cursor<'_, '_>) -> bool
     }
 }
 
-/// Why no field begins with the next token: S11 at a label that is not allowed, S12 where a label lacks,
-/// else S8.
+/// Why no field begins with the next token: S11 at a label that is not allowed, S12 where a label
+/// lacks, else S8.
 pub fn field_fault(tokens: &Cursor<'_, '_>, syntax: Syntax) -> ParserError
     ensures { AtOneToken result }
 {
@@ -231,8 +231,8 @@ pub fn extend_fault(tokens: &Cursor<'_, '_>, syntax: Syntax) -> ParserError
     field_fault(tokens, syntax)
 }
 
-/// Why no statement of a group begins with the next token: S16 at `oneof`, S17 at the word of another
-/// statement, else as for a field.
+/// Why no statement of a group begins with the next token: S16 at `oneof`, S17 at the word of
+/// another statement, else as for a field.
 pub fn group_fault(tokens: &Cursor<'_, '_>, syntax: Syntax) -> ParserError
     ensures { AtOneToken result }
 {

@@ -55,8 +55,8 @@ fn named_field<'a>(
     }
 }
 
-/// The extension of the message that the name means. E14 where it means none, E15 where it extends no
-/// such message.
+/// The extension of the message that the name means. E14 where it means none, E15 where it extends
+/// no such message.
 fn named_extension<'a>(
     alloc: Global,
     at: &OptionPlace<'_, 'a>,

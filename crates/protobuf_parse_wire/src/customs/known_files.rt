@@ -28,8 +28,8 @@ use std::collections::HashMap;
 
 /// Who says what custom options become, by the descriptors of files.
 ///
-/// The names of extensions mean extensions of the files that are seen; the names of types in descriptors
-/// mean messages and enums of all files.
+/// The names of extensions mean extensions of the files that are seen; the names of types in
+/// descriptors mean messages and enums of all files.
 ///
 /// What the files declare is found once: messages and enums by full name, and a list of extensions.
 #[derive(Drop)]
@@ -50,8 +50,8 @@ pub struct KnownFiles<'a> {
 }
 
 impl<'a> KnownFiles<'a> {
-    /// Knows the extensions of the files that a file sees, itself among them, and the messages and enums of
-    /// all files that it reaches.
+    /// Knows the extensions of the files that a file sees, itself among them, and the messages and
+    /// enums of all files that it reaches.
     pub fn new(
         alloc: Global,
         files: &'a [&'a FileDescriptorProto],
@@ -91,7 +91,8 @@ impl CustomOptions for KnownFiles<'_> {
     }
 }
 
-/// Reads the number of each value. It has 32 bits, as its type says; the encoder asks it of all of them.
+/// Reads the number of each value. It has 32 bits, as its type says; the encoder asks it of all of
+/// them.
 fn read_enums(enums: &[Known<&EnumDescriptorProto>])
     ensures { HaveSmall (map enum_known enums.now) }
 {

@@ -21,8 +21,8 @@ use protobuf_parse_model::{ElabErrorKind, ElabFailure, FieldDescriptorProto, Fie
 use protobuf_parse_syntax::{ProtobufConstant, ProtobufOptionNamePart};
 use std::alloc::{AllocError, Global};
 
-/// Adds the entries that the constant gives to the field that the parts lead to, from the message on, for
-/// the option of that name.
+/// Adds the entries that the constant gives to the field that the parts lead to, from the message
+/// on, for the option of that name.
 #[cycle(path)]
 pub fn push_path(
     parts: &[ProtobufOptionNamePart],
@@ -130,7 +130,8 @@ pub fn push_last(
     push_given(value, alloc, at, option, field, entries)
 }
 
-/// Refuses a field that other parts follow and that is no message: E24 for a group, E16 for any other.
+/// Refuses a field that other parts follow and that is no message: E24 for a group, E16 for any
+/// other.
 pub fn check_step(
     alloc: Global,
     part: &ProtobufOptionNamePart,

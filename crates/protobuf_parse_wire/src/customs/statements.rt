@@ -106,8 +106,8 @@ fn push_custom(
     }
 }
 
-/// The failure for a name that goes on from a plain part: E28 from `uninterpreted_option`, E16 from any other
-/// built-in option, E17 where there is none.
+/// The failure for a name that goes on from a plain part: E28 from `uninterpreted_option`, E16 from
+/// any other built-in option, E17 where there is none.
 fn plain_first(alloc: Global, construct: Construct, name: &str) -> ElabFailure
     ensures { Blames result (builtin_step_faults (table_of construct) name.now) }
 {

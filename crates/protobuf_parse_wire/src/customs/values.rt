@@ -83,8 +83,8 @@ pub fn check_truth(alloc: Global, field: &FieldDescriptorProto) -> Result<(), El
     }
 }
 
-/// Refuses the name of a value that the field doesn't take, where the name has that number. E18 where it
-/// has none.
+/// Refuses the name of a value that the field doesn't take, where the name has that number. E18
+/// where it has none.
 pub fn check_value_name(
     alloc: Global,
     field: &FieldDescriptorProto,

@@ -56,7 +56,8 @@ fn by_number<'a>(
     Ok(numbers)
 }
 
-/// Puts the field behind those whose numbers differ from its number, or says that one has it already.
+/// Puts the field behind those whose numbers differ from its number, or says that one has it
+/// already.
 fn add_field<'a>(
     numbers: &mut HashMap<i32, &'a FieldDescriptorProto>,
     field: &'a FieldDescriptorProto,

@@ -19,7 +19,8 @@ use protobuf_parse_model::FieldDescriptorProto;
 use std::alloc::Global;
 use std::collections::HashMap;
 
-/// The fields of the message of that name, if at most so many levels of messages are in it, itself one.
+/// The fields of the message of that name, if at most so many levels of messages are in it, itself
+/// one.
 #[cycle(message)]
 pub fn message_of(
     alloc: Global,

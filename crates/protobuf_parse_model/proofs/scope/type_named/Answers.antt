@@ -1,24 +1,43 @@
-use Rattle.std.proofs.Common.{◌∙◌, sym, ap, arith, option_map}
-use Rattle.protobuf_parse_model.specs.Contexts.{meaning_view, seen_types}
-use Rattle.protobuf_parse_model.proofs.Scopes.{found-here, none-here}
+use Rattle.std.proofs.Common.{◌-◌, ◌∙◌, Some, None, sym, ap, arith, option_map, refl, string_bytes}
+use Rattle.std.proofs.Common.{get_or, take, []}
+use Rattle.protobuf_parse_base.specs.Names.{absolute_text}
+use Rattle.protobuf_parse_model.specs.Contexts.{declared_type, meaning_view, seen_types, texts}
+use Rattle.protobuf_parse_model.proofs.Scopes.{found-here, full_name-outward, none-here}
 use Rattle.protobuf_parse_model.proofs.scope.type_named.Goals as goal
+
+pub move_outward-requires : goal.move_outward-requires
+move_outward-requires c =
+    let scope = c.args.context.now.scope.now in (
+      absolute_text (texts (take (c.loop-length.length - 1) scope)),
+      c.loop-length.invariant.text_is
+          ∙ full_name-outward scope c.args.name.now c.loop-length.length _ c.loop-length-test.true
+          c.loop-length.invariant.bound refl,
+    )
 
 pub returns-in-Some : goal.returns-in-Some
 returns-in-Some c =
-    let e = ap (option_map meaning_view) (sym c.in-Some.is) ∙ c.declared-in-loop-length.ensures
-    ∙ ap (seen_types c.args.context.now.seen) c.in_ok-full_name-2.ensures in
-    found-here (seen_types c.args.context.now.seen) c.args.name.now c.args.context.now.scope.now
+    let of = seen_types c.args.context.now.seen in
+    let e = ap (λ z. option_map (declared_type z) (Some c.in-Some.kind)) (sym c.deref.ensures)
+    ∙ ap (option_map (declared_type c.deref.result.now)) (sym c.in-Some.is)
+    ∙ c.kind_declared.ensures ∙ ap of (c.deref.ensures ∙ c.loop-length.invariant.text_is) in
+    found-here of c.args.name.now c.args.context.now.scope.now
     c.loop-length.length _ _ c.loop-length-test.true c.loop-length.invariant.bound
     c.loop-length.invariant.none_longer e
 
 pub loop-length-preserved : goal.loop-length-preserved
 loop-length-preserved c =
-    let e = ap (option_map meaning_view) (sym c.in_default.is) ∙ c.declared-in-loop-length.ensures
-    ∙ ap (seen_types c.args.context.now.seen) c.in_ok-full_name-2.ensures in
+    let of = seen_types c.args.context.now.seen in
+    let scope = c.args.context.now.scope.now in
+    let e = ap (option_map (declared_type c.deref.result.now)) (sym c.in_default.is)
+    ∙ c.kind_declared.ensures ∙ ap of (c.deref.ensures ∙ c.loop-length.invariant.text_is) in
     record {
       bound = omega arith;
+      text_is =
+          c.in_ok-move_outward.ensures (absolute_text (texts (take (c.loop-length.length - 1) scope)))
+          (c.loop-length.invariant.text_is
+          ∙ full_name-outward scope c.args.name.now c.loop-length.length _ c.loop-length-test.true
+          c.loop-length.invariant.bound refl);
       none_longer =
-          none-here (seen_types c.args.context.now.seen) c.args.name.now
-          c.args.context.now.scope.now c.loop-length.length _ c.loop-length-test.true
+          none-here of c.args.name.now scope c.loop-length.length _ c.loop-length-test.true
           c.loop-length.invariant.bound c.loop-length.invariant.none_longer e;
     }

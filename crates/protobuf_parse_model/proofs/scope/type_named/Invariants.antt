@@ -1,5 +1,6 @@
-use Rattle.std.proofs.Common.{◌≡◌, ◌≤◌, length, take}
+use Rattle.std.proofs.Common.{◌≡◌, ◌≤◌, length, string_bytes, take}
 use Rattle.protobuf_parse_base.specs.Names.{fronts}
+use Rattle.protobuf_parse_model.specs.Declarations.{full_name}
 use Rattle.protobuf_parse_model.specs.Environment.{type_named}
 use Rattle.protobuf_parse_model.specs.Lookup.{declared_in_first}
 use Rattle.protobuf_parse_model.specs.Contexts.{names_in, seen_types, texts}
@@ -9,6 +10,7 @@ abbrev pub invariant-loop-length : goal.invariant-loop-length
 invariant-loop-length l =
     record {
       bound : l.length ≤ length l.context.scope.now;
+      text_is : string_bytes l.text ≡ full_name (texts (take l.length l.context.scope.now)) l.name;
       none_longer : type_named (names_in l.context) l.name
           ≡ declared_in_first (seen_types l.context.seen) l.name
           (fronts (texts (take l.length l.context.scope.now)));

@@ -24,9 +24,9 @@ use crate::scope::Context;
 use protobuf_parse_syntax::{ProtobufConstant, ProtobufOption, ProtobufOptionName};
 use std::alloc::Global;
 
-/// What the custom options of a construct become that has the built-in options of the table, once these are
-/// checked: E9 for a string that is no text, E11 for a name that the table doesn't have, E12 for
-/// `uninterpreted_option`, E13 for a value of another kind.
+/// What the custom options of a construct become that has the built-in options of the table, once
+/// these are checked: E9 for a string that is no text, E11 for a name that the table doesn't have,
+/// E12 for `uninterpreted_option`, E13 for a value of another kind.
 #[tactic(auto, using(crate::proofs::Blaming::blames_left, crate::proofs::Blaming::blames_right))]
 pub fn checked_customs<C: CustomOptions>(
     alloc: Global,

@@ -15,8 +15,8 @@ use protobuf_parse_base::text::{escape_bytes, json_name};
 use protobuf_parse_syntax::{ProtobufConstant, ProtobufOption};
 use std::alloc::Global;
 
-/// The default of the field of that type and name, where its options set one. E8 where the default of
-/// a string or of bytes is no string, E9 where it is a string that says nothing.
+/// The default of the field of that type and name, where its options set one. E8 where the default
+/// of a string or of bytes is no string, E9 where it is a string that says nothing.
 pub fn default_value(
     alloc: Global,
     kind: FieldType,
@@ -81,8 +81,8 @@ fn bytes_default(alloc: Global, name: &str, value: &ProtobufConstant) -> Result<
     }
 }
 
-/// The JSON name of the field of that name: as its options set it, or from the name. E10 where it is
-/// set to no string, E9 where to a string that is no text.
+/// The JSON name of the field of that name: as its options set it, or from the name. E10 where it
+/// is set to no string, E9 where to a string that is no text.
 pub fn json_name_of(
     alloc: Global,
     name: &str,

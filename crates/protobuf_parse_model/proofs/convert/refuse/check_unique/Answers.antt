@@ -3,6 +3,7 @@ use Rattle.std.proofs.Common.{get_or, Bool, true, false, Bor, sym, refl, ◌∙�
 use Rattle.std.proofs.Common.{drop-cons, cond}
 use Rattle.std.specs.Prelude.{not, bytes_eq}
 use Rattle.std.proofs.lemmas.List.{map_more}
+use Rattle.std.proofs.lemmas.Map.Text.{is_eq-slice_cmp}
 use Rattle.protobuf_parse_model.proofs.OrTests.{cond-true_or}
 use Rattle.protobuf_parse_model.proofs.Repeats.{stands_in-push}
 use Rattle.protobuf_parse_model.specs.Faults.{Among, Fault}
@@ -59,6 +60,9 @@ was_out : (b r : Bool) → r ≡ not b → r ≡ true → b ≡ false
 was_out true r e h = absurd cc
 was_out false r e h = refl
 
+added : (new t b r s : Bool) → new ≡ cond t true r → t ≡ b → r ≡ s → new ≡ cond b true s
+added new t b r s e p q = e ∙ ap (λ z. cond z true r) p ∙ ap (λ z. cond b true z) q
+
 pub returns-then-not-is_new : goal.returns-then-not-is_new
 returns-then-not-is_new c =
     let d = get_or c.args.names.now c.loop-name.name-index
@@ -78,8 +82,8 @@ loop-name-preserved c =
       none_yet =
           goes_on c.args.names.now c.loop-name.name-index _ c.loop-name-test.true is_out
           c.loop-name.invariant.none_yet;
-      seen = λ q. c.in_ok-is_new.ensures.updates.0 q
-          ∙ ap (λ b. cond (bytes_eq d.now q.now) true b) (c.loop-name.invariant.seen q)
+      seen = λ q. added _ _ _ _ _ (c.in_ok-is_new.ensures.updates.0 q)
+          (is_eq-slice_cmp d.now q.now) (c.loop-name.invariant.seen q)
           ∙ cond-true_or (bytes_eq d.now q.now) _
           ∙ sym (ap (stands_in q.now)
           (map_more (λ (s : Bor (List ℕ)). s.now) c.args.names.now c.loop-name.name-index _

@@ -1,6 +1,7 @@
 use Rattle.std.proofs.Common.{◌≡◌, ℕ, List, map, take, drop, Bor}
-use Rattle.std.specs.Prelude.{bytes_eq}
-use Rattle.std.specs.HashSet.{contains}
+use Rattle.std.specs.BTreeSet.{contains}
+use Rattle.std.specs.Cmp.Lexicographic.{slice_cmp}
+use Rattle.std.specs.Ordering.{nat_cmp}
 use Rattle.protobuf_parse_model.specs.Duplicates.{duplicates, repeats_after, stands_in}
 use Rattle.protobuf_parse_model.specs.declared.error.ElabErrorKind.TheVariants.{DuplicateName}
 use Rattle.protobuf_parse_model.proofs.convert.refuse.check_unique.Given as goal
@@ -13,6 +14,6 @@ invariant-loop-name l =
           ≡ repeats_after (texts (take l.name-index l.names)) DuplicateName
           (texts (drop l.name-index l.names));
       seen : (q : Bor (List ℕ))
-          → contains (λ (a b : Bor (List ℕ)). bytes_eq a.now b.now) l.seen q
+          → contains (λ (a b : Bor (List ℕ)). slice_cmp nat_cmp a.now b.now) l.seen q
           ≡ stands_in q.now (texts (take l.name-index l.names));
     }

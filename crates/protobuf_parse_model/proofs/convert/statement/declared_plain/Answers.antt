@@ -1,5 +1,6 @@
 use Rattle.protobuf_parse_syntax.specs.Trees.{field_view}
-use Rattle.protobuf_parse_model.proofs.SameTypes.{both_are, entries_are}
+use Rattle.std.proofs.lemmas.Result.{err_from_is_err_and}
+use Rattle.protobuf_parse_model.proofs.SameTypes.{blames_entry, both_are, entries_are}
 use Rattle.protobuf_parse_model.proofs.convert.statement.declared_plain.Goals as goal
 
 pub returns : goal.returns
@@ -12,3 +13,12 @@ returns g c =
           (field_view c.args.field.now) c.deref.result.now c.deref.ensures _
           c.in_ok-behind.ensures.1),
     )
+
+pub returns-in_err-behind : goal.returns-in_err-behind
+returns-in_err-behind g c =
+    let customs = g.C.CustomOptions.customs c.args.custom.now in
+    let p = err_from_is_err_and c.from_residual.result c.from_residual.ensures.1 in
+    rw (p.1, p.2)
+    (blames_entry customs c.args.context.now
+    (field_view c.args.field.now) c.deref.result.now c.deref.ensures c.in_err-behind.field-0.0
+    c.in_err-behind.ensures)
