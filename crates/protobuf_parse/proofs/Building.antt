@@ -2,7 +2,8 @@
 use Rattle.std.specs.Prelude.{IfErr, String, filter, string_bytes}
 use Rattle.std.proofs.Common.{◌≡◌, ◌∙◌, ap, sym, refl, subst, inl, inr, ℕ, ◌+◌, ◌<◌, arith, Bool}
 use Rattle.std.proofs.Common.{true, false, List, [], ◌∷◌, ◌++◌, append-nil, get_or, length}
-use Rattle.std.proofs.Common.{length-take, map, take, Result, Ok, Err}
+use Rattle.std.proofs.Common.{length-take, map, take, cond, ◌||◌, Result, Ok, Err}
+use Rattle.std.specs.List.{list_any}
 use Rattle.std.specs.Global.{Vec, Global}
 use Rattle.std.proofs.lemmas.Bool.{cond-false, cond-true}
 use Rattle.std.proofs.lemmas.List.{length-map, map-append, take_more}
@@ -67,7 +68,7 @@ inputs_at-push (a ∷ ns) [] n i h = absurd (omega arith)
 inputs_at-push (a ∷ ns) (b ∷ is) n i h = let len : length ns ≡ length is = omega arith in
     ap (λ z. at a b ∷ z) (inputs_at-push ns is n i len)
 
-views-next : {X : Type 0} (v : X → Text) (xs : List X) (k : ℕ) (x : X) → k < length xs
+pub views-next : {X : Type 0} (v : X → Text) (xs : List X) (k : ℕ) (x : X) → k < length xs
     → x ≡ get_or xs k x → map v (take (k + 1) xs) ≡ map v (take k xs) ++ v x ∷ []
 views-next v xs k x lt is =
     ap (map v) (take_more xs k x lt)

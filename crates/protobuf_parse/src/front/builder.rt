@@ -290,26 +290,23 @@ fn files_of_inputs(
 }
 
 /// The names as a set.
-fn set_of_names<'a>(
-    alloc: Global,
-    names: &'a [ProtoPathBuf],
-) -> Result<BTreeSet<&'a str>, AllocError>
+fn set_of_names(alloc: Global, names: &[ProtoPathBuf]) -> Result<BTreeSet<String>, AllocError>
     ensures { IfOk result (λ s. HasNames s (map path_buf_text names.now)) }
 {
     let mut set = BTreeSet::new(alloc);
     for name in names {
-        set.insert(name.as_path().to_str())?;
+        set.insert(String::from_str(alloc, name.as_path().to_str())?)?;
     }
     Ok(set)
 }
 
 /// Whether the name is one of the set.
-fn is_input(inputs: &BTreeSet<&str>, name: &Option<String>) -> bool
+fn is_input(inputs: &BTreeSet<String>, name: &Option<String>) -> bool
     ensures { (names : List Text) → HasNames inputs.now names →
         result ≡ is_among names (option_map string_bytes name.now) }
 {
     match name {
-        Some(name) => inputs.contains(&name.as_str()),
+        Some(name) => inputs.contains(name.as_str()),
         None => false,
     }
 }
