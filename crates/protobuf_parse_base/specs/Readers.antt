@@ -1,5 +1,5 @@
 -- A reader of a relation looks one token ahead and never back, and its laws come with it.
-use Rattle.std.proofs.Common.{◌≡◌, ℕ, zero, suc, ◌<◌, ◌≤◌, List, [], ◌∷◌, ◌++◌, Option, Some, None, Bool, true, false, not, ◌&&◌, ◌||◌, Result, Ok, Err, cond, refl, sym, ap, subst, ◌∙◌, inl, inr, arith}
+use Rattle.std.proofs.Common.{◌≡◌, ℕ, zero, suc, ◌<◌, ◌≤◌, List, [], ◌∷◌, ◌++◌, Option, Some, None, Bool, true, false, not, ◌&&◌, ◌||◌, Result, Ok, Err, cond, refl, sym, ap, subst, ◌∙◌, inl, inr, ◌⊎◌, arith}
 use Rattle.protobuf_parse_base.specs.Relations.{Nothing, One, Then, Either, Many, none, more}
 
 -- ---- what is read
@@ -54,6 +54,16 @@ bind_deep (stuck us) f e first second = cc
 bind_deep (wrong m) f e first second = cc
 bind_deep deep f e first second = first refl
 
+pub bind_wrong : {Tok Mark A B : Type 0} (r : Read Tok Mark A) (f : A → Rest Tok Mark → Read Tok Mark B) (rest : Rest Tok Mark) → bind r f ≡ wrong rest → (r ≡ wrong rest) ⊎ ((a : A) × (us : Rest Tok Mark) × (r ≡ read a us) × (f a us ≡ wrong rest))
+bind_wrong (read a us) f rest e = inr (a, us, refl, e)
+bind_wrong (stuck us) f rest e = absurd cc
+bind_wrong (wrong m) f rest e = inl (let p : m ≡ rest = cc in ap wrong p)
+bind_wrong deep f rest e = absurd cc
+
+-- what cannot stand there is not read
+pub stuck_not_read : {Tok Mark A : Type 0} (r : Read Tok Mark A) (rest : Rest Tok Mark) (a : A) (us : Rest Tok Mark) → r ≡ stuck rest → r ≡ read a us → ⊥
+stuck_not_read r rest a us e f = cc
+
 -- what was read is the same value and the same rest
 pub read_parts : {Tok Mark A : Type 0} (a b : A) (x y : Rest Tok Mark) → (let r : Read Tok Mark A = read a x in r ≡ read b y) → (a ≡ b) × (x ≡ y)
 read_parts a b x y e = (cc, cc)
@@ -100,10 +110,11 @@ pub record LocalRead {Tok Mark A : Type 0} (run : Rest Tok Mark → Read Tok Mar
   pub parts : ts ≡ onto used rest
   pub again : (other : Rest Tok Mark) → next other ≡ next rest → run (onto used other) ≡ read a other
 
+-- and where the next token cannot stand, nothing is read, whatever comes after it
 pub record LocalStuck {Tok Mark A : Type 0} (run : Rest Tok Mark → Read Tok Mark A) (ts : Rest Tok Mark) (rest : Rest Tok Mark) : Type 0 where
   pub used : List Tok
   pub parts : ts ≡ onto used rest
-  pub again : (other : Rest Tok Mark) → next other ≡ next rest → run (onto used other) ≡ stuck other
+  pub again : (other : Rest Tok Mark) → next other ≡ next rest → (a : A) (us : Rest Tok Mark) → run (onto used other) ≡ read a us → ⊥
 
 abbrev pub LocalAt : {Tok Mark A : Type 0} → (Rest Tok Mark → Read Tok Mark A) → Rest Tok Mark → Read Tok Mark A → Type 0
 LocalAt run ts (read a rest) = LocalRead run ts a rest
@@ -274,7 +285,7 @@ module _ {Tok Mark Class : Type 0} (L : Lexicon Tok Mark Class) where
 -- two functions that agree on the lists with this next token
 pub local-same : {Tok Mark A : Type 0} (run run' : Rest Tok Mark → Read Tok Mark A) (ts : Rest Tok Mark) (r : Read Tok Mark A) → ((us : Rest Tok Mark) → next us ≡ next ts → run' us ≡ run us) → LocalAt run ts r → LocalAt run' ts r
 local-same run run' ts (read a rest) same l = record { used = l.used; parts = l.parts; again = λ other h. same (onto l.used other) (next-onto l.used rest other h ∙ ap next (sym l.parts)) ∙ l.again other h }
-local-same run run' ts (stuck rest) same l = record { used = l.used; parts = l.parts; again = λ other h. same (onto l.used other) (next-onto l.used rest other h ∙ ap next (sym l.parts)) ∙ l.again other h }
+local-same run run' ts (stuck rest) same l = record { used = l.used; parts = l.parts; again = λ other h a us e. l.again other h a us (sym (same (onto l.used other) (next-onto l.used rest other h ∙ ap next (sym l.parts))) ∙ e) }
 local-same run run' ts (wrong rest) same l = l
 local-same run run' ts deep same l = tt
 
@@ -308,11 +319,11 @@ same_token {Tok = Tok} t (token u us) e = let p : u ≡ t = cc in (us, ap (λ (x
 
 module _ {Tok Mark A : Type 0} (says : Tok → Option A) where
   one-local-at : (t : Tok) (ts : Rest Tok Mark) (o : Option A) → says t ≡ o → LocalAt (run_one says) (token t ts) (taken o (token t ts) ts)
-  one-local-at t ts None e = record { used = []; parts = refl; again = λ other h. let s = same_token t other h in rw (s.1, e) refl }
+  one-local-at t ts None e = record { used = []; parts = refl; again = λ other h a us f. let s = same_token t other h in let g : run_one says other ≡ stuck other = rw (s.1, e) refl in stuck_not_read (run_one says other) other a us g f }
   one-local-at t ts (Some a) e = record { used = t ∷ []; parts = refl; again = λ other h. rw e refl }
 
   pub one-local : (ts : Rest Tok Mark) → LocalAt (run_one says) ts (run_one says ts)
-  one-local (end m) = record { used = []; parts = refl; again = λ other h. rw (same_end m other h) refl }
+  one-local (end m) = record { used = []; parts = refl; again = λ other h a us f. let g : run_one says other ≡ stuck other = rw (same_end m other h) refl in stuck_not_read (run_one says other) other a us g f }
   one-local (token t ts) = one-local-at t ts (says t) refl
 
   taken-sound : (t : Tok) (ts : Rest Tok Mark) (o : Option A) (a : A) (rest : Rest Tok Mark) → says t ≡ o → taken o (token t ts) ts ≡ read a rest → Sound (One says) (token t ts) a rest
@@ -383,14 +394,17 @@ module _ {Tok Mark A B : Type 0} where
   second-local run f ts a us l (stuck rest) m = record {
     used = l.used ++ m.used;
     parts = l.parts ∙ ap (onto l.used) m.parts ∙ sym (onto-append l.used m.used rest);
-    again = λ other h. let e : run (onto l.used (onto m.used other)) ≡ read a (onto m.used other) = l.again (onto m.used other) (next-onto m.used rest other h ∙ ap next (sym m.parts)) in rw (onto-append l.used m.used other, e) (m.again other h);
+    again = λ other h b vs g.
+        let e : run (onto l.used (onto m.used other)) ≡ read a (onto m.used other) = l.again (onto m.used other) (next-onto m.used rest other h ∙ ap next (sym m.parts)) in
+        let k : bind (run (onto (l.used ++ m.used) other)) f ≡ f a (onto m.used other) = rw (onto-append l.used m.used other, e) refl in
+        m.again other h b vs (sym k ∙ g);
   }
   second-local run f ts a us l (wrong rest) m = (l.used ++ m.0, l.parts ∙ ap (onto l.used) m.1 ∙ sym (onto-append l.used m.0 rest))
   second-local run f ts a us l deep m = tt
 
   pub bind-local : (run : Rest Tok Mark → Read Tok Mark A) (f : A → Rest Tok Mark → Read Tok Mark B) (ts : Rest Tok Mark) (r : Read Tok Mark A) → LocalAt run ts r → ((a : A) (us : Rest Tok Mark) → r ≡ read a us → LocalAt (f a) us (f a us)) → LocalAt (λ vs. bind (run vs) f) ts (bind r f)
   bind-local run f ts (read a us) l g = second-local run f ts a us l (f a us) (g a us refl)
-  bind-local run f ts (stuck rest) l g = record { used = l.used; parts = l.parts; again = λ other h. rw (l.again other h) refl }
+  bind-local run f ts (stuck rest) l g = record { used = l.used; parts = l.parts; again = λ other h b vs e. let x = bind_read (run (onto l.used other)) f b vs e in l.again other h x.0 x.1 x.2 }
   bind-local run f ts (wrong rest) l g = l
   bind-local run f ts deep l g = tt
 

@@ -20,7 +20,7 @@ module _ {Tok Mark Class : Type 0} {L : Lexicon Tok Mark Class} where
   abbrev pub never : {A : Type 0} → Reader L {A = A} Never (shape [] false [])
   never = record {
     run = λ ts. stuck ts;
-    local = λ ts. record { used = []; parts = refl; again = λ other e. refl };
+    local = λ ts. record { used = []; parts = refl; again = λ other e a us h. stuck_not_read (stuck other) other a us refl h };
     sound = never-sound;
     complete = λ f used a rest h e. absurd h;
     begins = λ used a h. absurd h;
