@@ -1,5 +1,5 @@
 -- What the readers of constants read, where the next tokens are known.
-use Rattle.std.proofs.Common.{◌≡◌, ℕ, ℤ, pos, List, [], ◌∷◌, Option, Some, None, Bool, true, false, ◌||◌, map, length, get_or, ◌<◌, ◌≤◌, bytes_eq, codes, refl, arith}
+use Rattle.std.proofs.Common.{◌≡◌, ℕ, ℤ, pos, List, [], ◌∷◌, Option, Some, None, Bool, true, false, ◌||◌, map, length, get_or, ◌<◌, ◌≤◌, bytes_eq, codes, refl, inl, inr, arith}
 use Rattle.std.proofs.lemmas.Slice.Eq.{bytes_eq-Decides}
 use Rattle.protobuf_parse_base.specs.Readers.{Rest, end, token, Read, read, stuck, wrong, bind, seen, starts, run_one, taken, or_true, or_left, false_by, all_apart-law}
 use Rattle.protobuf_parse_base.specs.Whole.{whole}
@@ -83,14 +83,14 @@ module _ (c : ℕ) (says : Lexeme → Option ℕ) (f : ℕ → ℤ) (law : (t : 
   sign_absent (end m) h = refl
   sign_absent (token t rest) h = rw (or_left (sees (symbol_class c) t) false h) refl
 
-  tells_at : (ts : Rest Lexeme Place) → ((t : Lexeme) → sees (symbol_class c) t ≡ true → is_one_of (symbol_class 43 ∷ symbol_class 45 ∷ []) t ≡ true) → starts lexicon (symbol_class c ∷ []) ts ≡ true → floats_second ts ≡ true → SignedFloat ts (off ts)
+  tells_at : (ts : Rest Lexeme Place) → ((t : Lexeme) → sees (symbol_class c) t ≡ true → is_one_of (symbol_class 43 ∷ symbol_class 45 ∷ []) t ≡ true) → starts lexicon (symbol_class c ∷ []) ts ≡ true → floats_second ts ≡ true → SignedFloat ts
   unfolding starts
   tells_at (end m) is h e = absurd cc
   tells_at (token t (end m)) is h e = absurd cc
-  tells_at (token t (token u rest)) is h e = (is t (one_seen (sees (symbol_class c) t) h), e, refl)
+  tells_at (token t (token u rest)) is h e = (is t (one_seen (sees (symbol_class c) t) h), e)
 
   sign_fails : (ts : Rest Lexeme Place) → ((t : Lexeme) → sees (symbol_class c) t ≡ true → is_one_of (symbol_class 43 ∷ symbol_class 45 ∷ []) t ≡ true) → starts lexicon (symbol_class c ∷ []) ts ≡ true → floats_second ts ≡ true → Fails (Here error.FloatConstant) ts ((signed_by c says f law).run ts)
-  sign_fails ts is h e = (off ts, sign_wrong ts h e, tells_at ts is h e)
+  sign_fails ts is h e = (off ts, sign_wrong ts h e, inr ([], refl, inl (refl, tells_at ts is h e)))
 
 pub plus_absent : (ts : Rest Lexeme Place) → starts lexicon (symbol_class 43 ∷ []) ts ≡ false → plus.run ts ≡ stuck ts
 plus_absent = sign_absent 43 number pos number-law

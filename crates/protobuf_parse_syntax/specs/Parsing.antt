@@ -52,7 +52,7 @@ pub record HundredParts (ts : List Lexeme) : Type 0 where
   pub first : List Lexeme
   pub others : List Lexeme
   pub dot : Lexeme
-  pub parts : ts ≡ before ++ first ++ others ++ dot ∷ []
+  pub parts : ts ≡ before ++ (first ++ (others ++ dot ∷ []))
   pub part : OptionPartSyntax
   pub is : IsOptionPart first part
   pub more : List OptionPartSyntax
@@ -82,18 +82,19 @@ SaysNothing pieces (error.BadImportPath e) =
     (text : Bytes) × StandsFor pieces text × (path_fault text ≡ Some e)
 SaysNothing pieces _ = ⊥
 
--- `syntax` and `=`, and nothing before them
-abbrev pub IsSyntaxHead : List Lexeme → Type 0
-IsSyntaxHead front =
-    let head : Rel Lexeme (Unit {0}) = do IsWord (codes "syntax"); IsSymbol char.equals in
-    head front tt
+-- `syntax` `=`
+abbrev pub SyntaxHead : Rel Lexeme (Unit {0})
+SyntaxHead = do IsWord (codes "syntax"); IsSymbol char.equals
 
--- The tokens end with `import`, `import weak` or `import public`.
+-- `import`, `import weak` or `import public`
+abbrev pub ImportHead : Rel Lexeme ImportVis
+ImportHead = do IsWord (codes "import"); IsVisibility
+
+-- The tokens end with those.
 abbrev pub EndsWithImport : List Lexeme → Type 0
 EndsWithImport ts =
-    let head : Rel Lexeme ImportVis = do IsWord (codes "import"); IsVisibility in
-    (before : List Lexeme) × (import : List Lexeme) × (vis : ImportVis)
-    × (ts ≡ before ++ import) × head import vis
+    (before : List Lexeme) × (head : List Lexeme) × (vis : ImportVis)
+    × (ts ≡ before ++ head) × ImportHead head vis
 
 -- The tokens end with one that is no string.
 abbrev pub EndsWithNoString : List Lexeme → Type 0
@@ -104,7 +105,7 @@ EndsWithNoString ts =
 -- What stands before strings with a fault: S10 is that of `syntax`, with which the file begins, S19
 -- that of an `import`; at S15 no string does.
 abbrev pub StandsBehind : ParserError → List Lexeme → Type 0
-StandsBehind error.UnknownSyntax front = IsSyntaxHead front
+StandsBehind error.UnknownSyntax front = SyntaxHead front tt
 StandsBehind error.StrLitDecode front = EndsWithNoString front
 StandsBehind (error.BadImportPath e) front = EndsWithImport front
 StandsBehind _ front = ⊥

@@ -1,4 +1,4 @@
-use Rattle.std.proofs.Common.{◌≡◌, List, map, false, codes, refl, sym, ◌∙◌, arith}
+use Rattle.std.proofs.Common.{◌≡◌, List, map, false, codes, refl, inl, sym, ◌∙◌, arith}
 use Rattle.std.proofs.lemmas.Result.{err_from_is_err_and}
 use Rattle.protobuf_parse_base.specs.Relations.{somes}
 use Rattle.protobuf_parse_base.specs.Readers.{shorter}
@@ -17,7 +17,7 @@ use Rattle.protobuf_parse_syntax.proofs.parser.message.+message.Goals as goal
 use Rattle.protobuf_parse_syntax.proofs.parser.message.+message.Goals.{message_statement-in-Proto2, message_statement-in_default, message_statement-else-matches-via-then-matches+else-sees_word-6, message_statement-else-matches-via-else-matches}
 
 pub message-returns-then-levels-eq0 : goal.message-returns-then-levels-eq0
-message-returns-then-levels-eq0 t c = (too_deep, message_zero c.args.syntax c.args.levels (left c.args.tokens.now) (omega arith), refl)
+message-returns-then-levels-eq0 t c = (too_deep, message_zero c.args.syntax c.args.levels (left c.args.tokens.now) (omega arith), inl (refl, refl))
 
 pub message-returns : goal.message-returns
 message-returns t c = rw (message_more c.args.syntax c.args.levels (left c.args.tokens.now) (omega arith)) c.message_of.ensures
