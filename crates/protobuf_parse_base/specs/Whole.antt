@@ -76,7 +76,6 @@ module _ {Tok Mark : Type 0} where
   no_end t m (end n) e h = absurd cc
   no_end t m (token u us) e h = absurd cc
 
-
 -- ---- a reader
 
 module _ {Tok Mark Class A : Type 0} {L : Lexicon Tok Mark Class} {R : List Tok → A → Type 0} {s : Shape Class} (p : Reader L R s) where

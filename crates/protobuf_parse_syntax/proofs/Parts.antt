@@ -227,19 +227,23 @@ module _ (ts us : Rest Lexeme Place) (first : OptionPartSyntax) (is : option_par
       let used : List Lexeme = l.used ++ (b.0 ++ b.2 ∷ []) in
       let parts : ts ≡ onto used after = l.parts ∙ ap (onto l.used) (b.3 ∙ sym (onto-append b.0 (b.2 ∷ []) after)) ∙ sym (onto-append l.used (b.0 ++ b.2 ∷ []) after) in
       let named_wrong : parse.option_name_parts.run ts ≡ wrong after = behind_first ∙ ap (named first) w in
-      fails_behind parse.option_name_parts error.OptionNameTooLong e ts after after after used h.0 refl parts named_wrong (inr (inl (refl, record {
-        before = [];
-        first = l.used;
-        others = b.0;
-        dot = b.2;
-        parts = refl;
-        part = first;
-        is = l.holds;
-        more = b.1;
-        are = b.4;
-        hundred = b.5;
-        dotted = rw (b.6) refl;
-      }, h.2)))
+      fails_behind parse.option_name_parts error.OptionNameTooLong e ts after after after used h.0 refl parts named_wrong (inr (inl (
+        refl,
+        record {
+          before = [];
+          first = l.used;
+          others = b.0;
+          dot = b.2;
+          parts = refl;
+          part = first;
+          is = l.holds;
+          more = b.1;
+          are = b.4;
+          hundred = b.5;
+          dotted = rw (b.6) refl;
+        },
+        h.2,
+      )))
 
 -- a name of which the first part could not be read
 pub fails_at_first : (e : Refusal) (ts after : Rest Lexeme Place) → Fails e after (option_part.run ts) → Fails e after (parse.option_name.run ts)

@@ -30,19 +30,23 @@ pub says_behind : (e : ParserError) (front used : List Lexeme) (after : Rest Lex
 says_behind e front used after (inl h) = inl h
 says_behind e front used after (inr (inl h)) =
     let w = h.1 in
-    inr (inl (h.0, record {
-      before = front ++ w.before;
-      first = w.first;
-      others = w.others;
-      dot = w.dot;
-      parts = behind front w.before (w.first ++ (w.others ++ w.dot ∷ [])) used w.parts;
-      part = w.part;
-      is = w.is;
-      more = w.more;
-      are = w.are;
-      hundred = w.hundred;
-      dotted = w.dotted;
-    }, h.2))
+    inr (inl (
+      h.0,
+      record {
+        before = front ++ w.before;
+        first = w.first;
+        others = w.others;
+        dot = w.dot;
+        parts = behind front w.before (w.first ++ (w.others ++ w.dot ∷ [])) used w.parts;
+        part = w.part;
+        is = w.is;
+        more = w.more;
+        are = w.are;
+        hundred = w.hundred;
+        dotted = w.dotted;
+      },
+      h.2,
+    ))
 says_behind e front used after (inr (inr (inl h))) =
     let w = h.1 in
     inr (inr (inl (h.0, (front ++ w.0, w.1, behind front w.0 (w.1 ∷ []) used w.2, w.3), h.2)))

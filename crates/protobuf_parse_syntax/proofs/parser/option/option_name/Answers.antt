@@ -24,6 +24,7 @@ returns-in_ok-push-in-Ext c =
     name_of_one (left c.args.tokens.now) (left c.option_part.new.tokens) (option_part_view c.in_ok-first.first) c.in_ok-first.ensures (sym c.sees_symbol.ensures ∙ c.if-sees_symbol.false)
     ∙ ap (λ (p : OptionPartSyntax). read (option_name p []) (left c.option_part.new.tokens)) is
     ∙ ap (λ (v : List OptionPartSyntax). read (tree.custom v) (left c.option_part.new.tokens)) (ap (λ (p : OptionPartSyntax). p ∷ []) (sym is) ∙ sym e)
+
 pub returns-in_err-first : goal.returns-in_err-first
 returns-in_err-first c =
     let p = err_from_is_err_and c.from_residual.result c.from_residual.ensures.1 in
