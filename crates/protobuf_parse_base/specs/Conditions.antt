@@ -5,14 +5,21 @@ use Rattle.protobuf_parse_base.specs.Relations.{Optional, OneOrMore, Separated, 
 use Rattle.protobuf_parse_base.specs.Relations.{BeginsOtherwise, At}
 use Rattle.protobuf_parse_base.specs.Readers.{Rest, end, token, onto, next, Read, read, stuck}
 use Rattle.protobuf_parse_base.specs.Readers.{wrong, deep, bind, bind_read, bind_deep, read_parts}
-use Rattle.protobuf_parse_base.specs.Readers.{Lexicon, Shape, shape, LocalAt, LocalRead, Sound}
-use Rattle.protobuf_parse_base.specs.Readers.{seen_by, starts, starts-next, starts-onto, Begins}
-use Rattle.protobuf_parse_base.specs.Readers.{Reader, local-same, give, ◌>>=◌, ◌>>◌, then_shape}
-use Rattle.protobuf_parse_base.specs.Readers.{either_shape, choose, many, many_shape, pick}
-use Rattle.protobuf_parse_base.specs.Readers.{pick-local-at, seen_by-append, or_true}
+use Rattle.protobuf_parse_base.specs.Readers.{stuck_not_read, Lexicon, Shape, shape, LocalAt}
+use Rattle.protobuf_parse_base.specs.Readers.{LocalRead, Sound, seen_by, starts, starts-next}
+use Rattle.protobuf_parse_base.specs.Readers.{starts-onto, Begins, Reader, local-same, give, ◌>>=◌}
+use Rattle.protobuf_parse_base.specs.Readers.{◌>>◌, then_shape, either_shape, choose, many}
+use Rattle.protobuf_parse_base.specs.Readers.{many_shape, pick, pick-local-at, seen_by-append}
+use Rattle.protobuf_parse_base.specs.Readers.{or_true}
 
 stuck-local : {Tok Mark A : Type 0} (ts : Rest Tok Mark) → LocalAt {A = A} stuck ts (stuck ts)
-stuck-local ts = record { used = []; parts = refl; again = λ other e. refl }
+stuck-local ts =
+    record {
+      used = [];
+      parts = refl;
+      again =
+          λ other e a us h. stuck_not_read (stuck other) other a us refl h;
+    }
 
 -- ---- only where b is true
 
@@ -263,7 +270,13 @@ module _ {Tok Mark Class A B : Type 0} {L : Lexicon Tok Mark Class} {R : List To
       → LocalAt run_meant ts (bind r (λ a us. meaning ts (means a) us))
   meant-local-at ts (read a rest) l = meaning-local ts a rest l (means a) refl
   meant-local-at ts (stuck rest) l =
-      record { used = l.used; parts = l.parts; again = λ other h. rw (l.again other h) refl }
+      record {
+        used = l.used;
+        parts = l.parts;
+        again =
+            λ other h b us e. let x = bind_read (p.run (onto l.used other))
+            (λ a vs. meaning (onto l.used other) (means a) vs) b us e in l.again other h x.0 x.1 x.2;
+      }
   meant-local-at ts (wrong rest) l = l
   meant-local-at ts deep l = tt
 

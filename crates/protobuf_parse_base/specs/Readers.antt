@@ -1,7 +1,7 @@
 -- A reader of a relation looks one token ahead and never back, and its laws come with it.
 use Rattle.std.proofs.Common.{◌≡◌, ℕ, zero, suc, ◌<◌, ◌≤◌, List, [], ◌∷◌, ◌++◌, Option, Some, None}
 use Rattle.std.proofs.Common.{Bool, true, false, not, ◌&&◌, ◌||◌, Result, Ok, Err, cond, refl, sym}
-use Rattle.std.proofs.Common.{ap, subst, ◌∙◌, inl, inr, arith}
+use Rattle.std.proofs.Common.{ap, subst, ◌∙◌, inl, inr, ◌⊎◌, arith}
 use Rattle.protobuf_parse_base.specs.Relations.{Nothing, One, Then, Either, Many, none, more}
 
 -- ---- what is read
@@ -64,6 +64,19 @@ bind_deep (stuck us) f e first second = cc
 bind_deep (wrong m) f e first second = cc
 bind_deep deep f e first second = first refl
 
+pub bind_wrong : {Tok Mark A B : Type 0} (r : Read Tok Mark A)
+    (f : A → Rest Tok Mark → Read Tok Mark B) (rest : Rest Tok Mark) → bind r f ≡ wrong rest
+    → (r ≡ wrong rest) ⊎ ((a : A) × (us : Rest Tok Mark) × (r ≡ read a us) × (f a us ≡ wrong rest))
+bind_wrong (read a us) f rest e = inr (a, us, refl, e)
+bind_wrong (stuck us) f rest e = absurd cc
+bind_wrong (wrong m) f rest e = inl (let p : m ≡ rest = cc in ap wrong p)
+bind_wrong deep f rest e = absurd cc
+
+-- what cannot stand there is not read
+pub stuck_not_read : {Tok Mark A : Type 0} (r : Read Tok Mark A) (rest : Rest Tok Mark) (a : A)
+    (us : Rest Tok Mark) → r ≡ stuck rest → r ≡ read a us → ⊥
+stuck_not_read r rest a us e f = cc
+
 -- what was read is the same value and the same rest
 pub read_parts : {Tok Mark A : Type 0} (a b : A) (x y : Rest Tok Mark)
     → (let r : Read Tok Mark A = read a x in r ≡ read b y) → (a ≡ b) × (x ≡ y)
@@ -118,11 +131,13 @@ pub record LocalRead {Tok Mark A : Type 0} (run : Rest Tok Mark → Read Tok Mar
   pub again : (other : Rest Tok Mark) → next other ≡ next rest
       → run (onto used other) ≡ read a other
 
+-- and where the next token cannot stand, nothing is read, whatever comes after it
 pub record LocalStuck {Tok Mark A : Type 0} (run : Rest Tok Mark → Read Tok Mark A)
     (ts : Rest Tok Mark) (rest : Rest Tok Mark) : Type 0 where
   pub used : List Tok
   pub parts : ts ≡ onto used rest
-  pub again : (other : Rest Tok Mark) → next other ≡ next rest → run (onto used other) ≡ stuck other
+  pub again : (other : Rest Tok Mark) → next other ≡ next rest → (a : A) (us : Rest Tok Mark)
+      → run (onto used other) ≡ read a us → ⊥
 
 abbrev pub LocalAt : {Tok Mark A : Type 0} → (Rest Tok Mark → Read Tok Mark A) → Rest Tok Mark
     → Read Tok Mark A → Type 0
@@ -336,8 +351,8 @@ local-same run run' ts (stuck rest) same l =
       used = l.used;
       parts = l.parts;
       again =
-          λ other h. same (onto l.used other) (next-onto l.used rest other h ∙ ap next (sym l.parts))
-          ∙ l.again other h;
+          λ other h a us e. l.again other h a us
+          (sym (same (onto l.used other) (next-onto l.used rest other h ∙ ap next (sym l.parts))) ∙ e);
     }
 local-same run run' ts (wrong rest) same l = l
 local-same run run' ts deep same l = tt
@@ -386,15 +401,22 @@ module _ {Tok Mark A : Type 0} (says : Tok → Option A) where
       record {
         used = [];
         parts = refl;
-        again = λ other h. let s = same_token t other h in
-            rw (s.1, e) refl;
+        again = λ other h a us f. let s = same_token t other h in
+            let g : run_one says other ≡ stuck other = rw (s.1, e) refl in
+            stuck_not_read (run_one says other) other a us g f;
       }
   one-local-at t ts (Some a) e =
       record { used = t ∷ []; parts = refl; again = λ other h. rw e refl }
 
   pub one-local : (ts : Rest Tok Mark) → LocalAt (run_one says) ts (run_one says ts)
   one-local (end m) =
-      record { used = []; parts = refl; again = λ other h. rw (same_end m other h) refl }
+      record {
+        used = [];
+        parts = refl;
+        again =
+            λ other h a us f. let g : run_one says other ≡ stuck other = rw (same_end m other h) refl in
+            stuck_not_read (run_one says other) other a us g f;
+      }
   one-local (token t ts) = one-local-at t ts (says t) refl
 
   taken-sound : (t : Tok) (ts : Rest Tok Mark) (o : Option A) (a : A) (rest : Rest Tok Mark)
@@ -485,10 +507,13 @@ module _ {Tok Mark A B : Type 0} where
   second-local run f ts a us l (stuck rest) m = record {
     used = l.used ++ m.used;
     parts = l.parts ∙ ap (onto l.used) m.parts ∙ sym (onto-append l.used m.used rest);
-    again = λ other h. let e : run (onto l.used (onto m.used other))
+    again = λ other h b vs g.
+        let e : run (onto l.used (onto m.used other))
         ≡ read a (onto m.used other) =
         l.again (onto m.used other) (next-onto m.used rest other h ∙ ap next (sym m.parts)) in
-        rw (onto-append l.used m.used other, e) (m.again other h);
+        let k : bind (run (onto (l.used ++ m.used) other)) f
+        ≡ f a (onto m.used other) = rw (onto-append l.used m.used other, e) refl in
+        m.again other h b vs (sym k ∙ g);
   }
   second-local run f ts a us l (wrong rest) m =
       (l.used ++ m.0, l.parts ∙ ap (onto l.used) m.1 ∙ sym (onto-append l.used m.0 rest))
@@ -500,7 +525,13 @@ module _ {Tok Mark A B : Type 0} where
       → LocalAt (λ vs. bind (run vs) f) ts (bind r f)
   bind-local run f ts (read a us) l g = second-local run f ts a us l (f a us) (g a us refl)
   bind-local run f ts (stuck rest) l g =
-      record { used = l.used; parts = l.parts; again = λ other h. rw (l.again other h) refl }
+      record {
+        used = l.used;
+        parts = l.parts;
+        again =
+            λ other h b vs e. let x = bind_read (run (onto l.used other)) f b vs e in
+            l.again other h x.0 x.1 x.2;
+      }
   bind-local run f ts (wrong rest) l g = l
   bind-local run f ts deep l g = tt
 

@@ -89,10 +89,6 @@ module _ {Tok Mark : Type 0} where
   no_end t m (end n) e h = absurd cc
   no_end t m (token u us) e h = absurd cc
 
-  no_read : {A : Type 0} (r : Read Tok Mark A) (a : A) (us rest : Rest Tok Mark) → r ≡ read a us
-      → r ≡ stuck rest → ⊥
-  no_read r a us rest e f = cc
-
 -- ---- a reader
 
 module _ {Tok Mark Class A : Type 0} {L : Lexicon Tok Mark Class} {R : List Tok → A → Type 0}
@@ -145,10 +141,6 @@ module _ {Tok Mark Class A : Type 0} {L : Lexicon Tok Mark Class} {R : List Tok 
       → LocalStuck p.run ts rest
   local_stuck ts rest e = stuck-local ts (p.run ts) rest e (p.local ts)
 
-  never_read : (ts : List Tok) (m : Mark) (rest : Rest Tok Mark) (a : A)
-      → p.run (whole ts m) ≡ stuck rest → R ts a → ⊥
-  never_read ts m rest a e h = let k = reads_whole ts m a h in cc
-
   pub stops : (ts : List Tok) (m : Mark) (rest : Rest Tok Mark) → p.run (whole ts m) ≡ stuck rest
       → StopsAt L.mark R ts m (mark_of L.mark rest)
   stops ts m rest e =
@@ -162,10 +154,9 @@ module _ {Tok Mark Class A : Type 0} {L : Lexicon Tok Mark Class} {R : List Tok 
         never = λ other a h r.
             let i : next (whole other m) ≡ next rest = next-whole other k.0 m h
             ∙ ap next (sym k.1) in
-            let j : p.run (whole (l.used ++ other) m)
-            ≡ stuck (whole other m) = ap p.run (onto-append l.used other (end m))
-            ∙ l.again (whole other m) i in
-            never_read (l.used ++ other) m (whole other m) a j r;
+            l.again (whole other m) i a (end m)
+            (sym (ap p.run (onto-append l.used other (end m)))
+            ∙ reads_whole (l.used ++ other) m a r);
       }
 
 -- ---- a reader for each depth
@@ -279,19 +270,16 @@ module _ {Tok Mark Class A : Type 0} {L : Lexicon Tok Mark Class} {R : ℕ → L
           (settles x.0 n (whole ts m) less ∙ e) in
           let l' = local_stuck (p k) fine (whole ts m) rest e' in
           let same = same_used ts l.used l'.used m rest l.parts l'.parts in
-          let i : (p k).run (onto l.used (whole other m))
-          ≡ stuck (whole other m) =
-          subst (λ v. (p k).run (onto v (whole other m)) ≡ stuck (whole other m)) same
-          (l'.again (whole other m) g) in
-          no_read ((p k).run (whole (l.used ++ other) m)) a (end m) (whole other m) r
-          (ap (p k).run (onto-append l.used other (end m)) ∙ i)
+          l'.again (whole other m) g a (end m)
+          (subst (λ v. (p k).run (onto v (whole other m)) ≡ read a (end m)) (sym same)
+          (sym (ap (p k).run (onto-append l.used other (end m))) ∙ r))
       go (inr x) =
           let r' : (p n).run (whole (l.used ++ other) m)
           ≡ read a (end m) =
           subst (λ v. (p v).run (whole (l.used ++ other) m) ≡ read a (end m)) (sym x.1)
           (grows x.0 k (whole (l.used ++ other) m) a (end m) r) in
-          no_read ((p n).run (whole (l.used ++ other) m)) a (end m) (whole other m) r'
-          (ap (p n).run (onto-append l.used other (end m)) ∙ l.again (whole other m) g)
+          l.again (whole other m) g a (end m)
+          (sym (ap (p n).run (onto-append l.used other (end m))) ∙ r')
 
   pub deep_stops : (n : ℕ) (ts : List Tok) (m : Mark) (rest : Rest Tok Mark) → length ts < n
       → (p n).run (whole ts m) ≡ stuck rest

@@ -1,6 +1,7 @@
 -- What the readers of constants read, where the next tokens are known.
 use Rattle.std.proofs.Common.{◌≡◌, ℕ, ℤ, pos, List, [], ◌∷◌, Option, Some, None, Bool, true, false}
-use Rattle.std.proofs.Common.{◌||◌, map, length, get_or, ◌<◌, ◌≤◌, bytes_eq, codes, refl, arith}
+use Rattle.std.proofs.Common.{◌||◌, map, length, get_or, ◌<◌, ◌≤◌, bytes_eq, codes, refl, inl, inr}
+use Rattle.std.proofs.Common.{arith}
 use Rattle.std.proofs.lemmas.Slice.Eq.{bytes_eq-Decides}
 use Rattle.protobuf_parse_base.specs.Readers.{Rest, end, token, Read, read, stuck, wrong, bind}
 use Rattle.protobuf_parse_base.specs.Readers.{seen, starts, run_one, taken, or_true, or_left}
@@ -116,19 +117,18 @@ module _ (c : ℕ) (says : Lexeme → Option ℕ) (f : ℕ → ℤ)
   tells_at : (ts : Rest Lexeme Place)
       → ((t : Lexeme) → sees (symbol_class c) t ≡ true
       → is_one_of (symbol_class 43 ∷ symbol_class 45 ∷ []) t ≡ true)
-      → starts lexicon (symbol_class c ∷ []) ts ≡ true → floats_second ts ≡ true
-      → SignedFloat ts (off ts)
+      → starts lexicon (symbol_class c ∷ []) ts ≡ true → floats_second ts ≡ true → SignedFloat ts
   unfolding starts
   tells_at (end m) is h e = absurd cc
   tells_at (token t (end m)) is h e = absurd cc
-  tells_at (token t (token u rest)) is h e = (is t (one_seen (sees (symbol_class c) t) h), e, refl)
+  tells_at (token t (token u rest)) is h e = (is t (one_seen (sees (symbol_class c) t) h), e)
 
   sign_fails : (ts : Rest Lexeme Place)
       → ((t : Lexeme) → sees (symbol_class c) t ≡ true
       → is_one_of (symbol_class 43 ∷ symbol_class 45 ∷ []) t ≡ true)
       → starts lexicon (symbol_class c ∷ []) ts ≡ true → floats_second ts ≡ true
       → Fails (Here error.FloatConstant) ts ((signed_by c says f law).run ts)
-  sign_fails ts is h e = (off ts, sign_wrong ts h e, tells_at ts is h e)
+  sign_fails ts is h e = (off ts, sign_wrong ts h e, inr ([], refl, inl (refl, tells_at ts is h e)))
 
 pub plus_absent : (ts : Rest Lexeme Place) → starts lexicon (symbol_class 43 ∷ []) ts ≡ false
     → plus.run ts ≡ stuck ts

@@ -5,6 +5,7 @@ use Rattle.protobuf_parse_base.specs.Readers.{Rest, end, token, onto, onto-appen
 use Rattle.protobuf_parse_base.specs.Readers.{wrong, Begins, starts}
 use Rattle.protobuf_parse_base.specs.Relations.{BeginsOtherwise}
 use Rattle.protobuf_parse_syntax.proofs.Strings.{str_ends}
+use Rattle.protobuf_parse_syntax.proofs.Wrongs.{says_behind}
 use Rattle.protobuf_parse_base.specs.Conditions.{mark_of}
 use Rattle.protobuf_parse_base.specs.Whole.{whole, StopsAt, left_whole, local_stuck, local_wrong}
 use Rattle.protobuf_parse_base.specs.Whole.{deep_found, deep_only, deep_wrong, deep_never}
@@ -12,17 +13,18 @@ use Rattle.protobuf_parse_base.specs.Whole.{deep_stops, deep_leaves}
 use Rattle.protobuf_parse_syntax.specs.Text.{Bytes}
 use Rattle.protobuf_parse_syntax.specs.Tokens.{Lexeme}
 use Rattle.protobuf_parse_syntax.specs.Trees.{Pieces, FileSyntax, file_view}
-use Rattle.protobuf_parse_syntax.specs.Classes.{symbol, ident, sees, float, text, is_one_of}
-use Rattle.protobuf_parse_syntax.specs.Classes.{is_floating, lexicon}
+use Rattle.protobuf_parse_syntax.specs.Classes.{symbol, float, text, is_one_of, is_floating}
+use Rattle.protobuf_parse_syntax.specs.Classes.{lexicon}
 use Rattle.protobuf_parse_syntax.specs.Grammar.{IsFile, IsStr, place_of}
 use Rattle.protobuf_parse_syntax.specs.Productions as parse
 use Rattle.protobuf_parse_syntax.specs.Nested as nest
 use Rattle.protobuf_parse_syntax.specs.Readings.{steady-near}
-use Rattle.protobuf_parse_syntax.specs.Parsing.{HasTree, NoTree, StandsAt, LargeToken, NextPart}
-use Rattle.protobuf_parse_syntax.specs.Parsing.{Floats, WrongStrings, SaysNothing, IsGrammarFault}
-use Rattle.protobuf_parse_syntax.specs.Code.{Stands, Tells, Fails, Failure, at, failed, SaysNot}
-use Rattle.protobuf_parse_syntax.specs.Code.{SignedFloat, IsLargeNext, comes, is_end, RefusesFile}
-use Rattle.protobuf_parse_syntax.specs.Code.{error_at}
+use Rattle.protobuf_parse_syntax.specs.Parsing.{HasTree, NoTree, StandsAt, LargeToken, HundredParts}
+use Rattle.protobuf_parse_syntax.specs.Parsing.{NextPart, Floats, StandsBehind, WrongStrings}
+use Rattle.protobuf_parse_syntax.specs.Parsing.{SaysNothing, IsGrammarFault}
+use Rattle.protobuf_parse_syntax.specs.Code.{Stands, Says, Tells, Fails, NoVersion, Failure, failed}
+use Rattle.protobuf_parse_syntax.specs.Code.{SaysNot, SignedFloat, IsLargeNext, comes, begins_part}
+use Rattle.protobuf_parse_syntax.specs.Code.{is_end, RefusesFile, error_at}
 use Rattle.protobuf_parse_syntax.specs.Cut.{Stream, HasTokens, out_of_memory}
 use Rattle.protobuf_parse_syntax.specs.Cut.{error_place as place_at}
 use Rattle.protobuf_parse_syntax.specs.declared.error.ParserErrorWithLocation.{ParserErrorWithLocation}
@@ -84,23 +86,19 @@ sign_next used [] m t u rest e h i = absurd cc
 sign_next used (v ∷ vs) m t u rest e h i = let p : u ≡ v = cc in
     inr (h, subst (λ (x : Lexeme). is_floating x ≡ true) p i)
 
-sign_at : (ts used : List Lexeme) (m : Place) (after : Rest Lexeme Place) (f : Failure)
-    → whole ts m ≡ onto used after → SignedFloat after f
-    → StandsAt Floats ts (mark_of place_of after)
-sign_at ts used m (end n) f e h = absurd h
-sign_at ts used m (token t (end n)) f e h = absurd h
-sign_at ts used m (token t (token u rest)) f e h =
+sign_at : (ts used : List Lexeme) (m : Place) (after : Rest Lexeme Place)
+    → whole ts m ≡ onto used after → SignedFloat after → StandsAt Floats ts (mark_of place_of after)
+sign_at ts used m (end n) e h = absurd h
+sign_at ts used m (token t (end n)) e h = absurd h
+sign_at ts used m (token t (token u rest)) e h =
     stands_at Floats ts used m t (token u rest) e
     (λ back g. sign_next used back m t u rest g h.0 h.1)
 
-part_at : (ts used : List Lexeme) (m : Place) (dot : Lexeme) (after : Rest Lexeme Place)
-    → whole ts m ≡ onto used (token dot after) → is_one_of (symbol 46 ∷ []) dot ≡ true
-    → comes (ident [] ∷ symbol 40 ∷ []) after ≡ true → StandsAt NextPart ts (mark_of place_of after)
-part_at ts used m dot (end n) e d h = absurd cc
-part_at ts used m dot (token t rest) e d h =
-    let parts : whole ts m ≡ onto (used ++ dot ∷ []) (token t rest) = e
-    ∙ sym (onto-append used (dot ∷ []) (token t rest)) in
-    stands_at NextPart ts (used ++ dot ∷ []) m t rest parts (λ back f. (used, dot, refl, d, h))
+part_at : (ts used : List Lexeme) (m : Place) (after : Rest Lexeme Place)
+    → whole ts m ≡ onto used after → HundredParts used → begins_part after ≡ true
+    → StandsAt NextPart ts (mark_of place_of after)
+part_at ts used m (end n) e d h = absurd cc
+part_at ts used m (token t rest) e d h = stands_at NextPart ts used m t rest e (λ back f. (d, h))
 
 -- what is left does not begin with a string
 no_more : (others : List Lexeme) (m : Place) (us : Rest Lexeme Place) → us ≡ whole others m
@@ -111,25 +109,26 @@ no_more (t ∷ others) m us e h = rw e at h
 
 strings_next : (used used' : List Lexeme) (m : Place) (e : ParserError) (t : Lexeme)
     (rest us : Rest Lexeme Place) (pieces : Pieces) → token t rest ≡ onto used' us
-    → IsStr used' pieces → starts lexicon (text ∷ []) us ≡ false → SaysNothing pieces e
-    → (back : List Lexeme) → rest ≡ whole back m → WrongStrings e used t back
-strings_next used used' m e t rest us pieces f is ends says back g =
+    → IsStr used' pieces → starts lexicon (text ∷ []) us ≡ false → StandsBehind e used
+    → SaysNothing pieces e → (back : List Lexeme) → rest ≡ whole back m → WrongStrings e used t back
+strings_next used used' m e t rest us pieces f is ends behind says back g =
     let k = left_whole (t ∷ back) used' m us (sym (ap (token t) g) ∙ f) in
     record {
+      behind = behind;
       strings = used';
       others = k.0;
       pieces = pieces;
       parts = k.2;
       is = is;
-      last =
-          no_more k.0 m us k.1 ends;
+      last = no_more k.0 m us k.1 ends;
       says = says;
     }
 
 strings_at : (ts used : List Lexeme) (m : Place) (e : ParserError) (after rest : Rest Lexeme Place)
     (pieces : Pieces) → whole ts m ≡ onto used after → parse.str.run after ≡ read pieces rest
-    → SaysNothing pieces e → StandsAt (WrongStrings e) ts (mark_of place_of after)
-strings_at ts used m e (end n) rest pieces parts h says =
+    → StandsBehind e used → SaysNothing pieces e
+    → StandsAt (WrongStrings e) ts (mark_of place_of after)
+strings_at ts used m e (end n) rest pieces parts h behind says =
     let l = parse.str.sound (end n) pieces rest h in
     no_strings l.used l.parts (parse.str.begins l.used pieces l.holds)
   where
@@ -138,14 +137,17 @@ strings_at ts used m e (end n) rest pieces parts h says =
         → Begins lexicon (text ∷ []) false strings → StandsAt (WrongStrings e) ts n
     no_strings [] f b = absurd cc
     no_strings (u ∷ us) f b = absurd cc
-strings_at ts used m e (token t us) rest pieces parts h says =
+strings_at ts used m e (token t us) rest pieces parts h behind says =
     let l = parse.str.sound (token t us) pieces rest h in
     stands_at (WrongStrings e) ts used m t us parts
     (strings_next used l.used m e t us rest pieces l.parts l.holds
-    (str_ends (token t us) rest pieces h) says)
+    (str_ends (token t us) rest pieces h) behind says)
 
-dotted : (t : Lexeme) → sees (symbol 46) t ≡ true → is_one_of (symbol 46 ∷ []) t ≡ true
-dotted t h = rw h refl
+here_is : (e x : ParserError) → (let r : Refusal = Here e in r ≡ Here x) → e ≡ x
+here_is e x h = cc
+
+not_here : (e x : ParserError) → (let r : Refusal = Next e in r ≡ Here x) → ⊥
+not_here e x h = cc
 
 -- ---- a file
 
@@ -228,70 +230,59 @@ module _ (ts : List Lexeme) (m : Place) (n : ℕ) where
         go error.TextTooLong stop used parts s = absurd s
 
     -- strings say nothing
-    strings_fault : (e : ParserError) (after : Rest Lexeme Place) (f : Failure)
-        → (nest.files n).low.run (whole ts m) ≡ failed f → SaysNot e after f
-        → NoTree ts × StandsAt (WrongStrings e) ts (mark_of place_of after)
-    strings_fault e after f h says =
-        let w : (nest.files n).low.run (whole ts m) ≡ wrong after = rw (says.4) at h in
-        let l = local_wrong (nest.file n).low (whole ts m) after w in
-        (none_if_wrong after w, strings_at ts l.0 m e after says.1 says.0 l.1 says.2 says.3)
-
-    sign_fault : (after : Rest Lexeme Place) (f : Failure)
-        → (nest.files n).low.run (whole ts m) ≡ failed f → SignedFloat after f
-        → NoTree ts × StandsAt Floats ts (mark_of place_of after)
-    sign_fault (end k) f h tells = absurd tells
-    sign_fault (token t (end k)) f h tells = absurd tells
-    sign_fault (token t (token u rest)) f h tells =
-        let after : Rest Lexeme Place = token t (token u rest) in
-        let w : (nest.files n).low.run (whole ts m) ≡ wrong after = rw (tells.2) at h in
-        let l = local_wrong (nest.file n).low (whole ts m) after w in
-        (none_if_wrong after w, sign_at ts l.0 m after f l.1 tells)
-
-    part_fault : (after : Rest Lexeme Place) (f : Failure) (dot : Lexeme)
-        → (nest.files n).low.run (whole ts m) ≡ failed f → is_one_of (symbol 46 ∷ []) dot ≡ true
-        → comes (ident [] ∷ symbol 40 ∷ []) after ≡ true → f ≡ at (token dot after)
-        → NoTree ts × StandsAt NextPart ts (mark_of place_of after)
-    part_fault after f dot h d c e =
-        let w : (nest.files n).low.run (whole ts m) ≡ stuck (token dot after) = rw e at h in
-        let l = local_stuck (nest.file n).low refl (whole ts m) (token dot after) w in
-        (none_if_stuck (token dot after) w, part_at ts l.used m dot after l.parts d c)
+    strings_at_fault : (e : ParserError) (used : List Lexeme) (after : Rest Lexeme Place)
+        → whole ts m ≡ onto used after → StandsBehind e used → SaysNot e after
+        → StandsAt (WrongStrings e) ts (mark_of place_of after)
+    strings_at_fault e used after parts behind says =
+        strings_at ts used m e after says.1 says.0 parts says.2 behind says.3
 
     -- the part that begins there has the fault
+    wrong_fault : (e : ParserError) (used : List Lexeme) (after : Rest Lexeme Place) → NoTree ts
+        → whole ts m ≡ onto used after → Says e used after
+        → IsGrammarFault ts m e (mark_of place_of after)
+    wrong_fault e used after no_tree parts (inl h) =
+        rw (h.0) (no_tree, sign_at ts used m after parts h.1)
+    wrong_fault e used after no_tree parts (inr (inl h)) =
+        rw (h.0) (no_tree, part_at ts used m after parts h.1 h.2)
+    wrong_fault e used after no_tree parts (inr (inr (inl h))) =
+        rw (h.0) (no_tree, strings_at_fault error.StrLitDecode used after parts h.1 h.2)
+    wrong_fault e used after no_tree parts (inr (inr (inr h))) =
+        rw (h.1) (no_tree, strings_at_fault (error.BadImportPath h.0) used after parts h.2 h.3)
+
     here_fault : (e : ParserError) (after : Rest Lexeme Place) (f : Failure)
         → (nest.files n).low.run (whole ts m) ≡ failed f → Tells e after f
         → IsGrammarFault ts m e (mark_of place_of after)
-    here_fault error.FloatConstant after f h t = sign_fault after f h t
-    here_fault error.OptionNameTooLong after f h t =
-        part_fault after f t.0 h (dotted t.0 t.1) t.2 t.3
-    here_fault error.UnknownSyntax after f h t = strings_fault error.UnknownSyntax after f h t
-    here_fault error.StrLitDecode after f h t = strings_fault error.StrLitDecode after f h t
-    here_fault (error.BadImportPath e) after f h t =
-        strings_fault (error.BadImportPath e) after f h t
-    here_fault error.NestingTooDeep after f h t =
+    here_fault e after f h (inl t) =
         absurd (deep_never (λ i. (nest.file i).low)
-        (steady-near nest.file nest.file-same) refl n ts m enough (rw t at h))
-    here_fault error.Memory after f h t = absurd t
-    here_fault error.UnexpectedCharacter after f h t = absurd t
-    here_fault error.UnterminatedComment after f h t = absurd t
-    here_fault error.UnterminatedString after f h t = absurd t
-    here_fault error.BadNumber after f h t = absurd t
-    here_fault error.IntegerOverflow after f h t = absurd t
-    here_fault error.IncorrectInput after f h t = absurd t
-    here_fault error.ExpectConstant after f h t = absurd t
-    here_fault error.LabelNotAllowed after f h t = absurd t
-    here_fault error.LabelRequired after f h t = absurd t
-    here_fault error.GroupNameShouldStartWithUpperCase after f h t = absurd t
-    here_fault error.MapFieldNotAllowed after f h t = absurd t
-    here_fault error.OneOfInGroup after f h t = absurd t
-    here_fault error.OnlyFieldsInGroup after f h t = absurd t
-    here_fault error.TextTooLong after f h t = absurd t
+        (steady-near nest.file nest.file-same) refl n ts m enough (rw (t.1) at h))
+    here_fault e after f h (inr t) =
+        let start : Rest Lexeme Place = onto t.0 after in
+        let w : (nest.files n).low.run (whole ts m) ≡ wrong start = rw (t.1) at h in
+        let l = local_wrong (nest.file n).low (whole ts m) start w in
+        wrong_fault e (l.0 ++ t.0) after (none_if_wrong start w)
+        (l.1 ∙ sym (onto-append l.0 t.0 after)) (says_behind e l.0 t.0 after t.2)
+
+    -- the string of `syntax` says no version
+    version_fault : (e : ParserError) (after : Rest Lexeme Place)
+        → NoVersion (whole ts m) (Here e) after ((nest.files n).low.run (whole ts m))
+        → IsGrammarFault ts m e (mark_of place_of after)
+    version_fault e after h =
+        let k = h.2 in
+        let same : e ≡ error.UnknownSyntax = here_is e error.UnknownSyntax h.0 in
+        rw same (
+          none_if_wrong (whole ts m) h.1,
+          strings_at_fault error.UnknownSyntax k.0 after k.1 k.2 k.3,
+        )
 
     pub refused : (e : Refusal) (after : Rest Lexeme Place)
         → Fails e after ((nest.files n).low.run (whole ts m))
+        ⊎ NoVersion (whole ts m) e after ((nest.files n).low.run (whole ts m))
         → RefusesFile ts m e (mark_of place_of after)
     refused Memory after h = tt
-    refused (Next e) after h = next_fault e after h.0 h.1
-    refused (Here e) after h = here_fault e after h.0 h.1 h.2
+    refused (Next e) after (inl h) = next_fault e after h.0 h.1
+    refused (Next e) after (inr h) = absurd (not_here e error.UnknownSyntax h.0)
+    refused (Here e) after (inl h) = here_fault e after h.0 h.1 h.2
+    refused (Here e) after (inr h) = version_fault e after h
 
 pub told : (ts : List Lexeme) (m : Place) (e : Refusal) (next : Place) (r : ParserErrorWithLocation)
     → RefusesFile ts m e next → r ≡ error_at e next

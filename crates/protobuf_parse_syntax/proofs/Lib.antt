@@ -25,6 +25,8 @@ pub mod Left
 pub mod Loops
 pub mod Views
 pub mod Failures
+pub mod Wrongs
+pub mod NeverWrong
 pub mod Constants
 pub mod Versions
 pub mod Messages

@@ -1,24 +1,31 @@
 -- The parts of an option's name: what a loop over them keeps, and how it ends.
-use Rattle.std.proofs.Common.{◌≡◌, ℕ, zero, suc, List, [], ◌∷◌, ◌++◌, Bool, true, false, ◌||◌, refl}
-use Rattle.std.proofs.Common.{sym, ap, subst, ◌∙◌, append_assoc}
+use Rattle.std.proofs.Common.{◌≡◌, ◌⊎◌, ℕ, zero, suc, List, [], ◌∷◌, ◌++◌, length, Bool, true}
+use Rattle.std.proofs.Common.{false, ◌||◌, cond, inl, inr, refl, sym, ap, subst, ◌∙◌, append_assoc}
 use Rattle.std.proofs.lemmas.List.{append-nil}
-use Rattle.protobuf_parse_base.specs.Readers.{Rest, end, token, Read, read, stuck, wrong, deep}
-use Rattle.protobuf_parse_base.specs.Readers.{bind, bind_read, read_parts, starts, with_first}
+use Rattle.protobuf_parse_base.specs.Relations.{Many, none, more}
+use Rattle.protobuf_parse_base.specs.Readers.{Rest, end, token, onto, onto-append, Read, read}
+use Rattle.protobuf_parse_base.specs.Readers.{stuck, wrong, deep, bind, bind_read, bind_wrong}
+use Rattle.protobuf_parse_base.specs.Readers.{read_parts, starts, with_first}
 use Rattle.protobuf_parse_base.specs.Loops.{with_rest}
 use Rattle.protobuf_parse_syntax.specs.Tokens.{Lexeme}
 use Rattle.protobuf_parse_syntax.specs.Trees as tree
 use Rattle.protobuf_parse_syntax.specs.Trees.{OptionPartSyntax, OptionNameSyntax}
-use Rattle.protobuf_parse_syntax.specs.Classes.{lexicon, sees, symbol, ident}
-use Rattle.protobuf_parse_syntax.specs.Grammar.{option_name}
+use Rattle.protobuf_parse_syntax.specs.Classes.{Class, lexicon, sees, symbol}
+use Rattle.protobuf_parse_syntax.specs.Grammar.{IsNextPart, option_name}
+use Rattle.protobuf_parse_syntax.specs.Readings.{wrong_from}
 use Rattle.protobuf_parse_syntax.specs.Productions as parse
-use Rattle.protobuf_parse_syntax.specs.Productions.{option_part, next_part, parts_up_to}
-use Rattle.protobuf_parse_syntax.specs.Code.{at, comes, Fails, fails_first}
+use Rattle.protobuf_parse_syntax.specs.Productions.{option_part, option_part_firsts, next_part}
+use Rattle.protobuf_parse_syntax.specs.Productions.{parts_up_to}
+use Rattle.protobuf_parse_syntax.specs.Code.{Failure, at, off, too_deep, failed, comes, begins_part}
+use Rattle.protobuf_parse_syntax.specs.Code.{Fails, TooMany, fails_first}
 use Rattle.protobuf_parse_syntax.specs.declared.lexer.token.Place.{Place}
 use Rattle.protobuf_parse_syntax.specs.declared.parser.refusal.Refusal.{Refusal}
 use Rattle.protobuf_parse_syntax.specs.declared.parser.refusal.Refusal.TheVariants.{Memory, Next}
 use Rattle.protobuf_parse_syntax.specs.declared.parser.refusal.Refusal.TheVariants.{Here}
 use Rattle.protobuf_parse_syntax.specs.declared.error.ParserError.TheVariants as error
-use Rattle.protobuf_parse_syntax.proofs.Failures.{never_failed}
+use Rattle.protobuf_parse_syntax.proofs.Failures.{failed_as, never_failed}
+use Rattle.protobuf_parse_syntax.proofs.NeverWrong.{next_part_wrong}
+use Rattle.protobuf_parse_syntax.proofs.Wrongs.{fails_from_first, fails_behind}
 
 abbrev Parts : Type 0
 Parts = List OptionPartSyntax
@@ -41,11 +48,6 @@ pub parts_end : (k : ℕ) (ts : Rest Lexeme Place) → starts lexicon (symbol 46
 unfolding parts_up_to next_part
 parts_end zero ts e = rw e refl
 parts_end (suc k) ts e = rw e refl
-
--- of no more parts, a dot cannot stand there
-pub parts_full : (ts : Rest Lexeme Place) → dotted ts → (parts_up_to 0).run ts ≡ stuck ts
-unfolding parts_up_to
-parts_full ts e = rw e refl
 
 parts_more : (k : ℕ) (ts : Rest Lexeme Place) → dotted ts
     → (parts_up_to (suc k)).run ts
@@ -120,17 +122,118 @@ fails_at_dot ts after (Next e) r dot h = let x = dot_read ts dot in
 fails_at_dot ts after (Here e) r dot h = let x = dot_read ts dot in
     absurd (never_failed tt x.1 h.0 (sym x.4 ∙ h.1))
 
+starts_comes : (cs : List Class) (ts : Rest Lexeme Place) → starts lexicon cs ts ≡ comes cs ts
+unfolding starts
+starts_comes cs (end m) = refl
+starts_comes cs (token t us) = refl
+
+-- where a dot comes next, and what is behind it
+full_runs : (ts us : Rest Lexeme Place) (b : Bool) → dotted ts
+    → (parse.symbol 46).run ts ≡ read tt us → begins_part us ≡ b
+    → (parts_up_to 0).run ts ≡ cond b (wrong us) (stuck ts)
+unfolding parts_up_to
+full_runs ts us b dot is e =
+    let x = dot_read ts dot in
+    let p = read_parts tt tt x.1 us (sym x.4 ∙ is) in
+    let same : ts ≡ token x.0 us = x.2 ∙ ap (token x.0) p.1 in
+    let t : starts lexicon (symbol 46 ∷ []) (token x.0 us)
+    ≡ true = subst (λ (v : Rest Lexeme Place). dotted v) same dot in
+    rw same (rw (t, starts_comes option_part_firsts us, e) refl)
+
+-- of no more parts, a dot cannot stand there
+pub parts_full : (ts us : Rest Lexeme Place) → dotted ts → (parse.symbol 46).run ts ≡ read tt us
+    → begins_part us ≡ false → (parts_up_to 0).run ts ≡ stuck ts
+parts_full ts us dot is e = full_runs ts us false dot is e
+
 -- behind a dot begins a part too many
 pub tells_full : (ts after : Rest Lexeme Place) → dotted ts
-    → (parse.symbol 46).run ts ≡ read tt after → comes (ident [] ∷ symbol 40 ∷ []) after ≡ true
-    → Fails (Here error.OptionNameTooLong) after ((parts_up_to 0).run ts)
-tells_full ts after dot is begins =
-    let x = dot_read ts dot in
-    let p = read_parts tt tt x.1 after (sym x.4 ∙ is) in (
-      at ts,
-      parts_full ts dot,
-      (x.0, x.3, begins, ap (λ (v : Rest Lexeme Place). at v) (x.2 ∙ ap (token x.0) p.1)),
-    )
+    → (parse.symbol 46).run ts ≡ read tt after → begins_part after ≡ true
+    → TooMany (Here error.OptionNameTooLong) after ((parts_up_to 0).run ts)
+tells_full ts after dot is begins = (refl, full_runs ts after true dot is begins, begins)
+
+-- ---- a part too many
+
+-- what stands between where the parts begin and one too many: so many parts and a dot
+abbrev Before : ℕ → Rest Lexeme Place → Rest Lexeme Place → Type 0
+Before k ts after =
+    (used : List Lexeme) × (items : Parts) × (dot : Lexeme) × (ts ≡ onto used (token dot after))
+    × Many IsNextPart used items × (length items ≡ k) × (sees (symbol 46) dot ≡ true)
+
+read_some_wrong : {us after : Rest Lexeme Place} (items : Parts)
+    → (let r : ReadParts = read items us in r ≡ wrong after) → ⊥
+read_some_wrong items e = cc
+
+read_wrong : {us after : Rest Lexeme Place} → (let r : ReadParts = read [] us in r ≡ wrong after)
+    → ⊥
+read_wrong e = cc
+
+wrong_at : (r : Bool) (dot : Lexeme) (us after : Rest Lexeme Place)
+    → (let q : ReadParts = cond r (wrong us) (stuck (token dot us)) in q ≡ wrong after) → us ≡ after
+wrong_at true dot us after e = cc
+wrong_at false dot us after e = absurd cc
+
+none_wrong : (ts after : Rest Lexeme Place) → (parts_up_to 0).run ts ≡ wrong after
+    → Before 0 ts after
+none_wrong ts after e = go (starts lexicon (symbol 46 ∷ []) ts) refl
+  where
+    at_dot : dotted ts → Before 0 ts after
+    at_dot dot =
+        let x = dot_read ts dot in
+        let r = full_runs ts x.1 (begins_part x.1) dot x.4 refl in
+        let same : x.1 ≡ after = wrong_at (begins_part x.1) x.0 x.1 after
+        (sym (r ∙ ap (λ (v : Rest Lexeme Place). cond (begins_part x.1) (wrong x.1) (stuck v))
+        x.2) ∙ e) in
+        ([], [], x.0, x.2 ∙ ap (token x.0) same, none, refl, x.3)
+
+    go : (b : Bool) → starts lexicon (symbol 46 ∷ []) ts ≡ b → Before 0 ts after
+    go true h = at_dot h
+    go false h = let r = parts_end 0 ts h in absurd (read_wrong (sym r ∙ e))
+
+more_wrong : (k : ℕ)
+    → ((us after : Rest Lexeme Place) → (parts_up_to k).run us ≡ wrong after → Before k us after)
+    → (ts after : Rest Lexeme Place) → (parts_up_to (suc k)).run ts ≡ wrong after
+    → Before (suc k) ts after
+more_wrong k again ts after e = go (starts lexicon (symbol 46 ∷ []) ts) refl
+  where
+    join : (a : OptionPartSyntax) (us : Rest Lexeme Place) → next_part.run ts ≡ read a us
+        → Before k us after → Before (suc k) ts after
+    join a us is (used, items, dot, parts, many, count, seen) =
+        let l = next_part.sound ts a us is in (
+          l.used ++ used,
+          a ∷ items,
+          dot,
+          l.parts ∙ ap (onto l.used) parts
+              ∙ sym (onto-append l.used used (token dot after)),
+          more l.holds many,
+          ap suc count,
+          seen,
+        )
+
+    others : (a : OptionPartSyntax) (us : Rest Lexeme Place) → next_part.run ts ≡ read a us
+        → ((parts_up_to k).run us ≡ wrong after)
+        ⊎ ((items : Parts) × (vs : Rest Lexeme Place) × ((parts_up_to k).run us ≡ read items vs)
+        × (read (a ∷ items) vs ≡ wrong after)) → Before (suc k) ts after
+    others a us is (inl w) = join a us is (again us after w)
+    others a us is (inr w) = absurd (read_some_wrong (a ∷ w.0) w.3)
+
+    parted : (next_part.run ts ≡ wrong after)
+        ⊎ ((a : OptionPartSyntax) × (us : Rest Lexeme Place) × (next_part.run ts ≡ read a us)
+        × (with_first a ((parts_up_to k).run us) ≡ wrong after)) → Before (suc k) ts after
+    parted (inl w) = absurd (next_part_wrong ts after w)
+    parted (inr w) =
+        others w.0 w.1 w.2
+        (bind_wrong ((parts_up_to k).run w.1) (λ items vs. read (w.0 ∷ items) vs) after w.3)
+
+    go : (b : Bool) → starts lexicon (symbol 46 ∷ []) ts ≡ b → Before (suc k) ts after
+    go true h =
+        parted (bind_wrong (next_part.run ts) (λ a us. with_first a ((parts_up_to k).run us)) after
+        (sym (parts_more k ts h) ∙ e))
+    go false h = let r = parts_end (suc k) ts h in absurd (read_wrong (sym r ∙ e))
+
+parts_wrong : (k : ℕ) (ts after : Rest Lexeme Place) → (parts_up_to k).run ts ≡ wrong after
+    → Before k ts after
+parts_wrong zero ts after e = none_wrong ts after e
+parts_wrong (suc k) ts after e = more_wrong k (parts_wrong k) ts after e
 
 -- ---- the name of the parts
 
@@ -160,19 +263,87 @@ named_more k us vs first all dot e =
     rw (x.2, long) (ap (λ (v : Parts). read (tree.custom v) x.1) q.0
     ∙ ap (read (tree.custom all)) q.1)
 
+-- what a name's parts fail with, it fails with
+named_as : (first : OptionPartSyntax) (r : ReadParts) (f : Failure) → with_first first r ≡ failed f
+    → named first r ≡ failed f
+named_as first (read items us) f e = absurd (never_failed (first ∷ items) us f e)
+named_as first (stuck us) f e = failed_as (at us) f e
+named_as first (wrong us) f e = failed_as (off us) f e
+named_as first deep f e = failed_as too_deep f e
+
+fails_named : (first : OptionPartSyntax) (e : Refusal) (after : Rest Lexeme Place) (r : ReadParts)
+    → Fails e after (with_first first r) → Fails e after (named first r)
+fails_named first Memory after r h = tt
+fails_named first (Next e) after r h = (named_as first r (at after) h.0, h.1)
+fails_named first (Here e) after r h = (h.0, named_as first r h.0 h.1, h.2)
+
+first_wrong : (first : OptionPartSyntax) (r : ReadParts) (after : Rest Lexeme Place)
+    → with_first first r ≡ wrong after → r ≡ wrong after
+first_wrong first (read items us) after e = absurd cc
+first_wrong first (stuck us) after e = absurd cc
+first_wrong first (wrong us) after e = let p : us ≡ after = cc in
+    ap (λ (x : Rest Lexeme Place). wrong x) p
+first_wrong first deep after e = absurd cc
+
 module _ (ts us : Rest Lexeme Place) (first : OptionPartSyntax)
     (is : option_part.run ts ≡ read first us) where
-  behind_first : parse.option_name.run ts ≡ named first ((parts_up_to 99).run us)
-  unfolding parse.option_name
+  behind_first : parse.option_name_parts.run ts ≡ named first ((parts_up_to 99).run us)
+  unfolding parse.option_name_parts
   behind_first = rw is refl
 
   -- a name of more than one part
   pub name_of_parts : (vs : Rest Lexeme Place) (all : Parts) → dotted us
       → with_first first ((parts_up_to 99).run us) ≡ read all vs
       → parse.option_name.run ts ≡ read (tree.custom all) vs
-  name_of_parts vs all dot e = behind_first ∙ named_more 98 us vs first all dot e
+  name_of_parts vs all dot e =
+      ap (wrong_from ts) (behind_first ∙ named_more 98 us vs first all dot e)
 
   -- a name of one part
   pub name_of_one : starts lexicon (symbol 46 ∷ []) us ≡ false
       → parse.option_name.run ts ≡ read (option_name first []) us
-  name_of_one no_dot = behind_first ∙ ap (named first) (parts_end 99 us no_dot)
+  name_of_one no_dot = ap (wrong_from ts) (behind_first ∙ ap (named first) (parts_end 99 us no_dot))
+
+  -- a name of which the other parts could not be read, or are too many
+  pub fails_at_parts : (e : Refusal) (after : Rest Lexeme Place)
+      → Fails e after (with_first first ((parts_up_to 99).run us))
+      ⊎ TooMany e after (with_first first ((parts_up_to 99).run us))
+      → Fails e after (parse.option_name.run ts)
+  fails_at_parts e after (inl h) =
+      fails_from_first parse.option_name_parts e ts after
+      (rw behind_first (fails_named first e after ((parts_up_to 99).run us) h))
+  fails_at_parts e after (inr h) =
+      let w = first_wrong first ((parts_up_to 99).run us) after h.1 in
+      let b = parts_wrong 99 us after w in
+      let l = option_part.sound ts first us is in
+      let used : List Lexeme = l.used ++ (b.0 ++ b.2 ∷ []) in
+      let parts : ts ≡ onto used after = l.parts
+      ∙ ap (onto l.used) (b.3 ∙ sym (onto-append b.0 (b.2 ∷ []) after))
+      ∙ sym (onto-append l.used (b.0 ++ b.2 ∷ []) after) in
+      let named_wrong : parse.option_name_parts.run ts ≡ wrong after = behind_first
+      ∙ ap (named first) w in
+      fails_behind parse.option_name_parts error.OptionNameTooLong e ts after after after used h.0
+      refl parts named_wrong (inr (inl (
+        refl,
+        record {
+          before = [];
+          first = l.used;
+          others = b.0;
+          dot = b.2;
+          parts = refl;
+          part = first;
+          is = l.holds;
+          more = b.1;
+          are = b.4;
+          hundred = b.5;
+          dotted = rw (b.6) refl;
+        },
+        h.2,
+      )))
+
+-- a name of which the first part could not be read
+pub fails_at_first : (e : Refusal) (ts after : Rest Lexeme Place)
+    → Fails e after (option_part.run ts) → Fails e after (parse.option_name.run ts)
+unfolding parse.option_name_parts
+fails_at_first e ts after h =
+    fails_from_first parse.option_name_parts e ts after
+    (fails_first e after (option_part.run ts) _ h)

@@ -1,6 +1,6 @@
 -- What a string says, and what it does not.
 use Rattle.std.proofs.Common.{◌≡◌, ◌<◌, ℕ, zero, suc, [], ◌∷◌, Bool, true, false, cond, arith, sym}
-use Rattle.std.proofs.Common.{Option, Some, None, codes, refl, ap, ◌∙◌, subst, inl, inr, rules}
+use Rattle.std.proofs.Common.{Option, Some, None, codes, refl, ap, ◌∙◌, subst, inl, inr, ◌⊎◌, rules}
 use Rattle.std.specs.Str.{IsUtf8}
 use Rattle.std.proofs.lemmas.Str.{IsUtf8-from_ascii}
 use Rattle.protobuf_parse_base.specs.Paths.{IsProtoPath, path_fault}
@@ -19,10 +19,12 @@ use Rattle.protobuf_parse_syntax.specs.Decoder.{text_of, text-to, text-from, ver
 use Rattle.protobuf_parse_syntax.specs.Decoder.{version-from, path_of, path-to, path-from}
 use Rattle.protobuf_parse_syntax.specs.Productions.{str, piece, reserved_name, version, path}
 use Rattle.protobuf_parse_syntax.specs.Classes.{lexicon, text as string_token}
-use Rattle.protobuf_parse_syntax.specs.Code.{Failure, at, off, too_deep, failed, Fails, refusal_of}
+use Rattle.protobuf_parse_syntax.specs.Code.{Failure, at, off, too_deep, failed, Fails, Unsaid}
+use Rattle.protobuf_parse_syntax.specs.Code.{of_text, of_version, of_path, refusal_of}
 use Rattle.protobuf_parse_syntax.specs.declared.lexer.token.Place.{Place}
 use Rattle.protobuf_parse_syntax.specs.declared.lexer.str_lit.StrLitDecodeError.{StrLitDecodeError}
 use Rattle.protobuf_parse_syntax.specs.declared.lexer.str_lit.StrLitDecodeError.TheVariants as decoding
+use Rattle.protobuf_parse_syntax.specs.declared.error.ParserError.{ParserError}
 use Rattle.protobuf_parse_syntax.specs.declared.error.ParserError.TheVariants as error
 use Rattle.protobuf_parse_syntax.specs.declared.parser.refusal.Refusal.{Refusal}
 use Rattle.protobuf_parse_syntax.specs.declared.parser.refusal.Refusal.TheVariants.{Memory, Next}
@@ -57,20 +59,30 @@ refused_text zs e (inr h) other v d = h.1.2 (subst IsUtf8 (one_decoding_of_all d
 
 -- a string that stands for no text
 pub fails_text : (ts us : Rest Lexeme Place) (zs : Pieces) (e : StrLitDecodeError)
-    → str.run ts ≡ read zs us → RefusesText zs e → Fails (refusal_of e) ts (reserved_name.run ts)
+    → str.run ts ≡ read zs us → RefusesText zs e
+    → Fails (refusal_of e) ts (reserved_name.run ts)
+    ⊎ Unsaid of_text ts (refusal_of e) ts (reserved_name.run ts)
 unfolding reserved_name
-fails_text ts us zs decoding.Memory is h = tt
+fails_text ts us zs decoding.Memory is h = inl tt
 fails_text ts us zs decoding.BadEscape is h =
-    let no_text = refused_text zs decoding.BadEscape h (λ e. cc) in (
-      off ts,
+    let no_text = refused_text zs decoding.BadEscape h (λ e. cc) in
+    inr (
+      error.StrLitDecode,
+      refl,
+      refl,
+      refl,
       says_nothing StandsFor text_of text-to text-from ts us zs is no_text,
-      (zs, us, is, no_text, refl),
+      (zs, us, is, no_text),
     )
 fails_text ts us zs decoding.NotUtf8 is h =
-    let no_text = refused_text zs decoding.NotUtf8 h (λ e. cc) in (
-      off ts,
+    let no_text = refused_text zs decoding.NotUtf8 h (λ e. cc) in
+    inr (
+      error.StrLitDecode,
+      refl,
+      refl,
+      refl,
       says_nothing StandsFor text_of text-to text-from ts us zs is no_text,
-      (zs, us, is, no_text, refl),
+      (zs, us, is, no_text),
     )
 
 -- ---- where a string ends
@@ -149,12 +161,19 @@ module _ {B : Type 0} (M : Pieces → B → Type 0) (means : Pieces → Option B
   no_text-at ts f deep e = failed_as too_deep f e
 
   -- a string that is no text says nothing else either
-  pub fails_as_text : (e : Refusal) (ts after : Rest Lexeme Place)
-      → Fails e after (reserved_name.run ts) → Fails e after ((finding str M means to from).run ts)
+  pub fails_as_text : (faults : ParserError → Type 0) → ((x : ParserError) → of_text x → faults x)
+      → (e : Refusal) (ts after : Rest Lexeme Place)
+      → Fails e after (reserved_name.run ts) ⊎ Unsaid of_text ts e after (reserved_name.run ts)
+      → Fails e after ((finding str M means to from).run ts)
+      ⊎ Unsaid faults ts e after ((finding str M means to from).run ts)
   unfolding reserved_name
-  fails_as_text Memory ts after h = tt
-  fails_as_text (Next e) ts after h = (no_text-at ts (at after) (str.run ts) h.0, h.1)
-  fails_as_text (Here e) ts after h = (h.0, no_text-at ts h.0 (str.run ts) h.1, h.2)
+  fails_as_text faults among Memory ts after h = inl tt
+  fails_as_text faults among (Next e) ts after (inl h) =
+      inl (no_text-at ts (at after) (str.run ts) h.0, h.1)
+  fails_as_text faults among (Here e) ts after (inl h) =
+      inl (h.0, no_text-at ts h.0 (str.run ts) h.1, h.2)
+  fails_as_text faults among e ts after (inr (x, told, here, stands, w, says)) =
+      inr (x, among x told, here, stands, no_text-at ts (off ts) (str.run ts) w, says)
 
 -- ---- versions and paths
 
@@ -171,14 +190,17 @@ no_path : (z : Pieces) → text_of z ≡ None → path_of z ≡ None
 no_path z e = rw e refl
 
 pub fails_version : (e : Refusal) (ts after : Rest Lexeme Place)
-    → Fails e after (reserved_name.run ts) → Fails e after (version.run ts)
+    → Fails e after (reserved_name.run ts) ⊎ Unsaid of_text ts e after (reserved_name.run ts)
+    → Fails e after (version.run ts) ⊎ Unsaid of_version ts e after (version.run ts)
 unfolding version
-fails_version = fails_as_text SaysVersion version_of version-to version-from no_version
+fails_version = fails_as_text SaysVersion version_of version-to version-from no_version of_version
+    (λ x h. inl h)
 
-pub fails_path : (e : Refusal) (ts after : Rest Lexeme Place) → Fails e after (reserved_name.run ts)
-    → Fails e after (path.run ts)
+pub fails_path : (e : Refusal) (ts after : Rest Lexeme Place)
+    → Fails e after (reserved_name.run ts) ⊎ Unsaid of_text ts e after (reserved_name.run ts)
+    → Fails e after (path.run ts) ⊎ Unsaid of_path ts e after (path.run ts)
 unfolding path
-fails_path = fails_as_text SaysPath path_of path-to path-from no_path
+fails_path = fails_as_text SaysPath path_of path-to path-from no_path of_path (λ x h. inl h)
 
 -- what is said by the text that was read
 module _ (ts us : Rest Lexeme Place) (text : Bytes) (is : reserved_name.run ts ≡ read text us) where
@@ -192,14 +214,19 @@ module _ (ts us : Rest Lexeme Place) (text : Bytes) (is : reserved_name.run ts �
   -- it says neither version
   pub says_no_version : ((s : Syntax) → text ≡ name_of s → ⊥)
       → Fails (Here error.UnknownSyntax) ts (version.run ts)
+      ⊎ Unsaid of_version ts (Here error.UnknownSyntax) ts (version.run ts)
   unfolding version
   says_no_version other =
       let x = text_read ts us text is in
       let no_version : (s : Syntax) → SaysVersion x.0 s
-      → ⊥ = λ s d. other s (one_decoding_of_all x.2.0 d) in (
-        off ts,
+      → ⊥ = λ s d. other s (one_decoding_of_all x.2.0 d) in
+      inr (
+        error.UnknownSyntax,
+        inr refl,
+        refl,
+        refl,
         says_nothing SaysVersion version_of version-to version-from ts us x.0 x.1 no_version,
-        (x.0, us, x.1, (text, x.2, other), refl),
+        (x.0, us, x.1, (text, x.2, other)),
       )
 
   pub says_path : IsProtoPath text → path.run ts ≡ read text us
@@ -210,13 +237,18 @@ module _ (ts us : Rest Lexeme Place) (text : Bytes) (is : reserved_name.run ts �
 
   pub says_no_path : (fault : PathError) → path_fault text ≡ Some fault → (IsProtoPath text → ⊥)
       → Fails (Here (error.BadImportPath fault)) ts (path.run ts)
+      ⊎ Unsaid of_path ts (Here (error.BadImportPath fault)) ts (path.run ts)
   unfolding path
   says_no_path fault its other =
       let x = text_read ts us text is in
       let no_path : (v : Bytes) → DecodesAll x.0 v → IsProtoPath v
-      → ⊥ = λ v d h. other (subst IsProtoPath (one_decoding_of_all d x.2.0) h) in (
-        off ts,
+      → ⊥ = λ v d h. other (subst IsProtoPath (one_decoding_of_all d x.2.0) h) in
+      inr (
+        error.BadImportPath fault,
+        inr (fault, refl),
+        refl,
+        refl,
         says_nothing SaysPath path_of path-to path-from ts us x.0 x.1
             (λ v h. no_path v h.0.0 h.1),
-        (x.0, us, x.1, (text, x.2, its), refl),
+        (x.0, us, x.1, (text, x.2, its)),
       )

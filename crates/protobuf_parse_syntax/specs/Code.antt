@@ -1,17 +1,19 @@
 -- What the parser's functions say of readers.
-use Rattle.std.specs.Prelude.{◌≡◌, Bool, true, false, Option, Some, None, List, [], ◌∷◌, map}
+use Rattle.std.specs.Prelude.{◌≡◌, ◌⊎◌, Bool, true, false, Option, Some, None, List, [], ◌∷◌, map}
 use Rattle.std.specs.Prelude.{Result, Ok, Err}
 use Rattle.std.proofs.Common.{ap, ◌∙◌, refl}
-use Rattle.protobuf_parse_base.specs.Readers.{Rest, end, token, Read, read, stuck, wrong, deep}
-use Rattle.protobuf_parse_base.specs.Readers.{bind}
+use Rattle.protobuf_parse_base.specs.Readers.{Rest, end, token, onto, Read, read, stuck, wrong}
+use Rattle.protobuf_parse_base.specs.Readers.{deep, bind}
 use Rattle.protobuf_parse_base.specs.Whole.{whole}
+use Rattle.protobuf_parse_base.specs.declared.proto_path.error.PathError.{PathError}
 use Rattle.protobuf_parse_syntax.specs.Text.{Bytes}
 use Rattle.protobuf_parse_syntax.specs.Tokens.{Lexeme, lexeme}
 use Rattle.protobuf_parse_syntax.specs.Trees.{Pieces}
 use Rattle.protobuf_parse_syntax.specs.Classes.{Class, sees, symbol, ident, is_one_of, float}
 use Rattle.protobuf_parse_syntax.specs.Classes.{is_floating}
 use Rattle.protobuf_parse_syntax.specs.Grammar.{any_ident}
-use Rattle.protobuf_parse_syntax.specs.Parsing.{IsLarge, SaysNothing, IsGrammarFault}
+use Rattle.protobuf_parse_syntax.specs.Parsing.{IsLarge, SaysNothing, HundredParts, SyntaxHead}
+use Rattle.protobuf_parse_syntax.specs.Parsing.{EndsWithImport, EndsWithNoString, IsGrammarFault}
 use Rattle.protobuf_parse_syntax.specs.Cut.{out_of_memory, located as located_at}
 use Rattle.protobuf_parse_syntax.specs.Productions as parse
 use Rattle.protobuf_parse_syntax.specs.declared.lexer.token.Place.{Place}
@@ -68,16 +70,20 @@ abbrev pub next_ident : Rest Lexeme Place → Option Bytes
 next_ident (end m) = None
 next_ident (token t rest) = any_ident t
 
--- a sign comes next, and a float, `inf` or `nan` second, so that they say nothing
-abbrev pub SignedFloat : Rest Lexeme Place → Failure → Type 0
-SignedFloat (token t (token u rest)) f = (is_one_of (symbol 43 ∷ symbol 45 ∷ []) t ≡ true)
-    × (is_floating u ≡ true) × (f ≡ off (token t (token u rest)))
-SignedFloat _ f = ⊥
+-- a sign comes next, and a float, `inf` or `nan` second
+abbrev pub SignedFloat : Rest Lexeme Place → Type 0
+SignedFloat (token t (token u rest)) = (is_one_of (symbol 43 ∷ symbol 45 ∷ []) t ≡ true)
+    × (is_floating u ≡ true)
+SignedFloat _ = ⊥
 
 -- strings come next that say nothing
-abbrev pub SaysNot : ParserError → Rest Lexeme Place → Failure → Type 0
-SaysNot e after f = (pieces : Pieces) × (rest : Rest Lexeme Place)
-    × (parse.str.run after ≡ read pieces rest) × SaysNothing pieces e × (f ≡ off after)
+abbrev pub SaysNot : ParserError → Rest Lexeme Place → Type 0
+SaysNot e after = (pieces : Pieces) × (rest : Rest Lexeme Place)
+    × (parse.str.run after ≡ read pieces rest) × SaysNothing pieces e
+
+-- the first token of a part of an option's name comes next
+abbrev pub begins_part : Rest Lexeme Place → Bool
+begins_part after = comes (ident [] ∷ symbol 40 ∷ []) after
 
 -- what a fault at the next token says of it
 abbrev pub Stands : ParserError → Rest Lexeme Place → Type 0
@@ -105,16 +111,21 @@ AtOneToken error.OneOfInGroup = Unit {0}
 AtOneToken error.OnlyFieldsInGroup = Unit {0}
 AtOneToken _ = ⊥
 
--- what a fault of the part that begins next says of it, and of why nothing is read
+-- What a fault of the part that begins next says of it, and of the tokens directly before it, from
+-- the first one on of a part that is wrong.
+abbrev pub Says : ParserError → List Lexeme → Rest Lexeme Place → Type 0
+Says e used after =
+    ((e ≡ error.FloatConstant) × SignedFloat after)
+    ⊎ ((e ≡ error.OptionNameTooLong) × HundredParts used × (begins_part after ≡ true))
+    ⊎ ((e ≡ error.StrLitDecode) × EndsWithNoString used × SaysNot error.StrLitDecode after)
+    ⊎ ((p : PathError) × (e ≡ error.BadImportPath p) × EndsWithImport used
+    × SaysNot (error.BadImportPath p) after)
+
+-- what such a fault says of why nothing is read
 abbrev pub Tells : ParserError → Rest Lexeme Place → Failure → Type 0
-Tells error.FloatConstant after f = SignedFloat after f
-Tells error.OptionNameTooLong after f = (dot : Lexeme) × (sees (symbol 46) dot ≡ true)
-    × (comes (ident [] ∷ symbol 40 ∷ []) after ≡ true) × (f ≡ at (token dot after))
-Tells error.UnknownSyntax after f = SaysNot error.UnknownSyntax after f
-Tells error.StrLitDecode after f = SaysNot error.StrLitDecode after f
-Tells (error.BadImportPath e) after f = SaysNot (error.BadImportPath e) after f
-Tells error.NestingTooDeep after f = f ≡ too_deep
-Tells _ after f = ⊥
+Tells e after f =
+    ((e ≡ error.NestingTooDeep) × (f ≡ too_deep))
+    ⊎ ((used : List Lexeme) × (f ≡ off (onto used after)) × Says e used after)
 
 -- Memory ran out; or the tokens from the next one on cannot stand there; or nothing is read of the
 -- part that begins there, and why.
@@ -129,6 +140,40 @@ abbrev pub Gives : {X Y : Type 0} → (X → Y) → Result X Refusal → Rest Le
     → Read Lexeme Place Y → Type 0
 Gives view (Ok x) after r = r ≡ read (view x) after
 Gives view (Err e) after r = Fails e after r
+
+-- Or it is refused in another way too.
+abbrev pub GivesOr : {X Y : Type 0} → (Refusal → Rest Lexeme Place → Read Lexeme Place Y → Type 0)
+    → (X → Y) → Result X Refusal → Rest Lexeme Place → Read Lexeme Place Y → Type 0
+GivesOr P view (Ok x) after r = r ≡ read (view x) after
+GivesOr P view (Err e) after r = Fails e after r ⊎ P e after r
+
+-- The string that comes first says nothing: it has one of these faults.
+abbrev pub Unsaid : (ParserError → Type 0) → Rest Lexeme Place → {Y : Type 0} → Refusal
+    → Rest Lexeme Place → Read Lexeme Place Y → Type 0
+Unsaid faults before e after r = (x : ParserError) × faults x × (e ≡ Here x) × (after ≡ before)
+    × (r ≡ wrong before) × SaysNot x before
+
+-- the faults of a string of which the text, the version or the path is wanted
+abbrev pub of_text : ParserError → Type 0
+of_text x = x ≡ error.StrLitDecode
+
+abbrev pub of_version : ParserError → Type 0
+of_version x = (x ≡ error.StrLitDecode) ⊎ (x ≡ error.UnknownSyntax)
+
+abbrev pub of_path : ParserError → Type 0
+of_path x = (x ≡ error.StrLitDecode) ⊎ ((p : PathError) × (x ≡ error.BadImportPath p))
+
+-- The string of the `syntax` that comes first says no version.
+abbrev pub NoVersion : Rest Lexeme Place → {Y : Type 0} → Refusal → Rest Lexeme Place
+    → Read Lexeme Place Y → Type 0
+NoVersion before e after r = (e ≡ Here error.UnknownSyntax) × (r ≡ wrong before)
+    × ((used : List Lexeme) × (before ≡ onto used after) × SyntaxHead used tt
+    × SaysNot error.UnknownSyntax after)
+
+-- behind a dot comes a part too many
+abbrev pub TooMany : {Y : Type 0} → Refusal → Rest Lexeme Place → Read Lexeme Place Y → Type 0
+TooMany e after r = (e ≡ Here error.OptionNameTooLong) × (r ≡ wrong after)
+    × (begins_part after ≡ true)
 
 -- what a string's error is to the parser
 abbrev pub refusal_of : StrLitDecodeError → Refusal

@@ -1,15 +1,18 @@
 -- What is promised of a file's tokens, and of its text.
-use Rattle.std.specs.Prelude.{◌≡◌, ◌<◌, ◌⊎◌, List, [], ◌∷◌, ◌++◌, Some, true, Result, MatchResult}
+use Rattle.std.specs.Prelude.{◌≡◌, ◌<◌, ◌⊎◌, List, [], ◌∷◌, ◌++◌, length, Some, true, false, codes}
+use Rattle.std.specs.Prelude.{Result, MatchResult}
 use Rattle.protobuf_parse_base.specs.Paths.{path_fault}
-use Rattle.protobuf_parse_base.specs.Relations.{BeginsOtherwise}
+use Rattle.protobuf_parse_base.specs.Relations.{Rel, Many, BeginsOtherwise, ◌>>◌}
 use Rattle.protobuf_parse_base.specs.Whole.{StopsAt}
 use Rattle.protobuf_parse_syntax.specs.Text.{Bytes}
 use Rattle.protobuf_parse_syntax.specs.Characters as char
 use Rattle.protobuf_parse_syntax.specs.Tokens.{Lexeme}
 use Rattle.protobuf_parse_syntax.specs.Cut.{Stream, HasTokens, IsRefused, out_of_memory, located}
-use Rattle.protobuf_parse_syntax.specs.Trees.{Pieces, FileSyntax}
+use Rattle.protobuf_parse_syntax.specs.Trees.{Pieces, OptionPartSyntax, FileSyntax}
 use Rattle.protobuf_parse_syntax.specs.Classes.{symbol, ident, float, text as string_token}
 use Rattle.protobuf_parse_syntax.specs.Classes.{is_one_of, is_floating}
+use Rattle.protobuf_parse_syntax.specs.Grammar.{IsWord, IsSymbol, IsOptionPart, IsNextPart}
+use Rattle.protobuf_parse_syntax.specs.Grammar.{IsVisibility}
 use Rattle.protobuf_parse_syntax.specs.Grammar.{IsStr, StandsFor, IsFile, name_of, place_of}
 use Rattle.protobuf_parse_syntax.specs.declared.error.ParserError.{ParserError}
 use Rattle.protobuf_parse_syntax.specs.declared.error.ParserError.TheVariants as error
@@ -17,6 +20,7 @@ use Rattle.protobuf_parse_syntax.specs.declared.error.ParserErrorWithLocation.{P
 use Rattle.protobuf_parse_syntax.specs.declared.lexer.token.Place.{Place}
 use Rattle.protobuf_parse_syntax.specs.declared.lexer.token.TokenKind.{TokenKind}
 use Rattle.protobuf_parse_syntax.specs.declared.lexer.token.TokenKind.TheVariants as kind
+use Rattle.protobuf_parse_syntax.specs.declared.tree.ImportVis.{ImportVis}
 use Rattle.protobuf_parse_syntax.specs.declared.tree.Syntax.{Syntax}
 
 -- ---- tokens without a tree
@@ -42,12 +46,25 @@ IsLarge _ = ⊥
 abbrev pub LargeToken : List Lexeme → Lexeme → List Lexeme → Type 0
 LargeToken front t back = IsLarge t.kind
 
--- the first token of a part of an option's name, directly behind a dot
+-- The tokens end with a hundred parts of an option's name, each but the first behind a dot, and
+-- with one more dot.
+pub record HundredParts (ts : List Lexeme) : Type 0 where
+  pub before : List Lexeme
+  pub first : List Lexeme
+  pub others : List Lexeme
+  pub dot : Lexeme
+  pub parts : ts ≡ before ++ (first ++ (others ++ dot ∷ []))
+  pub part : OptionPartSyntax
+  pub is : IsOptionPart first part
+  pub more : List OptionPartSyntax
+  pub are : Many IsNextPart others more
+  pub hundred : length more ≡ 99
+  pub dotted : is_one_of (symbol char.dot ∷ []) dot ≡ true
+
+-- the first token of part 101 of an option's name
 abbrev pub NextPart : List Lexeme → Lexeme → List Lexeme → Type 0
 NextPart front t back =
-    (before : List Lexeme) × (dot : Lexeme) × (front ≡ before ++ dot ∷ [])
-    × (is_one_of (symbol char.dot ∷ []) dot ≡ true)
-    × (is_one_of (ident [] ∷ symbol char.open_paren ∷ []) t ≡ true)
+    HundredParts front × (is_one_of (ident [] ∷ symbol char.open_paren ∷ []) t ≡ true)
 
 -- a float; or a sign, and a float, `inf` or `nan` behind it
 abbrev pub Floats : List Lexeme → Lexeme → List Lexeme → Type 0
@@ -66,9 +83,39 @@ SaysNothing pieces (error.BadImportPath e) =
     (text : Bytes) × StandsFor pieces text × (path_fault text ≡ Some e)
 SaysNothing pieces _ = ⊥
 
--- Strings that say nothing begin with the token; no string stands behind them.
+-- `syntax` `=`
+abbrev pub SyntaxHead : Rel Lexeme (Unit {0})
+SyntaxHead = do IsWord (codes "syntax"); IsSymbol char.equals
+
+-- `import`, `import weak` or `import public`
+abbrev pub ImportHead : Rel Lexeme ImportVis
+ImportHead = do IsWord (codes "import"); IsVisibility
+
+-- The tokens end with those.
+abbrev pub EndsWithImport : List Lexeme → Type 0
+EndsWithImport ts =
+    (before : List Lexeme) × (head : List Lexeme) × (vis : ImportVis)
+    × (ts ≡ before ++ head) × ImportHead head vis
+
+-- The tokens end with one that is no string.
+abbrev pub EndsWithNoString : List Lexeme → Type 0
+EndsWithNoString ts =
+    (before : List Lexeme) × (last : Lexeme) × (ts ≡ before ++ last ∷ [])
+    × (is_one_of (string_token ∷ []) last ≡ false)
+
+-- What stands before strings with a fault: S10 is that of `syntax`, with which the file begins, S19
+-- that of an `import`; at S15 no string does.
+abbrev pub StandsBehind : ParserError → List Lexeme → Type 0
+StandsBehind error.UnknownSyntax front = SyntaxHead front tt
+StandsBehind error.StrLitDecode front = EndsWithNoString front
+StandsBehind (error.BadImportPath e) front = EndsWithImport front
+StandsBehind _ front = ⊥
+
+-- Strings that say nothing begin with the token, behind what the fault wants; no string stands
+-- behind them.
 pub record WrongStrings (e : ParserError)
     (front : List Lexeme) (t : Lexeme) (back : List Lexeme) : Type 0 where
+  pub behind : StandsBehind e front
   pub strings : List Lexeme
   pub others : List Lexeme
   pub pieces : Pieces

@@ -33,8 +33,8 @@ use Rattle.protobuf_parse_syntax.specs.Grammar.{IsEnumNumber, IsStreamed, IsPack
 use Rattle.protobuf_parse_syntax.specs.Grammar.{IsNextPart, IsOptionName, StandsFor, SaysVersion}
 use Rattle.protobuf_parse_syntax.specs.Grammar.{SaysPath, IsVersion, IsPath, IsReservedName}
 use Rattle.protobuf_parse_syntax.specs.Grammar.{IsSyntax, IsImport, AreReserved, IsReserved}
-use Rattle.protobuf_parse_syntax.specs.Readings.{never, for, finding, none-to, none-from, more-to}
-use Rattle.protobuf_parse_syntax.specs.Readings.{more-from}
+use Rattle.protobuf_parse_syntax.specs.Readings.{for, from_first, too_many, finding, none-to}
+use Rattle.protobuf_parse_syntax.specs.Readings.{none-from, more-to, more-from}
 use Rattle.protobuf_parse_syntax.specs.Decoder.{version_of, version-to, version-from, path_of}
 use Rattle.protobuf_parse_syntax.specs.Decoder.{path-to, path-from, text_of, text-to, text-from}
 use Rattle.protobuf_parse_syntax.specs.declared.tree.ImportVis.TheVariants as visible
@@ -385,8 +385,11 @@ word_constant_name ts h i = rw (h, i, neither_word (codes "true") (codes "false"
 
 -- ---- options
 
+abbrev pub option_part_firsts : List Class
+option_part_firsts = ident_class [] ∷ symbol_class 40 ∷ []
+
 abbrev pub option_part_shape : Shape Class
-option_part_shape = shape (ident_class [] ∷ symbol_class 40 ∷ []) false []
+option_part_shape = shape option_part_firsts false []
 
 unfoldable pub option_part : Parses IsOptionPart option_part_shape
 unfolding IsOptionPart
@@ -484,22 +487,28 @@ unfoldable pub next_part : Parses IsNextPart (shape (symbol_class 46 ∷ []) fal
 unfolding IsNextPart
 next_part = shaped (shape (symbol_class 46 ∷ []) false []) (do symbol 46; option_part) refl
 
--- at most so many parts, each behind a dot, and no dot behind them
+-- At most so many parts, each behind a dot, and no dot behind them. They are wrong from one too
+-- many on.
 unfoldable pub parts_up_to : (limit : ℕ) → Parses (AtMost limit IsNextPart) parts_shape
 parts_up_to zero = for (none-to IsNextPart) (none-from IsNextPart)
     (shaped parts_shape
-    (choose (shaped (shape (symbol_class 46 ∷ []) false []) never refl) refl (give [])) refl)
+    (choose (too_many (List OptionPartSyntax) lexicon option_part_firsts (symbol_class 46 ∷ []))
+    refl (give [])) refl)
 parts_up_to (suc k) = for (more-to IsNextPart k) (more-from IsNextPart k) (shaped parts_shape (choose (do first ← next_part; others ← parts_up_to k; give (first ∷ others)) refl (give [])) refl)
 
 abbrev pub option_name_shape : Shape Class
 option_name_shape = shape (ident_class [] ∷ symbol_class 40 ∷ []) false (symbol_class 46 ∷ [])
 
-unfoldable pub option_name : Parses IsOptionName option_name_shape
+unfoldable pub option_name_parts : Parses IsOptionName option_name_shape
 unfolding IsOptionName
-option_name = shaped option_name_shape (do
+option_name_parts = shaped option_name_shape (do
   first ← option_part
   others ← parts_up_to 99
   give (grammar.option_name first others)) refl
+
+-- wrong from its first part on, if it has too many
+abbrev pub option_name : Parses IsOptionName option_name_shape
+option_name = from_first option_name_parts
 
 -- ---- strings that say something
 
@@ -515,14 +524,18 @@ unfoldable pub reserved_name : Parses IsReservedName str_shape
 unfolding IsReservedName
 reserved_name = finding str StandsFor text_of text-to text-from
 
-unfoldable pub syntax : Parses IsSyntax (shape (word_class (codes "syntax") ∷ []) false [])
+unfoldable pub syntax_parts : Parses IsSyntax (shape (word_class (codes "syntax") ∷ []) false [])
 unfolding IsSyntax
-syntax = shaped (shape (word_class (codes "syntax") ∷ []) false []) (do
+syntax_parts = shaped (shape (word_class (codes "syntax") ∷ []) false []) (do
   word (codes "syntax")
   symbol 61
   syntax ← version
   symbol 59
   give syntax) refl
+
+-- wrong from the word `syntax` on, if its string is
+abbrev pub syntax : Parses IsSyntax (shape (word_class (codes "syntax") ∷ []) false [])
+syntax = from_first syntax_parts
 
 -- [ syntax ]; proto2 where it is absent
 unfoldable pub version_statement : Parses (Either IsSyntax (Nothing Proto2))
@@ -540,28 +553,34 @@ unfoldable pub visibility : Parses IsVisibility visibility_shape
 unfolding IsVisibility
 visibility = shaped visibility_shape (choose (do word (codes "weak"); give visible.Weak) refl (choose (do word (codes "public"); give visible.Public) refl (give visible.Default))) refl
 
-unfoldable pub imported : Parses IsImport (shape (word_class (codes "import") ∷ []) false [])
+unfoldable pub import_parts : Parses IsImport (shape (word_class (codes "import") ∷ []) false [])
 unfolding IsImport
-imported = shaped (shape (word_class (codes "import") ∷ []) false []) (at (λ place. do
+import_parts = shaped (shape (word_class (codes "import") ∷ []) false []) (at (λ place. do
   word (codes "import")
   vis ← visibility
   path ← path
   symbol 59
   give (record { place = place; vis = vis; path = path })) refl) refl
 
+-- wrong from the word `import` on, if its string is
+abbrev pub imported : Parses IsImport (shape (word_class (codes "import") ∷ []) false [])
+imported = from_first import_parts
+
 abbrev pub reserved_shape : Shape Class
 reserved_shape = shape (text ∷ integer ∷ []) false
     (text ∷ symbol_class 44 ∷ word_class (codes "to") ∷ [])
 
--- "," and a text
+-- "," and a text, wrong from the comma on
 abbrev pub comma_name : Reader lexicon (Then (IsSymbol 44) (λ u. IsReservedName))
     (shape (symbol_class 44 ∷ []) false (text ∷ []))
-comma_name = shaped (shape (symbol_class 44 ∷ []) false (text ∷ [])) (do symbol 44; reserved_name) refl
+comma_name = from_first (shaped (shape (symbol_class 44 ∷ []) false (text ∷ [])) (do symbol 44; reserved_name) refl)
 
 unfoldable pub names : Parses (Separated (IsSymbol 44) IsReservedName)
     (shape (text ∷ []) false (text ∷ symbol_class 44 ∷ []))
-names = shaped (shape (text ∷ []) false (text ∷ symbol_class 44 ∷ []))
-    (separated (symbol 44) refl reserved_name) refl
+names = shaped (shape (text ∷ []) false (text ∷ symbol_class 44 ∷ [])) (do
+  first ← reserved_name
+  others ← many comma_name refl
+  give (first ∷ others)) refl
 
 -- behind the first of them
 pub names_first : (ts us : Rest Lexeme Place) (a : Bytes) → reserved_name.run ts ≡ read a us
@@ -574,10 +593,15 @@ unfoldable pub reserved_items : Parses AreReserved reserved_shape
 unfolding AreReserved
 reserved_items = shaped reserved_shape (choose (do names ← names; give (tree.reserved_names names)) refl (do ranges ← ranges; give (tree.reserved_ranges ranges))) refl
 
-unfoldable pub reserved : Parses IsReserved (shape (word_class (codes "reserved") ∷ []) false [])
+unfoldable pub reserved_parts : Parses IsReserved
+    (shape (word_class (codes "reserved") ∷ []) false [])
 unfolding IsReserved
-reserved = shaped (shape (word_class (codes "reserved") ∷ []) false []) (at (λ place. do
+reserved_parts = shaped (shape (word_class (codes "reserved") ∷ []) false []) (at (λ place. do
   word (codes "reserved")
   reserved ← reserved_items
   symbol 59
   give (record { place = place; reserved = reserved })) refl) refl
+
+-- wrong from the word `reserved` on, if a string is
+abbrev pub reserved : Parses IsReserved (shape (word_class (codes "reserved") ∷ []) false [])
+reserved = from_first reserved_parts

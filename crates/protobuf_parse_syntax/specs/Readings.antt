@@ -1,14 +1,15 @@
 -- Readers that the grammar of this language needs beside those of base: of what is nowhere, of a
--- relation said otherwise, of a part that is looked at only where it can begin, of a value that is
--- found by a test, and of at most so many parts.
+-- relation said otherwise, of a part that is looked at only where it can begin, of one that is
+-- wrong from its first token on, of a value that is found by a test, and of at most so many parts.
 use Rattle.std.proofs.Common.{◌≡◌, ◌≤◌, ℕ, suc, List, [], ◌∷◌, ◌++◌, length, Option, Some, Bool}
 use Rattle.std.proofs.Common.{true, false, cond, refl, sym, ap, subst, ◌∙◌, inl, inr, arith}
 use Rattle.std.proofs.lemmas.List.{append-nil}
 use Rattle.protobuf_parse_base.specs.Relations.{Rel, Nothing, Such, Never, Either, Many, none, more}
 use Rattle.protobuf_parse_base.specs.Relations.{Meant, ◌>>=◌}
-use Rattle.protobuf_parse_base.specs.Readers.{Rest, onto, Read, read, stuck, Lexicon, Shape, shape}
-use Rattle.protobuf_parse_base.specs.Readers.{Sound, Reader, starts, deep, run_choose, choose-local}
-use Rattle.protobuf_parse_base.specs.Readers.{begins-starts}
+use Rattle.protobuf_parse_base.specs.Readers.{Rest, end, token, onto, Read, read, stuck, wrong}
+use Rattle.protobuf_parse_base.specs.Readers.{Lexicon, Shape, shape, Sound, Reader, LocalAt}
+use Rattle.protobuf_parse_base.specs.Readers.{LocalStuck, starts, deep, run_choose, choose-local}
+use Rattle.protobuf_parse_base.specs.Readers.{begins-starts, stuck_not_read}
 use Rattle.protobuf_parse_base.specs.Conditions.{meant}
 use Rattle.protobuf_parse_base.specs.Depth.{Near, NearAt, near-choose, near_same}
 use Rattle.protobuf_parse_base.specs.Pairs.{Pair}
@@ -26,7 +27,13 @@ module _ {Tok Mark Class : Type 0} {L : Lexicon Tok Mark Class} where
   abbrev pub never : {A : Type 0} → Reader L {A = A} Never (shape [] false [])
   never = record {
     run = λ ts. stuck ts;
-    local = λ ts. record { used = []; parts = refl; again = λ other e. refl };
+    local = λ ts.
+        record {
+          used = [];
+          parts = refl;
+          again =
+              λ other e a us h. stuck_not_read (stuck other) other a us refl h;
+        };
     sound = never-sound;
     complete = λ f used a rest h e. absurd h;
     begins = λ used a h. absurd h;
@@ -87,6 +94,62 @@ module _ {Tok Mark Class A : Type 0} {L : Lexicon Tok Mark Class} {R : List Tok 
         shallow = begun-shallow;
       }
 
+-- what is wrong somewhere is wrong from here on
+abbrev pub wrong_from : {Tok Mark A : Type 0} → Rest Tok Mark → Read Tok Mark A → Read Tok Mark A
+wrong_from ts (read a us) = read a us
+wrong_from ts (stuck us) = stuck us
+wrong_from ts (wrong us) = wrong ts
+wrong_from ts deep = deep
+
+pub wrong_from-read : {Tok Mark A : Type 0} (ts : Rest Tok Mark) (r : Read Tok Mark A) (a : A)
+    (us : Rest Tok Mark) → wrong_from ts r ≡ read a us → r ≡ read a us
+wrong_from-read ts (read b vs) a us e = e
+wrong_from-read ts (stuck vs) a us e = absurd cc
+wrong_from-read ts (wrong vs) a us e = absurd cc
+wrong_from-read ts deep a us e = absurd cc
+
+pub wrong_from-deep : {Tok Mark A : Type 0} (ts : Rest Tok Mark) (r : Read Tok Mark A)
+    → wrong_from ts r ≡ deep → r ≡ deep
+wrong_from-deep ts (read b vs) e = absurd cc
+wrong_from-deep ts (stuck vs) e = absurd cc
+wrong_from-deep ts (wrong vs) e = absurd cc
+wrong_from-deep ts deep e = refl
+
+module _ {Tok Mark Class A : Type 0} {L : Lexicon Tok Mark Class} {R : List Tok → A → Type 0}
+    {s : Shape Class} (p : Reader L R s) where
+  abbrev pub run_from_first : Rest Tok Mark → Read Tok Mark A
+  run_from_first ts = wrong_from ts (p.run ts)
+
+  pub from_first-local-at : (ts : Rest Tok Mark) (r : Read Tok Mark A) → LocalAt p.run ts r
+      → LocalAt run_from_first ts (wrong_from ts r)
+  from_first-local-at ts (read a rest) l =
+      record { used = l.used; parts = l.parts; again = λ other h. rw (l.again other h) refl }
+  from_first-local-at ts (stuck rest) l =
+      record {
+        used = l.used;
+        parts = l.parts;
+        again =
+            λ other h a us e. l.again other h a us
+            (wrong_from-read (onto l.used other) (p.run (onto l.used other)) a us e);
+      }
+  from_first-local-at ts (wrong rest) l = ([], refl)
+  from_first-local-at ts deep l = tt
+
+  pub from_first-complete : s.fine ≡ true → (used : List Tok) (a : A) (rest : Rest Tok Mark)
+      → R used a → starts L s.goes rest ≡ false → run_from_first (onto used rest) ≡ read a rest
+  from_first-complete f used a rest h e = rw (p.complete f used a rest h e) refl
+
+  -- a part that is wrong from its first token on, if something in it is wrong
+  abbrev pub from_first : Reader L R s
+  from_first = record {
+    run = run_from_first;
+    local = λ ts. from_first-local-at ts (p.run ts) (p.local ts);
+    sound = λ ts a rest e. p.sound ts a rest (wrong_from-read ts (p.run ts) a rest e);
+    complete = from_first-complete;
+    begins = p.begins;
+    shallow = λ n ts e. p.shallow n ts (wrong_from-deep ts (p.run ts) e);
+  }
+
 -- what a part says, and then a value with a property of it
 abbrev pub Finding : {Tok A B : Type 0} → Rel Tok A → (A → B → Type 0) → Rel Tok B
 Finding R M = do a ← R; b ← Such (M a); Nothing b
@@ -131,6 +194,55 @@ module _ {Tok Mark Class A B : Type 0} {L : Lexicon Tok Mark Class} {R : List To
   finding = for found-to found-from (meant p means)
 
 -- ---- at most so many parts
+
+module _ {Tok Mark Class : Type 0} (A : Type 0) (L : Lexicon Tok Mark Class)
+    (firsts : List Class) where
+  -- Where another part begins behind the next token, the tokens are wrong from that part on; else
+  -- the next cannot stand there.
+  abbrev pub run_too_many : Rest Tok Mark → Read Tok Mark A
+  run_too_many (end m) = stuck (end m)
+  run_too_many (token t us) = cond (starts L firsts us) (wrong us) (stuck (token t us))
+
+  pub too_many-never : (ts : Rest Tok Mark) (a : A) (rest : Rest Tok Mark)
+      → run_too_many ts ≡ read a rest → ⊥
+  too_many-never (end m) a rest e = cc
+  too_many-never (token t us) a rest e = go (starts L firsts us) e
+    where
+      go : (b : Bool) → cond b (wrong us) (stuck (token t us)) ≡ read a rest → ⊥
+      go true e = cc
+      go false e = cc
+
+  pub too_many-shallow : (ts : Rest Tok Mark) → run_too_many ts ≡ deep → ⊥
+  too_many-shallow (end m) e = cc
+  too_many-shallow (token t us) e = go (starts L firsts us) e
+    where
+      go : (b : Bool)
+          → (let r : Read Tok Mark A = cond b (wrong us) (stuck (token t us)) in r ≡ deep) → ⊥
+      go true e = cc
+      go false e = cc
+
+  too_many-stuck : (ts : Rest Tok Mark) → LocalStuck run_too_many ts ts
+  too_many-stuck ts =
+      record { used = []; parts = refl; again = λ other h a us e. too_many-never other a us e }
+
+  pub too_many-local : (ts : Rest Tok Mark) → LocalAt run_too_many ts (run_too_many ts)
+  too_many-local (end m) = too_many-stuck (end m)
+  too_many-local (token t us) = go (starts L firsts us)
+    where
+      go : (b : Bool) → LocalAt run_too_many (token t us) (cond b (wrong us) (stuck (token t us)))
+      go true = (t ∷ [], refl)
+      go false = too_many-stuck (token t us)
+
+  -- a part too many, which begins behind a token of the classes
+  abbrev pub too_many : (cs : List Class) → Reader L {A = A} Never (shape cs false [])
+  too_many cs = record {
+    run = run_too_many;
+    local = too_many-local;
+    sound = λ ts a rest e. absurd (too_many-never ts a rest e);
+    complete = λ f used a rest h e. absurd h;
+    begins = λ used a h. absurd h;
+    shallow = λ n ts e. too_many-shallow ts e;
+  }
 
 module _ {Tok A : Type 0} (R : List Tok → A → Type 0) where
   abbrev pub UpTo : ℕ → List Tok → List A → Type 0

@@ -7,7 +7,7 @@ ghost use Rattle.protobuf_parse_syntax.specs.Classes.{lexicon};
 ghost use Rattle.protobuf_parse_syntax.specs.Grammar as grammar;
 ghost use Rattle.protobuf_parse_syntax.specs.Productions as read;
 ghost use Rattle.protobuf_parse_syntax.specs.Trees as view;
-ghost use Rattle.protobuf_parse_syntax.specs.Code.{left, Gives, seen_by};
+ghost use Rattle.protobuf_parse_syntax.specs.Code.{left, Gives, GivesOr, Unsaid, of_text, seen_by};
 ghost use Rattle.protobuf_parse_syntax.specs.Nested as nest;
 
 use crate::error::ParserError;
@@ -160,7 +160,7 @@ fn enum_number(tokens: &mut Cursor<'_, '_>) -> Result<i32, Refusal>
 }
 
 /// `reserved = "reserved" ( str { "," str } | range { "," range } ) ";"`
-#[tactic(auto, unfolding(crate::specs::Productions::reserved), using(crate::specs::Code::fails_first))]
+#[tactic(auto, unfolding(crate::specs::Productions::reserved_parts), using(crate::specs::Code::fails_first))]
 pub fn reserved(alloc: Global, tokens: &mut Cursor<'_, '_>) -> Result<ReservedStatement, Refusal>
     ensures { Gives view.reserved_statement_view result (left tokens.new)
         (read.reserved.run (left tokens.old)) }
@@ -175,7 +175,7 @@ pub fn reserved(alloc: Global, tokens: &mut Cursor<'_, '_>) -> Result<ReservedSt
 /// `str { "," str } | range { "," range }`
 #[tactic(auto, unfolding(crate::specs::Productions::reserved_items), using(crate::specs::Code::fails_first))]
 fn reserved_items(alloc: Global, tokens: &mut Cursor<'_, '_>) -> Result<Reserved, Refusal>
-    ensures { Gives view.reserved_view result (left tokens.new)
+    ensures { GivesOr (Unsaid of_text (left tokens.old)) view.reserved_view result (left tokens.new)
         (read.reserved_items.run (left tokens.old)) }
 {
     if tokens.sees_str() {
@@ -187,8 +187,8 @@ fn reserved_items(alloc: Global, tokens: &mut Cursor<'_, '_>) -> Result<Reserved
 /// `str { "," str }`, each of which is a text
 #[tactic(auto, unfolding(crate::specs::Productions::names), using(crate::specs::Code::fails_first))]
 fn names(alloc: Global, tokens: &mut Cursor<'_, '_>) -> Result<Vec<String>, Refusal>
-    ensures { Gives (λ v. map string_bytes v.items) result (left tokens.new)
-        (read.names.run (left tokens.old)) }
+    ensures { GivesOr (Unsaid of_text (left tokens.old)) (λ v. map string_bytes v.items) result
+        (left tokens.new) (read.names.run (left tokens.old)) }
 {
     let mut names = Vec::new(alloc);
     names.push(text(alloc, tokens)?)?;

@@ -8,7 +8,8 @@ ghost use Rattle.protobuf_parse_syntax.specs.Classes.{lexicon};
 ghost use Rattle.protobuf_parse_syntax.specs.Grammar as grammar;
 ghost use Rattle.protobuf_parse_syntax.specs.Productions as read;
 ghost use Rattle.protobuf_parse_syntax.specs.Trees as view;
-ghost use Rattle.protobuf_parse_syntax.specs.Code.{left, Gives, seen_by};
+ghost use Rattle.protobuf_parse_syntax.specs.Code.{left, Gives, GivesOr, Unsaid, NoVersion};
+ghost use Rattle.protobuf_parse_syntax.specs.Code.{of_version, of_path, seen_by};
 ghost use Rattle.protobuf_parse_syntax.specs.Nested as nest;
 
 use crate::error::ParserError;
@@ -29,7 +30,7 @@ use std::alloc::Global;
 /// Tokens may be left behind it.
 #[tactic(auto, unfolding(crate::specs::Nested::file), using(crate::specs::Code::fails_first))]
 pub fn file(alloc: Global, tokens: &mut Cursor<'_, '_>, levels: usize) -> Result<FileTree, Refusal>
-    ensures { Gives view.file_view result (left tokens.new)
+    ensures { GivesOr (NoVersion (left tokens.old)) view.file_view result (left tokens.new)
         ((nest.files levels).low.run (left tokens.old)) }
 {
     let syntax = version(alloc, tokens)?;
@@ -38,9 +39,9 @@ pub fn file(alloc: Global, tokens: &mut Cursor<'_, '_>, levels: usize) -> Result
 }
 
 /// `[ "syntax" "=" str ";" ]`; proto2 where it is absent.
-#[tactic(auto, unfolding(crate::specs::Productions::version_statement, crate::specs::Productions::syntax), using(crate::specs::Code::fails_first))]
+#[tactic(auto, unfolding(crate::specs::Productions::version_statement, crate::specs::Productions::syntax_parts), using(crate::specs::Code::fails_first))]
 fn version(alloc: Global, tokens: &mut Cursor<'_, '_>) -> Result<Syntax, Refusal>
-    ensures { Gives (λ s. s) result (left tokens.new)
+    ensures { GivesOr (NoVersion (left tokens.old)) (λ s. s) result (left tokens.new)
         (read.version_statement.run (left tokens.old)) }
 {
     if !tokens.sees_word("syntax") {
@@ -56,7 +57,8 @@ fn version(alloc: Global, tokens: &mut Cursor<'_, '_>) -> Result<Syntax, Refusal
 /// The version that a string says: S15 at one that does not decode, S10 at any other text.
 #[tactic(auto, using(crate::specs::Code::fails_first))]
 fn said(alloc: Global, tokens: &mut Cursor<'_, '_>) -> Result<Syntax, Refusal>
-    ensures { Gives (λ s. s) result (left tokens.new) (read.version.run (left tokens.old)) }
+    ensures { GivesOr (Unsaid of_version (left tokens.old)) (λ s. s) result (left tokens.new)
+        (read.version.run (left tokens.old)) }
 {
     let before = *tokens;
     let said = text(alloc, tokens)?;
@@ -139,7 +141,7 @@ fn file_statement(
 }
 
 /// `import = "import" [ "weak" | "public" ] str ";"`
-#[tactic(auto, unfolding(crate::specs::Productions::imported), using(crate::specs::Code::fails_first))]
+#[tactic(auto, unfolding(crate::specs::Productions::import_parts), using(crate::specs::Code::fails_first))]
 fn import(alloc: Global, tokens: &mut Cursor<'_, '_>) -> Result<Import, Refusal>
     ensures { Gives view.import_view result (left tokens.new)
         (read.imported.run (left tokens.old)) }
@@ -171,7 +173,8 @@ fn visibility(tokens: &mut Cursor<'_, '_>) -> Result<ImportVis, Refusal>
 /// The proto path that a string says: S15 at one that does not decode, S19 at any other text.
 #[tactic(auto, using(crate::specs::Code::fails_first))]
 fn path(alloc: Global, tokens: &mut Cursor<'_, '_>) -> Result<ProtoPathBuf, Refusal>
-    ensures { Gives path_buf_text result (left tokens.new) (read.path.run (left tokens.old)) }
+    ensures { GivesOr (Unsaid of_path (left tokens.old)) path_buf_text result (left tokens.new)
+        (read.path.run (left tokens.old)) }
 {
     let before = *tokens;
     let text = text(alloc, tokens)?;

@@ -3,7 +3,8 @@
 ghost use Rattle.std.specs.Prelude.{◌≡◌, map, string_bytes};
 ghost use Rattle.protobuf_parse_syntax.specs.Productions as read;
 ghost use Rattle.protobuf_parse_syntax.specs.Trees.{pieces_of};
-ghost use Rattle.protobuf_parse_syntax.specs.Code.{left, Gives, refusal_of};
+ghost use Rattle.protobuf_parse_syntax.specs.Code.{left, Gives, GivesOr, Unsaid, of_text};
+ghost use Rattle.protobuf_parse_syntax.specs.Code.{refusal_of};
 
 use crate::error::ParserError;
 use crate::lexer::str_lit::{StrLit, StrLitDecodeError};
@@ -66,7 +67,7 @@ pub fn string(alloc: Global, tokens: &mut Cursor<'_, '_>) -> Result<StrLit, Refu
 /// The text that a string stands for. S15 at the string where it stands for none.
 #[tactic(auto, unfolding(crate::specs::Productions::reserved_name), using(crate::specs::Code::fails_first))]
 pub fn text(alloc: Global, tokens: &mut Cursor<'_, '_>) -> Result<String, Refusal>
-    ensures { Gives string_bytes result (left tokens.new)
+    ensures { GivesOr (Unsaid of_text (left tokens.old)) string_bytes result (left tokens.new)
         (read.reserved_name.run (left tokens.old)) }
 {
     let before = *tokens;

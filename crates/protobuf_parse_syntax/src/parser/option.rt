@@ -7,7 +7,8 @@ ghost use Rattle.protobuf_parse_syntax.specs.Classes.{lexicon};
 ghost use Rattle.protobuf_parse_syntax.specs.Grammar as grammar;
 ghost use Rattle.protobuf_parse_syntax.specs.Productions as read;
 ghost use Rattle.protobuf_parse_syntax.specs.Trees as view;
-ghost use Rattle.protobuf_parse_syntax.specs.Code.{left, Gives, seen_by, comes};
+ghost use Rattle.protobuf_parse_syntax.specs.Code.{left, Gives, GivesOr, TooMany, seen_by};
+ghost use Rattle.protobuf_parse_syntax.specs.Code.{begins_part};
 ghost use Rattle.protobuf_parse_syntax.specs.Nested as nest;
 
 use crate::error::ParserError;
@@ -94,7 +95,7 @@ fn assignment(
 }
 
 /// `optname = optpart { "." optpart }`, of at most 100 parts
-#[tactic(auto, unfolding(crate::specs::Productions::option_name), using(crate::specs::Code::fails_first))]
+#[tactic(auto, unfolding(crate::specs::Productions::option_name_parts), using(crate::specs::Code::fails_first))]
 fn option_name(alloc: Global, tokens: &mut Cursor<'_, '_>) -> Result<ProtobufOptionName, Refusal>
     ensures { Gives view.option_name_view result (left tokens.new)
         (read.option_name.run (left tokens.old)) }
@@ -119,7 +120,7 @@ fn parts(
     tokens: &mut Cursor<'_, '_>,
     first: ProtobufOptionNamePart,
 ) -> Result<Vec<ProtobufOptionNamePart>, Refusal>
-    ensures { Gives (λ v. map view.option_part_view v.items) result (left tokens.new)
+    ensures { GivesOr TooMany (λ v. map view.option_part_view v.items) result (left tokens.new)
         (with_first (view.option_part_view first) ((read.parts_up_to 99).run (left tokens.old))) }
 {
     let mut parts = Vec::new(alloc);
@@ -150,7 +151,7 @@ fn next_part(alloc: Global, tokens: &mut Cursor<'_, '_>) -> Result<ProtobufOptio
 /// That no part follows the 100th. S7 at the first token of another part, S8 at a dot with no part
 /// behind it.
 fn no_more_parts(tokens: &mut Cursor<'_, '_>) -> Result<(), Refusal>
-    ensures { Gives (λ u. []) result (left tokens.new)
+    ensures { GivesOr TooMany (λ u. []) result (left tokens.new)
         ((read.parts_up_to 0).run (left tokens.old)) }
 {
     if !tokens.sees_symbol('.') {
@@ -168,7 +169,7 @@ fn no_more_parts(tokens: &mut Cursor<'_, '_>) -> Result<(), Refusal>
 /// Whether a part of an option's name comes next.
 #[tactic(auto, unfolding(protobuf_parse_base::specs::Readers::starts))]
 fn begins_option_part(tokens: &Cursor<'_, '_>) -> bool
-    ensures { result ≡ comes (class.ident [] ∷ class.symbol 40 ∷ []) (left tokens.now) }
+    ensures { result ≡ begins_part (left tokens.now) }
 {
     tokens.sees_ident() || tokens.sees_symbol('(')
 }

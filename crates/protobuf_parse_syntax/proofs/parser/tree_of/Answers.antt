@@ -1,11 +1,11 @@
-use Rattle.std.proofs.Common.{◌≡◌, ◌+◌, ◌<◌, length, map, ap, sym, subst, ◌∙◌, arith}
+use Rattle.std.proofs.Common.{◌≡◌, ◌⊎◌, ◌+◌, ◌<◌, length, map, ap, sym, subst, ◌∙◌, arith}
 use Rattle.std.proofs.lemmas.List.{length-map}
 use Rattle.protobuf_parse_base.specs.Readers.{read}
 use Rattle.protobuf_parse_base.specs.Whole.{whole}
 use Rattle.protobuf_parse_syntax.specs.Tokens.{lexeme}
 use Rattle.protobuf_parse_syntax.specs.Trees.{file_view}
 use Rattle.protobuf_parse_syntax.specs.Nested as nest
-use Rattle.protobuf_parse_syntax.specs.Code.{left, Fails, RefusesFile}
+use Rattle.protobuf_parse_syntax.specs.Code.{left, Fails, NoVersion, RefusesFile}
 use Rattle.protobuf_parse_syntax.specs.declared.parser.refusal.Refusal.TheVariants.{Next}
 use Rattle.protobuf_parse_syntax.specs.declared.error.ParserError.TheVariants.{IncorrectInput}
 use Rattle.protobuf_parse_syntax.proofs.File.{found, only, leftover, refused, told}
@@ -62,7 +62,8 @@ returns-in-Err-clause-refused c =
     let enough : length ts
     < n = omega (arith, length-map c.args.stream.now.tokens.items lexeme, c.len-levels.ensures)
     in
-    let h = subst (λ v. Fails c.in-Err.refusal (left c.file.new.tokens) ((nest.file n).low.run v)) e
+    let h = subst (λ v. Fails c.in-Err.refusal (left c.file.new.tokens) ((nest.file n).low.run v)
+    ⊎ NoVersion v c.in-Err.refusal (left c.file.new.tokens) ((nest.file n).low.run v)) e
     c.in-Err.ensures in
     told ts m c.in-Err.refusal c.place.result c.located.result
     (subst (λ v. RefusesFile ts m c.in-Err.refusal v) (sym c.place.ensures)

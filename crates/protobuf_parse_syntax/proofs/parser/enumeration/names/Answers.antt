@@ -1,4 +1,4 @@
-use Rattle.std.proofs.Common.{◌≡◌, List, ◌++◌, ◌∷◌, [], map, string_bytes, refl, sym, ap, ◌∙◌}
+use Rattle.std.proofs.Common.{◌≡◌, List, ◌++◌, ◌∷◌, [], map, string_bytes, inl, refl, sym, ap, ◌∙◌}
 use Rattle.std.proofs.lemmas.List.{map_push}
 use Rattle.std.proofs.lemmas.Result.{err_from_is_err_and}
 use Rattle.protobuf_parse_base.specs.Readers.{run_many, shorter}
@@ -8,6 +8,7 @@ use Rattle.protobuf_parse_syntax.specs.Productions as read
 use Rattle.protobuf_parse_syntax.specs.Productions.{names_first}
 use Rattle.protobuf_parse_syntax.specs.Code.{left}
 use Rattle.protobuf_parse_syntax.proofs.Loops.{fails}
+use Rattle.protobuf_parse_syntax.proofs.Wrongs.{fails_names}
 use Rattle.protobuf_parse_syntax.proofs.parser.enumeration.names.Goals as goal
 
 pub returns-in_err-name : goal.returns-in_err-name
@@ -15,10 +16,10 @@ returns-in_err-name c =
     let p = err_from_is_err_and c.from_residual-in_err-name.result
     c.from_residual-in_err-name.ensures.1 in
     rw (p.1, p.2)
-    (fails read.comma_name refl (λ (v : List Bytes). v) shows_themselves (λ (v : List Bytes). v)
-    (map string_bytes c.others.names.items) (left c.others.tokens)
+    (inl (fails read.comma_name refl (λ (v : List Bytes). v) shows_themselves
+    (λ (v : List Bytes). v) (map string_bytes c.others.names.items) (left c.others.tokens)
     (left c.comma_name.new.tokens) c.in_err-name.field-0.0 _
-    (sym c.sees_symbol.ensures ∙ c.others-test.true) c.in_err-name.ensures c.others.invariant)
+    (sym c.sees_symbol.ensures ∙ c.others-test.true) c.in_err-name.ensures c.others.invariant))
 
 pub others-preserved : goal.others-preserved
 others-preserved c =
@@ -48,3 +49,10 @@ others-init c =
 pub others-smaller : goal.others-smaller
 others-smaller c = shorter read.comma_name refl (left c.others.tokens)
     (string_bytes c.in_ok-name.name) (left c.comma_name.new.tokens) c.in_ok-name.ensures
+
+pub returns-in_err-text : goal.returns-in_err-text
+returns-in_err-text c =
+    let p = err_from_is_err_and c.from_residual.result c.from_residual.ensures.1 in
+    rw (p.1, p.2)
+    (fails_names c.in_err-text.field-0.0 (left c.args.tokens.now)
+    (left c.text.new.tokens) c.in_err-text.ensures)

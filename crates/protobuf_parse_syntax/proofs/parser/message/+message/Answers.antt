@@ -1,4 +1,4 @@
-use Rattle.std.proofs.Common.{◌≡◌, List, map, false, codes, refl, sym, ◌∙◌, arith}
+use Rattle.std.proofs.Common.{◌≡◌, List, map, false, codes, refl, inl, sym, ◌∙◌, arith}
 use Rattle.std.proofs.lemmas.Result.{err_from_is_err_and}
 use Rattle.protobuf_parse_base.specs.Relations.{somes}
 use Rattle.protobuf_parse_base.specs.Readers.{shorter}
@@ -28,7 +28,7 @@ pub message-returns-then-levels-eq0 : goal.message-returns-then-levels-eq0
 message-returns-then-levels-eq0 t c = (
   too_deep,
   message_zero c.args.syntax c.args.levels (left c.args.tokens.now) (omega arith),
-  refl,
+  inl (refl, refl),
 )
 
 pub message-returns : goal.message-returns

@@ -1,10 +1,12 @@
 use Rattle.std.proofs.Common.{◌≡◌, List, ◌++◌, ◌∷◌, [], map, string_bytes, sym, ap, ◌∙◌}
+use Rattle.std.proofs.lemmas.Result.{err_from_is_err_and}
 use Rattle.protobuf_parse_base.specs.Readers.{read}
 use Rattle.protobuf_parse_syntax.specs.Trees as tree
 use Rattle.protobuf_parse_syntax.specs.Trees.{OptionPartSyntax, option_part_view}
 use Rattle.protobuf_parse_syntax.specs.Grammar.{option_name}
 use Rattle.protobuf_parse_syntax.specs.Code.{left}
-use Rattle.protobuf_parse_syntax.proofs.Parts.{name_of_parts, name_of_one}
+use Rattle.protobuf_parse_syntax.proofs.Parts.{name_of_parts, name_of_one, fails_at_first}
+use Rattle.protobuf_parse_syntax.proofs.Parts.{fails_at_parts}
 use Rattle.protobuf_parse_syntax.proofs.parser.option.option_name.Goals as goal
 
 pub returns-then-sees_symbol : goal.returns-then-sees_symbol
@@ -36,3 +38,19 @@ returns-in_ok-push-in-Ext c =
     ∙ ap (λ (p : OptionPartSyntax). read (option_name p []) (left c.option_part.new.tokens)) is
     ∙ ap (λ (v : List OptionPartSyntax). read (tree.custom v) (left c.option_part.new.tokens))
     (ap (λ (p : OptionPartSyntax). p ∷ []) (sym is) ∙ sym e)
+
+pub returns-in_err-first : goal.returns-in_err-first
+returns-in_err-first c =
+    let p = err_from_is_err_and c.from_residual.result c.from_residual.ensures.1 in
+    rw (p.1, p.2)
+    (fails_at_first c.in_err-first.field-0.0 (left c.args.tokens.now)
+    (left c.option_part.new.tokens) c.in_err-first.ensures)
+
+pub returns-in_err-parts : goal.returns-in_err-parts
+returns-in_err-parts c =
+    let p = err_from_is_err_and c.from_residual-in_err-parts.result
+    c.from_residual-in_err-parts.ensures.1 in
+    rw (p.1, p.2)
+    (fails_at_parts (left c.args.tokens.now) (left c.option_part.new.tokens)
+    (option_part_view c.in_ok-first.first) c.in_ok-first.ensures c.in_err-parts.field-0.0
+    (left c.parts.new.tokens) c.in_err-parts.ensures)

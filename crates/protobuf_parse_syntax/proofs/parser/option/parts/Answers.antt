@@ -1,4 +1,4 @@
-use Rattle.std.proofs.Common.{◌≡◌, ◌-◌, List, ◌++◌, ◌∷◌, [], map, sym, ap, ◌∙◌, arith}
+use Rattle.std.proofs.Common.{◌≡◌, ◌-◌, List, ◌++◌, ◌∷◌, [], map, inl, sym, ap, ◌∙◌, arith}
 use Rattle.std.proofs.lemmas.List.{map_push}
 use Rattle.std.proofs.lemmas.Result.{err_from_is_err_and}
 use Rattle.protobuf_parse_syntax.specs.Trees.{OptionPartSyntax, option_part_view}
@@ -40,7 +40,7 @@ returns-in_err-part c =
     let p = err_from_is_err_and c.from_residual-in_err-part.result
     c.from_residual-in_err-part.ensures.1 in
     rw (p.1, p.2)
-    (fails_at_part (map option_part_view c.others.parts.items) _
+    (inl (fails_at_part (map option_part_view c.others.parts.items) _
     (c.others.room - 1) c.others.room (left c.others.tokens) (omega arith) c.others.invariant
     (sym c.sees_symbol.ensures ∙ c.if-not-sees_symbol.false) c.in_err-part.field-0.0
-    (left c.next_part.new.tokens) c.in_err-part.ensures)
+    (left c.next_part.new.tokens) c.in_err-part.ensures))
