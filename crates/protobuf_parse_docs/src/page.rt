@@ -15,22 +15,18 @@ pub fn page_of(alloc: Global, files: &[FileDescriptorProto]) -> Result<String> {
     let known = Known::new(alloc, files)?;
     let mut text = String::new(alloc);
     for file in files {
-        let package = file.package.as_deref().unwrap_or("");
-        if !is_shipped(package) {
-            put_file(&mut text, &known, file, package)?;
+        if !is_shipped(file.package.as_deref().unwrap_or("")) {
+            put_file(&mut text, &known, file)?;
         }
     }
     Ok(text)
 }
 
-fn put_file(
-    text: &mut String,
-    known: &Known<'_>,
-    file: &FileDescriptorProto,
-    package: &str,
-) -> Result<()> {
-    let name = file.name.as_deref().unwrap_or("?");
-    write!(text, "# {name}\n\nPackage `{package}`\n\n")?;
+fn put_file(text: &mut String, known: &Known<'_>, file: &FileDescriptorProto) -> Result<()> {
+    write!(text, "# {}\n\n", file.name.as_deref().unwrap_or("?"))?;
+    if let Some(package) = &file.package {
+        write!(text, "- package `{package}`\n")?;
+    }
     for path in &file.dependency {
         write!(text, "- imports `{path}`\n")?;
     }
