@@ -1,5 +1,5 @@
-//! Prints the documentation of schemas as Markdown. The first argument is the include, and the others are the
-//! inputs: `protobuf_parse_docs schemas schemas/shop/item.proto schemas/shop/order.proto`.
+//! Prints the documentation of schemas as Markdown. The first argument is the include, and the
+//! others are the inputs: `protobuf_parse_docs schemas schemas/item.proto schemas/order.proto`.
 #![tactic(auto)]
 
 mod names;

@@ -1,4 +1,5 @@
-//! The caller of `CALLING.md`: a registry that holds its schemas in memory, and reads who owns a message.
+//! The caller of `CALLING.md`: a registry that holds its schemas in memory, and reads who owns a
+//! message.
 
 use protobuf_parse::pure::parse_and_typecheck_custom;
 use protobuf_parse::{
@@ -23,8 +24,8 @@ impl<'a> fmt::Display for Registry<'a> {
 }
 
 impl<'a> ProtoPathResolver for Registry<'a> {
-    // What may be answered for a path. Here it is anything; one that gives no fault but want of memory
-    // can say so, and then no run by it ends with L5.
+    // What may be answered for a path. Here it is anything; one that gives no fault but want of
+    // memory can say so, and then no run by it ends with L5.
     ghost may_answer = { λ _ _ _. Unit {0} };
 
     fn resolve(
