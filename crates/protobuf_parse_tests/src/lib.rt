@@ -16,4 +16,6 @@ mod program;
 #[cfg(test)]
 mod proto_path;
 #[cfg(test)]
+mod registry;
+#[cfg(test)]
 mod resolving;

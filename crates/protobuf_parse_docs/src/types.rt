@@ -1,0 +1,109 @@
+//! Labels and types of fields.
+
+use protobuf_parse::{DescriptorProto, FieldDescriptorProto, FieldType, Label};
+use std::alloc::AllocError;
+
+/// Whether a package or a type comes with the library. The page has no section for it.
+pub fn is_shipped(name: &str) -> bool {
+    name == "google.protobuf" || name.starts_with("google.protobuf.")
+}
+
+/// The full name of a message or an enum, with a link to its section.
+pub fn put_link(text: &mut String, type_name: &str) -> Result<(), AllocError> {
+    let name = type_name.trim_start_matches('.');
+    if is_shipped(name) {
+        write!(text, "`{name}`")
+    } else {
+        write!(text, "[{name}](#{name})")
+    }
+}
+
+/// The type of a field that is no map.
+pub fn put_type(text: &mut String, field: &FieldDescriptorProto) -> Result<(), AllocError> {
+    match &field.type_name {
+        Some(name) => put_link(text, name),
+        None => text.push_str(word_of(field.type_)),
+    }
+}
+
+/// The label and the type of a field of this message, which has this full name.
+pub fn put_label_and_type(
+    text: &mut String,
+    scope: &str,
+    message: &DescriptorProto,
+    field: &FieldDescriptorProto,
+) -> Result<(), AllocError> {
+    if let Some([key, value]) = entry_of(scope, message, field) {
+        text.push_str("map | ")?;
+        put_type(text, key)?;
+        text.push_str(" to ")?;
+        return put_type(text, value);
+    }
+    put_label(text, message, field)?;
+    text.push_str(" | ")?;
+    put_type(text, field)
+}
+
+fn put_label(
+    text: &mut String,
+    message: &DescriptorProto,
+    field: &FieldDescriptorProto,
+) -> Result<(), AllocError> {
+    for (i, oneof) in message.oneof_decl.iter().enumerate() {
+        if field.oneof_index == i32::try_from(i).ok() && !field.proto3_optional {
+            return write!(text, "one of `{}`", oneof.name);
+        }
+    }
+    text.push_str(match field.label {
+        Label::Optional => "optional",
+        Label::Required => "required",
+        Label::Repeated => "repeated",
+    })
+}
+
+/// The key and the value of a map: the fields of the message that stands behind it.
+fn entry_of<'a>(
+    scope: &str,
+    message: &'a DescriptorProto,
+    field: &FieldDescriptorProto,
+) -> Option<&'a [FieldDescriptorProto]> {
+    let type_name = field.type_name.as_deref()?;
+    let name = type_name.strip_prefix(scope)?.strip_prefix('.')?;
+    for nested in &message.nested_type {
+        if is_map_entry(nested) && nested.name.as_str() == name {
+            return Some(&nested.field);
+        }
+    }
+    None
+}
+
+/// Whether the message stands behind a map.
+pub fn is_map_entry(message: &DescriptorProto) -> bool {
+    match &message.options {
+        Some(options) => options.map_entry == Some(true),
+        None => false,
+    }
+}
+
+fn word_of(type_: FieldType) -> &'static str {
+    match type_ {
+        FieldType::Int32 => "int32",
+        FieldType::Int64 => "int64",
+        FieldType::Uint32 => "uint32",
+        FieldType::Uint64 => "uint64",
+        FieldType::Sint32 => "sint32",
+        FieldType::Sint64 => "sint64",
+        FieldType::Fixed32 => "fixed32",
+        FieldType::Sfixed32 => "sfixed32",
+        FieldType::Fixed64 => "fixed64",
+        FieldType::Sfixed64 => "sfixed64",
+        FieldType::Bool => "bool",
+        FieldType::String => "string",
+        FieldType::Bytes => "bytes",
+        FieldType::Float => "float",
+        FieldType::Double => "double",
+        FieldType::Message => "message",
+        FieldType::Enum => "enum",
+        FieldType::Group => "group",
+    }
+}
