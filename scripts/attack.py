@@ -17,7 +17,7 @@ def fields(n):
 
 
 def prefixes(n):
-    """n messages whose names begin with the same 60 characters, each with a field of the one before."""
+    """n messages whose names begin with the same 60 characters, each with one field."""
     long = "Prefix" * 10
     yield 'syntax = "proto3";\n'
     for i in range(n):
@@ -83,7 +83,7 @@ def constants(n):
 
 
 def lists(n):
-    """Options with constants that nest 49 deep in lists of one, each with a list of n / 100 numbers inside."""
+    """100 options whose constant nests 49 deep in lists of one, with n / 100 numbers inside."""
     yield OPTIONS + "message D { repeated D d = 1; repeated int32 a = 2; }\n"
     yield "extend google.protobuf.MessageOptions { optional D deep = 50000; }\n"
     numbers = ", ".join(str(i) for i in range(n // 100))
@@ -151,7 +151,8 @@ def reserved(n):
     """A message with n fields, n reserved numbers and n reserved names."""
     yield 'syntax = "proto2";\nmessage M {\n'
     for i in range(n):
-        yield f'  reserved {20000 + 2 * i}; reserved "r{i}"; optional int32 f{i} = {20001 + 2 * i};\n'
+        yield f'  reserved {20000 + 2 * i}; reserved "r{i}";'
+        yield f"  optional int32 f{i} = {20001 + 2 * i};\n"
     yield "}\n"
 
 
@@ -159,7 +160,8 @@ def oneofs(n):
     """A message with n oneofs of one field, and n fields with oneofs of their own."""
     yield 'syntax = "proto3";\nmessage M {\n'
     for i in range(n):
-        yield f"  oneof o{i} {{ int32 f{i} = {20000 + 2 * i}; }} optional int32 g{i} = {20001 + 2 * i};\n"
+        yield f"  oneof o{i} {{ int32 f{i} = {20000 + 2 * i}; }}\n"
+        yield f"  optional int32 g{i} = {20001 + 2 * i};\n"
     yield "}\n"
 
 
@@ -181,7 +183,7 @@ def deep(n):
 
 
 def options(n):
-    """A message with n statements of built-in options that make one constant, which may be set again."""
+    """A message with n statements of one custom option."""
     yield OPTIONS + "extend google.protobuf.MessageOptions { repeated int32 xs = 50000; }\n"
     yield "message M {\n" + "".join(f"  option (xs) = {i};\n" for i in range(n)) + "}\n"
 
@@ -210,9 +212,9 @@ def comment(n):
 
 # ---- names that collide
 
-# The hash maps of the library have keys that are known: each step multiplies the state, mixed with eight
-# bytes of the name, by the eight bytes behind them. Where that state is just these bytes the product is 0,
-# whatever stands behind them.
+# The hash maps have keys that are known: each step multiplies the state, mixed with eight bytes of the
+# name, by the eight bytes behind them. Where the state is just these bytes the product is 0, whatever
+# stands behind them.
 WORD = (1 << 64) - 1
 FACTOR = 0x9E3779B97F4A7C15
 START = 0x243F6A8885A308D3

@@ -3,7 +3,8 @@
 
     scripts/memory_refused.py [--most N] [--jobs J] [--cases PROGRAM] [--program PROGRAM] [NAME..]
 
-For each row of the files of cases (or of those that are named), and for the program on some files, it runs
+For each row of the files of cases (or of those that are named), and for the program on some files (where
+nothing is named, or the word program), it runs
 the built program with its first request for memory refused, then with its second one, and so on until a run
 meets no refusal. Each run must say that it is out of memory, or give the row's answer; the last one gives
 the answer. Rows that make more than N requests (5000) have only each seventh, or each 70th, refused."""
@@ -102,13 +103,15 @@ def is_right(status, text, verb):
     if not told or status == 0:
         return False
     wanted, found = told.groups()
-    if verb == "reads":
-        return found == "" or wanted.startswith(found + "\n")
+    if verb == "reads" and (found == "" or wanted.startswith(found + "\n")):
+        return True
     if verb == "customs" and is_read(found, wanted):
         return True
     if found.startswith(f"{MEMORY} |"):
         return is_begun(found, wanted)
-    return bool(SHORT.fullmatch(found))
+    return bool(SHORT.fullmatch(found)) or (
+        verb == "fronts" and found.endswith(f" is at 0:0: {MEMORY}")
+    )
 
 
 def judged(title, runs, last):
@@ -156,10 +159,12 @@ def tasks(refuser, options):
     all_names = sorted(os.path.basename(it) for it in glob.glob(f"{DATA}/*.cases"))
     # What is printed for a file of cases has its own faults in it.
     all_names.remove("cases.cases")
-    for name in options.names or all_names:
+    for name in options.names or [*all_names, "program"]:
+        if name == "program":
+            continue
         for line, content in rows_of(f"{DATA}/{name}"):
             yield try_row, (refuser, options, name, line, content)
-    if not options.names:
+    if not options.names or "program" in options.names:
         for words in (["d/x.proto", "d"], ["d/b.proto", "d"], ["top.proto", "."], ["a", "b"], ["a"]):
             yield try_program, (refuser, options, DATA, words)
 
