@@ -1,14 +1,27 @@
 //! Lexes and parses the file that its argument names, and prints how many tokens and statements it
-//! has and how long both took; or, with `--files N`, loads N files that import each other, and
-//! prints how often files were met and how long it took. With no argument it takes a small text and
-//! 2,000 files, and leaves out the times.
+//! has and how long both took; or does what a word says:
+//!
+//! - `--files N`: loads N files that import each other, and prints how often files were met;
+//! - `--same TEXT PATHS`: loads a file of this text for each line of PATHS;
+//! - `--read TEXT N`: reads N empty messages in option bytes, each the field 1 of the message `Wide` of TEXT;
+//! - `--damage N TEXT..`: N texts that differ in a few bytes from these, and what becomes of them;
+//! - `--damage-bytes N TEXT`: the same of the option bytes of the last message of TEXT.
+//!
+//! With no argument it takes a small text and 2,000 files, and leaves out the times.
 #![tactic(auto)]
 
+mod damage;
 mod graph;
+mod mutate;
+mod numbers;
+mod same;
 
+use crate::damage::{damage, damage_bytes};
 use crate::graph::load;
+use crate::same::{load_same, read_small};
 use anyhow::{Result, anyhow};
 use protobuf_parse_syntax::{parse_file, tokenize};
+use std::alloc::Global;
 use std::rt::Runtime;
 use std::time::Instant;
 use std::{env, fs};
@@ -25,7 +38,7 @@ message TradeReport {
 ";
 
 /// How many tokens the text has.
-fn tokens<R: Runtime<A = std::alloc::Global>>(rt: &R, text: &str) -> Result<usize> {
+fn tokens<R: Runtime<A = Global>>(rt: &R, text: &str) -> Result<usize> {
     match tokenize(rt.alloc(), text) {
         Ok(stream) => Ok(stream.tokens.len()),
         Err(error) => Err(anyhow!("{error}")),
@@ -33,7 +46,7 @@ fn tokens<R: Runtime<A = std::alloc::Global>>(rt: &R, text: &str) -> Result<usiz
 }
 
 /// How many statements the file has.
-fn statements<R: Runtime<A = std::alloc::Global>>(rt: &R, text: &str) -> Result<usize> {
+fn statements<R: Runtime<A = Global>>(rt: &R, text: &str) -> Result<usize> {
     match parse_file(rt.alloc(), text) {
         Ok(tree) => Ok(tree.statements.len()),
         Err(error) => Err(anyhow!("{error}")),
@@ -41,7 +54,7 @@ fn statements<R: Runtime<A = std::alloc::Global>>(rt: &R, text: &str) -> Result<
 }
 
 /// Prints how long lexing the text takes, and how long lexing and parsing it.
-fn measure<R: Runtime<A = std::alloc::Global>>(rt: &R, text: &str) -> Result<()> {
+fn measure<R: Runtime<A = Global>>(rt: &R, text: &str) -> Result<()> {
     let start = Instant::now(rt)?;
     let count = tokens(rt, text)?;
     let lexing = start.elapsed(rt)?.as_micros();
@@ -54,7 +67,7 @@ fn measure<R: Runtime<A = std::alloc::Global>>(rt: &R, text: &str) -> Result<()>
 }
 
 /// Prints how long so many files take.
-fn measure_files<R: Runtime<A = std::alloc::Global>>(rt: &R, files: u64) -> Result<()> {
+fn measure_files<R: Runtime<A = Global>>(rt: &R, files: u64) -> Result<()> {
     let start = Instant::now(rt)?;
     let (loaded, meets) = load(rt.alloc(), files)?;
     let time = start.elapsed(rt)?.as_micros();
@@ -63,7 +76,7 @@ fn measure_files<R: Runtime<A = std::alloc::Global>>(rt: &R, files: u64) -> Resu
 }
 
 /// Prints what does not change from one run to the next.
-fn count<R: Runtime<A = std::alloc::Global>>(rt: &R) -> Result<()> {
+fn count<R: Runtime<A = Global>>(rt: &R) -> Result<()> {
     let tokens = tokens(rt, MESSAGE)?;
     let statements = statements(rt, MESSAGE)?;
     println!(rt; "{tokens} tokens, {statements} statements")?;
@@ -72,22 +85,65 @@ fn count<R: Runtime<A = std::alloc::Global>>(rt: &R) -> Result<()> {
     Ok(())
 }
 
-fn run<R: Runtime<A = std::alloc::Global>>(rt: &R) -> Result<()> {
-    let mut args = env::args(rt)?;
-    let _program = args.next();
-    let Some(word) = args.next() else {
-        return count(rt);
-    };
-    if word.as_str() != "--files" {
-        let text = fs::read_to_string(rt, word.as_str())?;
-        return measure(rt, text.as_str());
+/// The arguments behind the program's name.
+fn arguments<R: Runtime<A = Global>>(rt: &R) -> Result<Vec<String>> {
+    let mut given = Vec::new(rt.alloc());
+    for argument in env::args(rt)?.skip(1) {
+        given.push(argument)?;
     }
-    match args.next() {
-        Some(files) => measure_files(rt, files.parse()?),
-        None => Err(anyhow!("--files takes a number")),
+    Ok(given)
+}
+
+/// What became of so many damages of the files.
+fn damage_files<R: Runtime<A = Global>>(rt: &R, count: u64, names: &[String]) -> Result<()> {
+    let mut texts = Vec::new(rt.alloc());
+    for name in names {
+        texts.push(fs::read(rt, name.as_str())?)?;
+    }
+    let damage = damage(rt, &texts, count)?;
+    println!(rt; "{damage}")?;
+    Ok(())
+}
+
+/// Does what a word says that is given a file and something else.
+fn run_word<R: Runtime<A = Global>>(rt: &R, word: &str, first: &str, second: &str) -> Result<()> {
+    match word {
+        "--same" => {
+            let text = fs::read(rt, first)?;
+            let count = load_same(rt.alloc(), &text, fs::read_to_string(rt, second)?.as_str())?;
+            println!(rt; "{count} files")?;
+        }
+        "--read" => {
+            let text = fs::read(rt, first)?;
+            let count = read_small(rt.alloc(), &text, second.parse()?)?;
+            println!(rt; "{count} fields")?;
+        }
+        "--damage-bytes" => {
+            let text = fs::read(rt, second)?;
+            let start = Instant::now(rt)?;
+            let reads = damage_bytes(rt, &text, first.parse()?)?;
+            let time = start.elapsed(rt)?.as_micros();
+            println!(rt; "{reads}; {time} microseconds in all")?;
+        }
+        _ => return Err(anyhow!("no such word: {word}")),
+    }
+    Ok(())
+}
+
+fn run<R: Runtime<A = Global>>(rt: &R, given: &[String]) -> Result<()> {
+    match given {
+        [] => count(rt),
+        [name] => measure(rt, fs::read_to_string(rt, name.as_str())?.as_str()),
+        [word, files] if word.as_str() == "--files" => measure_files(rt, files.parse()?),
+        [word, count, names @ ..] if word.as_str() == "--damage" => {
+            damage_files(rt, count.parse()?, names)
+        }
+        [word, first, second] => run_word(rt, word, first, second),
+        _ => Err(anyhow!("what to do?")),
     }
 }
 
 fn main(rt: HostRuntime) -> Result<()> {
-    run(&rt)
+    let given = arguments(&rt)?;
+    run(&rt, &given)
 }

@@ -1,5 +1,6 @@
 //! What is run, by its word.
 
+mod again;
 mod bytes;
 mod customs;
 mod names;
@@ -52,8 +53,10 @@ fn given_of<'a>(case: &'a Case, row: &'a Row) -> &'a [u8] {
 /// The answer of what looks at one text.
 fn text_answer(alloc: Global, case: &Case, given: &[u8]) -> Result<String> {
     let text = text_of(given)?;
-    if case.verb.as_str() == "constant" {
-        return texts::constant(alloc, text);
+    match case.verb.as_str() {
+        "constant" => return texts::constant(alloc, text),
+        "again" => return again::again(alloc, text),
+        _ => {}
     }
     match answer_by_memory(alloc, &case.verb, text) {
         Some(answer) => Ok(answer?),

@@ -2,8 +2,10 @@
 
 use anyhow::{Result, bail};
 use protobuf_parse::pure::parse_dependencies;
-use protobuf_parse::{FileDescriptorProto, listing};
-use protobuf_parse_syntax::{FileStatement, ProtobufConstant, StrLit, parse_file, tokenize};
+use protobuf_parse::{FileDescriptorProto, ParserError, listing};
+use protobuf_parse_syntax::{
+    FileStatement, ProtobufConstant, StrLit, StrLitDecodeError, parse_file, tokenize,
+};
 use std::alloc::{AllocError, Global};
 use std::slice;
 
@@ -37,6 +39,7 @@ pub fn string(alloc: Global, pieces: &str) -> Result<Vec<u8>, AllocError> {
     }
     match literal.decode_utf8(alloc) {
         Ok(text) => tagged(alloc, "text ", text.as_bytes()),
+        Err(StrLitDecodeError::Memory) => Err(AllocError),
         Err(_) => no_text(alloc, &literal),
     }
 }
@@ -101,10 +104,11 @@ pub fn trees(alloc: Global, text: &str) -> Result<String, AllocError> {
 }
 
 fn put_length(lengths: &mut String, alloc: Global, front: &str) -> Result<(), AllocError> {
-    if parse_file(alloc, front).is_ok() {
-        lengths.push_str(&format!(in alloc; "{} ", front.len())?)?;
+    match parse_file(alloc, front) {
+        Ok(_) => lengths.push_str(&format!(in alloc; "{} ", front.len())?),
+        Err(error) if error.error == ParserError::Memory => Err(AllocError),
+        Err(_) => Ok(()),
     }
-    Ok(())
 }
 
 /// The listing of what the text imports, or the fault.

@@ -1,0 +1,200 @@
+#!/usr/bin/env python3
+"""Refuses memory to the cases and to the program, one request at a time: docs/testing.md.
+
+    scripts/memory_refused.py [--most N] [--jobs J] [--cases PROGRAM] [--program PROGRAM] [NAME..]
+
+For each row of the files of cases (or of those that are named), and for the program on some files (where
+nothing is named, or the word program), it runs
+the built program with its first request for memory refused, then with its second one, and so on until a run
+meets no refusal. Each run must say that it is out of memory, or give the row's answer; the last one gives
+the answer. Rows that make more than N requests (5000) have only each seventh, or each 70th, refused."""
+
+import argparse
+import concurrent.futures
+import glob
+import os
+import re
+import subprocess
+import sys
+import tempfile
+
+TOP = os.path.normpath(os.path.join(os.path.dirname(os.path.abspath(__file__)), ".."))
+DATA = f"{TOP}/crates/protobuf_parse_cases/data"
+WELL = "one.cases: 1 of 1\n"
+MEMORY = "out of memory"
+# What stands for it where the program that runs the cases lacks memory itself.
+OWN = re.compile(
+    r"(Error: (.*: )?|one.cases can't be read: (line \d+: )?)(memory allocation failed|[Oo]ut of memory)\n"
+)
+SHORT = re.compile(r"(no answer: (.*: )?)?(memory allocation failed|[Oo]ut of memory)|at 0:0: out of memory")
+
+
+def rows_of(name):
+    """Each row of a file of cases as a file of its own, with its line's number."""
+    with open(name, encoding="utf-8") as file:
+        content = file.read()
+    line = content.split("=== ")[0].count("\n") + 1
+    for case in re.split("^(?==== )", content, flags=re.M)[1:]:
+        head, mark, rows = case.partition("-- rows --\n")
+        if not mark:
+            yield line, case
+        for i, row in enumerate(rows.split("\n")):
+            if " => " in row and not row.startswith("#"):
+                yield line + head.count("\n") + 1 + i, head + mark + row + "\n"
+        line += case.count("\n")
+
+
+class Refuser:
+    """Runs a program with requests for memory refused."""
+
+    def __init__(self, library):
+        self.library = library
+
+    def records(self, words, folder, **setting):
+        """For each run N, whether it met a refusal, or how many requests there were; and what it wrote."""
+        reading, writing = os.pipe()
+        env = {"LD_PRELOAD": self.library, "REFUSE_TO": str(writing)}
+        env.update({f"REFUSE_{name}": str(value) for name, value in setting.items()})
+        program = subprocess.Popen(words, cwd=folder, env=env, pass_fds=[writing])
+        os.close(writing)
+        with open(reading, "rb") as file:
+            while line := file.readline():
+                n, status, met, length = map(int, line.split())
+                yield n, status, met, file.read(length).decode(errors="replace")
+        if program.wait():
+            raise RuntimeError(f"{words} could not be run")
+
+    def runs(self, words, folder, most):
+        """Those runs that are wanted of a program that makes many requests, and how many it makes."""
+        count = next(self.records(words, folder, COUNT=1))[2]
+        step = 1 if count <= most else 7 if count <= 7 * most else 70
+        return count, step, self.records(words, folder, STEP=step)
+
+
+def is_begun(found, wanted):
+    """Whether a log without descriptors has a beginning of the reads that are wanted."""
+    found, wanted = found.split("|"), wanted.split("|")
+    if len(found) < 3 or len(wanted) < 3:
+        return False
+    reads = found[1].split()
+    # The last read may be the one whose answer was refused.
+    begun = [it.split("=")[0] for it in reads] == [
+        it.split("=")[0] for it in wanted[1].split()[: len(reads)]
+    ]
+    return begun and reads[:-1] == wanted[1].split()[: len(reads)][:-1]
+
+
+def is_read(found, wanted):
+    """Whether the lines are those that are wanted, but for what is read back where memory is short."""
+    found, wanted = found.split("\n"), wanted.split("\n")
+    return len(found) == len(wanted) and all(
+        it == other or it == " ".join([*other.split(" ")[:2], MEMORY])
+        for it, other in zip(found, wanted)
+    )
+
+
+def is_right(status, text, verb):
+    """Whether a run has the answer, or is out of memory. One that shows its reads alone has a beginning."""
+    if text == WELL:
+        return status == 0
+    if OWN.fullmatch(text):
+        return status != 0
+    told = re.fullmatch(r"one.cases:\d+: .*\nwanted: (.*)\nfound: (.*)\none.cases: 0 of 1\n", text, re.S)
+    if not told or status == 0:
+        return False
+    wanted, found = told.groups()
+    if verb == "reads" and (found == "" or wanted.startswith(found + "\n")):
+        return True
+    if verb == "customs" and is_read(found, wanted):
+        return True
+    if found.startswith(f"{MEMORY} |"):
+        return is_begun(found, wanted)
+    return bool(SHORT.fullmatch(found)) or (
+        verb == "fronts" and found.endswith(f" is at 0:0: {MEMORY}")
+    )
+
+
+def judged(title, runs, last):
+    """How many refusals were met, and a line for each other answer than is wanted."""
+    count, step, records = runs
+    refusals, faults, met, text, status = 0, {}, 1, "", 0
+    for n, status, met, text in records:
+        refusals += met
+        if not last(status, text, met):
+            faults.setdefault((status, text), []).append(n)
+    if met:
+        faults["no run without a refusal"] = [refusals]
+    lines = [f"{title}: {len(at)} runs, the first {at[0]}: {what}" for what, at in faults.items()]
+    return count, step, refusals, lines
+
+
+def try_row(refuser, options, name, line, content):
+    with tempfile.TemporaryDirectory() as folder:
+        for it in os.listdir(DATA):
+            if not it.endswith(".cases"):
+                os.symlink(f"{DATA}/{it}", f"{folder}/{it}")
+        with open(f"{folder}/one.cases", "w", encoding="utf-8") as file:
+            file.write(content)
+        runs = refuser.runs([options.cases], folder, options.most)
+        verb = content.split("\n")[1].split(" ")[0]
+        right = lambda status, text, met: is_right(status, text, verb) and (met or text == WELL)
+        return judged(f"{name}:{line}", runs, right)
+
+
+def try_program(refuser, options, folder, words):
+    wanted = subprocess.run(
+        [options.program, *words], cwd=folder, stdout=subprocess.PIPE, stderr=subprocess.STDOUT
+    )
+    wanted = (wanted.returncode, wanted.stdout.decode())
+
+    def right(status, text, met):
+        is_short = text == f"{MEMORY}\n" and os.waitstatus_to_exitcode(status) == 1
+        return (os.waitstatus_to_exitcode(status), text) == wanted or (met and is_short)
+
+    runs = refuser.runs([options.program, *words], folder, options.most)
+    return judged(f"program {' '.join(words)}", runs, right)
+
+
+def tasks(refuser, options):
+    all_names = sorted(os.path.basename(it) for it in glob.glob(f"{DATA}/*.cases"))
+    # What is printed for a file of cases has its own faults in it.
+    all_names.remove("cases.cases")
+    for name in options.names or [*all_names, "program"]:
+        if name == "program":
+            continue
+        for line, content in rows_of(f"{DATA}/{name}"):
+            yield try_row, (refuser, options, name, line, content)
+    if not options.names or "program" in options.names:
+        for words in (["d/x.proto", "d"], ["d/b.proto", "d"], ["top.proto", "."], ["a", "b"], ["a"]):
+            yield try_program, (refuser, options, DATA, words)
+
+
+def main():
+    parser = argparse.ArgumentParser(description=__doc__.split("\n")[0])
+    crates = f"{TOP}/crates"
+    parser.add_argument("--most", type=int, default=5000)
+    parser.add_argument("--jobs", type=int, default=2)
+    parser.add_argument("--cases", default=f"{crates}/protobuf_parse_cases/out/protobuf_parse_cases")
+    parser.add_argument(
+        "--program", default=f"{crates}/protobuf_parse_program/out/protobuf_parse_program"
+    )
+    parser.add_argument("names", nargs="*")
+    options = parser.parse_args()
+    rows = whole = refusals = faults = 0
+    with tempfile.TemporaryDirectory() as folder:
+        library = f"{folder}/refuse.so"
+        source = f"{TOP}/scripts/refuse.c"
+        subprocess.run(["cc", "-O1", "-shared", "-fPIC", "-o", library, source], check=True)
+        with concurrent.futures.ThreadPoolExecutor(options.jobs) as pool:
+            started = [pool.submit(what, *given) for what, given in tasks(Refuser(library), options)]
+            for it in concurrent.futures.as_completed(started):
+                _, step, met, lines = it.result()
+                rows, whole, refusals = rows + 1, whole + (step == 1), refusals + met
+                faults += bool(lines)
+                for line in lines:
+                    print(line, flush=True)
+    print(f"{rows} rows, {whole} of them with each request; {refusals} refusals; {faults} rows not as wanted")
+    return 1 if faults else 0
+
+
+sys.exit(main())
