@@ -87,7 +87,11 @@ fn more(count: &mut u64) {
 
 /// What becomes of so many texts, each made of one of these. An error tells of a fault that stands
 /// at no place of its text.
-pub fn damage<R: Runtime<A = Global>>(rt: &R, texts: &[Vec<u8>], count: u64) -> Result<Damage> {
+pub fn damage_texts<R: Runtime<A = Global>>(
+    rt: &R,
+    texts: &[Vec<u8>],
+    count: u64,
+) -> Result<Damage> {
     let mut numbers = Numbers::new(21);
     let mut damage = Damage::new();
     for _ in 0..count {

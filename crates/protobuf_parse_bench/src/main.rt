@@ -16,7 +16,7 @@ mod mutate;
 mod numbers;
 mod same;
 
-use crate::damage::{damage, damage_bytes};
+use crate::damage::{damage_bytes, damage_texts};
 use crate::graph::load;
 use crate::same::{load_same, read_small};
 use anyhow::{Result, anyhow};
@@ -100,7 +100,7 @@ fn damage_files<R: Runtime<A = Global>>(rt: &R, count: u64, names: &[String]) ->
     for name in names {
         texts.push(fs::read(rt, name.as_str())?)?;
     }
-    let damage = damage(rt, &texts, count)?;
+    let damage = damage_texts(rt, &texts, count)?;
     println!(rt; "{damage}")?;
     Ok(())
 }
