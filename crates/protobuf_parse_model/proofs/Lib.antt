@@ -15,6 +15,7 @@ pub mod Decodings
 pub mod Settings
 pub mod Bodies
 pub mod Files
+pub mod Extending
 pub mod Orders
 pub mod Closing
 pub mod NamedTypes

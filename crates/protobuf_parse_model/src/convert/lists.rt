@@ -3,16 +3,15 @@
 ghost use Rattle.std.specs.Prelude.{◌≡◌, ◌++◌, map, flat_map, option_to_list, IfOk, OnOk};
 ghost use Rattle.protobuf_parse_syntax.specs.Trees.{field_statement_view, oneof_statement_view};
 ghost use Rattle.protobuf_parse_syntax.specs.Trees.{oneof_view};
-ghost use Rattle.protobuf_parse_model.specs.Contexts.{declared_by, declared_view, environment_in};
-ghost use Rattle.protobuf_parse_model.specs.Contexts.{fields_declared, fields_view, place_view};
-ghost use Rattle.protobuf_parse_model.specs.Contexts.{statements_seen};
+ghost use Rattle.protobuf_parse_model.specs.Contexts.{environment_in, fields_declared, fields_view};
+ghost use Rattle.protobuf_parse_model.specs.Contexts.{place_view, statements_seen};
 ghost use Rattle.protobuf_parse_model.specs.Faults.{Elaborates};
-ghost use Rattle.protobuf_parse_model.specs.Fields.{field_statement_faults};
+ghost use Rattle.protobuf_parse_model.specs.Fields.{extension_faults, field_statement_faults};
 ghost use Rattle.protobuf_parse_model.specs.Messages.{extending, extension_faults_of};
 ghost use Rattle.protobuf_parse_model.specs.Statements.{oneof_fields};
 
 use crate::convert::place::FieldPlace;
-use crate::convert::statement::{DeclaredField, declared_extension, declared_field};
+use crate::convert::statement::{declared_extension, declared_field};
 use crate::convert::types::type_full_name;
 use crate::customs::CustomOptions;
 use crate::descriptor::{DescriptorProto, FieldDescriptorProto};
@@ -83,8 +82,8 @@ fn declared_fields<C: CustomOptions>(
     Ok(DeclaredFields { fields, behind })
 }
 
-/// What the statements of an `extend` declare.
-#[tactic(auto, using(crate::proofs::Blaming::blames_at))]
+/// What the statements of an `extend` declare. E2 or E3 where one stands there and the name of the
+/// message that is extended means none.
 pub fn fields_of_extend<C: CustomOptions>(
     alloc: Global,
     context: &Context<'_>,
@@ -97,37 +96,42 @@ pub fn fields_of_extend<C: CustomOptions>(
         Elaborates fields_view result (flat_map (extension_faults_of env extendee.now) ss)
         (fields_declared env (extending env extendee.now) ss) }
 {
-    let mut fields = Vec::new(alloc);
-    let mut behind = Vec::new(alloc);
-    for statement in statements {
-        let declared = extension(alloc, context, custom, extendee, statement)?;
-        fields.push(declared.field)?;
-        push_behind(&mut behind, declared.behind)?;
+    if statements.is_empty() {
+        return Ok(DeclaredFields {
+            fields: Vec::new(alloc),
+            behind: Vec::new(alloc),
+        });
     }
-    Ok(DeclaredFields { fields, behind })
-}
-
-/// What a statement of an `extend` declares. E2 or E3 where the name of the message that is
-/// extended means none.
-#[tactic(auto, using(crate::proofs::Blaming::blames_left, crate::proofs::Blaming::blames_right))]
-fn extension<C: CustomOptions>(
-    alloc: Global,
-    context: &Context<'_>,
-    custom: &C,
-    extendee: &str,
-    statement: &FieldStatement,
-) -> Result<DeclaredField, ElabFailure>
-    ensures { let env = environment_in (C.customs custom.now) context.now in
-        let s = field_statement_view statement.now in
-        Elaborates declared_view result (extension_faults_of env extendee.now s)
-        (declared_by env (extending env extendee.now) s) }
-{
     let extendee = type_full_name(alloc, context, extendee)?;
     let place = FieldPlace {
         extendee: Some(&extendee),
         oneof_index: None,
     };
-    declared_extension(alloc, context, custom, &place, statement)
+    declared_extensions(alloc, context, custom, &place, statements)
+}
+
+/// What these statements of an `extend` declare, which stands there.
+#[tactic(auto, using(crate::proofs::Blaming::blames_at))]
+fn declared_extensions<C: CustomOptions>(
+    alloc: Global,
+    context: &Context<'_>,
+    custom: &C,
+    place: &FieldPlace<'_>,
+    statements: &[FieldStatement],
+) -> Result<DeclaredFields, ElabFailure>
+    ensures { let env = environment_in (C.customs custom.now) context.now in
+        let ss = map field_statement_view statements.now in
+        Elaborates fields_view result (flat_map (extension_faults env) ss)
+        (fields_declared env (place_view place.now) ss) }
+{
+    let mut fields = Vec::new(alloc);
+    let mut behind = Vec::new(alloc);
+    for statement in statements {
+        let declared = declared_extension(alloc, context, custom, place, statement)?;
+        fields.push(declared.field)?;
+        push_behind(&mut behind, declared.behind)?;
+    }
+    Ok(DeclaredFields { fields, behind })
 }
 
 /// Adds the message behind a field, if one stands there.

@@ -1,18 +1,17 @@
 use Rattle.std.proofs.Common.{◌≡◌, [], map, take, flat_map}
 use Rattle.protobuf_parse_syntax.specs.Trees.{field_statement_view}
-use Rattle.protobuf_parse_model.specs.Contexts.{environment_in}
+use Rattle.protobuf_parse_model.specs.Contexts.{environment_in, place_view}
 use Rattle.protobuf_parse_model.specs.Descriptors.{field_view, message_view}
-use Rattle.protobuf_parse_model.specs.Fields.{field_statement_of}
-use Rattle.protobuf_parse_model.specs.Messages.{extending, extension_faults_of, messages_behind}
-use Rattle.protobuf_parse_model.proofs.convert.lists.fields_of_extend.Given as goal
+use Rattle.protobuf_parse_model.specs.Fields.{extension_faults, field_statement_of}
+use Rattle.protobuf_parse_model.specs.Messages.{messages_behind}
+use Rattle.protobuf_parse_model.proofs.convert.lists.declared_extensions.Given as goal
 
 abbrev pub invariant-loop-statement : goal.invariant-loop-statement
 invariant-loop-statement g l =
     let env = environment_in (g.C.CustomOptions.customs l.custom) l.context in
     let seen = map field_statement_view (take l.statement-index l.statements) in
     record {
-      no_fault : flat_map (extension_faults_of env l.extendee) seen ≡ [];
-      all : map field_view l.fields.items
-          ≡ map (field_statement_of env (extending env l.extendee)) seen;
+      no_fault : flat_map (extension_faults env) seen ≡ [];
+      all : map field_view l.fields.items ≡ map (field_statement_of env (place_view l.place)) seen;
       all_behind : map message_view l.behind.items ≡ flat_map (messages_behind env) seen;
     }
