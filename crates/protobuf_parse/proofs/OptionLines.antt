@@ -1,18 +1,19 @@
 -- The lines of options are those that the tables, the numbers and the statements say.
 use Rattle.std.proofs.Common.{◌≡◌, ℕ, Bool, true, false, cond, List, [], ◌∷◌, ◌++◌, map, take, drop}
 use Rattle.std.proofs.Common.{codes, bytes_eq, find, Option, Some, None, option_map, refl, sym, ap}
-use Rattle.std.proofs.Common.{ap₂, ◌∙◌, append_assoc, append-nil}
-use Rattle.std.proofs.lemmas.List.{flat_map-append}
+use Rattle.std.proofs.Common.{ap₂, ◌∙◌, append-nil}
+use Rattle.std.proofs.lemmas.List.Concat.{flat_map-append}
 use Rattle.protobuf_parse_syntax.specs.Trees.{ConstantSyntax, integer, truth, dotted, string, list}
 use Rattle.protobuf_parse_syntax.specs.Trees.{fields, OptionSyntax}
 use Rattle.protobuf_parse_model.specs.BuiltinOptions.{Words, words_of, word_said, set_by}
-use Rattle.protobuf_parse_model.specs.BuiltinOptions.{last_value, optimize_modes, c_types, js_types}
-use Rattle.protobuf_parse_model.specs.BuiltinOptions.{idempotency_levels, Table}
+use Rattle.protobuf_parse_model.specs.BuiltinOptions.{truth_option, word_option, last_value}
+use Rattle.protobuf_parse_model.specs.BuiltinOptions.{optimize_modes, c_types, js_types}
+use Rattle.protobuf_parse_model.specs.BuiltinOptions.{idempotency_levels}
 use Rattle.protobuf_parse_model.specs.BuiltinOptions.{file_table, message_table, field_table}
 use Rattle.protobuf_parse_model.specs.BuiltinOptions.{oneof_table, enum_table, enum_value_table}
 use Rattle.protobuf_parse_model.specs.BuiltinOptions.{service_table, method_table}
 use Rattle.protobuf_parse_model.specs.Descriptors.{Text}
-use Rattle.protobuf_parse_model.specs.OptionNumbers.{Numbers, file_numbers, message_numbers}
+use Rattle.protobuf_parse_model.specs.OptionNumbers.{file_numbers, message_numbers}
 use Rattle.protobuf_parse_model.specs.OptionNumbers.{field_numbers, oneof_numbers, enum_numbers}
 use Rattle.protobuf_parse_model.specs.OptionNumbers.{enum_value_numbers, service_numbers}
 use Rattle.protobuf_parse_model.specs.OptionNumbers.{method_numbers}
@@ -20,7 +21,7 @@ use Rattle.protobuf_parse_model.specs.OptionsSet.{file_options, message_options,
 use Rattle.protobuf_parse_model.specs.OptionsSet.{oneof_options, enum_options, enum_value_options}
 use Rattle.protobuf_parse_model.specs.OptionsSet.{service_options, method_options}
 use Rattle.protobuf_parse.specs.Listing.{Setting, setting_line, setting_lines, custom_line}
-use Rattle.protobuf_parse.specs.Listing.{optimize_for_word, ctype_word, jstype_word}
+use Rattle.protobuf_parse.specs.Listing.{truth_setting, optimize_for_word, ctype_word, jstype_word}
 use Rattle.protobuf_parse.specs.Listing.{idempotency_level_word, file_option_lines}
 use Rattle.protobuf_parse.specs.Listing.{message_option_lines, field_option_lines}
 use Rattle.protobuf_parse.specs.Listing.{oneof_option_lines, enum_option_lines}
@@ -37,18 +38,20 @@ PrintsNames {A} print words = map (λ (w : Text × A). print w.1) words ≡ word
 found_prints : {A : Type 0} (print : A → Text) (words : Words A) (n : Text)
     → PrintsNames print words
     → option_map print (option_map (λ (w : Text × A). w.1)
-        (find (λ (w : Text × A). bytes_eq w.0 n) words))
+    (find (λ (w : Text × A). bytes_eq w.0 n) words))
     ≡ find (λ (w : Text). bytes_eq w n) (words_of words)
 found_prints print [] n e = refl
 found_prints {A} print (w ∷ words) n e =
-    at (bytes_eq w.0 n) cc (found_prints print words n cc)
+    let first : print w.1 ≡ w.0 = cc in
+    let others : PrintsNames print words = cc in
+    at (bytes_eq w.0 n) first (found_prints print words n others)
   where
     at : (b : Bool) → print w.1 ≡ w.0
         → option_map print (option_map (λ (x : Text × A). x.1)
-            (find (λ (x : Text × A). bytes_eq x.0 n) words))
+        (find (λ (x : Text × A). bytes_eq x.0 n) words))
         ≡ find (λ (x : Text). bytes_eq x n) (words_of words)
         → option_map print (option_map (λ (x : Text × A). x.1)
-            (cond b (Some w) (find (λ (x : Text × A). bytes_eq x.0 n) words)))
+        (cond b (Some w) (find (λ (x : Text × A). bytes_eq x.0 n) words)))
         ≡ cond b (Some w.0) (find (λ (x : Text). bytes_eq x n) (words_of words))
     at true first rest = ap (λ t. Some t) first
     at false first rest = rest
@@ -70,11 +73,8 @@ three_parts : (level : ℕ) (a b c : List Setting) (after : Text)
     → setting_lines level a ++ setting_lines level b ++ setting_lines level c ++ after
     ≡ setting_lines level (a ++ b ++ c) ++ after
 three_parts level a b c after =
-    sym (ap (λ t. t ++ after) (flat_map-append (setting_line level) a (b ++ c)
-        ∙ ap (λ t. setting_lines level a ++ t) (flat_map-append (setting_line level) b c))
-    ∙ append_assoc (setting_lines level a) (setting_lines level b ++ setting_lines level c) after
-    ∙ ap (λ t. setting_lines level a ++ t)
-        (append_assoc (setting_lines level b) (setting_lines level c) after))
+    ap (λ t. t ++ after) (sym (flat_map-append (setting_line level) (a ++ b) c
+    ∙ ap (λ t. t ++ setting_lines level c) (flat_map-append (setting_line level) a b)))
 
 -- lines of equal settings
 same_lines : (level : ℕ) (custom : Text) (a b : List Setting) → a ≡ b
@@ -97,11 +97,15 @@ unfolding file_option_lines
 file_lines_are level custom [] = refl
 file_lines_are level custom (o ∷ os) =
     let said : List Setting = settings_said file_table file_numbers (o ∷ os) in
-    three_parts level _ _ _ (custom_line level custom)
-    ∙ same_lines level custom _ _
-        (ap (λ (w : Option Text). take 2 said ++ (codes "optimize_for", w) ∷ drop 3 said)
-        (word_prints optimize_for_word optimize_modes refl
-        (last_value (codes "optimize_for") (o ∷ os))))
+    let with : Option Text → List Setting =
+    λ w. take 2 said ++ (codes "optimize_for", w) ∷ drop 3 said in
+    let mode : Option Text = option_map optimize_for_word
+    (word_option optimize_modes (o ∷ os) (codes "optimize_for")) in
+    three_parts level (take 5 (with mode)) (take 7 (drop 5 (with mode))) (drop 12 (with mode))
+    (custom_line level custom)
+    ∙ same_lines level custom (with mode) said
+    (ap with (word_prints optimize_for_word optimize_modes refl
+    (last_value (codes "optimize_for") (o ∷ os))))
 
 pub message_lines_are : (level : ℕ) (custom : Text) (os : List OptionSyntax)
     → message_option_lines level (message_options custom os)
@@ -119,7 +123,7 @@ field_lines_are level custom (o ∷ os) =
     let said : List Setting = settings_said field_table field_numbers (o ∷ os) in
     same_lines level custom _ _
     (ap₂ (λ (c j : Option Text). (codes "ctype", c) ∷ take 3 (drop 1 said)
-        ++ (codes "jstype", j) ∷ drop 5 said)
+    ++ (codes "jstype", j) ∷ drop 5 said)
     (word_prints ctype_word c_types refl (last_value (codes "ctype") (o ∷ os)))
     (word_prints jstype_word js_types refl (last_value (codes "jstype") (o ∷ os))))
 
@@ -142,14 +146,16 @@ pub enum_value_lines_are : (level : ℕ) (custom : Text) (os : List OptionSyntax
     ≡ lines_said enum_value_table enum_value_numbers level custom os
 unfolding enum_value_option_lines
 enum_value_lines_are level custom [] = refl
-enum_value_lines_are level custom (o ∷ os) = one_line level custom _
+enum_value_lines_are level custom (o ∷ os) = one_line level custom
+    (truth_setting (codes "deprecated") (truth_option (o ∷ os) (codes "deprecated")))
 
 pub service_lines_are : (level : ℕ) (custom : Text) (os : List OptionSyntax)
     → service_option_lines level (service_options custom os)
     ≡ lines_said service_table service_numbers level custom os
 unfolding service_option_lines
 service_lines_are level custom [] = refl
-service_lines_are level custom (o ∷ os) = one_line level custom _
+service_lines_are level custom (o ∷ os) = one_line level custom
+    (truth_setting (codes "deprecated") (truth_option (o ∷ os) (codes "deprecated")))
 
 pub method_lines_are : (level : ℕ) (custom : Text) (os : List OptionSyntax)
     → method_option_lines level (method_options custom os)
