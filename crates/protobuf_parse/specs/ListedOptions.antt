@@ -4,7 +4,7 @@ use Rattle.std.specs.Prelude.{◌≡◌, ℕ, List, [], ◌∷◌, ◌++◌, map
 use Rattle.std.specs.Prelude.{option_map}
 use Rattle.protobuf_parse_syntax.specs.Trees.{ConstantSyntax, dotted, OptionSyntax}
 use Rattle.protobuf_parse_model.specs.BuiltinOptions.{BuiltinKind, a_text, a_truth, a_word, Table}
-use Rattle.protobuf_parse_model.specs.BuiltinOptions.{Words, words_of, last_value, set_by}
+use Rattle.protobuf_parse_model.specs.BuiltinOptions.{words_of, last_value, set_by}
 use Rattle.protobuf_parse_model.specs.BuiltinOptions.{text_said, truth_said, optimize_modes}
 use Rattle.protobuf_parse_model.specs.BuiltinOptions.{c_types, js_types, idempotency_levels}
 use Rattle.protobuf_parse_model.specs.Descriptors.{Text}
