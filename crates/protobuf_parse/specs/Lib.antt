@@ -1,5 +1,6 @@
 pub mod Listing
 pub mod Settings
+pub mod ListedOptions
 pub mod Parts
 pub mod Imports
 pub mod Walks

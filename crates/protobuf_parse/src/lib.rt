@@ -7,7 +7,8 @@ pub mod pure;
 mod run;
 
 pub use front::{
-    FsReader, FsResolver, ParsedAndTypechecked, Parser, fs_resolver, listing, program,
+    FsReader, FsResolver, ParsedAndTypechecked, Parser, builtin_options_are_listed, fs_resolver,
+    listing, program,
 };
 pub use protobuf_parse_base::names::{
     Components, ProtobufAbsPath, ProtobufAbsPathRef, ProtobufIdent, ProtobufIdentRef,
