@@ -12,7 +12,7 @@ use Rattle.protobuf_parse_model.specs.Descriptors.{Text, FileDescriptor, FieldDe
 use Rattle.protobuf_parse_model.specs.Declarations.{Declared}
 use Rattle.protobuf_parse_wire.specs.declared.reader.index.Index.{Index}
 use Rattle.protobuf_parse_wire.specs.Groups.{group}
-use Rattle.std.specs.HashMap.{IsEmpty}
+use Rattle.std.specs.BTreeMap.{IsEmpty}
 use Rattle.protobuf_parse_wire.specs.Declarations as declarations
 use Rattle.protobuf_parse_wire.specs.Declarations.{Declaration, within, declared_message, declared_messages, declared_in, package_scope, extensions_within, messages_named, messages_of, extends, extensions_of}
 use Rattle.protobuf_parse_wire.specs.Indexed.{parts_seen, messages_in, extensions_in, Adds, AddsMessages, Indexes}
@@ -28,15 +28,15 @@ joined_one_more g f xs i x lt is = ap (flat_map g) (mapped_one_more f xs i x lt 
 pub mapped_all : {X Y : Type 0} (f : X → Y) (xs : List X) (i : ℕ) → length xs ≤ i → map f (take i xs) ≡ map f xs
 mapped_all f xs i le = ap (map f) (take_all i xs le)
 
-named-append : (name : Text) (ds es : List Declaration) → messages_named name (ds ++ es) ≡ messages_named name ds ++ messages_named name es
-named-append name ds es = ap (map (λ d. d.parts)) (filter-append (λ d. bytes_eq name d.name) ds es) ∙ map-append _ _ _
+pub messages_named-append : (name : Text) (ds es : List Declaration) → messages_named name (ds ++ es) ≡ messages_named name ds ++ messages_named name es
+messages_named-append name ds es = ap (map (λ d. d.parts)) (filter-append (λ d. bytes_eq name d.name) ds es) ∙ map-append _ _ _
 
 pub adds_none : (index : Index) → Adds index index [] []
 adds_none index = record { messages = λ name. sym (append-nil (messages_in index name)); extensions = λ name. sym (append-nil (extensions_in index name)) }
 
 pub adds_more : (a b c : Index) (ds ds' : List Declaration) (es es' : List FieldDescriptor) → Adds a b ds es → Adds b c ds' es' → Adds a c (ds ++ ds') (es ++ es')
 adds_more a b c ds ds' es es' first second = record {
-  messages = λ name. second.messages name ∙ ap (λ ms. ms ++ messages_named name ds') (first.messages name) ∙ append_assoc (messages_in a name) (messages_named name ds) (messages_named name ds') ∙ ap (λ ms. messages_in a name ++ ms) (sym (named-append name ds ds'));
+  messages = λ name. second.messages name ∙ ap (λ ms. ms ++ messages_named name ds') (first.messages name) ∙ append_assoc (messages_in a name) (messages_named name ds) (messages_named name ds') ∙ ap (λ ms. messages_in a name ++ ms) (sym (messages_named-append name ds ds'));
   extensions = λ name. second.extensions name ∙ ap (λ fs. fs ++ filter (extends name) es') (first.extensions name) ∙ append_assoc (extensions_in a name) (filter (extends name) es) (filter (extends name) es') ∙ ap (λ fs. extensions_in a name ++ fs) (sym (filter-append (extends name) es es'));
 }
 

@@ -9,7 +9,7 @@ ghost use Rattle.protobuf_parse_wire.specs.Trees as trees;
 ghost use Rattle.protobuf_parse_wire.specs.CustomFaults.{integer_faults, message_value_faults, string_value_faults, truth_faults, value_faults};
 ghost use Rattle.protobuf_parse_wire.specs.CustomOptions.{item, message_item, value_items};
 ghost use Rattle.protobuf_parse_wire.specs.Given.{field_faults_of, field_items_of, given_faults, place_view};
-ghost use Rattle.protobuf_parse_wire.specs.Known.{files_seen};
+ghost use Rattle.protobuf_parse_wire.specs.Holding.{files_seen};
 ghost use Rattle.protobuf_parse_wire.specs.OptionFields.{takes, type_name_of};
 ghost use Rattle.protobuf_parse_wire.specs.Views.{entry_view};
 

@@ -6,7 +6,8 @@ ghost use Rattle.protobuf_parse_model.specs.Descriptors.{field_view};
 ghost use Rattle.protobuf_parse_model.specs.Faults.{Elaborates};
 ghost use Rattle.protobuf_parse_wire.specs.CustomFaults.{bracketed, constant_name_faults, extension_faults, field_name_faults, part_faults};
 ghost use Rattle.protobuf_parse_wire.specs.Given.{place_view};
-ghost use Rattle.protobuf_parse_wire.specs.Known.{field_seen, files_seen};
+ghost use Rattle.protobuf_parse_wire.specs.Holding.{files_seen};
+ghost use Rattle.protobuf_parse_wire.specs.Known.{field_seen};
 ghost use Rattle.protobuf_parse_wire.specs.OptionFields.{constant_field, extends_message, extension_meant, extension_named, field_named, part_field, type_name_of};
 
 use crate::customs::known_files::KnownFiles;
@@ -75,7 +76,7 @@ fn named_extension<'a>(
 
 /// Whether the field extends the message of that full name.
 fn extends_message(known: &KnownFiles<'_>, message: &str, field: &FieldDescriptorProto) -> bool
-    ensures { result ≡ extends_message (files_seen known.now.files.now) message.now
+    ensures { result ≡ extends_message (files_seen known.now.reach) message.now
         (field_view field.now) }
 {
     let Some(extendee) = &field.extendee else {
