@@ -1,11 +1,10 @@
 -- What stands at the places that the index holds, in the files that are picked.
 use Rattle.std.specs.Prelude.{String}
-use Rattle.std.proofs.Common.{◌≡◌, ℕ, suc, ◌+◌, ◌||◌, Bool, true, false, cond, if◌then◌else◌, List, [], ◌∷◌, ◌++◌, map, flat_map, filter, length, Option, Some, None, option_map, refl, sym, ap, ◌∙◌, arith, bytes_eq, nat_eq, slice_get, zero-add, append_assoc, append-nil, string_bytes, ◌<◌, drop, get_or}
+use Rattle.std.proofs.Common.{◌≡◌, ℕ, suc, ◌+◌, Bool, true, false, cond, if◌then◌else◌, List, [], ◌∷◌, ◌++◌, map, flat_map, filter, length, Option, Some, None, refl, sym, ap, ◌∙◌, arith, bytes_eq, nat_eq, slice_get, zero-add, append_assoc, append-nil, string_bytes, ◌<◌, drop, get_or}
 use Rattle.std.specs.Prelude.{option_to_list}
 use Rattle.std.specs.Global.{Global, Vec}
 use Rattle.std.specs.BTreeMap.{BTreeMap, IsEmpty}
 use Rattle.std.specs.List.{AllByRecursion, list_any}
-use Rattle.std.specs.List.Sorted.{IsStrictlyIncreasing}
 use Rattle.std.proofs.lemmas.Bool.{eqb-true}
 use Rattle.std.proofs.lemmas.Grind.{flat_map-append}
 use Rattle.std.proofs.lemmas.List.{map-append}
@@ -15,13 +14,12 @@ use Rattle.protobuf_parse_model.specs.Descriptors.{Text, FileDescriptor, Message
 use Rattle.protobuf_parse_wire.specs.declared.customs.known.Known.{Known}
 use Rattle.protobuf_parse_wire.specs.declared.customs.picked_files.PickedFiles.{PickedFiles}
 use Rattle.protobuf_parse_wire.specs.declared.customs.places.Place.{Place}
-use Rattle.protobuf_parse_wire.specs.declared.customs.places.DeclaredPlaces.{DeclaredPlaces}
 use Rattle.protobuf_parse_wire.specs.ByName.{named}
 use Rattle.protobuf_parse_wire.specs.Declarations.{Declaration, declared_in, messages_named}
-use Rattle.protobuf_parse_wire.specs.Holding.{AddsSpots, Holds, Knows, Picks, Spot, at_spot, at_spots, beside, file_numbered, files_seen, files_under, inside_of, option_join, placed_known, spot_in, spot_view, spots_in, spots_known, spots_of, spots_under}
+use Rattle.protobuf_parse_wire.specs.Holding.{AddsSpots, Picks, Spot, at_spot, at_spots, beside, file_numbered, files_seen, inside_of, placed_known, spot_in, spot_view, spots_in, spots_known, spots_of, spots_under}
 use Rattle.protobuf_parse_wire.specs.Groups.{group}
 use Rattle.protobuf_parse_wire.specs.Indexed.{parts_seen}
-use Rattle.protobuf_parse_wire.specs.Places.{Inside, Placed, down, inside_file, one_of, placed_messages}
+use Rattle.protobuf_parse_wire.specs.Places.{Inside, Placed, one_of, placed_messages}
 use Rattle.protobuf_parse_wire.proofs.Adding.{messages_named-append}
 use Rattle.protobuf_parse_wire.proofs.Found.{mapped_rest}
 use Rattle.protobuf_parse_wire.proofs.Placing.{StandsIn, declared_of, message_of, messages_without}

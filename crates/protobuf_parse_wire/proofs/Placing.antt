@@ -3,11 +3,11 @@ use Rattle.std.proofs.Common.{◌≡◌, ℕ, suc, ◌+◌, List, [], ◌∷◌,
 use Rattle.std.specs.List.{AllByRecursion}
 use Rattle.std.proofs.lemmas.List.{map-append}
 use Rattle.protobuf_parse_model.specs.Declarations.{Declared}
-use Rattle.protobuf_parse_model.specs.Descriptors.{Text, FileDescriptor, FieldDescriptor, EnumDescriptor, MessageParts, MessageDescriptor, MessageDescriptors, a_message, no_messages, messages, messages_of_list, list_of, list_of_is, message_parts, message_view, message_view_is}
+use Rattle.protobuf_parse_model.specs.Descriptors.{Text, FileDescriptor, MessageParts, MessageDescriptor, MessageDescriptors, a_message, no_messages, messages, messages_of_list, list_of, list_of_is, message_parts, message_view, message_view_is}
 use Rattle.protobuf_parse_model.specs.declared.descriptor.DescriptorProto.{DescriptorProto, out-DescriptorProto}
-use Rattle.protobuf_parse_wire.specs.Declarations.{Declaration, declared_extensions, declared_in, declared_message, declared_messages, extensions_within, package_scope, within}
+use Rattle.protobuf_parse_wire.specs.Declarations.{Declaration, declared_extensions, declared_in, declared_message, declared_messages, package_scope, within}
 use Rattle.protobuf_parse_wire.specs.Indexed.{parts_seen}
-use Rattle.protobuf_parse_wire.specs.OptionFields.{declared_enums, enum_in}
+use Rattle.protobuf_parse_wire.specs.OptionFields.{declared_enums}
 use Rattle.protobuf_parse_wire.specs.Places.{Inside, Placed, down, enum_name, enums_inside, extensions_inside, field_name, inside_file, inside_message, messages_inside, next_inside, one_of, path_to, placed_each, placed_enums, placed_extensions, placed_in, placed_inside, placed_list, placed_message, placed_messages, placed_nested}
 use Rattle.protobuf_parse_wire.proofs.SoundSets.{both, flat}
 

@@ -1,5 +1,5 @@
 -- What the code holds of the files' descriptors: references to them, and to what they declare.
-use Rattle.std.specs.Prelude.{ℤ, List, [], map, flat_map, string_bytes, bytes_eq, Option, option_map, if◌then◌else◌}
+use Rattle.std.specs.Prelude.{ℤ, List, [], flat_map, string_bytes, bytes_eq, Option, option_map, if◌then◌else◌}
 use Rattle.std.specs.List.{find}
 use Rattle.std.specs.Borrow.{Bor}
 use Rattle.protobuf_parse_model.specs.declared.descriptor.EnumDescriptorProto.{EnumDescriptorProto}
