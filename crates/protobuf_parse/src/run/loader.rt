@@ -16,7 +16,7 @@ ghost use Rattle.protobuf_parse.specs.declared.run.log.ReadEntry.{ReadEntry};
 ghost use Rattle.protobuf_parse_model.specs.Descriptors.{Text};
 ghost use Rattle.protobuf_parse.specs.Walks.{Event, among, at, checks, events, input_walk, keep, statements, walk};
 ghost use Rattle.protobuf_parse.specs.Run.{Files, IsCounted, are_same_bytes, input_view, StandsInCheck, StandsInCycle, StandsInElab, StandsInLong, origin_given, rows, text_given};
-ghost use Rattle.protobuf_parse.specs.Loading.{AreKnown, AreJoined, AreNumbered, Describes, Goes, GoesOn, Good, Grows, IsDecided, IsElabFault, IsPlaced, IsReaders, IsShadowed, OrMemory, ReadsTree, SettlesOver, asked_by, faults_over, file_at, legal_by, named_trees, plains_over, texts, trees_of, with_next};
+ghost use Rattle.protobuf_parse.specs.Loading.{AreKnown, AreJoined, AreNumbered, Begins, Describes, Goes, GoesOn, Good, Grows, IsDecided, IsElabFault, IsPlaced, IsReaders, IsShadowed, OrMemory, ReadsTree, SettlesOver, asked_by, faults_over, file_at, legal_by, named_trees, plain_in, plain_or, plains_over, plains_with, texts, trees_of, with_next};
 ghost use Rattle.protobuf_parse.specs.Frames.{Joined, Meets, is_public_at, number_if, StandsMet, path_of};
 
 use crate::run::asking::{answer, content, opened, origin, unreadable};
@@ -26,9 +26,10 @@ use crate::run::frame::LoadFrame;
 use crate::run::log::{ReadEntry, ReadOutcome, RunInput};
 use crate::run::reach::{ImportNumbers, Sights, sights_of};
 use crate::run::source::{InputReader, ProtoPathResolver, Sources};
+use crate::run::tables::Tables;
 use indexmap::IndexMap;
 use protobuf_parse_base::proto_path::ProtoPathBuf;
-use protobuf_parse_model::{Declarations, ElabError, ElabFailure, FileDescriptorProto};
+use protobuf_parse_model::{ElabError, ElabFailure, FileDescriptorProto};
 use protobuf_parse_syntax::{FileStatement, FileTree, ImportVis};
 use std::alloc::{AllocError, Global};
 use std::mem;
@@ -68,7 +69,7 @@ pub type LoadedFiles = IndexMap<String, LoadedFile>;
 pub struct Loader {
     pub loaded: LoadedFiles,
     /// What the loaded files declare, by their numbers.
-    pub names: Declarations,
+    pub tables: Tables,
     pub reads: Vec<ReadEntry>,
     /// The files whose imports are being loaded, each imported by the one before it.
     pub chain: Vec<String>,
@@ -92,7 +93,8 @@ pub fn load_inputs<R: ProtoPathResolver, I: InputReader>(
     inputs: &[RunInput],
 ) -> Result<(), RunFault>
     requires loaded { loader.old.loaded.entries ≡ [] }
-    requires names { Tells loader.old.names [] }
+    requires names { Tells loader.old.tables.names [] }
+    requires places { Begins loader.old.tables.places [] }
     requires reads { loader.old.reads.items ≡ [] }
     requires chain { loader.old.chain.items ≡ [] }
     requires meets { loader.old.meets ≡ 0 }
@@ -103,7 +105,7 @@ pub fn load_inputs<R: ProtoPathResolver, I: InputReader>(
     ensures count { (files : Files) → GoesOn files (rows sources.now.bundled.now) loader.new.reads.items
         → IsCounted loader.new.meets (length inputs.now + statements files.trees (events files.trees (map input_view inputs.now))) result }
     ensures decided { IsDecided (rows sources.now.bundled.now) loader.new.reads.items }
-    ensures known { OnOk result (AreKnown loader.new.loaded.entries loader.new.names loader.new.reads.items) }
+    ensures known { OnOk result (AreKnown loader.new.loaded.entries loader.new.tables loader.new.reads.items) }
 {
     for input in inputs {
         load_input(alloc, loader, sources, input)?;
@@ -119,7 +121,7 @@ fn load_input<R: ProtoPathResolver, I: InputReader>(
     input: &RunInput,
 ) -> Result<(), RunFault>
     requires chain { loader.old.chain.items ≡ [] }
-    requires known { AreKnown loader.old.loaded.entries loader.old.names loader.old.reads.items }
+    requires known { AreKnown loader.old.loaded.entries loader.old.tables loader.old.reads.items }
     requires room { loader.old.meets + 1 ≤ 2 ^ 65 + length loader.old.reads.items * 2 ^ 64 }
     ensures grows { Grows loader.old.reads.items loader.new.reads.items }
     ensures chain { OnOk result (loader.new.chain.items ≡ []) }
@@ -138,7 +140,7 @@ fn load_input<R: ProtoPathResolver, I: InputReader>(
         (loader.old.meets + 1 + statements files.trees (keep (kept ++ checks kept (input_view input.now)) (input_walk files.trees (input_view input.now)))) result }
     ensures decided { IsDecided (rows sources.now.bundled.now) loader.old.reads.items
         → IsDecided (rows sources.now.bundled.now) loader.new.reads.items }
-    ensures known { OnOk result (AreKnown loader.new.loaded.entries loader.new.names loader.new.reads.items) }
+    ensures known { OnOk result (AreKnown loader.new.loaded.entries loader.new.tables loader.new.reads.items) }
 {
     match input {
         RunInput::Named(name) => load_file(alloc, loader, sources, name, None),
@@ -158,10 +160,10 @@ fn check_loaded<R: ProtoPathResolver, I: InputReader>(
     name: &ProtoPathBuf,
     fs_path: &str,
 ) -> Result<(), RunFault>
-    requires known { AreKnown loader.old.loaded.entries loader.old.names loader.old.reads.items }
+    requires known { AreKnown loader.old.loaded.entries loader.old.tables loader.old.reads.items }
     ensures chain { loader.new.chain ≡ loader.old.chain }
     ensures loaded { loader.new.loaded ≡ loader.old.loaded }
-    ensures names { loader.new.names ≡ loader.old.names }
+    ensures names { loader.new.tables ≡ loader.old.tables }
     ensures meets { loader.new.meets ≡ loader.old.meets }
     ensures grows { Grows loader.old.reads.items loader.new.reads.items }
     ensures more { length loader.old.reads.items ≤ length loader.new.reads.items }
@@ -245,7 +247,7 @@ fn note(
     outcome: ReadOutcome,
 ) -> Result<(), AllocError>
     ensures loaded { loader.new.loaded ≡ loader.old.loaded }
-    ensures names { loader.new.names ≡ loader.old.names }
+    ensures names { loader.new.tables ≡ loader.old.tables }
     ensures chain { loader.new.chain ≡ loader.old.chain }
     ensures meets { loader.new.meets ≡ loader.old.meets }
     ensures ok { OnOk result ((e : ReadEntry) × (loader.new.reads.items ≡ loader.old.reads.items ++ e ∷ []) × (path_buf_text e.path ≡ path_buf_text path.now) × (e.outcome ≡ outcome)) }
@@ -265,7 +267,7 @@ fn load_file<R: ProtoPathResolver, I: InputReader>(
     fs_path: Option<&str>,
 ) -> Result<(), RunFault>
     requires chain { loader.old.chain.items ≡ [] }
-    requires known { AreKnown loader.old.loaded.entries loader.old.names loader.old.reads.items }
+    requires known { AreKnown loader.old.loaded.entries loader.old.tables loader.old.reads.items }
     requires room { loader.old.meets + 1 ≤ 2 ^ 65 + length loader.old.reads.items * 2 ^ 64 }
     ensures grows { Grows loader.old.reads.items loader.new.reads.items }
     ensures chain { OnOk result (loader.new.chain.items ≡ []) }
@@ -288,7 +290,7 @@ fn load_file<R: ProtoPathResolver, I: InputReader>(
         (loader.old.meets + 1 + statements files.trees (keep kept (walk files.trees p (asked_by fs_path.entry) LIMIT [] p))) result }
     ensures decided { IsDecided (rows sources.now.bundled.now) loader.old.reads.items
         → IsDecided (rows sources.now.bundled.now) loader.new.reads.items }
-    ensures known { OnOk result (AreKnown loader.new.loaded.entries loader.new.names loader.new.reads.items) }
+    ensures known { OnOk result (AreKnown loader.new.loaded.entries loader.new.tables loader.new.reads.items) }
 {
     let first = meet(alloc, loader, sources, input, input, fs_path)?;
     let mut top = match first {
@@ -333,7 +335,7 @@ fn meet<R: ProtoPathResolver, I: InputReader>(
     requires chain { length loader.old.chain.items ≤ LIMIT }
     requires room { loader.old.meets + 1 < 2 ^ 128 }
     ensures loaded { loader.new.loaded ≡ loader.old.loaded }
-    ensures names { loader.new.names ≡ loader.old.names }
+    ensures names { loader.new.tables ≡ loader.old.tables }
     ensures meets { loader.new.meets ≡ loader.old.meets + 1 }
     ensures grows { Grows loader.old.reads.items loader.new.reads.items }
     ensures decided { IsDecided (rows sources.now.bundled.now) loader.old.reads.items
@@ -426,12 +428,13 @@ fn push_if(numbers: &mut Vec<usize>, public: bool, number: usize) -> Result<(), 
 fn close(alloc: Global, loader: &mut Loader, frame: LoadFrame) -> Result<Placed, RunFault>
     requires low { frame.height < LIMIT }
     requires few { statements_in (file_view frame.tree) ≤ 2147483647 }
+    requires begins { Begins loader.old.tables.places (map plain_in loader.old.loaded.entries) }
     ensures reads { loader.new.reads ≡ loader.old.reads }
     ensures meets { loader.new.meets ≡ loader.old.meets }
     ensures chain { (chain : List Text) → texts loader.old.chain.items ≡ chain ++ path_of frame ∷ [] → texts loader.new.chain.items ≡ chain }
     ensures height { IfOk result (λ placed. placed.height ≡ frame.height + 1) }
-    ensures settles { Tells loader.old.names (trees_of (named_trees loader.old.loaded.entries))
-        → SettlesOver (path_of frame) (file_view frame.tree) (frame.height + 1) frame.read frame.below.items frame.public.items loader.old.reads.items loader.old.loaded.entries loader.new.loaded.entries loader.new.names result }
+    ensures settles { Tells loader.old.tables.names (trees_of (named_trees loader.old.loaded.entries))
+        → SettlesOver (path_of frame) (file_view frame.tree) (frame.height + 1) frame.read frame.below.items frame.public.items loader.old.reads.items loader.old.loaded.entries loader.new.loaded.entries loader.new.tables result }
 {
     let LoadFrame {
         path,
@@ -511,7 +514,7 @@ fn read_tree<R: ProtoPathResolver, I: InputReader>(
     fs_path: Option<&str>,
 ) -> Result<FileTree, RunFault>
     ensures loaded { loader.new.loaded ≡ loader.old.loaded }
-    ensures names { loader.new.names ≡ loader.old.names }
+    ensures names { loader.new.tables ≡ loader.old.tables }
     ensures chain { loader.new.chain ≡ loader.old.chain }
     ensures meets { loader.new.meets ≡ loader.old.meets }
     ensures read { ReadsTree (legal_by R.may_answer I.may_read sources.now) (rows sources.now.bundled.now) (asked_by fs_path.entry) (path_buf_text path.now) loader.old.reads.items loader.new.reads.items result }
@@ -557,15 +560,16 @@ fn settle(
     read: usize,
 ) -> Result<Placed, RunFault>
     requires few { statements_in (file_view tree) ≤ 2147483647 }
+    requires begins { Begins loader.old.tables.places (map plain_in loader.old.loaded.entries) }
     ensures reads { loader.new.reads ≡ loader.old.reads }
     ensures chain { loader.new.chain ≡ loader.old.chain }
     ensures meets { loader.new.meets ≡ loader.old.meets }
     ensures height { IfOk result (λ placed. placed.height ≡ height) }
-    ensures settles { Tells loader.old.names (trees_of (named_trees loader.old.loaded.entries))
-        → SettlesOver (string_bytes path) (file_view tree) height read imports.now.all.now imports.now.public.now loader.old.reads.items loader.old.loaded.entries loader.new.loaded.entries loader.new.names result }
+    ensures settles { Tells loader.old.tables.names (trees_of (named_trees loader.old.loaded.entries))
+        → SettlesOver (string_bytes path) (file_view tree) height read imports.now.all.now imports.now.public.now loader.old.reads.items loader.old.loaded.entries loader.new.loaded.entries loader.new.tables result }
 {
     let sights = sights_of(alloc, &loader.loaded, imports)?;
-    loader.names.add(alloc, loader.loaded.len(), &tree)?;
+    loader.tables.names.add(alloc, loader.loaded.len(), &tree)?;
     let described = descriptor_of(alloc, loader, &sights, &path, &tree, read)?;
     let Described { descriptor, plain } = described;
     let Sights {
@@ -601,7 +605,7 @@ fn add(loaded: &mut LoadedFiles, path: String, file: LoadedFile) -> Result<Place
 /// What a file becomes over the files that it reaches and sees, or L10 of this read.
 fn descriptor_of(
     alloc: Global,
-    loader: &Loader,
+    loader: &mut Loader,
     sights: &Sights,
     path: &str,
     tree: &FileTree,
@@ -610,14 +614,29 @@ fn descriptor_of(
     requires few { statements_in (file_view tree.now) ≤ 2147483647 }
     requires reach { IsStrictlyIncreasing sights.now.reach.items }
     requires sight { IsStrictlyIncreasing sights.now.sight.items }
-    ensures ok { (files : List FileSyntax) → Tells loader.now.names files →
-        IfOk result (λ d. Describes loader.now.loaded.entries files sights.now.reach.items sights.now.sight.items path.now (file_view tree.now) (Ok d)) }
-    ensures err { (files : List FileSyntax) → Tells loader.now.names files → let t = file_view tree.now in
-        IfErr result (λ f. (e : ReadEntry) → slice_get loader.now.reads.items read ≡ Some e → path_buf_text e.path ≡ path.now
+    requires begins { Begins loader.old.tables.places (map plain_in loader.old.loaded.entries) }
+    ensures loaded { loader.new.loaded ≡ loader.old.loaded }
+    ensures names { loader.new.tables.names ≡ loader.old.tables.names }
+    ensures reads { loader.new.reads ≡ loader.old.reads }
+    ensures chain { loader.new.chain ≡ loader.old.chain }
+    ensures meets { loader.new.meets ≡ loader.old.meets }
+    ensures ok { (files : List FileSyntax) → Tells loader.old.tables.names files →
+        IfOk result (λ d. Describes loader.old.loaded.entries files sights.now.reach.items sights.now.sight.items path.now (file_view tree.now) (Ok d)) }
+    ensures err { (files : List FileSyntax) → Tells loader.old.tables.names files → let t = file_view tree.now in
+        IfErr result (λ f. (e : ReadEntry) → slice_get loader.old.reads.items read ≡ Some e → path_buf_text e.path ≡ path.now
         → OrMemory f (StandsInElab (origin_given path.now (Some e.outcome))
-        (faults_over files (plains_over loader.now.loaded.entries files sights.now.sight.items path.now t) sights.now.reach.items sights.now.sight.items t) f)) }
+        (faults_over files (plains_over loader.old.loaded.entries files sights.now.sight.items path.now t) sights.now.reach.items sights.now.sight.items t) f)) }
+    ensures begins { IfOk result (λ d. Begins loader.new.tables.places
+        (plains_with loader.old.loaded.entries (plain_or d.plain d.descriptor))) }
 {
-    match elaborated(alloc, loader, sights, path, tree) {
+    match elaborated(
+        alloc,
+        &loader.loaded,
+        &mut loader.tables,
+        sights,
+        path,
+        tree,
+    ) {
         Ok(described) => Ok(described),
         Err(ElabFailure::Memory) => Err(RunFault::Memory),
         Err(ElabFailure::Fault(error)) => Err(refused(alloc, &loader.reads, read, path, error)),

@@ -258,7 +258,7 @@ returns-in_err-placed-clause-goes g c files kept go good =
     let none = c.files.invariant.unloaded (path_of c.files.top) (among-last (path_of c.files.top) (chain_of [] c.files.stack.items)) in
     let back = goes-same files _ _ _ reads go in
     let r = c.files.invariant.inside files kept back good in
-    let k = running-closes legal files kept _ (path_buf_text c.args.input.now) c.args.loader.now.meets c.files.stack.items c.files.top _ _ c.close.new.loader.loaded.entries _ c.close.new.loader.names _ (Err c.in_err-placed.field-0.0) r _ _ go c.files.invariant.known c.files.invariant.taken none c.files.invariant.off le (omega (arith, c.files.invariant.low)) (c.in_err-placed.ensures.settles c.files.invariant.known.tells) in
+    let k = running-closes legal files kept _ (path_buf_text c.args.input.now) c.args.loader.now.meets c.files.stack.items c.files.top _ _ c.close.new.loader.loaded.entries _ c.close.new.loader.tables _ (Err c.in_err-placed.field-0.0) r _ _ go c.files.invariant.known c.files.invariant.taken none c.files.invariant.off le (omega (arith, c.files.invariant.low)) (c.in_err-placed.ensures.settles c.files.invariant.known.tells) in
     let p = err_from_is_err_and c.from_residual-in_err-placed.result c.from_residual-in_err-placed.ensures.1 in
     rw (p.1, p.2, reads) (running-refused legal files kept _ (path_buf_text c.args.input.now) c.args.loader.now.meets c.files.stack.items c.files.top _ _ _ c.in_err-placed.field-0.0 r le k)
 
@@ -286,7 +286,7 @@ returns-in_default-pop-clause-goes g c files kept go good =
     let none = c.files.invariant.unloaded (path_of c.files.top) (among-last (path_of c.files.top) (chain_of [] c.files.stack.items)) in
     let back = goes-same files _ _ _ reads go in
     let r = c.files.invariant.inside files kept back good in
-    let k = running-closes legal files kept _ (path_buf_text c.args.input.now) c.args.loader.now.meets c.files.stack.items c.files.top _ _ c.close.new.loader.loaded.entries _ c.close.new.loader.names _ (Ok c.in_ok-placed.placed) r _ _ go c.files.invariant.known c.files.invariant.taken none c.files.invariant.off le (omega (arith, c.files.invariant.low)) (c.in_ok-placed.ensures.settles c.files.invariant.known.tells) in
+    let k = running-closes legal files kept _ (path_buf_text c.args.input.now) c.args.loader.now.meets c.files.stack.items c.files.top _ _ c.close.new.loader.loaded.entries _ c.close.new.loader.tables _ (Ok c.in_ok-placed.placed) r _ _ go c.files.invariant.known c.files.invariant.taken none c.files.invariant.off le (omega (arith, c.files.invariant.low)) (c.in_ok-placed.ensures.settles c.files.invariant.known.tells) in
     rw reads (running-end legal files kept _ (path_buf_text c.args.input.now) c.args.loader.now.meets c.files.stack.items c.files.top c.in_ok-placed.placed _ _ _ _ r empty le k)
 
 pub returns-in_default-pop-clause-count : goal.returns-in_default-pop-clause-count
@@ -367,7 +367,7 @@ files-preserved-in_default g c =
           let none = c.files.invariant.unloaded (path_of c.files.top) (among-last (path_of c.files.top) (chain_of [] c.files.stack.items)) in
           let back = goes-same files _ _ _ reads go in
           let r = c.files.invariant.inside files kept back good in
-          let k = running-closes legal files kept _ (path_buf_text c.args.input.now) c.args.loader.now.meets c.files.stack.items c.files.top _ _ c.close.new.loader.loaded.entries _ c.close.new.loader.names _ (Ok c.in_ok-placed.placed) r _ _ go c.files.invariant.known c.files.invariant.taken none c.files.invariant.off le (omega (arith, c.files.invariant.low)) (c.in_ok-placed.ensures.settles c.files.invariant.known.tells) in
+          let k = running-closes legal files kept _ (path_buf_text c.args.input.now) c.args.loader.now.meets c.files.stack.items c.files.top _ _ c.close.new.loader.loaded.entries _ c.close.new.loader.tables _ (Ok c.in_ok-placed.placed) r _ _ go c.files.invariant.known c.files.invariant.taken none c.files.invariant.off le (omega (arith, c.files.invariant.low)) (c.in_ok-placed.ensures.settles c.files.invariant.known.tells) in
           rw (reads, c.close.ensures.meets) (running-close legal files kept _ (path_buf_text c.args.input.now) c.args.loader.now.meets c.pop.new.self.items c.files.stack.items c.files.top c.in-Some-pop.parent c.join.new.frame c.in_ok-placed.placed w.1.import _ _ _ _ r s le k w.1.at w.1.named j);
     }
 
@@ -379,7 +379,7 @@ returns-in_err-join-clause-goes g c files kept go good =
     let none = c.files.invariant.unloaded (path_of c.files.top) (among-last (path_of c.files.top) (chain_of [] c.files.stack.items)) in
     let back = goes-same files _ _ _ reads go in
     let r = c.files.invariant.inside files kept back good in
-    let k = running-closes legal files kept _ (path_buf_text c.args.input.now) c.args.loader.now.meets c.files.stack.items c.files.top _ _ c.close.new.loader.loaded.entries _ c.close.new.loader.names _ (Ok c.in_ok-placed.placed) r _ _ go c.files.invariant.known c.files.invariant.taken none c.files.invariant.off le (omega (arith, c.files.invariant.low)) (c.in_ok-placed.ensures.settles c.files.invariant.known.tells) in
+    let k = running-closes legal files kept _ (path_buf_text c.args.input.now) c.args.loader.now.meets c.files.stack.items c.files.top _ _ c.close.new.loader.loaded.entries _ c.close.new.loader.tables _ (Ok c.in_ok-placed.placed) r _ _ go c.files.invariant.known c.files.invariant.taken none c.files.invariant.off le (omega (arith, c.files.invariant.low)) (c.in_ok-placed.ensures.settles c.files.invariant.known.tells) in
     let p = err_from_is_err_and c.from_residual-in_err-join.result c.from_residual-in_err-join.ensures.1 in
     rw (p.1, reads) (closed-breaks legal files kept _ (path_buf_text c.args.input.now) c.args.loader.now.meets c.files.stack.items c.files.top c.in_ok-placed.placed _ _ _ _ p.0 r le k p.2)
 
