@@ -1,10 +1,13 @@
 -- The index of places, as it is caught up with the loaded files.
-use Rattle.std.proofs.Common.{◌≡◌, ℕ, zero, suc, ◌+◌, ◌<◌, ◌≤◌, List, [], ◌∷◌, ◌++◌, map, length, Some, None, refl, sym, ap, ◌∙◌, arith, append-nil, append_assoc, subst, slice_get, length-append, flat_map}
+use Rattle.std.proofs.Common.{◌≡◌, ℕ, zero, suc, ◌+◌, ◌<◌, ◌≤◌, List, [], ◌∷◌, ◌++◌, map, length}
+use Rattle.std.proofs.Common.{Some, None, refl, sym, ap, ◌∙◌, arith, append-nil, append_assoc}
+use Rattle.std.proofs.Common.{subst, slice_get, length-append, flat_map}
 use Rattle.std.specs.Prelude.{option_to_list}
 use Rattle.std.proofs.lemmas.List.{length-map, map-append}
 use Rattle.protobuf_parse_model.specs.Descriptors.{FileDescriptor}
 use Rattle.protobuf_parse_wire.specs.Holding.{Holds}
-use Rattle.protobuf_parse.specs.Loading.{Begins, Entry, IsWhole, picked_plains, plain_in, plains_with}
+use Rattle.protobuf_parse.specs.Loading.{Begins, Entry, IsWhole, picked_plains, plain_in}
+use Rattle.protobuf_parse.specs.Loading.{plains_with}
 use Rattle.protobuf_parse.specs.declared.run.tables.RunPlaces.{RunPlaces}
 
 pub whole-begins : (places : RunPlaces) (plains : List FileDescriptor) → IsWhole places plains

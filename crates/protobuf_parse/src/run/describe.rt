@@ -10,7 +10,8 @@ ghost use Rattle.protobuf_parse_model.specs.FileDescriptor.{environment, file_fa
 ghost use Rattle.protobuf_parse_model.specs.Linking.{link_faults};
 ghost use Rattle.protobuf_parse_model.specs.Tables.{Tells, picked};
 ghost use Rattle.protobuf_parse_wire.specs.Holding.{Holds};
-ghost use Rattle.protobuf_parse.specs.Loading.{Begins, Describes, customs_over, plain_in, plain_or, plain_seen, plains_with};
+ghost use Rattle.protobuf_parse.specs.Loading.{Begins, Describes, customs_over, plain_in, plain_or};
+ghost use Rattle.protobuf_parse.specs.Loading.{plain_seen, plains_with};
 
 use crate::run::loader::LoadedFiles;
 use crate::run::reach::Sights;
@@ -30,7 +31,8 @@ pub struct Described {
     pub plain: Option<FileDescriptorProto>,
 }
 
-/// What a file becomes over the files that it reaches and sees, if none of their names is declared twice.
+/// What a file becomes over the files that it reaches and sees, if none of their names is declared
+/// twice.
 pub fn elaborated(
     alloc: Global,
     loaded: &LoadedFiles,
@@ -45,7 +47,8 @@ pub fn elaborated(
     requires begins { Begins tables.old.places (map plain_in loaded.now.entries) }
     ensures names { tables.new.names ≡ tables.old.names }
     ensures describes { (files : List FileSyntax) → Tells tables.old.names files
-        → Describes loaded.now.entries files sights.now.reach.items sights.now.sight.items path.now (file_view tree.now) result }
+        → Describes loaded.now.entries files sights.now.reach.items sights.now.sight.items path.now
+        (file_view tree.now) result }
     ensures begins { IfOk result (λ d. Begins tables.new.places
         (plains_with loaded.now.entries (plain_or d.plain d.descriptor))) }
 {
@@ -67,8 +70,8 @@ pub fn elaborated(
     }
 }
 
-/// The same, with its custom options: they are looked up in the descriptors of the files that it reaches,
-/// its own among them.
+/// The same, with its custom options: they are looked up in the descriptors of the files that it
+/// reaches, its own among them.
 fn with_customs(
     alloc: Global,
     loaded: &LoadedFiles,
@@ -81,7 +84,8 @@ fn with_customs(
     requires begins { Begins places.old (map plain_in loaded.now.entries) }
     ensures describes { (files : List FileSyntax) → Tells seen.now.declarations.now files
         → link_faults (picked files seen.now.reach.now) ≡ []
-        → Describes loaded.now.entries files seen.now.reach.now seen.now.sight.now path.now (file_view tree.now) result }
+        → Describes loaded.now.entries files seen.now.reach.now seen.now.sight.now path.now
+        (file_view tree.now) result }
     ensures begins { IfOk result (λ d. Begins places.new
         (plains_with loaded.now.entries (plain_or d.plain d.descriptor))) }
 {
@@ -105,10 +109,12 @@ fn spelled(
     tree: &FileTree,
 ) -> Result<FileDescriptorProto, ElabFailure>
     requires few { statements_in (file_view tree.now) ≤ 2147483647 }
-    requires holds { Holds places.now (plains_with loaded.now.entries (described.file_view plain.now)) }
+    requires holds { Holds places.now
+        (plains_with loaded.now.entries (described.file_view plain.now)) }
     ensures { (files : List FileSyntax) → Tells seen.now.declarations.now files
         → let plains = plains_with loaded.now.entries (described.file_view plain.now) in
-        let sight = seen.now.sight.now in let customs = customs_over plains seen.now.reach.now sight in
+        let sight = seen.now.sight.now in
+        let customs = customs_over plains seen.now.reach.now sight in
         let t = file_view tree.now in let env = environment (picked files sight) customs t in
         Elaborates described.file_view result (file_faults env t) (file_of env path.now t) }
 {
@@ -126,7 +132,8 @@ fn spelled(
     elaborate(alloc, path, tree, seen, &known)
 }
 
-/// The descriptors of the files with these numbers, without custom options. The next file's is `own`.
+/// The descriptors of the files with these numbers, without custom options. The next file's is
+/// `own`.
 fn plains<'a>(
     alloc: Global,
     loaded: &'a LoadedFiles,
@@ -149,7 +156,8 @@ fn plain_at<'a>(
     own: &'a FileDescriptorProto,
     number: usize,
 ) -> Option<&'a FileDescriptorProto>
-    ensures { option_map plain_seen result ≡ slice_get (plains_with loaded.now.entries (described.file_view own.now)) number }
+    ensures { option_map plain_seen result
+        ≡ slice_get (plains_with loaded.now.entries (described.file_view own.now)) number }
 {
     match loaded.get_index(number) {
         Some((_, file)) => Some(plain_of(file)),

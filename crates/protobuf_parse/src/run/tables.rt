@@ -19,8 +19,8 @@ pub struct Tables {
     pub places: RunPlaces,
 }
 
-/// Where files of a run declare what custom options name. It is caught up with the loaded files when one
-/// comes that sets custom options.
+/// Where files of a run declare what custom options name. It is caught up with the loaded files
+/// when one comes that sets custom options.
 #[derive(Drop)]
 pub struct RunPlaces {
     pub declared: DeclaredPlaces,
@@ -44,8 +44,8 @@ impl Tables {
     }
 }
 
-/// Adds the loaded files that aren't in it, and then the next file, of which `own` is the descriptor
-/// without custom options.
+/// Adds the loaded files that aren't in it, and then the next file, of which `own` is the
+/// descriptor without custom options.
 pub fn add_next(
     places: &mut RunPlaces,
     alloc: Global,
