@@ -6,7 +6,7 @@ use Rattle.protobuf_parse_base.specs.PathViews.{path_buf_text}
 use Rattle.protobuf_parse_syntax.specs.Trees.{FileSyntax, file_view}
 use Rattle.protobuf_parse_syntax.specs.declared.tree.FileTree.{FileTree}
 use Rattle.protobuf_parse_model.specs.Descriptors.{Text}
-use Rattle.protobuf_parse_model.specs.declared.scope.seen.Declarations.{Declarations}
+use Rattle.protobuf_parse.specs.declared.run.tables.Tables.{Tables}
 use Rattle.protobuf_parse.specs.declared.run.fault.RunFault.{RunFault}
 use Rattle.protobuf_parse.specs.declared.run.loader.LoadedFile.{LoadedFile}
 use Rattle.protobuf_parse.specs.declared.run.log.ReadEntry.{ReadEntry}
@@ -124,11 +124,11 @@ decided-file legal table a p old new (Err f) (inl r) d =
 decided-file legal table a p old new (Err f) (inr r) d = decided-same table old new r.1 d
 
 -- the file of an input that was loaded is read again
-pub decided-check : (table : List (Text × Text)) (loaded : List Entry) (names : Declarations)
+pub decided-check : (table : List (Text × Text)) (loaded : List Entry) (tables : Tables)
     (old new : List ReadEntry) (p q : Text) (x : LoadedFile) (o : ReadOutcome) → q ≡ p
-    → AreKnown loaded names old → file_at q loaded ≡ Some x → Noted p o old new
+    → AreKnown loaded tables old → file_at q loaded ≡ Some x → Noted p o old new
     → IsDecided table old → IsDecided table new
-decided-check table loaded names old new p q x o is known found n d =
+decided-check table loaded tables old new p q x o is known found n d =
     let there : among (path_buf_text n.0.path) (read_paths old)
     ≡ true = subst (λ (z : Text). among z (read_paths old) ≡ true) (is ∙ sym n.2)
     (known.read q x found) in

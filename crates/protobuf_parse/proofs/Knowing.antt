@@ -12,13 +12,13 @@ use Rattle.protobuf_parse_syntax.specs.Trees.{FileSyntax, ImportSyntax, Statemen
 use Rattle.protobuf_parse_model.specs.Descriptors.{Text}
 use Rattle.protobuf_parse_model.specs.FilesByPath.{AreDistinct, Leads, leads, stays}
 use Rattle.protobuf_parse_model.specs.Tables.{Tells}
-use Rattle.protobuf_parse_model.specs.declared.scope.seen.Declarations.{Declarations}
+use Rattle.protobuf_parse.specs.declared.run.tables.Tables.{Tables}
 use Rattle.protobuf_parse.specs.Walks.{Trees, Reaches, HandsOn, Sees, sees_itself, by_import, among}
 use Rattle.protobuf_parse.specs.Walks.{import_paths, public_path, public_paths, public_paths_of}
 use Rattle.protobuf_parse.specs.Loading.{Agrees, AllHold, AreKnown, AreNumbered, AreNumbersOf}
-use Rattle.protobuf_parse.specs.Loading.{AreUnloaded, Entry, Grows, IsAddedOver, IsMetAt, Named}
-use Rattle.protobuf_parse.specs.Loading.{file_at, held, named_trees, paths_in, read_paths, trees_of}
-use Rattle.protobuf_parse.specs.Loading.{with_next}
+use Rattle.protobuf_parse.specs.Loading.{AreUnloaded, Begins, Entry, Grows, IsAddedOver, IsMetAt}
+use Rattle.protobuf_parse.specs.Loading.{Named, file_at, held, named_trees, paths_in, plain_in}
+use Rattle.protobuf_parse.specs.Loading.{read_paths, trees_of, with_next}
 use Rattle.protobuf_parse.specs.declared.run.loader.Placed.{Placed}
 use Rattle.protobuf_parse.specs.declared.run.log.ReadEntry.{ReadEntry}
 use Rattle.protobuf_parse.specs.declared.run.reach.Held.{Held}
@@ -214,7 +214,7 @@ pub next-trees : (loaded : List Entry) (p : Text) (t : FileSyntax)
 next-trees loaded p t = sym (map-append (λ (f : Named). f.1) (named_trees loaded) ((p, t) ∷ []))
 
 module _ (path : Text) (tree : FileSyntax) (height read : ℕ) (imports public : List ℕ)
-    (old new : List Entry) (before after : Declarations) (log : List ReadEntry) (placed : Placed)
+    (old new : List Entry) (before after : Tables) (log : List ReadEntry) (placed : Placed)
     (known : AreKnown old before log) (was_read : among path (read_paths log) ≡ true)
     (numbered : AreNumbered (named_trees old) imports (import_paths tree))
     (publicly : AreNumbered (named_trees old) public (public_paths tree))
@@ -274,7 +274,8 @@ module _ (path : Text) (tree : FileSyntax) (height read : ℕ) (imports public :
 
   pub known-push : AreKnown new after log
   known-push = rw a.entries (record {
-    tells = subst (Tells after) (sym trees-are) a.tells;
+    tells = subst (Tells after.names) (sym trees-are) a.tells;
+    begins = subst (λ (es : List Entry). Begins after.places (map plain_in es)) a.entries a.begins;
     once = subst AreDistinct (sym paths-are) (once-push old path tree known.once none);
     reach = all-hold-push Reaches held_as.Reach old x known.reach
         (of-entry Reaches held_as.Reach reach-is);
@@ -300,10 +301,11 @@ module _ (path : Text) (tree : FileSyntax) (height read : ℕ) (imports public :
   })
 
 -- a log that grew has all that was read
-pub known-grows : (loaded : List Entry) (names : Declarations) (old new : List ReadEntry)
-    → Grows old new → AreKnown loaded names old → AreKnown loaded names new
-known-grows loaded names old new grows known = record {
+pub known-grows : (loaded : List Entry) (tables : Tables) (old new : List ReadEntry) → Grows old new
+    → AreKnown loaded tables old → AreKnown loaded tables new
+known-grows loaded tables old new grows known = record {
   tells = known.tells;
+  begins = known.begins;
   once = known.once;
   reach = known.reach;
   handed_on = known.handed_on;
@@ -339,10 +341,11 @@ unloaded-push chain loaded x q u is off p on =
 
 -- ** no file
 
-pub known-none : (loaded : List Entry) (names : Declarations) (log : List ReadEntry) → loaded ≡ []
-    → Tells names [] → AreKnown loaded names log
-known-none loaded names log none tells = rw none (record {
+pub known-none : (loaded : List Entry) (tables : Tables) (log : List ReadEntry) → loaded ≡ []
+    → Tells tables.names [] → Begins tables.places [] → AreKnown loaded tables log
+known-none loaded tables log none tells begins = rw none (record {
   tells = tells;
+  begins = begins;
   once = tt;
   reach = λ trees agrees n e h. cc;
   handed_on = λ trees agrees n e h. cc;

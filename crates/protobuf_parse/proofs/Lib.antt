@@ -30,3 +30,4 @@ pub mod Recovering
 pub mod Following
 pub mod Asking
 pub mod OptionLines
+mod Catching

@@ -21,7 +21,7 @@ use Rattle.protobuf_parse_model.specs.FileDescriptor.{environment, file_faults, 
 use Rattle.protobuf_parse_model.specs.FilesByPath.{AreDistinct, AreJust, leads, stays, trees_at}
 use Rattle.protobuf_parse_model.specs.Linking.{before_others, link_faults}
 use Rattle.protobuf_parse_model.specs.Tables.{picked}
-use Rattle.protobuf_parse_model.specs.declared.scope.seen.Declarations.{Declarations}
+use Rattle.protobuf_parse.specs.declared.run.tables.Tables.{Tables}
 use Rattle.protobuf_parse_model.proofs.Orders.{SameMembers, just-same, link-none, link-told}
 use Rattle.protobuf_parse_model.proofs.Orders.{types-same}
 use Rattle.protobuf_parse_wire.specs.OptionBytes.{known_customs}
@@ -320,19 +320,19 @@ which-told (a ∷ firsts) others f m = inl m
 -- ** the next file
 
 -- What is known where a file is elaborated whose imports are loaded.
-pub record IsNext (files : Files) (loaded : List Entry) (names : Declarations)
-    (log : List ReadEntry) (p : Text) (t : FileSyntax) (below : List ℕ) : Type 0 where
+pub record IsNext (files : Files) (loaded : List Entry) (tables : Tables) (log : List ReadEntry)
+    (p : Text) (t : FileSyntax) (below : List ℕ) : Type 0 where
   pub listed : AreListed files.trees files.reached files.seen
   pub packages : HavePackages files.trees
-  pub known : AreKnown loaded names log
+  pub known : AreKnown loaded tables log
   pub agrees : Agrees files.trees (named_trees loaded)
   pub plain : map plain_in loaded ≡ map (described_by files) (named_trees loaded)
   pub is : files.trees p ≡ Some t
   pub none : file_at p loaded ≡ None
   pub numbered : AreNumbered (named_trees loaded) below (import_paths t)
 
-module _ (files : Files) (loaded : List Entry) (names : Declarations) (log : List ReadEntry)
-    (p : Text) (t : FileSyntax) (below : List ℕ) (n : IsNext files loaded names log p t below)
+module _ (files : Files) (loaded : List Entry) (tables : Tables) (log : List ReadEntry) (p : Text)
+    (t : FileSyntax) (below : List ℕ) (n : IsNext files loaded tables log p t below)
     (reach sight : List ℕ) (reaches : AreJoined held_as.Reach loaded below reach)
     (sees : AreJoined held_as.HandedOn loaded below sight) where
   abbrev with_p : List Named
@@ -492,13 +492,13 @@ stands-more origin firsts others (fault.Memory) more s = absurd s
 stands-more origin firsts others _ more s = absurd s
 
 -- what an elaboration over numbered files leaves
-pub settled-in : (files : Files) (loaded new : List Entry) (names after : Declarations) (p : Text)
+pub settled-in : (files : Files) (loaded new : List Entry) (tables after : Tables) (p : Text)
     (t : FileSyntax) (height read : ℕ) (below public : List ℕ) (log : List ReadEntry)
     (r : Result Placed RunFault)
-    → IsNext files loaded names log p t below
+    → IsNext files loaded tables log p t below
     → SettlesOver p t height read below public log loaded new after r
     → Settles files p t height read log loaded new r
-settled-in files loaded new names after p t height read below public log (Ok placed) n over =
+settled-in files loaded new tables after p t height read below public log (Ok placed) n over =
     λ missing.
     let a = over missing in
     let reach = a.file.reach.items in
@@ -511,24 +511,24 @@ settled-in files loaded new names after p t height read below public log (Ok pla
       height_is = a.height_is;
       read_is = a.read_is;
       faultless =
-          over-faultless files loaded names log p t below n reach a.sight a.reaches a.sees
+          over-faultless files loaded tables log p t below n reach a.sight a.reaches a.sees
           a.faultless;
       descriptor = a.descriptor
-          ∙ over-descriptor files loaded names log p t below n reach a.sight a.reaches a.sees
+          ∙ over-descriptor files loaded tables log p t below n reach a.sight a.reaches a.sees
           a.faultless;
       plain = a.plain
-          ∙ over-plain files loaded names log p t below n reach a.sight a.reaches a.sees
+          ∙ over-plain files loaded tables log p t below n reach a.sight a.reaches a.sees
           a.faultless;
       placed_is = a.height_placed;
     }
-settled-in files loaded new names after p t height read below public log (Err f) n over =
+settled-in files loaded new tables after p t height read below public log (Err f) n over =
     λ e found named.
     elim (over e found named) [
       | inl w ↦
           inl (stands-more (origin_given p (Some e.outcome))
           (faults_over (with_next loaded t) (plains_next loaded w.1 p t) w.0 w.1 t)
           (faults_in files p (Some t)) f
-          (λ g m. over-told files loaded names log p t below n w.0 w.1 w.2 w.3 g m) w.4)
+          (λ g m. over-told files loaded tables log p t below n w.0 w.1 w.2 w.3 g m) w.4)
       | inr w ↦ inr w
     ]
 

@@ -11,7 +11,7 @@ use Rattle.protobuf_parse_syntax.specs.declared.tree.FileStatement.TheVariants a
 use Rattle.protobuf_parse_syntax.specs.declared.tree.Import.{Import}
 use Rattle.protobuf_parse_model.specs.Descriptors.{Text}
 use Rattle.protobuf_parse_model.specs.FileDescriptor.{file_of}
-use Rattle.protobuf_parse_model.specs.declared.scope.seen.Declarations.{Declarations}
+use Rattle.protobuf_parse.specs.declared.run.tables.Tables.{Tables}
 use Rattle.protobuf_parse.specs.declared.run.fault.RunFault.{RunFault}
 use Rattle.protobuf_parse.specs.declared.run.fault.RunFault.TheVariants as fault
 use Rattle.protobuf_parse.specs.declared.run.frame.LoadFrame.{LoadFrame}
@@ -353,24 +353,24 @@ module _ (legal : Legal) (files : Files) (kept events : List Event) (i : Text) (
 
   -- what its elaboration leaves
   pub running-closes : (stack : List LoadFrame) (top : LoadFrame) (meets : ℕ)
-      (loaded later : List Entry) (names after : Declarations) (log : List ReadEntry)
+      (loaded later : List Entry) (tables after : Tables) (log : List ReadEntry)
       (res : Result Placed RunFault) (r : Running meets stack top loaded log)
       (table : List (Text × Text)) (full : List ReadEntry) → GoesOn files table full
-      → AreKnown loaded names log → IsTaken loaded log top → file_at (path_of top) loaded ≡ None
+      → AreKnown loaded tables log → IsTaken loaded log top → file_at (path_of top) loaded ≡ None
       → among (path_of top) (chain_of [] stack) ≡ false
       → length top.tree.statements.items ≤ top.next → top.height < 100
       → SettlesOver (path_of top) (file_view top.tree)
       (top.height + 1) top.read top.below.items top.public.items log loaded later after res
       → Leaves legal files (r.now ++ elab (path_of top) ∷ [])
       (file_shape files.trees (path_of top)) later log (chain_of [] stack) res
-  running-closes stack top meets loaded later names after log res r table full go known taken none
+  running-closes stack top meets loaded later tables after log res r table full go known taken none
       off le low over =
       let numbered : AreNumbered (named_trees loaded) top.below.items
       (import_paths (file_view top.tree)) =
       subst (λ (z : List Text). AreNumbered (named_trees loaded) top.below.items z)
       (done-all top le) taken.numbered in
       let agrees = agrees-made files log loaded r.good.made in
-      let next : IsNext files loaded names log (path_of top) (file_view top.tree) top.below.items =
+      let next : IsNext files loaded tables log (path_of top) (file_view top.tree) top.below.items =
       record {
         listed = go.listed;
         packages = packages-read files table full go;
@@ -381,7 +381,7 @@ module _ (legal : Legal) (files : Files) (kept events : List Event) (i : Text) (
         none = none;
         numbered = numbered;
       } in
-      let settles = settled-in files loaded later names after (path_of top) (file_view top.tree)
+      let settles = settled-in files loaded later tables after (path_of top) (file_view top.tree)
       (top.height + 1) top.read top.below.items top.public.items log res next over in
       ends res settles
     where

@@ -12,7 +12,7 @@ use Rattle.protobuf_parse_syntax.specs.declared.tree.FileStatement.{FileStatemen
 use Rattle.protobuf_parse_syntax.specs.declared.tree.FileStatement.TheVariants as file_statement
 use Rattle.protobuf_parse_syntax.specs.declared.tree.Import.{Import}
 use Rattle.protobuf_parse_model.specs.Descriptors.{Text}
-use Rattle.protobuf_parse_model.specs.declared.scope.seen.Declarations.{Declarations}
+use Rattle.protobuf_parse.specs.declared.run.tables.Tables.{Tables}
 use Rattle.protobuf_parse.specs.declared.run.frame.LoadFrame.{LoadFrame}
 use Rattle.protobuf_parse.specs.declared.run.loader.Placed.{Placed}
 use Rattle.protobuf_parse.specs.declared.run.log.ReadEntry.{ReadEntry}
@@ -153,14 +153,14 @@ taken-new chain after path loaded old new f o = record {
 }
 
 -- what there is when a file was closed
-pub record IsClosed (old new : List Entry) (names : Declarations) (log : List ReadEntry)
+pub record IsClosed (old new : List Entry) (tables : Tables) (log : List ReadEntry)
     (chain : List Text) (path : Text) (placed : Placed) : Type 0 where
-  pub known : AreKnown new names log
+  pub known : AreKnown new tables log
   pub more : MoreLoaded old new
   pub number : IsNumbered (named_trees new) placed.number path
   pub unloaded : AreUnloaded chain new
 
-pub closed-is : (f : LoadFrame) (old new : List Entry) (before after : Declarations)
+pub closed-is : (f : LoadFrame) (old new : List Entry) (before after : Tables)
     (log : List ReadEntry) (chain : List Text) (placed : Placed) → AreKnown old before log
     → IsTaken old log f → AreUnloaded (chain ++ path_of f ∷ []) old
     → among (path_of f) chain ≡ false → length f.tree.statements.items ≤ f.next

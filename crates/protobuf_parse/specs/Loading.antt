@@ -17,11 +17,11 @@ use Rattle.protobuf_parse_model.specs.FileDescriptor.{environment, file_of}
 use Rattle.protobuf_parse_model.specs.FilesByPath.{AreDistinct}
 use Rattle.protobuf_parse_model.specs.Tables.{Tells, picked}
 use Rattle.protobuf_parse_model.specs.declared.descriptor.FileDescriptorProto.{FileDescriptorProto}
-use Rattle.protobuf_parse_model.specs.declared.scope.seen.Declarations.{Declarations}
 use Rattle.protobuf_parse_model.specs.Faults as elaborating
 use Rattle.protobuf_parse_model.specs.Faults.{Blames, fault_view}
 use Rattle.protobuf_parse_model.specs.declared.error.ElabFailure.{ElabFailure}
 use Rattle.protobuf_parse_wire.specs.CustomFaults.{elaboration_faults}
+use Rattle.protobuf_parse_wire.specs.Holding.{Holds}
 use Rattle.protobuf_parse_wire.specs.OptionBytes.{known_customs}
 use Rattle.protobuf_parse.specs.declared.run.fault.RunFault.{RunFault}
 use Rattle.protobuf_parse.specs.declared.run.fault.RunFault.TheVariants as fault
@@ -29,6 +29,8 @@ use Rattle.protobuf_parse.specs.declared.run.describe.Described.{Described}
 use Rattle.protobuf_parse.specs.declared.run.loader.LoadedFile.{LoadedFile}
 use Rattle.protobuf_parse.specs.declared.run.loader.Placed.{Placed}
 use Rattle.protobuf_parse.specs.declared.run.reach.Held.{Held}
+use Rattle.protobuf_parse.specs.declared.run.tables.RunPlaces.{RunPlaces}
+use Rattle.protobuf_parse.specs.declared.run.tables.Tables.{Tables}
 use Rattle.protobuf_parse.specs.declared.run.reach.Held.TheVariants as held_as
 use Rattle.protobuf_parse.specs.declared.run.log.ReadEntry.{ReadEntry}
 use Rattle.protobuf_parse.specs.declared.run.log.ReadOutcome.{ReadOutcome}
@@ -72,6 +74,32 @@ file_at path loaded = lookup (λ (k : String Global). bytes_eq path (string_byte
 
 abbrev pub read_paths : List ReadEntry → List Text
 read_paths log = map (λ (e : ReadEntry). path_buf_text e.path) log
+
+-- ---- descriptors by numbers
+
+-- a descriptor without custom options: the same one, where it has none
+abbrev pub plain_or : Option FileDescriptorProto → FileDescriptorProto → FileDescriptor
+plain_or (Some plain) d = described.file_view plain
+plain_or None d = described.file_view d
+
+abbrev pub plain_in : Entry → FileDescriptor
+plain_in e = plain_or e.1.plain e.1.descriptor
+
+-- those of the loaded files, and behind them that of the next
+abbrev pub plains_with : List Entry → FileDescriptor → List FileDescriptor
+plains_with loaded d = map plain_in loaded ++ d ∷ []
+
+-- The index has just the files, as many as it counts.
+pub record IsWhole (places : RunPlaces) (plains : List FileDescriptor) : Type 0 where
+  pub holds : Holds places.declared plains
+  pub count : length plains ≡ places.files
+
+-- The index has the first of the files.
+pub record Begins (places : RunPlaces) (plains : List FileDescriptor) : Type 0 where
+  pub front : List FileDescriptor
+  pub rest : List FileDescriptor
+  pub split : plains ≡ front ++ rest
+  pub whole : IsWhole places front
 
 -- ---- the numbers of loaded files
 
@@ -124,9 +152,9 @@ AllHold R which loaded =
 
 -- what is known of loaded files: the table has their names, each path stands once and was read, and
 -- each file knows what it reaches and hands on
-pub record AreKnown (loaded : List Entry) (names : Declarations)
-    (log : List ReadEntry) : Type 0 where
-  pub tells : Tells names (trees_of (named_trees loaded))
+pub record AreKnown (loaded : List Entry) (tables : Tables) (log : List ReadEntry) : Type 0 where
+  pub tells : Tells tables.names (trees_of (named_trees loaded))
+  pub begins : Begins tables.places (map plain_in loaded)
   pub once : AreDistinct (paths_in (named_trees loaded))
   pub reach : AllHold Reaches held_as.Reach loaded
   pub handed_on : AllHold HandsOn held_as.HandedOn loaded
@@ -148,20 +176,6 @@ pub record AreJoined (which : Held) (loaded : List Entry) (files numbers : List 
   pub ascending : IsStrictlyIncreasing numbers
   pub all : (n : ℕ) → Contains (held_by which loaded files) n → Contains numbers n
   pub only : (n : ℕ) → Contains numbers n → Contains (held_by which loaded files) n
-
--- ---- descriptors by numbers
-
--- a descriptor without custom options: the same one, where it has none
-abbrev pub plain_or : Option FileDescriptorProto → FileDescriptorProto → FileDescriptor
-plain_or (Some plain) d = described.file_view plain
-plain_or None d = described.file_view d
-
-abbrev pub plain_in : Entry → FileDescriptor
-plain_in e = plain_or e.1.plain e.1.descriptor
-
--- those of the loaded files, and behind them that of the next
-abbrev pub plains_with : List Entry → FileDescriptor → List FileDescriptor
-plains_with loaded d = map plain_in loaded ++ d ∷ []
 
 -- those with these numbers
 abbrev pub picked_plains : List FileDescriptor → List ℕ → List FileDescriptor
@@ -435,7 +449,7 @@ plains_next loaded sight path tree = plains_over loaded (with_next loaded tree) 
 -- ones those. By the numbers of the files that it reaches and sees, no fault stands in it, and it
 -- has become its descriptor.
 pub record IsAddedOver (path : Text) (tree : FileSyntax) (height read : ℕ) (imports public : List ℕ)
-    (old new : List Entry) (names : Declarations) (placed : Placed) : Type 0 where
+    (old new : List Entry) (tables : Tables) (placed : Placed) : Type 0 where
   pub key : String Global
   pub file : LoadedFile
   pub sight : List ℕ
@@ -453,7 +467,8 @@ pub record IsAddedOver (path : Text) (tree : FileSyntax) (height read : ℕ) (im
       ≡ file_over (with_next old tree)
       (plains_next old sight path tree) file.reach.items sight path tree
   pub plain : plain_or file.plain file.descriptor ≡ plain_over (with_next old tree) sight path tree
-  pub tells : Tells names (with_next old tree)
+  pub tells : Tells tables.names (with_next old tree)
+  pub begins : Begins tables.places (map plain_in new)
   pub height_placed : placed.height ≡ height
   pub number_placed : placed.number ≡ length old
 
@@ -467,10 +482,10 @@ IsRefusedOver origin path tree imports old f =
     (faults_over (with_next old tree) (plains_next old sight path tree) reach sight tree) f)
 
 abbrev pub SettlesOver : Text → FileSyntax → ℕ → ℕ → List ℕ → List ℕ → List ReadEntry → List Entry
-    → List Entry → Declarations → Result Placed RunFault → Type 0
-SettlesOver path tree height read imports public log old new names (Ok placed) =
-    file_at path old ≡ None → IsAddedOver path tree height read imports public old new names placed
-SettlesOver path tree height read imports public log old new names (Err f) = (e : ReadEntry)
+    → List Entry → Tables → Result Placed RunFault → Type 0
+SettlesOver path tree height read imports public log old new tables (Ok placed) =
+    file_at path old ≡ None → IsAddedOver path tree height read imports public old new tables placed
+SettlesOver path tree height read imports public log old new tables (Err f) = (e : ReadEntry)
     → slice_get log read ≡ Some e → path_buf_text e.path ≡ path
     → IsRefusedOver (origin_given path (Some e.outcome)) path tree imports old f
 

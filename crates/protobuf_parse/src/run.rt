@@ -19,15 +19,17 @@ pub mod loader;
 pub mod log;
 pub mod reach;
 pub mod source;
+pub mod tables;
 
 use crate::bundled::bundled_files;
 use crate::run::fault::RunFault;
 use crate::run::loader::{LoadedFiles, Loader, load_inputs};
 use crate::run::log::{RunInput, RunLog};
 use crate::run::source::{InputReader, NoReader, ProtoPathResolver, Sources};
+use crate::run::tables::Tables;
 use indexmap::IndexMap;
 use protobuf_parse_base::proto_path::ProtoPathBuf;
-use protobuf_parse_model::{Declarations, FileDescriptorProto};
+use protobuf_parse_model::FileDescriptorProto;
 use std::alloc::{AllocError, Global};
 
 /// Loads the inputs in turn, each file that they reach once and after its imports, and gives the
@@ -57,7 +59,7 @@ pub fn run_inputs<'a, R: ProtoPathResolver, I: InputReader>(
 {
     let mut loader = Loader {
         loaded: IndexMap::new(alloc),
-        names: Declarations::new(alloc),
+        tables: Tables::new(alloc),
         reads: Vec::new(alloc),
         chain: Vec::new(alloc),
         meets: 0,
@@ -72,7 +74,7 @@ pub fn run_inputs<'a, R: ProtoPathResolver, I: InputReader>(
         loaded,
         reads,
         meets,
-        names: _,
+        tables: _,
         chain: _,
     } = loader;
     let result = match outcome {

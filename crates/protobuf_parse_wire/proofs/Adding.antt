@@ -18,7 +18,7 @@ use Rattle.protobuf_parse_model.specs.Descriptors.{message_view_is, field_view}
 use Rattle.protobuf_parse_model.specs.Declarations.{Declared}
 use Rattle.protobuf_parse_wire.specs.declared.reader.index.Index.{Index}
 use Rattle.protobuf_parse_wire.specs.Groups.{group}
-use Rattle.std.specs.HashMap.{IsEmpty}
+use Rattle.std.specs.BTreeMap.{IsEmpty}
 use Rattle.protobuf_parse_wire.specs.Declarations as declarations
 use Rattle.protobuf_parse_wire.specs.Declarations.{Declaration, within, declared_message}
 use Rattle.protobuf_parse_wire.specs.Declarations.{declared_messages, declared_in, package_scope}
@@ -46,10 +46,10 @@ pub mapped_all : {X Y : Type 0} (f : X → Y) (xs : List X) (i : ℕ) → length
     → map f (take i xs) ≡ map f xs
 mapped_all f xs i le = ap (map f) (take_all i xs le)
 
-named-append : (name : Text) (ds es : List Declaration)
+pub messages_named-append : (name : Text) (ds es : List Declaration)
     → messages_named name (ds ++ es) ≡ messages_named name ds ++ messages_named name es
-named-append name ds es = ap (map (λ d. d.parts)) (filter-append (λ d. bytes_eq name d.name) ds es)
-    ∙ map-append _ _ _
+messages_named-append name ds es =
+    ap (map (λ d. d.parts)) (filter-append (λ d. bytes_eq name d.name) ds es) ∙ map-append _ _ _
 
 pub adds_none : (index : Index) → Adds index index [] []
 adds_none index =
@@ -65,7 +65,7 @@ adds_more a b c ds ds' es es' first second = record {
   messages = λ name. second.messages name
       ∙ ap (λ ms. ms ++ messages_named name ds') (first.messages name)
       ∙ append_assoc (messages_in a name) (messages_named name ds) (messages_named name ds')
-      ∙ ap (λ ms. messages_in a name ++ ms) (sym (named-append name ds ds'));
+      ∙ ap (λ ms. messages_in a name ++ ms) (sym (messages_named-append name ds ds'));
   extensions = λ name. second.extensions name
       ∙ ap (λ fs. fs ++ filter (extends name) es') (first.extensions name)
       ∙ append_assoc (extensions_in a name) (filter (extends name) es) (filter (extends name) es')

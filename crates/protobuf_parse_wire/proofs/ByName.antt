@@ -1,25 +1,25 @@
--- The first of what stands under a name, as this is gone through; and what the code's maps have.
-use Rattle.std.proofs.Common.{◌≡◌, ℕ, suc, ℤ, arith, ◌==◌, Bool, true, false, not, List, [], ◌∷◌}
-use Rattle.std.proofs.Common.{◌++◌, map, length, Option, Some, None, option_map, is_some, refl, sym}
-use Rattle.std.proofs.Common.{ap, ◌∙◌, bytes_eq, string_bytes}
+-- The first of what stands under a name, as this is gone through.
+use Rattle.std.proofs.Common.{◌≡◌, Bool, true, false, List, [], ◌∷◌, ◌++◌, map, Option, Some, None}
+use Rattle.std.proofs.Common.{option_map, is_some, refl, sym, ap, ◌∙◌, bytes_eq}
+use Rattle.std.specs.Prelude.{option_to_list}
 use Rattle.std.specs.Bool.{one_answer}
 use Rattle.std.specs.List.{list_any}
 use Rattle.std.specs.Option.{option_or}
 use Rattle.std.specs.Borrow.{Bor}
-use Rattle.std.proofs.lemmas.Bool.{ne_eqb}
+use Rattle.protobuf_parse_model.specs.declared.descriptor.FieldDescriptorProto.{FieldDescriptorProto}
+use Rattle.std.proofs.lemmas.Grind.{flat_map-append}
+use Rattle.std.proofs.lemmas.List.{map-append}
 use Rattle.std.proofs.lemmas.List.Folds.{find-append}
 use Rattle.std.proofs.lemmas.Slice.Eq.{bytes_eq-Decides}
-use Rattle.protobuf_parse_model.specs.declared.descriptor.DescriptorProto.{DescriptorProto}
-use Rattle.protobuf_parse_model.specs.declared.descriptor.EnumDescriptorProto.{EnumDescriptorProto}
 use Rattle.protobuf_parse_model.specs.Declarations.{Declared}
 use Rattle.protobuf_parse_model.specs.Descriptors.{Text, FieldDescriptor, EnumDescriptor}
-use Rattle.protobuf_parse_model.specs.Descriptors.{MessageParts}
-use Rattle.protobuf_parse_wire.specs.declared.customs.known.Known.{Known}
-use Rattle.protobuf_parse_wire.specs.ByName.{enum_seen, enums_named, fields_in, named, part_seen}
-use Rattle.protobuf_parse_wire.specs.ByName.{values_in}
+use Rattle.protobuf_parse_model.specs.Descriptors.{MessageDescriptor}
+use Rattle.protobuf_parse_model.specs.Lookup.{declared}
+use Rattle.protobuf_parse_wire.specs.ByName.{fields_in, first, named, values_in}
 use Rattle.protobuf_parse_wire.specs.Declarations.{Declaration, messages_named}
-use Rattle.protobuf_parse_wire.specs.Known.{enum_known, field_among, messages_known, number_among}
-use Rattle.protobuf_parse_wire.specs.Known.{values_among}
+use Rattle.protobuf_parse_wire.specs.Indexed.{parts_seen}
+use Rattle.protobuf_parse_wire.specs.Known.{extension_named, field_among, field_seen, number_among}
+use Rattle.protobuf_parse_wire.specs.Known.{undeclared, values_among}
 use Rattle.protobuf_parse_wire.proofs.Found.{number_split}
 
 pub is_some_mapped : {A B : Type 0} (f : A → B) (o : Option A) → is_some (option_map f o)
@@ -27,63 +27,51 @@ pub is_some_mapped : {A B : Type 0} (f : A → B) (o : Option A) → is_some (op
 is_some_mapped f None = refl
 is_some_mapped f (Some x) = refl
 
-pub part_first : (name : Text) (p : MessageParts) (ps : List MessageParts)
-    (o : Option FieldDescriptor) → o ≡ field_among p.field name
-    → field_among (fields_in (p ∷ ps)) name ≡ option_or o (field_among (fields_in ps) name)
-part_first name p ps o e = find-append _ p.field (fields_in ps) ∙ ap
-    (λ q. option_or q (field_among (fields_in ps) name)) (sym e)
+-- what may stand at a place, and what stands at further ones
 
-pub enum_first : (name : Text) (e : EnumDescriptor) (es : List EnumDescriptor) (o : Option ℤ)
-    → o ≡ number_among e.value name
-    → number_among (values_in (e ∷ es)) name ≡ option_or o (number_among (values_in es) name)
-enum_first name e es o is = number_split name e.value (values_in es) ∙ ap
-    (λ q. option_or q (number_among (values_in es) name)) (sym is)
+pub first_more : {A : Type 0} (o : Option A) (xs : List A)
+    → first (option_to_list o ++ xs) ≡ option_or o (first xs)
+first_more None xs = refl
+first_more (Some x) xs = refl
 
--- ---- what the maps have
+abbrev pub fields_of : List MessageDescriptor → List FieldDescriptor
+fields_of ms = fields_in (map parts_seen ms)
 
--- the messages of a name
-pub parts_named : (name : Text) (ks : List (Known (Bor DescriptorProto)))
-    → map part_seen (named name ks) ≡ messages_named name (messages_known ks)
-parts_named name [] = refl
-parts_named name (k ∷ ks) = by_test (parts_named name ks) (bytes_eq name (string_bytes k.name)) refl
-  where
-    by_test : map part_seen (named name ks) ≡ messages_named name (messages_known ks)
-        → (b : Bool) → bytes_eq name (string_bytes k.name) ≡ b
-        → map part_seen (named name (k ∷ ks)) ≡ messages_named name (messages_known (k ∷ ks))
-    by_test rest true e = rw e (ap (λ ps. part_seen k.what ∷ ps) rest)
-    by_test rest false e = rw e rest
+pub fields_more : (name : Text) (ms ns : List MessageDescriptor)
+    → field_among (fields_of (ms ++ ns)) name
+    ≡ option_or (field_among (fields_of ms) name) (field_among (fields_of ns) name)
+fields_more name ms ns =
+    ap (λ ps. field_among (fields_in ps) name) (map-append parts_seen ms ns)
+    ∙ ap (λ fs. field_among fs name) (flat_map-append _ (map parts_seen ms) (map parts_seen ns))
+    ∙ find-append (λ (f : FieldDescriptor). bytes_eq f.name name) (fields_of ms) (fields_of ns)
 
--- the enums of a name
-pub enums_are_named : (name : Text) (ks : List (Known (Bor EnumDescriptorProto)))
-    → map enum_seen (named name ks) ≡ enums_named name (map enum_known ks)
-enums_are_named name [] = refl
-enums_are_named name (k ∷ ks) = by_test (enums_are_named name ks)
-    (bytes_eq name (string_bytes k.name)) refl
-  where
-    by_test : map enum_seen (named name ks) ≡ enums_named name (map enum_known ks)
-        → (b : Bool) → bytes_eq name (string_bytes k.name) ≡ b
-        → map enum_seen (named name (k ∷ ks)) ≡ enums_named name (map enum_known (k ∷ ks))
-    by_test rest true e = rw e (ap (λ es. enum_seen k.what ∷ es) rest)
-    by_test rest false e = rw e rest
+pub values_more : (name : Text) (es fs : List EnumDescriptor)
+    → number_among (values_in (es ++ fs)) name
+    ≡ option_or (number_among (values_in es) name) (number_among (values_in fs) name)
+values_more name es fs = ap (λ vs. number_among vs name) (flat_map-append _ es fs)
+    ∙ number_split name (values_in es) (values_in fs)
 
-some_left : (n : ℕ) → true ≡ not (suc n == 0)
-some_left n = sym (ap not (ne_eqb (suc n) 0 (λ e. absurd (omega (arith, e)))))
+-- ---- what has the name
 
 abbrev is_named : Text → List Declaration → Bool
 is_named name ds = list_any (λ (d : Declaration). bytes_eq name d.name) ds
 
 -- whether any has the name
 pub any_named : (name : Text) (ds : List Declaration)
-    → list_any (λ (d : Declaration). bytes_eq name d.name) ds
-    ≡ not (length (messages_named name ds) == 0)
+    → is_named name ds ≡ is_some (first (messages_named name ds))
 any_named name [] = refl
 any_named name (d ∷ ds) = by_test (any_named name ds) (bytes_eq name d.name) refl
   where
-    by_test : is_named name ds ≡ not (length (messages_named name ds) == 0)
+    by_test : is_named name ds ≡ is_some (first (messages_named name ds))
         → (b : Bool) → bytes_eq name d.name ≡ b
-        → is_named name (d ∷ ds) ≡ not (length (messages_named name (d ∷ ds)) == 0)
-    by_test rest true e = rw e (some_left (length (messages_named name ds)))
+        → is_named name (d ∷ ds) ≡ is_some (first (messages_named name (d ∷ ds)))
+    by_test rest true e = rw e refl
     by_test rest false e = rw e rest
+
+pub first_mapped : {A B : Type 0} (f : A → B) (xs : List A)
+    → is_some (first (map f xs)) ≡ is_some (first xs)
+first_mapped f [] = refl
+first_mapped f (x ∷ xs) = refl
 
 flipped : (a b : Text) → bytes_eq a b ≡ bytes_eq b a
 flipped a b =
@@ -93,12 +81,39 @@ flipped a b =
 
 -- the values in the enums of a name
 pub values_named : (name : Text) (es : List (Declared EnumDescriptor))
-    → values_in (enums_named name es) ≡ values_among name es
+    → values_in (named name es) ≡ values_among name es
 values_named name [] = refl
 values_named name (e ∷ es) = by_test (values_named name es) (bytes_eq name e.name) refl
   where
-    by_test : values_in (enums_named name es) ≡ values_among name es
+    by_test : values_in (named name es) ≡ values_among name es
         → (b : Bool) → bytes_eq name e.name ≡ b
-        → values_in (enums_named name (e ∷ es)) ≡ values_among name (e ∷ es)
+        → values_in (named name (e ∷ es)) ≡ values_among name (e ∷ es)
     by_test rest true h = rw (flipped e.name name, h) (ap (λ vs. e.what.value ++ vs) rest)
     by_test rest false h = rw (flipped e.name name, h) rest
+
+abbrev pub with_name : {T : Type 0} → Text → T → Declared T
+with_name name x = record { name = name; what = x }
+
+-- the first that has the name, by the name
+pub first_named : {T : Type 0} (name : Text) (ds : List (Declared T))
+    → option_map (λ (x : T). with_name name x) (first (named name ds)) ≡ declared ds name
+first_named name [] = refl
+first_named {T = T} name (d ∷ ds) = by_test (bytes_eq name d.name) refl (first_named name ds)
+  where
+    by_test : (b : Bool) → bytes_eq name d.name ≡ b
+        → option_map (λ (x : T). with_name name x) (first (named name ds)) ≡ declared ds name
+        → option_map (λ (x : T). with_name name x) (first (named name (d ∷ ds)))
+        ≡ declared (d ∷ ds) name
+    by_test true h rest = rw (flipped d.name name, h)
+        (ap (λ n. Some (with_name n d.what)) ((bytes_eq-Decides name d.name).0 h))
+    by_test false h rest = rw (flipped d.name name, h) rest
+
+pub named_twice : (name : Text) (o : Option (Bor FieldDescriptorProto))
+    → option_map (extension_named name) o ≡ option_map (with_name name) (option_map field_seen o)
+named_twice name None = refl
+named_twice name (Some f) = refl
+
+pub without_name : (name : Text) (o : Option (Bor FieldDescriptorProto))
+    → option_map field_seen o ≡ undeclared (option_map (extension_named name) o)
+without_name name None = refl
+without_name name (Some f) = refl

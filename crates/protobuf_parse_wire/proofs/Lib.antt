@@ -17,7 +17,6 @@ pub mod OptionBytes
 pub mod OptionDepth
 pub mod Agreement
 pub mod Sayings
-pub mod Collected
 pub mod Found
 pub mod Parts
 pub mod AgreementBack
@@ -43,3 +42,6 @@ pub mod Sound
 pub mod SoundSets
 pub mod EnumNumbers
 pub mod ByName
+pub mod Placing
+pub mod Picks
+pub mod Holding

@@ -1,17 +1,26 @@
 -- What has small numbers is found to have them.
 use Rattle.std.proofs.Common.{◌≡◌, ℕ, zero, suc, ◌<◌, ℤ, Bool, true, false, List, [], ◌∷◌, ◌++◌}
 use Rattle.std.proofs.Common.{map, flat_map, length, take, get_or, Option, Some, option_map, cond}
-use Rattle.std.proofs.Common.{bytes_eq, sym, subst, arith}
+use Rattle.std.proofs.Common.{bytes_eq, refl, sym, subst, arith, ap, ◌∙◌}
 use Rattle.std.specs.Int.{w32}
 use Rattle.std.specs.Int.RustNames.{FitsSigned}
-use Rattle.std.specs.List.{find}
+use Rattle.std.specs.Prelude.{option_to_list, slice_get}
+use Rattle.std.specs.List.{AllByRecursion, find}
+use Rattle.std.specs.Borrow.{Bor}
+use Rattle.protobuf_parse_model.specs.declared.descriptor.EnumDescriptorProto.{EnumDescriptorProto}
 use Rattle.protobuf_parse_model.specs.Declarations.{Declared}
 use Rattle.protobuf_parse_model.specs.Descriptors.{Text, EnumDescriptor, EnumValueDescriptor}
 use Rattle.protobuf_parse_model.specs.Descriptors.{FileDescriptor}
-use Rattle.protobuf_parse_wire.specs.Known.{number_among, values_among, values_of}
+use Rattle.protobuf_parse_wire.specs.declared.customs.known.Known.{Known}
+use Rattle.protobuf_parse_wire.specs.Holding.{enums_placed}
+use Rattle.protobuf_parse_wire.specs.Places.{placed_enums}
+use Rattle.protobuf_parse_wire.specs.Known.{enum_known, number_among, values_among, values_of}
 use Rattle.protobuf_parse_wire.specs.OptionFields.{declared_enums}
 use Rattle.protobuf_parse_wire.specs.OptionLaw.{HasSmallValues}
 use Rattle.protobuf_parse_wire.specs.SmallValues.{AreSmall, HaveSmall}
+use Rattle.protobuf_parse_wire.proofs.Picks.{picked}
+use Rattle.protobuf_parse_wire.proofs.Placing.{declared_of, enums_without}
+use Rattle.protobuf_parse_wire.proofs.SoundSets.{both}
 
 pub one_more : {X : Type 0} (view : X → EnumValueDescriptor) (xs : List X) (i : ℕ) (x : X)
     → i < length xs → x ≡ get_or xs i x → FitsSigned w32 (view x).number
@@ -68,3 +77,47 @@ small_values files es all small enum_name name z e = found name (values_among en
     (among_enums enum_name es small)
     (subst (λ (ds : List (Declared EnumDescriptor)). number_among (values_among enum_name ds) name
     ≡ Some z) (sym all) e)
+
+-- ---- files of which each has small numbers
+
+small_both : (es fs : List (Declared EnumDescriptor)) → HaveSmall es → HaveSmall fs
+    → HaveSmall (es ++ fs)
+small_both [] fs p q = q
+small_both (e ∷ es) fs p q = (p.0, small_both es fs p.1 q)
+
+abbrev pub IsSmallFile : FileDescriptor → Type 0
+IsSmallFile f = HaveSmall (declared_enums f)
+
+small_files : (fs : List FileDescriptor) → AllByRecursion IsSmallFile fs
+    → HaveSmall (flat_map declared_enums fs)
+small_files [] h = tt
+small_files (f ∷ fs) h = small_both (declared_enums f) (flat_map declared_enums fs) h.0
+    (small_files fs h.1)
+
+small_one : (fs : List FileDescriptor) (n : ℕ) → AllByRecursion IsSmallFile fs
+    → AllByRecursion IsSmallFile (option_to_list (slice_get fs n))
+small_one [] n h = tt
+small_one (f ∷ fs) zero h = (h.0, tt)
+small_one (f ∷ fs) (suc n) h = small_one fs n h.1
+
+small_picked : (fs : List FileDescriptor) (ns : List ℕ) → AllByRecursion IsSmallFile fs
+    → AllByRecursion IsSmallFile (picked fs ns)
+small_picked fs [] h = tt
+small_picked fs (n ∷ ns) h = both IsSmallFile (option_to_list (slice_get fs n)) (picked fs ns)
+    (small_one fs n h) (small_picked fs ns h)
+
+pub picked_small : (fs : List FileDescriptor) (ns : List ℕ) → AllByRecursion IsSmallFile fs
+    → HasSmallValues (picked fs ns)
+picked_small fs ns h = small_values (picked fs ns) (flat_map declared_enums (picked fs ns)) refl
+    (small_files (picked fs ns) (small_picked fs ns h))
+
+known_without : (ks : List (Known (Bor EnumDescriptorProto)))
+    → map enum_known ks ≡ map declared_of (enums_placed ks)
+known_without [] = refl
+known_without (k ∷ ks) = ap (λ es. enum_known k ∷ es) (known_without ks)
+
+-- of a file whose enums were listed
+pub small_file : (f : FileDescriptor) (ks : List (Known (Bor EnumDescriptorProto)))
+    → enums_placed ks ≡ placed_enums f → HaveSmall (map enum_known ks) → IsSmallFile f
+small_file f ks is small = subst HaveSmall (known_without ks ∙ ap (map declared_of) is
+    ∙ enums_without f) small

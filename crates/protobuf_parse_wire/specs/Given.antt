@@ -10,14 +10,14 @@ use Rattle.protobuf_parse_wire.specs.declared.customs.fields.OptionPlace.{Option
 use Rattle.protobuf_parse_wire.specs.CustomFaults.{constant_name_faults, number_faults, path_faults}
 use Rattle.protobuf_parse_wire.specs.CustomFaults.{step_faults, value_faults}
 use Rattle.protobuf_parse_wire.specs.CustomOptions.{message_item, path_items, value_items}
-use Rattle.protobuf_parse_wire.specs.Known.{files_seen}
+use Rattle.protobuf_parse_wire.specs.Holding.{files_seen}
 use Rattle.protobuf_parse_wire.specs.OptionFields.{OptionScope, constant_field, takes, type_name_of}
 use Rattle.protobuf_parse_wire.specs.Views.{Item}
 
 abbrev pub place_view : OptionPlace → OptionScope
 place_view p = record {
-  files = files_seen p.known.now.files.now;
-  visible = files_seen p.known.now.visible.now;
+  files = files_seen p.known.now.reach;
+  visible = files_seen p.known.now.sight;
   scope = texts p.scope.now;
 }
 

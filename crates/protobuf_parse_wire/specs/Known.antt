@@ -1,39 +1,19 @@
 -- What the code holds of the files' descriptors: references to them, and to what they declare.
-use Rattle.std.specs.Prelude.{ℤ, List, [], map, flat_map, string_bytes, bytes_eq, Option}
-use Rattle.std.specs.Prelude.{option_map, if◌then◌else◌}
+use Rattle.std.specs.Prelude.{ℤ, List, [], flat_map, string_bytes, bytes_eq, Option, option_map}
+use Rattle.std.specs.Prelude.{if◌then◌else◌}
 use Rattle.std.specs.List.{find}
 use Rattle.std.specs.Borrow.{Bor}
-use Rattle.protobuf_parse_model.specs.declared.descriptor.DescriptorProto.{DescriptorProto}
 use Rattle.protobuf_parse_model.specs.declared.descriptor.EnumDescriptorProto.{EnumDescriptorProto}
 use Rattle.protobuf_parse_model.specs.declared.descriptor.FieldDescriptorProto.{FieldDescriptorProto}
-use Rattle.protobuf_parse_model.specs.declared.descriptor.FileDescriptorProto.{FileDescriptorProto}
 use Rattle.protobuf_parse_model.specs.Declarations.{Declared}
 use Rattle.protobuf_parse_model.specs.Descriptors.{Text, FieldDescriptor, EnumDescriptor}
-use Rattle.protobuf_parse_model.specs.Descriptors.{EnumValueDescriptor, FileDescriptor}
-use Rattle.protobuf_parse_model.specs.Descriptors.{MessageParts, message_view, enum_view}
-use Rattle.protobuf_parse_model.specs.Descriptors.{field_view, file_view}
+use Rattle.protobuf_parse_model.specs.Descriptors.{EnumValueDescriptor, MessageParts, enum_view}
+use Rattle.protobuf_parse_model.specs.Descriptors.{field_view}
 use Rattle.protobuf_parse_wire.specs.declared.customs.known.Known.{Known}
 use Rattle.protobuf_parse_wire.specs.Declarations.{Declaration, messages_named}
-use Rattle.protobuf_parse_wire.specs.Indexed.{parts_seen}
-
-abbrev pub files_seen : List (Bor FileDescriptorProto) → List FileDescriptor
-files_seen files = map (λ (f : Bor FileDescriptorProto). file_view f.now) files
-
-abbrev pub message_known : Known (Bor DescriptorProto) → Declaration
-message_known k = record {
-  name = string_bytes k.name;
-  parts = parts_seen
-      (message_view k.what.now);
-}
-
-abbrev pub messages_known : List (Known (Bor DescriptorProto)) → List Declaration
-messages_known ks = map message_known ks
 
 abbrev pub enum_known : Known (Bor EnumDescriptorProto) → Declared EnumDescriptor
 enum_known k = record { name = string_bytes k.name; what = enum_view k.what.now }
-
-abbrev pub extension_known : Known (Bor FieldDescriptorProto) → Declared FieldDescriptor
-extension_known k = record { name = string_bytes k.name; what = field_view k.what.now }
 
 abbrev pub field_seen : Bor FieldDescriptorProto → FieldDescriptor
 field_seen f = field_view f.now
@@ -58,12 +38,9 @@ abbrev pub number_among : List EnumValueDescriptor → Text → Option ℤ
 number_among values name = option_map (λ (v : EnumValueDescriptor). v.number)
     (find (λ (v : EnumValueDescriptor). bytes_eq v.name name) values)
 
-abbrev pub extensions_known : List (Known (Bor FieldDescriptorProto)) → List
-    (Declared FieldDescriptor)
-extensions_known ks = map extension_known ks
-
-abbrev pub extension_seen : Bor (Known (Bor FieldDescriptorProto)) → Declared FieldDescriptor
-extension_seen k = extension_known k.now
+-- the extension, by its full name
+abbrev pub extension_named : Text → Bor FieldDescriptorProto → Declared FieldDescriptor
+extension_named name f = record { name = name; what = field_view f.now }
 
 -- what is declared, without its full name
 abbrev pub undeclared : Option (Declared FieldDescriptor) → Option FieldDescriptor

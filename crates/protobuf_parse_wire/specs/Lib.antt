@@ -26,3 +26,5 @@ pub mod WithoutOptions
 pub mod MoreFiles
 pub mod Recovery
 pub mod ByName
+pub mod Places
+pub mod Holding

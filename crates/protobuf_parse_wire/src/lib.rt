@@ -10,7 +10,7 @@ mod kind;
 mod law;
 mod reader;
 
-pub use customs::KnownFiles;
+pub use customs::{DeclaredPlaces, KnownFiles, PickedFiles};
 pub use encoder::{encode, encode_into};
 pub use entry::{Entry, EntryValue};
 pub use fault::ReadFault;

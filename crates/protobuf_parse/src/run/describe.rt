@@ -1,6 +1,6 @@
 //! What a file becomes, once its imports are loaded.
 
-ghost use Rattle.std.specs.Prelude.{◌≡◌, ◌≤◌, [], List, option_map, slice_get, IfOk};
+ghost use Rattle.std.specs.Prelude.{◌≡◌, ◌≤◌, [], List, map, option_map, slice_get, IfOk};
 ghost use Rattle.std.specs.List.Sorted.{IsStrictlyIncreasing};
 ghost use Rattle.protobuf_parse_syntax.specs.Counts.{statements_in};
 ghost use Rattle.protobuf_parse_syntax.specs.Trees.{FileSyntax, file_view};
@@ -9,17 +9,18 @@ ghost use Rattle.protobuf_parse_model.specs.Faults.{Elaborates};
 ghost use Rattle.protobuf_parse_model.specs.FileDescriptor.{environment, file_faults, file_of};
 ghost use Rattle.protobuf_parse_model.specs.Linking.{link_faults};
 ghost use Rattle.protobuf_parse_model.specs.Tables.{Tells, picked};
-ghost use Rattle.protobuf_parse_wire.specs.Known.{files_seen};
-ghost use Rattle.protobuf_parse.specs.Loading.{Describes, customs_over, picked_plains, plain_or};
+ghost use Rattle.protobuf_parse_wire.specs.Holding.{Holds};
+ghost use Rattle.protobuf_parse.specs.Loading.{Begins, Describes, customs_over, plain_in, plain_or};
 ghost use Rattle.protobuf_parse.specs.Loading.{plain_seen, plains_with};
 
-use crate::run::loader::{LoadedFile, LoadedFiles, Loader};
+use crate::run::loader::LoadedFiles;
 use crate::run::reach::Sights;
+use crate::run::tables::{RunPlaces, Tables, add_next, plain_of};
 use protobuf_parse_model::{
     ElabFailure, FileDescriptorProto, NoExtensions, Seen, WithoutCustoms, elaborate, link,
 };
 use protobuf_parse_syntax::FileTree;
-use protobuf_parse_wire::KnownFiles;
+use protobuf_parse_wire::{DeclaredPlaces, KnownFiles, PickedFiles};
 use std::alloc::{AllocError, Global};
 
 /// What a file becomes.
@@ -34,7 +35,8 @@ pub struct Described {
 /// twice.
 pub fn elaborated(
     alloc: Global,
-    loader: &Loader,
+    loaded: &LoadedFiles,
+    tables: &mut Tables,
     sights: &Sights,
     path: &str,
     tree: &FileTree,
@@ -42,12 +44,16 @@ pub fn elaborated(
     requires few { statements_in (file_view tree.now) ≤ 2147483647 }
     requires reach { IsStrictlyIncreasing sights.now.reach.items }
     requires sight { IsStrictlyIncreasing sights.now.sight.items }
-    ensures { (files : List FileSyntax) → Tells loader.now.names files
-        → Describes loader.now.loaded.entries files sights.now.reach.items sights.now.sight.items
-        path.now (file_view tree.now) result }
+    requires begins { Begins tables.old.places (map plain_in loaded.now.entries) }
+    ensures names { tables.new.names ≡ tables.old.names }
+    ensures describes { (files : List FileSyntax) → Tells tables.old.names files
+        → Describes loaded.now.entries files sights.now.reach.items sights.now.sight.items path.now
+        (file_view tree.now) result }
+    ensures begins { IfOk result (λ d. Begins tables.new.places
+        (plains_with loaded.now.entries (plain_or d.plain d.descriptor))) }
 {
     let seen = Seen {
-        declarations: &loader.names,
+        declarations: &tables.names,
         sight: &sights.sight,
         reach: &sights.reach,
     };
@@ -58,7 +64,9 @@ pub fn elaborated(
             plain: None,
         }),
         Err(ElabFailure::Memory) => Err(ElabFailure::Memory),
-        Err(ElabFailure::Fault(_)) => with_customs(alloc, loader, &seen, path, tree),
+        Err(ElabFailure::Fault(_)) => {
+            with_customs(alloc, loaded, &mut tables.places, &seen, path, tree)
+        }
     }
 }
 
@@ -66,19 +74,24 @@ pub fn elaborated(
 /// reaches, its own among them.
 fn with_customs(
     alloc: Global,
-    loader: &Loader,
+    loaded: &LoadedFiles,
+    places: &mut RunPlaces,
     seen: &Seen<'_>,
     path: &str,
     tree: &FileTree,
 ) -> Result<Described, ElabFailure>
     requires few { statements_in (file_view tree.now) ≤ 2147483647 }
-    ensures { (files : List FileSyntax) → Tells seen.now.declarations.now files
+    requires begins { Begins places.old (map plain_in loaded.now.entries) }
+    ensures describes { (files : List FileSyntax) → Tells seen.now.declarations.now files
         → link_faults (picked files seen.now.reach.now) ≡ []
-        → Describes loader.now.loaded.entries files seen.now.reach.now seen.now.sight.now path.now
+        → Describes loaded.now.entries files seen.now.reach.now seen.now.sight.now path.now
         (file_view tree.now) result }
+    ensures begins { IfOk result (λ d. Begins places.new
+        (plains_with loaded.now.entries (plain_or d.plain d.descriptor))) }
 {
     let plain = elaborate(alloc, path, tree, seen, &WithoutCustoms)?;
-    let descriptor = spelled(alloc, &loader.loaded, seen, &plain, path, tree)?;
+    add_next(places, alloc, loaded, &plain)?;
+    let descriptor = spelled(alloc, loaded, &places.declared, seen, &plain, path, tree)?;
     Ok(Described {
         descriptor,
         plain: Some(plain),
@@ -89,12 +102,15 @@ fn with_customs(
 fn spelled(
     alloc: Global,
     loaded: &LoadedFiles,
+    places: &DeclaredPlaces,
     seen: &Seen<'_>,
     plain: &FileDescriptorProto,
     path: &str,
     tree: &FileTree,
 ) -> Result<FileDescriptorProto, ElabFailure>
     requires few { statements_in (file_view tree.now) ≤ 2147483647 }
+    requires holds { Holds places.now
+        (plains_with loaded.now.entries (described.file_view plain.now)) }
     ensures { (files : List FileSyntax) → Tells seen.now.declarations.now files
         → let plains = plains_with loaded.now.entries (described.file_view plain.now) in
         let sight = seen.now.sight.now in
@@ -102,9 +118,17 @@ fn spelled(
         let t = file_view tree.now in let env = environment (picked files sight) customs t in
         Elaborates described.file_view result (file_faults env t) (file_of env path.now t) }
 {
-    let files = plains(alloc, loaded, plain, seen.reach)?;
+    let reached = plains(alloc, loaded, plain, seen.reach)?;
+    let reach = PickedFiles {
+        numbers: seen.reach,
+        files: &reached,
+    };
     let visible = plains(alloc, loaded, plain, seen.sight)?;
-    let known = KnownFiles::new(alloc, &files, &visible)?;
+    let sight = PickedFiles {
+        numbers: seen.sight,
+        files: &visible,
+    };
+    let known = KnownFiles::new(places, reach, sight);
     elaborate(alloc, path, tree, seen, &known)
 }
 
@@ -115,17 +139,13 @@ fn plains<'a>(
     loaded: &'a LoadedFiles,
     own: &'a FileDescriptorProto,
     numbers: &[usize],
-) -> Result<Vec<&'a FileDescriptorProto>, AllocError>
-    ensures { IfOk result
-        (λ v. files_seen v.items
-        ≡ picked_plains (plains_with loaded.now.entries (described.file_view own.now))
-        numbers.now) }
+) -> Result<Vec<Option<&'a FileDescriptorProto>>, AllocError>
+    ensures { IfOk result (λ v. map (option_map plain_seen) v.items ≡ map
+        (slice_get (plains_with loaded.now.entries (described.file_view own.now))) numbers.now) }
 {
     let mut list = Vec::new(alloc);
     'files: for number in numbers {
-        if let Some(descriptor) = plain_at(loaded, own, *number) {
-            list.push(descriptor)?;
-        }
+        list.push(plain_at(loaded, own, *number))?;
     }
     Ok(list)
 }
@@ -143,15 +163,5 @@ fn plain_at<'a>(
         Some((_, file)) => Some(plain_of(file)),
         None if number == loaded.len() => Some(own),
         None => None,
-    }
-}
-
-/// A loaded file's descriptor without custom options.
-fn plain_of(file: &LoadedFile) -> &FileDescriptorProto
-    ensures { described.file_view result.now ≡ plain_or file.now.plain file.now.descriptor }
-{
-    match &file.plain {
-        Some(plain) => plain,
-        None => &file.descriptor,
     }
 }

@@ -21,12 +21,13 @@ ghost use Rattle.protobuf_parse.specs.Walks.{statements, walk};
 ghost use Rattle.protobuf_parse.specs.Run.{Files, IsCounted, are_same_bytes, input_view};
 ghost use Rattle.protobuf_parse.specs.Run.{StandsInCheck, StandsInCycle, StandsInElab};
 ghost use Rattle.protobuf_parse.specs.Run.{StandsInLong, origin_given, rows, text_given};
-ghost use Rattle.protobuf_parse.specs.Loading.{AreKnown, AreJoined, AreNumbered, Describes, Goes};
-ghost use Rattle.protobuf_parse.specs.Loading.{GoesOn, Good, Grows, IsDecided, IsElabFault};
+ghost use Rattle.protobuf_parse.specs.Loading.{AreKnown, AreJoined, AreNumbered, Begins, Describes};
+ghost use Rattle.protobuf_parse.specs.Loading.{Goes, GoesOn, Good, Grows, IsDecided, IsElabFault};
 ghost use Rattle.protobuf_parse.specs.Loading.{IsPlaced, IsReaders, IsShadowed, OrMemory};
 ghost use Rattle.protobuf_parse.specs.Loading.{ReadsTree, SettlesOver, asked_by, faults_over};
-ghost use Rattle.protobuf_parse.specs.Loading.{file_at, legal_by, named_trees, plains_over, texts};
-ghost use Rattle.protobuf_parse.specs.Loading.{trees_of, with_next};
+ghost use Rattle.protobuf_parse.specs.Loading.{file_at, legal_by, named_trees, plain_in, plain_or};
+ghost use Rattle.protobuf_parse.specs.Loading.{plains_over, plains_with, texts, trees_of};
+ghost use Rattle.protobuf_parse.specs.Loading.{with_next};
 ghost use Rattle.protobuf_parse.specs.Frames.{Joined, Meets, is_public_at, number_if, StandsMet};
 ghost use Rattle.protobuf_parse.specs.Frames.{path_of};
 
@@ -37,9 +38,10 @@ use crate::run::frame::LoadFrame;
 use crate::run::log::{ReadEntry, ReadOutcome, RunInput};
 use crate::run::reach::{ImportNumbers, Sights, sights_of};
 use crate::run::source::{InputReader, ProtoPathResolver, Sources};
+use crate::run::tables::Tables;
 use indexmap::IndexMap;
 use protobuf_parse_base::proto_path::ProtoPathBuf;
-use protobuf_parse_model::{Declarations, ElabError, ElabFailure, FileDescriptorProto};
+use protobuf_parse_model::{ElabError, ElabFailure, FileDescriptorProto};
 use protobuf_parse_syntax::{FileStatement, FileTree, ImportVis};
 use std::alloc::{AllocError, Global};
 use std::mem;
@@ -79,7 +81,7 @@ pub type LoadedFiles = IndexMap<String, LoadedFile>;
 pub struct Loader {
     pub loaded: LoadedFiles,
     /// What the loaded files declare, by their numbers.
-    pub names: Declarations,
+    pub tables: Tables,
     pub reads: Vec<ReadEntry>,
     /// The files whose imports are being loaded, each imported by the one before it.
     pub chain: Vec<String>,
@@ -103,7 +105,8 @@ pub fn load_inputs<R: ProtoPathResolver, I: InputReader>(
     inputs: &[RunInput],
 ) -> Result<(), RunFault>
     requires loaded { loader.old.loaded.entries ≡ [] }
-    requires names { Tells loader.old.names [] }
+    requires names { Tells loader.old.tables.names [] }
+    requires places { Begins loader.old.tables.places [] }
     requires reads { loader.old.reads.items ≡ [] }
     requires chain { loader.old.chain.items ≡ [] }
     requires meets { loader.old.meets ≡ 0 }
@@ -119,7 +122,7 @@ pub fn load_inputs<R: ProtoPathResolver, I: InputReader>(
         (events files.trees (map input_view inputs.now))) result }
     ensures decided { IsDecided (rows sources.now.bundled.now) loader.new.reads.items }
     ensures known { OnOk result
-        (AreKnown loader.new.loaded.entries loader.new.names loader.new.reads.items) }
+        (AreKnown loader.new.loaded.entries loader.new.tables loader.new.reads.items) }
 {
     for input in inputs {
         load_input(alloc, loader, sources, input)?;
@@ -135,7 +138,7 @@ fn load_input<R: ProtoPathResolver, I: InputReader>(
     input: &RunInput,
 ) -> Result<(), RunFault>
     requires chain { loader.old.chain.items ≡ [] }
-    requires known { AreKnown loader.old.loaded.entries loader.old.names loader.old.reads.items }
+    requires known { AreKnown loader.old.loaded.entries loader.old.tables loader.old.reads.items }
     requires room { loader.old.meets + 1 ≤ 2 ^ 65 + length loader.old.reads.items * 2 ^ 64 }
     ensures grows { Grows loader.old.reads.items loader.new.reads.items }
     ensures chain { OnOk result (loader.new.chain.items ≡ []) }
@@ -160,7 +163,7 @@ fn load_input<R: ProtoPathResolver, I: InputReader>(
     ensures decided { IsDecided (rows sources.now.bundled.now) loader.old.reads.items
         → IsDecided (rows sources.now.bundled.now) loader.new.reads.items }
     ensures known { OnOk result
-        (AreKnown loader.new.loaded.entries loader.new.names loader.new.reads.items) }
+        (AreKnown loader.new.loaded.entries loader.new.tables loader.new.reads.items) }
 {
     match input {
         RunInput::Named(name) => load_file(alloc, loader, sources, name, None),
@@ -180,10 +183,10 @@ fn check_loaded<R: ProtoPathResolver, I: InputReader>(
     name: &ProtoPathBuf,
     fs_path: &str,
 ) -> Result<(), RunFault>
-    requires known { AreKnown loader.old.loaded.entries loader.old.names loader.old.reads.items }
+    requires known { AreKnown loader.old.loaded.entries loader.old.tables loader.old.reads.items }
     ensures chain { loader.new.chain ≡ loader.old.chain }
     ensures loaded { loader.new.loaded ≡ loader.old.loaded }
-    ensures names { loader.new.names ≡ loader.old.names }
+    ensures names { loader.new.tables ≡ loader.old.tables }
     ensures meets { loader.new.meets ≡ loader.old.meets }
     ensures grows { Grows loader.old.reads.items loader.new.reads.items }
     ensures more { length loader.old.reads.items ≤ length loader.new.reads.items }
@@ -277,7 +280,7 @@ fn note(
     outcome: ReadOutcome,
 ) -> Result<(), AllocError>
     ensures loaded { loader.new.loaded ≡ loader.old.loaded }
-    ensures names { loader.new.names ≡ loader.old.names }
+    ensures names { loader.new.tables ≡ loader.old.tables }
     ensures chain { loader.new.chain ≡ loader.old.chain }
     ensures meets { loader.new.meets ≡ loader.old.meets }
     ensures ok { OnOk result ((e : ReadEntry)
@@ -300,7 +303,7 @@ fn load_file<R: ProtoPathResolver, I: InputReader>(
     fs_path: Option<&str>,
 ) -> Result<(), RunFault>
     requires chain { loader.old.chain.items ≡ [] }
-    requires known { AreKnown loader.old.loaded.entries loader.old.names loader.old.reads.items }
+    requires known { AreKnown loader.old.loaded.entries loader.old.tables loader.old.reads.items }
     requires room { loader.old.meets + 1 ≤ 2 ^ 65 + length loader.old.reads.items * 2 ^ 64 }
     ensures grows { Grows loader.old.reads.items loader.new.reads.items }
     ensures chain { OnOk result (loader.new.chain.items ≡ []) }
@@ -325,7 +328,7 @@ fn load_file<R: ProtoPathResolver, I: InputReader>(
     ensures decided { IsDecided (rows sources.now.bundled.now) loader.old.reads.items
         → IsDecided (rows sources.now.bundled.now) loader.new.reads.items }
     ensures known { OnOk result
-        (AreKnown loader.new.loaded.entries loader.new.names loader.new.reads.items) }
+        (AreKnown loader.new.loaded.entries loader.new.tables loader.new.reads.items) }
 {
     let first = meet(alloc, loader, sources, input, input, fs_path)?;
     let mut top = match first {
@@ -371,7 +374,7 @@ fn meet<R: ProtoPathResolver, I: InputReader>(
     requires chain { length loader.old.chain.items ≤ LIMIT }
     requires room { loader.old.meets + 1 < 2 ^ 128 }
     ensures loaded { loader.new.loaded ≡ loader.old.loaded }
-    ensures names { loader.new.names ≡ loader.old.names }
+    ensures names { loader.new.tables ≡ loader.old.tables }
     ensures meets { loader.new.meets ≡ loader.old.meets + 1 }
     ensures grows { Grows loader.old.reads.items loader.new.reads.items }
     ensures decided { IsDecided (rows sources.now.bundled.now) loader.old.reads.items
@@ -469,15 +472,17 @@ fn push_if(numbers: &mut Vec<usize>, public: bool, number: usize) -> Result<(), 
 fn close(alloc: Global, loader: &mut Loader, frame: LoadFrame) -> Result<Placed, RunFault>
     requires low { frame.height < LIMIT }
     requires few { statements_in (file_view frame.tree) ≤ 2147483647 }
+    requires begins { Begins loader.old.tables.places (map plain_in loader.old.loaded.entries) }
     ensures reads { loader.new.reads ≡ loader.old.reads }
     ensures meets { loader.new.meets ≡ loader.old.meets }
     ensures chain { (chain : List Text) → texts loader.old.chain.items ≡ chain ++ path_of frame ∷ []
         → texts loader.new.chain.items ≡ chain }
     ensures height { IfOk result (λ placed. placed.height ≡ frame.height + 1) }
-    ensures settles { Tells loader.old.names (trees_of (named_trees loader.old.loaded.entries))
+    ensures settles { Tells loader.old.tables.names
+        (trees_of (named_trees loader.old.loaded.entries))
         → SettlesOver (path_of frame) (file_view frame.tree)
         (frame.height + 1) frame.read frame.below.items frame.public.items loader.old.reads.items
-        loader.old.loaded.entries loader.new.loaded.entries loader.new.names result }
+        loader.old.loaded.entries loader.new.loaded.entries loader.new.tables result }
 {
     let LoadFrame {
         path,
@@ -558,7 +563,7 @@ fn read_tree<R: ProtoPathResolver, I: InputReader>(
     fs_path: Option<&str>,
 ) -> Result<FileTree, RunFault>
     ensures loaded { loader.new.loaded ≡ loader.old.loaded }
-    ensures names { loader.new.names ≡ loader.old.names }
+    ensures names { loader.new.tables ≡ loader.old.tables }
     ensures chain { loader.new.chain ≡ loader.old.chain }
     ensures meets { loader.new.meets ≡ loader.old.meets }
     ensures read { ReadsTree (legal_by R.may_answer I.may_read sources.now)
@@ -606,18 +611,20 @@ fn settle(
     read: usize,
 ) -> Result<Placed, RunFault>
     requires few { statements_in (file_view tree) ≤ 2147483647 }
+    requires begins { Begins loader.old.tables.places (map plain_in loader.old.loaded.entries) }
     ensures reads { loader.new.reads ≡ loader.old.reads }
     ensures chain { loader.new.chain ≡ loader.old.chain }
     ensures meets { loader.new.meets ≡ loader.old.meets }
     ensures height { IfOk result (λ placed. placed.height ≡ height) }
-    ensures settles { Tells loader.old.names (trees_of (named_trees loader.old.loaded.entries))
+    ensures settles { Tells loader.old.tables.names
+        (trees_of (named_trees loader.old.loaded.entries))
         → SettlesOver (string_bytes path)
         (file_view tree) height read imports.now.all.now imports.now.public.now
-        loader.old.reads.items loader.old.loaded.entries loader.new.loaded.entries loader.new.names
+        loader.old.reads.items loader.old.loaded.entries loader.new.loaded.entries loader.new.tables
         result }
 {
     let sights = sights_of(alloc, &loader.loaded, imports)?;
-    loader.names.add(alloc, loader.loaded.len(), &tree)?;
+    loader.tables.names.add(alloc, loader.loaded.len(), &tree)?;
     let described = descriptor_of(alloc, loader, &sights, &path, &tree, read)?;
     let Described { descriptor, plain } = described;
     let Sights {
@@ -654,7 +661,7 @@ fn add(loaded: &mut LoadedFiles, path: String, file: LoadedFile) -> Result<Place
 /// What a file becomes over the files that it reaches and sees, or L10 of this read.
 fn descriptor_of(
     alloc: Global,
-    loader: &Loader,
+    loader: &mut Loader,
     sights: &Sights,
     path: &str,
     tree: &FileTree,
@@ -663,20 +670,35 @@ fn descriptor_of(
     requires few { statements_in (file_view tree.now) ≤ 2147483647 }
     requires reach { IsStrictlyIncreasing sights.now.reach.items }
     requires sight { IsStrictlyIncreasing sights.now.sight.items }
-    ensures ok { (files : List FileSyntax) → Tells loader.now.names files →
+    requires begins { Begins loader.old.tables.places (map plain_in loader.old.loaded.entries) }
+    ensures loaded { loader.new.loaded ≡ loader.old.loaded }
+    ensures names { loader.new.tables.names ≡ loader.old.tables.names }
+    ensures reads { loader.new.reads ≡ loader.old.reads }
+    ensures chain { loader.new.chain ≡ loader.old.chain }
+    ensures meets { loader.new.meets ≡ loader.old.meets }
+    ensures ok { (files : List FileSyntax) → Tells loader.old.tables.names files →
         IfOk result
-        (λ d. Describes loader.now.loaded.entries files sights.now.reach.items
+        (λ d. Describes loader.old.loaded.entries files sights.now.reach.items
         sights.now.sight.items path.now (file_view tree.now) (Ok d)) }
-    ensures err { (files : List FileSyntax) → Tells loader.now.names files
+    ensures err { (files : List FileSyntax) → Tells loader.old.tables.names files
         → let t = file_view tree.now in
-        IfErr result (λ f. (e : ReadEntry) → slice_get loader.now.reads.items read ≡ Some e
+        IfErr result (λ f. (e : ReadEntry) → slice_get loader.old.reads.items read ≡ Some e
         → path_buf_text e.path ≡ path.now
         → OrMemory f (StandsInElab (origin_given path.now (Some e.outcome))
         (faults_over files
-        (plains_over loader.now.loaded.entries files sights.now.sight.items path.now t)
+        (plains_over loader.old.loaded.entries files sights.now.sight.items path.now t)
         sights.now.reach.items sights.now.sight.items t) f)) }
+    ensures begins { IfOk result (λ d. Begins loader.new.tables.places
+        (plains_with loader.old.loaded.entries (plain_or d.plain d.descriptor))) }
 {
-    match elaborated(alloc, loader, sights, path, tree) {
+    match elaborated(
+        alloc,
+        &loader.loaded,
+        &mut loader.tables,
+        sights,
+        path,
+        tree,
+    ) {
         Ok(described) => Ok(described),
         Err(ElabFailure::Memory) => Err(RunFault::Memory),
         Err(ElabFailure::Fault(error)) => Err(refused(alloc, &loader.reads, read, path, error)),

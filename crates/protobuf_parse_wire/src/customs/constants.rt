@@ -13,7 +13,7 @@ ghost use Rattle.protobuf_parse_wire.specs.CustomFaults.{value_faults};
 ghost use Rattle.protobuf_parse_wire.specs.CustomOptions.{item, message_item, value_items};
 ghost use Rattle.protobuf_parse_wire.specs.Given.{field_faults_of, field_items_of, given_faults};
 ghost use Rattle.protobuf_parse_wire.specs.Given.{place_view};
-ghost use Rattle.protobuf_parse_wire.specs.Known.{files_seen};
+ghost use Rattle.protobuf_parse_wire.specs.Holding.{files_seen};
 ghost use Rattle.protobuf_parse_wire.specs.OptionFields.{takes, type_name_of};
 ghost use Rattle.protobuf_parse_wire.specs.Views.{entry_view};
 

@@ -8,7 +8,8 @@ ghost use Rattle.protobuf_parse_wire.specs.CustomFaults.{bracketed, constant_nam
 ghost use Rattle.protobuf_parse_wire.specs.CustomFaults.{extension_faults, field_name_faults};
 ghost use Rattle.protobuf_parse_wire.specs.CustomFaults.{part_faults};
 ghost use Rattle.protobuf_parse_wire.specs.Given.{place_view};
-ghost use Rattle.protobuf_parse_wire.specs.Known.{field_seen, files_seen};
+ghost use Rattle.protobuf_parse_wire.specs.Holding.{files_seen};
+ghost use Rattle.protobuf_parse_wire.specs.Known.{field_seen};
 ghost use Rattle.protobuf_parse_wire.specs.OptionFields.{constant_field, extends_message};
 ghost use Rattle.protobuf_parse_wire.specs.OptionFields.{extension_meant, extension_named};
 ghost use Rattle.protobuf_parse_wire.specs.OptionFields.{field_named, part_field, type_name_of};
@@ -79,7 +80,7 @@ fn named_extension<'a>(
 
 /// Whether the field extends the message of that full name.
 fn extends_message(known: &KnownFiles<'_>, message: &str, field: &FieldDescriptorProto) -> bool
-    ensures { result ≡ extends_message (files_seen known.now.files.now) message.now
+    ensures { result ≡ extends_message (files_seen known.now.reach) message.now
         (field_view field.now) }
 {
     let Some(extendee) = &field.extendee else {

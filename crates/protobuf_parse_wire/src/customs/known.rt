@@ -1,24 +1,31 @@
-//! What files declare, in a list.
+//! What a file declares, in lists.
 
-ghost use Rattle.std.specs.Prelude.{◌≡◌, ◌++◌, map, flat_map, string_bytes, IfOk, OnOk};
+ghost use Rattle.std.specs.Prelude.{◌≡◌, ◌++◌, ◌∷◌, [], map, string_bytes, IfOk, OnOk};
 ghost use Rattle.protobuf_parse_model.specs.Descriptors.{enum_view, field_view, file_view};
 ghost use Rattle.protobuf_parse_model.specs.Descriptors.{message_view};
-ghost use Rattle.protobuf_parse_wire.specs.Declarations.{Declaration, declared_extensions};
-ghost use Rattle.protobuf_parse_wire.specs.Declarations.{declared_in, declared_message};
-ghost use Rattle.protobuf_parse_wire.specs.Declarations.{extensions_within, package_scope, within};
-ghost use Rattle.protobuf_parse_wire.specs.Known.{enum_known, extension_known, files_seen};
-ghost use Rattle.protobuf_parse_wire.specs.Known.{message_known, messages_known};
-ghost use Rattle.protobuf_parse_wire.specs.OptionFields.{declared_enums, enum_in};
+ghost use Rattle.protobuf_parse_wire.specs.Declarations.{package_scope, within};
+ghost use Rattle.protobuf_parse_wire.specs.Holding.{enums_placed, extensions_placed};
+ghost use Rattle.protobuf_parse_wire.specs.Holding.{messages_placed};
+ghost use Rattle.protobuf_parse_wire.specs.Places.{enum_name, enums_inside, extensions_inside};
+ghost use Rattle.protobuf_parse_wire.specs.Places.{field_name, placed_each, placed_enums};
+ghost use Rattle.protobuf_parse_wire.specs.Places.{placed_extensions, placed_inside, placed_list};
+ghost use Rattle.protobuf_parse_wire.specs.Places.{placed_message, placed_messages};
 
 use protobuf_parse_model::{
     DescriptorProto, EnumDescriptorProto, FieldDescriptorProto, FileDescriptorProto,
 };
 use std::alloc::{AllocError, Global};
 
-/// Something that a file declares, by its full name.
+/// Something that a file declares.
 #[derive(Drop)]
 pub struct Known<T> {
+    /// The full name.
     pub name: String,
+    /// The way to the message around it: the number of a message in its list, then that of a
+    /// message in it, and so on. Empty for what stands in no message.
+    pub path: Vec<usize>,
+    /// Its number in its list.
+    pub index: usize,
     pub what: T,
 }
 
@@ -39,47 +46,52 @@ fn package_scope(alloc: Global, file: &FileDescriptorProto) -> Result<String, Al
     }
 }
 
-// ---- messages
-
-/// The messages of the files.
-pub fn messages_of<'a>(
-    alloc: Global,
-    files: &[&'a FileDescriptorProto],
-) -> Result<Vec<Known<&'a DescriptorProto>>, AllocError>
-    ensures { IfOk result (λ v. messages_known v.items ≡ flat_map declared_in
-        (files_seen files.now)) }
+/// The same path.
+pub fn copied(alloc: Global, path: &[usize]) -> Result<Vec<usize>, AllocError>
+    ensures { IfOk result (λ v. v.items ≡ path.now) }
 {
-    let mut list = Vec::new(alloc);
-    'files: for file in files {
-        add_file(alloc, file, &mut list)?;
-    }
-    Ok(list)
+    let mut copy = Vec::new(alloc);
+    copy.extend_from_slice(path)?;
+    Ok(copy)
 }
 
-fn add_file<'a>(
-    alloc: Global,
-    file: &'a FileDescriptorProto,
-    list: &mut Vec<Known<&'a DescriptorProto>>,
-) -> Result<(), AllocError>
-    ensures { OnOk result (messages_known list.new.items ≡ messages_known list.old.items
-        ++ declared_in (file_view file.now)) }
+/// The path to the message with this number behind the path to what is around it.
+fn path_to(alloc: Global, path: &[usize], index: usize) -> Result<Vec<usize>, AllocError>
+    ensures { IfOk result (λ v. v.items ≡ path.now ++ index ∷ []) }
 {
+    let mut copy = copied(alloc, path)?;
+    copy.push(index)?;
+    Ok(copy)
+}
+
+// ---- messages
+
+/// The messages of the file.
+pub fn messages_of(
+    alloc: Global,
+    file: &FileDescriptorProto,
+) -> Result<Vec<Known<&DescriptorProto>>, AllocError>
+    ensures { IfOk result (λ v. messages_placed v.items ≡ placed_messages (file_view file.now)) }
+{
+    let mut list = Vec::new(alloc);
     let scope = package_scope(alloc, file)?;
-    add_messages(alloc, &scope, &file.message_type, list)
+    add_messages(alloc, &scope, &[], &file.message_type, &mut list)?;
+    Ok(list)
 }
 
 #[cycle(messages)]
 fn add_messages<'a>(
     alloc: Global,
     scope: &str,
+    path: &[usize],
     messages: &'a [DescriptorProto],
     list: &mut Vec<Known<&'a DescriptorProto>>,
 ) -> Result<(), AllocError>
-    ensures { OnOk result (messages_known list.new.items ≡ messages_known list.old.items
-        ++ flat_map (declared_message scope.now) (map message_view messages.now)) }
+    ensures { OnOk result (messages_placed list.new.items ≡ messages_placed list.old.items
+        ++ placed_list scope.now path.now 0 (map message_view messages.now)) }
 {
-    'messages: for message in messages {
-        add_message(alloc, scope, message, list)?;
+    for (index, message) in messages.iter().enumerate() {
+        add_message(alloc, scope, path, index, message, list)?;
     }
     Ok(())
 }
@@ -88,148 +100,135 @@ fn add_messages<'a>(
 fn add_message<'a>(
     alloc: Global,
     scope: &str,
+    path: &[usize],
+    index: usize,
     message: &'a DescriptorProto,
     list: &mut Vec<Known<&'a DescriptorProto>>,
 ) -> Result<(), AllocError>
-    ensures { OnOk result (messages_known list.new.items ≡ messages_known list.old.items
-        ++ declared_message scope.now (message_view message.now)) }
+    ensures { OnOk result (messages_placed list.new.items ≡ messages_placed list.old.items
+        ++ placed_message scope.now path.now index (message_view message.now)) }
 {
     let name = within(alloc, scope, &message.name)?;
     list.push(Known {
         name: name.clone()?,
+        path: copied(alloc, path)?,
+        index,
         what: message,
     })?;
-    add_messages(alloc, &name, &message.nested_type, list)
+    let inner = path_to(alloc, path, index)?;
+    add_messages(alloc, &name, &inner, &message.nested_type, list)
 }
 
 // ---- enums
 
-/// The enums of the files.
+/// The enums of the file, which has these messages.
 pub fn enums_of<'a>(
     alloc: Global,
-    files: &[&'a FileDescriptorProto],
+    file: &'a FileDescriptorProto,
+    messages: &[Known<&'a DescriptorProto>],
 ) -> Result<Vec<Known<&'a EnumDescriptorProto>>, AllocError>
-    ensures { IfOk result (λ v. map enum_known v.items ≡ flat_map declared_enums
-        (files_seen files.now)) }
+    ensures { IfOk result (λ v. messages_placed messages.now ≡ placed_messages (file_view file.now)
+        → enums_placed v.items ≡ placed_enums (file_view file.now)) }
 {
     let mut list = Vec::new(alloc);
-    'files: for file in files {
-        add_enums_of(alloc, file, &mut list)?;
+    'messages: for message in messages {
+        add_enums_inside(alloc, message, &mut list)?;
     }
+    let scope = package_scope(alloc, file)?;
+    add_enums(alloc, &scope, &[], &file.enum_type, &mut list)?;
     Ok(list)
 }
 
-fn add_enums_of<'a>(
-    alloc: Global,
-    file: &'a FileDescriptorProto,
-    list: &mut Vec<Known<&'a EnumDescriptorProto>>,
-) -> Result<(), AllocError>
-    ensures { OnOk result (map enum_known list.new.items ≡ map enum_known list.old.items
-        ++ declared_enums (file_view file.now)) }
-{
-    let mut messages = Vec::new(alloc);
-    add_file(alloc, file, &mut messages)?;
-    add_enums_inside(alloc, &messages, list)?;
-    let scope = package_scope(alloc, file)?;
-    add_enums(alloc, &scope, &file.enum_type, list)
-}
-
-/// Adds the enums inside the messages.
+/// Adds the enums inside the message.
 fn add_enums_inside<'a>(
     alloc: Global,
-    messages: &[Known<&'a DescriptorProto>],
+    message: &Known<&'a DescriptorProto>,
     list: &mut Vec<Known<&'a EnumDescriptorProto>>,
 ) -> Result<(), AllocError>
-    ensures { OnOk result (map enum_known list.new.items ≡ map enum_known list.old.items
-        ++ flat_map (λ (d : Declaration). map (enum_in d.name) d.parts.enum_type)
-        (messages_known messages.now)) }
+    ensures { OnOk result (enums_placed list.new.items ≡ enums_placed list.old.items
+        ++ placed_inside enum_name enums_inside (messages_placed (message.now ∷ []))) }
 {
-    'messages: for message in messages {
-        add_enums(alloc, &message.name, &message.what.enum_type, list)?;
-    }
-    Ok(())
+    let path = path_to(alloc, &message.path, message.index)?;
+    add_enums(alloc, &message.name, &path, &message.what.enum_type, list)
 }
 
 /// Adds enums of a scope.
 fn add_enums<'a>(
     alloc: Global,
     scope: &str,
+    path: &[usize],
     enums: &'a [EnumDescriptorProto],
     list: &mut Vec<Known<&'a EnumDescriptorProto>>,
 ) -> Result<(), AllocError>
-    ensures { OnOk result (map enum_known list.new.items ≡ map enum_known list.old.items ++ map
-        (enum_in scope.now) (map enum_view enums.now)) }
+    ensures { OnOk result (enums_placed list.new.items ≡ enums_placed list.old.items
+        ++ placed_each enum_name scope.now path.now 0 (map enum_view enums.now)) }
 {
-    'enums: for what in enums {
+    for (index, what) in enums.iter().enumerate() {
         let name = within(alloc, scope, &what.name)?;
-        list.push(Known { name, what })?;
+        let path = copied(alloc, path)?;
+        list.push(Known {
+            name,
+            path,
+            index,
+            what,
+        })?;
     }
     Ok(())
 }
 
 // ---- extensions
 
-/// The extensions of the files.
+/// The extensions of the file, which has these messages.
 pub fn extensions_of<'a>(
     alloc: Global,
-    files: &[&'a FileDescriptorProto],
+    file: &'a FileDescriptorProto,
+    messages: &[Known<&'a DescriptorProto>],
 ) -> Result<Vec<Known<&'a FieldDescriptorProto>>, AllocError>
-    ensures { IfOk result (λ v. map extension_known v.items ≡ flat_map declared_extensions
-        (files_seen files.now)) }
+    ensures { IfOk result (λ v. messages_placed messages.now ≡ placed_messages (file_view file.now)
+        → extensions_placed v.items ≡ placed_extensions (file_view file.now)) }
 {
     let mut list = Vec::new(alloc);
-    'files: for file in files {
-        add_extensions_of(alloc, file, &mut list)?;
+    'messages: for message in messages {
+        add_extensions_inside(alloc, message, &mut list)?;
     }
+    let scope = package_scope(alloc, file)?;
+    add_extensions(alloc, &scope, &[], &file.extension, &mut list)?;
     Ok(list)
 }
 
-fn add_extensions_of<'a>(
-    alloc: Global,
-    file: &'a FileDescriptorProto,
-    list: &mut Vec<Known<&'a FieldDescriptorProto>>,
-) -> Result<(), AllocError>
-    ensures { OnOk result (map extension_known list.new.items
-        ≡ map extension_known list.old.items ++ declared_extensions (file_view file.now)) }
-{
-    let mut messages = Vec::new(alloc);
-    add_file(alloc, file, &mut messages)?;
-    add_extensions_inside(alloc, &messages, list)?;
-    let scope = package_scope(alloc, file)?;
-    add_extensions(alloc, &scope, &file.extension, list)
-}
-
-/// Adds the extensions inside the messages.
+/// Adds the extensions inside the message.
 fn add_extensions_inside<'a>(
     alloc: Global,
-    messages: &[Known<&'a DescriptorProto>],
+    message: &Known<&'a DescriptorProto>,
     list: &mut Vec<Known<&'a FieldDescriptorProto>>,
 ) -> Result<(), AllocError>
-    ensures { OnOk result (map extension_known list.new.items
-        ≡ map extension_known list.old.items ++ flat_map
-        (λ (d : Declaration). extensions_within d.name d.parts.extension)
-        (messages_known messages.now)) }
+    ensures { OnOk result (extensions_placed list.new.items ≡ extensions_placed list.old.items
+        ++ placed_inside field_name extensions_inside (messages_placed (message.now ∷ []))) }
 {
-    'messages: for message in messages {
-        add_extensions(alloc, &message.name, &message.what.extension, list)?;
-    }
-    Ok(())
+    let path = path_to(alloc, &message.path, message.index)?;
+    add_extensions(alloc, &message.name, &path, &message.what.extension, list)
 }
 
 /// Adds extensions of a scope.
 fn add_extensions<'a>(
     alloc: Global,
     scope: &str,
+    path: &[usize],
     extensions: &'a [FieldDescriptorProto],
     list: &mut Vec<Known<&'a FieldDescriptorProto>>,
 ) -> Result<(), AllocError>
-    ensures { OnOk result (map extension_known list.new.items
-        ≡ map extension_known list.old.items ++ extensions_within scope.now
-        (map field_view extensions.now)) }
+    ensures { OnOk result (extensions_placed list.new.items ≡ extensions_placed list.old.items
+        ++ placed_each field_name scope.now path.now 0 (map field_view extensions.now)) }
 {
-    'extensions: for what in extensions {
+    for (index, what) in extensions.iter().enumerate() {
         let name = within(alloc, scope, &what.name)?;
-        list.push(Known { name, what })?;
+        let path = copied(alloc, path)?;
+        list.push(Known {
+            name,
+            path,
+            index,
+            what,
+        })?;
     }
     Ok(())
 }

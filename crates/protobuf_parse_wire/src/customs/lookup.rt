@@ -6,13 +6,13 @@ ghost use Rattle.protobuf_parse_model.specs.Declarations as names;
 ghost use Rattle.protobuf_parse_model.specs.Descriptors.{enum_value_view, field_view};
 ghost use Rattle.protobuf_parse_model.specs.Lookup.{declared, meaning};
 ghost use Rattle.protobuf_parse_wire.specs.Declarations.{declared_extensions};
-ghost use Rattle.protobuf_parse_wire.specs.Known.{extension_seen, extensions_known, field_among};
-ghost use Rattle.protobuf_parse_wire.specs.Known.{field_seen, files_seen, number_among, undeclared};
+ghost use Rattle.protobuf_parse_wire.specs.Holding.{files_seen};
+ghost use Rattle.protobuf_parse_wire.specs.Known.{extension_named, field_among, field_seen};
+ghost use Rattle.protobuf_parse_wire.specs.Known.{number_among, undeclared};
 ghost use Rattle.protobuf_parse_wire.specs.OptionFields.{field_named, is_message, number_of_value};
 
-use crate::customs::by_name;
-use crate::customs::known::Known;
 use crate::customs::known_files::KnownFiles;
+use crate::customs::spots::{field_of, first_extension, first_message, number_of};
 use crate::reader::groups;
 use protobuf_parse_model::{EnumValueDescriptorProto, FieldDescriptorProto};
 use std::alloc::{AllocError, Global};
@@ -26,9 +26,13 @@ pub fn field_named<'a>(
     name: &str,
 ) -> Option<&'a FieldDescriptorProto>
     ensures { option_map field_seen result ≡ field_named
-        (files_seen known.now.files.now) message.now name.now }
+        (files_seen known.now.reach) message.now name.now }
 {
-    by_name::field_of(groups::group(&known.messages, message), name)
+    field_of(
+        &known.reach,
+        groups::group(&known.places.messages, message),
+        name,
+    )
 }
 
 /// The first field of that name.
@@ -48,19 +52,22 @@ pub fn field_among<'a>(
 
 /// Whether a message has the full name.
 pub fn is_message(known: &KnownFiles<'_>, name: &str) -> bool
-    ensures { result ≡ is_message (files_seen known.now.files.now) name.now }
+    ensures { result ≡ is_message (files_seen known.now.reach) name.now }
 {
-    !groups::group(&known.messages, name).is_empty()
+    first_message(&known.reach, groups::group(&known.places.messages, name)).is_some()
 }
 
 // ---- values of enums
 
 /// The number of the value of that name, in the enum of that full name.
 pub fn number_of_value(known: &KnownFiles<'_>, enum_name: &str, name: &str) -> Option<i32>
-    ensures { result ≡ number_of_value
-        (files_seen known.now.files.now) enum_name.now name.now }
+    ensures { result ≡ number_of_value (files_seen known.now.reach) enum_name.now name.now }
 {
-    by_name::number_of(groups::group(&known.enums, enum_name), name)
+    number_of(
+        &known.reach,
+        groups::group(&known.places.enums, enum_name),
+        name,
+    )
 }
 
 /// The number of the first value of that name.
@@ -85,52 +92,30 @@ pub fn extension_meant<'a>(
     name: &str,
 ) -> Result<Option<&'a FieldDescriptorProto>, AllocError>
     ensures { IfOk result (λ f. option_map field_seen f ≡ undeclared
-        (meaning (flat_map declared_extensions (files_seen known.now.visible.now))
+        (meaning (flat_map declared_extensions (files_seen known.now.sight))
         (texts scope.now) name.now)) }
 {
-    match meaning(alloc, &known.extensions, scope, name)? {
-        Some(known) => Ok(Some(known.what)),
-        None => Ok(None),
-    }
-}
-
-fn meaning<'k, 'a>(
-    alloc: Global,
-    extensions: &'k [Known<&'a FieldDescriptorProto>],
-    scope: &[&str],
-    name: &str,
-) -> Result<Option<&'k Known<&'a FieldDescriptorProto>>, AllocError>
-    ensures { IfOk result (λ k. option_map extension_seen k ≡ meaning
-        (extensions_known extensions.now) (texts scope.now) name.now) }
-{
     if name.starts_with('.') {
-        return Ok(declared(extensions, name));
+        return Ok(declared(known, name));
     }
     let mut length = scope.len();
     'scopes: while length > 0 {
         let full_name = full_name(alloc, &scope[..length], name)?;
-        if let Some(known) = declared(extensions, &full_name) {
-            return Ok(Some(known));
+        if let Some(field) = declared(known, &full_name) {
+            return Ok(Some(field));
         }
         length -= 1;
     }
     let full_name = full_name(alloc, &[], name)?;
-    Ok(declared(extensions, &full_name))
+    Ok(declared(known, &full_name))
 }
 
-fn declared<'k, 'a>(
-    extensions: &'k [Known<&'a FieldDescriptorProto>],
-    name: &str,
-) -> Option<&'k Known<&'a FieldDescriptorProto>>
-    ensures { option_map extension_seen result ≡ declared
-        (extensions_known extensions.now) name.now }
+/// The extension of that full name.
+fn declared<'a>(known: &KnownFiles<'a>, name: &str) -> Option<&'a FieldDescriptorProto>
+    ensures { option_map (extension_named name.now) result ≡ declared
+        (flat_map declared_extensions (files_seen known.now.sight)) name.now }
 {
-    'extensions: for known in extensions {
-        if known.name.as_str() == name {
-            return Some(known);
-        }
-    }
-    None
+    first_extension(&known.sight, groups::group(&known.places.extensions, name))
 }
 
 /// The full name of what has the name in the scope.

@@ -5,10 +5,10 @@ ghost use Rattle.std.specs.Str.{bytes_eq};
 ghost use Rattle.protobuf_parse_wire.specs.Groups.{group};
 
 use std::alloc::AllocError;
-use std::collections::HashMap;
+use std::collections::BTreeMap;
 
 /// What stands under the name.
-pub fn group<'g, T>(groups: &'g HashMap<String, Vec<T>>, name: &str) -> &'g [T]
+pub fn group<'g, T>(groups: &'g BTreeMap<String, Vec<T>>, name: &str) -> &'g [T]
     ensures { result.now ≡ group groups.now name.now }
 {
     match groups.get(name) {
@@ -19,7 +19,7 @@ pub fn group<'g, T>(groups: &'g HashMap<String, Vec<T>>, name: &str) -> &'g [T]
 
 /// Puts the item under the name, behind what stands there.
 pub fn put<T: Drop>(
-    groups: &mut HashMap<String, Vec<T>>,
+    groups: &mut BTreeMap<String, Vec<T>>,
     name: String,
     item: T,
 ) -> Result<(), AllocError>

@@ -10,14 +10,14 @@ ghost use Rattle.protobuf_parse_wire.specs.Indexed.{Adds, AddsMessages, Indexes}
 use super::groups;
 use protobuf_parse_model::{DescriptorProto, FieldDescriptorProto, FileDescriptorProto};
 use std::alloc::{AllocError, Global};
-use std::collections::HashMap;
+use std::collections::BTreeMap;
 
 /// What files declare. A name may be declared several times.
 #[derive(Drop)]
 pub struct Index<'a> {
-    pub messages: HashMap<String, Vec<&'a DescriptorProto>>,
+    pub messages: BTreeMap<String, Vec<&'a DescriptorProto>>,
     /// Under the name of the message that they extend.
-    pub extensions: HashMap<String, Vec<&'a FieldDescriptorProto>>,
+    pub extensions: BTreeMap<String, Vec<&'a FieldDescriptorProto>>,
 }
 
 /// The index of the files.
@@ -28,8 +28,8 @@ pub fn index_of<'a>(
     ensures { IfOk result (Indexes (map file_view files.now)) }
 {
     let mut index = Index {
-        messages: HashMap::new(alloc),
-        extensions: HashMap::new(alloc),
+        messages: BTreeMap::new(alloc),
+        extensions: BTreeMap::new(alloc),
     };
     'files: for file in files {
         add_file(alloc, &mut index, file)?;

@@ -54,7 +54,7 @@ returns-in_err-note-clause-decided g c d =
 
 pub returns-clause-decided : goal.returns-clause-decided
 returns-clause-decided g c d =
-    decided-check (rows c.args.sources.now.bundled.now) _ c.args.loader.now.names _ _
+    decided-check (rows c.args.sources.now.bundled.now) _ c.args.loader.now.tables _ _
     (path_buf_text c.args.name.now) _ c.in-Some.file.now _
     (c.to_str.ensures.text ∙ c.as_path.ensures) c.requires.known
     (sym c.in-Some.ensures.value) c.in_ok-note.ensures.ok d

@@ -467,7 +467,7 @@ returns-in_err-placed-clause-goes g c files kept go good =
     let r = c.files.invariant.inside files kept back good in
     let k = running-closes legal files kept _
     (path_buf_text c.args.input.now) c.args.loader.now.meets c.files.stack.items c.files.top _ _
-    c.close.new.loader.loaded.entries _ c.close.new.loader.names _
+    c.close.new.loader.loaded.entries _ c.close.new.loader.tables _
     (Err c.in_err-placed.field-0.0) r _ _ go c.files.invariant.known c.files.invariant.taken
     none c.files.invariant.off le (omega (arith, c.files.invariant.low))
     (c.in_err-placed.ensures.settles c.files.invariant.known.tells) in
@@ -513,7 +513,7 @@ returns-in_default-pop-clause-goes g c files kept go good =
     let r = c.files.invariant.inside files kept back good in
     let k = running-closes legal files kept _
     (path_buf_text c.args.input.now) c.args.loader.now.meets c.files.stack.items c.files.top _ _
-    c.close.new.loader.loaded.entries _ c.close.new.loader.names _
+    c.close.new.loader.loaded.entries _ c.close.new.loader.tables _
     (Ok c.in_ok-placed.placed) r _ _ go c.files.invariant.known c.files.invariant.taken none
     c.files.invariant.off le (omega (arith, c.files.invariant.low))
     (c.in_ok-placed.ensures.settles c.files.invariant.known.tells) in
@@ -654,7 +654,7 @@ files-preserved-in_default g c =
           let r = c.files.invariant.inside files kept back good in
           let k = running-closes legal files kept _
           (path_buf_text c.args.input.now) c.args.loader.now.meets c.files.stack.items
-          c.files.top _ _ c.close.new.loader.loaded.entries _ c.close.new.loader.names _
+          c.files.top _ _ c.close.new.loader.loaded.entries _ c.close.new.loader.tables _
           (Ok c.in_ok-placed.placed) r _ _ go c.files.invariant.known c.files.invariant.taken
           none c.files.invariant.off le (omega (arith, c.files.invariant.low))
           (c.in_ok-placed.ensures.settles c.files.invariant.known.tells) in
@@ -678,7 +678,7 @@ returns-in_err-join-clause-goes g c files kept go good =
     let r = c.files.invariant.inside files kept back good in
     let k = running-closes legal files kept _
     (path_buf_text c.args.input.now) c.args.loader.now.meets c.files.stack.items c.files.top _ _
-    c.close.new.loader.loaded.entries _ c.close.new.loader.names _
+    c.close.new.loader.loaded.entries _ c.close.new.loader.tables _
     (Ok c.in_ok-placed.placed) r _ _ go c.files.invariant.known c.files.invariant.taken none
     c.files.invariant.off le (omega (arith, c.files.invariant.low))
     (c.in_ok-placed.ensures.settles c.files.invariant.known.tells) in

@@ -17,7 +17,7 @@ invariant-files g l =
       grows : Grows l.fn.loader.reads.items l.loader.reads.items;
       decided : IsDecided (rows l.sources.bundled.now) l.fn.loader.reads.items
           → IsDecided (rows l.sources.bundled.now) l.loader.reads.items;
-      known : AreKnown l.loader.loaded.entries l.loader.names l.loader.reads.items;
+      known : AreKnown l.loader.loaded.entries l.loader.tables l.loader.reads.items;
       unloaded : AreUnloaded (chain_of [] l.stack.items ++ path_of l.top ∷ [])
           l.loader.loaded.entries;
       off : among (path_of l.top) (chain_of [] l.stack.items) ≡ false;

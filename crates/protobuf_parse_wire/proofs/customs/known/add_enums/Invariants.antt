@@ -1,10 +1,11 @@
-use Rattle.std.proofs.Common.{◌≡◌, ◌++◌, map, take}
+use Rattle.std.proofs.Common.{◌≡◌, ◌++◌, drop, map}
 use Rattle.protobuf_parse_model.specs.Descriptors.{enum_view}
-use Rattle.protobuf_parse_wire.specs.Known.{enum_known}
-use Rattle.protobuf_parse_wire.specs.OptionFields.{enum_in}
+use Rattle.protobuf_parse_wire.specs.Holding.{enums_placed}
+use Rattle.protobuf_parse_wire.specs.Places.{enum_name, placed_each}
 use Rattle.protobuf_parse_wire.proofs.customs.known.add_enums.Given as goal
 
-abbrev pub invariant-enums : goal.invariant-enums
-invariant-enums l =
-    map enum_known l.list.items ≡ map enum_known l.fn.list.items ++ map (enum_in l.scope)
-    (map enum_view (take l.what-index l.enums))
+abbrev pub invariant-loop-index : goal.invariant-loop-index
+invariant-loop-index l =
+    enums_placed l.fn.list.items ++ placed_each enum_name l.scope l.path 0 (map enum_view l.enums)
+    ≡ enums_placed l.list.items ++ placed_each enum_name l.scope l.path l.index
+    (map enum_view (drop l.index l.enums))

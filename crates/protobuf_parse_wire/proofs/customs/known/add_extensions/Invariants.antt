@@ -1,10 +1,12 @@
-use Rattle.std.proofs.Common.{◌≡◌, ◌++◌, map, take}
+use Rattle.std.proofs.Common.{◌≡◌, ◌++◌, drop, map}
 use Rattle.protobuf_parse_model.specs.Descriptors.{field_view}
-use Rattle.protobuf_parse_wire.specs.Declarations.{extensions_within}
-use Rattle.protobuf_parse_wire.specs.Known.{extension_known}
+use Rattle.protobuf_parse_wire.specs.Holding.{extensions_placed}
+use Rattle.protobuf_parse_wire.specs.Places.{field_name, placed_each}
 use Rattle.protobuf_parse_wire.proofs.customs.known.add_extensions.Given as goal
 
-abbrev pub invariant-extensions : goal.invariant-extensions
-invariant-extensions l =
-    map extension_known l.list.items ≡ map extension_known l.fn.list.items
-    ++ extensions_within l.scope (map field_view (take l.what-index l.extensions))
+abbrev pub invariant-loop-index : goal.invariant-loop-index
+invariant-loop-index l =
+    extensions_placed l.fn.list.items
+    ++ placed_each field_name l.scope l.path 0 (map field_view l.extensions)
+    ≡ extensions_placed l.list.items ++ placed_each field_name l.scope l.path l.index
+    (map field_view (drop l.index l.extensions))

@@ -1,8 +1,9 @@
-use Rattle.std.proofs.Common.{◌≡◌, flat_map, map, take}
-use Rattle.protobuf_parse_wire.specs.OptionFields.{declared_enums}
-use Rattle.protobuf_parse_wire.specs.Known.{files_seen, enum_known}
+use Rattle.std.proofs.Common.{◌≡◌, ◌++◌, drop}
+use Rattle.protobuf_parse_wire.specs.Holding.{enums_placed, messages_placed}
+use Rattle.protobuf_parse_wire.specs.Places.{enum_name, enums_inside, placed_inside}
 use Rattle.protobuf_parse_wire.proofs.customs.known.enums_of.Given as goal
 
-abbrev pub invariant-files : goal.invariant-files
-invariant-files l = map enum_known l.list.items ≡ flat_map declared_enums
-    (files_seen (take l.file-index l.files))
+abbrev pub invariant-messages : goal.invariant-messages
+invariant-messages l =
+    placed_inside enum_name enums_inside (messages_placed l.messages) ≡ enums_placed l.list.items
+    ++ placed_inside enum_name enums_inside (messages_placed (drop l.message-index l.messages))

@@ -1,8 +1,11 @@
-use Rattle.std.proofs.Common.{◌≡◌, flat_map, map, take}
-use Rattle.protobuf_parse_wire.specs.Declarations.{declared_extensions}
-use Rattle.protobuf_parse_wire.specs.Known.{files_seen, extension_known}
+use Rattle.std.proofs.Common.{◌≡◌, ◌++◌, drop}
+use Rattle.protobuf_parse_wire.specs.Holding.{extensions_placed, messages_placed}
+use Rattle.protobuf_parse_wire.specs.Places.{field_name, extensions_inside, placed_inside}
 use Rattle.protobuf_parse_wire.proofs.customs.known.extensions_of.Given as goal
 
-abbrev pub invariant-files : goal.invariant-files
-invariant-files l = map extension_known l.list.items ≡ flat_map declared_extensions
-    (files_seen (take l.file-index l.files))
+abbrev pub invariant-messages : goal.invariant-messages
+invariant-messages l =
+    placed_inside field_name extensions_inside (messages_placed l.messages)
+    ≡ extensions_placed l.list.items
+    ++ placed_inside field_name extensions_inside
+    (messages_placed (drop l.message-index l.messages))

@@ -1,0 +1,9 @@
+use Rattle.std.proofs.Common.{◌≡◌, ◌++◌, drop}
+use Rattle.protobuf_parse_model.specs.Descriptors.{Text}
+use Rattle.protobuf_parse_wire.specs.Holding.{spots_known, spots_under}
+use Rattle.protobuf_parse_wire.proofs.customs.places.put_all.Given as goal
+
+abbrev pub invariant-items : goal.invariant-items
+invariant-items g l =
+    (name : Text) → spots_under l.fn.places name ++ spots_known l.file name l.list
+    ≡ spots_under l.places name ++ spots_known l.file name (drop l.known-index l.list)
