@@ -1,7 +1,6 @@
 //! The fields of a message by their numbers.
 
 ghost use Rattle.std.specs.Prelude.{◌≡◌, ◌≢◌, ◌<◌, ◌^◌, List, [], ◌∷◌, ◌++◌, map, option_map, IsSome, MatchResult};
-ghost use Rattle.std.specs.Option.{option_copied};
 ghost use Rattle.std.specs.Borrow.{Bor};
 ghost use Rattle.protobuf_parse_model.specs.Descriptors.{FieldDescriptor, field_view};
 ghost use Rattle.protobuf_parse_model.specs.declared.descriptor.FieldDescriptorProto.{FieldDescriptorProto};
@@ -13,19 +12,19 @@ use super::index::Index;
 use crate::fault::ReadFault;
 use protobuf_parse_model::FieldDescriptorProto;
 use std::alloc::Global;
-use std::collections::HashMap;
+use std::collections::BTreeMap;
+
+/// Fields under their numbers.
+pub type ByNumber<'a> = BTreeMap<i32, &'a FieldDescriptorProto>;
 
 /// The fields and the extensions of the one message that has the name, by their numbers.
-pub fn enter<'a>(
+pub fn numbers_of<'a>(
     alloc: Global,
     index: &Index<'a>,
-    name: Option<&str>,
-) -> Result<HashMap<i32, &'a FieldDescriptorProto>, ReadFault>
-    ensures { Gives numbered result (entered_by index.now (option_copied name.entry)) }
+    name: &str,
+) -> Result<ByNumber<'a>, ReadFault>
+    ensures { Gives numbered result (entered_by index.now (Some name.now)) }
 {
-    let Some(name) = name else {
-        return Err(ReadFault::UnknownMessage);
-    };
     match groups::group(&index.messages, name) {
         [message] => by_number(
             alloc,
@@ -40,10 +39,10 @@ fn by_number<'a>(
     alloc: Global,
     fields: &'a [FieldDescriptorProto],
     extensions: &[&'a FieldDescriptorProto],
-) -> Result<HashMap<i32, &'a FieldDescriptorProto>, ReadFault>
+) -> Result<ByNumber<'a>, ReadFault>
     ensures { Gives numbered result (by_number (map field_view fields.now ++ map (λ (f : Bor FieldDescriptorProto). field_view f.now) extensions.now)) }
 {
-    let mut numbers = HashMap::new(alloc);
+    let mut numbers = BTreeMap::new(alloc);
     'fields: for field in fields {
         add_field(&mut numbers, field)?;
     }
@@ -55,7 +54,7 @@ fn by_number<'a>(
 
 /// Puts the field behind those whose numbers differ from its number, or says that one has it already.
 fn add_field<'a>(
-    numbers: &mut HashMap<i32, &'a FieldDescriptorProto>,
+    numbers: &mut ByNumber<'a>,
     field: &'a FieldDescriptorProto,
 ) -> Result<(), ReadFault>
     ensures { (fs : List FieldDescriptor) → IsByNumber numbers.old fs → MatchResult result (λ _. IsByNumber numbers.new (fs ++ field_view field.now ∷ [])) (λ e. e ≢ ReadFault.Memory → (more : List FieldDescriptor) → by_number (fs ++ field_view field.now ∷ more) ≡ Err e) }
@@ -68,7 +67,7 @@ fn add_field<'a>(
 
 /// The field that the number names.
 pub fn field_numbered<'a>(
-    numbers: &HashMap<i32, &'a FieldDescriptorProto>,
+    numbers: &ByNumber<'a>,
     number: u64,
 ) -> Option<&'a FieldDescriptorProto>
     ensures found { option_map (λ (f : Bor FieldDescriptorProto). field_view f.now) result ≡ numbered numbers.now number }
