@@ -1,4 +1,4 @@
-use Rattle.std.proofs.Common.{◌≡◌, ℕ, List, ◌++◌, ◌∷◌, [], map, sym, subst, ◌∙◌, arith}
+use Rattle.std.proofs.Common.{◌≡◌, Ok, ℕ, List, ◌++◌, ◌∷◌, [], map, sym, subst, ◌∙◌, arith}
 use Rattle.std.proofs.lemmas.Result.{err_from_is_err_and}
 use Rattle.std.proofs.lemmas.List.{map_push}
 use Rattle.std.proofs.lemmas.Grind.{common_steps}
@@ -36,7 +36,8 @@ message_of-returns-in_err-numbers-clause-gives t c =
 
 pub message_of-returns-clause-gives : goal.message_of-returns-clause-gives
 message_of-returns-clause-gives t c =
-    let e = one_level (entered_by c.args.index.now) c.args.levels (option_copied c.args.name) c.args.bytes.now (numbered c.in_ok-numbers.numbers.value) c.if-levels-eq0.false c.in_ok-numbers.ensures.gives in
+    let made : entered_by c.args.index.now (option_copied c.args.name) ≡ Ok (numbered c.deref.result.now) = rw c.deref.ensures c.in_ok-numbers.ensures.gives in
+    let e = one_level (entered_by c.args.index.now) c.args.levels (option_copied c.args.name) c.args.bytes.now (numbered c.deref.result.now) c.if-levels-eq0.false made in
     subst (λ (read : Read (List Field)). Gives (λ v. map read_field_view v.items) c.records_of.result read) (sym e) c.records_of.ensures.gives
 
 pub value_of-returns-clause-gives : goal.value_of-returns-clause-gives
