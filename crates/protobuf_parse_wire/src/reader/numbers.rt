@@ -66,10 +66,7 @@ fn add_field<'a>(
 }
 
 /// The field that the number names.
-pub fn field_numbered<'a>(
-    numbers: &ByNumber<'a>,
-    number: u64,
-) -> Option<&'a FieldDescriptorProto>
+pub fn field_numbered<'a>(numbers: &ByNumber<'a>, number: u64) -> Option<&'a FieldDescriptorProto>
     ensures found { option_map (λ (f : Bor FieldDescriptorProto). field_view f.now) result ≡ numbered numbers.now number }
     ensures small { IsSome result → number < 2 ^ 31 }
 {

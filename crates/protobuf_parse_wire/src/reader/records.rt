@@ -78,7 +78,16 @@ fn record_of<'a, 'b>(
     ensures kept { OnOk result (Remembers index.now visited.new) }
 {
     let (tag, rest) = words::varint_of(bytes, 10)?;
-    let (value, rest) = value_of(alloc, index, visited, levels, numbers, tag / 8, tag % 8, rest)?;
+    let (value, rest) = value_of(
+        alloc,
+        index,
+        visited,
+        levels,
+        numbers,
+        tag / 8,
+        tag % 8,
+        rest,
+    )?;
     let number = (tag / 8) as u32;
     Ok((ReadField { number, value }, rest))
 }
@@ -110,7 +119,15 @@ fn value_of<'a, 'b>(
     if wire_type_of(kind) != wire_type {
         return Err(ReadFault::WrongWireType);
     }
-    payload_of(alloc, index, visited, levels, type_name_of(field), kind, bytes)
+    payload_of(
+        alloc,
+        index,
+        visited,
+        levels,
+        type_name_of(field),
+        kind,
+        bytes,
+    )
 }
 
 /// The wire type that the payload of the kind has.

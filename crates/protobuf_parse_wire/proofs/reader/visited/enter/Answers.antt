@@ -13,9 +13,9 @@ returns-in-Some-get-clause-gives c =
     let index = c.args.index.now in
     let name : Text = c.in-Some.name.now in
     let found : get_by_text c.args.visited.now.by_name name ≡ Some c.in-Some-get.numbers.now =
-        sym c.get.ensures.value ∙ ap option_copied c.in-Some-get.is in
+    sym c.get.ensures.value ∙ ap option_copied c.in-Some-get.is in
     let made : entered_by index (Some name) ≡ Ok (numbered c.in-Some-get.numbers.now.value) =
-        of_found (λ n. entered_by index (Some name) ≡ Ok (numbered n.value)) _ _ found (c.requires name) in
+    of_found (λ n. entered_by index (Some name) ≡ Ok (numbered n.value)) _ _ found (c.requires name) in
     rw (c.in-Some.is, c.in_ok-clone.ensures.cases) made
 
 pub returns-clause-kept : goal.returns-clause-kept
@@ -28,5 +28,5 @@ returns-clause-kept c =
     let same : kept.value ≡ c.in_ok-numbers_of.field-0 = c.in_ok-clone-2.ensures.cases ∙ c.in_ok-numbers.ensures.ok in
     let made : entered_by index (Some name) ≡ Ok (numbered kept.value) = rw same c.in_ok-numbers_of.ensures in
     one_more (λ q n. entered_by index (Some q) ≡ Ok (numbered n.value)) (get_by_text old) (get_by_text new) name kept
-        c.requires made
-        (λ q. rw (← c.in_ok-key.ensures.ok) (btree_map_updates_text _ old new (Some kept) c.in_ok-insert.ensures.updates q))
+    c.requires made
+    (λ q. rw (← c.in_ok-key.ensures.ok) (btree_map_updates_text _ old new (Some kept) c.in_ok-insert.ensures.updates q))
