@@ -35,7 +35,8 @@ pub fn enter<'a>(
     name: Option<&str>,
 ) -> Result<Rc<ByNumber<'a>>, ReadFault>
     requires { Remembers index.now visited.old }
-    ensures gives { Gives (λ n. numbered n.value) result (entered_by index.now (option_copied name.entry)) }
+    ensures gives { Gives (λ n. numbered n.value) result
+        (entered_by index.now (option_copied name.entry)) }
     ensures kept { OnOk result (Remembers index.now visited.new) }
 {
     let Some(name) = name else {
