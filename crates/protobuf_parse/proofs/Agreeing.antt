@@ -1,5 +1,6 @@
 -- Two runs that agree on the files that a file reaches: the file is alike in both.
-use Rattle.std.proofs.Common.{◌≡◌, true, inl, inr, List, [], ◌∷◌, ◌++◌, Option, Some, None, refl, sym, ◌∙◌, ap, subst}
+use Rattle.std.proofs.Common.{◌≡◌, true, inl, inr, List, [], ◌∷◌, ◌++◌, Option, Some, None, refl}
+use Rattle.std.proofs.Common.{sym, ◌∙◌, ap, subst}
 use Rattle.std.specs.Prelude.{map, option_to_list}
 use Rattle.protobuf_parse_syntax.specs.Trees.{FileSyntax}
 use Rattle.protobuf_parse_model.specs.Descriptors.{Text, FileDescriptor}
@@ -9,10 +10,12 @@ use Rattle.protobuf_parse_model.specs.Faults.{Among, Fault}
 use Rattle.protobuf_parse_model.specs.FileDescriptor.{environment, file_faults, file_of}
 use Rattle.protobuf_parse_model.specs.FilesByPath.{AreDistinct, AreJust, leads, stays, trees_at}
 use Rattle.protobuf_parse_model.specs.Linking.{before_others, link_faults}
-use Rattle.protobuf_parse_model.proofs.Orders.{SameMembers, first-among, just-same, link-none, link-told, types-same}
+use Rattle.protobuf_parse_model.proofs.Orders.{SameMembers, first-among, just-same, link-none}
+use Rattle.protobuf_parse_model.proofs.Orders.{link-told, types-same}
 use Rattle.protobuf_parse_wire.specs.OptionBytes.{known_customs}
 use Rattle.protobuf_parse.specs.Walks.{Trees, Reaches, HandsOn, Sees, sees_itself, by_import, among}
-use Rattle.protobuf_parse.specs.Run.{Files, HasTrees, HaveTrees, IsTree, customs_of, environment_of, faults_in, plain_of, plains_at, text_for}
+use Rattle.protobuf_parse.specs.Run.{Files, HasTrees, HaveTrees, IsTree, customs_of, environment_of}
+use Rattle.protobuf_parse.specs.Run.{faults_in, plain_of, plains_at, text_for}
 use Rattle.protobuf_parse.specs.Stability.{AgreeOn, DeclaresOnce, IsAlike, WereRead}
 use Rattle.protobuf_parse.proofs.Keeping.{or_right}
 use Rattle.protobuf_parse.proofs.Knowing.{public-imported, sees-reaches}
@@ -190,7 +193,8 @@ module _ (old new : Files) (p : Text) (was : WereRead old) (is : WereRead new)
       (plains-same none (new.seen p)
       (λ q m. sees-reaches old.trees p q (again.only q m)))
       ∙ sym (customs-same old (old.reached p) (new.reached p) (old.seen p) (new.seen p)
-      (packages-have old.bundled old.reads old.trees was.trees) same-reach (same-sight old new p was is agree) within none)
+      (packages-have old.bundled old.reads old.trees was.trees) same-reach
+      (same-sight old new p was is agree) within none)
 
   module _ (t : FileSyntax) where
     pub becomes-same : DeclaresOnce old p

@@ -1,5 +1,7 @@
 -- Nothing is asked twice, and no reader is asked where no input lies at a path of its own.
-use Rattle.std.proofs.Common.{◌≡◌, ℕ, zero, suc, Bool, true, false, ◌||◌, inl, inr, length, List, [], ◌∷◌, ◌++◌, map, Option, Some, None, Result, Ok, Err, refl, sym, ◌∙◌, ap, subst, append_assoc, append-nil, if◌then◌else◌}
+use Rattle.std.proofs.Common.{◌≡◌, ℕ, zero, suc, Bool, true, false, ◌||◌, inl, inr, length, List}
+use Rattle.std.proofs.Common.{[], ◌∷◌, ◌++◌, map, Option, Some, None, Result, Ok, Err, refl, sym}
+use Rattle.std.proofs.Common.{◌∙◌, ap, subst, append_assoc, append-nil, if◌then◌else◌}
 use Rattle.std.specs.Prelude.{bytes_eq}
 use Rattle.std.specs.Global.{Vec}
 use Rattle.std.proofs.lemmas.Grind.{flat_map-append}
@@ -12,11 +14,16 @@ use Rattle.protobuf_parse_model.specs.declared.descriptor.FileDescriptorProto.{F
 use Rattle.protobuf_parse.specs.declared.run.fault.RunFault.{RunFault}
 use Rattle.protobuf_parse.specs.declared.run.log.ReadEntry.{ReadEntry}
 use Rattle.protobuf_parse.specs.declared.run.log.ReadOutcome.{ReadOutcome}
-use Rattle.protobuf_parse.specs.Walks.{Asked, the_resolver, the_reader, Input, named, at, Event, cycle, long, load, check, elab, has, keep, among, Trees, import_paths, joined, inside, walk, Read, reads_in, checks, input_walk, events_after, events, until}
-use Rattle.protobuf_parse.specs.Run.{Answers, AreAskedOnce, Ends, Files, IsAskedOnce, RunsAsTold, fails, if_placed, if_reader, placed, placed_in, resolved_in}
+use Rattle.protobuf_parse.specs.Walks.{Asked, the_resolver, the_reader, Input, named, at, Event}
+use Rattle.protobuf_parse.specs.Walks.{cycle, long, load, check, elab, has, keep, among, Trees}
+use Rattle.protobuf_parse.specs.Walks.{import_paths, joined, inside, walk, Read, reads_in, checks}
+use Rattle.protobuf_parse.specs.Walks.{input_walk, events_after, events, until}
+use Rattle.protobuf_parse.specs.Run.{Answers, AreAskedOnce, Ends, Files, IsAskedOnce, RunsAsTold}
+use Rattle.protobuf_parse.specs.Run.{fails, if_placed, if_reader, placed, placed_in, resolved_in}
 use Rattle.protobuf_parse.specs.Loading.{Legal}
 use Rattle.protobuf_parse.proofs.Following.{AllFollow, all-follow, follows-front}
-use Rattle.protobuf_parse.proofs.Keeping.{bool_cases, has-last, keep-fresh, has-left, never_both, reads_in-append, text-true}
+use Rattle.protobuf_parse.proofs.Keeping.{bool_cases, has-last, keep-fresh, has-left, never_both}
+use Rattle.protobuf_parse.proofs.Keeping.{reads_in-append, text-true}
 use Rattle.protobuf_parse.proofs.Listed.{have-lists}
 use Rattle.protobuf_parse.proofs.Steps.{has-asked}
 use Rattle.protobuf_parse.proofs.Walking.{walk-load, walk-no_room, walk-on_chain}
@@ -249,7 +256,8 @@ owned-input trees kept (named p) = owned-keep (kept ++ []) (input_walk trees (na
     (none-walk trees p 100 [] p)
     ∙ owned-append kept []
 owned-input trees kept (at p own) =
-    ap (λ z. owned (keep (kept ++ checks kept (at p own)) z)) (walk-input trees p (the_reader own) p)
+    ap (λ z. owned (keep (kept ++ checks kept (at p own)) z))
+    (walk-input trees p (the_reader own) p)
     ∙ owned-at kept (inside (trees p) (walk trees p the_resolver 99 (p ∷ [])) p) p own
     (has (load the_resolver p) kept) refl
     (none-inside (trees p) (walk trees p the_resolver 99 (p ∷ [])) p

@@ -1,5 +1,6 @@
 -- Where the faults of a resolver and of a reader come from.
-use Rattle.std.proofs.Common.{◌≡◌, ℕ, refl, inl, inr, List, [], ◌∷◌, ◌++◌, Result, Ok, Err, sym, ◌∙◌, ap, subst, Some}
+use Rattle.std.proofs.Common.{◌≡◌, ℕ, refl, inl, inr, List, [], ◌∷◌, ◌++◌, Result, Ok, Err, sym}
+use Rattle.std.proofs.Common.{◌∙◌, ap, subst, Some}
 use Rattle.std.specs.Prelude.{IfErr}
 use Rattle.std.specs.Global.{Vec}
 use Rattle.protobuf_parse_model.specs.Descriptors.{Text}
@@ -10,10 +11,14 @@ use Rattle.protobuf_parse.specs.declared.run.fault.ResolveFault.{ResolveFault}
 use Rattle.protobuf_parse.specs.declared.run.fault.ReadInputFault.{ReadInputFault}
 use Rattle.protobuf_parse.specs.declared.run.log.ReadOutcome.{ReadOutcome}
 use Rattle.protobuf_parse.specs.declared.run.log.ReadOutcome.TheVariants as outcome
-use Rattle.protobuf_parse.specs.Walks.{Asked, the_resolver, the_reader, Event, cycle, long, load, check, elab, Read, reads_in}
-use Rattle.protobuf_parse.specs.Run.{Answers, Ends, Files, IsCaused, IsRefused, MayAnswer, MayRead, MayResolve, Resolved, StandsAt, WasRead, answer_at, answer_for, fails}
+use Rattle.protobuf_parse.specs.Walks.{Asked, the_resolver, the_reader, Event, cycle, long, load}
+use Rattle.protobuf_parse.specs.Walks.{check, elab, Read, reads_in}
+use Rattle.protobuf_parse.specs.Run.{Answers, Ends, Files, IsCaused, IsRefused, MayAnswer, MayRead}
+use Rattle.protobuf_parse.specs.Run.{MayResolve, Resolved, StandsAt, WasRead, answer_at, answer_for}
+use Rattle.protobuf_parse.specs.Run.{fails}
 use Rattle.protobuf_parse.proofs.Keeping.{reads_in-append}
-use Rattle.protobuf_parse.proofs.Following.{AllFollow, Follows, at-is-last, first-is-last, follows-at, found, unread}
+use Rattle.protobuf_parse.proofs.Following.{AllFollow, Follows, at-is-last, first-is-last}
+use Rattle.protobuf_parse.proofs.Following.{follows-at, found, unread}
 
 module _ (resolve : MayResolve) (read : MayRead) where
   by-resolver : (a : Asked) (p : Text) (why : ResolveFault) → MayAnswer resolve read a p

@@ -1,15 +1,21 @@
 -- In the events of a run each read of a path comes after its load, or is it.
-use Rattle.std.proofs.Common.{◌≡◌, ℕ, zero, suc, Bool, true, false, ◌||◌, inl, inr, List, [], ◌∷◌, ◌++◌, map, Option, Some, None, refl, sym, ◌∙◌, ap, subst, find, append_assoc, append-nil, length, if◌then◌else◌}
+use Rattle.std.proofs.Common.{◌≡◌, ℕ, zero, suc, Bool, true, false, ◌||◌, inl, inr, List, [], ◌∷◌}
+use Rattle.std.proofs.Common.{◌++◌, map, Option, Some, None, refl, sym, ◌∙◌, ap, subst, find}
+use Rattle.std.proofs.Common.{append_assoc, append-nil, length, if◌then◌else◌}
 use Rattle.std.specs.Prelude.{bytes_eq, option_map, slice_get}
 use Rattle.protobuf_parse_base.specs.PathViews.{path_buf_text}
 use Rattle.protobuf_parse_syntax.specs.Trees.{FileSyntax}
 use Rattle.protobuf_parse_model.specs.Descriptors.{Text}
 use Rattle.protobuf_parse.specs.declared.run.log.ReadEntry.{ReadEntry}
 use Rattle.protobuf_parse.specs.declared.run.log.ReadOutcome.{ReadOutcome}
-use Rattle.protobuf_parse.specs.Walks.{Asked, the_resolver, Input, named, at, Event, cycle, long, load, check, elab, has, keep, among, Trees, import_paths, joined, inside, walk, Read, reads_in, checks, name_of, asked_of, input_walk, events_after, events, until}
+use Rattle.protobuf_parse.specs.Walks.{Asked, the_resolver, Input, named, at, Event, cycle, long}
+use Rattle.protobuf_parse.specs.Walks.{load, check, elab, has, keep, among, Trees, import_paths}
+use Rattle.protobuf_parse.specs.Walks.{joined, inside, walk, Read, reads_in, checks, name_of}
+use Rattle.protobuf_parse.specs.Walks.{asked_of, input_walk, events_after, events, until}
 use Rattle.protobuf_parse.specs.Run.{Answers, first_read}
 use Rattle.protobuf_parse.specs.Loading.{Legal}
-use Rattle.protobuf_parse.proofs.Keeping.{bool_cases, has-left, has-right, never_both, or_left, some_same, text-same, text-true}
+use Rattle.protobuf_parse.proofs.Keeping.{bool_cases, has-left, has-right, never_both, or_left}
+use Rattle.protobuf_parse.proofs.Keeping.{some_same, text-same, text-true}
 use Rattle.protobuf_parse.proofs.Steps.{has-asked}
 use Rattle.protobuf_parse.proofs.Walking.{walk-load, walk-no_room, walk-on_chain}
 

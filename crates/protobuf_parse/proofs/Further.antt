@@ -1,5 +1,7 @@
 -- A run over further inputs, whose trees agree on the files of an accepted run.
-use Rattle.std.proofs.Common.{◌≡◌, ℕ, zero, suc, Bool, true, false, ◌⊎◌, inl, inr, List, [], ◌∷◌, ◌++◌, map, Option, Some, None, refl, sym, ◌∙◌, ap, subst, find, append_assoc, append-nil, length, if◌then◌else◌}
+use Rattle.std.proofs.Common.{◌≡◌, ℕ, zero, suc, Bool, true, false, ◌⊎◌, inl, inr, List, [], ◌∷◌}
+use Rattle.std.proofs.Common.{◌++◌, map, Option, Some, None, refl, sym, ◌∙◌, ap, subst, find}
+use Rattle.std.proofs.Common.{append_assoc, append-nil, length, if◌then◌else◌}
 use Rattle.std.specs.Prelude.{bytes_eq, is_some, not}
 use Rattle.protobuf_parse_syntax.specs.Trees.{FileSyntax}
 use Rattle.protobuf_parse_model.specs.Descriptors as described
@@ -9,11 +11,21 @@ use Rattle.protobuf_parse_model.specs.FileDescriptor.{file_faults, file_of}
 use Rattle.protobuf_parse_model.specs.FilesByPath.{leads, stays, trees_at}
 use Rattle.protobuf_parse_model.specs.Linking.{link_faults}
 use Rattle.protobuf_parse_model.specs.declared.descriptor.FileDescriptorProto.{FileDescriptorProto}
-use Rattle.protobuf_parse.specs.Walks.{Asked, the_resolver, Input, named, at, Event, cycle, long, load, check, elab, same, has, keep, among, Trees, Reaches, import_paths, joined, inside, walk, checks, input_walk, events_after, events, elab_paths, name_of, asked_of, reads_in}
-use Rattle.protobuf_parse.specs.Run.{Files, AreDescriptors, environment_of, fails, faults_in, is_nothing}
+use Rattle.protobuf_parse.specs.Walks.{Asked, the_resolver, Input, named, at, Event, cycle, long}
+use Rattle.protobuf_parse.specs.Walks.{load, check, elab, same, has, keep, among, Trees, Reaches}
+use Rattle.protobuf_parse.specs.Walks.{import_paths, joined, inside, walk, checks, input_walk}
+use Rattle.protobuf_parse.specs.Walks.{events_after, events, elab_paths, name_of, asked_of}
+use Rattle.protobuf_parse.specs.Walks.{reads_in}
+use Rattle.protobuf_parse.specs.Run.{Files, AreDescriptors, environment_of, fails, faults_in}
+use Rattle.protobuf_parse.specs.Run.{is_nothing}
 use Rattle.protobuf_parse.specs.Loading.{Within}
-use Rattle.protobuf_parse.specs.Stability.{AgreeOn, DeclaresOnce, WereRead, IsAlike, IsClean, IsFileOf, order}
-use Rattle.protobuf_parse.proofs.Keeping.{bool_cases, clean-has, cycle-same, elab_paths-append, has-elab, has-here, has-in, has-last, has-left, has-like, has-one, has-right, keep-extends, long-same, never_both, or_cases, or_left, or_right, some_same, text-same, text-true}
+use Rattle.protobuf_parse.specs.Stability.{AgreeOn, DeclaresOnce, WereRead, IsAlike, IsClean}
+use Rattle.protobuf_parse.specs.Stability.{IsFileOf, order}
+use Rattle.protobuf_parse.proofs.Keeping.{bool_cases, clean-has, cycle-same, elab_paths-append}
+use Rattle.protobuf_parse.proofs.Keeping.{has-elab, has-here, has-in, has-last, has-left, has-like}
+use Rattle.protobuf_parse.proofs.Keeping.{has-one, has-right, keep-extends, long-same, never_both}
+use Rattle.protobuf_parse.proofs.Keeping.{or_cases, or_left, or_right, some_same, text-same}
+use Rattle.protobuf_parse.proofs.Keeping.{text-true}
 use Rattle.protobuf_parse.proofs.Walking.{walk-load, walk-no_room, walk-on_chain}
 use Rattle.protobuf_parse.proofs.Inputs.{events-append}
 use Rattle.protobuf_parse.proofs.Settling.{none-before}

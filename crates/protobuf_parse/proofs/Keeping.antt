@@ -1,11 +1,14 @@
 -- On events, and on keeping the first of equal ones.
-use Rattle.std.proofs.Common.{◌≡◌, Bool, true, false, cond, ◌||◌, ◌⊎◌, inl, inr, List, [], ◌∷◌, ◌++◌, Option, Some, None, refl, sym, ◌∙◌, ap, append_assoc, append-nil, find}
+use Rattle.std.proofs.Common.{◌≡◌, Bool, true, false, cond, ◌||◌, ◌⊎◌, inl, inr, List, [], ◌∷◌}
+use Rattle.std.proofs.Common.{◌++◌, Option, Some, None, refl, sym, ◌∙◌, ap, append_assoc}
+use Rattle.std.proofs.Common.{append-nil, find}
 use Rattle.std.proofs.lemmas.Bool.{eqb-true, eq-eqb}
 use Rattle.std.proofs.lemmas.List.Folds.{list_any-append}
 use Rattle.std.proofs.lemmas.Slice.Eq.{bytes_eq-Decides}
 use Rattle.std.specs.Prelude.{bytes_eq}
 use Rattle.protobuf_parse_model.specs.Descriptors.{Text}
-use Rattle.protobuf_parse.specs.Walks.{the_reader, Event, cycle, long, load, check, elab, same, has, keep, among, reads_in, elab_paths}
+use Rattle.protobuf_parse.specs.Walks.{the_reader, Event, cycle, long, load, check, elab, same, has}
+use Rattle.protobuf_parse.specs.Walks.{keep, among, reads_in, elab_paths}
 use Rattle.protobuf_parse.specs.Loading.{Within, Apart}
 
 pub text-true : (p q : Text) → bytes_eq p q ≡ true → p ≡ q
@@ -36,7 +39,8 @@ same-refl (elab p) = text-same p
 
 -- equal events are equal to the same ones
 pub same-like : (x e y : Event) → same x e ≡ true → same e y ≡ same x y
-same-like (cycle p) (cycle q) y h = let z : cycle p ≡ cycle q = ap cycle (text-true p q h) in rw z refl
+same-like (cycle p) (cycle q) y h = let z : cycle p ≡ cycle q = ap cycle (text-true p q h) in
+    rw z refl
 same-like (long p) (long q) y h = let z : long p ≡ long q = ap long (text-true p q h) in rw z refl
 same-like (elab p) (elab q) y h = let z : elab p ≡ elab q = ap elab (text-true p q h) in rw z refl
 same-like (load a p) (load b q) (load c r) h = let z = text-true p q h in rw z refl
@@ -86,7 +90,8 @@ not_true false h = refl
 pub has-append : (e : Event) (xs ys : List Event) → has e (xs ++ ys) ≡ (has e xs || has e ys)
 has-append e xs ys = list_any-append (λ x. same e x) xs ys
 
-pub has-in : (e : Event) (xs ys : List Event) → has e (xs ++ ys) ≡ true → (has e xs ≡ true) ⊎ (has e ys ≡ true)
+pub has-in : (e : Event) (xs ys : List Event) → has e (xs ++ ys) ≡ true
+    → (has e xs ≡ true) ⊎ (has e ys ≡ true)
 has-in e xs ys h = or_cases _ _ (sym (has-append e xs ys) ∙ h)
 
 pub has-left : (e : Event) (xs ys : List Event) → has e xs ≡ true → has e (xs ++ ys) ≡ true
@@ -118,9 +123,11 @@ keep-append kept (x ∷ xs) ys = keep-append (cond (has x kept) kept (kept ++ x 
 pub keep-extends : (kept xs : List Event) → (more : List Event) × (keep kept xs ≡ kept ++ more)
 keep-extends kept [] = ([], sym (append-nil kept))
 keep-extends kept (x ∷ xs) =
-    elim (has x kept) as (λ b. (more : List Event) × (keep (cond b kept (kept ++ x ∷ [])) xs ≡ kept ++ more)) [
+    elim (has x kept) as (λ b. (more : List Event)
+    × (keep (cond b kept (kept ++ x ∷ [])) xs ≡ kept ++ more)) [
       | true ↦ keep-extends kept xs
-      | false ↦ let r = keep-extends (kept ++ x ∷ []) xs in (x ∷ r.0, r.1 ∙ append_assoc kept (x ∷ []) r.0)
+      | false ↦ let r = keep-extends (kept ++ x ∷ []) xs in
+          (x ∷ r.0, r.1 ∙ append_assoc kept (x ∷ []) r.0)
     ]
 
 -- what is kept already adds nothing
@@ -131,32 +138,43 @@ keep-all kept (x ∷ xs) h =
     rw t (keep-all kept xs (λ e w. h e (or_right _ _ w)))
 
 -- all is kept but for a chain that is too long, which there is
-pub keep-but_long : (kept xs : List Event) (i : Text) → has (long i) kept ≡ false → has (long i) xs ≡ true → ((e : Event) → has e xs ≡ true → (has e kept ≡ true) ⊎ (e ≡ long i)) → keep kept xs ≡ kept ++ long i ∷ []
+pub keep-but_long : (kept xs : List Event) (i : Text) → has (long i) kept ≡ false
+    → has (long i) xs ≡ true → ((e : Event) → has e xs ≡ true → (has e kept ≡ true) ⊎ (e ≡ long i))
+    → keep kept xs ≡ kept ++ long i ∷ []
 keep-but_long kept [] i n h each = cc
 keep-but_long kept (x ∷ xs) i n h each =
     elim (each x (has-here x xs)) [
       | inl w ↦
           rw w (keep-but_long kept xs i n
-          (elim (or_cases (same (long i) x) (has (long i) xs) h) [ inl v ↦ absurd (let q = long-same i x v in let z : has (long i) kept ≡ true = rw (← q) w in cc) | inr v ↦ v ])
+          (elim (or_cases (same (long i) x) (has (long i) xs) h) [
+            | inl v ↦ absurd (let q = long-same i x v in
+                let z : has (long i) kept ≡ true = rw (← q) w in cc)
+            | inr v ↦ v
+          ])
           (λ e v. each e (or_right _ _ v)))
       | inr w ↦
           let z : has x kept ≡ false = rw w n in
           rw (z, w) (keep-all (kept ++ long i ∷ []) xs
-          (λ e v. elim (each e (or_right _ _ v)) [ inl u ↦ has-left e kept (long i ∷ []) u | inr u ↦ rw u (has-last (long i) kept) ]))
+          (λ e v. elim (each e (or_right _ _ v))
+          [ inl u ↦ has-left e kept (long i ∷ []) u | inr u ↦ rw u (has-last (long i) kept) ]))
     ]
 
-pub keep-fresh : (kept xs : List Event) (e : Event) → has e kept ≡ false → keep kept (e ∷ xs) ≡ keep (kept ++ e ∷ []) xs
+pub keep-fresh : (kept xs : List Event) (e : Event) → has e kept ≡ false
+    → keep kept (e ∷ xs) ≡ keep (kept ++ e ∷ []) xs
 keep-fresh kept xs e h = rw h refl
 
 pub reads_in-append : (xs ys : List Event) → reads_in (xs ++ ys) ≡ reads_in xs ++ reads_in ys
 reads_in-append [] ys = refl
-reads_in-append (load a p ∷ xs) ys = ap (λ z. record { asked = a; path = p } ∷ z) (reads_in-append xs ys)
-reads_in-append (check n f p ∷ xs) ys = ap (λ z. record { asked = the_reader f; path = p } ∷ z) (reads_in-append xs ys)
+reads_in-append (load a p ∷ xs) ys =
+    ap (λ z. record { asked = a; path = p } ∷ z) (reads_in-append xs ys)
+reads_in-append (check n f p ∷ xs) ys =
+    ap (λ z. record { asked = the_reader f; path = p } ∷ z) (reads_in-append xs ys)
 reads_in-append (cycle p ∷ xs) ys = reads_in-append xs ys
 reads_in-append (long p ∷ xs) ys = reads_in-append xs ys
 reads_in-append (elab p ∷ xs) ys = reads_in-append xs ys
 
-pub elab_paths-append : (xs ys : List Event) → elab_paths (xs ++ ys) ≡ elab_paths xs ++ elab_paths ys
+pub elab_paths-append : (xs ys : List Event)
+    → elab_paths (xs ++ ys) ≡ elab_paths xs ++ elab_paths ys
 elab_paths-append [] ys = refl
 elab_paths-append (elab p ∷ xs) ys = ap (λ z. p ∷ z) (elab_paths-append xs ys)
 elab_paths-append (_ ∷ xs) ys = elab_paths-append xs ys
@@ -178,14 +196,17 @@ among-last p xs = among-append p xs (p ∷ []) ∙ or_right _ _ (or_left _ _ (te
 pub among-left : (p : Text) (xs ys : List Text) → among p xs ≡ true → among p (xs ++ ys) ≡ true
 among-left p xs ys h = among-append p xs ys ∙ or_left _ _ h
 
-pub among-in : (p q : Text) (xs : List Text) → among p (xs ++ q ∷ []) ≡ true → (among p xs ≡ true) ⊎ (p ≡ q)
+pub among-in : (p q : Text) (xs : List Text) → among p (xs ++ q ∷ []) ≡ true
+    → (among p xs ≡ true) ⊎ (p ≡ q)
 among-in p q xs h =
     elim (or_cases (among p xs) _ (sym (among-append p xs (q ∷ [])) ∙ h)) [
       | inl w ↦ inl w
-      | inr w ↦ elim (or_cases (bytes_eq p q) false w) [ inl v ↦ inr (text-true p q v) | inr v ↦ cc ]
+      | inr w ↦ elim (or_cases (bytes_eq p q) false w)
+          [ inl v ↦ inr (text-true p q v) | inr v ↦ cc ]
     ]
 
-pub find-none : (test : Event → Bool) (xs ys : List Event) → find test xs ≡ None → find test ys ≡ None → find test (xs ++ ys) ≡ None
+pub find-none : (test : Event → Bool) (xs ys : List Event) → find test xs ≡ None
+    → find test ys ≡ None → find test (xs ++ ys) ≡ None
 find-none test [] ys h k = k
 find-none test (x ∷ xs) ys h k =
     elim (bool_cases (test x)) [
@@ -194,16 +215,21 @@ find-none test (x ∷ xs) ys h k =
     ]
 
 -- what fails is not among what doesn't, where it equals no other event
-pub clean-has : (test : Event → Bool) (xs : List Event) (e : Event) → ((x : Event) → same e x ≡ true → x ≡ e) → find test xs ≡ None → test e ≡ true → has e xs ≡ false
+pub clean-has : (test : Event → Bool) (xs : List Event) (e : Event)
+    → ((x : Event) → same e x ≡ true → x ≡ e) → find test xs ≡ None → test e ≡ true
+    → has e xs ≡ false
 clean-has test [] e alone h t = refl
 clean-has test (x ∷ xs) e alone h t =
     elim (bool_cases (test x)) [
       | inl w ↦ absurd (let z : Some x ≡ None = (rw w at h) in cc)
       | inr w ↦
           let z : find test xs ≡ None = (rw w at h) in
-          let n : same e x ≡ false = not_true _ (λ v. let q = alone x v in let r : test x ≡ true = rw q t in cc) in
+          let n : same e x ≡ false = not_true _ (λ v. let q = alone x v in
+          let r : test x ≡ true = rw q t in cc) in
           rw n (clean-has test xs e alone z t)
     ]
 
-pub Apart-within : (small large : List Event) (chain : List Text) → Within small large → Apart large chain → Apart small chain
-Apart-within small large chain w a p h = not_true _ (λ v. let z = w (elab p) v in let y = a p h in cc)
+pub Apart-within : (small large : List Event) (chain : List Text) → Within small large
+    → Apart large chain → Apart small chain
+Apart-within small large chain w a p h =
+    not_true _ (λ v. let z = w (elab p) v in let y = a p h in cc)

@@ -29,3 +29,4 @@ pub mod Further
 pub mod Recovering
 pub mod Following
 pub mod Asking
+mod Catching

@@ -1,5 +1,6 @@
 -- What stands for the custom options of an accepted run's files, and what is read back.
-use Rattle.std.proofs.Common.{◌≡◌, ℕ, ◌<◌, ◌^◌, true, length, List, [], Option, Some, None, Result, Ok, Err, refl, sym, ◌∙◌, ap, subst, arith}
+use Rattle.std.proofs.Common.{◌≡◌, ℕ, ◌<◌, ◌^◌, true, length, List, [], Option, Some, None, Result}
+use Rattle.std.proofs.Common.{Ok, Err, refl, sym, ◌∙◌, ap, subst, arith}
 use Rattle.std.specs.Global.{Vec}
 use Rattle.protobuf_parse_syntax.specs.Text.{Bytes}
 use Rattle.protobuf_parse_syntax.specs.Parsing.{HasTree}
@@ -27,10 +28,15 @@ use Rattle.protobuf_parse_wire.proofs.OptionBytes.{option_bytes_spell}
 use Rattle.protobuf_parse_wire.proofs.Recovery.{plain_options_are_no_bytes}
 use Rattle.protobuf_parse_wire.proofs.RecoveryAbove.{options_are_recovered_above}
 use Rattle.protobuf_parse_wire.proofs.Sound.{text_sound}
-use Rattle.protobuf_parse_wire.proofs.WithoutOptions.{customs_are_options, customs_make_no_difference, meaning_ignores_options}
+use Rattle.protobuf_parse_wire.proofs.WithoutOptions.{customs_are_options}
+use Rattle.protobuf_parse_wire.proofs.WithoutOptions.{customs_make_no_difference}
+use Rattle.protobuf_parse_wire.proofs.WithoutOptions.{meaning_ignores_options}
 use Rattle.protobuf_parse.specs.Walks.{Asked, Input, Reaches, elab_paths, events}
-use Rattle.protobuf_parse.specs.Run.{Files, AreListed, Ends, HasTrees, IsTree, RunsAsTold, environment_of, faults_in, plain_environments, plains_at, text_read}
-use Rattle.protobuf_parse.specs.Recovered.{HoldsOptions, IsReadBack, OptionsAreHeld, bytes_in, denoted_in, handed_out}
+use Rattle.protobuf_parse.specs.Run.{Files, AreListed, Ends, HasTrees, IsTree, RunsAsTold}
+use Rattle.protobuf_parse.specs.Run.{environment_of, faults_in, plain_environments, plains_at}
+use Rattle.protobuf_parse.specs.Run.{text_read}
+use Rattle.protobuf_parse.specs.Recovered.{HoldsOptions, IsReadBack, OptionsAreHeld, bytes_in}
+use Rattle.protobuf_parse.specs.Recovered.{denoted_in, handed_out}
 use Rattle.protobuf_parse.specs.Stability.{IsClean, IsFileOf, WereRead, order}
 use Rattle.protobuf_parse.specs.declared.run.fault.RunFault.{RunFault}
 use Rattle.protobuf_parse.specs.declared.run.log.ReadEntry.{ReadEntry}
@@ -45,7 +51,8 @@ use Rattle.protobuf_parse.proofs.Spelling.{others}
 small-bytes : (bytes : Vec ℕ) → length bytes.items < 2 ^ 64
 small-bytes bytes = omega (arith, bytes.ok.0, bytes.ok.1, bytes.small)
 
-module _ (files : Files) (inputs : List Input) (clean : IsClean files inputs) (read : WereRead files) where
+module _ (files : Files) (inputs : List Input) (clean : IsClean files inputs)
+    (read : WereRead files) where
   -- a file that a file of the run reaches is one of the run
   reached-file : (p q : Text) → IsFileOf files.trees inputs p → among q (files.reached p) ≡ true
       → IsFileOf files.trees inputs q
@@ -113,7 +120,8 @@ module _ (files : Files) (inputs : List Input) (clean : IsClean files inputs) (r
 
     -- custom options make no difference to what is denoted
     same : denoted_in files p s
-        ≡ denotes (scope_of (plains_at files reached) (plains_at files seen) s) s.construct s.statements
+        ≡ denotes (scope_of (plains_at files reached) (plains_at files seen) s) s.construct
+        s.statements
     same = meaning_ignores_options (handed_out files reached) (plains_at files reached)
         (handed_out files seen) (plains_at files seen)
         (customs_are_options files.trees (environment_of files) (plain_environments files) reached
@@ -139,11 +147,13 @@ module _ (files : Files) (inputs : List Input) (clean : IsClean files inputs) (r
         let alike = customs_make_no_difference files.trees (environment_of files)
         (plain_environments files) (files.reached q) seen (λ r v. refl) in
         let short = subst (λ (bs : Text). length bs < 2 ^ 64) held (small-bytes bytes) in
-        ap (λ (bs : Text). reader (handed_out files (files.reached q)) (options_message s.construct) bs)
+        ap (λ (bs : Text). reader (handed_out files (files.reached q))
+        (options_message s.construct) bs)
         held
         ∙ (alike.0 (options_message s.construct) (bytes_in files p s)
         ∙ (options_are_recovered_above files.trees files.seen reached (files.reached q) p t s
-        (are-reached q u.0 u.1 n numbers) within h is (options-faultless p t is m) stands custom short
+        (are-reached q u.0 u.1 n numbers) within h is
+        (options-faultless p t is m) stands custom short
         ∙ sym (ap (λ (es : Entries). Ok (said es)) same)))
 
     pub holds-options : HoldsOptions files (order files.trees inputs) p s
@@ -160,7 +170,8 @@ pub all-held : (legal : Asked → Text → ReadOutcome → Type 0) (inputs : Lis
     (result : Result (Vec FileDescriptorProto) RunFault)
     → RunsAsTold legal inputs bundled log result → OptionsAreHeld inputs bundled log result
 all-held legal inputs bundled log (Ok ds) told = λ trees reached seen has listed p t s m is among.
-    let files : Files = record { bundled = bundled; reads = log; trees = trees; reached = reached; seen = seen } in
+    let files : Files = record
+    { bundled = bundled; reads = log; trees = trees; reached = reached; seen = seen } in
     holds-options files inputs (told trees reached seen has listed).none_fails
     (record { trees = has; listed = listed }) p t is m s among
 all-held legal inputs bundled log (Err f) told = tt

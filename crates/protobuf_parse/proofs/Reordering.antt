@@ -10,7 +10,8 @@ use Rattle.protobuf_parse_wire.specs.NamesAlike.{HasPackageName}
 use Rattle.protobuf_parse_wire.specs.OptionBytes.{known_customs}
 use Rattle.protobuf_parse_wire.proofs.DescriptorOrders.{order_makes_no_difference}
 use Rattle.protobuf_parse.specs.Walks.{Trees}
-use Rattle.protobuf_parse.specs.Run.{Files, HasTrees, IsTree, plain_environments, plains_at, text_read}
+use Rattle.protobuf_parse.specs.Run.{Files, HasTrees, IsTree, plain_environments, plains_at}
+use Rattle.protobuf_parse.specs.Run.{text_read}
 use Rattle.protobuf_parse.specs.declared.run.log.ReadEntry.{ReadEntry}
 use Rattle.protobuf_parse.specs.Loading.{GoesOn}
 
@@ -20,7 +21,8 @@ HavePackages trees = (q : Text) (t : FileSyntax) → trees q ≡ Some t → HasP
 -- and so has that of each tree of a text
 pub packages-have : (table : List (Text × Text)) (log : List ReadEntry) (trees : Trees)
     → HasTrees table log trees → HavePackages trees
-packages-have table log trees has q t is = at (text_read table log q) (subst (λ (o : Option FileSyntax).
+packages-have table log trees has q t is =
+    at (text_read table log q) (subst (λ (o : Option FileSyntax).
     IsTree (text_read table log q) o) is (has q))
   where
     at : (text : Option Text) → IsTree text (Some t) → HasPackageName t

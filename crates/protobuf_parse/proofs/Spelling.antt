@@ -1,5 +1,6 @@
 -- What custom options add to a file: faults beside its others, and bytes in its descriptor.
-use Rattle.std.proofs.Common.{◌≡◌, inl, inr, ℕ, List, [], ◌∷◌, flat_map, Option, Some, None, Result, Ok, Err, refl, sym, ◌∙◌, ap, subst}
+use Rattle.std.proofs.Common.{◌≡◌, inl, inr, ℕ, List, [], ◌∷◌, flat_map, Option, Some, None, Result}
+use Rattle.std.proofs.Common.{Ok, Err, refl, sym, ◌∙◌, ap, subst}
 use Rattle.protobuf_parse_syntax.specs.Trees.{FileSyntax, OptionSyntax}
 use Rattle.protobuf_parse_model.specs.Descriptors.{Text, FileDescriptor}
 use Rattle.protobuf_parse_model.specs.Environment.{Customs, no_customs, no_extensions}
@@ -14,13 +15,15 @@ use Rattle.protobuf_parse_model.specs.Tables.{picked}
 use Rattle.protobuf_parse_model.specs.declared.descriptor.FileDescriptorProto.{FileDescriptorProto}
 use Rattle.protobuf_parse_model.specs.declared.error.ElabFailure.{ElabFailure}
 use Rattle.protobuf_parse_model.specs.declared.error.ElabFailure.TheVariants as failure
-use Rattle.protobuf_parse_model.proofs.CustomSets.{faults_are_of_sets, none_is_none_in_sets, none_of_sets, options_are_builtin}
+use Rattle.protobuf_parse_model.proofs.CustomSets.{faults_are_of_sets, none_is_none_in_sets}
+use Rattle.protobuf_parse_model.proofs.CustomSets.{none_of_sets, options_are_builtin}
 use Rattle.protobuf_parse_model.proofs.SameBytes.{bytes_are_of_sets}
 use Rattle.protobuf_parse_wire.specs.CustomFaults.{named_faults, option_faults, statement_faults}
 use Rattle.protobuf_parse_wire.specs.CustomOptions.{option_items, scope_of}
 use Rattle.protobuf_parse_wire.specs.OptionFields.{OptionScope}
 use Rattle.protobuf_parse_wire.specs.OptionBytes.{known_customs, option_bytes}
-use Rattle.protobuf_parse.specs.Loading.{Describes, Entry, customs_over, picked_plains, plain_over, plains_over}
+use Rattle.protobuf_parse.specs.Loading.{Describes, Entry, customs_over, picked_plains, plain_over}
+use Rattle.protobuf_parse.specs.Loading.{plains_over}
 use Rattle.protobuf_parse.specs.Run.{Files, customs_of}
 use Rattle.protobuf_parse.specs.declared.run.describe.Described.{Described}
 

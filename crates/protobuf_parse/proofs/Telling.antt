@@ -1,5 +1,6 @@
 -- What a run promises, from what its loading left.
-use Rattle.std.proofs.Common.{◌≡◌, Bool, true, ◌⊎◌, inl, inr, List, [], ◌∷◌, ◌++◌, map, Some, None, Result, Err, refl, sym, ◌∙◌, ap, append-nil, find, subst}
+use Rattle.std.proofs.Common.{◌≡◌, Bool, true, ◌⊎◌, inl, inr, List, [], ◌∷◌, ◌++◌, map, Some, None}
+use Rattle.std.proofs.Common.{Result, Err, refl, sym, ◌∙◌, ap, append-nil, find, subst}
 use Rattle.std.specs.Prelude.{IfErr, string_bytes}
 use Rattle.std.specs.Global.{Vec}
 use Rattle.std.specs.List.{AllByRecursion}
@@ -12,7 +13,9 @@ use Rattle.protobuf_parse.specs.declared.run.loader.LoadedFile.{LoadedFile}
 use Rattle.protobuf_parse.specs.declared.run.log.ReadEntry.{ReadEntry}
 use Rattle.protobuf_parse.specs.declared.run.log.ReadOutcome.{ReadOutcome}
 use Rattle.protobuf_parse.specs.Walks.{the_resolver, Event, Input, named, events, until}
-use Rattle.protobuf_parse.specs.Run.{Files, AreDescriptors, HasTrees, IsAccepted, IsCaused, IsRefused, IsBroken, MayRead, MayResolve, fails, shipped, HaveTrees, RunsAsTold, MayAnswer}
+use Rattle.protobuf_parse.specs.Run.{Files, AreDescriptors, HasTrees, IsAccepted, IsCaused}
+use Rattle.protobuf_parse.specs.Run.{IsRefused, IsBroken, MayRead, MayResolve, fails, shipped}
+use Rattle.protobuf_parse.specs.Run.{HaveTrees, RunsAsTold, MayAnswer}
 use Rattle.protobuf_parse.specs.Shipped.{IsNeverAsked, RunsByResolver, RunsWithShipped}
 use Rattle.protobuf_parse.specs.Loading.{Legal, Entry, Good, Stops, IsLoaded, paths_of}
 use Rattle.protobuf_parse_base.specs.PathViews.{path_buf_text}
@@ -25,7 +28,8 @@ use Rattle.protobuf_parse.proofs.Recovering.{all-held}
 use Rattle.protobuf_parse.proofs.Listed.{have-lists}
 use Rattle.protobuf_parse.proofs.Keeping.{bool_cases}
 
-find-after : (test : Event → Bool) (xs ys : List Event) (e : Event) → find test xs ≡ None → test e ≡ true → find test (xs ++ e ∷ ys) ≡ Some e
+find-after : (test : Event → Bool) (xs ys : List Event) (e : Event) → find test xs ≡ None
+    → test e ≡ true → find test (xs ++ e ∷ ys) ≡ Some e
 find-after test [] ys e h t = rw t refl
 find-after test (x ∷ xs) ys e h t =
     elim (bool_cases (test x)) [
@@ -33,24 +37,33 @@ find-after test (x ∷ xs) ys e h t =
       | inr w ↦ let z : find test xs ≡ None = (rw w at h) in rw w (find-after test xs ys e z t)
     ]
 
-until-after : (test : Event → Bool) (xs ys : List Event) → find test xs ≡ None → until test (xs ++ ys) ≡ xs ++ until test ys
+until-after : (test : Event → Bool) (xs ys : List Event) → find test xs ≡ None
+    → until test (xs ++ ys) ≡ xs ++ until test ys
 until-after test [] ys h = refl
 until-after test (x ∷ xs) ys h =
     elim (bool_cases (test x)) [
       | inl w ↦ absurd (let z : Some x ≡ None = (rw w at h) in cc)
-      | inr w ↦ let z : find test xs ≡ None = (rw w at h) in rw w (ap (λ r. x ∷ r) (until-after test xs ys z))
+      | inr w ↦ let z : find test xs ≡ None = (rw w at h) in
+          rw w (ap (λ r. x ∷ r) (until-after test xs ys z))
     ]
 
-pub values-descriptors : (es : List Entry) → map (λ (f : LoadedFile). f.descriptor) (map (λ (e : Entry). e.1) es) ≡ map (λ (e : Entry). e.1.descriptor) es
+pub values-descriptors : (es : List Entry)
+    → map (λ (f : LoadedFile). f.descriptor) (map (λ (e : Entry). e.1) es)
+    ≡ map (λ (e : Entry). e.1.descriptor) es
 values-descriptors [] = refl
 values-descriptors (e ∷ es) = ap (λ z. e.1.descriptor ∷ z) (values-descriptors es)
 
 module _ (legal : Legal) (files : Files) (told : List Event) where
-  are-descriptors : (log : List ReadEntry) (loaded : List Entry) → AllByRecursion (λ (e : Entry). IsLoaded files log (string_bytes e.0) e.1) loaded → AreDescriptors files (paths_of loaded) (map (λ (e : Entry). e.1.descriptor) loaded)
+  are-descriptors : (log : List ReadEntry) (loaded : List Entry)
+      → AllByRecursion (λ (e : Entry). IsLoaded files log (string_bytes e.0) e.1) loaded
+      → AreDescriptors files (paths_of loaded) (map (λ (e : Entry). e.1.descriptor) loaded)
   are-descriptors log [] h = tt
-  are-descriptors log (e ∷ loaded) h = ((file_view e.1.tree, h.0.is, h.0.descriptor), are-descriptors log loaded h.1)
+  are-descriptors log (e ∷ loaded) h =
+      ((file_view e.1.tree, h.0.is, h.0.descriptor), are-descriptors log loaded h.1)
 
-  pub accepted : (loaded : List Entry) (ds : List FileDescriptorProto) → Good legal files told loaded files.reads [] → ds ≡ map (λ (e : Entry). e.1.descriptor) loaded → IsAccepted legal files told ds
+  pub accepted : (loaded : List Entry) (ds : List FileDescriptorProto)
+      → Good legal files told loaded files.reads []
+      → ds ≡ map (λ (e : Entry). e.1.descriptor) loaded → IsAccepted legal files told ds
   accepted loaded ds g is = record {
     none_fails = g.clean;
     reads = g.answers;
@@ -58,20 +71,24 @@ module _ (legal : Legal) (files : Files) (told : List Event) where
   }
 
   -- memory runs out once all is loaded
-  pub broken : (loaded : List Entry) (f : RunFault) → Good legal files told loaded files.reads [] → f ≡ fault.Memory → IsBroken legal files told f
+  pub broken : (loaded : List Entry) (f : RunFault) → Good legal files told loaded files.reads []
+      → f ≡ fault.Memory → IsBroken legal files told f
   broken loaded f g m = record {
     memory = m;
     done = told;
     rest = [];
-    beginning = ap (until (fails files)) (sym (append-nil told)) ∙ until-after (fails files) told [] g.clean;
+    beginning = ap (until (fails files)) (sym (append-nil told))
+        ∙ until-after (fails files) told [] g.clean;
     reads = g.answers;
   }
 
-  pub stopped : (f : RunFault) → Stops legal files told files.reads f → IsRefused legal files told f ⊎ IsBroken legal files told f
+  pub stopped : (f : RunFault) → Stops legal files told files.reads f
+      → IsRefused legal files told f ⊎ IsBroken legal files told f
   stopped f (inl h) = inl (record {
     event = h.event;
     first = rw h.split (find-after (fails files) h.before h.after h.event h.clean h.failing);
-    reads = rw (h.split, until-after (fails files) h.before (h.event ∷ h.after) h.clean, h.failing) h.answers;
+    reads = rw (h.split, until-after (fails files) h.before (h.event ∷ h.after) h.clean, h.failing)
+        h.answers;
     stands = h.stands;
   })
   stopped f (inr h) = inr (record {

@@ -1,5 +1,6 @@
 -- Where a resolver over real folders looks for a proto path.
-use Rattle.std.specs.Prelude.{◌≡◌, ◌||◌, List, [], ◌∷◌, ◌++◌, Contains, Option, Some, None, Result, Ok, Err, nat_eq, if◌then◌else◌, string_bytes}
+use Rattle.std.specs.Prelude.{◌≡◌, ◌||◌, List, [], ◌∷◌, ◌++◌, Contains, Option, Some, None, Result}
+use Rattle.std.specs.Prelude.{Ok, Err, nat_eq, if◌then◌else◌, string_bytes}
 use Rattle.std.specs.List.{ends_with}
 use Rattle.protobuf_parse_base.specs.Paths.{is_empty}
 use Rattle.protobuf_parse_model.specs.Descriptors.{Text}

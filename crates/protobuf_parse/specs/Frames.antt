@@ -1,6 +1,9 @@
--- Loading by a stack of files whose imports are being met: what the stack still owes, and what holds of each of its frames.
--- The lowest frame is the first of the list; the top one stands beside it.
-use Rattle.std.specs.Prelude.{ℕ, suc, Bool, true, false, if◌then◌else◌, List, [], ◌∷◌, ◌++◌, Option, Some, None, Result, Ok, Err, ◌≡◌, ◌<◌, ◌≤◌, ◌+◌, ◌-◌, ◌*◌, ◌^◌, length, map, flat_map, max, take, drop, slice_get, string_bytes}
+-- Loading by a stack of files whose imports are being met: what the stack still owes, and what
+-- holds of each of its frames. The lowest frame is the first of the list; the top one stands beside
+-- it.
+use Rattle.std.specs.Prelude.{ℕ, suc, Bool, true, false, if◌then◌else◌, List, [], ◌∷◌, ◌++◌, Option}
+use Rattle.std.specs.Prelude.{Some, None, Result, Ok, Err, ◌≡◌, ◌<◌, ◌≤◌, ◌+◌, ◌-◌, ◌*◌, ◌^◌}
+use Rattle.std.specs.Prelude.{length, map, flat_map, max, take, drop, slice_get, string_bytes}
 use Rattle.std.specs.List.{AllByRecursion}
 use Rattle.protobuf_parse_base.specs.PathViews.{path_buf_text}
 use Rattle.protobuf_parse_syntax.specs.Counts.{statements_in}
@@ -16,9 +19,12 @@ use Rattle.protobuf_parse.specs.declared.run.loader.Met.{Met}
 use Rattle.protobuf_parse.specs.declared.run.loader.Met.TheVariants as met
 use Rattle.protobuf_parse.specs.declared.run.loader.Placed.{Placed}
 use Rattle.protobuf_parse.specs.declared.run.log.ReadEntry.{ReadEntry}
-use Rattle.protobuf_parse.specs.Walks.{Asked, the_resolver, Event, load, elab, has, keep, among, Trees, joined, public_paths_of, statements, walk}
+use Rattle.protobuf_parse.specs.Walks.{Asked, the_resolver, Event, load, elab, has, keep, among}
+use Rattle.protobuf_parse.specs.Walks.{Trees, joined, public_paths_of, statements, walk}
 use Rattle.protobuf_parse.specs.Run.{Files, first_read}
-use Rattle.protobuf_parse.specs.Loading.{Legal, Entry, AreNumbered, Good, IsNumbered, Settled, Stops, file_at, file_shape, imports_shape, named_trees, read_paths}
+use Rattle.protobuf_parse.specs.Loading.{Legal, Entry, AreNumbered, Good, IsNumbered, Settled}
+use Rattle.protobuf_parse.specs.Loading.{Stops, file_at, file_shape, imports_shape, named_trees}
+use Rattle.protobuf_parse.specs.Loading.{read_paths}
 
 abbrev pub path_of : LoadFrame → Text
 path_of f = string_bytes f.path
@@ -61,12 +67,15 @@ chain_of chain (f ∷ fs) = chain_of (chain ++ path_of f ∷ []) fs
 
 -- the walks of the imports that are left, and the elaboration
 abbrev pub owed : Trees → Text → List Text → Text → List Text → List Event
-owed trees input chain path left = joined (walk trees input the_resolver (100 - length (chain ++ path ∷ [])) (chain ++ path ∷ [])) left ++ elab path ∷ []
+owed trees input chain path left =
+    joined (walk trees input the_resolver (100 - length (chain ++ path ∷ [])) (chain ++ path ∷ []))
+    left ++ elab path ∷ []
 
 -- what the frames below the top owe, each of which waits for its next import: the frame above
 abbrev pub todo : Trees → Text → List Text → List LoadFrame → List Event
 todo trees input chain [] = []
-todo trees input chain (f ∷ fs) = todo trees input (chain ++ path_of f ∷ []) fs ++ owed trees input chain (path_of f) (later_in f)
+todo trees input chain (f ∷ fs) = todo trees input (chain ++ path_of f ∷ []) fs
+    ++ owed trees input chain (path_of f) (later_in f)
 
 -- how many imports these frames are still to meet
 abbrev pub to_meet : List LoadFrame → ℕ
@@ -78,8 +87,10 @@ abbrev pub first_path : List LoadFrame → Text → Text
 first_path [] path = path
 first_path (f ∷ fs) path = path_of f
 
--- A file whose imports are being met: it was read and has its tree, and the walks of its imports so far are settled.
-pub record IsHeld (files : Files) (now : List Event) (log : List ReadEntry) (f : LoadFrame) : Type 0 where
+-- A file whose imports are being met: it was read and has its tree, and the walks of its imports so
+-- far are settled.
+pub record IsHeld (files : Files) (now : List Event) (log : List ReadEntry)
+    (f : LoadFrame) : Type 0 where
   pub load : has (load the_resolver (path_of f)) now ≡ true
   pub is : files.trees (path_of f) ≡ Some (file_view f.tree)
   pub settled : Settled now f.height (imports_shape files.trees (done_in f))
@@ -88,17 +99,23 @@ pub record IsHeld (files : Files) (now : List Event) (log : List ReadEntry) (f :
   pub named : path_buf_text entry.path ≡ path_of f
   pub first : first_read (path_of f) files.reads ≡ Some entry.outcome
 
--- A run that ends with these events, at a stack. It met files so often, and at its beginning so often.
-pub record IsRunning (legal : Legal) (files : Files) (kept events : List Event) (input : Text) (start meets : ℕ) (stack : List LoadFrame) (top : LoadFrame) (loaded : List Entry) (log : List ReadEntry) : Type 0 where
+-- A run that ends with these events, at a stack. It met files so often, and at its beginning so
+-- often.
+pub record IsRunning (legal : Legal) (files : Files) (kept events : List Event) (input : Text)
+    (start meets : ℕ) (stack : List LoadFrame) (top : LoadFrame) (loaded : List Entry)
+    (log : List ReadEntry) : Type 0 where
   pub now : List Event
-  pub is : events ≡ keep now (owed files.trees input (chain_of [] stack) (path_of top) (left_in top) ++ todo files.trees input [] stack)
+  pub is : events
+      ≡ keep now (owed files.trees input (chain_of [] stack) (path_of top) (left_in top)
+      ++ todo files.trees input [] stack)
   pub good : Good legal files now loaded log (chain_of [] stack ++ path_of top ∷ [])
   pub held : IsHeld files now log top
   pub below : AllByRecursion (IsHeld files now log) stack
-  pub count : meets + statements files.trees kept + (length (left_in top) + to_meet stack) ≡ start + 1 + statements files.trees now
+  pub count : meets + statements files.trees kept + (length (left_in top) + to_meet stack)
+      ≡ start + 1 + statements files.trees now
 
--- whatever the trees are: the imports so far have these numbers, the public ones those, and the file was read; its tree
--- has no more statements than a text has bytes
+-- whatever the trees are: the imports so far have these numbers, the public ones those, and the
+-- file was read; its tree has no more statements than a text has bytes
 pub record IsTaken (loaded : List Entry) (log : List ReadEntry) (f : LoadFrame) : Type 0 where
   pub numbered : AreNumbered (named_trees loaded) f.below.items (done_in f)
   pub public : AreNumbered (named_trees loaded) f.public.items (public_done f)
@@ -116,21 +133,25 @@ pub record IsWaiting (chain : List Text) (f : LoadFrame) (path : Text) : Type 0 
 -- each of these frames waits for the next, and the last for this path
 abbrev pub AreWaiting : List Text → List LoadFrame → Text → Type 0
 AreWaiting chain [] path = Unit {0}
-AreWaiting chain (f ∷ fs) path = IsWaiting chain f (first_path fs path) × AreWaiting (chain ++ path_of f ∷ []) fs path
+AreWaiting chain (f ∷ fs) path = IsWaiting chain f (first_path fs path)
+    × AreWaiting (chain ++ path_of f ∷ []) fs path
 
 -- what is left to do at the frames below the top, where this many stand below them
 abbrev pub weight : ℕ → List LoadFrame → ℕ
 weight count [] = 0
-weight count (f ∷ fs) = (length f.tree.statements.items - f.next) * (2 ^ 65) ^ (100 - count) + weight (suc count) fs
+weight count (f ∷ fs) = (length f.tree.statements.items - f.next) * (2 ^ 65) ^
+    (100 - count) + weight (suc count) fs
 
 -- what is left to do at all frames: at the top one statement more, since it is to be closed
 abbrev pub left_over : List LoadFrame → LoadFrame → ℕ
-left_over stack top = weight 0 stack + suc (length top.tree.statements.items - top.next) * (2 ^ 65) ^ (100 - length stack)
+left_over stack top = weight 0 stack + suc (length top.tree.statements.items - top.next) *
+    (2 ^ 65) ^ (100 - length stack)
 
 -- ---- what a step leaves
 
 -- a frame that was opened on this chain
-pub record IsOpened (chain : List Text) (path : Text) (loaded : List Entry) (old : List ReadEntry) (after : List Text) (new : List ReadEntry) (f : LoadFrame) : Type 0 where
+pub record IsOpened (chain : List Text) (path : Text) (loaded : List Entry) (old : List ReadEntry)
+    (after : List Text) (new : List ReadEntry) (f : LoadFrame) : Type 0 where
   pub chain_is : after ≡ chain ++ path ∷ []
   pub room : length chain < 100
   pub off : among path chain ≡ false
@@ -146,32 +167,44 @@ pub record IsOpened (chain : List Text) (path : Text) (loaded : List Entry) (old
   pub few : statements_in (file_view f.tree) ≤ 2147483647
 
 -- a loaded file that was met on this chain
-pub record IsAgain (chain : List Text) (path : Text) (loaded : List Entry) (old : List ReadEntry) (after : List Text) (new : List ReadEntry) (placed : Placed) : Type 0 where
+pub record IsAgain (chain : List Text) (path : Text) (loaded : List Entry) (old : List ReadEntry)
+    (after : List Text) (new : List ReadEntry) (placed : Placed) : Type 0 where
   pub chain_is : after ≡ chain
   pub reads : new ≡ old
   pub low : length chain + placed.height ≤ 100
   pub number : IsNumbered (named_trees loaded) placed.number path
 
-abbrev pub StandsMet : List Text → Text → List Entry → List ReadEntry → List Text → List ReadEntry → Result Met RunFault → Type 0
-StandsMet chain path loaded old after new (Ok (met.Loaded placed)) = IsAgain chain path loaded old after new placed
-StandsMet chain path loaded old after new (Ok (met.Opened frame)) = IsOpened chain path loaded old after new frame
+abbrev pub StandsMet : List Text → Text → List Entry → List ReadEntry → List Text → List ReadEntry
+    → Result Met RunFault → Type 0
+StandsMet chain path loaded old after new (Ok (met.Loaded placed)) =
+    IsAgain chain path loaded old after new placed
+StandsMet chain path loaded old after new (Ok (met.Opened frame)) =
+    IsOpened chain path loaded old after new frame
 StandsMet chain path loaded old after new (Err f) = Unit {0}
 
 -- a loaded file, met again, adds nothing
-pub record IsSame (files : Files) (kept : List Event) (input : Text) (asked : Asked) (chain : List Text) (path : Text) (placed : Placed) : Type 0 where
+pub record IsSame (files : Files) (kept : List Event) (input : Text) (asked : Asked)
+    (chain : List Text) (path : Text) (placed : Placed) : Type 0 where
   pub again : keep kept (walk files.trees input asked (100 - length chain) chain path) ≡ kept
   pub settled : Settled kept placed.height (file_shape files.trees path)
 
 -- a file that was read now
-pub record IsNew (legal : Legal) (files : Files) (kept : List Event) (asked : Asked) (chain : List Text) (path : Text) (loaded : List Entry) (log : List ReadEntry) (f : LoadFrame) : Type 0 where
+pub record IsNew (legal : Legal) (files : Files) (kept : List Event) (asked : Asked)
+    (chain : List Text) (path : Text) (loaded : List Entry) (log : List ReadEntry)
+    (f : LoadFrame) : Type 0 where
   pub fresh : has (load asked path) kept ≡ false
   pub good : Good legal files (kept ++ load asked path ∷ []) loaded log (chain ++ path ∷ [])
   pub held : IsHeld files (kept ++ load asked path ∷ []) log f
 
-abbrev pub Meets : Legal → Files → List Event → Text → Asked → List Text → Text → List Entry → List ReadEntry → Result Met RunFault → Type 0
-Meets legal files kept input asked chain path loaded log (Ok (met.Loaded placed)) = Good legal files kept loaded log chain × IsSame files kept input asked chain path placed
-Meets legal files kept input asked chain path loaded log (Ok (met.Opened frame)) = IsNew legal files kept asked chain path loaded log frame
-Meets legal files kept input asked chain path loaded log (Err f) = Stops legal files (keep kept (walk files.trees input asked (100 - length chain) chain path)) log f
+abbrev pub Meets : Legal → Files → List Event → Text → Asked → List Text → Text → List Entry
+    → List ReadEntry → Result Met RunFault → Type 0
+Meets legal files kept input asked chain path loaded log (Ok (met.Loaded placed)) =
+    Good legal files kept loaded log chain × IsSame files kept input asked chain path placed
+Meets legal files kept input asked chain path loaded log (Ok (met.Opened frame)) =
+    IsNew legal files kept asked chain path loaded log frame
+Meets legal files kept input asked chain path loaded log (Err f) =
+    Stops legal files (keep kept (walk files.trees input asked (100 - length chain) chain path)) log
+    f
 
 -- a frame that took its next import
 pub record Joined (old : LoadFrame) (placed : Placed) (new : LoadFrame) : Type 0 where
@@ -181,4 +214,5 @@ pub record Joined (old : LoadFrame) (placed : Placed) (new : LoadFrame) : Type 0
   pub next : new.next ≡ suc old.next
   pub height : new.height ≡ max old.height placed.height
   pub below : new.below.items ≡ old.below.items ++ placed.number ∷ []
-  pub public : new.public.items ≡ old.public.items ++ number_if (is_public_at (slice_get old.tree.statements.items old.next)) placed.number
+  pub public : new.public.items ≡ old.public.items
+      ++ number_if (is_public_at (slice_get old.tree.statements.items old.next)) placed.number

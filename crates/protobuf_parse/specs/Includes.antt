@@ -1,5 +1,7 @@
 -- How an input gets its proto path: the first include that is a front of it is taken off.
-use Rattle.std.specs.Prelude.{◌≡◌, Bool, true, false, not, ℕ, List, [], ◌∷◌, ◌++◌, codes, flat_map, map, Option, Some, None, option_map, find, if◌then◌else◌, bytes_eq, string_bytes}
+use Rattle.std.specs.Prelude.{◌≡◌, Bool, true, false, not, ℕ, List, [], ◌∷◌, ◌++◌, codes, flat_map}
+use Rattle.std.specs.Prelude.{map, Option, Some, None, option_map, find, if◌then◌else◌, bytes_eq}
+use Rattle.std.specs.Prelude.{string_bytes}
 use Rattle.std.specs.Borrow.{Bor}
 use Rattle.protobuf_parse_base.specs.Paths.{joined, kept_parts, starts_with_slash, host_path_fault}
 use Rattle.protobuf_parse_base.specs.declared.proto_path.error.PathError.{PathError}

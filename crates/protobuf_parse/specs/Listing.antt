@@ -1,22 +1,38 @@
--- The listing of descriptors: a line a construct, each part of it below it and two spaces further in.
-use Rattle.std.specs.Prelude.{ℕ, ℤ, pos, negsuc, ◌+◌, ◌*◌, ◌==◌, ◌||◌, Bool, true, false, List, [], ◌∷◌, ◌++◌, flat_map, codes, replicate, Option, Some, None, option_map}
+-- The listing of descriptors: a line a construct, each part of it below it and two spaces further
+-- in.
+use Rattle.std.specs.Prelude.{ℕ, ℤ, pos, negsuc, ◌+◌, ◌*◌, ◌==◌, ◌||◌, Bool, true, false, List, []}
+use Rattle.std.specs.Prelude.{◌∷◌, ◌++◌, flat_map, codes, replicate, Option, Some, None, option_map}
 use Rattle.std.specs.Fmt.{signed_decimal}
 use Rattle.hex.specs.Hex.{encode_lower}
 use Rattle.protobuf_parse_base.specs.Escapes.{escaped_bytes}
 use Rattle.protobuf_parse_syntax.specs.declared.tree.field.Label.{Label}
-use Rattle.protobuf_parse_syntax.specs.declared.tree.field.Label.TheVariants.{Optional, Required, Repeated}
+use Rattle.protobuf_parse_syntax.specs.declared.tree.field.Label.TheVariants.{Optional, Required}
+use Rattle.protobuf_parse_syntax.specs.declared.tree.field.Label.TheVariants.{Repeated}
 use Rattle.protobuf_parse_model.specs.declared.descriptor.FieldType.{FieldType}
 use Rattle.protobuf_parse_model.specs.declared.descriptor.FieldType.TheVariants as kind
 use Rattle.protobuf_parse_model.specs.declared.descriptor.options.OptimizeMode.{OptimizeMode}
-use Rattle.protobuf_parse_model.specs.declared.descriptor.options.OptimizeMode.TheVariants.{Speed, CodeSize, LiteRuntime}
+use Rattle.protobuf_parse_model.specs.declared.descriptor.options.OptimizeMode.TheVariants.{Speed}
+use Rattle.protobuf_parse_model.specs.declared.descriptor.options.OptimizeMode.TheVariants.{CodeSize}
+use Rattle.protobuf_parse_model.specs.declared.descriptor.options.OptimizeMode.TheVariants.{LiteRuntime}
 use Rattle.protobuf_parse_model.specs.declared.descriptor.options.CType.{CType}
 use Rattle.protobuf_parse_model.specs.declared.descriptor.options.CType.TheVariants as ctype
 use Rattle.protobuf_parse_model.specs.declared.descriptor.options.JSType.{JSType}
-use Rattle.protobuf_parse_model.specs.declared.descriptor.options.JSType.TheVariants.{JsNormal, JsString, JsNumber}
+use Rattle.protobuf_parse_model.specs.declared.descriptor.options.JSType.TheVariants.{JsNormal}
+use Rattle.protobuf_parse_model.specs.declared.descriptor.options.JSType.TheVariants.{JsString}
+use Rattle.protobuf_parse_model.specs.declared.descriptor.options.JSType.TheVariants.{JsNumber}
 use Rattle.protobuf_parse_model.specs.declared.descriptor.options.IdempotencyLevel.{IdempotencyLevel}
-use Rattle.protobuf_parse_model.specs.declared.descriptor.options.IdempotencyLevel.TheVariants.{IdempotencyUnknown, NoSideEffects, Idempotent}
-use Rattle.protobuf_parse_model.specs.Options.{FileOptionsSet, MessageOptionsSet, FieldOptionsSet, OneofOptionsSet, EnumOptionsSet, EnumValueOptionsSet, ServiceOptionsSet, MethodOptionsSet}
-use Rattle.protobuf_parse_model.specs.Descriptors.{Text, Range, FieldDescriptor, OneofDescriptor, EnumValueDescriptor, EnumDescriptor, MessageParts, MessageDescriptor, a_message, MessageDescriptors, no_messages, messages, MethodDescriptor, ServiceDescriptor, FileDescriptor}
+use Rattle.protobuf_parse_model.specs.declared.descriptor.options.IdempotencyLevel.TheVariants.{IdempotencyUnknown}
+use Rattle.protobuf_parse_model.specs.declared.descriptor.options.IdempotencyLevel.TheVariants.{NoSideEffects}
+use Rattle.protobuf_parse_model.specs.declared.descriptor.options.IdempotencyLevel.TheVariants.{Idempotent}
+use Rattle.protobuf_parse_model.specs.Options.{FileOptionsSet, MessageOptionsSet, FieldOptionsSet}
+use Rattle.protobuf_parse_model.specs.Options.{OneofOptionsSet, EnumOptionsSet, EnumValueOptionsSet}
+use Rattle.protobuf_parse_model.specs.Options.{ServiceOptionsSet, MethodOptionsSet}
+use Rattle.protobuf_parse_model.specs.Descriptors.{Text, Range, FieldDescriptor, OneofDescriptor}
+use Rattle.protobuf_parse_model.specs.Descriptors.{EnumValueDescriptor, EnumDescriptor}
+use Rattle.protobuf_parse_model.specs.Descriptors.{MessageParts, MessageDescriptor, a_message}
+use Rattle.protobuf_parse_model.specs.Descriptors.{MessageDescriptors, no_messages, messages}
+use Rattle.protobuf_parse_model.specs.Descriptors.{MethodDescriptor, ServiceDescriptor}
+use Rattle.protobuf_parse_model.specs.Descriptors.{FileDescriptor}
 
 -- ---- pieces
 
@@ -46,7 +62,8 @@ range_line level words r = line level (words ++ range_words r.start r.end)
 unfoldable pub reserved_name_line : ℕ → Text → Text
 reserved_name_line level name = line level (codes "reserved_name " ++ quoted name)
 
--- ---- options: those that are set, in the order of their numbers, and then the bytes of the custom ones
+-- ---- options: those that are set, in the order of their numbers, and then the bytes of the custom
+-- ones
 
 abbrev pub truth_word : Bool → Text
 truth_word true = codes "true"
@@ -92,7 +109,8 @@ abbrev pub jstype_setting : Option JSType → Setting
 jstype_setting value = (codes "jstype", option_map jstype_word value)
 
 abbrev pub idempotency_level_setting : Option IdempotencyLevel → Setting
-idempotency_level_setting value = (codes "idempotency_level", option_map idempotency_level_word value)
+idempotency_level_setting value =
+    (codes "idempotency_level", option_map idempotency_level_word value)
 
 abbrev pub value_line : ℕ → Text → Option Text → Text
 value_line level name None = []
@@ -164,23 +182,28 @@ field_settings o =
     ∷ []
 
 abbrev pub enum_settings : EnumOptionsSet → List Setting
-enum_settings o = truth_setting (codes "allow_alias") o.allow_alias ∷ truth_setting (codes "deprecated") o.deprecated ∷ []
+enum_settings o = truth_setting (codes "allow_alias") o.allow_alias
+    ∷ truth_setting (codes "deprecated") o.deprecated ∷ []
 
 abbrev pub method_settings : MethodOptionsSet → List Setting
-method_settings o = truth_setting (codes "deprecated") o.deprecated ∷ idempotency_level_setting o.idempotency_level ∷ []
+method_settings o = truth_setting (codes "deprecated") o.deprecated
+    ∷ idempotency_level_setting o.idempotency_level ∷ []
 
 unfoldable pub file_option_lines : ℕ → Option FileOptionsSet → Text
 file_option_lines level None = []
 file_option_lines level (Some o) =
-    setting_lines level (first_file_settings o) ++ setting_lines level (middle_file_settings o) ++ setting_lines level (last_file_settings o) ++ custom_line level o.custom
+    setting_lines level (first_file_settings o) ++ setting_lines level (middle_file_settings o)
+    ++ setting_lines level (last_file_settings o) ++ custom_line level o.custom
 
 unfoldable pub message_option_lines : ℕ → Option MessageOptionsSet → Text
 message_option_lines level None = []
-message_option_lines level (Some o) = setting_lines level (message_settings o) ++ custom_line level o.custom
+message_option_lines level (Some o) = setting_lines level (message_settings o)
+    ++ custom_line level o.custom
 
 unfoldable pub field_option_lines : ℕ → Option FieldOptionsSet → Text
 field_option_lines level None = []
-field_option_lines level (Some o) = setting_lines level (field_settings o) ++ custom_line level o.custom
+field_option_lines level (Some o) = setting_lines level (field_settings o)
+    ++ custom_line level o.custom
 
 unfoldable pub oneof_option_lines : ℕ → Option OneofOptionsSet → Text
 oneof_option_lines level None = []
@@ -188,19 +211,25 @@ oneof_option_lines level (Some o) = custom_line level o.custom
 
 unfoldable pub enum_option_lines : ℕ → Option EnumOptionsSet → Text
 enum_option_lines level None = []
-enum_option_lines level (Some o) = setting_lines level (enum_settings o) ++ custom_line level o.custom
+enum_option_lines level (Some o) = setting_lines level (enum_settings o)
+    ++ custom_line level o.custom
 
 unfoldable pub enum_value_option_lines : ℕ → Option EnumValueOptionsSet → Text
 enum_value_option_lines level None = []
-enum_value_option_lines level (Some o) = setting_line level (truth_setting (codes "deprecated") o.deprecated) ++ custom_line level o.custom
+enum_value_option_lines level (Some o) =
+    setting_line level (truth_setting (codes "deprecated") o.deprecated)
+    ++ custom_line level o.custom
 
 unfoldable pub service_option_lines : ℕ → Option ServiceOptionsSet → Text
 service_option_lines level None = []
-service_option_lines level (Some o) = setting_line level (truth_setting (codes "deprecated") o.deprecated) ++ custom_line level o.custom
+service_option_lines level (Some o) =
+    setting_line level (truth_setting (codes "deprecated") o.deprecated)
+    ++ custom_line level o.custom
 
 unfoldable pub method_option_lines : ℕ → Option MethodOptionsSet → Text
 method_option_lines level None = []
-method_option_lines level (Some o) = setting_lines level (method_settings o) ++ custom_line level o.custom
+method_option_lines level (Some o) = setting_lines level (method_settings o)
+    ++ custom_line level o.custom
 
 -- ---- fields
 
@@ -258,19 +287,22 @@ words_if true words = words
 
 -- `LABEL TYPE NAME = NUMBER`
 unfoldable pub field_front : FieldDescriptor → Text
-field_front f = label_word f.label ++ codes " " ++ type_words f.type_ f.type_name ++ codes " " ++ f.name ++ codes " = " ++ signed_decimal f.number
+field_front f = label_word f.label ++ codes " " ++ type_words f.type_ f.type_name ++ codes " "
+    ++ f.name ++ codes " = " ++ signed_decimal f.number
 
 -- ` json "J"`, and what else is set
 unfoldable pub field_back : FieldDescriptor → Text
 field_back f =
-    codes " json " ++ quoted f.json_name ++ default_words f.default_value ++ oneof_words f.oneof_index ++ words_if f.proto3_optional (codes " proto3_optional")
+    codes " json " ++ quoted f.json_name ++ default_words f.default_value
+    ++ oneof_words f.oneof_index ++ words_if f.proto3_optional (codes " proto3_optional")
 
 abbrev pub field_words : FieldDescriptor → Text
 field_words f = field_front f ++ field_back f
 
 -- a field's line begins with these words
 unfoldable pub field_lines_after : Text → ℕ → FieldDescriptor → Text
-field_lines_after words level f = line level (words ++ field_words f) ++ field_option_lines (level + 1) f.options
+field_lines_after words level f = line level (words ++ field_words f)
+    ++ field_option_lines (level + 1) f.options
 
 abbrev pub field_lines : ℕ → FieldDescriptor → Text
 field_lines level f = field_lines_after (codes "field ") level f
@@ -284,39 +316,49 @@ extension_lines level f = field_lines_after (extension_front f) level f
 -- ---- what else is declared
 
 abbrev pub oneof_lines : ℕ → OneofDescriptor → Text
-oneof_lines level o = line level (codes "oneof " ++ o.name) ++ oneof_option_lines (level + 1) o.options
+oneof_lines level o = line level (codes "oneof " ++ o.name)
+    ++ oneof_option_lines (level + 1) o.options
 
 unfoldable pub enum_value_words : EnumValueDescriptor → Text
 enum_value_words v = v.name ++ codes " = " ++ signed_decimal v.number
 
 abbrev pub enum_value_lines : ℕ → EnumValueDescriptor → Text
-enum_value_lines level v = line level (codes "value " ++ enum_value_words v) ++ enum_value_option_lines (level + 1) v.options
+enum_value_lines level v = line level (codes "value " ++ enum_value_words v)
+    ++ enum_value_option_lines (level + 1) v.options
 
 -- what stands below an enum's line
 unfoldable pub enum_parts : ℕ → EnumDescriptor → Text
 enum_parts level e =
-    enum_option_lines level e.options ++ flat_map (enum_value_lines level) e.value ++ flat_map (range_line level (codes "reserved_range ")) e.reserved_range ++ flat_map (reserved_name_line level) e.reserved_name
+    enum_option_lines level e.options ++ flat_map (enum_value_lines level) e.value
+    ++ flat_map (range_line level (codes "reserved_range ")) e.reserved_range
+    ++ flat_map (reserved_name_line level) e.reserved_name
 
 abbrev pub enum_lines : ℕ → EnumDescriptor → Text
 enum_lines level e = line level (codes "enum " ++ e.name) ++ enum_parts (level + 1) e
 
 -- the options, fields and oneofs of a message
 unfoldable pub message_front : ℕ → MessageParts → Text
-message_front level m = message_option_lines level m.options ++ flat_map (field_lines level) m.field ++ flat_map (oneof_lines level) m.oneof_decl
+message_front level m = message_option_lines level m.options ++ flat_map (field_lines level) m.field
+    ++ flat_map (oneof_lines level) m.oneof_decl
 
 -- its enums and extensions
 unfoldable pub message_middle : ℕ → MessageParts → Text
-message_middle level m = flat_map (enum_lines level) m.enum_type ++ flat_map (extension_lines level) m.extension
+message_middle level m = flat_map (enum_lines level) m.enum_type
+    ++ flat_map (extension_lines level) m.extension
 
 -- its ranges and reserved names
 unfoldable pub message_back : ℕ → MessageParts → Text
 message_back level m =
-    flat_map (range_line level (codes "extension_range ")) m.extension_range ++ flat_map (range_line level (codes "reserved_range ")) m.reserved_range ++ flat_map (reserved_name_line level) m.reserved_name
+    flat_map (range_line level (codes "extension_range ")) m.extension_range
+    ++ flat_map (range_line level (codes "reserved_range ")) m.reserved_range
+    ++ flat_map (reserved_name_line level) m.reserved_name
 
 abbrev mutual
   pub message_lines : ℕ → MessageDescriptor → Text
   message_lines level (a_message m inside) =
-      line level (codes "message " ++ m.name) ++ (message_front (level + 1) m ++ all_message_lines (level + 1) inside ++ message_middle (level + 1) m ++ message_back (level + 1) m)
+      line level (codes "message " ++ m.name)
+      ++ (message_front (level + 1) m ++ all_message_lines (level + 1) inside
+      ++ message_middle (level + 1) m ++ message_back (level + 1) m)
 
   pub all_message_lines : ℕ → MessageDescriptors → Text
   all_message_lines level no_messages = []
@@ -324,13 +366,17 @@ abbrev mutual
 
 unfoldable pub method_words : MethodDescriptor → Text
 method_words m =
-    m.name ++ codes " " ++ m.input_type ++ codes " " ++ m.output_type ++ words_if m.client_streaming (codes " client_streaming") ++ words_if m.server_streaming (codes " server_streaming")
+    m.name ++ codes " " ++ m.input_type ++ codes " " ++ m.output_type
+    ++ words_if m.client_streaming (codes " client_streaming")
+    ++ words_if m.server_streaming (codes " server_streaming")
 
 abbrev pub method_lines : ℕ → MethodDescriptor → Text
-method_lines level m = line level (codes "method " ++ method_words m) ++ method_option_lines (level + 1) m.options
+method_lines level m = line level (codes "method " ++ method_words m)
+    ++ method_option_lines (level + 1) m.options
 
 abbrev pub service_lines : ℕ → ServiceDescriptor → Text
-service_lines level s = line level (codes "service " ++ s.name) ++ service_option_lines (level + 1) s.options ++ flat_map (method_lines (level + 1)) s.method
+service_lines level s = line level (codes "service " ++ s.name)
+    ++ service_option_lines (level + 1) s.options ++ flat_map (method_lines (level + 1)) s.method
 
 -- ---- files
 
@@ -357,17 +403,23 @@ import_words false false = codes "import "
 -- the imports from the position i on, with the positions of the public and of the weak ones
 abbrev pub import_lines : List ℤ → List ℤ → ℕ → List Text → Text
 import_lines public weak i [] = []
-import_lines public weak i (path ∷ paths) = line 1 (import_words (is_position i public) (is_position i weak) ++ path) ++ import_lines public weak (i + 1) paths
+import_lines public weak i (path ∷ paths) =
+    line 1 (import_words (is_position i public) (is_position i weak) ++ path)
+    ++ import_lines public weak (i + 1) paths
 
 -- the lines of a file before its options
 unfoldable pub file_front : FileDescriptor → Text
 file_front f =
-    line 0 (codes "file " ++ text_or_nothing f.name) ++ line 1 (codes "syntax " ++ text_or_nothing f.syntax) ++ line_if_some 1 (codes "package ") f.«package» ++ import_lines f.public_dependency f.weak_dependency 0 f.dependency
+    line 0 (codes "file " ++ text_or_nothing f.name)
+    ++ line 1 (codes "syntax " ++ text_or_nothing f.syntax)
+    ++ line_if_some 1 (codes "package ") f.«package»
+    ++ import_lines f.public_dependency f.weak_dependency 0 f.dependency
 
 -- those of what it declares
 unfoldable pub file_back : FileDescriptor → Text
 file_back f =
-    flat_map (message_lines 1) f.message_type ++ flat_map (enum_lines 1) f.enum_type ++ flat_map (service_lines 1) f.service ++ flat_map (extension_lines 1) f.extension
+    flat_map (message_lines 1) f.message_type ++ flat_map (enum_lines 1) f.enum_type
+    ++ flat_map (service_lines 1) f.service ++ flat_map (extension_lines 1) f.extension
 
 abbrev pub file_lines : FileDescriptor → Text
 file_lines f = file_front f ++ file_option_lines 1 f.options ++ file_back f

@@ -1,5 +1,8 @@
--- What holds while files are loaded, for every list of reads that the log begins and any events kept so far.
-use Rattle.std.specs.Prelude.{◌≡◌, ◌⊎◌, ◌≤◌, ℕ, true, false, nat_lt, List, [], ◌∷◌, ◌++◌, length, map, flat_map, Option, Some, None, option_to_list, Result, Ok, Err, bytes_eq, String, string_bytes, slice_get, find}
+-- What holds while files are loaded, for every list of reads that the log begins and any events
+-- kept so far.
+use Rattle.std.specs.Prelude.{◌≡◌, ◌⊎◌, ◌≤◌, ℕ, true, false, nat_lt, List, [], ◌∷◌, ◌++◌, length}
+use Rattle.std.specs.Prelude.{map, flat_map, Option, Some, None, option_to_list, Result, Ok, Err}
+use Rattle.std.specs.Prelude.{bytes_eq, String, string_bytes, slice_get, find}
 use Rattle.std.specs.Global.{Global}
 use Rattle.std.specs.List.{AllByRecursion, Contains}
 use Rattle.std.specs.List.Sorted.{IsStrictlyIncreasing}
@@ -14,11 +17,11 @@ use Rattle.protobuf_parse_model.specs.FileDescriptor.{environment, file_of}
 use Rattle.protobuf_parse_model.specs.FilesByPath.{AreDistinct}
 use Rattle.protobuf_parse_model.specs.Tables.{Tells, picked}
 use Rattle.protobuf_parse_model.specs.declared.descriptor.FileDescriptorProto.{FileDescriptorProto}
-use Rattle.protobuf_parse_model.specs.declared.scope.seen.Declarations.{Declarations}
 use Rattle.protobuf_parse_model.specs.Faults as elaborating
 use Rattle.protobuf_parse_model.specs.Faults.{Blames, fault_view}
 use Rattle.protobuf_parse_model.specs.declared.error.ElabFailure.{ElabFailure}
 use Rattle.protobuf_parse_wire.specs.CustomFaults.{elaboration_faults}
+use Rattle.protobuf_parse_wire.specs.Holding.{Holds}
 use Rattle.protobuf_parse_wire.specs.OptionBytes.{known_customs}
 use Rattle.protobuf_parse.specs.declared.run.fault.RunFault.{RunFault}
 use Rattle.protobuf_parse.specs.declared.run.fault.RunFault.TheVariants as fault
@@ -26,25 +29,34 @@ use Rattle.protobuf_parse.specs.declared.run.describe.Described.{Described}
 use Rattle.protobuf_parse.specs.declared.run.loader.LoadedFile.{LoadedFile}
 use Rattle.protobuf_parse.specs.declared.run.loader.Placed.{Placed}
 use Rattle.protobuf_parse.specs.declared.run.reach.Held.{Held}
+use Rattle.protobuf_parse.specs.declared.run.tables.RunPlaces.{RunPlaces}
+use Rattle.protobuf_parse.specs.declared.run.tables.Tables.{Tables}
 use Rattle.protobuf_parse.specs.declared.run.reach.Held.TheVariants as held_as
 use Rattle.protobuf_parse.specs.declared.run.log.ReadEntry.{ReadEntry}
 use Rattle.protobuf_parse.specs.declared.run.log.ReadOutcome.{ReadOutcome}
-use Rattle.protobuf_parse.specs.Walks.{Asked, the_resolver, the_reader, Event, long, load, elab, has, among, Trees, Reaches, HandsOn, joined, walk, reads_in, elab_paths}
+use Rattle.protobuf_parse.specs.Walks.{Asked, the_resolver, the_reader, Event, long, load, elab}
+use Rattle.protobuf_parse.specs.Walks.{has, among, Trees, Reaches, HandsOn, joined, walk, reads_in}
+use Rattle.protobuf_parse.specs.Walks.{elab_paths}
 use Rattle.std.specs.Borrow.{Bor}
 use Rattle.std.specs.Str.{IsUtf8}
 use Rattle.protobuf_parse.specs.declared.run.fault.ResolveFault.{ResolveFault}
 use Rattle.protobuf_parse.specs.declared.run.fault.ReadInputFault.{ReadInputFault}
 use Rattle.protobuf_parse.specs.declared.run.log.ReadOutcome.TheVariants as outcome
 use Rattle.protobuf_parse.specs.declared.run.source.Sources.{Sources}
-use Rattle.protobuf_parse.specs.Run.{Files, MayAnswer, MayRead, MayResolve, AreListed, HasTrees, faults_in, IsTheTree, text_read, environment_of, plain_of, first_read, fails, said, text_given, origin_given, Answers, StandsAt, StandsInLoad, StandsInElab, IsUnparsed}
+use Rattle.protobuf_parse.specs.Run.{Files, MayAnswer, MayRead, MayResolve, AreListed, HasTrees}
+use Rattle.protobuf_parse.specs.Run.{faults_in, IsTheTree, text_read, environment_of, plain_of}
+use Rattle.protobuf_parse.specs.Run.{first_read, fails, said, text_given, origin_given, Answers}
+use Rattle.protobuf_parse.specs.Run.{StandsAt, StandsInLoad, StandsInElab, IsUnparsed}
 
 -- the answers that who is asked for a path may give
 abbrev pub Legal : Type 1
 Legal = Asked → Text → ReadOutcome → Type 0
 
--- the answers that may be given by those whom a run asks: its resolver, which may answer so, and its reader, which may so
+-- the answers that may be given by those whom a run asks: its resolver, which may answer so, and
+-- its reader, which may so
 abbrev pub legal_by : {R I : Type 0} → (R → MayResolve) → (I → MayRead) → Sources R I → Legal
-legal_by may_answer may_read sources = MayAnswer (may_answer sources.resolver.now) (may_read sources.reader.now)
+legal_by may_answer may_read sources =
+    MayAnswer (may_answer sources.resolver.now) (may_read sources.reader.now)
 
 -- the events of a walk, by its input, who is asked, the room and the chain
 abbrev pub Shape : Type 0
@@ -62,6 +74,32 @@ file_at path loaded = lookup (λ (k : String Global). bytes_eq path (string_byte
 
 abbrev pub read_paths : List ReadEntry → List Text
 read_paths log = map (λ (e : ReadEntry). path_buf_text e.path) log
+
+-- ---- descriptors by numbers
+
+-- a descriptor without custom options: the same one, where it has none
+abbrev pub plain_or : Option FileDescriptorProto → FileDescriptorProto → FileDescriptor
+plain_or (Some plain) d = described.file_view plain
+plain_or None d = described.file_view d
+
+abbrev pub plain_in : Entry → FileDescriptor
+plain_in e = plain_or e.1.plain e.1.descriptor
+
+-- those of the loaded files, and behind them that of the next
+abbrev pub plains_with : List Entry → FileDescriptor → List FileDescriptor
+plains_with loaded d = map plain_in loaded ++ d ∷ []
+
+-- The index has just the files, as many as it counts.
+pub record IsWhole (places : RunPlaces) (plains : List FileDescriptor) : Type 0 where
+  pub holds : Holds places.declared plains
+  pub count : length plains ≡ places.files
+
+-- The index has the first of the files.
+pub record Begins (places : RunPlaces) (plains : List FileDescriptor) : Type 0 where
+  pub front : List FileDescriptor
+  pub rest : List FileDescriptor
+  pub split : plains ≡ front ++ rest
+  pub whole : IsWhole places front
 
 -- ---- the numbers of loaded files
 
@@ -95,55 +133,49 @@ pub record AreNumbersOf (Has : Text → Type 0) (files : List Named) (numbers : 
 
 -- each of the files has its tree
 abbrev pub Agrees : Trees → List Named → Type 0
-Agrees trees files = (n : ℕ) (p : Text) (t : FileSyntax) → slice_get files n ≡ Some (p, t) → trees p ≡ Some t
+Agrees trees files = (n : ℕ) (p : Text) (t : FileSyntax) → slice_get files n ≡ Some (p, t)
+    → trees p ≡ Some t
 
--- which numbers of a loaded file: those of the files that it reaches, or those of the files that it hands on
+-- which numbers of a loaded file: those of the files that it reaches, or those of the files that it
+-- hands on
 abbrev pub held : Held → LoadedFile → List ℕ
 held held_as.Reach file = file.reach.items
 held held_as.HandedOn file = file.handed_on.items
 
--- whatever the trees of other files are, each loaded file holds the numbers of just the files to which it stands so
+-- whatever the trees of other files are, each loaded file holds the numbers of just the files to
+-- which it stands so
 abbrev pub AllHold : (Trees → Text → Text → Type 0) → Held → List Entry → Type 0
 AllHold R which loaded =
-    (trees : Trees) → Agrees trees (named_trees loaded) → (n : ℕ) (e : Entry) → slice_get loaded n ≡ Some e
+    (trees : Trees) → Agrees trees (named_trees loaded) → (n : ℕ) (e : Entry)
+    → slice_get loaded n ≡ Some e
     → AreNumbersOf (R trees (string_bytes e.0)) (named_trees loaded) (held which e.1)
 
--- what is known of loaded files: the table has their names, each path stands once and was read, and each file knows what
--- it reaches and hands on
-pub record AreKnown (loaded : List Entry) (names : Declarations) (log : List ReadEntry) : Type 0 where
-  pub tells : Tells names (trees_of (named_trees loaded))
+-- what is known of loaded files: the table has their names, each path stands once and was read, and
+-- each file knows what it reaches and hands on
+pub record AreKnown (loaded : List Entry) (tables : Tables) (log : List ReadEntry) : Type 0 where
+  pub tells : Tells tables.names (trees_of (named_trees loaded))
+  pub begins : Begins tables.places (map plain_in loaded)
   pub once : AreDistinct (paths_in (named_trees loaded))
   pub reach : AllHold Reaches held_as.Reach loaded
   pub handed_on : AllHold HandsOn held_as.HandedOn loaded
-  pub read : (p : Text) (file : LoadedFile) → file_at p loaded ≡ Some file → among p (read_paths log) ≡ true
+  pub read : (p : Text) (file : LoadedFile) → file_at p loaded ≡ Some file
+      → among p (read_paths log) ≡ true
 
 abbrev pub held_at : Held → Option Entry → List ℕ
 held_at which None = []
 held_at which (Some e) = held which e.1
 
--- the numbers that each of these files holds, one file after another, and then that of the next file
+-- the numbers that each of these files holds, one file after another, and then that of the next
+-- file
 abbrev pub held_by : Held → List Entry → List ℕ → List ℕ
-held_by which loaded files = flat_map (λ n. held_at which (slice_get loaded n)) files ++ length loaded ∷ []
+held_by which loaded files = flat_map (λ n. held_at which (slice_get loaded n)) files
+    ++ length loaded ∷ []
 
 -- these numbers are ascending, and just those
 pub record AreJoined (which : Held) (loaded : List Entry) (files numbers : List ℕ) : Type 0 where
   pub ascending : IsStrictlyIncreasing numbers
   pub all : (n : ℕ) → Contains (held_by which loaded files) n → Contains numbers n
   pub only : (n : ℕ) → Contains numbers n → Contains (held_by which loaded files) n
-
--- ---- descriptors by numbers
-
--- a descriptor without custom options: the same one, where it has none
-abbrev pub plain_or : Option FileDescriptorProto → FileDescriptorProto → FileDescriptor
-plain_or (Some plain) d = described.file_view plain
-plain_or None d = described.file_view d
-
-abbrev pub plain_in : Entry → FileDescriptor
-plain_in e = plain_or e.1.plain e.1.descriptor
-
--- those of the loaded files, and behind them that of the next
-abbrev pub plains_with : List Entry → FileDescriptor → List FileDescriptor
-plains_with loaded d = map plain_in loaded ++ d ∷ []
 
 -- those with these numbers
 abbrev pub picked_plains : List FileDescriptor → List ℕ → List FileDescriptor
@@ -154,11 +186,14 @@ abbrev pub plain_over : List FileSyntax → List ℕ → Text → FileSyntax →
 plain_over files sight path t = file_of (environment (picked files sight) no_customs t) path t
 
 -- the descriptors by which its custom options are looked up
-abbrev pub plains_over : List Entry → List FileSyntax → List ℕ → Text → FileSyntax → List FileDescriptor
+abbrev pub plains_over : List Entry → List FileSyntax → List ℕ → Text → FileSyntax
+    → List FileDescriptor
 plains_over loaded files sight path t = plains_with loaded (plain_over files sight path t)
 
--- the faults of a file, and what it becomes, over the files with the numbers that it reaches and sees
-abbrev pub faults_over : List FileSyntax → List FileDescriptor → List ℕ → List ℕ → FileSyntax → List elaborating.Fault
+-- the faults of a file, and what it becomes, over the files with the numbers that it reaches and
+-- sees
+abbrev pub faults_over : List FileSyntax → List FileDescriptor → List ℕ → List ℕ → FileSyntax
+    → List elaborating.Fault
 faults_over files plains reach sight t =
     elaboration_faults (picked files reach) (picked files sight) (picked_plains plains reach)
     (picked_plains plains sight) t
@@ -167,7 +202,8 @@ abbrev pub customs_over : List FileDescriptor → List ℕ → List ℕ → Cust
 customs_over plains reach sight =
     known_customs (picked_plains plains reach) (picked_plains plains sight)
 
-abbrev pub file_over : List FileSyntax → List FileDescriptor → List ℕ → List ℕ → Text → FileSyntax → FileDescriptor
+abbrev pub file_over : List FileSyntax → List FileDescriptor → List ℕ → List ℕ → Text → FileSyntax
+    → FileDescriptor
 file_over files plains reach sight path t =
     file_of (environment (picked files sight) (customs_over plains reach sight) t) path t
 
@@ -175,7 +211,8 @@ abbrev pub plain_seen : Bor FileDescriptorProto → FileDescriptor
 plain_seen d = described.file_view d.now
 
 -- What a file becomes by these numbers, and without its custom options; or a fault that stands.
-abbrev pub Describes : List Entry → List FileSyntax → (reach sight : List ℕ) → Text → FileSyntax → Result Described ElabFailure → Type 0
+abbrev pub Describes : List Entry → List FileSyntax → (reach sight : List ℕ) → Text → FileSyntax
+    → Result Described ElabFailure → Type 0
 Describes loaded files reach sight path t (Ok d) =
     let plains = plains_over loaded files sight path t in
     (faults_over files plains reach sight t ≡ [])
@@ -199,13 +236,15 @@ Apart events chain = (p : Text) → among p chain ≡ true → has (elab p) even
 abbrev pub Within : List Event → List Event → Type 0
 Within small large = (e : Event) → has e small ≡ true → has e large ≡ true
 
--- The events of this shape are all kept, wherever it is met, but for a chain that is too long, which there
--- is exactly where the room is below the height.
+-- The events of this shape are all kept, wherever it is met, but for a chain that is too long,
+-- which there is exactly where the room is below the height.
 pub record Settled (kept : List Event) (height : ℕ) (events : Shape) : Type 0 where
   pub before : List Event
   pub within : Within before kept
-  pub only : (i : Text) (a : Asked) (room : ℕ) (chain : List Text) → Apart before chain → (e : Event) → has e (events i a room chain) ≡ true → (has e kept ≡ true) ⊎ (e ≡ long i)
-  pub tall : (i : Text) (a : Asked) (room : ℕ) (chain : List Text) → Apart before chain → has (long i) (events i a room chain) ≡ nat_lt room height
+  pub only : (i : Text) (a : Asked) (room : ℕ) (chain : List Text) → Apart before chain
+      → (e : Event) → has e (events i a room chain) ≡ true → (has e kept ≡ true) ⊎ (e ≡ long i)
+  pub tall : (i : Text) (a : Asked) (room : ℕ) (chain : List Text) → Apart before chain
+      → has (long i) (events i a room chain) ≡ nat_lt room height
 
 -- the walks of a path
 abbrev pub file_shape : Trees → Text → Shape
@@ -216,28 +255,35 @@ abbrev pub imports_shape : Trees → List Text → Shape
 imports_shape trees paths = λ i a room chain. joined (walk trees i the_resolver room chain) paths
 
 -- a loaded file has the tree of its path, and is what that becomes
-pub record IsLoaded (files : Files) (log : List ReadEntry) (path : Text) (file : LoadedFile) : Type 0 where
+pub record IsLoaded (files : Files) (log : List ReadEntry) (path : Text)
+    (file : LoadedFile) : Type 0 where
   pub low : file.height ≤ 100
   pub is : files.trees path ≡ Some (file_view file.tree)
-  pub descriptor : described.file_view file.descriptor ≡ file_of (environment_of files path (file_view file.tree)) path (file_view file.tree)
+  pub descriptor : described.file_view file.descriptor
+      ≡ file_of (environment_of files path (file_view file.tree)) path (file_view file.tree)
   pub plain : plain_or file.plain file.descriptor ≡ plain_of files path (file_view file.tree)
   pub entry : ReadEntry
   pub read : slice_get log file.read ≡ Some entry
   pub named : path_buf_text entry.path ≡ path
   pub first : first_read path files.reads ≡ Some entry.outcome
 
-pub record Good (legal : Legal) (files : Files) (kept : List Event) (loaded : List Entry) (log : List ReadEntry) (chain : List Text) : Type 0 where
+pub record Good (legal : Legal) (files : Files) (kept : List Event) (loaded : List Entry)
+    (log : List ReadEntry) (chain : List Text) : Type 0 where
   pub answers : Answers legal (reads_in kept) log
   pub elabs : elab_paths kept ≡ paths_of loaded
   pub clean : find (fails files) kept ≡ None
-  pub settled : (p : Text) (e : LoadedFile) → file_at p loaded ≡ Some e → Settled kept e.height (file_shape files.trees p)
+  pub settled : (p : Text) (e : LoadedFile) → file_at p loaded ≡ Some e
+      → Settled kept e.height (file_shape files.trees p)
   pub made : AllByRecursion (λ (e : Entry). IsLoaded files log (string_bytes e.0) e.1) loaded
-  pub known : (p : Text) → has (load the_resolver p) kept ≡ true → (among p chain ≡ true) ⊎ (has (elab p) kept ≡ true)
+  pub known : (p : Text) → has (load the_resolver p) kept ≡ true
+      → (among p chain ≡ true) ⊎ (has (elab p) kept ≡ true)
   pub read : (p : Text) → among p (read_paths log) ≡ true → has (load the_resolver p) kept ≡ true
   pub apart : Apart kept chain
 
--- the event is the first of these that fails, the log has the reads up to it, and the fault stands at it
-pub record Halts (legal : Legal) (files : Files) (events : List Event) (log : List ReadEntry) (f : RunFault) : Type 0 where
+-- the event is the first of these that fails, the log has the reads up to it, and the fault stands
+-- at it
+pub record Halts (legal : Legal) (files : Files) (events : List Event) (log : List ReadEntry)
+    (f : RunFault) : Type 0 where
   pub before : List Event
   pub event : Event
   pub after : List Event
@@ -248,7 +294,8 @@ pub record Halts (legal : Legal) (files : Files) (events : List Event) (log : Li
   pub stands : StandsAt files event f
 
 -- memory ran out, and the log has the reads of a beginning in which nothing fails
-pub record Breaks (legal : Legal) (files : Files) (events : List Event) (log : List ReadEntry) (f : RunFault) : Type 0 where
+pub record Breaks (legal : Legal) (files : Files) (events : List Event) (log : List ReadEntry)
+    (f : RunFault) : Type 0 where
   pub memory : f ≡ fault.Memory
   pub before : List Event
   pub after : List Event
@@ -300,31 +347,39 @@ IsUnresolved p given (fault.Resolver path why) = (string_bytes path ≡ p) × (s
 IsUnresolved p given _ = ⊥
 
 abbrev pub IsParseFault : Text → Text → RunFault → Type 0
-IsParseFault origin text (fault.Parse file error) = (string_bytes file ≡ origin) × IsUnparsed text error
+IsParseFault origin text (fault.Parse file error) = (string_bytes file ≡ origin)
+    × IsUnparsed text error
 IsParseFault origin text _ = ⊥
 
 -- L10 of a file, with this fault
 abbrev pub IsElabFault : Text → elaborating.Fault → RunFault → Type 0
-IsElabFault origin stands (fault.Elaborate file error) = (string_bytes file ≡ origin) × (fault_view error ≡ stands)
+IsElabFault origin stands (fault.Elaborate file error) = (string_bytes file ≡ origin)
+    × (fault_view error ≡ stands)
 IsElabFault origin stands _ = ⊥
 
 -- L1 or L9 of a content
 abbrev pub IsContentFault : Text → Text → Text → RunFault → Type 0
 IsContentFault p origin text (fault.ContentIsNotUtf8 path) = (string_bytes path ≡ p) × ¬ IsUtf8 text
-IsContentFault p origin text (fault.Parse file error) = (string_bytes file ≡ origin) × IsUnparsed text error
+IsContentFault p origin text (fault.Parse file error) = (string_bytes file ≡ origin)
+    × IsUnparsed text error
 IsContentFault p origin text _ = ⊥
 
 -- what a call leaves, where the events are those kept with its own
-abbrev pub Leaves : Legal → Files → List Event → Shape → List Entry → List ReadEntry → List Text → Result Placed RunFault → Type 0
-Leaves legal files events shape loaded log chain (Ok placed) = Good legal files events loaded log chain × Settled events placed.height shape
+abbrev pub Leaves : Legal → Files → List Event → Shape → List Entry → List ReadEntry → List Text
+    → Result Placed RunFault → Type 0
+Leaves legal files events shape loaded log chain (Ok placed) =
+    Good legal files events loaded log chain × Settled events placed.height shape
 Leaves legal files events shape loaded log chain (Err f) = Stops legal files events log f
 
-abbrev pub Goes : Legal → Files → List Event → List Entry → List ReadEntry → Result (Unit {0}) RunFault → Type 0
+abbrev pub Goes : Legal → Files → List Event → List Entry → List ReadEntry
+    → Result (Unit {0}) RunFault → Type 0
 Goes legal files events loaded log (Ok _) = Good legal files events loaded log []
 Goes legal files events loaded log (Err f) = Stops legal files events log f
 
--- A file was added for this path: it has this tree, in which no fault stands, and is what that becomes.
-pub record IsAdded (files : Files) (path : Text) (tree : FileSyntax) (height read : ℕ) (old new : List Entry) (placed : Placed) : Type 0 where
+-- A file was added for this path: it has this tree, in which no fault stands, and is what that
+-- becomes.
+pub record IsAdded (files : Files) (path : Text) (tree : FileSyntax) (height read : ℕ)
+    (old new : List Entry) (placed : Placed) : Type 0 where
   pub key : String Global
   pub file : LoadedFile
   pub entries : new ≡ old ++ (key, file) ∷ []
@@ -333,7 +388,8 @@ pub record IsAdded (files : Files) (path : Text) (tree : FileSyntax) (height rea
   pub height_is : file.height ≡ height
   pub read_is : file.read ≡ read
   pub faultless : faults_in files path (Some tree) ≡ []
-  pub descriptor : described.file_view file.descriptor ≡ file_of (environment_of files path tree) path tree
+  pub descriptor : described.file_view file.descriptor
+      ≡ file_of (environment_of files path tree) path tree
   pub plain : plain_or file.plain file.descriptor ≡ plain_of files path tree
   pub placed_is : placed.height ≡ height
 
@@ -342,16 +398,21 @@ abbrev pub texts : List (String Global) → List Text
 texts chain = map string_bytes chain
 
 -- A read of a file that isn't loaded, between these two logs, that gave its tree or a fault.
-abbrev pub ReadsTree : Legal → List (Text × Text) → Asked → Text → List ReadEntry → List ReadEntry → Result FileTree RunFault → Type 0
+abbrev pub ReadsTree : Legal → List (Text × Text) → Asked → Text → List ReadEntry → List ReadEntry
+    → Result FileTree RunFault → Type 0
 ReadsTree legal table asked p old new (Ok tree) =
-    (e : ReadEntry) × (new ≡ old ++ e ∷ []) × (path_buf_text e.path ≡ p) × legal asked p e.outcome × IsTheTree (text_given table p (Some e.outcome)) (Some (file_view tree))
+    (e : ReadEntry) × (new ≡ old ++ e ∷ []) × (path_buf_text e.path ≡ p) × legal asked p e.outcome
+    × IsTheTree (text_given table p (Some e.outcome)) (Some (file_view tree))
 ReadsTree legal table asked p old new (Err f) =
-    ((e : ReadEntry) × (new ≡ old ++ e ∷ []) × (path_buf_text e.path ≡ p) × legal asked p e.outcome × IsTheTree (text_given table p (Some e.outcome)) None × StandsInLoad asked p (Some e.outcome) (text_given table p (Some e.outcome)) f)
+    ((e : ReadEntry) × (new ≡ old ++ e ∷ []) × (path_buf_text e.path ≡ p) × legal asked p e.outcome
+    × IsTheTree (text_given table p (Some e.outcome)) None
+    × StandsInLoad asked p (Some e.outcome) (text_given table p (Some e.outcome)) f)
     ⊎ ((f ≡ fault.Memory) × (new ≡ old))
 
 -- of each path it is known which tree alone its text has, or that it has none
 abbrev pub IsDecided : List (Text × Text) → List ReadEntry → Type 0
-IsDecided table log = (path : Text) → (t : Option FileSyntax) × IsTheTree (text_read table log path) t
+IsDecided table log = (path : Text) → (t : Option FileSyntax)
+    × IsTheTree (text_read table log path) t
 
 -- The files of a run with this log and these bundled files, or of one that goes on from it.
 pub record GoesOn (files : Files) (table : List (Text × Text)) (log : List ReadEntry) : Type 0 where
@@ -363,12 +424,18 @@ pub record GoesOn (files : Files) (table : List (Text × Text)) (log : List Read
 -- the loaded file of a path, as a look-up told it
 abbrev pub IsPlaced : Text → List Entry → Option Placed → Type 0
 IsPlaced path loaded None = file_at path loaded ≡ None
-IsPlaced path loaded (Some placed) = (file : LoadedFile) × (file_at path loaded ≡ Some file) × (placed.height ≡ file.height) × IsNumbered (named_trees loaded) placed.number path
+IsPlaced path loaded (Some placed) = (file : LoadedFile) × (file_at path loaded ≡ Some file)
+    × (placed.height ≡ file.height) × IsNumbered (named_trees loaded) placed.number path
 
 -- what an elaboration leaves
-abbrev pub Settles : Files → Text → FileSyntax → ℕ → ℕ → List ReadEntry → List Entry → List Entry → Result Placed RunFault → Type 0
-Settles files path tree height read log old new (Ok placed) = file_at path old ≡ None → IsAdded files path tree height read old new placed
-Settles files path tree height read log old new (Err f) = (e : ReadEntry) → slice_get log read ≡ Some e → path_buf_text e.path ≡ path → OrMemory f (StandsInElab (origin_given path (Some e.outcome)) (faults_in files path (Some tree)) f)
+abbrev pub Settles : Files → Text → FileSyntax → ℕ → ℕ → List ReadEntry → List Entry → List Entry
+    → Result Placed RunFault → Type 0
+Settles files path tree height read log old new (Ok placed) = file_at path old ≡ None
+    → IsAdded files path tree height read old new placed
+Settles files path tree height read log old new (Err f) = (e : ReadEntry)
+    → slice_get log read ≡ Some e → path_buf_text e.path ≡ path
+    → OrMemory f
+    (StandsInElab (origin_given path (Some e.outcome)) (faults_in files path (Some tree)) f)
 
 -- the trees of the loaded files, and behind them that of the next
 abbrev pub with_next : List Entry → FileSyntax → List FileSyntax
@@ -378,9 +445,11 @@ with_next loaded tree = trees_of (named_trees loaded) ++ tree ∷ []
 abbrev pub plains_next : List Entry → List ℕ → Text → FileSyntax → List FileDescriptor
 plains_next loaded sight path tree = plains_over loaded (with_next loaded tree) sight path tree
 
--- A file was added behind those that were loaded, whose imports have these numbers, and its public ones those. By the numbers of the files that it
--- reaches and sees, no fault stands in it, and it has become its descriptor.
-pub record IsAddedOver (path : Text) (tree : FileSyntax) (height read : ℕ) (imports public : List ℕ) (old new : List Entry) (names : Declarations) (placed : Placed) : Type 0 where
+-- A file was added behind those that were loaded, whose imports have these numbers, and its public
+-- ones those. By the numbers of the files that it reaches and sees, no fault stands in it, and it
+-- has become its descriptor.
+pub record IsAddedOver (path : Text) (tree : FileSyntax) (height read : ℕ) (imports public : List ℕ)
+    (old new : List Entry) (tables : Tables) (placed : Placed) : Type 0 where
   pub key : String Global
   pub file : LoadedFile
   pub sight : List ℕ
@@ -392,21 +461,33 @@ pub record IsAddedOver (path : Text) (tree : FileSyntax) (height read : ℕ) (im
   pub reaches : AreJoined held_as.Reach old imports file.reach.items
   pub sees : AreJoined held_as.HandedOn old imports sight
   pub hands_on : AreJoined held_as.HandedOn old public file.handed_on.items
-  pub faultless : faults_over (with_next old tree) (plains_next old sight path tree) file.reach.items sight tree ≡ []
-  pub descriptor : described.file_view file.descriptor ≡ file_over (with_next old tree) (plains_next old sight path tree) file.reach.items sight path tree
+  pub faultless : faults_over (with_next old tree)
+      (plains_next old sight path tree) file.reach.items sight tree ≡ []
+  pub descriptor : described.file_view file.descriptor
+      ≡ file_over (with_next old tree)
+      (plains_next old sight path tree) file.reach.items sight path tree
   pub plain : plain_or file.plain file.descriptor ≡ plain_over (with_next old tree) sight path tree
-  pub tells : Tells names (with_next old tree)
+  pub tells : Tells tables.names (with_next old tree)
+  pub begins : Begins tables.places (map plain_in new)
   pub height_placed : placed.height ≡ height
   pub number_placed : placed.number ≡ length old
 
--- By the numbers of the files that a file reaches and sees, this fault stands in it, or memory ran out.
+-- By the numbers of the files that a file reaches and sees, this fault stands in it, or memory ran
+-- out.
 abbrev pub IsRefusedOver : Text → Text → FileSyntax → List ℕ → List Entry → RunFault → Type 0
 IsRefusedOver origin path tree imports old f =
-    OrMemory f ((reach : List ℕ) × (sight : List ℕ) × AreJoined held_as.Reach old imports reach × AreJoined held_as.HandedOn old imports sight × StandsInElab origin (faults_over (with_next old tree) (plains_next old sight path tree) reach sight tree) f)
+    OrMemory f ((reach : List ℕ) × (sight : List ℕ) × AreJoined held_as.Reach old imports reach
+    × AreJoined held_as.HandedOn old imports sight
+    × StandsInElab origin
+    (faults_over (with_next old tree) (plains_next old sight path tree) reach sight tree) f)
 
-abbrev pub SettlesOver : Text → FileSyntax → ℕ → ℕ → List ℕ → List ℕ → List ReadEntry → List Entry → List Entry → Declarations → Result Placed RunFault → Type 0
-SettlesOver path tree height read imports public log old new names (Ok placed) = file_at path old ≡ None → IsAddedOver path tree height read imports public old new names placed
-SettlesOver path tree height read imports public log old new names (Err f) = (e : ReadEntry) → slice_get log read ≡ Some e → path_buf_text e.path ≡ path → IsRefusedOver (origin_given path (Some e.outcome)) path tree imports old f
+abbrev pub SettlesOver : Text → FileSyntax → ℕ → ℕ → List ℕ → List ℕ → List ReadEntry → List Entry
+    → List Entry → Tables → Result Placed RunFault → Type 0
+SettlesOver path tree height read imports public log old new tables (Ok placed) =
+    file_at path old ≡ None → IsAddedOver path tree height read imports public old new tables placed
+SettlesOver path tree height read imports public log old new tables (Err f) = (e : ReadEntry)
+    → slice_get log read ≡ Some e → path_buf_text e.path ≡ path
+    → IsRefusedOver (origin_given path (Some e.outcome)) path tree imports old f
 
 -- no file on the chain is loaded
 abbrev pub AreUnloaded : List Text → List Entry → Type 0

@@ -1,5 +1,6 @@
 -- What a parser over real files was given, and what it promises.
-use Rattle.std.specs.Prelude.{◌≡◌, ◌⊎◌, List, [], ◌∷◌, Bool, false, codes, filter, map, Option, Some, None, option_map, Result, Ok, Err, bytes_eq, string_bytes}
+use Rattle.std.specs.Prelude.{◌≡◌, ◌⊎◌, List, [], ◌∷◌, Bool, false, codes, filter, map, Option}
+use Rattle.std.specs.Prelude.{Some, None, option_map, Result, Ok, Err, bytes_eq, string_bytes}
 use Rattle.std.specs.List.{list_any}
 use Rattle.std.specs.Global.{Vec}
 use Rattle.protobuf_parse_base.specs.PathViews.{path_buf_text}

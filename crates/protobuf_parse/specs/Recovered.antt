@@ -1,8 +1,9 @@
--- What stands in the descriptors of an accepted run for custom options, and what is read back from it by one who
--- knows these descriptors alone.
+-- What stands in the descriptors of an accepted run for custom options, and what is read back from
+-- it by one who knows these descriptors alone.
 --
--- An options message is read as any message: by the fields of it, and by the extensions of it in the
--- files at hand (Protocol Buffers Language Guide (proto2), "Custom Options", https://protobuf.dev).
+-- An options message is read as any message: by the fields of it, and by the extensions of it in
+-- the files at hand (Protocol Buffers Language Guide (proto2), "Custom Options",
+-- https://protobuf.dev).
 use Rattle.std.specs.Prelude.{◌≡◌, ℕ, true, List, [], Option, Some, Result, Ok, Err}
 use Rattle.std.specs.Global.{Vec}
 use Rattle.protobuf_parse_syntax.specs.Trees.{FileSyntax}
@@ -21,7 +22,8 @@ use Rattle.protobuf_parse_wire.specs.Recovery.{HasCustom, HaveDistinctNumbers}
 use Rattle.protobuf_parse_wire.specs.Trees.{Entries}
 use Rattle.protobuf_parse_wire.specs.Wire.{Spells}
 use Rattle.protobuf_parse.specs.Walks.{Input}
-use Rattle.protobuf_parse.specs.Run.{Files, AreListed, HasTrees, customs_of, environment_of, plains_at}
+use Rattle.protobuf_parse.specs.Run.{Files, AreListed, HasTrees, customs_of, environment_of}
+use Rattle.protobuf_parse.specs.Run.{plains_at}
 use Rattle.protobuf_parse.specs.Stability.{order}
 use Rattle.protobuf_parse.specs.declared.run.fault.RunFault.{RunFault}
 use Rattle.protobuf_parse.specs.declared.run.log.ReadEntry.{ReadEntry}
@@ -40,36 +42,38 @@ denoted_in files p s =
     denotes (scope_of (handed_out files (files.reached p)) (handed_out files (files.seen p)) s)
     s.construct s.statements
 
--- From a `Vec` of these bytes, as the one in p's descriptor, the reader gives the numbers and the values
--- that the statements denote, by the construct's options message and the descriptors of the files that q
--- reaches.
+-- From a `Vec` of these bytes, as the one in p's descriptor, the reader gives the numbers and the
+-- values that the statements denote, by the construct's options message and the descriptors of the
+-- files that q reaches.
 abbrev pub IsReadBack : Files → (p q : Text) → OptionSet → Type 0
 IsReadBack files p q s =
     (bytes : Vec ℕ) → bytes.items ≡ bytes_in files p s
     → reader (handed_out files (files.reached q)) (options_message s.construct) bytes.items
     ≡ Ok (said (denoted_in files p s))
 
--- What stands in p's descriptor for the custom options of a construct, where these are the files of the
--- run.
+-- What stands in p's descriptor for the custom options of a construct, where these are the files of
+-- the run.
 pub record HoldsOptions (files : Files) (run : List Text) (p : Text) (s : OptionSet) : Type 0 where
   -- bytes that spell what its statements denote
   pub spelled : Spells (denoted_in files p s) (bytes_in files p s)
   -- none, where no custom option is set
   pub nothing : (HasCustom s.statements → ⊥) → bytes_in files p s ≡ []
-  -- Where one is set they are read back, by the files that p reaches; and so by those that any other file
-  -- of the run reaches which reaches p. Asked for is that numbers of fields are distinct there. (Custom
-  -- options change no number.)
+  -- Where one is set they are read back, by the files that p reaches; and so by those that any
+  -- other file of the run reaches which reaches p. Asked for is that numbers of fields are distinct
+  -- there. (Custom options change no number.)
   pub read : HasCustom s.statements → (q : Text) → among q run ≡ true
       → among p (files.reached q) ≡ true → HaveDistinctNumbers (plains_at files (files.reached q))
       → IsReadBack files p q s
 
 -- So it is for each construct of an accepted run's files whose options can be set.
-abbrev pub OptionsAreHeld : List Input → List (Text × Text) → List ReadEntry → Result (Vec FileDescriptorProto) RunFault → Type 0
+abbrev pub OptionsAreHeld : List Input → List (Text × Text) → List ReadEntry
+    → Result (Vec FileDescriptorProto) RunFault → Type 0
 OptionsAreHeld inputs bundled log (Ok _) =
     (trees : Text → Option FileSyntax) (reached seen : Text → List Text)
     → HasTrees bundled log trees → AreListed trees reached seen
     → (p : Text) (t : FileSyntax) (s : OptionSet)
     → among p (order trees inputs) ≡ true → trees p ≡ Some t → Among (option_sets t) s
-    → HoldsOptions (record { bundled = bundled; reads = log; trees = trees; reached = reached; seen = seen })
+    → HoldsOptions
+    (record { bundled = bundled; reads = log; trees = trees; reached = reached; seen = seen })
     (order trees inputs) p s
 OptionsAreHeld inputs bundled log (Err _) = Unit {0}

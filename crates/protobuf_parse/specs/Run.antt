@@ -1,5 +1,8 @@
 -- What a run read, which of its events fails, and which fault stands at an event.
-use Rattle.std.specs.Prelude.{◌≡◌, ◌⊎◌, ◌≤◌, ◌+◌, ℕ, length, Bool, true, false, not, List, [], ◌∷◌, ◌++◌, map, Option, Some, None, is_some, option_map, flat_map, slice_get, Result, Ok, Err, if◌then◌else◌, bytes_eq, string_bytes, find}
+use Rattle.std.specs.Prelude.{◌≡◌, ◌⊎◌, ◌≤◌, ◌+◌, ℕ, length, Bool, true, false, not, List, [], ◌∷◌}
+use Rattle.std.specs.Prelude.{◌++◌, map, Option, Some, None, is_some, option_map, flat_map}
+use Rattle.std.specs.Prelude.{slice_get, Result, Ok, Err, if◌then◌else◌, bytes_eq, string_bytes}
+use Rattle.std.specs.Prelude.{find}
 use Rattle.std.specs.Global.{Vec}
 use Rattle.std.specs.Borrow.{Bor}
 use Rattle.std.specs.Str.{IsUtf8}
@@ -32,7 +35,9 @@ use Rattle.protobuf_parse.specs.declared.run.log.RunInput.TheVariants as given
 use Rattle.protobuf_parse.specs.declared.run.log.ReadEntry.{ReadEntry}
 use Rattle.protobuf_parse.specs.declared.run.log.ReadOutcome.{ReadOutcome}
 use Rattle.protobuf_parse.specs.declared.run.log.ReadOutcome.TheVariants as outcome
-use Rattle.protobuf_parse.specs.Walks.{Input, named, at, Asked, the_resolver, the_reader, Event, cycle, long, load, check, elab, Trees, Reaches, Sees, Read, reads_in, elab_paths, events, statements, until}
+use Rattle.protobuf_parse.specs.Walks.{Input, named, at, Asked, the_resolver, the_reader, Event}
+use Rattle.protobuf_parse.specs.Walks.{cycle, long, load, check, elab, Trees, Reaches, Sees, Read}
+use Rattle.protobuf_parse.specs.Walks.{reads_in, elab_paths, events, statements, until}
 
 abbrev pub input_view : RunInput → Input
 input_view (given.Named name) = named (path_buf_text name)
@@ -56,9 +61,11 @@ row_of path (row ∷ table) = if bytes_eq path row.0 then Some row.1 else row_of
 -- the answer to the first read of a path
 abbrev pub first_read : Text → List ReadEntry → Option ReadOutcome
 first_read path [] = None
-first_read path (entry ∷ log) = if bytes_eq path (path_buf_text entry.path) then Some entry.outcome else first_read path log
+first_read path (entry ∷ log) = if bytes_eq path (path_buf_text entry.path) then Some entry.outcome
+    else first_read path log
 
--- the bytes that an answer gives for a path: a file's, or those of a bundled file where the resolver has none
+-- the bytes that an answer gives for a path: a file's, or those of a bundled file where the
+-- resolver has none
 abbrev pub text_given : List (Text × Text) → Text → Option ReadOutcome → Option Text
 text_given table path (Some (outcome.Content origin content)) = Some content.items
 text_given table path (Some outcome.NotFound) = row_of path table
@@ -73,8 +80,8 @@ origin_given path _ = path
 abbrev pub text_read : List (Text × Text) → List ReadEntry → Text → Option Text
 text_read bundled log path = text_given bundled path (first_read path log)
 
--- What a run read, with the bundled files; the tree of each path, as far as it has one; the paths that each file
--- reaches, and those that it sees.
+-- What a run read, with the bundled files; the tree of each path, as far as it has one; the paths
+-- that each file reaches, and those that it sees.
 pub record Files : Type 0 where
   pub bundled : List (Text × Text)
   pub reads : List ReadEntry
@@ -115,11 +122,14 @@ HasTrees bundled log trees = (path : Text) → IsTree (text_read bundled log pat
 
 -- Each text that was read has one tree or none, so that there are such trees, and no others.
 abbrev pub HaveTrees : List (Text × Text) → List ReadEntry → Type 0
-HaveTrees bundled log = (trees : Trees) × ((path : Text) → IsTheTree (text_read bundled log path) (trees path))
+HaveTrees bundled log = (trees : Trees)
+    × ((path : Text) → IsTheTree (text_read bundled log path) (trees path))
 
--- There are lists of just the files that each file reaches and sees, since only files that were read have trees.
+-- There are lists of just the files that each file reaches and sees, since only files that were
+-- read have trees.
 abbrev pub HaveLists : List (Text × Text) → List ReadEntry → Type 0
-HaveLists bundled log = (trees : Trees) → HasTrees bundled log trees → (reached : Text → List Text) × (seen : Text → List Text) × AreListed trees reached seen
+HaveLists bundled log = (trees : Trees) → HasTrees bundled log trees
+    → (reached : Text → List Text) × (seen : Text → List Text) × AreListed trees reached seen
 
 -- ---- which event fails
 
@@ -148,7 +158,8 @@ abbrev pub customs_of : Files → Text → Customs
 customs_of files p =
     known_customs (plains_at files (files.reached p)) (plains_at files (files.seen p))
 
--- from where the file of this path and tree is seen: names are looked up over the files that it sees
+-- from where the file of this path and tree is seen: names are looked up over the files that it
+-- sees
 abbrev pub environment_of : Files → Text → FileSyntax → Environment
 environment_of files p t =
     environment (trees_at files.trees (files.seen p)) (customs_of files p) t
@@ -157,7 +168,8 @@ environment_of files p t =
 -- else its own, or else those of its custom options
 abbrev pub faults_in : Files → Text → Option FileSyntax → List elaborating.Fault
 faults_in files p (Some t) =
-    elaboration_faults (trees_at files.trees (files.reached p)) (trees_at files.trees (files.seen p))
+    elaboration_faults (trees_at files.trees (files.reached p))
+    (trees_at files.trees (files.seen p))
     (plains_at files (files.reached p)) (plains_at files (files.seen p)) t
 faults_in files p None = []
 
@@ -199,9 +211,11 @@ StandsInLoad asked p answer text (fault.FileNotFoundInImportPath path resolver) 
 StandsInLoad asked p answer text (fault.CouldNotReadFile path why) =
     (asked ≡ the_reader (string_bytes path)) × (answer ≡ Some (outcome.ReaderFault why))
 StandsInLoad asked p answer text (fault.Resolver path why) =
-    (string_bytes path ≡ p) × (given : ResolveFault) × (answer ≡ Some (outcome.ResolverFault given)) × (said why ≡ said given)
+    (string_bytes path ≡ p) × (given : ResolveFault) × (answer ≡ Some (outcome.ResolverFault given))
+    × (said why ≡ said given)
 StandsInLoad asked p answer text (fault.Parse file error) =
-    (string_bytes file ≡ origin_given p answer) × (bytes : Text) × (text ≡ Some bytes) × IsUnparsed bytes error
+    (string_bytes file ≡ origin_given p answer) × (bytes : Text) × (text ≡ Some bytes)
+    × IsUnparsed bytes error
 StandsInLoad asked p answer text _ = ⊥
 
 -- the fault of an input's own file, read as this answer, whose path was loaded with this text
@@ -209,7 +223,8 @@ abbrev pub StandsInCheck : Text → Text → Option ReadOutcome → RunFault →
 StandsInCheck own p answer (fault.CouldNotReadFile path why) =
     (string_bytes path ≡ own) × (answer ≡ Some (outcome.ReaderFault why))
 StandsInCheck own p answer (fault.Shadowed input path) =
-    (string_bytes input ≡ own) × (string_bytes path ≡ p) × (bytes : Text) × (text_given [] [] answer ≡ Some bytes)
+    (string_bytes input ≡ own) × (string_bytes path ≡ p) × (bytes : Text)
+    × (text_given [] [] answer ≡ Some bytes)
 StandsInCheck own p answer _ = ⊥
 
 abbrev pub StandsInCycle : Text → RunFault → Type 0
@@ -221,7 +236,8 @@ StandsInLong i (fault.ImportChainTooLong input) = string_bytes input ≡ i
 StandsInLong i _ = ⊥
 
 abbrev pub StandsInElab : Text → List elaborating.Fault → RunFault → Type 0
-StandsInElab origin faults (fault.Elaborate file error) = (string_bytes file ≡ origin) × Among faults (fault_view error)
+StandsInElab origin faults (fault.Elaborate file error) = (string_bytes file ≡ origin)
+    × Among faults (fault_view error)
 StandsInElab origin faults _ = ⊥
 
 abbrev pub StandsAt : Files → Event → RunFault → Type 0
@@ -229,7 +245,8 @@ StandsAt files (cycle p) = StandsInCycle p
 StandsAt files (long i) = StandsInLong i
 StandsAt files (load asked p) = StandsInLoad asked p (answer_for files p) (text_for files p)
 StandsAt files (check n own p) = StandsInCheck own p (answer_at files n)
-StandsAt files (elab p) = StandsInElab (origin_given p (answer_for files p)) (faults_in files p (files.trees p))
+StandsAt files (elab p) =
+    StandsInElab (origin_given p (answer_for files p)) (faults_in files p (files.trees p))
 
 -- ---- which answers are legal
 
@@ -242,13 +259,15 @@ MayRead = Text → Result (Vec ℕ) ReadInputFault → Type 0
 
 -- want of memory is no answer that is logged
 abbrev pub Resolved : MayResolve → Text → ReadOutcome → Type 0
-Resolved may p (outcome.Content origin content) = may p (Ok (Some (record { path = origin; content = content })))
+Resolved may p (outcome.Content origin content) =
+    may p (Ok (Some (record { path = origin; content = content })))
 Resolved may p outcome.NotFound = may p (Ok None)
 Resolved may p (outcome.ResolverFault why) = (why ≡ refused.Memory → ⊥) × may p (Err why)
 Resolved may p (outcome.ReaderFault why) = ⊥
 
 abbrev pub WasRead : MayRead → Text → ReadOutcome → Type 0
-WasRead may own (outcome.Content origin content) = (string_bytes origin ≡ own) × may own (Ok content)
+WasRead may own (outcome.Content origin content) = (string_bytes origin ≡ own)
+    × may own (Ok content)
 WasRead may own (outcome.ReaderFault why) = (why ≡ unread.Memory → ⊥) × may own (Err why)
 WasRead may own _ = ⊥
 
@@ -261,7 +280,8 @@ MayAnswer resolve read (the_reader own) p answer = WasRead read own answer
 abbrev pub Answers : (Asked → Text → ReadOutcome → Type 0) → List Read → List ReadEntry → Type 0
 Answers legal [] [] = Unit {0}
 Answers legal (read ∷ reads) (entry ∷ log) =
-    (path_buf_text entry.path ≡ read.path) × legal read.asked read.path entry.outcome × Answers legal reads log
+    (path_buf_text entry.path ≡ read.path) × legal read.asked read.path entry.outcome
+    × Answers legal reads log
 Answers legal _ _ = ⊥
 
 -- ---- what a run promises
@@ -270,36 +290,43 @@ Answers legal _ _ = ⊥
 abbrev pub AreDescriptors : Files → List Text → List FileDescriptorProto → Type 0
 AreDescriptors files [] [] = Unit {0}
 AreDescriptors files (p ∷ paths) (d ∷ ds) =
-    ((t : FileSyntax) × (files.trees p ≡ Some t) × (described.file_view d ≡ file_of (environment_of files p t) p t)) × AreDescriptors files paths ds
+    ((t : FileSyntax) × (files.trees p ≡ Some t)
+    × (described.file_view d ≡ file_of (environment_of files p t) p t))
+    × AreDescriptors files paths ds
 AreDescriptors files _ _ = ⊥
 
 -- no event fails, and these are the descriptors of the files in order
-pub record IsAccepted (legal : Asked → Text → ReadOutcome → Type 0) (files : Files) (events : List Event) (ds : List FileDescriptorProto) : Type 0 where
+pub record IsAccepted (legal : Asked → Text → ReadOutcome → Type 0) (files : Files)
+    (events : List Event) (ds : List FileDescriptorProto) : Type 0 where
   pub none_fails : find (fails files) events ≡ None
   pub reads : Answers legal (reads_in events) files.reads
   pub descriptors : AreDescriptors files (elab_paths events) ds
 
 -- the fault stands at the first event that fails, and the reads are those up to and with it
-pub record IsRefused (legal : Asked → Text → ReadOutcome → Type 0) (files : Files) (events : List Event) (f : RunFault) : Type 0 where
+pub record IsRefused (legal : Asked → Text → ReadOutcome → Type 0) (files : Files)
+    (events : List Event) (f : RunFault) : Type 0 where
   pub event : Event
   pub first : find (fails files) events ≡ Some event
   pub reads : Answers legal (reads_in (until (fails files) events)) files.reads
   pub stands : StandsAt files event f
 
--- memory ran out: the reads are those of a beginning of the events up to and with the first that fails
-pub record IsBroken (legal : Asked → Text → ReadOutcome → Type 0) (files : Files) (events : List Event) (f : RunFault) : Type 0 where
+-- memory ran out: the reads are those of a beginning of the events up to and with the first that
+-- fails
+pub record IsBroken (legal : Asked → Text → ReadOutcome → Type 0) (files : Files)
+    (events : List Event) (f : RunFault) : Type 0 where
   pub memory : f ≡ fault.Memory
   pub done : List Event
   pub rest : List Event
   pub beginning : until (fails files) events ≡ done ++ rest
   pub reads : Answers legal (reads_in done) files.reads
 
-abbrev pub Ends : (Asked → Text → ReadOutcome → Type 0) → Files → List Event → Result (Vec FileDescriptorProto) RunFault → Type 0
+abbrev pub Ends : (Asked → Text → ReadOutcome → Type 0) → Files → List Event
+    → Result (Vec FileDescriptorProto) RunFault → Type 0
 Ends legal files events (Ok ds) = IsAccepted legal files events ds.items
 Ends legal files events (Err f) = IsRefused legal files events f ⊎ IsBroken legal files events f
 
--- L5 comes only where the resolver may give such a fault for that path, and L4 only where the reader
--- may give that fault for that path. Neither is want of memory.
+-- L5 comes only where the resolver may give such a fault for that path, and L4 only where the
+-- reader may give that fault for that path. Neither is want of memory.
 abbrev pub IsCaused : MayResolve → MayRead → RunFault → Type 0
 IsCaused resolve read (fault.Resolver path why) =
     (given : ResolveFault) × Resolved resolve (string_bytes path) (outcome.ResolverFault given)
@@ -313,18 +340,25 @@ abbrev pub IsCounted : {X E : Type 0} → ℕ → ℕ → Result X E → Type 0
 IsCounted meets count (Ok _) = meets ≡ count
 IsCounted meets count (Err _) = meets ≤ count
 
--- A file is met once for each input and each import statement of the loaded files, if the run is accepted,
--- and at most so often if it isn't.
-abbrev pub IsMet : List Input → List (Text × Text) → List ReadEntry → ℕ → Result (Vec FileDescriptorProto) RunFault → Type 0
+-- A file is met once for each input and each import statement of the loaded files, if the run is
+-- accepted, and at most so often if it isn't.
+abbrev pub IsMet : List Input → List (Text × Text) → List ReadEntry → ℕ
+    → Result (Vec FileDescriptorProto) RunFault → Type 0
 IsMet inputs bundled log meets result =
-    (trees : Trees) → HasTrees bundled log trees → IsCounted meets (length inputs + statements trees (events trees inputs)) result
+    (trees : Trees) → HasTrees bundled log trees
+    → IsCounted meets (length inputs + statements trees (events trees inputs)) result
 
--- A run over these inputs and bundled files read this log and ended so, whichever trees the texts have; each file is
--- elaborated over the trees of just the files that it sees, in whatever order these are listed.
-abbrev pub RunsAsTold : (Asked → Text → ReadOutcome → Type 0) → List Input → List (Text × Text) → List ReadEntry → Result (Vec FileDescriptorProto) RunFault → Type 0
+-- A run over these inputs and bundled files read this log and ended so, whichever trees the texts
+-- have; each file is elaborated over the trees of just the files that it sees, in whatever order
+-- these are listed.
+abbrev pub RunsAsTold : (Asked → Text → ReadOutcome → Type 0) → List Input → List (Text × Text)
+    → List ReadEntry → Result (Vec FileDescriptorProto) RunFault → Type 0
 RunsAsTold legal inputs bundled log result =
-    (trees : Trees) (reached seen : Text → List Text) → HasTrees bundled log trees → AreListed trees reached seen
-    → Ends legal (record { bundled = bundled; reads = log; trees = trees; reached = reached; seen = seen }) (events trees inputs) result
+    (trees : Trees) (reached seen : Text → List Text) → HasTrees bundled log trees
+    → AreListed trees reached seen
+    → Ends legal
+    (record { bundled = bundled; reads = log; trees = trees; reached = reached; seen = seen })
+    (events trees inputs) result
 
 -- ---- nothing is asked twice
 
@@ -352,9 +386,10 @@ if_placed (at p own) = at p own ∷ []
 abbrev pub placed : List Input → List Input
 placed inputs = flat_map if_placed inputs
 
--- The log answers the first reads of the run, in order. The resolver is asked for distinct paths, and the
--- reader for the first inputs at paths of their own, each once.
-pub record IsAskedOnce (legal : Asked → Text → ReadOutcome → Type 0) (trees : Trees) (inputs : List Input) (log : List ReadEntry) : Type 0 where
+-- The log answers the first reads of the run, in order. The resolver is asked for distinct paths,
+-- and the reader for the first inputs at paths of their own, each once.
+pub record IsAskedOnce (legal : Asked → Text → ReadOutcome → Type 0) (trees : Trees)
+    (inputs : List Input) (log : List ReadEntry) : Type 0 where
   pub reads : List Read
   pub later : List Read
   pub first : reads_in (events trees inputs) ≡ reads ++ later
@@ -364,5 +399,7 @@ pub record IsAskedOnce (legal : Asked → Text → ReadOutcome → Type 0) (tree
   pub reader : placed inputs ≡ placed_in reads ++ unasked
 
 -- So it is whichever trees the texts have that were read.
-abbrev pub AreAskedOnce : (Asked → Text → ReadOutcome → Type 0) → List Input → List (Text × Text) → List ReadEntry → Type 0
-AreAskedOnce legal inputs bundled log = (trees : Trees) → HasTrees bundled log trees → IsAskedOnce legal trees inputs log
+abbrev pub AreAskedOnce : (Asked → Text → ReadOutcome → Type 0) → List Input → List (Text × Text)
+    → List ReadEntry → Type 0
+AreAskedOnce legal inputs bundled log = (trees : Trees) → HasTrees bundled log trees
+    → IsAskedOnce legal trees inputs log

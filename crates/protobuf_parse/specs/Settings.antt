@@ -1,4 +1,5 @@
--- Built-in options as the listing's code has them: a name, and the words of its value where it is set.
+-- Built-in options as the listing's code has them: a name, and the words of its value where it is
+-- set.
 use Rattle.std.specs.Prelude.{ℕ, List, Option, option_map}
 use Rattle.protobuf_parse.specs.declared.front.lines.settings.Setting.{Setting}
 use Rattle.protobuf_parse.specs.declared.front.lines.settings.Value.{Value}

@@ -5,11 +5,13 @@ use Rattle.protobuf_parse_model.specs.declared.descriptor.FileDescriptorProto.{F
 use Rattle.protobuf_parse.specs.declared.run.fault.RunFault.{RunFault}
 use Rattle.protobuf_parse.specs.declared.run.log.ReadEntry.{ReadEntry}
 use Rattle.protobuf_parse.specs.Walks.{Input}
-use Rattle.protobuf_parse.specs.Run.{AreAskedOnce, HaveLists, HaveTrees, MayAnswer, MayRead, MayResolve, RunsAsTold, shipped}
+use Rattle.protobuf_parse.specs.Run.{AreAskedOnce, HaveLists, HaveTrees, MayAnswer, MayRead}
+use Rattle.protobuf_parse.specs.Run.{MayResolve, RunsAsTold, shipped}
 use Rattle.protobuf_parse.specs.Recovered.{OptionsAreHeld}
 
 -- A run over these inputs, whose resolver and reader may answer so, read some log and ended so.
-pub record RunsWithShipped (resolve : MayResolve) (read : MayRead) (inputs : List Input) (result : Result (Vec FileDescriptorProto) RunFault) : Type 0 where
+pub record RunsWithShipped (resolve : MayResolve) (read : MayRead) (inputs : List Input)
+    (result : Result (Vec FileDescriptorProto) RunFault) : Type 0 where
   pub log : List ReadEntry
   pub trees : HaveTrees shipped log
   pub lists : HaveLists shipped log
@@ -22,5 +24,6 @@ abbrev pub IsNeverAsked : MayRead
 IsNeverAsked own answer = ⊥
 
 -- all inputs are found by the resolver
-abbrev pub RunsByResolver : MayResolve → List Input → Result (Vec FileDescriptorProto) RunFault → Type 0
+abbrev pub RunsByResolver : MayResolve → List Input → Result (Vec FileDescriptorProto) RunFault
+    → Type 0
 RunsByResolver resolve inputs result = RunsWithShipped resolve IsNeverAsked inputs result

@@ -9,7 +9,8 @@ use Rattle.protobuf_parse_model.specs.FilesByPath.{trees_at}
 use Rattle.protobuf_parse_model.specs.Linking.{link_faults}
 use Rattle.protobuf_parse_model.specs.declared.descriptor.FileDescriptorProto.{FileDescriptorProto}
 use Rattle.protobuf_parse.specs.Walks.{Input, Trees, Reaches, among, elab_paths, events}
-use Rattle.protobuf_parse.specs.Run.{Files, AreDescriptors, AreListed, HasTrees, HaveTrees, environment_of, fails, faults_in, text_for}
+use Rattle.protobuf_parse.specs.Run.{Files, AreDescriptors, AreListed, HasTrees, HaveTrees}
+use Rattle.protobuf_parse.specs.Run.{environment_of, fails, faults_in, text_for}
 
 -- these paths have the same trees, or none, in both
 abbrev pub AgreeOn : (Text → Type 0) → Trees → Trees → Type 0
@@ -22,8 +23,8 @@ TreesAreOfTexts =
     → HasTrees old.bundled old.reads old.trees → HasTrees new.bundled new.reads new.trees
     → text_for new q ≡ text_for old q → new.trees q ≡ old.trees q
 
--- What a run read: each path has the tree of its text, and the lists are of just the files that each
--- file reaches and sees.
+-- What a run read: each path has the tree of its text, and the lists are of just the files that
+-- each file reaches and sees.
 pub record WereRead (files : Files) : Type 0 where
   pub trees : HasTrees files.bundled files.reads files.trees
   pub listed : AreListed files.trees files.reached files.seen

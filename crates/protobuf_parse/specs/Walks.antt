@@ -1,6 +1,8 @@
 -- Walks of import trees: what happens to the files that a run's inputs reach, in which order.
 -- A walk unfolds a whole import tree and remembers nothing; of equal events the first is kept.
-use Rattle.std.specs.Prelude.{◌≡◌, true, ℕ, zero, suc, ◌+◌, Bool, false, nat_eq, List, [], ◌∷◌, ◌++◌, map, flat_map, length, Option, Some, None, if◌then◌else◌, bytes_eq}
+use Rattle.std.specs.Prelude.{◌≡◌, true, ℕ, zero, suc, ◌+◌, Bool, false, nat_eq, List, [], ◌∷◌}
+use Rattle.std.specs.Prelude.{◌++◌, map, flat_map, length, Option, Some, None, if◌then◌else◌}
+use Rattle.std.specs.Prelude.{bytes_eq}
 use Rattle.std.specs.List.{list_any}
 use Rattle.protobuf_parse_syntax.specs.Trees.{FileSyntax, ImportSyntax, StatementSyntax}
 use Rattle.protobuf_parse_model.specs.Descriptors.{Text}
@@ -25,9 +27,9 @@ abbrev pub asked_of : Input → Asked
 asked_of (named p) = the_resolver
 asked_of (at p own) = the_reader own
 
--- what happens: a file on its own import chain is met again; a chain from an input is too long; a file is
--- read and parsed; an input's own file, read after so many reads, is held against what was loaded for its
--- path; a file whose imports are done is elaborated
+-- what happens: a file on its own import chain is met again; a chain from an input is too long; a
+-- file is read and parsed; an input's own file, read after so many reads, is held against what was
+-- loaded for its path; a file whose imports are done is elaborated
 pub data Event : Type 0 where
   cycle : Text → Event
   long : Text → Event
@@ -74,11 +76,13 @@ public_paths t = flat_map public_paths_of t.statements
 abbrev pub HandsOn : Trees → Text → Text → Type 0
 HandsOn = Leads public_paths
 
--- A file sees itself, and what the files hand on that it imports: the names that these declare may be written in it.
--- Protocol Buffers Language Guide, "Importing Definitions" (https://protobuf.dev).
+-- A file sees itself, and what the files hand on that it imports: the names that these declare may
+-- be written in it. Protocol Buffers Language Guide, "Importing Definitions"
+-- (https://protobuf.dev).
 pub data Sees (trees : Trees) : Text → Text → Type 0 where
   sees_itself : (p : Text) → Sees trees p p
-  by_import : (p q r : Text) (t : FileSyntax) → trees p ≡ Some t → among q (import_paths t) ≡ true → HandsOn trees q r → Sees trees p r
+  by_import : (p q r : Text) (t : FileSyntax) → trees p ≡ Some t → among q (import_paths t) ≡ true
+      → HandsOn trees q r → Sees trees p r
 
 abbrev pub joined : (Text → List Event) → List Text → List Event
 joined walk_of [] = []
@@ -91,10 +95,12 @@ inside (Some t) walk_of path = joined walk_of (import_paths t) ++ elab path ∷ 
 
 -- the walk of a path, met at the end of a chain of imports that has room for this many more files
 unfoldable pub walk : Trees → Text → Asked → ℕ → List Text → Text → List Event
-walk trees input asked zero chain path = if among path chain then cycle path ∷ [] else long input ∷ []
+walk trees input asked zero chain path =
+    if among path chain then cycle path ∷ [] else long input ∷ []
 walk trees input asked (suc room) chain path =
     if among path chain then cycle path ∷ []
-    else load asked path ∷ inside (trees path) (walk trees input the_resolver room (chain ++ path ∷ [])) path
+    else load asked path ∷ inside (trees path)
+    (walk trees input the_resolver room (chain ++ path ∷ [])) path
 
 pub record Read : Type 0 where
   pub asked : Asked
@@ -126,7 +132,8 @@ statements trees (_ ∷ events) = statements trees events
 -- an input at a path of its own is checked first, if an earlier input's events load its name
 abbrev pub checks : List Event → Input → List Event
 checks kept (named p) = []
-checks kept (at p own) = if has (load the_resolver p) kept then check (length (reads_in kept)) own p ∷ [] else []
+checks kept (at p own) = if has (load the_resolver p) kept then check (length (reads_in kept)) own p
+    ∷ [] else []
 
 abbrev pub input_walk : Trees → Input → List Event
 input_walk trees i = walk trees (name_of i) (asked_of i) 100 [] (name_of i)
@@ -134,7 +141,8 @@ input_walk trees i = walk trees (name_of i) (asked_of i) 100 [] (name_of i)
 -- what is kept after the walks of these inputs in turn, each from the empty chain
 unfoldable pub events_after : Trees → List Event → List Input → List Event
 events_after trees kept [] = kept
-events_after trees kept (i ∷ inputs) = events_after trees (keep (kept ++ checks kept i) (input_walk trees i)) inputs
+events_after trees kept (i ∷ inputs) =
+    events_after trees (keep (kept ++ checks kept i) (input_walk trees i)) inputs
 
 -- the events of a run
 abbrev pub events : Trees → List Input → List Event

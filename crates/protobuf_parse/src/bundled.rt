@@ -1,5 +1,6 @@
-//! The files that this library brings, written anew: what Google's files of these paths declare, without
-//! comments, options and defaults. Of `descriptor.proto` only the options messages are here.
+//! The files that this library brings, written anew: what Google's files of these paths declare,
+//! without comments, options and defaults. Of `descriptor.proto` only the options messages are
+//! here.
 
 ghost use Rattle.std.specs.Prelude.{◌≡◌};
 ghost use Rattle.protobuf_parse.specs.Run.{rows, shipped};

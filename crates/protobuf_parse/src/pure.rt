@@ -13,12 +13,12 @@ use protobuf_parse_model::FileDescriptorProto;
 use protobuf_parse_syntax::{Dependencies, ParserErrorWithLocation};
 use std::alloc::Global;
 
-/// What a file's text imports: a descriptor with the paths of its `import` statements in source order and
-/// the positions of the public and of the weak ones, from 0 on and ascending, and nothing else. No other
-/// file is asked for.
+/// What a file's text imports: a descriptor with the paths of its `import` statements in source
+/// order and the positions of the public and of the weak ones, from 0 on and ascending, and nothing
+/// else. No other file is asked for.
 ///
-/// The error is that of the text: S1 to S20 at their line and column, both counted from 1, the column in
-/// characters.
+/// The error is that of the text: S1 to S20 at their line and column, both counted from 1, the
+/// column in characters.
 pub fn parse_dependencies(
     alloc: Global,
     text: &str,

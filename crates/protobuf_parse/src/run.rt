@@ -1,7 +1,8 @@
 //! A run: from inputs to the descriptors of all files that they reach.
 
 ghost use Rattle.std.specs.Prelude.{◌≡◌, map, IfOk, IfErr};
-ghost use Rattle.protobuf_parse.specs.Run.{AreAskedOnce, HaveLists, HaveTrees, IsCaused, IsMet, MayAnswer, RunsAsTold, input_view, rows};
+ghost use Rattle.protobuf_parse.specs.Run.{AreAskedOnce, HaveLists, HaveTrees, IsCaused, IsMet};
+ghost use Rattle.protobuf_parse.specs.Run.{MayAnswer, RunsAsTold, input_view, rows};
 ghost use Rattle.protobuf_parse.specs.Recovered.{OptionsAreHeld};
 ghost use Rattle.protobuf_parse.specs.Shipped.{IsNeverAsked, RunsByResolver};
 ghost use Rattle.protobuf_parse.specs.Walks.{named};
@@ -18,22 +19,24 @@ pub mod loader;
 pub mod log;
 pub mod reach;
 pub mod source;
+pub mod tables;
 
 use crate::bundled::bundled_files;
 use crate::run::fault::RunFault;
 use crate::run::loader::{LoadedFiles, Loader, load_inputs};
 use crate::run::log::{RunInput, RunLog};
 use crate::run::source::{InputReader, NoReader, ProtoPathResolver, Sources};
+use crate::run::tables::Tables;
 use indexmap::IndexMap;
 use protobuf_parse_base::proto_path::ProtoPathBuf;
-use protobuf_parse_model::{Declarations, FileDescriptorProto};
+use protobuf_parse_model::FileDescriptorProto;
 use std::alloc::{AllocError, Global};
 
 /// Loads the inputs in turn, each file that they reach once and after its imports, and gives the
 /// descriptors in the order of loading, or the fault of the first step that fails.
 ///
-/// `bundled` has proto paths and texts: where the resolver has no file, the first row with the path stands
-/// for it.
+/// `bundled` has proto paths and texts: where the resolver has no file, the first row with the path
+/// stands for it.
 pub fn run_inputs<'a, R: ProtoPathResolver, I: InputReader>(
     alloc: Global,
     inputs: &[RunInput],
@@ -51,11 +54,12 @@ pub fn run_inputs<'a, R: ProtoPathResolver, I: InputReader>(
         (map input_view inputs.now) (rows bundled.now) result.reads.items }
     ensures options { OptionsAreHeld (map input_view inputs.now) (rows bundled.now)
         result.reads.items result.result }
-    ensures meets { IsMet (map input_view inputs.now) (rows bundled.now) result.reads.items result.meets result.result }
+    ensures meets { IsMet (map input_view inputs.now)
+        (rows bundled.now) result.reads.items result.meets result.result }
 {
     let mut loader = Loader {
         loaded: IndexMap::new(alloc),
-        names: Declarations::new(alloc),
+        tables: Tables::new(alloc),
         reads: Vec::new(alloc),
         chain: Vec::new(alloc),
         meets: 0,
@@ -70,7 +74,7 @@ pub fn run_inputs<'a, R: ProtoPathResolver, I: InputReader>(
         loaded,
         reads,
         meets,
-        names: _,
+        tables: _,
         chain: _,
     } = loader;
     let result = match outcome {
@@ -98,7 +102,8 @@ fn descriptors(alloc: Global, loaded: LoadedFiles) -> Result<Vec<FileDescriptorP
     Ok(descriptors)
 }
 
-/// The result of a run over inputs that the resolver finds, with the files that this library brings.
+/// The result of a run over inputs that the resolver finds, with the files that this library
+/// brings.
 pub fn parse_and_typecheck_custom<R: ProtoPathResolver>(
     alloc: Global,
     input: &[ProtoPathBuf],

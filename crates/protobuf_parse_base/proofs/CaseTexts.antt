@@ -1,6 +1,8 @@
 -- Spellings of a name: one turn of each loop, and what a second spelling gives.
 use Rattle.std.specs.Prelude.{if◌then◌else◌, encode_utf8_all}
-use Rattle.std.proofs.Common.{◌≡◌, ℕ, ◌==◌, ◌<◌, ◌+◌, ◌++◌, ◌&&◌, List, [], ◌∷◌, Bool, true, false, length, get_or, drop, refl, sym, ap, ◌∙◌, append_assoc, append-nil, arith, inl, inr}
+use Rattle.std.proofs.Common.{◌≡◌, ℕ, ◌==◌, ◌<◌, ◌+◌, ◌++◌, ◌&&◌, List, [], ◌∷◌, Bool, true, false}
+use Rattle.std.proofs.Common.{length, get_or, drop, refl, sym, ap, ◌∙◌, append_assoc, append-nil}
+use Rattle.std.proofs.Common.{arith, inl, inr}
 use Rattle.std.proofs.lemmas.Bool.{cases_Bool, cond-true, cond-false, or_parts, or_from, and_right}
 use Rattle.std.proofs.lemmas.Bool.Decides.{nat_tests}
 use Rattle.std.proofs.lemmas.List.{at_drop_more, drop_all}
@@ -11,51 +13,70 @@ use Rattle.std.specs.Char.{to_ascii_uppercase, to_ascii_lowercase, is_ascii_uppe
 use Rattle.std.specs.List.{list_any}
 use Rattle.std.specs.Str.{chars, IsUtf8}
 use Rattle.unicode.specs.Binary.{is_lowercase}
-use Rattle.protobuf_parse_base.specs.Cases.{joined_words, camel_case_of, split_words, snake_case_of, has_underscore, camel_case_text, snake_case_text}
+use Rattle.protobuf_parse_base.specs.Cases.{joined_words, camel_case_of, split_words, snake_case_of}
+use Rattle.protobuf_parse_base.specs.Cases.{has_underscore, camel_case_text, snake_case_text}
 
 -- ---- words that are joined
 
 joined_words-turn : (raise : Bool) (cs : List ℕ) (n c : ℕ) → (n < length cs) × (c ≡ get_or cs n c)
-    → joined_words raise (drop n cs) ≡ (if c == 95 then joined_words true (drop (n + 1) cs) else (if raise then to_ascii_uppercase c else c) ∷ joined_words false (drop (n + 1) cs))
+    → joined_words raise (drop n cs)
+    ≡ (if c == 95 then joined_words true (drop (n + 1) cs)
+    else (if raise then to_ascii_uppercase c else c) ∷ joined_words false (drop (n + 1) cs))
 joined_words-turn raise cs n c h =
     at_drop_more (joined_words raise) cs n c h.0
-    ∙ ap (λ d. if d == 95 then joined_words true (drop (n + 1) cs) else (if raise then to_ascii_uppercase d else d) ∷ joined_words false (drop (n + 1) cs)) (sym h.1)
+    ∙ ap (λ d. if d == 95 then joined_words true (drop (n + 1) cs)
+    else (if raise then to_ascii_uppercase d else d)
+    ∷ joined_words false (drop (n + 1) cs)) (sym h.1)
 
 -- the text so far and the spelling of what is left are the spelling of all
-pub joined_words-dropped : (raise : Bool) (cs : List ℕ) (n c : ℕ) (text all : List ℕ) → (n < length cs) × (c ≡ get_or cs n c) → (c == 95) ≡ true
-    → text ++ encode_utf8_all (joined_words raise (drop n cs)) ≡ all → text ++ encode_utf8_all (joined_words true (drop (n + 1) cs)) ≡ all
+pub joined_words-dropped : (raise : Bool) (cs : List ℕ) (n c : ℕ) (text all : List ℕ)
+    → (n < length cs) × (c ≡ get_or cs n c) → (c == 95) ≡ true
+    → text ++ encode_utf8_all (joined_words raise (drop n cs)) ≡ all
+    → text ++ encode_utf8_all (joined_words true (drop (n + 1) cs)) ≡ all
 joined_words-dropped raise cs n c text all h underscore before =
-    ap (λ rest. text ++ encode_utf8_all rest) (sym (joined_words-turn raise cs n c h ∙ cond-true (c == 95) _ _ underscore)) ∙ before
+    ap (λ rest. text ++ encode_utf8_all rest)
+    (sym (joined_words-turn raise cs n c h ∙ cond-true (c == 95) _ _ underscore)) ∙ before
 
-pub joined_words-kept : (raise : Bool) (cs : List ℕ) (n c d : ℕ) (text next all : List ℕ) → (n < length cs) × (c ≡ get_or cs n c) → (c == 95) ≡ false
+pub joined_words-kept : (raise : Bool) (cs : List ℕ) (n c d : ℕ) (text next all : List ℕ)
+    → (n < length cs) × (c ≡ get_or cs n c) → (c == 95) ≡ false
     → d ≡ (if raise then to_ascii_uppercase c else c) → next ≡ text ++ encode_utf8 d
-    → text ++ encode_utf8_all (joined_words raise (drop n cs)) ≡ all → next ++ encode_utf8_all (joined_words false (drop (n + 1) cs)) ≡ all
+    → text ++ encode_utf8_all (joined_words raise (drop n cs)) ≡ all
+    → next ++ encode_utf8_all (joined_words false (drop (n + 1) cs)) ≡ all
 joined_words-kept raise cs n c d text next all h other d_is step before =
     let rest : List ℕ = encode_utf8_all (joined_words false (drop (n + 1) cs)) in
     ap (λ t. t ++ rest) step ∙ (append_assoc text (encode_utf8 d) rest
     ∙ (ap (λ e. text ++ (encode_utf8 e ++ rest)) d_is
-    ∙ (ap (λ left. text ++ encode_utf8_all left) (sym (joined_words-turn raise cs n c h ∙ cond-false (c == 95) _ _ other)) ∙ before)))
+    ∙ (ap (λ left. text ++ encode_utf8_all left)
+    (sym (joined_words-turn raise cs n c h ∙ cond-false (c == 95) _ _ other)) ∙ before)))
 
-pub joined_words-end : (raise : Bool) (cs : List ℕ) (n : ℕ) (text all : List ℕ) → length cs ≡ n → text ++ encode_utf8_all (joined_words raise (drop n cs)) ≡ all → text ≡ all
+pub joined_words-end : (raise : Bool) (cs : List ℕ) (n : ℕ) (text all : List ℕ) → length cs ≡ n
+    → text ++ encode_utf8_all (joined_words raise (drop n cs)) ≡ all → text ≡ all
 joined_words-end raise cs n text all h before =
-    sym (append-nil text) ∙ (ap (λ rest. text ++ encode_utf8_all (joined_words raise rest)) (sym (drop_all n cs (omega arith))) ∙ before)
+    sym (append-nil text)
+    ∙ (ap (λ rest. text ++ encode_utf8_all (joined_words raise rest))
+    (sym (drop_all n cs (omega arith))) ∙ before)
 
 -- ---- camel case of camel case
 
 raised-other : (c : ℕ) → (c == 95) ≡ false → (to_ascii_uppercase c == 95) ≡ false
 raised-other c h = grind (arith, nat_tests)
 
-raised_if-other : (raise : Bool) (c : ℕ) → (c == 95) ≡ false → ((if raise then to_ascii_uppercase c else c) == 95) ≡ false
+raised_if-other : (raise : Bool) (c : ℕ) → (c == 95) ≡ false
+    → ((if raise then to_ascii_uppercase c else c) == 95) ≡ false
 raised_if-other true c h = raised-other c h
 raised_if-other false c h = h
 
-pub joined_words-no_underscore : (raise : Bool) (cs : List ℕ) → has_underscore (joined_words raise cs) ≡ false
+pub joined_words-no_underscore : (raise : Bool) (cs : List ℕ)
+    → has_underscore (joined_words raise cs) ≡ false
 joined_words-no_underscore raise [] = refl
 joined_words-no_underscore raise (c ∷ cs) =
     elim (cases_Bool (c == 95)) [
-      | inl underscore ↦ ap has_underscore (cond-true (c == 95) _ _ underscore) ∙ joined_words-no_underscore true cs
+      | inl underscore ↦ ap has_underscore (cond-true (c == 95) _ _ underscore)
+          ∙ joined_words-no_underscore true cs
       | inr other ↦ ap has_underscore (cond-false (c == 95) _ _ other)
-          ∙ or_from ((if raise then to_ascii_uppercase c else c) == 95) (has_underscore (joined_words false cs)) (raised_if-other raise c other) (joined_words-no_underscore false cs)
+          ∙ or_from ((if raise then to_ascii_uppercase c else c) == 95)
+          (has_underscore (joined_words false cs)) (raised_if-other raise c other)
+          (joined_words-no_underscore false cs)
     ]
 
 joined_words-same : (cs : List ℕ) → has_underscore cs ≡ false → joined_words false cs ≡ cs
@@ -69,53 +90,73 @@ camel_case_of-twice [] = refl
 camel_case_of-twice (c ∷ cs) =
     elim (cases_Bool (c == 95)) [
       | inl underscore ↦
-          let same : camel_case_of (c ∷ cs) ≡ camel_case_of cs = cond-true (c == 95) _ _ underscore in
+          let same : camel_case_of (c ∷ cs)
+          ≡ camel_case_of cs = cond-true (c == 95) _ _ underscore in
           ap camel_case_of same ∙ (camel_case_of-twice cs ∙ sym same)
       | inr other ↦
-          let same : camel_case_of (c ∷ cs) ≡ to_ascii_uppercase c ∷ joined_words false cs = cond-false (c == 95) _ _ other in
-          ap camel_case_of same ∙ (cond-false (to_ascii_uppercase c == 95) _ _ (raised-other c other)
-          ∙ (ap (λ first. first ∷ joined_words false (joined_words false cs)) (uppercase-uppercase c)
-          ∙ (ap (λ rest. to_ascii_uppercase c ∷ rest) (joined_words-same (joined_words false cs) (joined_words-no_underscore false cs)) ∙ sym same)))
+          let same : camel_case_of (c ∷ cs) ≡ to_ascii_uppercase c
+          ∷ joined_words false cs = cond-false (c == 95) _ _ other in
+          ap camel_case_of same
+          ∙ (cond-false (to_ascii_uppercase c == 95) _ _ (raised-other c other)
+          ∙ (ap (λ first. first ∷ joined_words false (joined_words false cs))
+          (uppercase-uppercase c)
+          ∙ (ap (λ rest. to_ascii_uppercase c ∷ rest)
+          (joined_words-same (joined_words false cs) (joined_words-no_underscore false cs))
+          ∙ sym same)))
     ]
 
 -- a text of these characters has these characters
 pub chars-text : (text cs : List ℕ) → IsUtf8 text → text ≡ encode_utf8_all cs → chars text ≡ cs
 chars-text text cs utf8 e = sym (chars_from_encodes cs text utf8 (sym e))
 
-pub camel_case_text-twice : (text name : List ℕ) → IsUtf8 text → text ≡ camel_case_text name → camel_case_text text ≡ text
+pub camel_case_text-twice : (text name : List ℕ) → IsUtf8 text → text ≡ camel_case_text name
+    → camel_case_text text ≡ text
 camel_case_text-twice text name utf8 e =
-    ap (λ cs. encode_utf8_all (camel_case_of cs)) (chars-text text (camel_case_of (chars name)) utf8 e)
+    ap (λ cs. encode_utf8_all (camel_case_of cs))
+    (chars-text text (camel_case_of (chars name)) utf8 e)
     ∙ (ap encode_utf8_all (camel_case_of-twice (chars name)) ∙ sym e)
 
-pub camel_case_text-no_underscore : (text name : List ℕ) → IsUtf8 text → text ≡ camel_case_text name → has_underscore (chars text) ≡ false
+pub camel_case_text-no_underscore : (text name : List ℕ) → IsUtf8 text → text ≡ camel_case_text name
+    → has_underscore (chars text) ≡ false
 camel_case_text-no_underscore text name utf8 e =
-    ap has_underscore (chars-text text (camel_case_of (chars name)) utf8 e) ∙ joined_words-no_underscore true (chars name)
+    ap has_underscore (chars-text text (camel_case_of (chars name)) utf8 e)
+    ∙ joined_words-no_underscore true (chars name)
 
 -- ---- words that are split
 
 abbrev pub split_one : Bool → ℕ → List ℕ
-split_one after_lower c = (if after_lower && is_ascii_uppercase c then 95 ∷ [] else []) ++ to_ascii_lowercase c ∷ []
+split_one after_lower c = (if after_lower && is_ascii_uppercase c then 95 ∷ [] else [])
+    ++ to_ascii_lowercase c ∷ []
 
-split_words-one : (after_lower : Bool) (c : ℕ) (cs : List ℕ) → split_words after_lower (c ∷ cs) ≡ split_one after_lower c ++ split_words (is_lowercase c) cs
+split_words-one : (after_lower : Bool) (c : ℕ) (cs : List ℕ)
+    → split_words after_lower (c ∷ cs) ≡ split_one after_lower c ++ split_words (is_lowercase c) cs
 split_words-one after_lower c cs =
-    sym (append_assoc (if after_lower && is_ascii_uppercase c then 95 ∷ [] else []) (to_ascii_lowercase c ∷ []) (split_words (is_lowercase c) cs))
+    sym (append_assoc (if after_lower && is_ascii_uppercase c then 95 ∷ [] else [])
+    (to_ascii_lowercase c ∷ []) (split_words (is_lowercase c) cs))
 
-pub split_words-more : (after_lower lower : Bool) (cs : List ℕ) (n c : ℕ) (text next all : List ℕ) → (n < length cs) × (c ≡ get_or cs n c)
+pub split_words-more : (after_lower lower : Bool) (cs : List ℕ) (n c : ℕ) (text next all : List ℕ)
+    → (n < length cs) × (c ≡ get_or cs n c)
     → next ≡ text ++ encode_utf8_all (split_one after_lower c) → lower ≡ is_lowercase c
-    → text ++ encode_utf8_all (split_words after_lower (drop n cs)) ≡ all → next ++ encode_utf8_all (split_words lower (drop (n + 1) cs)) ≡ all
+    → text ++ encode_utf8_all (split_words after_lower (drop n cs)) ≡ all
+    → next ++ encode_utf8_all (split_words lower (drop (n + 1) cs)) ≡ all
 split_words-more after_lower lower cs n c text next all h step lower_is before =
     let rest : List ℕ = split_words (is_lowercase c) (drop (n + 1) cs) in
     let turn : split_words after_lower (drop n cs) ≡ split_one after_lower c ++ rest =
     at_drop_more (split_words after_lower) cs n c h.0
-    ∙ (ap (λ d. split_words after_lower (d ∷ drop (n + 1) cs)) (sym h.1) ∙ split_words-one after_lower c (drop (n + 1) cs)) in
+    ∙ (ap (λ d. split_words after_lower (d ∷ drop (n + 1) cs)) (sym h.1)
+    ∙ split_words-one after_lower c (drop (n + 1) cs)) in
     ap (λ b. next ++ encode_utf8_all (split_words b (drop (n + 1) cs))) lower_is
     ∙ (ap (λ t. t ++ encode_utf8_all rest) step
     ∙ (append_assoc text (encode_utf8_all (split_one after_lower c)) (encode_utf8_all rest)
-    ∙ (ap (λ t. text ++ t) (sym (encodes-append (split_one after_lower c) rest)) ∙ (ap (λ left. text ++ encode_utf8_all left) (sym turn) ∙ before))))
+    ∙ (ap (λ t. text ++ t) (sym (encodes-append (split_one after_lower c) rest))
+    ∙ (ap (λ left. text ++ encode_utf8_all left) (sym turn) ∙ before))))
 
-pub split_words-end : (after_lower : Bool) (cs : List ℕ) (n : ℕ) (text all : List ℕ) → length cs ≡ n → text ++ encode_utf8_all (split_words after_lower (drop n cs)) ≡ all → text ≡ all
+pub split_words-end : (after_lower : Bool) (cs : List ℕ) (n : ℕ) (text all : List ℕ) → length cs ≡ n
+    → text ++ encode_utf8_all (split_words after_lower (drop n cs)) ≡ all → text ≡ all
 split_words-end after_lower cs n text all h before =
-    sym (append-nil text) ∙ (ap (λ rest. text ++ encode_utf8_all (split_words after_lower rest)) (sym (drop_all n cs (omega arith))) ∙ before)
+    sym (append-nil text)
+    ∙ (ap (λ rest. text ++ encode_utf8_all (split_words after_lower rest))
+    (sym (drop_all n cs (omega arith))) ∙ before)
 
 -- ---- snake case of snake case
 
@@ -132,22 +173,35 @@ underscore_if-no_capital : (b : Bool) → has_capital (if b then 95 ∷ [] else 
 underscore_if-no_capital true = refl
 underscore_if-no_capital false = refl
 
-split_words-no_capital : (after_lower : Bool) (cs : List ℕ) → has_capital (split_words after_lower cs) ≡ false
+split_words-no_capital : (after_lower : Bool) (cs : List ℕ)
+    → has_capital (split_words after_lower cs) ≡ false
 split_words-no_capital after_lower [] = refl
 split_words-no_capital after_lower (c ∷ cs) =
     let rest : List ℕ = to_ascii_lowercase c ∷ split_words (is_lowercase c) cs in
-    list_any-append is_ascii_uppercase (if after_lower && is_ascii_uppercase c then 95 ∷ [] else []) rest
-    ∙ or_from (has_capital (if after_lower && is_ascii_uppercase c then 95 ∷ [] else [])) (has_capital rest) (underscore_if-no_capital (after_lower && is_ascii_uppercase c))
-    (or_from (is_ascii_uppercase (to_ascii_lowercase c)) (has_capital (split_words (is_lowercase c) cs)) (lowered-other c) (split_words-no_capital (is_lowercase c) cs))
+    list_any-append is_ascii_uppercase
+    (if after_lower && is_ascii_uppercase c then 95 ∷ [] else []) rest
+    ∙ or_from (has_capital (if after_lower && is_ascii_uppercase c then 95 ∷ [] else []))
+    (has_capital rest) (underscore_if-no_capital (after_lower && is_ascii_uppercase c))
+    (or_from (is_ascii_uppercase (to_ascii_lowercase c))
+    (has_capital (split_words (is_lowercase c) cs)) (lowered-other c)
+    (split_words-no_capital (is_lowercase c) cs))
 
-split_words-same : (after_lower : Bool) (cs : List ℕ) → has_capital cs ≡ false → split_words after_lower cs ≡ cs
+split_words-same : (after_lower : Bool) (cs : List ℕ) → has_capital cs ≡ false
+    → split_words after_lower cs ≡ cs
 split_words-same after_lower [] h = refl
 split_words-same after_lower (c ∷ cs) h =
     let both = or_parts (is_ascii_uppercase c) (has_capital cs) h in
-    ap (λ front. front ++ (to_ascii_lowercase c ∷ split_words (is_lowercase c) cs)) (cond-false (after_lower && is_ascii_uppercase c) _ _ (and_right after_lower (is_ascii_uppercase c) both.0))
-    ∙ (ap (λ first. first ∷ split_words (is_lowercase c) cs) (lowered-same c both.0) ∙ ap (λ rest. c ∷ rest) (split_words-same (is_lowercase c) cs both.1))
+    ap (λ front. front ++ (to_ascii_lowercase c ∷ split_words (is_lowercase c) cs))
+    (cond-false (after_lower && is_ascii_uppercase c) _ _
+    (and_right after_lower (is_ascii_uppercase c) both.0))
+    ∙ (ap (λ first. first ∷ split_words (is_lowercase c) cs) (lowered-same c both.0)
+    ∙ ap (λ rest. c ∷ rest) (split_words-same (is_lowercase c) cs both.1))
 
-pub snake_case_text-twice : (text name : List ℕ) → IsUtf8 text → text ≡ snake_case_text name → snake_case_text text ≡ text
+pub snake_case_text-twice : (text name : List ℕ) → IsUtf8 text → text ≡ snake_case_text name
+    → snake_case_text text ≡ text
 snake_case_text-twice text name utf8 e =
-    ap (λ cs. encode_utf8_all (snake_case_of cs)) (chars-text text (snake_case_of (chars name)) utf8 e)
-    ∙ (ap encode_utf8_all (split_words-same false (snake_case_of (chars name)) (split_words-no_capital false (chars name))) ∙ sym e)
+    ap (λ cs. encode_utf8_all (snake_case_of cs))
+    (chars-text text (snake_case_of (chars name)) utf8 e)
+    ∙ (ap encode_utf8_all
+    (split_words-same false (snake_case_of (chars name))
+    (split_words-no_capital false (chars name))) ∙ sym e)

@@ -18,25 +18,46 @@ pub slice_split-HasFirst : {X : Type 0} (p : X → Bool) (xs : List X) → HasFi
 slice_split-HasFirst p [] = record { first = []; others = []; is = refl }
 slice_split-HasFirst p (x ∷ xs) =
     elim (cases_Bool (p x)) [
-      | inl cut ↦ record { first = []; others = slice_split p xs; is = slice_split-cons_yes p x xs cut }
+      | inl cut ↦ record {
+        first = [];
+        others = slice_split p xs;
+        is =
+            slice_split-cons_yes p x xs cut;
+      }
       | inr kept ↦
           let parts = onto_first-HasFirst x (slice_split p xs) in
-          record { first = parts.first; others = parts.others; is = slice_split-cons_no p x xs kept ∙ parts.is }
+          record {
+            first = parts.first;
+            others = parts.others;
+            is = slice_split-cons_no p x xs kept
+                ∙ parts.is;
+          }
     ]
 
 -- an element more in the first part of two lists of parts
-onto_first-append : {X : Type 0} (x : X) (parts more : List (List X)) → HasFirst parts → onto_first x (parts ++ more) ≡ onto_first x parts ++ more
+onto_first-append : {X : Type 0} (x : X) (parts more : List (List X)) → HasFirst parts
+    → onto_first x (parts ++ more) ≡ onto_first x parts ++ more
 onto_first-append x [] more h = cc h.is
 onto_first-append x (part ∷ parts) more h = refl
 
 -- a list that is cut at a separator has the parts of both pieces
-pub slice_split-append : {X : Type 0} (p : X → Bool) (xs : List X) (y : X) (ys : List X) → p y ≡ true
+pub slice_split-append : {X : Type 0} (p : X → Bool) (xs : List X) (y : X) (ys : List X)
+    → p y ≡ true
     → slice_split p (xs ++ y ∷ ys) ≡ slice_split p xs ++ slice_split p ys
 slice_split-append p [] y ys h = slice_split-cons_yes p y ys h
 slice_split-append p (x ∷ xs) y ys h =
-    let rest : slice_split p (xs ++ y ∷ ys) ≡ slice_split p xs ++ slice_split p ys = slice_split-append p xs y ys h in
+    let rest : slice_split p (xs ++ y ∷ ys) ≡ slice_split p xs
+    ++ slice_split p ys = slice_split-append p xs y ys h in
     elim (cases_Bool (p x)) [
-      | inl cut ↦ rw (slice_split-cons_yes p x (xs ++ y ∷ ys) cut, slice_split-cons_yes p x xs cut, rest) refl
-      | inr kept ↦ rw (slice_split-cons_no p x (xs ++ y ∷ ys) kept, slice_split-cons_no p x xs kept, rest)
+      | inl cut ↦ rw (
+        slice_split-cons_yes p x (xs ++ y ∷ ys) cut,
+        slice_split-cons_yes p x xs cut,
+        rest,
+      ) refl
+      | inr kept ↦ rw (
+        slice_split-cons_no p x (xs ++ y ∷ ys) kept,
+        slice_split-cons_no p x xs kept,
+        rest,
+      )
           (onto_first-append x (slice_split p xs) (slice_split p ys) (slice_split-HasFirst p xs))
     ]

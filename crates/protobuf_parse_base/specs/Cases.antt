@@ -1,5 +1,6 @@
 -- The spellings of a name: camel case, snake case and the JSON name, on the characters of a text.
-use Rattle.std.specs.Prelude.{ℕ, ◌==◌, ◌&&◌, Bool, true, false, List, [], ◌∷◌, ◌++◌, if◌then◌else◌, encode_utf8_all}
+use Rattle.std.specs.Prelude.{ℕ, ◌==◌, ◌&&◌, Bool, true, false, List, [], ◌∷◌, ◌++◌, if◌then◌else◌}
+use Rattle.std.specs.Prelude.{encode_utf8_all}
 use Rattle.std.specs.List.{list_any}
 use Rattle.std.specs.Str.{chars}
 use Rattle.std.specs.Char.{to_ascii_uppercase, to_ascii_lowercase, is_ascii_uppercase}
@@ -25,7 +26,8 @@ json_name_of cs = joined_words false cs
 abbrev pub split_words : Bool → List ℕ → List ℕ
 split_words after_lower [] = []
 split_words after_lower (c ∷ cs) =
-    (if after_lower && is_ascii_uppercase c then 95 ∷ [] else []) ++ (to_ascii_lowercase c ∷ split_words (is_lowercase c) cs)
+    (if after_lower && is_ascii_uppercase c then 95 ∷ [] else [])
+    ++ (to_ascii_lowercase c ∷ split_words (is_lowercase c) cs)
 
 -- `fooBar` is `foo_bar`
 abbrev pub snake_case_of : List ℕ → List ℕ

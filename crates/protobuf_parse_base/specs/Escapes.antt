@@ -1,5 +1,6 @@
 -- Bytes written as the inside of a string literal, and what such a text says.
-use Rattle.std.specs.Prelude.{ℕ, ◌==◌, ◌&&◌, ◌+◌, ◌-◌, ◌*◌, ◌/◌, ◌%◌, nat_le, Bool, List, [], ◌∷◌, if◌then◌else◌}
+use Rattle.std.specs.Prelude.{ℕ, ◌==◌, ◌&&◌, ◌+◌, ◌-◌, ◌*◌, ◌/◌, ◌%◌, nat_le, Bool, List, [], ◌∷◌}
+use Rattle.std.specs.Prelude.{if◌then◌else◌}
 use Rattle.std.specs.List.{flat_map}
 
 -- a backslash and one more character
@@ -48,7 +49,8 @@ short_byte c = if c == 110 then 10
 abbrev pub said_from : Reading → List ℕ → List ℕ
 said_from state [] = []
 said_from outside (c ∷ cs) = if c == 92 then said_from backslash cs else c ∷ said_from outside cs
-said_from backslash (c ∷ cs) = if is_octal_digit c then said_from (one_digit (c - 48)) cs else short_byte c ∷ said_from outside cs
+said_from backslash (c ∷ cs) = if is_octal_digit c then said_from (one_digit (c - 48)) cs
+    else short_byte c ∷ said_from outside cs
 said_from (one_digit value) (c ∷ cs) = said_from (two_digits (8 * value + (c - 48))) cs
 said_from (two_digits value) (c ∷ cs) = (8 * value + (c - 48)) ∷ said_from outside cs
 

@@ -1,7 +1,8 @@
 -- Names of the Protocol Buffers language. An identifier is a list of bytes, and a name path is a
 -- list of identifiers. An absolute path writes a dot before each, a relative path writes dots
 -- between them.
-use Rattle.std.specs.Prelude.{ℕ, ◌==◌, ◌&&◌, ◌||◌, ◌≡◌, not, nat_lt, Bool, true, List, [], ◌∷◌, ◌++◌, length, map, IsTrue}
+use Rattle.std.specs.Prelude.{ℕ, ◌==◌, ◌&&◌, ◌||◌, ◌≡◌, not, nat_lt, Bool, true, List, [], ◌∷◌}
+use Rattle.std.specs.Prelude.{◌++◌, length, map, IsTrue}
 use Rattle.std.specs.List.{list_all, slice_split}
 
 -- a byte that an identifier may hold: any but `/`, `.`, `:`, `(` and `)`

@@ -1,5 +1,7 @@
--- Proto paths, by which `.proto` files import one another: nonempty parts with slashes between them.
-use Rattle.std.specs.Prelude.{ℕ, ◌==◌, ◌&&◌, ◌||◌, ◌≡◌, not, Bool, false, List, [], ◌∷◌, length, IsTrue, Option, Some, None, if◌then◌else◌, filter}
+-- Proto paths, by which `.proto` files import one another: nonempty parts with slashes between
+-- them.
+use Rattle.std.specs.Prelude.{ℕ, ◌==◌, ◌&&◌, ◌||◌, ◌≡◌, not, Bool, false, List, [], ◌∷◌, length}
+use Rattle.std.specs.Prelude.{IsTrue, Option, Some, None, if◌then◌else◌, filter}
 use Rattle.std.specs.List.{list_all, list_any, slice_split, join_with_byte}
 use Rattle.std.specs.Str.{bytes_eq}
 use Rattle.protobuf_parse_base.specs.declared.proto_path.error.PathError.{PathError}
@@ -20,7 +22,8 @@ has_backslash text = list_any (λ b. b == 92) text
 
 -- a part: nonempty, without `\` and `/`, and neither `.` nor `..`
 abbrev pub is_part : List ℕ → Bool
-is_part part = not (is_empty part) && not (is_dot part) && not (is_dot_dot part) && list_all (λ b. not (b == 92 || b == 47)) part
+is_part part = not (is_empty part) && not (is_dot part) && not (is_dot_dot part)
+    && list_all (λ b. not (b == 92 || b == 47)) part
 
 -- parts with slashes between them
 abbrev pub joined : List (List ℕ) → List ℕ
@@ -28,7 +31,8 @@ joined parts = join_with_byte 47 parts
 
 -- a text is a proto path if it is one or more parts with slashes between them
 abbrev pub IsProtoPath : List ℕ → Type 0
-IsProtoPath text = (parts : List (List ℕ)) × IsTrue (not (length parts == 0)) × IsTrue (list_all is_part parts) × (text ≡ joined parts)
+IsProtoPath text = (parts : List (List ℕ)) × IsTrue (not (length parts == 0))
+    × IsTrue (list_all is_part parts) × (text ≡ joined parts)
 
 -- what stands between the slashes of a text
 abbrev pub slash_parts : List ℕ → List (List ℕ)

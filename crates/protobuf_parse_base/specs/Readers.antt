@@ -1,5 +1,7 @@
 -- A reader of a relation looks one token ahead and never back, and its laws come with it.
-use Rattle.std.proofs.Common.{◌≡◌, ℕ, zero, suc, ◌<◌, ◌≤◌, List, [], ◌∷◌, ◌++◌, Option, Some, None, Bool, true, false, not, ◌&&◌, ◌||◌, Result, Ok, Err, cond, refl, sym, ap, subst, ◌∙◌, inl, inr, arith}
+use Rattle.std.proofs.Common.{◌≡◌, ℕ, zero, suc, ◌<◌, ◌≤◌, List, [], ◌∷◌, ◌++◌, Option, Some, None}
+use Rattle.std.proofs.Common.{Bool, true, false, not, ◌&&◌, ◌||◌, Result, Ok, Err, cond, refl, sym}
+use Rattle.std.proofs.Common.{ap, subst, ◌∙◌, inl, inr, arith}
 use Rattle.protobuf_parse_base.specs.Relations.{Nothing, One, Then, Either, Many, none, more}
 
 -- ---- what is read
@@ -14,7 +16,8 @@ abbrev pub onto : {Tok Mark : Type 0} → List Tok → Rest Tok Mark → Rest To
 onto [] rest = rest
 onto (t ∷ ts) rest = token t (onto ts rest)
 
-pub onto-append : {Tok Mark : Type 0} (ts us : List Tok) (rest : Rest Tok Mark) → onto (ts ++ us) rest ≡ onto ts (onto us rest)
+pub onto-append : {Tok Mark : Type 0} (ts us : List Tok) (rest : Rest Tok Mark)
+    → onto (ts ++ us) rest ≡ onto ts (onto us rest)
 onto-append [] us rest = refl
 onto-append (t ∷ ts) us rest = ap (token t) (onto-append ts us rest)
 
@@ -28,34 +31,42 @@ abbrev pub next : {Tok Mark : Type 0} → Rest Tok Mark → Result Tok Mark
 next (end m) = Err m
 next (token t rest) = Ok t
 
--- A value and the tokens after it; or the tokens from the one on that cannot stand there; or the tokens from
--- the first one on of a part that says nothing; or parts that nest deeper than was looked at.
+-- A value and the tokens after it; or the tokens from the one on that cannot stand there; or the
+-- tokens from the first one on of a part that says nothing; or parts that nest deeper than was
+-- looked at.
 pub data Read (Tok Mark A : Type 0) : Type 0 where
   read : A → Rest Tok Mark → Read Tok Mark A
   stuck : Rest Tok Mark → Read Tok Mark A
   wrong : Rest Tok Mark → Read Tok Mark A
   deep : Read Tok Mark A
 
-abbrev pub bind : {Tok Mark A B : Type 0} → Read Tok Mark A → (A → Rest Tok Mark → Read Tok Mark B) → Read Tok Mark B
+abbrev pub bind : {Tok Mark A B : Type 0} → Read Tok Mark A → (A → Rest Tok Mark → Read Tok Mark B)
+    → Read Tok Mark B
 bind (read a rest) f = f a rest
 bind (stuck rest) f = stuck rest
 bind (wrong rest) f = wrong rest
 bind deep f = deep
 
-pub bind_read : {Tok Mark A B : Type 0} (r : Read Tok Mark A) (f : A → Rest Tok Mark → Read Tok Mark B) (b : B) (rest : Rest Tok Mark) → bind r f ≡ read b rest → (a : A) × (us : Rest Tok Mark) × (r ≡ read a us) × (f a us ≡ read b rest)
+pub bind_read : {Tok Mark A B : Type 0} (r : Read Tok Mark A)
+    (f : A → Rest Tok Mark → Read Tok Mark B) (b : B) (rest : Rest Tok Mark)
+    → bind r f ≡ read b rest → (a : A) × (us : Rest Tok Mark) × (r ≡ read a us)
+    × (f a us ≡ read b rest)
 bind_read (read a us) f b rest e = (a, us, refl, e)
 bind_read (stuck us) f b rest e = absurd cc
 bind_read (wrong m) f b rest e = absurd cc
 bind_read deep f b rest e = absurd cc
 
-pub bind_deep : {Tok Mark A B : Type 0} (r : Read Tok Mark A) (f : A → Rest Tok Mark → Read Tok Mark B) → bind r f ≡ deep → (r ≡ deep → ⊥) → ((a : A) (us : Rest Tok Mark) → r ≡ read a us → f a us ≡ deep → ⊥) → ⊥
+pub bind_deep : {Tok Mark A B : Type 0} (r : Read Tok Mark A)
+    (f : A → Rest Tok Mark → Read Tok Mark B) → bind r f ≡ deep → (r ≡ deep → ⊥)
+    → ((a : A) (us : Rest Tok Mark) → r ≡ read a us → f a us ≡ deep → ⊥) → ⊥
 bind_deep (read a us) f e first second = second a us refl e
 bind_deep (stuck us) f e first second = cc
 bind_deep (wrong m) f e first second = cc
 bind_deep deep f e first second = first refl
 
 -- what was read is the same value and the same rest
-pub read_parts : {Tok Mark A : Type 0} (a b : A) (x y : Rest Tok Mark) → (let r : Read Tok Mark A = read a x in r ≡ read b y) → (a ≡ b) × (x ≡ y)
+pub read_parts : {Tok Mark A : Type 0} (a b : A) (x y : Rest Tok Mark)
+    → (let r : Read Tok Mark A = read a x in r ≡ read b y) → (a ≡ b) × (x ≡ y)
 read_parts a b x y e = (cc, cc)
 
 -- ---- tests of the next token
@@ -65,9 +76,10 @@ abbrev pub seen : {Tok Class : Type 0} → (Class → Tok → Bool) → List Cla
 seen sees [] t = false
 seen sees (c ∷ cs) t = sees c t || seen sees cs t
 
--- How tokens are told from one another: a mark for each (its place), and classes, each of which sees some
--- tokens. `apart` is true only of classes that see no token both, `within` only where the second sees what
--- the first sees; `but` has classes for what the first sees and the second does not.
+-- How tokens are told from one another: a mark for each (its place), and classes, each of which
+-- sees some tokens. `apart` is true only of classes that see no token both, `within` only where the
+-- second sees what the first sees; `but` has classes for what the first sees and the second does
+-- not.
 pub record Lexicon (Tok Mark Class : Type 0) : Type 0 where
   pub mark : Tok → Mark
   pub sees : Class → Tok → Bool
@@ -76,10 +88,12 @@ pub record Lexicon (Tok Mark Class : Type 0) : Type 0 where
   pub but : Class → Class → List Class
   pub apart-law : (c d : Class) (t : Tok) → apart c d ≡ true → sees c t ≡ true → sees d t ≡ false
   pub within-law : (c d : Class) (t : Tok) → within c d ≡ true → sees c t ≡ true → sees d t ≡ true
-  pub but-law : (c d : Class) (t : Tok) → sees c t ≡ true → sees d t ≡ false → seen sees (but c d) t ≡ true
+  pub but-law : (c d : Class) (t : Tok) → sees c t ≡ true → sees d t ≡ false
+      → seen sees (but c d) t ≡ true
 
--- With what classes a part begins, whether it may be empty, with what classes it would go on where it could
--- end; whether it has parts in it that nest; and whether the next token always tells how to go on.
+-- With what classes a part begins, whether it may be empty, with what classes it would go on where
+-- it could end; whether it has parts in it that nest; and whether the next token always tells how
+-- to go on.
 pub record Shape (Class : Type 0) : Type 0 where
   pub firsts : List Class
   pub empty : Bool
@@ -88,30 +102,37 @@ pub record Shape (Class : Type 0) : Type 0 where
   pub fine : Bool
 
 abbrev pub shape : {Class : Type 0} → List Class → Bool → List Class → Shape Class
-shape firsts empty goes = record { firsts = firsts; empty = empty; goes = goes; nests = false; fine = true }
+shape firsts empty goes =
+    record { firsts = firsts; empty = empty; goes = goes; nests = false; fine = true }
 
 -- of a part in which parts nest
 abbrev pub nested : {Class : Type 0} → List Class → Bool → List Class → Shape Class
-nested firsts empty goes = record { firsts = firsts; empty = empty; goes = goes; nests = true; fine = true }
+nested firsts empty goes =
+    record { firsts = firsts; empty = empty; goes = goes; nests = true; fine = true }
 
 -- what was read does not depend on what comes after the next token
-pub record LocalRead {Tok Mark A : Type 0} (run : Rest Tok Mark → Read Tok Mark A) (ts : Rest Tok Mark) (a : A) (rest : Rest Tok Mark) : Type 0 where
+pub record LocalRead {Tok Mark A : Type 0} (run : Rest Tok Mark → Read Tok Mark A)
+    (ts : Rest Tok Mark) (a : A) (rest : Rest Tok Mark) : Type 0 where
   pub used : List Tok
   pub parts : ts ≡ onto used rest
-  pub again : (other : Rest Tok Mark) → next other ≡ next rest → run (onto used other) ≡ read a other
+  pub again : (other : Rest Tok Mark) → next other ≡ next rest
+      → run (onto used other) ≡ read a other
 
-pub record LocalStuck {Tok Mark A : Type 0} (run : Rest Tok Mark → Read Tok Mark A) (ts : Rest Tok Mark) (rest : Rest Tok Mark) : Type 0 where
+pub record LocalStuck {Tok Mark A : Type 0} (run : Rest Tok Mark → Read Tok Mark A)
+    (ts : Rest Tok Mark) (rest : Rest Tok Mark) : Type 0 where
   pub used : List Tok
   pub parts : ts ≡ onto used rest
   pub again : (other : Rest Tok Mark) → next other ≡ next rest → run (onto used other) ≡ stuck other
 
-abbrev pub LocalAt : {Tok Mark A : Type 0} → (Rest Tok Mark → Read Tok Mark A) → Rest Tok Mark → Read Tok Mark A → Type 0
+abbrev pub LocalAt : {Tok Mark A : Type 0} → (Rest Tok Mark → Read Tok Mark A) → Rest Tok Mark
+    → Read Tok Mark A → Type 0
 LocalAt run ts (read a rest) = LocalRead run ts a rest
 LocalAt run ts (stuck rest) = LocalStuck run ts rest
 LocalAt {Tok = Tok} run ts (wrong rest) = (used : List Tok) × (ts ≡ onto used rest)
 LocalAt run ts deep = Unit {0}
 
-pub record Sound {Tok Mark A : Type 0} (R : List Tok → A → Type 0) (ts : Rest Tok Mark) (a : A) (rest : Rest Tok Mark) : Type 0 where
+pub record Sound {Tok Mark A : Type 0} (R : List Tok → A → Type 0) (ts : Rest Tok Mark) (a : A)
+    (rest : Rest Tok Mark) : Type 0 where
   pub used : List Tok
   pub parts : ts ≡ onto used rest
   pub holds : R used a
@@ -150,8 +171,10 @@ module _ {Tok Mark Class : Type 0} (L : Lexicon Tok Mark Class) where
   pub record Reader {A : Type 0} (R : List Tok → A → Type 0) (s : Shape Class) : Type 0 where
     pub run : Rest Tok Mark → Read Tok Mark A
     pub local : (ts : Rest Tok Mark) → LocalAt run ts (run ts)
-    pub sound : (ts : Rest Tok Mark) (a : A) (rest : Rest Tok Mark) → run ts ≡ read a rest → Sound R ts a rest
-    pub complete : s.fine ≡ true → (used : List Tok) (a : A) (rest : Rest Tok Mark) → R used a → starts s.goes rest ≡ false → run (onto used rest) ≡ read a rest
+    pub sound : (ts : Rest Tok Mark) (a : A) (rest : Rest Tok Mark) → run ts ≡ read a rest
+        → Sound R ts a rest
+    pub complete : s.fine ≡ true → (used : List Tok) (a : A) (rest : Rest Tok Mark) → R used a
+        → starts s.goes rest ≡ false → run (onto used rest) ≡ read a rest
     pub begins : (used : List Tok) (a : A) → R used a → Begins s.firsts s.empty used
     pub shallow : s.nests ≡ false → (ts : Rest Tok Mark) → run ts ≡ deep → ⊥
 
@@ -188,106 +211,153 @@ false_by false f = refl
 
 -- ---- classes
 
-pub next-onto : {Tok Mark : Type 0} (used : List Tok) (rest other : Rest Tok Mark) → next other ≡ next rest → next (onto used other) ≡ next (onto used rest)
+pub next-onto : {Tok Mark : Type 0} (used : List Tok) (rest other : Rest Tok Mark)
+    → next other ≡ next rest → next (onto used other) ≡ next (onto used rest)
 next-onto [] rest other h = h
 next-onto (t ∷ ts) rest other h = refl
 
 module _ {Tok Mark Class : Type 0} (L : Lexicon Tok Mark Class) where
-  pub seen_by-append : (cs ds : List Class) (t : Tok) → seen_by L (cs ++ ds) t ≡ (seen_by L cs t || seen_by L ds t)
+  pub seen_by-append : (cs ds : List Class) (t : Tok)
+      → seen_by L (cs ++ ds) t ≡ (seen_by L cs t || seen_by L ds t)
   seen_by-append [] ds t = refl
   seen_by-append (c ∷ cs) ds t = go (L.sees c t) (seen_by-append cs ds t)
     where
-      go : (b : Bool) → seen_by L (cs ++ ds) t ≡ (seen_by L cs t || seen_by L ds t) → (b || seen_by L (cs ++ ds) t) ≡ ((b || seen_by L cs t) || seen_by L ds t)
+      go : (b : Bool) → seen_by L (cs ++ ds) t ≡ (seen_by L cs t || seen_by L ds t)
+          → (b || seen_by L (cs ++ ds) t) ≡ ((b || seen_by L cs t) || seen_by L ds t)
       go true e = refl
       go false e = e
 
-  pub starts-onto : (cs : List Class) (t : Tok) (rest : Rest Tok Mark) → starts L cs (token t rest) ≡ seen_by L cs t
+  pub starts-onto : (cs : List Class) (t : Tok) (rest : Rest Tok Mark)
+      → starts L cs (token t rest) ≡ seen_by L cs t
   unfolding starts
   starts-onto cs t rest = refl
 
-  pub starts-next : (cs : List Class) (rest other : Rest Tok Mark) → next other ≡ next rest → starts L cs other ≡ starts L cs rest
+  pub starts-next : (cs : List Class) (rest other : Rest Tok Mark) → next other ≡ next rest
+      → starts L cs other ≡ starts L cs rest
   unfolding starts
   starts-next cs (end m) (end n) e = refl
   starts-next cs (end m) (token u us) e = absurd cc
   starts-next cs (token t ts) (end n) e = absurd cc
   starts-next cs (token t ts) (token u us) e = let p : u ≡ t = cc in ap (seen_by L cs) p
 
-  pub starts-append : (cs ds : List Class) (rest : Rest Tok Mark) → starts L (cs ++ ds) rest ≡ (starts L cs rest || starts L ds rest)
+  pub starts-append : (cs ds : List Class) (rest : Rest Tok Mark)
+      → starts L (cs ++ ds) rest ≡ (starts L cs rest || starts L ds rest)
   unfolding starts
   starts-append cs ds (end m) = refl
   starts-append cs ds (token t rest) = seen_by-append cs ds t
 
-  apart_from-law : (c : Class) (ds : List Class) (t : Tok) → apart_from L c ds ≡ true → L.sees c t ≡ true → seen_by L ds t ≡ false
+  apart_from-law : (c : Class) (ds : List Class) (t : Tok) → apart_from L c ds ≡ true
+      → L.sees c t ≡ true → seen_by L ds t ≡ false
   apart_from-law c [] t h e = refl
   apart_from-law c (d ∷ ds) t h e =
       let x : L.sees d t ≡ false = L.apart-law c d t (and_left _ _ h) e in
       let y : seen_by L ds t ≡ false = apart_from-law c ds t (and_right _ _ h) e in
       rw x y
 
-  pub all_apart-law : (cs ds : List Class) (t : Tok) → all_apart L cs ds ≡ true → seen_by L cs t ≡ true → seen_by L ds t ≡ false
+  pub all_apart-law : (cs ds : List Class) (t : Tok) → all_apart L cs ds ≡ true
+      → seen_by L cs t ≡ true → seen_by L ds t ≡ false
   all_apart-law [] ds t h e = absurd cc
   all_apart-law (c ∷ cs) ds t h e = go (L.sees c t) refl e (all_apart-law cs ds t (and_right _ _ h))
     where
-      go : (b : Bool) → L.sees c t ≡ b → (b || seen_by L cs t) ≡ true → (seen_by L cs t ≡ true → seen_by L ds t ≡ false) → seen_by L ds t ≡ false
+      go : (b : Bool) → L.sees c t ≡ b → (b || seen_by L cs t) ≡ true
+          → (seen_by L cs t ≡ true → seen_by L ds t ≡ false) → seen_by L ds t ≡ false
       go true k e f = apart_from-law c ds t (and_left _ _ h) k
       go false k e f = f e
 
-  within_one-law : (c : Class) (ds : List Class) (t : Tok) → within_one L c ds ≡ true → L.sees c t ≡ true → seen_by L ds t ≡ true
+  within_one-law : (c : Class) (ds : List Class) (t : Tok) → within_one L c ds ≡ true
+      → L.sees c t ≡ true → seen_by L ds t ≡ true
   within_one-law c [] t h e = absurd cc
   within_one-law c (d ∷ ds) t h e = go (L.within c d) refl h (λ i. within_one-law c ds t i e)
     where
-      go : (b : Bool) → L.within c d ≡ b → (b || within_one L c ds) ≡ true → (within_one L c ds ≡ true → seen_by L ds t ≡ true) → seen_by L (d ∷ ds) t ≡ true
+      go : (b : Bool) → L.within c d ≡ b → (b || within_one L c ds) ≡ true
+          → (within_one L c ds ≡ true → seen_by L ds t ≡ true) → seen_by L (d ∷ ds) t ≡ true
       go true k i f = rw (L.within-law c d t k e) refl
       go false k i f = or_true (L.sees d t) _ (f i)
 
-  pub all_within-law : (cs ds : List Class) (t : Tok) → all_within L cs ds ≡ true → seen_by L cs t ≡ true → seen_by L ds t ≡ true
+  pub all_within-law : (cs ds : List Class) (t : Tok) → all_within L cs ds ≡ true
+      → seen_by L cs t ≡ true → seen_by L ds t ≡ true
   all_within-law [] ds t h e = absurd cc
-  all_within-law (c ∷ cs) ds t h e = go (L.sees c t) refl e (all_within-law cs ds t (and_right _ _ h))
+  all_within-law (c ∷ cs) ds t h e =
+      go (L.sees c t) refl e (all_within-law cs ds t (and_right _ _ h))
     where
-      go : (b : Bool) → L.sees c t ≡ b → (b || seen_by L cs t) ≡ true → (seen_by L cs t ≡ true → seen_by L ds t ≡ true) → seen_by L ds t ≡ true
+      go : (b : Bool) → L.sees c t ≡ b → (b || seen_by L cs t) ≡ true
+          → (seen_by L cs t ≡ true → seen_by L ds t ≡ true) → seen_by L ds t ≡ true
       go true k e f = within_one-law c ds t (and_left _ _ h) k
       go false k e f = f e
 
   -- no class of two lists, or of three, sees the next token
-  pub first-of : (cs ds : List Class) (rest : Rest Tok Mark) → starts L (cs ++ ds) rest ≡ false → starts L cs rest ≡ false
-  first-of cs ds rest e = or_left (starts L cs rest) (starts L ds rest) (sym (starts-append cs ds rest) ∙ e)
+  pub first-of : (cs ds : List Class) (rest : Rest Tok Mark) → starts L (cs ++ ds) rest ≡ false
+      → starts L cs rest ≡ false
+  first-of cs ds rest e =
+      or_left (starts L cs rest) (starts L ds rest) (sym (starts-append cs ds rest) ∙ e)
 
-  pub last-of : (cs ds : List Class) (rest : Rest Tok Mark) → starts L (cs ++ ds) rest ≡ false → starts L ds rest ≡ false
-  last-of cs ds rest e = or_right (starts L cs rest) (starts L ds rest) (sym (starts-append cs ds rest) ∙ e)
+  pub last-of : (cs ds : List Class) (rest : Rest Tok Mark) → starts L (cs ++ ds) rest ≡ false
+      → starts L ds rest ≡ false
+  last-of cs ds rest e =
+      or_right (starts L cs rest) (starts L ds rest) (sym (starts-append cs ds rest) ∙ e)
 
-  pub starts-within : (cs ds : List Class) (rest : Rest Tok Mark) → all_within L cs ds ≡ true → starts L ds rest ≡ false → starts L cs rest ≡ false
+  pub starts-within : (cs ds : List Class) (rest : Rest Tok Mark) → all_within L cs ds ≡ true
+      → starts L ds rest ≡ false → starts L cs rest ≡ false
   unfolding starts
   starts-within cs ds (end m) h e = refl
-  starts-within cs ds (token t rest) h e = false_by _ (λ k. let i : seen_by L ds t ≡ true = all_within-law cs ds t h k in absurd cc)
+  starts-within cs ds (token t rest) h e =
+      false_by _ (λ k. let i : seen_by L ds t ≡ true = all_within-law cs ds t h k in absurd cc)
 
-  -- what begins with the first classes, before what does not start with the second, does not start with the second
-  pub begins-apart : (cs ds : List Class) (empty : Bool) (used : List Tok) (rest : Rest Tok Mark) → all_apart L cs ds ≡ true → Begins L cs empty used → (empty ≡ true → starts L ds rest ≡ false) → starts L ds (onto used rest) ≡ false
+  -- what begins with the first classes, before what does not start with the second, does not start
+  -- with the second
+  pub begins-apart : (cs ds : List Class) (empty : Bool) (used : List Tok) (rest : Rest Tok Mark)
+      → all_apart L cs ds ≡ true → Begins L cs empty used
+      → (empty ≡ true → starts L ds rest ≡ false) → starts L ds (onto used rest) ≡ false
   unfolding starts
   begins-apart cs ds empty [] rest h b e = e b
   begins-apart cs ds empty (t ∷ ts) rest h b e = all_apart-law cs ds t h b
 
-  pub begins-starts : (cs : List Class) (empty : Bool) (used : List Tok) (rest : Rest Tok Mark) → empty ≡ false → Begins L cs empty used → starts L cs (onto used rest) ≡ true
+  pub begins-starts : (cs : List Class) (empty : Bool) (used : List Tok) (rest : Rest Tok Mark)
+      → empty ≡ false → Begins L cs empty used → starts L cs (onto used rest) ≡ true
   unfolding starts
   begins-starts cs empty [] rest n b = absurd cc
   begins-starts cs empty (t ∷ ts) rest n b = b
 
 -- two functions that agree on the lists with this next token
-pub local-same : {Tok Mark A : Type 0} (run run' : Rest Tok Mark → Read Tok Mark A) (ts : Rest Tok Mark) (r : Read Tok Mark A) → ((us : Rest Tok Mark) → next us ≡ next ts → run' us ≡ run us) → LocalAt run ts r → LocalAt run' ts r
-local-same run run' ts (read a rest) same l = record { used = l.used; parts = l.parts; again = λ other h. same (onto l.used other) (next-onto l.used rest other h ∙ ap next (sym l.parts)) ∙ l.again other h }
-local-same run run' ts (stuck rest) same l = record { used = l.used; parts = l.parts; again = λ other h. same (onto l.used other) (next-onto l.used rest other h ∙ ap next (sym l.parts)) ∙ l.again other h }
+pub local-same : {Tok Mark A : Type 0} (run run' : Rest Tok Mark → Read Tok Mark A)
+    (ts : Rest Tok Mark) (r : Read Tok Mark A)
+    → ((us : Rest Tok Mark) → next us ≡ next ts → run' us ≡ run us) → LocalAt run ts r
+    → LocalAt run' ts r
+local-same run run' ts (read a rest) same l =
+    record {
+      used = l.used;
+      parts = l.parts;
+      again =
+          λ other h. same (onto l.used other) (next-onto l.used rest other h ∙ ap next (sym l.parts))
+          ∙ l.again other h;
+    }
+local-same run run' ts (stuck rest) same l =
+    record {
+      used = l.used;
+      parts = l.parts;
+      again =
+          λ other h. same (onto l.used other) (next-onto l.used rest other h ∙ ap next (sym l.parts))
+          ∙ l.again other h;
+    }
 local-same run run' ts (wrong rest) same l = l
 local-same run run' ts deep same l = tt
 
 -- ---- nothing, and one token
 
 module _ {Tok Mark A : Type 0} where
-  pub give-sound : (value : A) (ts : Rest Tok Mark) (a : A) (rest : Rest Tok Mark) → (let r : Read Tok Mark A = read value ts in r ≡ read a rest) → Sound (Nothing value) ts a rest
-  give-sound value ts a rest e = let h = read_parts value a ts rest e in record { used = []; parts = h.1; holds = (refl, sym h.0) }
+  pub give-sound : (value : A) (ts : Rest Tok Mark) (a : A) (rest : Rest Tok Mark)
+      → (let r : Read Tok Mark A = read value ts in r ≡ read a rest)
+      → Sound (Nothing value) ts a rest
+  give-sound value ts a rest e = let h = read_parts value a ts rest e in
+      record { used = []; parts = h.1; holds = (refl, sym h.0) }
 
-  pub give-shallow : (value : A) (ts : Rest Tok Mark) → (let r : Read Tok Mark A = read value ts in r ≡ deep) → ⊥
+  pub give-shallow : (value : A) (ts : Rest Tok Mark)
+      → (let r : Read Tok Mark A = read value ts in r ≡ deep) → ⊥
   give-shallow value ts e = cc
 
-  pub give-complete : (value : A) (used : List Tok) (a : A) (rest : Rest Tok Mark) → Nothing value used a → (let r : Read Tok Mark A = read value (onto used rest) in r ≡ read a rest)
+  pub give-complete : (value : A) (used : List Tok) (a : A) (rest : Rest Tok Mark)
+      → Nothing value used a
+      → (let r : Read Tok Mark A = read value (onto used rest) in r ≡ read a rest)
   give-complete value used a rest h = rw (h.0, h.1) refl
 
   abbrev pub taken : Option A → Rest Tok Mark → Rest Tok Mark → Read Tok Mark A
@@ -298,28 +368,47 @@ module _ {Tok Mark A : Type 0} where
   run_one says (end m) = stuck (end m)
   run_one says (token t rest) = taken (says t) (token t rest) rest
 
-same_end : {Tok Mark : Type 0} (m : Mark) (other : Rest Tok Mark) → (let k : Result Tok Mark = Err m in next other ≡ k) → other ≡ end m
+same_end : {Tok Mark : Type 0} (m : Mark) (other : Rest Tok Mark)
+    → (let k : Result Tok Mark = Err m in next other ≡ k) → other ≡ end m
 same_end m (end n) e = let p : n ≡ m = cc in ap end p
 same_end m (token u us) e = absurd cc
 
-same_token : {Tok Mark : Type 0} (t : Tok) (other : Rest Tok Mark) → (let k : Result Tok Mark = Ok t in next other ≡ k) → (us : Rest Tok Mark) × (other ≡ token t us)
+same_token : {Tok Mark : Type 0} (t : Tok) (other : Rest Tok Mark)
+    → (let k : Result Tok Mark = Ok t in next other ≡ k)
+    → (us : Rest Tok Mark) × (other ≡ token t us)
 same_token t (end n) e = absurd cc
 same_token {Tok = Tok} t (token u us) e = let p : u ≡ t = cc in (us, ap (λ (x : Tok). token x us) p)
 
 module _ {Tok Mark A : Type 0} (says : Tok → Option A) where
-  one-local-at : (t : Tok) (ts : Rest Tok Mark) (o : Option A) → says t ≡ o → LocalAt (run_one says) (token t ts) (taken o (token t ts) ts)
-  one-local-at t ts None e = record { used = []; parts = refl; again = λ other h. let s = same_token t other h in rw (s.1, e) refl }
-  one-local-at t ts (Some a) e = record { used = t ∷ []; parts = refl; again = λ other h. rw e refl }
+  one-local-at : (t : Tok) (ts : Rest Tok Mark) (o : Option A) → says t ≡ o
+      → LocalAt (run_one says) (token t ts) (taken o (token t ts) ts)
+  one-local-at t ts None e =
+      record {
+        used = [];
+        parts = refl;
+        again = λ other h. let s = same_token t other h in
+            rw (s.1, e) refl;
+      }
+  one-local-at t ts (Some a) e =
+      record { used = t ∷ []; parts = refl; again = λ other h. rw e refl }
 
   pub one-local : (ts : Rest Tok Mark) → LocalAt (run_one says) ts (run_one says ts)
-  one-local (end m) = record { used = []; parts = refl; again = λ other h. rw (same_end m other h) refl }
+  one-local (end m) =
+      record { used = []; parts = refl; again = λ other h. rw (same_end m other h) refl }
   one-local (token t ts) = one-local-at t ts (says t) refl
 
-  taken-sound : (t : Tok) (ts : Rest Tok Mark) (o : Option A) (a : A) (rest : Rest Tok Mark) → says t ≡ o → taken o (token t ts) ts ≡ read a rest → Sound (One says) (token t ts) a rest
+  taken-sound : (t : Tok) (ts : Rest Tok Mark) (o : Option A) (a : A) (rest : Rest Tok Mark)
+      → says t ≡ o → taken o (token t ts) ts ≡ read a rest → Sound (One says) (token t ts) a rest
   taken-sound t ts None a rest h e = absurd cc
-  taken-sound t ts (Some b) a rest h e = let p = read_parts b a ts rest e in record { used = t ∷ []; parts = ap (token t) p.1; holds = (t, refl, h ∙ ap (λ (x : A). Some x) p.0) }
+  taken-sound t ts (Some b) a rest h e = let p = read_parts b a ts rest e in
+      record {
+        used = t ∷ [];
+        parts = ap (token t) p.1;
+        holds = (t, refl, h ∙ ap (λ (x : A). Some x) p.0);
+      }
 
-  pub one-sound : (ts : Rest Tok Mark) (a : A) (rest : Rest Tok Mark) → run_one says ts ≡ read a rest → Sound (One says) ts a rest
+  pub one-sound : (ts : Rest Tok Mark) (a : A) (rest : Rest Tok Mark)
+      → run_one says ts ≡ read a rest → Sound (One says) ts a rest
   one-sound (end m) a rest e = absurd cc
   one-sound (token t ts) a rest e = taken-sound t ts (says t) a rest refl e
 
@@ -331,17 +420,22 @@ module _ {Tok Mark A : Type 0} (says : Tok → Option A) where
   one-shallow (end m) e = cc
   one-shallow (token t ts) e = one-shallow-at (token t ts) ts (says t) e
 
-  pub one-complete : (used : List Tok) (a : A) (rest : Rest Tok Mark) → One says used a → run_one says (onto used rest) ≡ read a rest
+  pub one-complete : (used : List Tok) (a : A) (rest : Rest Tok Mark) → One says used a
+      → run_one says (onto used rest) ≡ read a rest
   one-complete used a rest h = rw (h.1, h.2) refl
 
 module _ {Tok Mark Class : Type 0} (L : Lexicon Tok Mark Class) {A : Type 0} where
-  pub give-begins : (value : A) (used : List Tok) (a : A) → Nothing value used a → Begins L [] true used
+  pub give-begins : (value : A) (used : List Tok) (a : A) → Nothing value used a
+      → Begins L [] true used
   give-begins value used a h = rw h.0 refl
 
-  pub one-begins : (says : Tok → Option A) (cs : List Class) → ((t : Tok) (a : A) → says t ≡ Some a → seen_by L cs t ≡ true) → (used : List Tok) (a : A) → One says used a → Begins L cs false used
+  pub one-begins : (says : Tok → Option A) (cs : List Class)
+      → ((t : Tok) (a : A) → says t ≡ Some a → seen_by L cs t ≡ true) → (used : List Tok) (a : A)
+      → One says used a → Begins L cs false used
   one-begins says cs law used a h = rw h.1 (law h.0 a h.2)
 
-abbrev pub give : {Tok Mark Class A : Type 0} {L : Lexicon Tok Mark Class} (value : A) → Reader L (Nothing value) (shape [] true [])
+abbrev pub give : {Tok Mark Class A : Type 0} {L : Lexicon Tok Mark Class} (value : A)
+    → Reader L (Nothing value) (shape [] true [])
 give {L = L} value = record {
   run = λ ts. read value ts;
   local = λ ts. record { used = []; parts = refl; again = λ other e. refl };
@@ -352,7 +446,9 @@ give {L = L} value = record {
 }
 
 -- one token, which a class of the list sees if it says something
-abbrev pub one : {Tok Mark Class A : Type 0} {L : Lexicon Tok Mark Class} (says : Tok → Option A) (cs : List Class) → ((t : Tok) (a : A) → says t ≡ Some a → seen_by L cs t ≡ true) → Reader L (One says) (shape cs false [])
+abbrev pub one : {Tok Mark Class A : Type 0} {L : Lexicon Tok Mark Class} (says : Tok → Option A)
+    (cs : List Class) → ((t : Tok) (a : A) → says t ≡ Some a → seen_by L cs t ≡ true)
+    → Reader L (One says) (shape cs false [])
 one {L = L} says cs law = record {
   run = run_one says;
   local = one-local says;
@@ -364,7 +460,8 @@ one {L = L} says cs law = record {
 
 -- ---- one part and then another
 
-abbrev pub then_shape : {Tok Mark Class : Type 0} → Lexicon Tok Mark Class → Shape Class → Shape Class → Shape Class
+abbrev pub then_shape : {Tok Mark Class : Type 0} → Lexicon Tok Mark Class → Shape Class
+    → Shape Class → Shape Class
 then_shape L s t = record {
   firsts = s.firsts ++ cond s.empty t.firsts [];
   empty = s.empty && t.empty;
@@ -374,34 +471,51 @@ then_shape L s t = record {
 }
 
 module _ {Tok Mark A B : Type 0} where
-  second-local : (run : Rest Tok Mark → Read Tok Mark A) (f : A → Rest Tok Mark → Read Tok Mark B) (ts : Rest Tok Mark) (a : A) (us : Rest Tok Mark) → LocalRead run ts a us → (r : Read Tok Mark B) → LocalAt (f a) us r → LocalAt (λ vs. bind (run vs) f) ts r
+  second-local : (run : Rest Tok Mark → Read Tok Mark A) (f : A → Rest Tok Mark → Read Tok Mark B)
+      (ts : Rest Tok Mark) (a : A) (us : Rest Tok Mark) → LocalRead run ts a us
+      → (r : Read Tok Mark B) → LocalAt (f a) us r → LocalAt (λ vs. bind (run vs) f) ts r
   second-local run f ts a us l (read b rest) m = record {
     used = l.used ++ m.used;
     parts = l.parts ∙ ap (onto l.used) m.parts ∙ sym (onto-append l.used m.used rest);
-    again = λ other h. let e : run (onto l.used (onto m.used other)) ≡ read a (onto m.used other) = l.again (onto m.used other) (next-onto m.used rest other h ∙ ap next (sym m.parts)) in rw (onto-append l.used m.used other, e) (m.again other h);
+    again = λ other h. let e : run (onto l.used (onto m.used other))
+        ≡ read a (onto m.used other) =
+        l.again (onto m.used other) (next-onto m.used rest other h ∙ ap next (sym m.parts)) in
+        rw (onto-append l.used m.used other, e) (m.again other h);
   }
   second-local run f ts a us l (stuck rest) m = record {
     used = l.used ++ m.used;
     parts = l.parts ∙ ap (onto l.used) m.parts ∙ sym (onto-append l.used m.used rest);
-    again = λ other h. let e : run (onto l.used (onto m.used other)) ≡ read a (onto m.used other) = l.again (onto m.used other) (next-onto m.used rest other h ∙ ap next (sym m.parts)) in rw (onto-append l.used m.used other, e) (m.again other h);
+    again = λ other h. let e : run (onto l.used (onto m.used other))
+        ≡ read a (onto m.used other) =
+        l.again (onto m.used other) (next-onto m.used rest other h ∙ ap next (sym m.parts)) in
+        rw (onto-append l.used m.used other, e) (m.again other h);
   }
-  second-local run f ts a us l (wrong rest) m = (l.used ++ m.0, l.parts ∙ ap (onto l.used) m.1 ∙ sym (onto-append l.used m.0 rest))
+  second-local run f ts a us l (wrong rest) m =
+      (l.used ++ m.0, l.parts ∙ ap (onto l.used) m.1 ∙ sym (onto-append l.used m.0 rest))
   second-local run f ts a us l deep m = tt
 
-  pub bind-local : (run : Rest Tok Mark → Read Tok Mark A) (f : A → Rest Tok Mark → Read Tok Mark B) (ts : Rest Tok Mark) (r : Read Tok Mark A) → LocalAt run ts r → ((a : A) (us : Rest Tok Mark) → r ≡ read a us → LocalAt (f a) us (f a us)) → LocalAt (λ vs. bind (run vs) f) ts (bind r f)
+  pub bind-local : (run : Rest Tok Mark → Read Tok Mark A) (f : A → Rest Tok Mark → Read Tok Mark B)
+      (ts : Rest Tok Mark) (r : Read Tok Mark A) → LocalAt run ts r
+      → ((a : A) (us : Rest Tok Mark) → r ≡ read a us → LocalAt (f a) us (f a us))
+      → LocalAt (λ vs. bind (run vs) f) ts (bind r f)
   bind-local run f ts (read a us) l g = second-local run f ts a us l (f a us) (g a us refl)
-  bind-local run f ts (stuck rest) l g = record { used = l.used; parts = l.parts; again = λ other h. rw (l.again other h) refl }
+  bind-local run f ts (stuck rest) l g =
+      record { used = l.used; parts = l.parts; again = λ other h. rw (l.again other h) refl }
   bind-local run f ts (wrong rest) l g = l
   bind-local run f ts deep l g = tt
 
-module _ {Tok Mark Class A B : Type 0} {L : Lexicon Tok Mark Class} {R : List Tok → A → Type 0} {S : A → List Tok → B → Type 0} {s t : Shape Class} (p : Reader L R s) (f : (a : A) → Reader L (S a) t) where
+module _ {Tok Mark Class A B : Type 0} {L : Lexicon Tok Mark Class} {R : List Tok → A → Type 0}
+    {S : A → List Tok → B → Type 0} {s t : Shape Class} (p : Reader L R s)
+    (f : (a : A) → Reader L (S a) t) where
   abbrev pub run_then : Rest Tok Mark → Read Tok Mark B
   run_then ts = bind (p.run ts) (λ a us. (f a).run us)
 
   pub then-local : (ts : Rest Tok Mark) → LocalAt run_then ts (run_then ts)
-  then-local ts = bind-local p.run (λ a us. (f a).run us) ts (p.run ts) (p.local ts) (λ a us e. (f a).local us)
+  then-local ts = bind-local p.run (λ a us. (f a).run us) ts (p.run ts) (p.local ts)
+      (λ a us e. (f a).local us)
 
-  pub then-sound : (ts : Rest Tok Mark) (b : B) (rest : Rest Tok Mark) → run_then ts ≡ read b rest → Sound (Then R S) ts b rest
+  pub then-sound : (ts : Rest Tok Mark) (b : B) (rest : Rest Tok Mark) → run_then ts ≡ read b rest
+      → Sound (Then R S) ts b rest
   then-sound ts b rest e =
       let x = bind_read (p.run ts) (λ a us. (f a).run us) b rest e in
       let l = p.sound ts x.0 x.1 x.2 in
@@ -409,43 +523,85 @@ module _ {Tok Mark Class A B : Type 0} {L : Lexicon Tok Mark Class} {R : List To
       record {
         used = l.used ++ m.used;
         parts = l.parts ∙ ap (onto l.used) m.parts ∙ sym (onto-append l.used m.used rest);
-        holds = record { value = x.0; front = l.used; back = m.used; first = l.holds; second = m.holds; parts = refl };
+        holds = record {
+          value = x.0;
+          front = l.used;
+          back = m.used;
+          first = l.holds;
+          second =
+              m.holds;
+          parts = refl;
+        };
       }
 
   -- behind the first part the second begins, with what the first does not go on with
-  between : (then_shape L s t).fine ≡ true → (a : A) (back : List Tok) (b : B) (rest : Rest Tok Mark) → S a back b → starts L ((then_shape L s t).goes) rest ≡ false → starts L s.goes (onto back rest) ≡ false
+  between : (then_shape L s t).fine ≡ true
+      → (a : A) (back : List Tok) (b : B) (rest : Rest Tok Mark) → S a back b
+      → starts L ((then_shape L s t).goes) rest ≡ false → starts L s.goes (onto back rest) ≡ false
   between fine a back b rest h e =
-      begins-apart L t.firsts s.goes t.empty back rest (and_right _ _ fine) ((f a).begins back b h) (λ k.
-      let g : starts L (t.goes ++ s.goes) rest ≡ false = rw k at e in last-of L t.goes s.goes rest g)
+      begins-apart L t.firsts s.goes t.empty back rest (and_right _ _ fine) ((f a).begins back b h)
+      (λ k.
+      let g : starts L (t.goes ++ s.goes) rest ≡ false = rw k at e in
+      last-of L t.goes s.goes rest g)
 
-  pub then-complete : (then_shape L s t).fine ≡ true → (used : List Tok) (b : B) (rest : Rest Tok Mark) → Then R S used b → starts L ((then_shape L s t).goes) rest ≡ false → run_then (onto used rest) ≡ read b rest
+  pub then-complete : (then_shape L s t).fine ≡ true
+      → (used : List Tok) (b : B) (rest : Rest Tok Mark) → Then R S used b
+      → starts L ((then_shape L s t).goes) rest ≡ false → run_then (onto used rest) ≡ read b rest
   then-complete fine used b rest h e =
-      let one : p.run (onto h.front (onto h.back rest)) ≡ read h.value (onto h.back rest) = p.complete (and_left _ _ (and_left _ _ fine)) h.front h.value (onto h.back rest) h.first (between fine h.value h.back b rest h.second e) in
+      let one : p.run (onto h.front (onto h.back rest))
+      ≡ read h.value (onto h.back rest) =
+      p.complete (and_left _ _ (and_left _ _ fine)) h.front h.value (onto h.back rest) h.first
+      (between fine h.value h.back b rest h.second e) in
       let g : starts L t.goes rest ≡ false = first-of L t.goes (cond t.empty s.goes []) rest e in
-      rw (h.parts, onto-append h.front h.back rest, one) ((f h.value).complete (and_right _ _ (and_left _ _ fine)) h.back b rest h.second g)
+      rw (h.parts, onto-append h.front h.back rest, one)
+      ((f h.value).complete (and_right _ _ (and_left _ _ fine)) h.back b rest h.second g)
 
-  begins-both : (front back : List Tok) → Begins L s.firsts s.empty front → Begins L t.firsts t.empty back → Begins L ((then_shape L s t).firsts) ((then_shape L s t).empty) (front ++ back)
+  begins-both : (front back : List Tok) → Begins L s.firsts s.empty front
+      → Begins L t.firsts t.empty back
+      → Begins L ((then_shape L s t).firsts) ((then_shape L s t).empty) (front ++ back)
   begins-both [] [] h k = rw (h, k) refl
   begins-both [] (u ∷ us) h k = rw (h, seen_by-append L s.firsts t.firsts u) (or_true _ _ k)
-  begins-both (u ∷ us) back h k = rw (seen_by-append L s.firsts (cond s.empty t.firsts []) u, h) refl
+  begins-both (u ∷ us) back h k =
+      rw (seen_by-append L s.firsts (cond s.empty t.firsts []) u, h) refl
 
-  pub then-begins : (used : List Tok) (b : B) → Then R S used b → Begins L ((then_shape L s t).firsts) ((then_shape L s t).empty) used
-  then-begins used b h = rw h.parts (begins-both h.front h.back (p.begins h.front h.value h.first) ((f h.value).begins h.back b h.second))
+  pub then-begins : (used : List Tok) (b : B) → Then R S used b
+      → Begins L ((then_shape L s t).firsts) ((then_shape L s t).empty) used
+  then-begins used b h =
+      rw h.parts
+      (begins-both h.front h.back (p.begins h.front h.value h.first)
+      ((f h.value).begins h.back b h.second))
 
-  pub then-shallow : (then_shape L s t).nests ≡ false → (ts : Rest Tok Mark) → run_then ts ≡ deep → ⊥
-  then-shallow n ts e = bind_deep (p.run ts) (λ a us. (f a).run us) e (p.shallow (or_left _ _ n) ts) (λ a us h i. (f a).shallow (or_right _ _ n) us i)
+  pub then-shallow : (then_shape L s t).nests ≡ false → (ts : Rest Tok Mark) → run_then ts ≡ deep
+      → ⊥
+  then-shallow n ts e =
+      bind_deep (p.run ts) (λ a us. (f a).run us) e (p.shallow (or_left _ _ n) ts)
+      (λ a us h i. (f a).shallow (or_right _ _ n) us i)
 
 infixl 10 ◌>>=◌
-abbrev pub ◌>>=◌ : {Tok Mark Class A B : Type 0} {L : Lexicon Tok Mark Class} {R : List Tok → A → Type 0} {S : A → List Tok → B → Type 0} {s t : Shape Class} → Reader L R s → ((a : A) → Reader L (S a) t) → Reader L (Then R S) (then_shape L s t)
-p >>= f = record { run = run_then p f; local = then-local p f; sound = then-sound p f; complete = then-complete p f; begins = then-begins p f; shallow = then-shallow p f }
+abbrev pub ◌>>=◌ : {Tok Mark Class A B : Type 0} {L : Lexicon Tok Mark Class}
+    {R : List Tok → A → Type 0} {S : A → List Tok → B → Type 0} {s t : Shape Class} → Reader L R s
+    → ((a : A) → Reader L (S a) t) → Reader L (Then R S) (then_shape L s t)
+p >>= f =
+    record {
+      run = run_then p f;
+      local = then-local p f;
+      sound = then-sound p f;
+      complete =
+          then-complete p f;
+      begins = then-begins p f;
+      shallow = then-shallow p f;
+    }
 
 infixl 10 ◌>>◌
-abbrev pub ◌>>◌ : {Tok Mark Class A B : Type 0} {L : Lexicon Tok Mark Class} {R : List Tok → A → Type 0} {S : List Tok → B → Type 0} {s t : Shape Class} → Reader L R s → Reader L S t → Reader L (Then R (λ a. S)) (then_shape L s t)
+abbrev pub ◌>>◌ : {Tok Mark Class A B : Type 0} {L : Lexicon Tok Mark Class}
+    {R : List Tok → A → Type 0} {S : List Tok → B → Type 0} {s t : Shape Class} → Reader L R s
+    → Reader L S t → Reader L (Then R (λ a. S)) (then_shape L s t)
 p >> q = p >>= (λ a. q)
 
 -- ---- the next token chooses
 
-abbrev pub either_shape : {Tok Mark Class : Type 0} → Lexicon Tok Mark Class → Shape Class → Shape Class → Shape Class
+abbrev pub either_shape : {Tok Mark Class : Type 0} → Lexicon Tok Mark Class → Shape Class
+    → Shape Class → Shape Class
 either_shape L s t = record {
   firsts = s.firsts ++ t.firsts;
   empty = t.empty;
@@ -454,68 +610,112 @@ either_shape L s t = record {
   fine = s.fine && t.fine && not s.empty && all_apart L t.firsts s.firsts;
 }
 
-abbrev pub pick : {Tok Mark A : Type 0} → (Rest Tok Mark → Bool) → (Rest Tok Mark → Read Tok Mark A) → (Rest Tok Mark → Read Tok Mark A) → Rest Tok Mark → Read Tok Mark A
+abbrev pub pick : {Tok Mark A : Type 0} → (Rest Tok Mark → Bool) → (Rest Tok Mark → Read Tok Mark A)
+    → (Rest Tok Mark → Read Tok Mark A) → Rest Tok Mark → Read Tok Mark A
 pick test f g ts = cond (test ts) (f ts) (g ts)
 
-pub pick-local-at : {Tok Mark A : Type 0} (test : Rest Tok Mark → Bool) (law : (us vs : Rest Tok Mark) → next us ≡ next vs → test us ≡ test vs) (f g : Rest Tok Mark → Read Tok Mark A) (ts : Rest Tok Mark) (b : Bool) → test ts ≡ b → LocalAt f ts (f ts) → LocalAt g ts (g ts) → LocalAt (pick test f g) ts (cond b (f ts) (g ts))
-pick-local-at test law f g ts true e l m = local-same f (pick test f g) ts (f ts) (λ us h. rw (law us ts h, e) refl) l
-pick-local-at test law f g ts false e l m = local-same g (pick test f g) ts (g ts) (λ us h. rw (law us ts h, e) refl) m
+pub pick-local-at : {Tok Mark A : Type 0} (test : Rest Tok Mark → Bool)
+    (law : (us vs : Rest Tok Mark) → next us ≡ next vs → test us ≡ test vs)
+    (f g : Rest Tok Mark → Read Tok Mark A) (ts : Rest Tok Mark) (b : Bool) → test ts ≡ b
+    → LocalAt f ts (f ts) → LocalAt g ts (g ts) → LocalAt (pick test f g) ts (cond b (f ts) (g ts))
+pick-local-at test law f g ts true e l m =
+    local-same f (pick test f g) ts (f ts) (λ us h. rw (law us ts h, e) refl) l
+pick-local-at test law f g ts false e l m =
+    local-same g (pick test f g) ts (g ts) (λ us h. rw (law us ts h, e) refl) m
 
-module _ {Tok Mark Class A : Type 0} {L : Lexicon Tok Mark Class} {R S : List Tok → A → Type 0} {s t : Shape Class} (p : Reader L R s) (q : Reader L S t) where
+module _ {Tok Mark Class A : Type 0} {L : Lexicon Tok Mark Class} {R S : List Tok → A → Type 0}
+    {s t : Shape Class} (p : Reader L R s) (q : Reader L S t) where
   abbrev pub run_choose : Rest Tok Mark → Read Tok Mark A
   run_choose ts = pick (starts L s.firsts) p.run q.run ts
 
   pub choose-local : (ts : Rest Tok Mark) → LocalAt run_choose ts (run_choose ts)
-  choose-local ts = pick-local-at (starts L s.firsts) (λ us vs h. starts-next L s.firsts vs us h) p.run q.run ts (starts L s.firsts ts) refl (p.local ts) (q.local ts)
+  choose-local ts = pick-local-at (starts L s.firsts)
+      (λ us vs h. starts-next L s.firsts vs us h) p.run q.run ts (starts L s.firsts ts) refl
+      (p.local ts) (q.local ts)
 
-  choose-sound-at : (b : Bool) (ts : Rest Tok Mark) (a : A) (rest : Rest Tok Mark) → cond b (p.run ts) (q.run ts) ≡ read a rest → Sound (Either R S) ts a rest
-  choose-sound-at true ts a rest e = let l = p.sound ts a rest e in record { used = l.used; parts = l.parts; holds = inl l.holds }
-  choose-sound-at false ts a rest e = let l = q.sound ts a rest e in record { used = l.used; parts = l.parts; holds = inr l.holds }
+  choose-sound-at : (b : Bool) (ts : Rest Tok Mark) (a : A) (rest : Rest Tok Mark)
+      → cond b (p.run ts) (q.run ts) ≡ read a rest → Sound (Either R S) ts a rest
+  choose-sound-at true ts a rest e = let l = p.sound ts a rest e in
+      record { used = l.used; parts = l.parts; holds = inl l.holds }
+  choose-sound-at false ts a rest e = let l = q.sound ts a rest e in
+      record { used = l.used; parts = l.parts; holds = inr l.holds }
 
-  pub choose-sound : (ts : Rest Tok Mark) (a : A) (rest : Rest Tok Mark) → run_choose ts ≡ read a rest → Sound (Either R S) ts a rest
+  pub choose-sound : (ts : Rest Tok Mark) (a : A) (rest : Rest Tok Mark)
+      → run_choose ts ≡ read a rest → Sound (Either R S) ts a rest
   choose-sound ts a rest e = choose-sound-at (starts L s.firsts ts) ts a rest e
 
-  pub choose-complete : (either_shape L s t).fine ≡ true → (used : List Tok) (a : A) (rest : Rest Tok Mark) → Either R S used a → starts L (either_shape L s t).goes rest ≡ false → run_choose (onto used rest) ≡ read a rest
+  pub choose-complete : (either_shape L s t).fine ≡ true
+      → (used : List Tok) (a : A) (rest : Rest Tok Mark) → Either R S used a
+      → starts L (either_shape L s t).goes rest ≡ false → run_choose (onto used rest) ≡ read a rest
   choose-complete fine used a rest (inl h) e =
-      let no : starts L s.goes rest ≡ false = first-of L s.goes t.goes rest (first-of L (s.goes ++ t.goes) (cond t.empty s.firsts []) rest e) in
+      let no : starts L s.goes rest
+      ≡ false = first-of L s.goes t.goes rest
+      (first-of L (s.goes ++ t.goes) (cond t.empty s.firsts []) rest e) in
       let some : s.empty ≡ false = not_true _ (and_right _ _ (and_left _ _ fine)) in
-      rw (begins-starts L s.firsts s.empty used rest some (p.begins used a h)) (p.complete (and_left _ _ (and_left _ _ (and_left _ _ fine))) used a rest h no)
+      rw (begins-starts L s.firsts s.empty used rest some (p.begins used a h))
+      (p.complete (and_left _ _ (and_left _ _ (and_left _ _ fine))) used a rest h no)
   choose-complete fine used a rest (inr h) e =
-      let no : starts L s.firsts (onto used rest) ≡ false = begins-apart L t.firsts s.firsts t.empty used rest (and_right _ _ fine) (q.begins used a h) (λ k.
-      let g : starts L (s.goes ++ t.goes ++ s.firsts) rest ≡ false = rw k at e in last-of L (s.goes ++ t.goes) s.firsts rest g) in
-      let n : starts L t.goes rest ≡ false = last-of L s.goes t.goes rest (first-of L (s.goes ++ t.goes) (cond t.empty s.firsts []) rest e) in
+      let no : starts L s.firsts (onto used rest)
+      ≡ false = begins-apart L t.firsts s.firsts t.empty used rest (and_right _ _ fine)
+      (q.begins used a h) (λ k.
+      let g : starts L (s.goes ++ t.goes ++ s.firsts) rest ≡ false = rw k at e in
+      last-of L (s.goes ++ t.goes) s.firsts rest g) in
+      let n : starts L t.goes rest
+      ≡ false = last-of L s.goes t.goes rest
+      (first-of L (s.goes ++ t.goes) (cond t.empty s.firsts []) rest e) in
       rw no (q.complete (and_right _ _ (and_left _ _ (and_left _ _ fine))) used a rest h n)
 
-  begins-left : (used : List Tok) → s.empty ≡ false → Begins L s.firsts s.empty used → Begins L (s.firsts ++ t.firsts) t.empty used
+  begins-left : (used : List Tok) → s.empty ≡ false → Begins L s.firsts s.empty used
+      → Begins L (s.firsts ++ t.firsts) t.empty used
   begins-left [] n h = absurd cc
   begins-left (u ∷ us) n h = rw (seen_by-append L s.firsts t.firsts u, h) refl
 
-  begins-right : (used : List Tok) → Begins L t.firsts t.empty used → Begins L (s.firsts ++ t.firsts) t.empty used
+  begins-right : (used : List Tok) → Begins L t.firsts t.empty used
+      → Begins L (s.firsts ++ t.firsts) t.empty used
   begins-right [] h = h
   begins-right (u ∷ us) h = rw (seen_by-append L s.firsts t.firsts u) (or_true _ _ h)
 
-  pub choose-begins : s.empty ≡ false → (used : List Tok) (a : A) → Either R S used a → Begins L (s.firsts ++ t.firsts) t.empty used
+  pub choose-begins : s.empty ≡ false → (used : List Tok) (a : A) → Either R S used a
+      → Begins L (s.firsts ++ t.firsts) t.empty used
   choose-begins n used a (inl h) = begins-left used n (p.begins used a h)
   choose-begins n used a (inr h) = begins-right used (q.begins used a h)
 
-  choose-shallow-at : (either_shape L s t).nests ≡ false → (ts : Rest Tok Mark) (b : Bool) → cond b (p.run ts) (q.run ts) ≡ deep → ⊥
+  choose-shallow-at : (either_shape L s t).nests ≡ false → (ts : Rest Tok Mark) (b : Bool)
+      → cond b (p.run ts) (q.run ts) ≡ deep → ⊥
   choose-shallow-at n ts true e = p.shallow (or_left _ _ n) ts e
   choose-shallow-at n ts false e = q.shallow (or_right _ _ n) ts e
 
-  pub choose-shallow : (either_shape L s t).nests ≡ false → (ts : Rest Tok Mark) → run_choose ts ≡ deep → ⊥
+  pub choose-shallow : (either_shape L s t).nests ≡ false → (ts : Rest Tok Mark)
+      → run_choose ts ≡ deep → ⊥
   choose-shallow n ts e = choose-shallow-at n ts (starts L s.firsts ts) e
 
 -- the first part, which is not empty, where the next token begins it, and else the second
-abbrev pub choose : {Tok Mark Class A : Type 0} {L : Lexicon Tok Mark Class} {R S : List Tok → A → Type 0} {s t : Shape Class} (p : Reader L R s) → s.empty ≡ false → (q : Reader L S t) → Reader L (Either R S) (either_shape L s t)
-choose p some q = record { run = run_choose p q; local = choose-local p q; sound = choose-sound p q; complete = choose-complete p q; begins = choose-begins p q some; shallow = choose-shallow p q }
+abbrev pub choose : {Tok Mark Class A : Type 0} {L : Lexicon Tok Mark Class}
+    {R S : List Tok → A → Type 0} {s t : Shape Class} (p : Reader L R s) → s.empty ≡ false
+    → (q : Reader L S t) → Reader L (Either R S) (either_shape L s t)
+choose p some q =
+    record {
+      run = run_choose p q;
+      local = choose-local p q;
+      sound = choose-sound p q;
+      complete =
+          choose-complete p q;
+      begins = choose-begins p q some;
+      shallow = choose-shallow p q;
+    }
 
 -- ---- a shape written out
 
-abbrev pub covers : {Tok Mark Class : Type 0} → Lexicon Tok Mark Class → Shape Class → Shape Class → Bool
-covers L s t = (not s.nests || t.nests) && (s.fine && all_within L s.firsts t.firsts && (not s.empty || t.empty) && all_within L s.goes t.goes)
+abbrev pub covers : {Tok Mark Class : Type 0} → Lexicon Tok Mark Class → Shape Class → Shape Class
+    → Bool
+covers L s t = (not s.nests || t.nests)
+    && (s.fine && all_within L s.firsts t.firsts && (not s.empty || t.empty)
+    && all_within L s.goes t.goes)
 
-module _ {Tok Mark Class A : Type 0} {L : Lexicon Tok Mark Class} {R : List Tok → A → Type 0} {s : Shape Class} (t : Shape Class) (p : Reader L R s) (all_fits : covers L s t ≡ true) where
-  fits : (s.fine && all_within L s.firsts t.firsts && (not s.empty || t.empty) && all_within L s.goes t.goes) ≡ true
+module _ {Tok Mark Class A : Type 0} {L : Lexicon Tok Mark Class} {R : List Tok → A → Type 0}
+    {s : Shape Class} (t : Shape Class) (p : Reader L R s) (all_fits : covers L s t ≡ true) where
+  fits : (s.fine && all_within L s.firsts t.firsts && (not s.empty || t.empty)
+      && all_within L s.goes t.goes) ≡ true
   fits = and_right (not s.nests || t.nests) _ all_fits
 
   as-shallow-at : (a b : Bool) → (not a || b) ≡ true → b ≡ false → a ≡ false
@@ -525,8 +725,11 @@ module _ {Tok Mark Class A : Type 0} {L : Lexicon Tok Mark Class} {R : List Tok 
   pub as-shallow : t.nests ≡ false → (ts : Rest Tok Mark) → p.run ts ≡ deep → ⊥
   as-shallow n ts e = p.shallow (as-shallow-at s.nests t.nests (and_left _ _ all_fits) n) ts e
 
-  pub as-complete : (used : List Tok) (a : A) (rest : Rest Tok Mark) → R used a → starts L t.goes rest ≡ false → p.run (onto used rest) ≡ read a rest
-  as-complete used a rest h e = p.complete (and_left _ _ (and_left _ _ (and_left _ _ fits))) used a rest h (starts-within L s.goes t.goes rest (and_right _ _ fits) e)
+  pub as-complete : (used : List Tok) (a : A) (rest : Rest Tok Mark) → R used a
+      → starts L t.goes rest ≡ false → p.run (onto used rest) ≡ read a rest
+  as-complete used a rest h e =
+      p.complete (and_left _ _ (and_left _ _ (and_left _ _ fits))) used a rest h
+      (starts-within L s.goes t.goes rest (and_right _ _ fits) e)
 
   as-begins-at : (used : List Tok) → Begins L s.firsts s.empty used → Begins L t.firsts t.empty used
   as-begins-at [] h = go s.empty t.empty h (and_right _ _ (and_left _ _ fits))
@@ -534,14 +737,25 @@ module _ {Tok Mark Class A : Type 0} {L : Lexicon Tok Mark Class} {R : List Tok 
       go : (a b : Bool) → a ≡ true → (not a || b) ≡ true → b ≡ true
       go true b e h = h
       go false b e h = absurd cc
-  as-begins-at (u ∷ us) h = all_within-law L s.firsts t.firsts u (and_right _ _ (and_left _ _ (and_left _ _ fits))) h
+  as-begins-at (u ∷ us) h =
+      all_within-law L s.firsts t.firsts u (and_right _ _ (and_left _ _ (and_left _ _ fits))) h
 
   pub as-begins : (used : List Tok) (a : A) → R used a → Begins L t.firsts t.empty used
   as-begins used a h = as-begins-at used (p.begins used a h)
 
 -- the reader, with a shape that covers its own: with this its production is checked
-abbrev pub shaped : {Tok Mark Class A : Type 0} {L : Lexicon Tok Mark Class} {R : List Tok → A → Type 0} {s : Shape Class} (t : Shape Class) (p : Reader L R s) → covers L s t ≡ true → Reader L R t
-shaped t p fits = record { run = p.run; local = p.local; sound = p.sound; complete = λ f. as-complete t p fits; begins = as-begins t p fits; shallow = as-shallow t p fits }
+abbrev pub shaped : {Tok Mark Class A : Type 0} {L : Lexicon Tok Mark Class}
+    {R : List Tok → A → Type 0} {s : Shape Class} (t : Shape Class) (p : Reader L R s)
+    → covers L s t ≡ true → Reader L R t
+shaped t p fits =
+    record {
+      run = p.run;
+      local = p.local;
+      sound = p.sound;
+      complete = λ f. as-complete t p fits;
+      begins = as-begins t p fits;
+      shallow = as-shallow t p fits;
+    }
 
 -- ---- any number of such parts
 
@@ -549,18 +763,32 @@ shaped t p fits = record { run = p.run; local = p.local; sound = p.sound; comple
 abbrev pub with_first : {Tok Mark A : Type 0} → A → Read Tok Mark (List A) → Read Tok Mark (List A)
 with_first a r = bind r (λ others rest. read (a ∷ others) rest)
 
-abbrev pub many_shape : {Tok Mark Class : Type 0} → Lexicon Tok Mark Class → Shape Class → Shape Class
-many_shape L s = record { firsts = s.firsts; empty = true; goes = s.goes ++ s.firsts; nests = s.nests; fine = s.fine && all_apart L s.firsts s.goes }
+abbrev pub many_shape : {Tok Mark Class : Type 0} → Lexicon Tok Mark Class → Shape Class
+    → Shape Class
+many_shape L s =
+    record {
+      firsts = s.firsts;
+      empty = true;
+      goes = s.goes ++ s.firsts;
+      nests = s.nests;
+      fine =
+          s.fine && all_apart L s.firsts s.goes;
+    }
 
-pub bind-same : {Tok Mark A B : Type 0} (r : Read Tok Mark A) (f g : A → Rest Tok Mark → Read Tok Mark B) → ((a : A) (us : Rest Tok Mark) → r ≡ read a us → f a us ≡ g a us) → bind r f ≡ bind r g
+pub bind-same : {Tok Mark A B : Type 0} (r : Read Tok Mark A)
+    (f g : A → Rest Tok Mark → Read Tok Mark B)
+    → ((a : A) (us : Rest Tok Mark) → r ≡ read a us → f a us ≡ g a us) → bind r f ≡ bind r g
 bind-same (read a us) f g h = h a us refl
 bind-same (stuck rest) f g h = refl
 bind-same (wrong m) f g h = refl
 bind-same deep f g h = refl
 
-module _ {Tok Mark Class A : Type 0} {L : Lexicon Tok Mark Class} {R : List Tok → A → Type 0} {s : Shape Class} (item : Reader L R s) where
-  abbrev pub step : (Rest Tok Mark → Read Tok Mark (List A)) → Rest Tok Mark → Read Tok Mark (List A)
-  step rec ts = pick (starts L s.firsts) (λ us. bind (item.run us) (λ a vs. with_first a (rec vs))) (λ us. read [] us) ts
+module _ {Tok Mark Class A : Type 0} {L : Lexicon Tok Mark Class} {R : List Tok → A → Type 0}
+    {s : Shape Class} (item : Reader L R s) where
+  abbrev pub step : (Rest Tok Mark → Read Tok Mark (List A)) → Rest Tok Mark
+      → Read Tok Mark (List A)
+  step rec ts = pick (starts L s.firsts) (λ us. bind (item.run us) (λ a vs. with_first a (rec vs)))
+      (λ us. read [] us) ts
 
   abbrev pub fueled : ℕ → Rest Tok Mark → Read Tok Mark (List A)
   fueled zero ts = read [] ts
@@ -570,7 +798,8 @@ module _ {Tok Mark Class A : Type 0} {L : Lexicon Tok Mark Class} {R : List Tok 
   run_many ts = fueled (suc (size ts)) ts
 
   module _ (some : s.empty ≡ false) where
-    begins-size : (used : List Tok) (rest : Rest Tok Mark) → Begins L s.firsts s.empty used → size rest < size (onto used rest)
+    begins-size : (used : List Tok) (rest : Rest Tok Mark) → Begins L s.firsts s.empty used
+        → size rest < size (onto used rest)
     begins-size [] rest h = absurd cc
     begins-size (t ∷ []) rest h = omega arith
     begins-size (t ∷ u ∷ us) rest h = omega (arith, longer us)
@@ -579,91 +808,153 @@ module _ {Tok Mark Class A : Type 0} {L : Lexicon Tok Mark Class} {R : List Tok 
         longer [] = omega arith
         longer (v ∷ vs) = omega (arith, longer vs)
 
-    pub shorter : (ts : Rest Tok Mark) (a : A) (rest : Rest Tok Mark) → item.run ts ≡ read a rest → size rest < size ts
-    shorter ts a rest e = let l = item.sound ts a rest e in rw l.parts (begins-size l.used rest (item.begins l.used a l.holds))
+    pub shorter : (ts : Rest Tok Mark) (a : A) (rest : Rest Tok Mark) → item.run ts ≡ read a rest
+        → size rest < size ts
+    shorter ts a rest e = let l = item.sound ts a rest e in
+        rw l.parts (begins-size l.used rest (item.begins l.used a l.holds))
 
     enough : (k j : ℕ) (ts : Rest Tok Mark) → size ts < k → size ts < j → fueled k ts ≡ fueled j ts
     enough zero j ts h i = absurd (omega (arith, h))
     enough (suc k) zero ts h i = absurd (omega (arith, i))
     enough (suc k) (suc j) ts h i =
-        ap (λ (r : Read Tok Mark (List A)). cond (starts L s.firsts ts) r (read [] ts)) (bind-same (item.run ts) (λ a vs. with_first a (fueled k vs)) (λ a vs. with_first a (fueled j vs)) (λ a us e.
-        let l = shorter ts a us e in ap (with_first a) (enough k j us (omega (arith, l, h)) (omega (arith, l, i)))))
+        ap (λ (r : Read Tok Mark (List A)). cond (starts L s.firsts ts) r (read [] ts))
+        (bind-same (item.run ts) (λ a vs. with_first a (fueled k vs))
+        (λ a vs. with_first a (fueled j vs)) (λ a us e.
+        let l = shorter ts a us e in
+        ap (with_first a) (enough k j us (omega (arith, l, h)) (omega (arith, l, i)))))
 
     pub many-law : (ts : Rest Tok Mark) → run_many ts ≡ step run_many ts
     unfolding run_many
     many-law ts =
-        ap (λ (r : Read Tok Mark (List A)). cond (starts L s.firsts ts) r (read [] ts)) (bind-same (item.run ts) (λ a vs. with_first a (fueled (size ts) vs)) (λ a vs. with_first a (run_many vs)) (λ a us e.
-        let l = shorter ts a us e in ap (with_first a) (enough (size ts) (suc (size us)) us l (omega arith))))
+        ap (λ (r : Read Tok Mark (List A)). cond (starts L s.firsts ts) r (read [] ts))
+        (bind-same (item.run ts) (λ a vs. with_first a (fueled (size ts) vs))
+        (λ a vs. with_first a (run_many vs)) (λ a us e.
+        let l = shorter ts a us e in
+        ap (with_first a) (enough (size ts) (suc (size us)) us l (omega arith))))
 
     many-local-at : (k : ℕ) (ts : Rest Tok Mark) → size ts < k → LocalAt run_many ts (run_many ts)
     many-local-at zero ts h = absurd (omega (arith, h))
     many-local-at (suc k) ts h =
-        let F : Rest Tok Mark → Read Tok Mark (List A) = λ us. bind (item.run us) (λ a vs. with_first a (run_many vs)) in
-        let f : LocalAt F ts (F ts) = bind-local item.run (λ a vs. with_first a (run_many vs)) ts (item.run ts) (item.local ts) (λ a us e.
-        let l = shorter ts a us e in bind-local run_many (λ others ws. read (a ∷ others) ws) us (run_many us) (many-local-at k us (omega (arith, l, h))) (λ others ws i. record { used = []; parts = refl; again = λ other j. refl })) in
-        let g : LocalAt (step run_many) ts (step run_many ts) = pick-local-at (starts L s.firsts) (λ us vs h. starts-next L s.firsts vs us h) F (λ us. read [] us) ts (starts L s.firsts ts) refl f (record { used = []; parts = refl; again = λ other j. refl }) in
-        let m : LocalAt run_many ts (step run_many ts) = local-same (step run_many) run_many ts (step run_many ts) (λ us i. many-law us) g in
+        let F : Rest Tok Mark → Read Tok Mark (List A) = λ us.
+        bind (item.run us) (λ a vs. with_first a (run_many vs)) in
+        let f : LocalAt F ts (F ts) = bind-local item.run (λ a vs. with_first a (run_many vs)) ts
+        (item.run ts) (item.local ts) (λ a us e.
+        let l = shorter ts a us e in
+        bind-local run_many (λ others ws. read (a ∷ others) ws) us (run_many us)
+        (many-local-at k us (omega (arith, l, h)))
+        (λ others ws i. record { used = []; parts = refl; again = λ other j. refl })) in
+        let g : LocalAt (step run_many) ts (step run_many ts) =
+        pick-local-at (starts L s.firsts) (λ us vs h. starts-next L s.firsts vs us h) F
+        (λ us. read [] us) ts (starts L s.firsts ts) refl f
+        (record { used = []; parts = refl; again = λ other j. refl }) in
+        let m : LocalAt run_many ts (step run_many ts) =
+        local-same (step run_many) run_many ts (step run_many ts) (λ us i. many-law us) g in
         subst (LocalAt run_many ts) (sym (many-law ts)) m
 
     pub many-local : (ts : Rest Tok Mark) → LocalAt run_many ts (run_many ts)
     many-local ts = many-local-at (suc (size ts)) ts (omega arith)
 
-    fueled-sound : (k : ℕ) (ts : Rest Tok Mark) (items : List A) (rest : Rest Tok Mark) → fueled k ts ≡ read items rest → Sound (Many R) ts items rest
-    fueled-sound zero ts items rest e = let p = read_parts [] items ts rest e in rw (← p.0) (record { used = []; parts = p.1; holds = none })
+    fueled-sound : (k : ℕ) (ts : Rest Tok Mark) (items : List A) (rest : Rest Tok Mark)
+        → fueled k ts ≡ read items rest → Sound (Many R) ts items rest
+    fueled-sound zero ts items rest e = let p = read_parts [] items ts rest e in
+        rw (← p.0) (record { used = []; parts = p.1; holds = none })
     fueled-sound (suc k) ts items rest e = go (fueled-sound k) (starts L s.firsts ts) e
       where
-        go : ((us : Rest Tok Mark) (bs : List A) (vs : Rest Tok Mark) → fueled k us ≡ read bs vs → Sound (Many R) us bs vs) → (b : Bool) → cond b (bind (item.run ts) (λ a vs. with_first a (fueled k vs))) (read [] ts) ≡ read items rest → Sound (Many R) ts items rest
-        go ih false e = let p = read_parts [] items ts rest e in rw (← p.0) (record { used = []; parts = p.1; holds = none })
+        go : ((us : Rest Tok Mark) (bs : List A) (vs : Rest Tok Mark) → fueled k us ≡ read bs vs
+            → Sound (Many R) us bs vs) → (b : Bool)
+            → cond b (bind (item.run ts) (λ a vs. with_first a (fueled k vs))) (read [] ts)
+            ≡ read items rest → Sound (Many R) ts items rest
+        go ih false e = let p = read_parts [] items ts rest e in
+            rw (← p.0) (record { used = []; parts = p.1; holds = none })
         go ih true e =
             let x = bind_read (item.run ts) (λ a vs. with_first a (fueled k vs)) items rest e in
             let y = bind_read (fueled k x.1) (λ bs ws. read (x.0 ∷ bs) ws) items rest x.3 in
             let p = read_parts (x.0 ∷ y.0) items y.1 rest y.3 in
             let l = item.sound ts x.0 x.1 x.2 in
             let m = ih x.1 y.0 y.1 y.2 in
-            let parts : ts ≡ onto (l.used ++ m.used) y.1 = l.parts ∙ ap (onto l.used) m.parts ∙ sym (onto-append l.used m.used y.1) in
-            record { used = l.used ++ m.used; parts = parts ∙ ap (onto (l.used ++ m.used)) p.1; holds = subst (Many R (l.used ++ m.used)) p.0 (more l.holds m.holds) }
+            let parts : ts ≡ onto (l.used ++ m.used) y.1 = l.parts ∙ ap (onto l.used) m.parts
+            ∙ sym (onto-append l.used m.used y.1) in
+            record {
+              used = l.used ++ m.used;
+              parts = parts
+                  ∙ ap (onto (l.used ++ m.used)) p.1;
+              holds =
+                  subst (Many R (l.used ++ m.used)) p.0 (more l.holds m.holds);
+            }
 
-    pub many-sound : (ts : Rest Tok Mark) (items : List A) (rest : Rest Tok Mark) → run_many ts ≡ read items rest → Sound (Many R) ts items rest
+    pub many-sound : (ts : Rest Tok Mark) (items : List A) (rest : Rest Tok Mark)
+        → run_many ts ≡ read items rest → Sound (Many R) ts items rest
     unfolding run_many
     many-sound ts items rest e = fueled-sound (suc (size ts)) ts items rest e
 
     -- what comes behind an item does not go on with it
-    behind : (many_shape L s).fine ≡ true → (used : List Tok) (items : List A) (rest : Rest Tok Mark) → Many R used items → starts L (many_shape L s).goes rest ≡ false → starts L s.goes (onto used rest) ≡ false
+    behind : (many_shape L s).fine ≡ true
+        → (used : List Tok) (items : List A) (rest : Rest Tok Mark) → Many R used items
+        → starts L (many_shape L s).goes rest ≡ false → starts L s.goes (onto used rest) ≡ false
     behind fine used items rest none e = first-of L s.goes s.firsts rest e
-    behind fine used items rest (more {ts = ts} {us = us} {a = a} h m) e = go ts (item.begins ts a h)
+    behind fine used items rest (more {ts = ts} {us = us} {a = a} h m) e =
+        go ts (item.begins ts a h)
       where
-        go : (ts : List Tok) → Begins L s.firsts s.empty ts → starts L s.goes (onto (ts ++ us) rest) ≡ false
+        go : (ts : List Tok) → Begins L s.firsts s.empty ts
+            → starts L s.goes (onto (ts ++ us) rest) ≡ false
         go [] b = absurd cc
-        go (v ∷ vs) b = starts-onto L s.goes v (onto (vs ++ us) rest) ∙ all_apart-law L s.firsts s.goes v (and_right _ _ fine) b
+        go (v ∷ vs) b = starts-onto L s.goes v (onto (vs ++ us) rest)
+            ∙ all_apart-law L s.firsts s.goes v (and_right _ _ fine) b
 
-    pub many-complete : (many_shape L s).fine ≡ true → (used : List Tok) (items : List A) (rest : Rest Tok Mark) → Many R used items → starts L (many_shape L s).goes rest ≡ false → run_many (onto used rest) ≡ read items rest
-    many-complete fine used items rest none e = let n : starts L s.firsts rest ≡ false = last-of L s.goes s.firsts rest e in rw (many-law rest, n) refl
+    pub many-complete : (many_shape L s).fine ≡ true
+        → (used : List Tok) (items : List A) (rest : Rest Tok Mark) → Many R used items
+        → starts L (many_shape L s).goes rest ≡ false → run_many (onto used rest) ≡ read items rest
+    many-complete fine used items rest none e =
+        let n : starts L s.firsts rest ≡ false = last-of L s.goes s.firsts rest e in
+        rw (many-law rest, n) refl
     many-complete fine used items rest (more {ts = ts} {us = us} {a = a} {as' = bs} h m) e =
         let i : run_many (onto us rest) ≡ read bs rest = many-complete fine us bs rest m e in
-        let j : item.run (onto ts (onto us rest)) ≡ read a (onto us rest) = item.complete (and_left _ _ fine) ts a (onto us rest) h (behind fine us bs rest m e) in
-        let t : starts L s.firsts (onto ts (onto us rest)) ≡ true = begins-starts L s.firsts s.empty ts (onto us rest) some (item.begins ts a h) in
+        let j : item.run (onto ts (onto us rest))
+        ≡ read a (onto us rest) =
+        item.complete (and_left _ _ fine) ts a (onto us rest) h (behind fine us bs rest m e) in
+        let t : starts L s.firsts (onto ts (onto us rest))
+        ≡ true = begins-starts L s.firsts s.empty ts (onto us rest) some (item.begins ts a h) in
         ap run_many (onto-append ts us rest) ∙ many-law (onto ts (onto us rest)) ∙ rw (t, j, i) refl
 
     many-shallow-at : s.nests ≡ false → (k : ℕ) (ts : Rest Tok Mark) → fueled k ts ≡ deep → ⊥
     many-shallow-at n zero ts e = cc
     many-shallow-at n (suc k) ts e = go (starts L s.firsts ts) e (many-shallow-at n k)
       where
-        go : (b : Bool) → cond b (bind (item.run ts) (λ a vs. with_first a (fueled k vs))) (read [] ts) ≡ deep → ((us : Rest Tok Mark) → fueled k us ≡ deep → ⊥) → ⊥
+        go : (b : Bool)
+            → cond b (bind (item.run ts) (λ a vs. with_first a (fueled k vs))) (read [] ts) ≡ deep
+            → ((us : Rest Tok Mark) → fueled k us ≡ deep → ⊥) → ⊥
         go false e ih = cc
-        go true e ih = bind_deep (item.run ts) (λ a vs. with_first a (fueled k vs)) e (item.shallow n ts) (λ a us h i. bind_deep (fueled k us) (λ others ws. read (a ∷ others) ws) i (ih us) (λ others ws j l. give-shallow (a ∷ others) ws l))
+        go true e ih = bind_deep (item.run ts) (λ a vs. with_first a (fueled k vs)) e
+            (item.shallow n ts)
+            (λ a us h i. bind_deep (fueled k us) (λ others ws. read (a ∷ others) ws) i (ih us)
+            (λ others ws j l. give-shallow (a ∷ others) ws l))
 
     pub many-shallow : s.nests ≡ false → (ts : Rest Tok Mark) → run_many ts ≡ deep → ⊥
     unfolding run_many
     many-shallow n ts e = many-shallow-at n (suc (size ts)) ts e
 
-    many-begins-at : (ts us : List Tok) → Begins L s.firsts s.empty ts → Begins L s.firsts true (ts ++ us)
+    many-begins-at : (ts us : List Tok) → Begins L s.firsts s.empty ts
+        → Begins L s.firsts true (ts ++ us)
     many-begins-at [] us b = absurd cc
     many-begins-at (v ∷ vs) us b = b
 
-    pub many-begins : (used : List Tok) (items : List A) → Many R used items → Begins L s.firsts true used
+    pub many-begins : (used : List Tok) (items : List A) → Many R used items
+        → Begins L s.firsts true used
     many-begins used items none = refl
-    many-begins used items (more {ts = ts} {us = us} {a = a} h m) = many-begins-at ts us (item.begins ts a h)
+    many-begins used items (more {ts = ts} {us = us} {a = a} h m) =
+        many-begins-at ts us (item.begins ts a h)
 
 -- such parts, which are not empty, as long as the next token begins one
-abbrev pub many : {Tok Mark Class A : Type 0} {L : Lexicon Tok Mark Class} {R : List Tok → A → Type 0} {s : Shape Class} (item : Reader L R s) → s.empty ≡ false → Reader L (Many R) (many_shape L s)
-many item some = record { run = run_many item; local = many-local item some; sound = many-sound item some; complete = many-complete item some; begins = many-begins item some; shallow = many-shallow item some }
+abbrev pub many : {Tok Mark Class A : Type 0} {L : Lexicon Tok Mark Class}
+    {R : List Tok → A → Type 0} {s : Shape Class} (item : Reader L R s) → s.empty ≡ false
+    → Reader L (Many R) (many_shape L s)
+many item some =
+    record {
+      run = run_many item;
+      local = many-local item some;
+      sound = many-sound item some;
+      complete = many-complete item some;
+      begins = many-begins item some;
+      shallow =
+          many-shallow item some;
+    }

@@ -1,6 +1,8 @@
--- Relations between a list of tokens and what it says, and how they are joined. A grammar is written with
--- them as do-blocks, a line of which is a part of the production: what stands first, and then the rest.
-use Rattle.std.specs.Prelude.{◌≡◌, ℕ, zero, suc, List, [], ◌∷◌, ◌++◌, Option, Some, None, Bool, true, false, ◌⊎◌}
+-- Relations between a list of tokens and what it says, and how they are joined. A grammar is
+-- written with them as do-blocks, a line of which is a part of the production: what stands first,
+-- and then the rest.
+use Rattle.std.specs.Prelude.{◌≡◌, ℕ, zero, suc, List, [], ◌∷◌, ◌++◌, Option, Some, None, Bool}
+use Rattle.std.specs.Prelude.{true, false, ◌⊎◌}
 
 abbrev pub Rel : Type 0 → Type 0 → Type 1
 Rel Tok A = List Tok → A → Type 0
@@ -21,8 +23,10 @@ Never ts a = ⊥
 abbrev pub One : {Tok A : Type 0} → (Tok → Option A) → Rel Tok A
 One {Tok = Tok} says ts a = (t : Tok) × (ts ≡ t ∷ []) × (says t ≡ Some a)
 
--- tokens of the first relation and then tokens of the second, which may depend on what the first say
-pub record Then {Tok A B : Type 0} (R : List Tok → A → Type 0) (S : A → List Tok → B → Type 0) (ts : List Tok) (b : B) : Type 0 where
+-- tokens of the first relation and then tokens of the second, which may depend on what the first
+-- say
+pub record Then {Tok A B : Type 0} (R : List Tok → A → Type 0) (S : A → List Tok → B → Type 0)
+    (ts : List Tok) (b : B) : Type 0 where
   pub value : A
   pub front : List Tok
   pub back : List Tok
@@ -48,7 +52,8 @@ Optional R = Either (do a ← R; Nothing (Some a)) (Nothing None)
 -- any number of such parts, one after the other
 pub data Many {Tok A : Type 0} (R : List Tok → A → Type 0) : List Tok → List A → Type 0 where
   none : Many R [] []
-  more : {ts us : List Tok} {a : A} {as' : List A} → R ts a → Many R us as' → Many R (ts ++ us) (a ∷ as')
+  more : {ts us : List Tok} {a : A} {as' : List A} → R ts a → Many R us as'
+      → Many R (ts ++ us) (a ∷ as')
 
 -- one or more such parts
 abbrev pub OneOrMore : {Tok A : Type 0} → Rel Tok A → Rel Tok (List A)
@@ -80,7 +85,8 @@ abbrev pub At : {Tok Mark A : Type 0} → (Tok → Mark) → (Mark → Rel Tok A
 At mark R [] a = ⊥
 At mark R (t ∷ ts) a = R (mark t) (t ∷ ts) a
 
--- A part that contains itself, at most so many levels deep. What stands in it may nest too, a level less deep.
+-- A part that contains itself, at most so many levels deep. What stands in it may nest too, a level
+-- less deep.
 unfoldable pub Level : {Tok A : Type 0} → (ℕ → Rel Tok A → Rel Tok A) → ℕ → Rel Tok A
 Level F zero = Never
 Level F (suc n) = F n (Level F n)

@@ -1,9 +1,11 @@
 //! Spellings of names, and bytes as the inside of a string literal.
-ghost use Rattle.std.specs.Prelude.{◌≡◌, ◌==◌, ◌&&◌, ◌<◌, ◌+◌, [], ◌∷◌, ◌++◌, false, IfOk, OnOk, encode_utf8_all, if◌then◌else◌};
+ghost use Rattle.std.specs.Prelude.{◌≡◌, ◌==◌, ◌&&◌, ◌<◌, ◌+◌, [], ◌∷◌, ◌++◌, false, IfOk, OnOk};
+ghost use Rattle.std.specs.Prelude.{encode_utf8_all, if◌then◌else◌};
 ghost use Rattle.std.specs.Char.{is_ascii_uppercase, to_ascii_lowercase, to_ascii_uppercase};
 ghost use Rattle.std.specs.String.{string_bytes};
 ghost use Rattle.std.specs.Str.{chars};
-ghost use Rattle.protobuf_parse_base.specs.Cases.{camel_case_text, json_name_text, snake_case_text, joined_words, has_underscore};
+ghost use Rattle.protobuf_parse_base.specs.Cases.{camel_case_text, json_name_text, snake_case_text};
+ghost use Rattle.protobuf_parse_base.specs.Cases.{joined_words, has_underscore};
 ghost use Rattle.protobuf_parse_base.specs.Escapes.{escaped_byte, escaped_bytes, said_bytes};
 
 use std::alloc::{AllocError, Global};
@@ -13,8 +15,10 @@ use unicode::properties::is_lowercase;
 /// followed an underscore in ASCII upper case. The one error is that memory is short.
 pub fn camel_case(alloc: Global, name: &str) -> Result<String, AllocError>
     ensures text { IfOk result (λ camel. string_bytes camel ≡ camel_case_text name.now) }
-    ensures no_underscore { IfOk result (λ camel. has_underscore (chars (string_bytes camel)) ≡ false) }
-    ensures idempotent { IfOk result (λ camel. camel_case_text (string_bytes camel) ≡ string_bytes camel) }
+    ensures no_underscore { IfOk result
+        (λ camel. has_underscore (chars (string_bytes camel)) ≡ false) }
+    ensures idempotent { IfOk result
+        (λ camel. camel_case_text (string_bytes camel) ≡ string_bytes camel) }
 {
     join_words(alloc, name, true)
 }
@@ -32,7 +36,8 @@ pub fn json_name(alloc: Global, name: &str) -> Result<String, AllocError>
 /// The name without underscores, each character that directly followed one in ASCII upper case, and
 /// the first that remains too if `raise` is set.
 fn join_words(alloc: Global, name: &str, raise: bool) -> Result<String, AllocError>
-    ensures { IfOk result (λ joined. string_bytes joined ≡ encode_utf8_all (joined_words raise (chars name.now))) }
+    ensures { IfOk result
+        (λ joined. string_bytes joined ≡ encode_utf8_all (joined_words raise (chars name.now))) }
 {
     let mut joined = String::with_capacity(alloc, name.len())?;
     let mut raise_next = raise;
@@ -63,7 +68,8 @@ fn raised(character: char, raise: bool) -> char
 /// memory is short.
 pub fn snake_case(alloc: Global, name: &str) -> Result<String, AllocError>
     ensures text { IfOk result (λ snake. string_bytes snake ≡ snake_case_text name.now) }
-    ensures idempotent { IfOk result (λ snake. snake_case_text (string_bytes snake) ≡ string_bytes snake) }
+    ensures idempotent { IfOk result
+        (λ snake. snake_case_text (string_bytes snake) ≡ string_bytes snake) }
 {
     let mut split = String::with_capacity(alloc, name.len())?;
     let mut after_lower = false;
@@ -78,7 +84,8 @@ pub fn snake_case(alloc: Global, name: &str) -> Result<String, AllocError>
 /// character with the property Lowercase.
 fn push_lowered(split: &mut String, after_lower: bool, character: char) -> Result<(), AllocError>
     ensures { OnOk result (string_bytes split.new ≡ string_bytes split.old ++ encode_utf8_all
-        ((if after_lower && is_ascii_uppercase character then 95 ∷ [] else []) ++ to_ascii_lowercase character ∷ [])) }
+        ((if after_lower && is_ascii_uppercase character then 95 ∷ [] else [])
+        ++ to_ascii_lowercase character ∷ [])) }
 {
     if after_lower && character.is_ascii_uppercase() {
         split.push('_')?;
@@ -102,7 +109,8 @@ pub fn escape_bytes(alloc: Global, bytes: &[u8]) -> Result<String, AllocError>
 
 /// Adds one byte of a string literal's inside.
 fn escape_byte(escaped: &mut String, byte: u8) -> Result<(), AllocError>
-    ensures { OnOk result (string_bytes escaped.new ≡ string_bytes escaped.old ++ escaped_byte byte) }
+    ensures { OnOk result
+        (string_bytes escaped.new ≡ string_bytes escaped.old ++ escaped_byte byte) }
 {
     match byte {
         b'\n' => escaped.push_str("\\n"),

@@ -11,8 +11,8 @@ use std::fmt;
 /// How many files a file imports, if so many stand far enough before it.
 const IMPORTS: u64 = 5;
 
-/// Files with the numbers below `files`. Each imports some that stand about a quarter of all before it, and
-/// uses their types.
+/// Files with the numbers below `files`. Each imports some that stand about a quarter of all before
+/// it, and uses their types.
 #[derive(Clone, Copy)]
 struct Graph {
     files: u64,

@@ -1,7 +1,7 @@
-//! Lexes and parses the file that its argument names, and prints how many tokens and statements it has and
-//! how long both took; or, with `--files N`, loads N files that import each other, and prints how often files
-//! were met and how long it took. With no argument it takes a small text and 2,000 files, and leaves out the
-//! times.
+//! Lexes and parses the file that its argument names, and prints how many tokens and statements it
+//! has and how long both took; or, with `--files N`, loads N files that import each other, and
+//! prints how often files were met and how long it took. With no argument it takes a small text and
+//! 2,000 files, and leaves out the times.
 #![tactic(auto)]
 
 mod graph;

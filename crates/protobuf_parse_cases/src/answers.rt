@@ -83,7 +83,8 @@ fn answer_by_memory(alloc: Global, verb: &str, text: &str) -> Option<Result<Stri
     })
 }
 
-/// Answers files of cases too, by what is printed for them and the status that the program ends with.
+/// Answers files of cases too, by what is printed for them and the status that the program ends
+/// with.
 #[derive(Clone, Copy)]
 pub struct Nested;
 

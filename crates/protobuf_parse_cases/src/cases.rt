@@ -168,8 +168,8 @@ fn add_want(alloc: Global, case: &mut Case, section: &Part<'_>) -> Result<()> {
     Ok(())
 }
 
-/// Adds the file whose path is the section's head, or where that has `«a..b»` one for each number from a to
-/// b.
+/// Adds the file whose path is the section's head, or where that has `«a..b»` one for each number
+/// from a to b.
 fn add_files(alloc: Global, case: &mut Case, section: &Part<'_>) -> Result<()> {
     let text = joined(alloc, &section.lines)?;
     let Some((front, rest)) = section.head.split_once('«') else {

@@ -1,5 +1,5 @@
-//! The files of a case as a run meets them: by a resolver, by a reader, and as files that come with the
-//! library; and answers that are given in turn.
+//! The files of a case as a run meets them: by a resolver, by a reader, and as files that come with
+//! the library; and answers that are given in turn.
 
 use crate::cases::CaseFile;
 use protobuf_parse::{
@@ -58,8 +58,8 @@ impl<'a> InputReader for Files<'a> {
     }
 }
 
-/// A resolver and a reader that give these answers in turn, whatever is asked, and then have no file. An
-/// answer is `none`, the word of a fault, or a content.
+/// A resolver and a reader that give these answers in turn, whatever is asked, and then have no
+/// file. An answer is `none`, the word of a fault, or a content.
 #[derive(Drop)]
 pub struct InTurn<'a> {
     pub answers: &'a [&'a str],

@@ -1,5 +1,5 @@
-//! Runs the cases of the files `*.cases` in the folder that it stands in, and prints each one whose answer
-//! is not the one that is wanted, and for each file how many are: docs/testing.md.
+//! Runs the cases of the files `*.cases` in the folder that it stands in, and prints each one whose
+//! answer is not the one that is wanted, and for each file how many are: docs/testing.md.
 #![tactic(auto)]
 
 mod answers;

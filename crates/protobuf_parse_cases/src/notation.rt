@@ -3,9 +3,9 @@
 use anyhow::{Context, Result, bail};
 use std::alloc::{AllocError, Global};
 
-/// The bytes that a text of a file of cases stands for: itself, but for the marks in it. `«c3a9»` stands for
-/// the bytes of these hexadecimal digits, `«3*ab»` for a text so many times, and in a file with a number
-/// `«n»` for that number and `«n+1»` for the next one.
+/// The bytes that a text of a file of cases stands for: itself, but for the marks in it. `«c3a9»`
+/// stands for the bytes of these hexadecimal digits, `«3*ab»` for a text so many times, and in a
+/// file with a number `«n»` for that number and `«n+1»` for the next one.
 pub fn bytes_of(alloc: Global, text: &str, number: Option<u64>) -> Result<Vec<u8>> {
     let (first, rest) = text.split_once('«').unwrap_or((text, ""));
     let mut bytes = Vec::from_slice(alloc, first.as_bytes())?;

@@ -19,8 +19,8 @@ pub trait Answers {
     fn answer(&self, alloc: Global, case: &Case, row: &Row) -> Result<Vec<u8>>;
 }
 
-/// The rows of the file whose answer is another than the one that is wanted, and how many are as they should
-/// be.
+/// The rows of the file whose answer is another than the one that is wanted, and how many are as
+/// they should be.
 pub fn report_of<A: Answers>(
     alloc: Global,
     name: &str,

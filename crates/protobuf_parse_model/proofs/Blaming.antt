@@ -1,5 +1,6 @@
 -- What tells a fault of a part tells one of the whole.
-use Rattle.std.proofs.Common.{◌≡◌, ℕ, zero, suc, ◌<◌, List, [], ◌∷◌, ◌++◌, map, flat_map, length, Bool, true, cond, arith}
+use Rattle.std.proofs.Common.{◌≡◌, ℕ, zero, suc, ◌<◌, List, [], ◌∷◌, ◌++◌, map, flat_map, length}
+use Rattle.std.proofs.Common.{Bool, true, cond, arith}
 use Rattle.std.specs.Prelude.{slice_index_or}
 use Rattle.protobuf_parse_model.specs.declared.error.ElabFailure.{ElabFailure}
 use Rattle.protobuf_parse_model.specs.declared.error.ElabFailure.TheVariants as failure
@@ -16,7 +17,8 @@ among_right [] h = h
 among_right (y ∷ xs) h = there (among_right xs h)
 
 -- the first of a list stands in it
-pub among_when : {A : Type 0} (b : Bool) (x y : A) (ys : List A) → b ≡ true → x ≡ y → Among (cond b (x ∷ []) [] ++ ys) y
+pub among_when : {A : Type 0} (b : Bool) (x y : A) (ys : List A) → b ≡ true → x ≡ y
+    → Among (cond b (x ∷ []) [] ++ ys) y
 among_when b x y ys e h = rw (e, h) here
 
 pub blames_left : (e : ElabFailure) (xs ys : List Fault) → Blames e xs → Blames e (xs ++ ys)
@@ -28,11 +30,15 @@ blames_right failure.Memory xs ys h = tt
 blames_right (failure.Fault f) xs ys h = among_right xs h
 
 -- what tells a fault of one element tells one of the list
-pub blames_at : {S X : Type 0} (faults : X → List Fault) (view : S → X) (xs : List S) (i : ℕ) (s : S) (e : ElabFailure) → i < length xs → s ≡ slice_index_or xs i s → Blames e (faults (view s)) → Blames e (flat_map faults (map view xs))
+pub blames_at : {S X : Type 0} (faults : X → List Fault) (view : S → X) (xs : List S) (i : ℕ)
+    (s : S) (e : ElabFailure) → i < length xs → s ≡ slice_index_or xs i s
+    → Blames e (faults (view s)) → Blames e (flat_map faults (map view xs))
 blames_at faults view [] i s e lt is h = absurd (omega arith)
 blames_at faults view (x ∷ xs) zero s e lt is h = blames_left e (faults (view x)) _ (rw is at h)
-blames_at faults view (x ∷ xs) (suc i) s e lt is h = blames_right e (faults (view x)) _ (blames_at faults view xs i s e (omega arith) is h)
+blames_at faults view (x ∷ xs) (suc i) s e lt is h =
+    blames_right e (faults (view x)) _ (blames_at faults view xs i s e (omega arith) is h)
 
 -- a fault by its kind and its text
-pub among_fault : (kind : ElabErrorKind) (what text : List ℕ) → text ≡ what → Among (fault kind what) (record { kind = kind; what = text })
+pub among_fault : (kind : ElabErrorKind) (what text : List ℕ) → text ≡ what
+    → Among (fault kind what) (record { kind = kind; what = text })
 among_fault kind what text e = rw e here

@@ -1,20 +1,29 @@
 -- The laws of a file's custom options, by its sets of options.
 use Rattle.std.proofs.Common.{◌≡◌, inl, inr, List, [], ◌∷◌, flat_map, refl, ap, subst}
-use Rattle.protobuf_parse_syntax.specs.Trees.{OptionNameSyntax, builtin, custom, StatementSyntax, file_message, file_enum, file_extend, file_service, FileSyntax}
+use Rattle.protobuf_parse_syntax.specs.Trees.{OptionNameSyntax, builtin, custom, StatementSyntax}
+use Rattle.protobuf_parse_syntax.specs.Trees.{file_message, file_enum, file_extend, file_service}
+use Rattle.protobuf_parse_syntax.specs.Trees.{FileSyntax}
 use Rattle.protobuf_parse_model.specs.declared.customs.Construct.TheVariants as of
 use Rattle.protobuf_parse_model.specs.Descriptors.{Text}
 use Rattle.protobuf_parse_model.specs.Faults.{Among, here, there}
 use Rattle.protobuf_parse_model.specs.Duplicates.{duplicates}
-use Rattle.protobuf_parse_model.specs.Environment.{Environment, Customs, no_customs, no_extensions, unknown_name, unknown_option}
+use Rattle.protobuf_parse_model.specs.Environment.{Environment, Customs, no_customs, no_extensions}
+use Rattle.protobuf_parse_model.specs.Environment.{unknown_name, unknown_option}
 use Rattle.protobuf_parse_model.specs.BuiltinOptions.{file_table}
 use Rattle.protobuf_parse_model.specs.Messages.{message_name}
 use Rattle.protobuf_parse_model.specs.FileDescriptor as files
-use Rattle.protobuf_parse_model.specs.FileDescriptor.{options_of_statements, environment, messages_of, services_of, statement_faults, file_duplicates, file_faults}
+use Rattle.protobuf_parse_model.specs.FileDescriptor.{options_of_statements, environment}
+use Rattle.protobuf_parse_model.specs.FileDescriptor.{messages_of, services_of, statement_faults}
+use Rattle.protobuf_parse_model.specs.FileDescriptor.{file_duplicates, file_faults}
 use Rattle.protobuf_parse_model.specs.OptionSets.{OptionSet, statement_sets, option_sets}
-use Rattle.protobuf_parse_model.specs.CustomSets.{faults_of_set, faults_of_sets, FaultsAreOfSets, NoneIsNoneInSets, OptionsAreBuiltin}
+use Rattle.protobuf_parse_model.specs.CustomSets.{faults_of_set, faults_of_sets, FaultsAreOfSets}
+use Rattle.protobuf_parse_model.specs.CustomSets.{NoneIsNoneInSets, OptionsAreBuiltin}
 use Rattle.protobuf_parse_model.proofs.Blaming.{among_left, among_right}
-use Rattle.protobuf_parse_model.proofs.SameNames.{with_customs, flat-named, messages-names, file-enums-names, file-extensions-names, services-names}
-use Rattle.protobuf_parse_model.proofs.AddedFaults.{bare, Adds, adds-none, adds-nothing, adds-both, adds-flat, adds-options}
+use Rattle.protobuf_parse_model.proofs.SameNames.{with_customs, flat-named, messages-names}
+use Rattle.protobuf_parse_model.proofs.SameNames.{file-enums-names, file-extensions-names}
+use Rattle.protobuf_parse_model.proofs.SameNames.{services-names}
+use Rattle.protobuf_parse_model.proofs.AddedFaults.{bare, Adds, adds-none, adds-nothing, adds-both}
+use Rattle.protobuf_parse_model.proofs.AddedFaults.{adds-flat, adds-options}
 use Rattle.protobuf_parse_model.proofs.ConstructSets.{extend-adds, enum-adds, service-adds}
 use Rattle.protobuf_parse_model.proofs.MessageSets.{message-adds}
 
@@ -22,7 +31,9 @@ use Rattle.protobuf_parse_model.proofs.MessageSets.{message-adds}
 
 module _ (customs : Customs) where
   -- a statement of a file
-  statement-adds : (env : Environment) (s : StatementSyntax) → Adds customs (statement_faults (with_customs customs env) s) (statement_faults (bare env) s) (statement_sets env.scope s)
+  statement-adds : (env : Environment) (s : StatementSyntax)
+      → Adds customs (statement_faults (with_customs customs env) s) (statement_faults (bare env) s)
+      (statement_sets env.scope s)
   statement-adds env (file_message m) = message-adds customs env m
   statement-adds env (file_enum e) = enum-adds customs env e
   statement-adds env (file_extend e) = extend-adds customs env e
@@ -30,23 +41,42 @@ module _ (customs : Customs) where
   statement-adds env _ = adds-nothing customs []
 
   -- the names that stand twice in a file
-  duplicates-add : (env : Environment) (t : FileSyntax) → Adds customs (file_duplicates (with_customs customs env) t) (file_duplicates (bare env) t) []
+  duplicates-add : (env : Environment) (t : FileSyntax)
+      → Adds customs (file_duplicates (with_customs customs env) t) (file_duplicates (bare env) t)
+      []
   duplicates-add env t =
       adds-both customs
       (adds-both customs
       (adds-both customs
-      (adds-none customs (ap duplicates (flat-named message_name (messages_of (with_customs customs env)) (messages_of (bare env)) t.statements (messages-names customs no_customs env))))
-      (adds-none customs (ap duplicates (flat-named (λ e. e.name) (files.enums_of (with_customs customs env)) (files.enums_of (bare env)) t.statements (file-enums-names customs no_customs env)))))
-      (adds-none customs (ap duplicates (flat-named (λ f. f.name) (files.extensions_of (with_customs customs env)) (files.extensions_of (bare env)) t.statements (file-extensions-names customs no_customs env)))))
-      (adds-none customs (ap duplicates (flat-named (λ s. s.name) (services_of (with_customs customs env)) (services_of (bare env)) t.statements (services-names customs no_customs env))))
+      (adds-none customs
+      (ap duplicates
+      (flat-named message_name (messages_of (with_customs customs env))
+      (messages_of (bare env)) t.statements (messages-names customs no_customs env))))
+      (adds-none customs
+      (ap duplicates
+      (flat-named (λ e. e.name) (files.enums_of (with_customs customs env))
+      (files.enums_of (bare env)) t.statements (file-enums-names customs no_customs env)))))
+      (adds-none customs
+      (ap duplicates
+      (flat-named (λ f. f.name) (files.extensions_of (with_customs customs env))
+      (files.extensions_of (bare env)) t.statements
+      (file-extensions-names customs no_customs env)))))
+      (adds-none customs
+      (ap duplicates
+      (flat-named (λ s. s.name) (services_of (with_customs customs env))
+      (services_of (bare env)) t.statements (services-names customs no_customs env))))
 
   -- a file
-  file-adds : (seen : List FileSyntax) (t : FileSyntax) → Adds customs (file_faults (environment seen customs t) t) (file_faults (environment seen no_customs t) t) (option_sets t)
+  file-adds : (seen : List FileSyntax) (t : FileSyntax)
+      → Adds customs (file_faults (environment seen customs t) t)
+      (file_faults (environment seen no_customs t) t) (option_sets t)
   file-adds seen t =
       let env = environment seen customs t in
       adds-both customs
-      (adds-both customs (duplicates-add env t) (adds-options customs env of.File file_table (options_of_statements t.statements)))
-      (adds-flat customs (statement_faults (with_customs customs env)) (statement_faults (bare env)) (statement_sets env.scope) t.statements (statement-adds env))
+      (adds-both customs (duplicates-add env t)
+      (adds-options customs env of.File file_table (options_of_statements t.statements)))
+      (adds-flat customs (statement_faults (with_customs customs env)) (statement_faults (bare env))
+      (statement_sets env.scope) t.statements (statement-adds env))
 
 -- ---- the laws
 
@@ -66,12 +96,14 @@ in_none : {A : Type 0} {x : A} {xs : List A} → xs ≡ [] → Among xs x → �
 in_none {A} {x} e h = elim (subst (λ (ys : List A). Among ys x) e h) [ ]
 
 -- where each element becomes nothing, all do
-none_of_each : {A B : Type 0} (f : A → List B) (xs : List A) → ((x : A) → Among xs x → f x ≡ []) → flat_map f xs ≡ []
+none_of_each : {A B : Type 0} (f : A → List B) (xs : List A) → ((x : A) → Among xs x → f x ≡ [])
+    → flat_map f xs ≡ []
 none_of_each f [] h = refl
 none_of_each f (x ∷ xs) h = rw (h x here, none_of_each f xs (λ y k. h y (there k))) refl
 
 -- where all become nothing, each does
-each_of_none : {A B : Type 0} (f : A → List B) {xs : List A} {x : A} → flat_map f xs ≡ [] → Among xs x → f x ≡ []
+each_of_none : {A B : Type 0} (f : A → List B) {xs : List A} {x : A} → flat_map f xs ≡ []
+    → Among xs x → f x ≡ []
 each_of_none {A} {B} f {xs} {x} e h = none_in (f x) (λ y k. in_none e (among_all h k))
   where
     among_all : {zs : List A} {z : A} {y : B} → Among zs z → Among (f z) y → Among (flat_map f zs) y
@@ -79,23 +111,33 @@ each_of_none {A} {B} f {xs} {x} e h = none_in (f x) (λ y k. in_none e (among_al
     among_all (there h) k = among_right _ (among_all h k)
 
 -- a file without faults has none in its sets
-pub none_of_sets : (seen : List FileSyntax) (customs : Customs) (t : FileSyntax) → file_faults (environment seen customs t) t ≡ [] → faults_of_sets customs t ≡ []
-none_of_sets seen customs t none = none_in (faults_of_sets customs t) (λ f h. in_none none ((file-adds customs seen t).added f h))
+pub none_of_sets : (seen : List FileSyntax) (customs : Customs) (t : FileSyntax)
+    → file_faults (environment seen customs t) t ≡ [] → faults_of_sets customs t ≡ []
+none_of_sets seen customs t none =
+    none_in (faults_of_sets customs t) (λ f h. in_none none ((file-adds customs seen t).added f h))
 
 -- a file has no faults just where it has none besides custom options, and none in a set
 pub none_is_none_in_sets : NoneIsNoneInSets
 none_is_none_in_sets seen customs t = (forth, back)
   where
-    forth : file_faults (environment seen customs t) t ≡ [] → (file_faults (environment seen no_customs t) t ≡ []) × ((s : OptionSet) → Among (option_sets t) s → faults_of_set customs s ≡ [])
+    forth : file_faults (environment seen customs t) t ≡ []
+        → (file_faults (environment seen no_customs t) t ≡ [])
+        × ((s : OptionSet) → Among (option_sets t) s → faults_of_set customs s ≡ [])
     forth none = (
-      none_in (file_faults (environment seen no_customs t) t) (λ f h. in_none none ((file-adds customs seen t).stays f h)),
+      none_in (file_faults (environment seen no_customs t) t)
+          (λ f h. in_none none ((file-adds customs seen t).stays f h)),
       λ s h. each_of_none (faults_of_set customs) (none_of_sets seen customs t none) h,
     )
 
-    back : (file_faults (environment seen no_customs t) t ≡ []) × ((s : OptionSet) → Among (option_sets t) s → faults_of_set customs s ≡ []) → file_faults (environment seen customs t) t ≡ []
+    back : (file_faults (environment seen no_customs t) t ≡ [])
+        × ((s : OptionSet) → Among (option_sets t) s → faults_of_set customs s ≡ [])
+        → file_faults (environment seen customs t) t ≡ []
     back none =
-        let sets : faults_of_sets customs t ≡ [] = none_of_each (faults_of_set customs) (option_sets t) none.1 in
-        none_in (file_faults (environment seen customs t) t) (λ f h. elim ((file-adds customs seen t).told f h) [ inl k ↦ in_none none.0 k | inr k ↦ in_none sets k ])
+        let sets : faults_of_sets customs t
+        ≡ [] = none_of_each (faults_of_set customs) (option_sets t) none.1 in
+        none_in (file_faults (environment seen customs t) t)
+        (λ f h. elim ((file-adds customs seen t).told f h)
+        [ inl k ↦ in_none none.0 k | inr k ↦ in_none sets k ])
 
 -- a name that isn't unknown is built in
 builtin_from : (n : OptionNameSyntax) → unknown_name n ≡ [] → (name : Text) × (n ≡ builtin name)
@@ -105,5 +147,6 @@ builtin_from (custom parts) h = absurd cc
 -- so is each option's of a file without faults where no extension is known
 pub options_are_builtin : OptionsAreBuiltin
 options_are_builtin seen t s o none h k =
-    let each : flat_map unknown_option s.statements ≡ [] = ((none_is_none_in_sets seen no_extensions t).0 none).1 s h in
+    let each : flat_map unknown_option s.statements
+    ≡ [] = ((none_is_none_in_sets seen no_extensions t).0 none).1 s h in
     builtin_from o.name (each_of_none unknown_option each k)

@@ -7,7 +7,8 @@ use Rattle.std.proofs.lemmas.Str.{IsUtf8-string_bytes}
 use Rattle.protobuf_parse_syntax.specs.Text.{Bytes}
 use Rattle.protobuf_parse_syntax.specs.Tokens.{DecodesAll}
 use Rattle.protobuf_parse_syntax.specs.Decoding.{RefusesBytes, RefusesText}
-use Rattle.protobuf_parse_syntax.specs.Decoder.{decode, decode-to, decode-from, text_of, text-to, text-from}
+use Rattle.protobuf_parse_syntax.specs.Decoder.{decode, decode-to, decode-from, text_of, text-to}
+use Rattle.protobuf_parse_syntax.specs.Decoder.{text-from}
 use Rattle.protobuf_parse_syntax.specs.Grammar.{StandsFor}
 use Rattle.protobuf_parse_syntax.specs.declared.lexer.str_lit.StrLitDecodeError.{StrLitDecodeError}
 use Rattle.protobuf_parse_syntax.specs.declared.lexer.str_lit.StrLitDecodeError.TheVariants.{Memory}
@@ -20,17 +21,20 @@ none_found (Some b) no_value = absurd (no_value b refl)
 pub bytes_said : (zs : List Bytes) (v : Bytes) → DecodesAll zs v → decode zs ≡ Some v
 bytes_said zs v d = decode-from zs v d
 
-pub text_said : (zs : List Bytes) (t : String Global) → DecodesAll zs (string_bytes t) → text_of zs ≡ Some (string_bytes t)
+pub text_said : (zs : List Bytes) (t : String Global) → DecodesAll zs (string_bytes t)
+    → text_of zs ≡ Some (string_bytes t)
 text_said zs t d = text-from zs (string_bytes t) (d, IsUtf8-string_bytes t)
 
-pub no_bytes_said : (zs : List Bytes) (e : StrLitDecodeError) → RefusesBytes zs e → (e ≡ Memory → ⊥) → decode zs ≡ None
+pub no_bytes_said : (zs : List Bytes) (e : StrLitDecodeError) → RefusesBytes zs e → (e ≡ Memory → ⊥)
+    → decode zs ≡ None
 no_bytes_said zs e r other = none_found (decode zs) (λ v h. refused r v (decode-to zs v h))
   where
     refused : RefusesBytes zs e → (v : Bytes) → DecodesAll zs v → ⊥
     refused (inl m) v d = other m
     refused (inr h) v d = h.1 v d
 
-pub no_text_said : (zs : List Bytes) (e : StrLitDecodeError) → RefusesText zs e → (e ≡ Memory → ⊥) → text_of zs ≡ None
+pub no_text_said : (zs : List Bytes) (e : StrLitDecodeError) → RefusesText zs e → (e ≡ Memory → ⊥)
+    → text_of zs ≡ None
 no_text_said zs e r other = none_found (text_of zs) (λ v h. refused r v (text-to zs v h))
   where
     refused : RefusesText zs e → (v : Bytes) → StandsFor zs v → ⊥

@@ -1,63 +1,96 @@
--- One level of what nests: a body's statements one after another, and a message inside another as a message.
-use Rattle.std.proofs.Common.{Option, Some, None, ◌≡◌, ℕ, ◌+◌, List, [], ◌∷◌, ◌++◌, flat_map, length, length-append, refl, sym, ap, ◌∙◌, arith, append_assoc}
+-- One level of what nests: a body's statements one after another, and a message inside another as a
+-- message.
+use Rattle.std.proofs.Common.{Option, Some, None, ◌≡◌, ℕ, ◌+◌, List, [], ◌∷◌, ◌++◌, flat_map}
+use Rattle.std.proofs.Common.{length, length-append, refl, sym, ap, ◌∙◌, arith, append_assoc}
 use Rattle.std.specs.List.{last_or}
 use Rattle.std.proofs.lemmas.Grind.{flat_map-append}
 use Rattle.std.proofs.lemmas.List.{append-nil}
-use Rattle.protobuf_parse_syntax.specs.Trees.{OptionSyntax, MessageStatementSyntax, MessageSyntax, message_statements, nested_message}
+use Rattle.protobuf_parse_syntax.specs.Trees.{OptionSyntax, MessageStatementSyntax, MessageSyntax}
+use Rattle.protobuf_parse_syntax.specs.Trees.{message_statements, nested_message}
 use Rattle.protobuf_parse_model.specs.Descriptors.{Text}
 use Rattle.protobuf_parse_model.specs.Statements.{message_body_is}
-use Rattle.protobuf_parse_model.specs.Declarations.{Scope, types_of, types_in, message_types, extensions_of, extensions_in, generated_of, generated_in, inside}
+use Rattle.protobuf_parse_model.specs.Declarations.{Scope, types_of, types_in, message_types}
+use Rattle.protobuf_parse_model.specs.Declarations.{extensions_of, extensions_in, generated_of}
+use Rattle.protobuf_parse_model.specs.Declarations.{generated_in, inside}
 use Rattle.protobuf_parse_model.specs.Environment as environment
 use Rattle.protobuf_parse_model.specs.Environment.{Environment}
 use Rattle.protobuf_parse_model.specs.BuiltinOptions.{value_if_named, values_named, last_value}
-use Rattle.protobuf_parse_model.specs.Messages.{oneofs_of, fields_of, fields_from, nested_of, nested_in, message_of, statement_faults, faults_in, message_faults}
+use Rattle.protobuf_parse_model.specs.Messages.{oneofs_of, fields_of, fields_from, nested_of}
+use Rattle.protobuf_parse_model.specs.Messages.{nested_in, message_of, statement_faults, faults_in}
+use Rattle.protobuf_parse_model.specs.Messages.{message_faults}
 
 -- ---- declarations
 
-pub types_in_is : (scope : Scope) (ss : List MessageStatementSyntax) → types_in scope (message_statements ss) ≡ flat_map (types_of scope) ss
+pub types_in_is : (scope : Scope) (ss : List MessageStatementSyntax)
+    → types_in scope (message_statements ss) ≡ flat_map (types_of scope) ss
 types_in_is scope [] = refl
 types_in_is scope (s ∷ ss) = rw (types_in_is scope ss) refl
 
-pub types_of_message : (scope : Scope) (m : MessageSyntax) → types_of scope (nested_message m) ≡ message_types scope m
+pub types_of_message : (scope : Scope) (m : MessageSyntax)
+    → types_of scope (nested_message m) ≡ message_types scope m
 types_of_message scope m = rw (types_in_is (inside scope m.name) m.body) refl
 
-pub extensions_in_is : (scope : Scope) (ss : List MessageStatementSyntax) → extensions_in scope (message_statements ss) ≡ flat_map (extensions_of scope) ss
+pub extensions_in_is : (scope : Scope) (ss : List MessageStatementSyntax)
+    → extensions_in scope (message_statements ss) ≡ flat_map (extensions_of scope) ss
 extensions_in_is scope [] = refl
 extensions_in_is scope (s ∷ ss) = rw (extensions_in_is scope ss) refl
 
-pub extensions_of_message : (scope : Scope) (m : MessageSyntax) → extensions_of scope (nested_message m) ≡ flat_map (extensions_of (inside scope m.name)) m.body
+pub extensions_of_message : (scope : Scope) (m : MessageSyntax)
+    → extensions_of scope (nested_message m) ≡ flat_map (extensions_of (inside scope m.name)) m.body
 extensions_of_message scope m = extensions_in_is (inside scope m.name) m.body
 
-pub generated_in_is : (scope : Scope) (ss : List MessageStatementSyntax) → generated_in scope (message_statements ss) ≡ flat_map (generated_of scope) ss
+pub generated_in_is : (scope : Scope) (ss : List MessageStatementSyntax)
+    → generated_in scope (message_statements ss) ≡ flat_map (generated_of scope) ss
 generated_in_is scope [] = refl
 generated_in_is scope (s ∷ ss) = rw (generated_in_is scope ss) refl
 
-pub generated_of_message : (scope : Scope) (m : MessageSyntax) → generated_of scope (nested_message m) ≡ flat_map (generated_of (inside scope m.name)) m.body
+pub generated_of_message : (scope : Scope) (m : MessageSyntax)
+    → generated_of scope (nested_message m) ≡ flat_map (generated_of (inside scope m.name)) m.body
 generated_of_message scope m = generated_in_is (inside scope m.name) m.body
 
 -- ---- descriptors and faults
 
-pub nested_in_is : (env : Environment) (ss : List MessageStatementSyntax) → nested_in env (message_statements ss) ≡ flat_map (nested_of env) ss
+pub nested_in_is : (env : Environment) (ss : List MessageStatementSyntax)
+    → nested_in env (message_statements ss) ≡ flat_map (nested_of env) ss
 nested_in_is env [] = refl
 nested_in_is env (s ∷ ss) = rw (nested_in_is env ss) refl
 
-pub nested_of_message : (env : Environment) (m : MessageSyntax) → nested_of env (nested_message m) ≡ message_of env m ∷ []
-nested_of_message env m = rw (message_body_is m.body, nested_in_is (environment.inside env m.name) m.body) refl
+pub nested_of_message : (env : Environment) (m : MessageSyntax)
+    → nested_of env (nested_message m) ≡ message_of env m ∷ []
+nested_of_message env m =
+    rw (message_body_is m.body, nested_in_is (environment.inside env m.name) m.body) refl
 
-pub faults_in_is : (env : Environment) (ss : List MessageStatementSyntax) → faults_in env (message_statements ss) ≡ flat_map (statement_faults env) ss
+pub faults_in_is : (env : Environment) (ss : List MessageStatementSyntax)
+    → faults_in env (message_statements ss) ≡ flat_map (statement_faults env) ss
 faults_in_is env [] = refl
 faults_in_is env (s ∷ ss) = rw (faults_in_is env ss) refl
 
-pub faults_of_message : (env : Environment) (m : MessageSyntax) → statement_faults env (nested_message m) ≡ message_faults env m
-faults_of_message env m = rw (message_body_is m.body, nested_in_is (environment.inside env m.name) m.body, faults_in_is (environment.inside env m.name) m.body) refl
+pub faults_of_message : (env : Environment) (m : MessageSyntax)
+    → statement_faults env (nested_message m) ≡ message_faults env m
+faults_of_message env m =
+    rw (
+      message_body_is m.body,
+      nested_in_is (environment.inside env m.name) m.body,
+      faults_in_is (environment.inside env m.name) m.body,
+    ) refl
 
 -- ---- places among oneofs
 
 -- the fields of some statements and of those after them, which come behind the oneofs of the former
-pub fields_from-append : (env : Environment) (index : ℕ) (xs ys : List MessageStatementSyntax) → fields_from env index (xs ++ ys) ≡ fields_from env index xs ++ fields_from env (index + length (flat_map (oneofs_of env) xs)) ys
+pub fields_from-append : (env : Environment) (index : ℕ) (xs ys : List MessageStatementSyntax)
+    → fields_from env index (xs ++ ys) ≡ fields_from env index xs
+    ++ fields_from env (index + length (flat_map (oneofs_of env) xs)) ys
 fields_from-append env index [] ys = let same : index + 0 ≡ index = omega arith in rw same refl
 fields_from-append env index (x ∷ xs) ys =
     let more = fields_from-append env (index + length (oneofs_of env x)) xs ys in
-    let long : length (oneofs_of env x ++ flat_map (oneofs_of env) xs) ≡ length (oneofs_of env x) + length (flat_map (oneofs_of env) xs) = length-append (oneofs_of env x) (flat_map (oneofs_of env) xs) in
-    let same : index + length (oneofs_of env x) + length (flat_map (oneofs_of env) xs) ≡ index + length (oneofs_of env x ++ flat_map (oneofs_of env) xs) = omega arith in
-    ap (λ fs. fields_of env index x ++ fs) (more ∙ ap (λ n. fields_from env (index + length (oneofs_of env x)) xs ++ fields_from env n ys) same) ∙ sym (append_assoc (fields_of env index x) (fields_from env (index + length (oneofs_of env x)) xs) (fields_from env (index + length (oneofs_of env x ++ flat_map (oneofs_of env) xs)) ys))
+    let long : length (oneofs_of env x ++ flat_map (oneofs_of env) xs)
+    ≡ length (oneofs_of env x) + length (flat_map (oneofs_of env) xs) =
+    length-append (oneofs_of env x) (flat_map (oneofs_of env) xs) in
+    let same : index + length (oneofs_of env x) + length (flat_map (oneofs_of env) xs)
+    ≡ index + length (oneofs_of env x ++ flat_map (oneofs_of env) xs) = omega arith in
+    ap (λ fs. fields_of env index x ++ fs)
+    (more ∙ ap (λ n. fields_from env (index + length (oneofs_of env x)) xs
+    ++ fields_from env n ys) same)
+    ∙ sym (append_assoc (fields_of env index x)
+    (fields_from env (index + length (oneofs_of env x)) xs)
+    (fields_from env (index + length (oneofs_of env x ++ flat_map (oneofs_of env) xs)) ys))

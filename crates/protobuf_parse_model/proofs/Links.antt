@@ -1,5 +1,8 @@
 -- What files declare more than once, by the table of declarations.
-use Rattle.std.proofs.Common.{◌≡◌, ℕ, zero, suc, ◌+◌, ◌<◌, List, [], ◌∷◌, ◌++◌, Bool, true, false, not, ◌&&◌, cond, if◌then◌else◌, refl, sym, ap, ◌∙◌, bytes_eq, map, filter, flat_map, length, length-append, get_or, subst, arith, nat_eq, Result, Ok, Err, ◌⊎◌, inl, inr}
+use Rattle.std.proofs.Common.{◌≡◌, ℕ, zero, suc, ◌+◌, ◌<◌, List, [], ◌∷◌, ◌++◌, Bool, true, false}
+use Rattle.std.proofs.Common.{not, ◌&&◌, cond, if◌then◌else◌, refl, sym, ap, ◌∙◌, bytes_eq, map}
+use Rattle.std.proofs.Common.{filter, flat_map, length, length-append, get_or, subst, arith, nat_eq}
+use Rattle.std.proofs.Common.{Result, Ok, Err, ◌⊎◌, inl, inr}
 use Rattle.std.specs.Prelude.{nat_lt, Contains}
 use Rattle.std.specs.List.{list_any}
 use Rattle.std.proofs.lemmas.Bool.{ltb-true}
@@ -9,18 +12,24 @@ use Rattle.std.proofs.lemmas.List.Elements.{filter-append}
 use Rattle.std.proofs.lemmas.List.Sums.{length-filter, count_by-le-length}
 use Rattle.protobuf_parse_syntax.specs.Trees.{FileSyntax}
 use Rattle.protobuf_parse_model.specs.declared.error.ElabErrorKind.{ElabErrorKind}
-use Rattle.protobuf_parse_model.specs.declared.error.ElabErrorKind.TheVariants.{TypeDeclaredTwice, ExtensionDeclaredTwice}
+use Rattle.protobuf_parse_model.specs.declared.error.ElabErrorKind.TheVariants.{TypeDeclaredTwice}
+use Rattle.protobuf_parse_model.specs.declared.error.ElabErrorKind.TheVariants.{ExtensionDeclaredTwice}
 use Rattle.protobuf_parse_model.specs.declared.error.ElabFailure.{ElabFailure}
 use Rattle.protobuf_parse_model.specs.declared.error.ElabFailure.TheVariants as failure
 use Rattle.protobuf_parse_model.specs.declared.scope.seen.Declaration.{Declaration}
 use Rattle.protobuf_parse_model.specs.declared.scope.seen.Seen.{Seen}
 use Rattle.protobuf_parse_model.specs.Descriptors.{Text}
-use Rattle.protobuf_parse_model.specs.Declarations.{DeclaredType, a_message, an_enum, file_extensions, file_generated, file_types}
+use Rattle.protobuf_parse_model.specs.Declarations.{DeclaredType, a_message, an_enum}
+use Rattle.protobuf_parse_model.specs.Declarations.{file_extensions, file_generated, file_types}
 use Rattle.protobuf_parse_model.specs.Contexts.{declared_as}
 use Rattle.protobuf_parse_model.specs.Duplicates.{fault, fault_when}
 use Rattle.protobuf_parse_model.specs.Faults.{Among, here, there, Elaborates, Fault}
-use Rattle.protobuf_parse_model.specs.Linking.{extension_names, link_faults, occurrences, repeated, type_names}
-use Rattle.protobuf_parse_model.specs.Tables.{Entry, Tells, declared_by, declared_in, declared_in_file, extension_entry, generated_entry, is_of, kind_of, listed_names, name_faults, picked, times, times_declared, type_entry}
+use Rattle.protobuf_parse_model.specs.Linking.{extension_names, link_faults, occurrences, repeated}
+use Rattle.protobuf_parse_model.specs.Linking.{type_names}
+use Rattle.protobuf_parse_model.specs.Tables.{Entry, Tells, declared_by, declared_in}
+use Rattle.protobuf_parse_model.specs.Tables.{declared_in_file, extension_entry, generated_entry}
+use Rattle.protobuf_parse_model.specs.Tables.{is_of, kind_of, listed_names, name_faults, picked}
+use Rattle.protobuf_parse_model.specs.Tables.{times, times_declared, type_entry}
 use Rattle.protobuf_parse_model.proofs.Blaming.{among_left, among_right}
 use Rattle.protobuf_parse_model.proofs.Picks.{among, picked_among}
 
@@ -34,15 +43,19 @@ same_as x y false e = at (bytes_eq y x) refl
     at false h = h
     at true h = let both = (bytes_eq-Decides x y).1 (sym ((bytes_eq-Decides y x).0 h)) in absurd cc
 
-occurrences-append : (name : Text) (xs ys : List Text) → occurrences name (xs ++ ys) ≡ occurrences name xs + occurrences name ys
-occurrences-append name xs ys = ap length (filter-append (bytes_eq name) xs ys) ∙ length-append (filter (bytes_eq name) xs) (filter (bytes_eq name) ys)
+occurrences-append : (name : Text) (xs ys : List Text)
+    → occurrences name (xs ++ ys) ≡ occurrences name xs + occurrences name ys
+occurrences-append name xs ys = ap length (filter-append (bytes_eq name) xs ys)
+    ∙ length-append (filter (bytes_eq name) xs) (filter (bytes_eq name) ys)
 
 module _ (extension : Bool) (reach : List ℕ) (name : Text) where
   abbrev counts : Declaration → Bool
   counts d = is_of extension d.kind && list_any (nat_eq d.file) reach
 
-  times-append : (xs ys : List Declaration) → times extension reach (xs ++ ys) ≡ times extension reach xs + times extension reach ys
-  times-append xs ys = ap length (filter-append counts xs ys) ∙ length-append (filter counts xs) (filter counts ys)
+  times-append : (xs ys : List Declaration)
+      → times extension reach (xs ++ ys) ≡ times extension reach xs + times extension reach ys
+  times-append xs ys = ap length (filter-append counts xs ys)
+      ∙ length-append (filter counts xs) (filter counts ys)
 
   module _ {A : Type 0} (entry : A → Entry) (n : ℕ) where
     abbrev made : A → Declaration
@@ -55,33 +68,51 @@ module _ (extension : Bool) (reach : List ℕ) (name : Text) where
     names ds = map (λ (d : A). (entry d).name) ds
 
     -- each counts
-    all : ((d : A) → counts (made d) ≡ true) → (ds : List A) → times extension reach (declared_by entry name n ds) ≡ occurrences name (names ds)
+    all : ((d : A) → counts (made d) ≡ true) → (ds : List A)
+        → times extension reach (declared_by entry name n ds) ≡ occurrences name (names ds)
     all each [] = refl
     all each (d ∷ ds) = at (is_named d) refl (all each ds)
       where
-        at : (c : Bool) → is_named d ≡ c → times extension reach (declared_by entry name n ds) ≡ occurrences name (names ds)
-            → times extension reach (map made (cond c (d ∷ filter is_named ds) (filter is_named ds))) ≡ occurrences name (names (d ∷ ds))
-        at false e more = more ∙ ap (λ b. length (cond b ((entry d).name ∷ filter (bytes_eq name) (names ds)) (filter (bytes_eq name) (names ds)))) (sym (same_as (entry d).name name false e))
+        at : (c : Bool) → is_named d ≡ c
+            → times extension reach (declared_by entry name n ds) ≡ occurrences name (names ds)
+            → times extension reach
+            (map made (cond c (d ∷ filter is_named ds) (filter is_named ds)))
+            ≡ occurrences name (names (d ∷ ds))
+        at false e more = more
+            ∙ ap (λ b.
+            length (cond b ((entry d).name ∷ filter (bytes_eq name) (names ds))
+            (filter (bytes_eq name) (names ds)))) (sym (same_as (entry d).name name false e))
         at true e more =
-            ap (λ b. length (cond b (made d ∷ filter counts (declared_by entry name n ds)) (filter counts (declared_by entry name n ds)))) (each d)
+            ap (λ b.
+            length (cond b (made d ∷ filter counts (declared_by entry name n ds))
+            (filter counts (declared_by entry name n ds)))) (each d)
             ∙ ap suc more
-            ∙ ap (λ b. length (cond b ((entry d).name ∷ filter (bytes_eq name) (names ds)) (filter (bytes_eq name) (names ds)))) (sym (same_as (entry d).name name true e))
+            ∙ ap (λ b.
+            length (cond b ((entry d).name ∷ filter (bytes_eq name) (names ds))
+            (filter (bytes_eq name) (names ds)))) (sym (same_as (entry d).name name true e))
 
     -- none counts
-    none : ((d : A) → counts (made d) ≡ false) → (ds : List A) → times extension reach (declared_by entry name n ds) ≡ 0
+    none : ((d : A) → counts (made d) ≡ false) → (ds : List A)
+        → times extension reach (declared_by entry name n ds) ≡ 0
     none each [] = refl
     none each (d ∷ ds) = at (is_named d) (none each ds)
       where
-        at : (c : Bool) → times extension reach (declared_by entry name n ds) ≡ 0 → times extension reach (map made (cond c (d ∷ filter is_named ds) (filter is_named ds))) ≡ 0
+        at : (c : Bool) → times extension reach (declared_by entry name n ds) ≡ 0
+            → times extension reach
+            (map made (cond c (d ∷ filter is_named ds) (filter is_named ds))) ≡ 0
         at false more = more
-        at true more = ap (λ b. length (cond b (made d ∷ filter counts (declared_by entry name n ds)) (filter counts (declared_by entry name n ds)))) (each d) ∙ more
+        at true more =
+            ap (λ b.
+            length (cond b (made d ∷ filter counts (declared_by entry name n ds))
+            (filter counts (declared_by entry name n ds)))) (each d) ∙ more
 
 -- the names of extensions in a file, or else those of types
 abbrev names_in : Bool → FileSyntax → List Text
 names_in true t = extension_names t
 names_in false t = type_names t
 
-type_is : (extension : Bool) (d : DeclaredType) → is_of extension (type_entry d).what ≡ not extension
+type_is : (extension : Bool) (d : DeclaredType)
+    → is_of extension (type_entry d).what ≡ not extension
 type_is extension d = at d.what
   where
     at : (k : _) → is_of extension (kind_of k) ≡ not extension
@@ -93,78 +124,135 @@ and_false true = refl
 and_false false = refl
 
 module _ (reach : List ℕ) (name : Text) (n : ℕ) (t : FileSyntax) where
-  parts : (extension : Bool) → times extension reach (declared_in_file name n t) ≡ times extension reach (declared_by type_entry name n (file_types t)) + (times extension reach (declared_by generated_entry name n (file_generated t)) + times extension reach (declared_by extension_entry name n (file_extensions t)))
+  parts : (extension : Bool)
+      → times extension reach (declared_in_file name n t)
+      ≡ times extension reach (declared_by type_entry name n (file_types t)) +
+      (times extension reach (declared_by generated_entry name n (file_generated t)) + times
+      extension reach (declared_by extension_entry name n (file_extensions t)))
   parts extension =
-      times-append extension reach name (declared_by type_entry name n (file_types t)) (declared_by generated_entry name n (file_generated t) ++ declared_by extension_entry name n (file_extensions t))
-      ∙ ap (λ k. times extension reach (declared_by type_entry name n (file_types t)) + k) (times-append extension reach name (declared_by generated_entry name n (file_generated t)) (declared_by extension_entry name n (file_extensions t)))
+      times-append extension reach name (declared_by type_entry name n (file_types t))
+      (declared_by generated_entry name n (file_generated t)
+      ++ declared_by extension_entry name n (file_extensions t))
+      ∙ ap (λ k. times extension reach (declared_by type_entry name n (file_types t)) + k)
+      (times-append extension reach name (declared_by generated_entry name n (file_generated t))
+      (declared_by extension_entry name n (file_extensions t)))
 
-  in_reach : (extension : Bool) → list_any (nat_eq n) reach ≡ true → times extension reach (declared_in_file name n t) ≡ occurrences name (names_in extension t)
+  in_reach : (extension : Bool) → list_any (nat_eq n) reach ≡ true
+      → times extension reach (declared_in_file name n t) ≡ occurrences name (names_in extension t)
   in_reach false e =
-      let types = all false reach name type_entry n (λ d. ap (λ b. b && list_any (nat_eq n) reach) (type_is false d) ∙ e) (file_types t) in
-      let behind = all false reach name generated_entry n (λ d. e) (file_generated t) ∙ ap (occurrences name) (map-id (file_generated t)) in
+      let types = all false reach name type_entry n
+      (λ d. ap (λ b. b && list_any (nat_eq n) reach) (type_is false d) ∙ e) (file_types t) in
+      let behind = all false reach name generated_entry n (λ d. e) (file_generated t)
+      ∙ ap (occurrences name) (map-id (file_generated t)) in
       let others = none false reach name extension_entry n (λ d. refl) (file_extensions t) in
-      let sum = occurrences-append name (map (λ (d : DeclaredType). d.name) (file_types t)) (file_generated t) in
+      let sum = occurrences-append name (map (λ (d : DeclaredType). d.name) (file_types t))
+      (file_generated t) in
       parts false ∙ omega (arith, types, behind, others, sum)
   in_reach true e =
-      let types = none true reach name type_entry n (λ d. ap (λ b. b && list_any (nat_eq n) reach) (type_is true d)) (file_types t) in
+      let types = none true reach name type_entry n
+      (λ d. ap (λ b. b && list_any (nat_eq n) reach) (type_is true d)) (file_types t) in
       let behind = none true reach name generated_entry n (λ d. refl) (file_generated t) in
       let others = all true reach name extension_entry n (λ d. e) (file_extensions t) in
       parts true ∙ omega (arith, types, behind, others)
 
-  out_of_reach : (extension : Bool) → list_any (nat_eq n) reach ≡ false → times extension reach (declared_in_file name n t) ≡ 0
+  out_of_reach : (extension : Bool) → list_any (nat_eq n) reach ≡ false
+      → times extension reach (declared_in_file name n t) ≡ 0
   out_of_reach extension e =
-      let types = none extension reach name type_entry n (λ d. ap (λ b. is_of extension (type_entry d).what && b) e ∙ and_false (is_of extension (type_entry d).what)) (file_types t) in
-      let behind = none extension reach name generated_entry n (λ d. ap (λ b. is_of extension (generated_entry d).what && b) e ∙ and_false (is_of extension (generated_entry d).what)) (file_generated t) in
-      let others = none extension reach name extension_entry n (λ d. ap (λ b. is_of extension (extension_entry d).what && b) e ∙ and_false (is_of extension (extension_entry d).what)) (file_extensions t) in
+      let types = none extension reach name type_entry n
+      (λ d. ap (λ b. is_of extension (type_entry d).what && b) e
+      ∙ and_false (is_of extension (type_entry d).what)) (file_types t) in
+      let behind = none extension reach name generated_entry n
+      (λ d. ap (λ b. is_of extension (generated_entry d).what && b) e
+      ∙ and_false (is_of extension (generated_entry d).what)) (file_generated t) in
+      let others = none extension reach name extension_entry n
+      (λ d. ap (λ b. is_of extension (extension_entry d).what && b) e
+      ∙ and_false (is_of extension (extension_entry d).what)) (file_extensions t) in
       parts extension ∙ omega (arith, types, behind, others)
 
-counted : (extension : Bool) (reach : List ℕ) (name : Text) (n : ℕ) (ts : List FileSyntax) → times extension reach (declared_in name n ts) ≡ occurrences name (flat_map (names_in extension) (among reach n ts))
+counted : (extension : Bool) (reach : List ℕ) (name : Text) (n : ℕ) (ts : List FileSyntax)
+    → times extension reach (declared_in name n ts)
+    ≡ occurrences name (flat_map (names_in extension) (among reach n ts))
 counted extension reach name n [] = refl
-counted extension reach name n (t ∷ ts) = times-append extension reach name (declared_in_file name n t) (declared_in name (suc n) ts) ∙ at (list_any (nat_eq n) reach) refl (counted extension reach name (suc n) ts)
+counted extension reach name n (t ∷ ts) =
+    times-append extension reach name (declared_in_file name n t) (declared_in name (suc n) ts)
+    ∙ at (list_any (nat_eq n) reach) refl (counted extension reach name (suc n) ts)
   where
-    at : (b : Bool) → list_any (nat_eq n) reach ≡ b → times extension reach (declared_in name (suc n) ts) ≡ occurrences name (flat_map (names_in extension) (among reach (suc n) ts))
-        → times extension reach (declared_in_file name n t) + times extension reach (declared_in name (suc n) ts) ≡ occurrences name (flat_map (names_in extension) (among reach n (t ∷ ts)))
+    at : (b : Bool) → list_any (nat_eq n) reach ≡ b
+        → times extension reach (declared_in name (suc n) ts)
+        ≡ occurrences name (flat_map (names_in extension) (among reach (suc n) ts))
+        → times extension reach (declared_in_file name n t) + times extension reach
+        (declared_in name (suc n) ts)
+        ≡ occurrences name (flat_map (names_in extension) (among reach n (t ∷ ts)))
     at true e more =
         let here_is = in_reach reach name n t extension e in
-        let sum = occurrences-append name (names_in extension t) (flat_map (names_in extension) (among reach (suc n) ts)) in
-        let added : times extension reach (declared_in_file name n t) + times extension reach (declared_in name (suc n) ts) ≡ occurrences name (names_in extension t ++ flat_map (names_in extension) (among reach (suc n) ts)) = omega (arith, here_is, sum, more) in
-        added ∙ ap (λ b. occurrences name (flat_map (names_in extension) ((if b then t ∷ [] else []) ++ among reach (suc n) ts))) (sym e)
+        let sum = occurrences-append name (names_in extension t)
+        (flat_map (names_in extension) (among reach (suc n) ts)) in
+        let added : times extension reach (declared_in_file name n t) + times extension reach
+        (declared_in name (suc n) ts)
+        ≡ occurrences name
+        (names_in extension t ++ flat_map (names_in extension) (among reach (suc n) ts)) =
+        omega (arith, here_is, sum, more) in
+        added ∙ ap
+        (λ b. occurrences name
+        (flat_map (names_in extension)
+        ((if b then t ∷ [] else []) ++ among reach (suc n) ts))) (sym e)
     at false e more =
         let here_is = out_of_reach reach name n t extension e in
-        let added : times extension reach (declared_in_file name n t) + times extension reach (declared_in name (suc n) ts) ≡ occurrences name (flat_map (names_in extension) (among reach (suc n) ts)) = omega (arith, here_is, more) in
-        added ∙ ap (λ b. occurrences name (flat_map (names_in extension) ((if b then t ∷ [] else []) ++ among reach (suc n) ts))) (sym e)
+        let added : times extension reach (declared_in_file name n t) + times extension reach
+        (declared_in name (suc n) ts)
+        ≡ occurrences name (flat_map (names_in extension) (among reach (suc n) ts)) =
+        omega (arith, here_is, more) in
+        added ∙ ap
+        (λ b. occurrences name
+        (flat_map (names_in extension)
+        ((if b then t ∷ [] else []) ++ among reach (suc n) ts))) (sym e)
 
 -- ---- faults, by the names that are listed
 
 among_cases : {A : Type 0} {x : A} (xs ys : List A) → Among (xs ++ ys) x → Among xs x ⊎ Among ys x
 among_cases [] ys h = inr h
 among_cases (x ∷ xs) ys here = inl here
-among_cases (x ∷ xs) ys (there h) = elim (among_cases xs ys h) [ inl g ↦ inl (there g) | inr g ↦ inr g ]
+among_cases (x ∷ xs) ys (there h) =
+    elim (among_cases xs ys h) [ inl g ↦ inl (there g) | inr g ↦ inr g ]
 
 -- a name that stands among names and more than once among all is told
-told : (kind : ElabErrorKind) (all : List Text) (name : Text) → nat_lt 1 (occurrences name all) ≡ true → (names : List Text) → 0 < occurrences name names
-    → Among (flat_map (fault kind) (filter (λ (x : Text). nat_lt 1 (occurrences x all)) names)) (record { kind = kind; what = name })
+told : (kind : ElabErrorKind) (all : List Text) (name : Text)
+    → nat_lt 1 (occurrences name all) ≡ true → (names : List Text) → 0 < occurrences name names
+    → Among (flat_map (fault kind) (filter (λ (x : Text). nat_lt 1 (occurrences x all)) names))
+    (record { kind = kind; what = name })
 told kind all name twice [] some = absurd (omega (arith, some))
-told kind all name twice (x ∷ xs) some = at (bytes_eq name x) refl some (told kind all name twice xs)
+told kind all name twice (x ∷ xs) some =
+    at (bytes_eq name x) refl some (told kind all name twice xs)
   where
     rest : List Text
     rest = filter (λ (x : Text). nat_lt 1 (occurrences x all)) xs
 
-    later : (b : Bool) → Among (flat_map (fault kind) rest) (record { kind = kind; what = name }) → Among (flat_map (fault kind) (cond b (x ∷ rest) rest)) (record { kind = kind; what = name })
+    later : (b : Bool) → Among (flat_map (fault kind) rest) (record { kind = kind; what = name })
+        → Among (flat_map (fault kind) (cond b (x ∷ rest) rest))
+        (record { kind = kind; what = name })
     later false h = h
     later true h = there h
 
-    at : (b : Bool) → bytes_eq name x ≡ b → 0 < length (cond b (x ∷ filter (bytes_eq name) xs) (filter (bytes_eq name) xs)) → (0 < occurrences name xs → Among (flat_map (fault kind) rest) (record { kind = kind; what = name }))
-        → Among (flat_map (fault kind) (cond (nat_lt 1 (occurrences x all)) (x ∷ rest) rest)) (record { kind = kind; what = name })
+    at : (b : Bool) → bytes_eq name x ≡ b
+        → 0 < length (cond b (x ∷ filter (bytes_eq name) xs) (filter (bytes_eq name) xs))
+        → (0 < occurrences name xs
+        → Among (flat_map (fault kind) rest) (record { kind = kind; what = name }))
+        → Among (flat_map (fault kind) (cond (nat_lt 1 (occurrences x all)) (x ∷ rest) rest))
+        (record { kind = kind; what = name })
     at true e s more =
         let is : name ≡ x = (bytes_eq-Decides name x).0 e in
-        let also : nat_lt 1 (occurrences x all) ≡ true = subst (λ (y : Text). nat_lt 1 (occurrences y all) ≡ true) is twice in
-        subst (λ (b : Bool). Among (flat_map (fault kind) (cond b (x ∷ rest) rest)) (record { kind = kind; what = name })) (sym also)
-        (subst (λ (y : Text). Among (record { kind = kind; what = x } ∷ flat_map (fault kind) rest) (record { kind = kind; what = y })) (sym is) here)
+        let also : nat_lt 1 (occurrences x all)
+        ≡ true = subst (λ (y : Text). nat_lt 1 (occurrences y all) ≡ true) is twice in
+        subst (λ (b : Bool). Among (flat_map (fault kind) (cond b (x ∷ rest) rest))
+        (record { kind = kind; what = name })) (sym also)
+        (subst (λ (y : Text). Among (record { kind = kind; what = x } ∷ flat_map (fault kind) rest)
+        (record { kind = kind; what = y })) (sym is) here)
     at false e s more = later (nat_lt 1 (occurrences x all)) (more s)
 
 -- where no name stands more than once among all, none is told
-none_told : (kind : ElabErrorKind) (all : List Text) → ((name : Text) → nat_lt 1 (occurrences name all) ≡ false) → (names : List Text) → flat_map (fault kind) (filter (λ (x : Text). nat_lt 1 (occurrences x all)) names) ≡ []
+none_told : (kind : ElabErrorKind) (all : List Text)
+    → ((name : Text) → nat_lt 1 (occurrences name all) ≡ false) → (names : List Text)
+    → flat_map (fault kind) (filter (λ (x : Text). nat_lt 1 (occurrences x all)) names) ≡ []
 none_told kind all once [] = refl
 none_told kind all once (x ∷ xs) =
     let rest = filter (λ (x : Text). nat_lt 1 (occurrences x all)) xs in
@@ -178,15 +266,20 @@ append_nil_right : {A : Type 0} (xs ys : List A) → xs ++ ys ≡ [] → ys ≡ 
 append_nil_right [] ys e = e
 append_nil_right (x ∷ xs) ys e = absurd cc
 
-no_fault_at : (faults : Text → List Fault) (texts : List Text) (name : Text) → flat_map faults texts ≡ [] → Contains texts name → faults name ≡ []
+no_fault_at : (faults : Text → List Fault) (texts : List Text) (name : Text)
+    → flat_map faults texts ≡ [] → Contains texts name → faults name ≡ []
 no_fault_at faults texts name e h = at texts h.0 e h.1 h.2
   where
-    at : (xs : List Text) (k : ℕ) → flat_map faults xs ≡ [] → k < length xs → get_or xs k name ≡ name → faults name ≡ []
+    at : (xs : List Text) (k : ℕ) → flat_map faults xs ≡ [] → k < length xs
+        → get_or xs k name ≡ name → faults name ≡ []
     at [] k gone lt is = absurd (omega (arith, lt))
-    at (x ∷ xs) zero gone lt is = ap faults (sym is) ∙ append_nil_left (faults x) (flat_map faults xs) gone
-    at (x ∷ xs) (suc k) gone lt is = at xs k (append_nil_right (faults x) (flat_map faults xs) gone) (omega (arith, lt)) is
+    at (x ∷ xs) zero gone lt is = ap faults (sym is)
+        ∙ append_nil_left (faults x) (flat_map faults xs) gone
+    at (x ∷ xs) (suc k) gone lt is =
+        at xs k (append_nil_right (faults x) (flat_map faults xs) gone) (omega (arith, lt)) is
 
-when_none : (b : Bool) (kind : ElabErrorKind) (name : Text) → fault_when b kind name ≡ [] → b ≡ false
+when_none : (b : Bool) (kind : ElabErrorKind) (name : Text) → fault_when b kind name ≡ []
+    → b ≡ false
 when_none false kind name e = refl
 when_none true kind name e = absurd cc
 
@@ -197,37 +290,62 @@ module _ (seen : Seen) (files : List FileSyntax) (tells : Tells seen.declaration
   abbrev names_reached : Bool → List Text
   names_reached extension = flat_map (names_in extension) reached
 
-  times_are : (extension : Bool) (name : Text) → times_declared extension seen name ≡ occurrences name (names_reached extension)
+  times_are : (extension : Bool) (name : Text)
+      → times_declared extension seen name ≡ occurrences name (names_reached extension)
   times_are extension name =
-      ap (times extension seen.reach.now) (tells.declares name) ∙ counted extension seen.reach.now name 0 files
-      ∙ ap (λ fs. occurrences name (flat_map (names_in extension) fs)) (picked_among files seen.reach.now seen.reach_ascends)
+      ap (times extension seen.reach.now) (tells.declares name)
+      ∙ counted extension seen.reach.now name 0 files
+      ∙ ap (λ fs. occurrences name (flat_map (names_in extension) fs))
+      (picked_among files seen.reach.now seen.reach_ascends)
 
   -- a name that is declared more than once is listed
-  is_listed : (extension : Bool) (name : Text) → nat_lt 1 (times_declared extension seen name) ≡ true → Contains (listed_names seen.declarations.now) name
+  is_listed : (extension : Bool) (name : Text)
+      → nat_lt 1 (times_declared extension seen name) ≡ true
+      → Contains (listed_names seen.declarations.now) name
   is_listed extension name e =
       let ds = declared_as seen.declarations.now name in
-      let more : 1 < times_declared extension seen name = ltb-true 1 (times_declared extension seen name) e in
+      let more : 1 < times_declared extension seen name =
+      ltb-true 1 (times_declared extension seen name) e in
       let count = length-filter (counts extension seen.reach.now name) ds in
       let below = count_by-le-length (counts extension seen.reach.now name) ds in
       tells.lists name (omega (arith, more, count, below))
 
-  faults_none : (extension : Bool) (name : Text) → name_faults seen name ≡ [] → nat_lt 1 (times_declared extension seen name) ≡ false
-  faults_none false name e = when_none (nat_lt 1 (times_declared false seen name)) TypeDeclaredTwice name (append_nil_left (fault_when (nat_lt 1 (times_declared false seen name)) TypeDeclaredTwice name) (fault_when (nat_lt 1 (times_declared true seen name)) ExtensionDeclaredTwice name) e)
-  faults_none true name e = when_none (nat_lt 1 (times_declared true seen name)) ExtensionDeclaredTwice name (append_nil_right (fault_when (nat_lt 1 (times_declared false seen name)) TypeDeclaredTwice name) (fault_when (nat_lt 1 (times_declared true seen name)) ExtensionDeclaredTwice name) e)
+  faults_none : (extension : Bool) (name : Text) → name_faults seen name ≡ []
+      → nat_lt 1 (times_declared extension seen name) ≡ false
+  faults_none false name e =
+      when_none (nat_lt 1 (times_declared false seen name)) TypeDeclaredTwice name
+      (append_nil_left
+      (fault_when (nat_lt 1 (times_declared false seen name)) TypeDeclaredTwice name)
+      (fault_when (nat_lt 1 (times_declared true seen name)) ExtensionDeclaredTwice name) e)
+  faults_none true name e =
+      when_none (nat_lt 1 (times_declared true seen name)) ExtensionDeclaredTwice name
+      (append_nil_right
+      (fault_when (nat_lt 1 (times_declared false seen name)) TypeDeclaredTwice name)
+      (fault_when (nat_lt 1 (times_declared true seen name)) ExtensionDeclaredTwice name) e)
 
-  once : flat_map (name_faults seen) (listed_names seen.declarations.now) ≡ [] → (extension : Bool) (name : Text) → nat_lt 1 (occurrences name (names_reached extension)) ≡ false
-  once e extension name = ap (nat_lt 1) (sym (times_are extension name)) ∙ at (nat_lt 1 (times_declared extension seen name)) refl
+  once : flat_map (name_faults seen) (listed_names seen.declarations.now) ≡ []
+      → (extension : Bool) (name : Text)
+      → nat_lt 1 (occurrences name (names_reached extension)) ≡ false
+  once e extension name = ap (nat_lt 1) (sym (times_are extension name))
+      ∙ at (nat_lt 1 (times_declared extension seen name)) refl
     where
-      at : (b : Bool) → nat_lt 1 (times_declared extension seen name) ≡ b → nat_lt 1 (times_declared extension seen name) ≡ false
+      at : (b : Bool) → nat_lt 1 (times_declared extension seen name) ≡ b
+          → nat_lt 1 (times_declared extension seen name) ≡ false
       at false h = h
-      at true h = faults_none extension name (no_fault_at (name_faults seen) (listed_names seen.declarations.now) name e (is_listed extension name h))
+      at true h = faults_none extension name
+          (no_fault_at (name_faults seen) (listed_names seen.declarations.now) name e
+          (is_listed extension name h))
 
-  faultless : flat_map (name_faults seen) (listed_names seen.declarations.now) ≡ [] → link_faults reached ≡ []
+  faultless : flat_map (name_faults seen) (listed_names seen.declarations.now) ≡ []
+      → link_faults reached ≡ []
   faultless e =
-      ap (λ fs. fs ++ flat_map (fault ExtensionDeclaredTwice) (repeated (names_reached true))) (none_told TypeDeclaredTwice (names_reached false) (once e false) (names_reached false))
+      ap (λ fs. fs ++ flat_map (fault ExtensionDeclaredTwice) (repeated (names_reached true)))
+      (none_told TypeDeclaredTwice (names_reached false) (once e false) (names_reached false))
       ∙ none_told ExtensionDeclaredTwice (names_reached true) (once e true) (names_reached true)
 
-  one_told : (extension : Bool) (kind : ElabErrorKind) (name : Text) (f : Fault) (b : Bool) → nat_lt 1 (times_declared extension seen name) ≡ b → Among (fault_when b kind name) f → Among (flat_map (fault kind) (repeated (names_reached extension))) f
+  one_told : (extension : Bool) (kind : ElabErrorKind) (name : Text) (f : Fault) (b : Bool)
+      → nat_lt 1 (times_declared extension seen name) ≡ b → Among (fault_when b kind name) f
+      → Among (flat_map (fault kind) (repeated (names_reached extension))) f
   one_told extension kind name f false e h = elim h [ ]
   one_told extension kind name f true e (there h) = elim h [ ]
   one_told extension kind name f true e here =
@@ -235,19 +353,32 @@ module _ (seen : Seen) (files : List FileSyntax) (tells : Tells seen.declaration
       let more = ltb-true 1 (occurrences name (names_reached extension)) twice in
       told kind (names_reached extension) name twice (names_reached extension) (omega (arith, more))
 
-  name_told : (name : Text) (f : Fault) → Among (name_faults seen name) f → Among (link_faults reached) f
+  name_told : (name : Text) (f : Fault) → Among (name_faults seen name) f
+      → Among (link_faults reached) f
   name_told name f h =
-      elim (among_cases (fault_when (nat_lt 1 (times_declared false seen name)) TypeDeclaredTwice name) (fault_when (nat_lt 1 (times_declared true seen name)) ExtensionDeclaredTwice name) h) [
-        | inl g ↦ among_left (flat_map (fault ExtensionDeclaredTwice) (repeated (names_reached true))) (one_told false TypeDeclaredTwice name f (nat_lt 1 (times_declared false seen name)) refl g)
-        | inr g ↦ among_right (flat_map (fault TypeDeclaredTwice) (repeated (names_reached false))) (one_told true ExtensionDeclaredTwice name f (nat_lt 1 (times_declared true seen name)) refl g)
+      elim (among_cases
+      (fault_when (nat_lt 1 (times_declared false seen name)) TypeDeclaredTwice name)
+      (fault_when (nat_lt 1 (times_declared true seen name)) ExtensionDeclaredTwice name) h) [
+        | inl g ↦ among_left
+            (flat_map (fault ExtensionDeclaredTwice) (repeated (names_reached true)))
+            (one_told false TypeDeclaredTwice name f
+            (nat_lt 1 (times_declared false seen name)) refl g)
+        | inr g ↦ among_right (flat_map (fault TypeDeclaredTwice) (repeated (names_reached false)))
+            (one_told true ExtensionDeclaredTwice name f
+            (nat_lt 1 (times_declared true seen name)) refl g)
       ]
 
-  names_told : (names : List Text) (f : Fault) → Among (flat_map (name_faults seen) names) f → Among (link_faults reached) f
+  names_told : (names : List Text) (f : Fault) → Among (flat_map (name_faults seen) names) f
+      → Among (link_faults reached) f
   names_told [] f h = elim h [ ]
   names_told (x ∷ xs) f h =
-      elim (among_cases (name_faults seen x) (flat_map (name_faults seen) xs) h) [ inl g ↦ name_told x f g | inr g ↦ names_told xs f g ]
+      elim (among_cases (name_faults seen x) (flat_map (name_faults seen) xs) h)
+      [ inl g ↦ name_told x f g | inr g ↦ names_told xs f g ]
 
-  pub links : (r : Result (Unit {0}) ElabFailure) → Elaborates {X = Unit {0}} {Y = Unit {0}} (λ u. u) r (flat_map (name_faults seen) (listed_names seen.declarations.now)) tt → Elaborates {X = Unit {0}} {Y = Unit {0}} (λ u. u) r (link_faults reached) tt
+  pub links : (r : Result (Unit {0}) ElabFailure)
+      → Elaborates {X = Unit {0}} {Y = Unit {0}} (λ u. u) r
+      (flat_map (name_faults seen) (listed_names seen.declarations.now)) tt
+      → Elaborates {X = Unit {0}} {Y = Unit {0}} (λ u. u) r (link_faults reached) tt
   links (Ok u) h = (faultless h.0, h.1)
   links (Err failure.Memory) h = tt
   links (Err (failure.Fault e)) h = names_told (listed_names seen.declarations.now) _ h

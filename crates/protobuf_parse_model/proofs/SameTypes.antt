@@ -7,59 +7,80 @@ use Rattle.protobuf_parse_model.specs.Descriptors.{FieldDescriptor, MessageDescr
 use Rattle.protobuf_parse_model.specs.Contexts.{FieldAndMessage, environment_in, names_in}
 use Rattle.protobuf_parse_model.specs.Environment.{Customs, Environment}
 use Rattle.protobuf_parse_model.specs.Faults.{Blames, Elaborates, Fault}
-use Rattle.protobuf_parse_model.specs.Fields.{FieldPlace, FieldTypeOf, faults_of_options, field_faults, field_of, field_with, inner_type_faults, type_faults, type_of}
+use Rattle.protobuf_parse_model.specs.Fields.{FieldPlace, FieldTypeOf, faults_of_options}
+use Rattle.protobuf_parse_model.specs.Fields.{field_faults, field_of, field_with, inner_type_faults}
+use Rattle.protobuf_parse_model.specs.Fields.{type_faults, type_of}
 use Rattle.protobuf_parse_model.specs.Messages.{entries_of}
 use Rattle.protobuf_parse_model.proofs.Blaming.{blames_left}
 
 module _ (customs : Customs) (c : Context) (name : Text) where
-  pub same_type : (t : TypeSyntax) → type_of (names_in c) name t ≡ type_of (environment_in customs c) name t
+  pub same_type : (t : TypeSyntax)
+      → type_of (names_in c) name t ≡ type_of (environment_in customs c) name t
   same_type (scalar s) = refl
   same_type (named n) = refl
   same_type (map_of key value) = refl
 
-  same_inner_faults : (t : TypeSyntax) → inner_type_faults (names_in c) name t ≡ inner_type_faults (environment_in customs c) name t
+  same_inner_faults : (t : TypeSyntax)
+      → inner_type_faults (names_in c) name t ≡ inner_type_faults (environment_in customs c) name t
   same_inner_faults (scalar s) = refl
   same_inner_faults (named n) = refl
   same_inner_faults (map_of key value) = refl
 
-  pub same_type_faults : (t : TypeSyntax) → type_faults (names_in c) name t ≡ type_faults (environment_in customs c) name t
+  pub same_type_faults : (t : TypeSyntax)
+      → type_faults (names_in c) name t ≡ type_faults (environment_in customs c) name t
   same_type_faults (scalar s) = refl
   same_type_faults (named n) = refl
   same_type_faults (map_of key value) = rw (same_inner_faults key, same_inner_faults value) refl
 
-  pub same_entries : (t : TypeSyntax) → entries_of (names_in c) name t ≡ entries_of (environment_in customs c) name t
+  pub same_entries : (t : TypeSyntax)
+      → entries_of (names_in c) name t ≡ entries_of (environment_in customs c) name t
   same_entries (scalar s) = refl
   same_entries (named n) = refl
   same_entries (map_of key value) = rw (same_type key, same_type value) refl
 
 -- ---- a field, by its type as names say it
 
-module _ (customs : Customs) (c : Context) (f : FieldSyntax) (text : Text) (same : text ≡ f.name) where
+module _ (customs : Customs) (c : Context) (f : FieldSyntax) (text : Text)
+    (same : text ≡ f.name) where
   abbrev within : Environment
   within = environment_in customs c
 
   faults-are : type_faults (names_in c) text f.type_ ≡ type_faults within f.name f.type_
-  faults-are = ap (λ (n : Text). type_faults (names_in c) n f.type_) same ∙ same_type_faults customs c f.name f.type_
+  faults-are = ap (λ (n : Text). type_faults (names_in c) n f.type_) same
+      ∙ same_type_faults customs c f.name f.type_
 
-  pub blames_type : (e : ElabFailure) → Blames e (type_faults (names_in c) text f.type_) → Blames e (field_faults within f)
+  pub blames_type : (e : ElabFailure) → Blames e (type_faults (names_in c) text f.type_)
+      → Blames e (field_faults within f)
   blames_type e told =
-      blames_left e (type_faults within f.name f.type_) (faults_of_options within (type_of within f.name f.type_).kind f.name f.options)
+      blames_left e (type_faults within f.name f.type_)
+      (faults_of_options within (type_of within f.name f.type_).kind f.name f.options)
       (subst (λ (faults : List Fault). Blames e faults) faults-are told)
 
-  pub field_elaborates : {X : Type 0} (view : X → FieldDescriptor) (r : Result X ElabFailure) (place : FieldPlace) (t : FieldTypeOf)
+  pub field_elaborates : {X : Type 0} (view : X → FieldDescriptor) (r : Result X ElabFailure)
+      (place : FieldPlace) (t : FieldTypeOf)
       → type_faults (names_in c) text f.type_ ≡ [] → t ≡ type_of (names_in c) text f.type_
-      → Elaborates view r (faults_of_options within t.kind f.name f.options) (field_with within place f t)
+      → Elaborates view r (faults_of_options within t.kind f.name f.options)
+      (field_with within place f t)
       → Elaborates view r (field_faults within f) (field_of within place f)
   field_elaborates view r place t none at h =
-      let is : t ≡ type_of within f.name f.type_ = at ∙ ap (λ (n : Text). type_of (names_in c) n f.type_) same ∙ same_type customs c f.name f.type_ in
-      let rest = subst (λ (t : FieldTypeOf). Elaborates view r (faults_of_options within t.kind f.name f.options) (field_with within place f t)) is h in
-      subst (λ (faults : List Fault). Elaborates view r (faults ++ faults_of_options within (type_of within f.name f.type_).kind f.name f.options) (field_of within place f)) (sym none ∙ faults-are) rest
+      let is : t ≡ type_of within f.name f.type_ = at
+      ∙ ap (λ (n : Text). type_of (names_in c) n f.type_) same
+      ∙ same_type customs c f.name f.type_ in
+      let rest = subst
+      (λ (t : FieldTypeOf). Elaborates view r (faults_of_options within t.kind f.name f.options)
+      (field_with within place f t)) is h in
+      subst (λ (faults : List Fault). Elaborates view r
+      (faults ++ faults_of_options within (type_of within f.name f.type_).kind f.name f.options)
+      (field_of within place f)) (sym none ∙ faults-are) rest
 
-  pub entries_are : (behind : List MessageDescriptor) → behind ≡ entries_of (names_in c) text f.type_ → behind ≡ entries_of within f.name f.type_
-  entries_are behind at = at ∙ ap (λ (n : Text). entries_of (names_in c) n f.type_) same ∙ same_entries customs c f.name f.type_
+  pub entries_are : (behind : List MessageDescriptor)
+      → behind ≡ entries_of (names_in c) text f.type_ → behind ≡ entries_of within f.name f.type_
+  entries_are behind at = at ∙ ap (λ (n : Text). entries_of (names_in c) n f.type_) same
+      ∙ same_entries customs c f.name f.type_
 
 abbrev with_behind : FieldDescriptor → List MessageDescriptor → FieldAndMessage
 with_behind field behind = record { field = field; behind = behind }
 
-pub both_are : {field field' : FieldDescriptor} {behind behind' : List MessageDescriptor} → field ≡ field' → behind ≡ behind' → with_behind field behind ≡ with_behind field' behind'
+pub both_are : {field field' : FieldDescriptor} {behind behind' : List MessageDescriptor}
+    → field ≡ field' → behind ≡ behind' → with_behind field behind ≡ with_behind field' behind'
 both_are p q = rw (p, q) refl

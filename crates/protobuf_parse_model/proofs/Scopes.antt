@@ -1,5 +1,7 @@
 -- Look-up from the innermost scope outward, step by step.
-use Rattle.std.proofs.Common.{◌≡◌, ℕ, zero, suc, ◌+◌, ◌-◌, ◌<◌, ◌≤◌, List, [], ◌∷◌, ◌++◌, length, take, get_or, Option, Some, None, refl, sym, ◌∙◌, ap, arith, false, Result, Ok, Err, nat_eq, inl, inr}
+use Rattle.std.proofs.Common.{◌≡◌, ℕ, zero, suc, ◌+◌, ◌-◌, ◌<◌, ◌≤◌, List, [], ◌∷◌, ◌++◌, length}
+use Rattle.std.proofs.Common.{take, get_or, Option, Some, None, refl, sym, ◌∙◌, ap, arith, false}
+use Rattle.std.proofs.Common.{Result, Ok, Err, nat_eq, inl, inr}
 use Rattle.std.specs.Borrow.{Bor}
 use Rattle.std.specs.Option.{option_or}
 use Rattle.std.specs.Result.{is_ok}
@@ -32,14 +34,20 @@ module _ {A : Type 0} (of : Meanings A) (name : Text) (scope : List (Bor (List �
   longest : (n : ℕ) → n < length scope → outward (suc n) ≡ option_or (here (suc n)) (outward n)
   longest n lt =
       let d = get_or scope n (record { ref_ptr = (0, 0); now = [] }) in
-      let e : texts (take (suc n) scope) ≡ texts (take n scope) ++ d.now ∷ [] = ap (λ k. texts (take k scope)) (next n) ∙ map_more (λ (s : Bor (List ℕ)). s.now) scope n (record { ref_ptr = (0, 0); now = [] }) lt in
+      let e : texts (take (suc n) scope) ≡ texts (take n scope) ++ d.now
+      ∷ [] = ap (λ k. texts (take k scope)) (next n)
+      ∙ map_more (λ (s : Bor (List ℕ)). s.now) scope n
+      (record { ref_ptr = (0, 0); now = [] }) lt in
       rw (e, fronts-push (texts (take n scope)) d.now) refl
 
-  pub found-here : (k : ℕ) (whole : Option (Declared A)) (d : Declared A) → 0 < k → k ≤ length scope → whole ≡ outward k → Some d ≡ here k → Some d ≡ whole
+  pub found-here : (k : ℕ) (whole : Option (Declared A)) (d : Declared A) → 0 < k → k ≤ length scope
+      → whole ≡ outward k → Some d ≡ here k → Some d ≡ whole
   found-here zero whole d pos le is h = absurd (omega (arith, pos))
-  found-here (suc n) whole d pos le is h = sym (is ∙ longest n (omega arith) ∙ ap (λ o. option_or o (outward n)) (sym h))
+  found-here (suc n) whole d pos le is h =
+      sym (is ∙ longest n (omega arith) ∙ ap (λ o. option_or o (outward n)) (sym h))
 
-  pub none-here : (k : ℕ) (whole : Option (Declared A)) → 0 < k → k ≤ length scope → whole ≡ outward k → None ≡ here k → whole ≡ outward (k - 1)
+  pub none-here : (k : ℕ) (whole : Option (Declared A)) → 0 < k → k ≤ length scope
+      → whole ≡ outward k → None ≡ here k → whole ≡ outward (k - 1)
   none-here zero whole pos le is h = absurd (omega (arith, pos))
   none-here (suc n) whole pos le is h =
       let before : n ≡ suc n - 1 = omega arith in
@@ -47,15 +55,24 @@ module _ {A : Type 0} (of : Meanings A) (name : Text) (scope : List (Bor (List �
 
 -- ** a search among ascending numbers
 
-pub searched-any : (xs : List ℕ) (x : ℕ) (r : Result ℕ ℕ) → IsStrictlyIncreasing xs → IsBinarySearchResult (λ y. nat_cmp y x) xs r → is_ok r ≡ list_any (nat_eq x) xs
+pub searched-any : (xs : List ℕ) (x : ℕ) (r : Result ℕ ℕ) → IsStrictlyIncreasing xs
+    → IsBinarySearchResult (λ y. nat_cmp y x) xs r → is_ok r ≡ list_any (nat_eq x) xs
 searched-any xs x (Ok i) rises is =
-    let h = searched xs x (Ok i) is (λ i j le lt. non_decreasing_from_sorted xs (sorted_from_strictly_increasing xs rises) i j 0 le lt) in
+    let h = searched xs x (Ok i) is
+    (λ i j le lt. non_decreasing_from_sorted xs
+    (sorted_from_strictly_increasing xs rises) i j 0 le lt) in
     sym (list_any_at (nat_eq x) xs i 0 h.0 (eq-eqb x (get_or xs i 0) (sym h.1)))
 searched-any xs x (Err i) rises is =
-    let h = searched xs x (Err i) is (λ i j le lt. non_decreasing_from_sorted xs (sorted_from_strictly_increasing xs rises) i j 0 le lt) in
-    sym (list_any_none (nat_eq x) xs (All-from_get_or (λ y. nat_eq x y ≡ false) xs 0 (λ k lt. ne_eqb x (get_or xs k 0) (apart h.1 h.2 k lt))))
+    let h = searched xs x (Err i) is
+    (λ i j le lt. non_decreasing_from_sorted xs
+    (sorted_from_strictly_increasing xs rises) i j 0 le lt) in
+    sym (list_any_none (nat_eq x) xs
+    (All-from_get_or (λ y. nat_eq x y ≡ false) xs 0
+    (λ k lt. ne_eqb x (get_or xs k 0) (apart h.1 h.2 k lt))))
   where
-    apart : ((k : ℕ) → k < i → get_or xs k 0 < x) → ((k : ℕ) → i ≤ k → k < length xs → x < get_or xs k 0) → (k : ℕ) → k < length xs → x ≡ get_or xs k 0 → ⊥
+    apart : ((k : ℕ) → k < i → get_or xs k 0 < x)
+        → ((k : ℕ) → i ≤ k → k < length xs → x < get_or xs k 0) → (k : ℕ) → k < length xs
+        → x ≡ get_or xs k 0 → ⊥
     apart below above k lt same =
         elim (cases_lt k i) [
           | inl less ↦ let z = below k less in absurd (omega (arith, z, same))

@@ -1,5 +1,8 @@
 -- The table of declarations, step by step.
-use Rattle.std.proofs.Common.{◌≡◌, ℕ, suc, List, [], ◌∷◌, ◌++◌, Bool, true, false, cond, if◌then◌else◌, Option, Some, None, refl, sym, ap, ◌∙◌, bytes_eq, append-nil, append_assoc, map, filter, flat_map, ◌+◌, ◌<◌, length, length-append, take, get_or, subst, arith, nat_eq}
+use Rattle.std.proofs.Common.{◌≡◌, ℕ, suc, List, [], ◌∷◌, ◌++◌, Bool, true, false, cond}
+use Rattle.std.proofs.Common.{if◌then◌else◌, Option, Some, None, refl, sym, ap, ◌∙◌, bytes_eq}
+use Rattle.std.proofs.Common.{append-nil, append_assoc, map, filter, flat_map, ◌+◌, ◌<◌, length}
+use Rattle.std.proofs.Common.{length-append, take, get_or, subst, arith, nat_eq}
 use Rattle.std.specs.Prelude.{String, string_bytes, unwrap_or, Contains}
 use Rattle.std.specs.Global.{Global, Vec}
 use Rattle.std.specs.Cmp.Lexicographic.{slice_cmp}
@@ -16,63 +19,98 @@ use Rattle.protobuf_parse_syntax.proofs.Messages.{view_parts, views_message}
 use Rattle.protobuf_parse_syntax.specs.declared.tree.declaration.Message.{Message}
 use Rattle.protobuf_parse_syntax.specs.declared.tree.declaration.MessageStatement.TheVariants as statement
 use Rattle.protobuf_parse_syntax.specs.declared.tree.field.FieldStatement.{FieldStatement}
-use Rattle.protobuf_parse_syntax.specs.Trees.{ExtendSyntax, FieldStatementSyntax, FileSyntax, field_statement_view, MessageSyntax, message_statement_view, message_view}
+use Rattle.protobuf_parse_syntax.specs.Trees.{ExtendSyntax, FieldStatementSyntax, FileSyntax}
+use Rattle.protobuf_parse_syntax.specs.Trees.{field_statement_view, MessageSyntax}
+use Rattle.protobuf_parse_syntax.specs.Trees.{message_statement_view, message_view}
 use Rattle.protobuf_parse_model.specs.declared.scope.seen.DeclarationKind.TheVariants as kind
 use Rattle.protobuf_parse_model.specs.declared.scope.seen.Declaration.{Declaration}
 use Rattle.protobuf_parse_model.specs.declared.scope.seen.Declarations.{Declarations}
 use Rattle.protobuf_parse_model.specs.Descriptors.{Text}
-use Rattle.protobuf_parse_model.specs.Declarations.{DeclaredExtension, Scope, a_message, declare, extend_extensions, extensions_of, file_extensions, file_generated, file_types, full_name, generated_of, inside, message_types, types_of}
+use Rattle.protobuf_parse_model.specs.Declarations.{DeclaredExtension, Scope, a_message, declare}
+use Rattle.protobuf_parse_model.specs.Declarations.{extend_extensions, extensions_of}
+use Rattle.protobuf_parse_model.specs.Declarations.{file_extensions, file_generated, file_types}
+use Rattle.protobuf_parse_model.specs.Declarations.{full_name, generated_of, inside, message_types}
+use Rattle.protobuf_parse_model.specs.Declarations.{types_of}
 use Rattle.protobuf_parse_model.specs.Statements.{field_statement_name}
 use Rattle.protobuf_parse_model.specs.Contexts.{declared_as, listed}
-use Rattle.protobuf_parse_model.specs.Tables.{Adds, AddsOne, Entry, ListsRepeated, Tells, declared_by, declared_in, declared_in_file, extension_entry, generated_entry, listed_names, type_entry}
-use Rattle.protobuf_parse_model.proofs.Levels.{extensions_of_message, generated_of_message, types_of_message}
+use Rattle.protobuf_parse_model.specs.Tables.{Adds, AddsOne, Entry, ListsRepeated, Tells}
+use Rattle.protobuf_parse_model.specs.Tables.{declared_by, declared_in, declared_in_file}
+use Rattle.protobuf_parse_model.specs.Tables.{extension_entry, generated_entry, listed_names}
+use Rattle.protobuf_parse_model.specs.Tables.{type_entry}
+use Rattle.protobuf_parse_model.proofs.Levels.{extensions_of_message, generated_of_message}
+use Rattle.protobuf_parse_model.proofs.Levels.{types_of_message}
 
 -- ---- a declaration more
 
-module _ (old new : BTreeMap (String Global) (Vec Declaration)) (name : String Global) (empty list : Vec Declaration) (d : Declaration) where
+module _ (old new : BTreeMap (String Global) (Vec Declaration)) (name : String Global)
+    (empty list : Vec Declaration) (d : Declaration) where
   abbrev before : Text → List Declaration
   before text = listed (get_by_text old text)
 
-  here : (text : Text) (b : Bool) → bytes_eq (string_bytes name) text ≡ b → list.items ≡ before (string_bytes name) ++ d ∷ []
-      → listed (cond b (Some list) (get_by_text old text)) ≡ before text ++ (if b then d ∷ [] else [])
+  here : (text : Text) (b : Bool) → bytes_eq (string_bytes name) text ≡ b
+      → list.items ≡ before (string_bytes name) ++ d ∷ []
+      → listed (cond b (Some list) (get_by_text old text)) ≡ before text
+      ++ (if b then d ∷ [] else [])
   here text false e is = sym (append-nil (before text))
-  here text true e is = is ∙ ap (λ t. before t ++ d ∷ []) ((bytes_eq-Decides (string_bytes name) text).0 e)
+  here text true e is = is
+      ∙ ap (λ t. before t ++ d ∷ []) ((bytes_eq-Decides (string_bytes name) text).0 e)
 
-  or_empty : (o : Option (Vec Declaration)) → empty.items ≡ [] → (unwrap_or o empty).items ≡ listed o
+  or_empty : (o : Option (Vec Declaration)) → empty.items ≡ []
+      → (unwrap_or o empty).items ≡ listed o
   or_empty None e = e
   or_empty (Some v) e = refl
 
-  pub put_last : UpdatesBy string_cmp (λ k. slice_cmp nat_cmp (string_bytes name) (string_bytes k)) old new (Some list) → empty.items ≡ []
+  pub put_last : UpdatesBy string_cmp
+      (λ k. slice_cmp nat_cmp (string_bytes name) (string_bytes k)) old new (Some list)
+      → empty.items ≡ []
       → list.items ≡ (unwrap_or (get_by_text old (string_bytes name)) empty).items ++ d ∷ []
-      → (text : Text) → listed (get_by_text new text) ≡ listed (get_by_text old text) ++ (if bytes_eq (string_bytes name) text then d ∷ [] else [])
+      → (text : Text) → listed (get_by_text new text) ≡ listed (get_by_text old text)
+      ++ (if bytes_eq (string_bytes name) text then d ∷ [] else [])
   put_last updates nil is text =
       ap listed (btree_map_updates_text (string_bytes name) old new (Some list) updates text)
-      ∙ here text (bytes_eq (string_bytes name) text) refl (is ∙ ap (λ l. l ++ d ∷ []) (or_empty (get_by_text old (string_bytes name)) nil))
+      ∙ here text (bytes_eq (string_bytes name) text) refl
+      (is ∙ ap (λ l. l ++ d ∷ []) (or_empty (get_by_text old (string_bytes name)) nil))
 
 -- a name that gets its second declaration is listed
 pub adds_one : (old new : Declarations) (full : Text) (d : Declaration)
-    → ((text : Text) → declared_as new text ≡ declared_as old text ++ (if bytes_eq full text then d ∷ [] else []))
-    → listed_names new ≡ listed_names old ++ (if nat_eq (length (declared_as old full)) 1 then full ∷ [] else [])
+    → ((text : Text) → declared_as new text ≡ declared_as old text
+    ++ (if bytes_eq full text then d ∷ [] else []))
+    → listed_names new ≡ listed_names old
+    ++ (if nat_eq (length (declared_as old full)) 1 then full ∷ [] else [])
     → AddsOne old new full d
-adds_one old new full d adds lists = record { declares = adds; lists = λ was text more. at was text more (bytes_eq full text) refl }
+adds_one old new full d adds lists =
+    record { declares = adds; lists = λ was text more. at was text more (bytes_eq full text) refl }
   where
     kept : (text : Text) → Contains (listed_names old) text → Contains (listed_names new) text
-    kept text h = subst (λ (names : List Text). Contains names text) (sym lists) (Contains-append_left (listed_names old) (if nat_eq (length (declared_as old full)) 1 then full ∷ [] else []) text h)
+    kept text h = subst (λ (names : List Text). Contains names text) (sym lists)
+        (Contains-append_left (listed_names old)
+        (if nat_eq (length (declared_as old full)) 1 then full ∷ [] else []) text h)
 
-    second : ListsRepeated old → 0 < length (declared_as old full) → (b : Bool) → nat_eq (length (declared_as old full)) 1 ≡ b → Contains (listed_names new) full
-    second was some true e = subst (λ (names : List Text). Contains names full) (sym (lists ∙ ap (λ b. listed_names old ++ (if b then full ∷ [] else [])) e)) (Contains-push (listed_names old) full)
+    second : ListsRepeated old → 0 < length (declared_as old full) → (b : Bool)
+        → nat_eq (length (declared_as old full)) 1 ≡ b → Contains (listed_names new) full
+    second was some true e =
+        subst (λ (names : List Text). Contains names full)
+        (sym (lists ∙ ap (λ b. listed_names old ++ (if b then full ∷ [] else [])) e))
+        (Contains-push (listed_names old) full)
     second was some false e = kept full (was full (grind (arith, e, some)))
 
-    at : ListsRepeated old → (text : Text) → 1 < length (declared_as new text) → (b : Bool) → bytes_eq full text ≡ b → Contains (listed_names new) text
+    at : ListsRepeated old → (text : Text) → 1 < length (declared_as new text) → (b : Bool)
+        → bytes_eq full text ≡ b → Contains (listed_names new) text
     at was text more false e =
-        let same : declared_as new text ≡ declared_as old text = adds text ∙ ap (λ b. declared_as old text ++ (if b then d ∷ [] else [])) e ∙ append-nil (declared_as old text) in
+        let same : declared_as new text ≡ declared_as old text = adds text
+        ∙ ap (λ b. declared_as old text ++ (if b then d ∷ [] else [])) e
+        ∙ append-nil (declared_as old text) in
         kept text (was text (subst (λ (ds : List Declaration). 1 < length ds) same more))
     at was text more true e =
         let is : full ≡ text = (bytes_eq-Decides full text).0 e in
-        let one : declared_as new text ≡ declared_as old text ++ d ∷ [] = adds text ∙ ap (λ b. declared_as old text ++ (if b then d ∷ [] else [])) e in
-        let long : length (declared_as new text) ≡ length (declared_as old text) + 1 = ap length one ∙ length-append (declared_as old text) (d ∷ []) in
+        let one : declared_as new text ≡ declared_as old text ++ d ∷ [] = adds text
+        ∙ ap (λ b. declared_as old text ++ (if b then d ∷ [] else [])) e in
+        let long : length (declared_as new text) ≡ length (declared_as old text) + 1 = ap length one
+        ∙ length-append (declared_as old text) (d ∷ []) in
         let some : 0 < length (declared_as old text) = omega (arith, long, more) in
-        subst (λ (t : Text). Contains (listed_names new) t) is (second was (subst (λ (t : Text). 0 < length (declared_as old t)) (sym is) some) (nat_eq (length (declared_as old full)) 1) refl)
+        subst (λ (t : Text). Contains (listed_names new) t) is
+        (second was (subst (λ (t : Text). 0 < length (declared_as old t)) (sym is) some)
+        (nat_eq (length (declared_as old full)) 1) refl)
 
 -- ---- declarations of a file, one after another
 
@@ -80,95 +118,160 @@ module _ {A : Type 0} (entry : A → Entry) where
   abbrev made : ℕ → A → Declaration
   made file d = record { file = file; kind = (entry d).what }
 
-  one_is : (d : A) (file : ℕ) (b : Bool) → (if b then made file d ∷ [] else []) ≡ map (made file) (cond b (d ∷ []) [])
+  one_is : (d : A) (file : ℕ) (b : Bool)
+      → (if b then made file d ∷ [] else []) ≡ map (made file) (cond b (d ∷ []) [])
   one_is d file false = refl
   one_is d file true = refl
 
-  pub adds_single : (old new : Declarations) (full : Text) (file : ℕ) (d : A) → AddsOne old new full (made file d) → full ≡ (entry d).name → Adds entry old new file (d ∷ [])
+  pub adds_single : (old new : Declarations) (full : Text) (file : ℕ) (d : A)
+      → AddsOne old new full (made file d) → full ≡ (entry d).name
+      → Adds entry old new file (d ∷ [])
   adds_single old new full file d adds is = record {
-    declares = λ text. adds.declares text ∙ ap (λ s. declared_as old text ++ (if bytes_eq s text then made file d ∷ [] else [])) is ∙ ap (λ ds. declared_as old text ++ ds) (one_is d file (bytes_eq (entry d).name text));
+    declares = λ text. adds.declares text
+        ∙ ap (λ s. declared_as old text ++ (if bytes_eq s text then made file d ∷ [] else [])) is
+        ∙ ap (λ ds. declared_as old text ++ ds) (one_is d file (bytes_eq (entry d).name text));
     lists = adds.lists;
   }
 
-  declared_by-append : (text : Text) (file : ℕ) (xs ys : List A) → declared_by entry text file (xs ++ ys) ≡ declared_by entry text file xs ++ declared_by entry text file ys
+  declared_by-append : (text : Text) (file : ℕ) (xs ys : List A)
+      → declared_by entry text file (xs ++ ys) ≡ declared_by entry text file xs
+      ++ declared_by entry text file ys
   declared_by-append text file xs ys =
       ap (map (made file)) (filter-append (λ (d : A). bytes_eq (entry d).name text) xs ys)
-      ∙ map-append (made file) (filter (λ (d : A). bytes_eq (entry d).name text) xs) (filter (λ (d : A). bytes_eq (entry d).name text) ys)
+      ∙ map-append (made file) (filter (λ (d : A). bytes_eq (entry d).name text) xs)
+      (filter (λ (d : A). bytes_eq (entry d).name text) ys)
 
   pub adds_none : (table : Declarations) (file : ℕ) → Adds entry table table file []
-  adds_none table file = record { declares = λ text. sym (append-nil (declared_as table text)); lists = λ h. h }
+  adds_none table file =
+      record { declares = λ text. sym (append-nil (declared_as table text)); lists = λ h. h }
 
-  pub adds_more : (old between new : Declarations) (file : ℕ) (xs ys : List A) → Adds entry old between file xs → Adds entry between new file ys → Adds entry old new file (xs ++ ys)
+  pub adds_more : (old between new : Declarations) (file : ℕ) (xs ys : List A)
+      → Adds entry old between file xs → Adds entry between new file ys
+      → Adds entry old new file (xs ++ ys)
   adds_more old between new file xs ys before after = record {
-    declares = λ text. after.declares text ∙ ap (λ ds. ds ++ declared_by entry text file ys) (before.declares text) ∙ append_assoc (declared_as old text) (declared_by entry text file xs) (declared_by entry text file ys) ∙ ap (λ ds. declared_as old text ++ ds) (sym (declared_by-append text file xs ys));
+    declares = λ text. after.declares text
+        ∙ ap (λ ds. ds ++ declared_by entry text file ys) (before.declares text)
+        ∙ append_assoc (declared_as old text) (declared_by entry text file xs)
+        (declared_by entry text file ys)
+        ∙ ap (λ ds. declared_as old text ++ ds) (sym (declared_by-append text file xs ys));
     lists = λ h. after.lists (before.lists h);
   }
 
   -- one statement more
-  pub adds_next : {S X : Type 0} (old between new : Declarations) (file : ℕ) (declares : X → List A) (view : S → X) (before : List A) (xs : List S) (i : ℕ) (x : S) → i < length xs → x ≡ get_or xs i x
-      → Adds entry old between file (before ++ flat_map declares (map view (take i xs))) → Adds entry between new file (declares (view x))
+  pub adds_next : {S X : Type 0} (old between new : Declarations) (file : ℕ) (declares : X → List A)
+      (view : S → X) (before : List A) (xs : List S) (i : ℕ) (x : S) → i < length xs
+      → x ≡ get_or xs i x
+      → Adds entry old between file (before ++ flat_map declares (map view (take i xs)))
+      → Adds entry between new file (declares (view x))
       → Adds entry old new file (before ++ flat_map declares (map view (take (i + 1) xs)))
   adds_next old between new file declares view before xs i x lt is so_far more =
       let e = map_more view xs i x lt in
-      let at : map view (take (i + 1) xs) ≡ map view (take i xs) ++ view x ∷ [] = e ∙ ap (λ z. map view (take i xs) ++ view z ∷ []) (sym is) in
-      let all = flat_map_more declares before (map view (take i xs)) (view x) ∙ ap (λ ys. before ++ flat_map declares ys) (sym at) in
-      subst (λ ds. Adds entry old new file ds) all (adds_more old between new file (before ++ flat_map declares (map view (take i xs))) (declares (view x)) so_far more)
+      let at : map view (take (i + 1) xs) ≡ map view (take i xs) ++ view x ∷ [] = e
+      ∙ ap (λ z. map view (take i xs) ++ view z ∷ []) (sym is) in
+      let all = flat_map_more declares before (map view (take i xs)) (view x)
+      ∙ ap (λ ys. before ++ flat_map declares ys) (sym at) in
+      subst (λ ds. Adds entry old new file ds) all
+      (adds_more old between new file (before ++ flat_map declares (map view (take i xs)))
+      (declares (view x)) so_far more)
 
 -- what the statements that declare fields in statements stand for
-pub flat_map-inside : {A B C : Type 0} (f : B → List C) (g : A → List B) (xs : List A) → flat_map (λ (x : A). flat_map f (g x)) xs ≡ flat_map f (flat_map g xs)
+pub flat_map-inside : {A B C : Type 0} (f : B → List C) (g : A → List B) (xs : List A)
+    → flat_map (λ (x : A). flat_map f (g x)) xs ≡ flat_map f (flat_map g xs)
 flat_map-inside f g [] = refl
-flat_map-inside f g (x ∷ xs) = ap (λ ys. flat_map f (g x) ++ ys) (flat_map-inside f g xs) ∙ sym (flat_map-append f (g x) (flat_map g xs))
+flat_map-inside f g (x ∷ xs) = ap (λ ys. flat_map f (g x) ++ ys) (flat_map-inside f g xs)
+    ∙ sym (flat_map-append f (g x) (flat_map g xs))
 
 -- one extension more
-pub adds_extension : (old between new : Declarations) (file : ℕ) (scope : Scope) (e : ExtendSyntax) (xs : List FieldStatement) (i : ℕ) (x : FieldStatement) → i < length xs → x ≡ get_or xs i x
-    → Adds extension_entry old between file (extend_extensions scope (record e { fields = map field_statement_view (take i xs) }))
-    → AddsOne between new (full_name scope (field_statement_name (field_statement_view x))) (record { file = file; kind = kind.Extension })
-    → Adds extension_entry old new file (extend_extensions scope (record e { fields = map field_statement_view (take (i + 1) xs) }))
+pub adds_extension : (old between new : Declarations) (file : ℕ) (scope : Scope) (e : ExtendSyntax)
+    (xs : List FieldStatement) (i : ℕ) (x : FieldStatement) → i < length xs → x ≡ get_or xs i x
+    → Adds extension_entry old between file
+    (extend_extensions scope (record e { fields = map field_statement_view (take i xs) }))
+    → AddsOne between new (full_name scope (field_statement_name (field_statement_view x)))
+    (record { file = file; kind = kind.Extension })
+    → Adds extension_entry old new file
+    (extend_extensions scope (record e { fields = map field_statement_view (take (i + 1) xs) }))
 adds_extension old between new file scope e xs i x lt is so_far more =
     let made = map_more field_statement_view xs i x lt in
-    let at : map field_statement_view (take (i + 1) xs) ≡ map field_statement_view (take i xs) ++ field_statement_view x ∷ [] = made ∙ ap (λ z. map field_statement_view (take i xs) ++ field_statement_view z ∷ []) (sym is) in
-    let all = sym (map-append make (map field_statement_view (take i xs)) (field_statement_view x ∷ [])) ∙ ap (map make) (sym at) in
+    let at : map field_statement_view (take (i + 1) xs) ≡ map field_statement_view (take i xs)
+    ++ field_statement_view x ∷ [] = made
+    ∙ ap (λ z. map field_statement_view (take i xs) ++ field_statement_view z ∷ []) (sym is) in
+    let all =
+    sym (map-append make (map field_statement_view (take i xs)) (field_statement_view x ∷ []))
+    ∙ ap (map make) (sym at) in
     subst (λ (ds : List DeclaredExtension). Adds extension_entry old new file ds) all
-    (adds_more extension_entry old between new file (map make (map field_statement_view (take i xs))) (make (field_statement_view x) ∷ []) so_far (adds_single extension_entry between new (full_name scope (field_statement_name (field_statement_view x))) file (make (field_statement_view x)) more refl))
+    (adds_more extension_entry old between new file
+    (map make (map field_statement_view (take i xs)))
+    (make (field_statement_view x) ∷ []) so_far
+    (adds_single extension_entry between new
+    (full_name scope (field_statement_name (field_statement_view x))) file
+    (make (field_statement_view x)) more refl))
   where
     make : FieldStatementSyntax → DeclaredExtension
-    make f = declare scope (field_statement_name f) (record { extendee = e.extendee; scope = scope; field = f })
+    make f = declare scope (field_statement_name f)
+        (record { extendee = e.extendee; scope = scope; field = f })
 
 -- ---- messages inside messages
 
-pub types_of-view : (scope : Scope) (m : Message) → types_of scope (message_statement_view (statement.Message m)) ≡ message_types scope (message_view m)
-types_of-view scope m = ap (types_of scope) (views_message m) ∙ types_of_message scope (message_view m)
+pub types_of-view : (scope : Scope) (m : Message)
+    → types_of scope (message_statement_view (statement.Message m))
+    ≡ message_types scope (message_view m)
+types_of-view scope m = ap (types_of scope) (views_message m)
+    ∙ types_of_message scope (message_view m)
 
-pub generated_of-view : (scope : Scope) (m : Message) → generated_of scope (message_statement_view (statement.Message m)) ≡ flat_map (generated_of (inside scope (message_view m).name)) (message_view m).body
-generated_of-view scope m = ap (generated_of scope) (views_message m) ∙ generated_of_message scope (message_view m)
+pub generated_of-view : (scope : Scope) (m : Message)
+    → generated_of scope (message_statement_view (statement.Message m))
+    ≡ flat_map (generated_of (inside scope (message_view m).name)) (message_view m).body
+generated_of-view scope m = ap (generated_of scope) (views_message m)
+    ∙ generated_of_message scope (message_view m)
 
-pub extensions_of-view : (scope : Scope) (m : Message) → extensions_of scope (message_statement_view (statement.Message m)) ≡ flat_map (extensions_of (inside scope (message_view m).name)) (message_view m).body
-extensions_of-view scope m = ap (extensions_of scope) (views_message m) ∙ extensions_of_message scope (message_view m)
+pub extensions_of-view : (scope : Scope) (m : Message)
+    → extensions_of scope (message_statement_view (statement.Message m))
+    ≡ flat_map (extensions_of (inside scope (message_view m).name)) (message_view m).body
+extensions_of-view scope m = ap (extensions_of scope) (views_message m)
+    ∙ extensions_of_message scope (message_view m)
 
-pub message_types-view : (scope : Scope) (m : Message) → message_types scope (message_view m) ≡ declare scope (string_bytes m.name) a_message ∷ flat_map (types_of (inside scope (string_bytes m.name))) (map message_statement_view m.body.items)
+pub message_types-view : (scope : Scope) (m : Message)
+    → message_types scope (message_view m) ≡ declare scope (string_bytes m.name) a_message
+    ∷ flat_map (types_of (inside scope (string_bytes m.name)))
+    (map message_statement_view m.body.items)
 message_types-view scope m = ap (message_types scope) (view_parts m)
 
-pub generated-view : (scope : Scope) (m : Message) → flat_map (generated_of (inside scope (message_view m).name)) (message_view m).body ≡ flat_map (generated_of (inside scope (string_bytes m.name))) (map message_statement_view m.body.items)
-generated-view scope m = ap (λ (x : MessageSyntax). flat_map (generated_of (inside scope x.name)) x.body) (view_parts m)
+pub generated-view : (scope : Scope) (m : Message)
+    → flat_map (generated_of (inside scope (message_view m).name)) (message_view m).body
+    ≡ flat_map (generated_of (inside scope (string_bytes m.name)))
+    (map message_statement_view m.body.items)
+generated-view scope m =
+    ap (λ (x : MessageSyntax). flat_map (generated_of (inside scope x.name)) x.body) (view_parts m)
 
-pub extensions-view : (scope : Scope) (m : Message) → flat_map (extensions_of (inside scope (message_view m).name)) (message_view m).body ≡ flat_map (extensions_of (inside scope (string_bytes m.name))) (map message_statement_view m.body.items)
-extensions-view scope m = ap (λ (x : MessageSyntax). flat_map (extensions_of (inside scope x.name)) x.body) (view_parts m)
+pub extensions-view : (scope : Scope) (m : Message)
+    → flat_map (extensions_of (inside scope (message_view m).name)) (message_view m).body
+    ≡ flat_map (extensions_of (inside scope (string_bytes m.name)))
+    (map message_statement_view m.body.items)
+extensions-view scope m =
+    ap (λ (x : MessageSyntax). flat_map (extensions_of (inside scope x.name)) x.body) (view_parts m)
 
 -- ---- files, one after another
 
-declared_in-push : (text : Text) (n file : ℕ) (files : List FileSyntax) (t : FileSyntax) → n + length files ≡ file → declared_in text n (files ++ t ∷ []) ≡ declared_in text n files ++ declared_in_file text file t
+declared_in-push : (text : Text) (n file : ℕ) (files : List FileSyntax) (t : FileSyntax)
+    → n + length files ≡ file → declared_in text n (files ++ t ∷ []) ≡ declared_in text n files
+    ++ declared_in_file text file t
 declared_in-push text n file [] t at =
     let here : n ≡ file = omega arith in
     append-nil (declared_in_file text n t) ∙ ap (λ k. declared_in_file text k t) here
 declared_in-push text n file (f ∷ files) t at =
     let next : suc n + length files ≡ file = omega arith in
     ap (λ ds. declared_in_file text n f ++ ds) (declared_in-push text (suc n) file files t next)
-    ∙ sym (append_assoc (declared_in_file text n f) (declared_in text (suc n) files) (declared_in_file text file t))
+    ∙ sym (append_assoc (declared_in_file text n f) (declared_in text (suc n) files)
+    (declared_in_file text file t))
 
-pub tells_more : (old first second new : Declarations) (files : List FileSyntax) (t : FileSyntax) (file : ℕ)
-    → Adds type_entry old first file (file_types t) → Adds generated_entry first second file (file_generated t) → Adds extension_entry second new file (file_extensions t)
+pub tells_more : (old first second new : Declarations) (files : List FileSyntax) (t : FileSyntax)
+    (file : ℕ)
+    → Adds type_entry old first file (file_types t)
+    → Adds generated_entry first second file (file_generated t)
+    → Adds extension_entry second new file (file_extensions t)
     → length files ≡ file → Tells old files → Tells new (files ++ t ∷ [])
-tells_more old first second new files t file types generated extensions at tells = record { declares = all; lists = extensions.lists (generated.lists (types.lists tells.lists)) }
+tells_more old first second new files t file types generated extensions at tells =
+    record { declares = all; lists = extensions.lists (generated.lists (types.lists tells.lists)) }
   where
     all : (text : Text) → declared_as new text ≡ declared_in text 0 (files ++ t ∷ [])
     all text =
@@ -176,6 +279,13 @@ tells_more old first second new files t file types generated extensions at tells
         let ts = declared_by type_entry text file (file_types t) in
         let gs = declared_by generated_entry text file (file_generated t) in
         let es = declared_by extension_entry text file (file_extensions t) in
-        let after : declared_as new text ≡ ((declared_as old text ++ ts) ++ gs) ++ es = extensions.declares text ∙ ap (λ ds. ds ++ es) (generated.declares text ∙ ap (λ ds. ds ++ gs) (types.declares text)) in
-        let flat : declared_as new text ≡ declared_as old text ++ declared_in_file text file t = after ∙ append_assoc (declared_as old text ++ ts) gs es ∙ append_assoc (declared_as old text) ts (gs ++ es) in
-        flat ∙ ap (λ ds. ds ++ declared_in_file text file t) (tells.declares text) ∙ sym (declared_in-push text 0 file files t number)
+        let after : declared_as new text ≡ ((declared_as old text ++ ts) ++ gs)
+        ++ es = extensions.declares text
+        ∙ ap (λ ds. ds ++ es) (generated.declares text
+        ∙ ap (λ ds. ds ++ gs) (types.declares text)) in
+        let flat : declared_as new text ≡ declared_as old text
+        ++ declared_in_file text file t = after
+        ∙ append_assoc (declared_as old text ++ ts) gs es
+        ∙ append_assoc (declared_as old text) ts (gs ++ es) in
+        flat ∙ ap (λ ds. ds ++ declared_in_file text file t) (tells.declares text)
+        ∙ sym (declared_in-push text 0 file files t number)

@@ -1,22 +1,35 @@
--- The options that the language knows by name: which there are, what their statements set, and what is wrong in them.
+-- The options that the language knows by name: which there are, what their statements set, and what
+-- is wrong in them.
 --
--- The table is that of the options messages in google/protobuf/descriptor.proto: FileOptions, MessageOptions,
--- FieldOptions, OneofOptions, EnumOptions, EnumValueOptions, ServiceOptions and MethodOptions. An option is set by the
--- last statement with its name: a text by a string, a truth value by `true` or `false`, a value of an enum by its name.
--- Protocol Buffers Language Guide, "Options" (https://protobuf.dev).
-use Rattle.std.specs.Prelude.{Bool, List, [], ◌∷◌, ◌++◌, map, flat_map, codes, bytes_eq, Option, Some, None, option_map, if◌then◌else◌}
+-- The table is that of the options messages in google/protobuf/descriptor.proto: FileOptions,
+-- MessageOptions, FieldOptions, OneofOptions, EnumOptions, EnumValueOptions, ServiceOptions and
+-- MethodOptions. An option is set by the last statement with its name: a text by a string, a truth
+-- value by `true` or `false`, a value of an enum by its name. Protocol Buffers Language Guide,
+-- "Options" (https://protobuf.dev).
+use Rattle.std.specs.Prelude.{Bool, List, [], ◌∷◌, ◌++◌, map, flat_map, codes, bytes_eq, Option}
+use Rattle.std.specs.Prelude.{Some, None, option_map, if◌then◌else◌}
 use Rattle.std.specs.List.{find, last_or}
-use Rattle.protobuf_parse_syntax.specs.Trees.{ConstantSyntax, truth, dotted, string, OptionNameSyntax, builtin, custom, OptionSyntax}
+use Rattle.protobuf_parse_syntax.specs.Trees.{ConstantSyntax, truth, dotted, string}
+use Rattle.protobuf_parse_syntax.specs.Trees.{OptionNameSyntax, builtin, custom, OptionSyntax}
 use Rattle.protobuf_parse_syntax.specs.Decoder.{text_of}
-use Rattle.protobuf_parse_model.specs.declared.error.ElabErrorKind.TheVariants.{StrLitDecode, BuiltinOptionNotFound, BuiltinOptionPointsToNonSingularField, InconvertibleValue}
+use Rattle.protobuf_parse_model.specs.declared.error.ElabErrorKind.TheVariants.{StrLitDecode}
+use Rattle.protobuf_parse_model.specs.declared.error.ElabErrorKind.TheVariants.{BuiltinOptionNotFound}
+use Rattle.protobuf_parse_model.specs.declared.error.ElabErrorKind.TheVariants.{BuiltinOptionPointsToNonSingularField}
+use Rattle.protobuf_parse_model.specs.declared.error.ElabErrorKind.TheVariants.{InconvertibleValue}
 use Rattle.protobuf_parse_model.specs.declared.descriptor.options.OptimizeMode.{OptimizeMode}
-use Rattle.protobuf_parse_model.specs.declared.descriptor.options.OptimizeMode.TheVariants.{Speed, CodeSize, LiteRuntime}
+use Rattle.protobuf_parse_model.specs.declared.descriptor.options.OptimizeMode.TheVariants.{Speed}
+use Rattle.protobuf_parse_model.specs.declared.descriptor.options.OptimizeMode.TheVariants.{CodeSize}
+use Rattle.protobuf_parse_model.specs.declared.descriptor.options.OptimizeMode.TheVariants.{LiteRuntime}
 use Rattle.protobuf_parse_model.specs.declared.descriptor.options.CType.{CType}
 use Rattle.protobuf_parse_model.specs.declared.descriptor.options.CType.TheVariants as ctypes
 use Rattle.protobuf_parse_model.specs.declared.descriptor.options.JSType.{JSType}
-use Rattle.protobuf_parse_model.specs.declared.descriptor.options.JSType.TheVariants.{JsNormal, JsString, JsNumber}
+use Rattle.protobuf_parse_model.specs.declared.descriptor.options.JSType.TheVariants.{JsNormal}
+use Rattle.protobuf_parse_model.specs.declared.descriptor.options.JSType.TheVariants.{JsString}
+use Rattle.protobuf_parse_model.specs.declared.descriptor.options.JSType.TheVariants.{JsNumber}
 use Rattle.protobuf_parse_model.specs.declared.descriptor.options.IdempotencyLevel.{IdempotencyLevel}
-use Rattle.protobuf_parse_model.specs.declared.descriptor.options.IdempotencyLevel.TheVariants.{IdempotencyUnknown, NoSideEffects, Idempotent}
+use Rattle.protobuf_parse_model.specs.declared.descriptor.options.IdempotencyLevel.TheVariants.{IdempotencyUnknown}
+use Rattle.protobuf_parse_model.specs.declared.descriptor.options.IdempotencyLevel.TheVariants.{NoSideEffects}
+use Rattle.protobuf_parse_model.specs.declared.descriptor.options.IdempotencyLevel.TheVariants.{Idempotent}
 use Rattle.protobuf_parse_model.specs.Descriptors.{Text}
 use Rattle.protobuf_parse_model.specs.Faults.{Fault}
 use Rattle.protobuf_parse_model.specs.Duplicates.{fault, stands_in}
@@ -49,16 +62,20 @@ abbrev pub words_of : {A : Type 0} → Words A → List Text
 words_of words = map (λ w. w.0) words
 
 abbrev pub optimize_modes : Words OptimizeMode
-optimize_modes = (codes "SPEED", Speed) ∷ (codes "CODE_SIZE", CodeSize) ∷ (codes "LITE_RUNTIME", LiteRuntime) ∷ []
+optimize_modes = (codes "SPEED", Speed) ∷ (codes "CODE_SIZE", CodeSize)
+    ∷ (codes "LITE_RUNTIME", LiteRuntime) ∷ []
 
 abbrev pub c_types : Words CType
-c_types = (codes "STRING", ctypes.String) ∷ (codes "CORD", ctypes.Cord) ∷ (codes "STRING_PIECE", ctypes.StringPiece) ∷ []
+c_types = (codes "STRING", ctypes.String) ∷ (codes "CORD", ctypes.Cord)
+    ∷ (codes "STRING_PIECE", ctypes.StringPiece) ∷ []
 
 abbrev pub js_types : Words JSType
-js_types = (codes "JS_NORMAL", JsNormal) ∷ (codes "JS_STRING", JsString) ∷ (codes "JS_NUMBER", JsNumber) ∷ []
+js_types = (codes "JS_NORMAL", JsNormal) ∷ (codes "JS_STRING", JsString)
+    ∷ (codes "JS_NUMBER", JsNumber) ∷ []
 
 abbrev pub idempotency_levels : Words IdempotencyLevel
-idempotency_levels = (codes "IDEMPOTENCY_UNKNOWN", IdempotencyUnknown) ∷ (codes "NO_SIDE_EFFECTS", NoSideEffects) ∷ (codes "IDEMPOTENT", Idempotent) ∷ []
+idempotency_levels = (codes "IDEMPOTENCY_UNKNOWN", IdempotencyUnknown)
+    ∷ (codes "NO_SIDE_EFFECTS", NoSideEffects) ∷ (codes "IDEMPOTENT", Idempotent) ∷ []
 
 abbrev pub text_said : ConstantSyntax → Option Text
 text_said (string pieces) = text_of pieces
@@ -107,16 +124,25 @@ words name of = (name, a_word (words_of of)) ∷ []
 
 abbrev pub file_table : Table
 file_table =
-    texts (codes "java_package" ∷ codes "java_outer_classname" ∷ codes "go_package" ∷ codes "objc_class_prefix" ∷ codes "csharp_namespace" ∷ codes "swift_prefix" ∷ codes "php_class_prefix" ∷ codes "php_namespace" ∷ codes "php_metadata_namespace" ∷ codes "ruby_package" ∷ [])
-    ++ truths (codes "java_multiple_files" ∷ codes "cc_generic_services" ∷ codes "java_generic_services" ∷ codes "py_generic_services" ∷ codes "java_generate_equals_and_hash" ∷ codes "deprecated" ∷ codes "java_string_check_utf8" ∷ codes "cc_enable_arenas" ∷ [])
+    texts (codes "java_package" ∷ codes "java_outer_classname" ∷ codes "go_package"
+    ∷ codes "objc_class_prefix" ∷ codes "csharp_namespace" ∷ codes "swift_prefix"
+    ∷ codes "php_class_prefix" ∷ codes "php_namespace" ∷ codes "php_metadata_namespace"
+    ∷ codes "ruby_package" ∷ [])
+    ++ truths (codes "java_multiple_files" ∷ codes "cc_generic_services"
+    ∷ codes "java_generic_services" ∷ codes "py_generic_services"
+    ∷ codes "java_generate_equals_and_hash" ∷ codes "deprecated" ∷ codes "java_string_check_utf8"
+    ∷ codes "cc_enable_arenas" ∷ [])
     ++ words (codes "optimize_for") optimize_modes
 
 abbrev pub message_table : Table
-message_table = truths (codes "message_set_wire_format" ∷ codes "no_standard_descriptor_accessor" ∷ codes "deprecated" ∷ codes "map_entry" ∷ [])
+message_table =
+    truths (codes "message_set_wire_format" ∷ codes "no_standard_descriptor_accessor"
+    ∷ codes "deprecated" ∷ codes "map_entry" ∷ [])
 
 abbrev pub field_table : Table
 field_table =
-    truths (codes "packed" ∷ codes "deprecated" ∷ codes "lazy" ∷ codes "weak" ∷ codes "unverified_lazy" ∷ codes "debug_redact" ∷ [])
+    truths (codes "packed" ∷ codes "deprecated" ∷ codes "lazy" ∷ codes "weak"
+    ∷ codes "unverified_lazy" ∷ codes "debug_redact" ∷ [])
     ++ words (codes "ctype") c_types ++ words (codes "jstype") js_types
 
 abbrev pub oneof_table : Table
@@ -132,7 +158,8 @@ abbrev pub service_table : Table
 service_table = truths (codes "deprecated" ∷ [])
 
 abbrev pub method_table : Table
-method_table = truths (codes "deprecated" ∷ []) ++ words (codes "idempotency_level") idempotency_levels
+method_table = truths (codes "deprecated" ∷ [])
+    ++ words (codes "idempotency_level") idempotency_levels
 
 -- ---- what is wrong
 
@@ -144,7 +171,8 @@ string_faults name None = fault StrLitDecode name
 abbrev pub value_faults : Text → BuiltinKind → ConstantSyntax → List Fault
 value_faults name a_text (string pieces) = string_faults name (text_of pieces)
 value_faults name a_truth (truth b) = []
-value_faults name (a_word words) (dotted n) = if stands_in n words then [] else fault InconvertibleValue name
+value_faults name (a_word words) (dotted n) =
+    if stands_in n words then [] else fault InconvertibleValue name
 value_faults name _ _ = fault InconvertibleValue name
 
 -- E11 for a name that the table doesn't have
@@ -155,7 +183,8 @@ entry_faults name value (Some entry) = value_faults name entry.1 value
 -- every table has `uninterpreted_option`, which can't be set
 abbrev pub builtin_faults : Table → Text → ConstantSyntax → List Fault
 builtin_faults table name value =
-    if bytes_eq name (codes "uninterpreted_option") then fault BuiltinOptionPointsToNonSingularField name
+    if bytes_eq name (codes "uninterpreted_option")
+    then fault BuiltinOptionPointsToNonSingularField name
     else entry_faults name value (find (λ entry. bytes_eq entry.0 name) table)
 
 -- of one statement; a custom option has no such fault

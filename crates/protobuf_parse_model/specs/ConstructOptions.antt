@@ -1,5 +1,6 @@
--- All that is wrong in the options of a construct that has those of a table, besides a field: in the built-in ones, and in
--- the custom ones, whose names are looked up from where the construct stands.
+-- All that is wrong in the options of a construct that has those of a table, besides a field: in
+-- the built-in ones, and in the custom ones, whose names are looked up from where the construct
+-- stands.
 use Rattle.std.specs.Prelude.{List, ◌++◌}
 use Rattle.protobuf_parse_syntax.specs.Trees.{OptionSyntax}
 use Rattle.protobuf_parse_model.specs.declared.customs.Construct.{Construct}

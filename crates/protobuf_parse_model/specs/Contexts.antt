@@ -1,6 +1,7 @@
--- The environment of a construct, by the numbers of the files that its file sees and what each full name is declared
--- as in which files.
-use Rattle.std.specs.Prelude.{ℕ, List, [], ◌∷◌, ◌++◌, map, flat_map, length, nat_eq, string_bytes, String, Option, Some, None, option_map, option_to_list, if◌then◌else◌}
+-- The environment of a construct, by the numbers of the files that its file sees and what each full
+-- name is declared as in which files.
+use Rattle.std.specs.Prelude.{ℕ, List, [], ◌∷◌, ◌++◌, map, flat_map, length, nat_eq, string_bytes}
+use Rattle.std.specs.Prelude.{String, Option, Some, None, option_map, option_to_list, if◌then◌else◌}
 use Rattle.std.specs.Borrow.{Bor}
 use Rattle.std.specs.Global.{Global, Vec}
 use Rattle.std.specs.List.{list_any}
@@ -16,13 +17,22 @@ use Rattle.protobuf_parse_model.specs.declared.scope.seen.Seen.{Seen}
 use Rattle.protobuf_parse_model.specs.declared.scope.Context.{Context}
 use Rattle.protobuf_parse_model.specs.declared.scope.Meaning.{Meaning}
 use Rattle.protobuf_parse_model.specs.declared.scope.ResolvedType.{ResolvedType}
-use Rattle.protobuf_parse_model.specs.Descriptors.{a_message as message_descriptor, messages_of_list, Text, Range, extension_range_view, reserved_range_view, FieldDescriptor, OneofDescriptor, EnumDescriptor, MessageDescriptor, field_view, oneof_view, enum_view, message_view}
+use Rattle.protobuf_parse_model.specs.Descriptors.{a_message as message_descriptor}
+use Rattle.protobuf_parse_model.specs.Descriptors.{messages_of_list, Text, Range}
+use Rattle.protobuf_parse_model.specs.Descriptors.{extension_range_view, reserved_range_view}
+use Rattle.protobuf_parse_model.specs.Descriptors.{FieldDescriptor, OneofDescriptor, EnumDescriptor}
+use Rattle.protobuf_parse_model.specs.Descriptors.{MessageDescriptor, field_view, oneof_view}
+use Rattle.protobuf_parse_model.specs.Descriptors.{enum_view, message_view}
 use Rattle.protobuf_parse_model.specs.declared.convert.place.FieldPlace.{FieldPlace}
 use Rattle.protobuf_parse_model.specs.Fields as fields
 use Rattle.protobuf_parse_model.specs.declared.convert.field.FieldSaid.{FieldSaid}
 use Rattle.protobuf_parse_model.specs.declared.descriptor.FieldType.{FieldType}
 use Rattle.protobuf_parse_model.specs.declared.convert.statement.DeclaredField.{DeclaredField}
-use Rattle.protobuf_parse_model.specs.Messages.{messages_behind, oneofs_of, fields_of, fields_from, nested_of, enums_of, extensions_of, extension_ranges, reserves, options_of_body, exclusive, names_of_oneofs, names_of_enums, names_of_messages}
+use Rattle.protobuf_parse_model.specs.Messages.{messages_behind, oneofs_of, fields_of, fields_from}
+use Rattle.protobuf_parse_model.specs.Messages.{nested_of, enums_of, extensions_of}
+use Rattle.protobuf_parse_model.specs.Messages.{extension_ranges, reserves, options_of_body}
+use Rattle.protobuf_parse_model.specs.Messages.{exclusive, names_of_oneofs, names_of_enums}
+use Rattle.protobuf_parse_model.specs.Messages.{names_of_messages}
 use Rattle.protobuf_parse_model.specs.Enums.{names_reserved, ranges_reserved}
 use Rattle.protobuf_parse_model.specs.Faults.{Fault}
 use Rattle.protobuf_parse_model.specs.Duplicates.{duplicates}
@@ -31,12 +41,16 @@ use Rattle.protobuf_parse_model.specs.declared.convert.rest.Rest.{Rest}
 use Rattle.protobuf_parse_model.specs.declared.descriptor.ReservedRange.{ReservedRange}
 use Rattle.protobuf_parse_model.specs.declared.convert.lists.DeclaredFields.{DeclaredFields}
 use Rattle.protobuf_parse_model.specs.declared.convert.body.Body.{Body}
-use Rattle.protobuf_parse_syntax.specs.Trees.{FileSyntax, OptionSyntax, FieldStatementSyntax, MessageStatementSyntax, ReservedSyntax, EnumValueSyntax, MethodSyntax, reserved_view, value_view, method_view, field_statement_view}
+use Rattle.protobuf_parse_syntax.specs.Trees.{FileSyntax, OptionSyntax, FieldStatementSyntax}
+use Rattle.protobuf_parse_syntax.specs.Trees.{MessageStatementSyntax, ReservedSyntax}
+use Rattle.protobuf_parse_syntax.specs.Trees.{EnumValueSyntax, MethodSyntax, reserved_view}
+use Rattle.protobuf_parse_syntax.specs.Trees.{value_view, method_view, field_statement_view}
 use Rattle.protobuf_parse_syntax.specs.declared.tree.field.FieldStatement.{FieldStatement}
 use Rattle.protobuf_parse_syntax.specs.declared.tree.declaration.Method.{Method}
 use Rattle.protobuf_parse_syntax.specs.declared.tree.declaration.Reserved.{Reserved}
 use Rattle.protobuf_parse_syntax.specs.declared.tree.declaration.EnumValue.{EnumValue}
-use Rattle.protobuf_parse_model.specs.Options.{FieldOptionsSet, MessageOptionsSet, field_options_view, message_options_view}
+use Rattle.protobuf_parse_model.specs.Options.{FieldOptionsSet, MessageOptionsSet}
+use Rattle.protobuf_parse_model.specs.Options.{field_options_view, message_options_view}
 use Rattle.protobuf_parse_model.specs.OptionsSet.{field_options, message_options}
 use Rattle.protobuf_parse_model.specs.Fields.{FieldTypeOf}
 use Rattle.protobuf_parse_model.specs.Declarations as declared
@@ -76,10 +90,12 @@ pub record FieldAndMessage : Type 0 where
   pub behind : List MessageDescriptor
 
 abbrev pub declared_view : DeclaredField → FieldAndMessage
-declared_view d = record { field = field_view d.field; behind = map message_view (option_to_list d.behind) }
+declared_view d =
+    record { field = field_view d.field; behind = map message_view (option_to_list d.behind) }
 
 abbrev pub declared_by : Environment → fields.FieldPlace → FieldStatementSyntax → FieldAndMessage
-declared_by env place s = record { field = fields.field_statement_of env place s; behind = messages_behind env s }
+declared_by env place s =
+    record { field = fields.field_statement_of env place s; behind = messages_behind env s }
 
 -- fields, and the messages behind them
 pub record FieldsAndMessages : Type 0 where
@@ -87,10 +103,17 @@ pub record FieldsAndMessages : Type 0 where
   pub behind : List MessageDescriptor
 
 abbrev pub fields_view : DeclaredFields → FieldsAndMessages
-fields_view d = record { fields = map field_view d.fields.items; behind = map message_view d.behind.items }
+fields_view d =
+    record { fields = map field_view d.fields.items; behind = map message_view d.behind.items }
 
-abbrev pub fields_declared : Environment → fields.FieldPlace → List FieldStatementSyntax → FieldsAndMessages
-fields_declared env place ss = record { fields = map (fields.field_statement_of env place) ss; behind = flat_map (messages_behind env) ss }
+abbrev pub fields_declared : Environment → fields.FieldPlace → List FieldStatementSyntax
+    → FieldsAndMessages
+fields_declared env place ss =
+    record {
+      fields = map (fields.field_statement_of env place) ss;
+      behind =
+          flat_map (messages_behind env) ss;
+    }
 
 -- what the statements of a body declare, so far
 pub record BodyParts : Type 0 where
@@ -101,18 +124,50 @@ pub record BodyParts : Type 0 where
   pub extension : List FieldDescriptor
 
 abbrev pub body_view : Body → BodyParts
-body_view b = record { field = map field_view b.field.items; oneof_decl = map oneof_view b.oneof_decl.items; nested_type = map message_view b.nested_type.items; enum_type = map enum_view b.enum_type.items; extension = map field_view b.extension.items }
+body_view b =
+    record {
+      field = map field_view b.field.items;
+      oneof_decl = map oneof_view b.oneof_decl.items;
+      nested_type = map message_view b.nested_type.items;
+      enum_type = map enum_view b.enum_type.items;
+      extension = map field_view b.extension.items;
+    }
 
 -- with one statement more
 abbrev pub with_statement : Environment → BodyParts → MessageStatementSyntax → BodyParts
-with_statement env b s = record { field = b.field ++ fields_of env (length b.oneof_decl) s; oneof_decl = b.oneof_decl ++ oneofs_of env s; nested_type = b.nested_type ++ nested_of env s; enum_type = b.enum_type ++ enums_of env s; extension = b.extension ++ extensions_of env s }
+with_statement env b s =
+    record {
+      field = b.field ++ fields_of env (length b.oneof_decl) s;
+      oneof_decl =
+          b.oneof_decl ++ oneofs_of env s;
+      nested_type = b.nested_type ++ nested_of env s;
+      enum_type =
+          b.enum_type ++ enums_of env s;
+      extension = b.extension ++ extensions_of env s;
+    }
 
 -- with a message more
 abbrev pub with_message : BodyParts → MessageDescriptor → BodyParts
-with_message b m = record { field = b.field; oneof_decl = b.oneof_decl; nested_type = b.nested_type ++ m ∷ []; enum_type = b.enum_type; extension = b.extension }
+with_message b m =
+    record {
+      field = b.field;
+      oneof_decl = b.oneof_decl;
+      nested_type = b.nested_type ++ m ∷ [];
+      enum_type = b.enum_type;
+      extension = b.extension;
+    }
 
 abbrev pub body_of : Environment → List MessageStatementSyntax → BodyParts
-body_of env ss = record { field = fields_from env 0 ss; oneof_decl = flat_map (oneofs_of env) ss; nested_type = flat_map (nested_of env) ss; enum_type = flat_map (enums_of env) ss; extension = flat_map (extensions_of env) ss }
+body_of env ss =
+    record {
+      field = fields_from env 0 ss;
+      oneof_decl = flat_map (oneofs_of env) ss;
+      nested_type =
+          flat_map (nested_of env) ss;
+      enum_type = flat_map (enums_of env) ss;
+      extension =
+          flat_map (extensions_of env) ss;
+    }
 
 -- E1 for two of a kind that have one name
 abbrev pub names_faults : BodyParts → List Fault
@@ -131,16 +186,45 @@ pub record RestParts : Type 0 where
   pub options : Option MessageOptionsSet
 
 abbrev pub rest_view : Rest → RestParts
-rest_view r = record { extension_range = map extension_range_view r.extension_range.items; reserved_range = map reserved_range_view r.reserved_range.items; reserved_name = map string_bytes r.reserved_name.items; options = option_map message_options_view r.options }
+rest_view r =
+    record {
+      extension_range = map extension_range_view r.extension_range.items;
+      reserved_range =
+          map reserved_range_view r.reserved_range.items;
+      reserved_name =
+          map string_bytes r.reserved_name.items;
+      options = option_map message_options_view r.options;
+    }
 
 abbrev pub reserved_parts : Vec ReservedRange × Vec (String Global) → List Range × List Text
 reserved_parts p = (map reserved_range_view p.0.items, map string_bytes p.1.items)
 
 abbrev pub message_with : Text → BodyParts → RestParts → MessageDescriptor
-message_with name b r = message_descriptor (record { name = name; field = b.field; oneof_decl = b.oneof_decl; enum_type = b.enum_type; extension = b.extension; extension_range = r.extension_range; reserved_range = r.reserved_range; reserved_name = r.reserved_name; options = r.options }) (messages_of_list b.nested_type)
+message_with name b r =
+    message_descriptor
+    (record {
+      name = name;
+      field = b.field;
+      oneof_decl = b.oneof_decl;
+      enum_type = b.enum_type;
+      extension = b.extension;
+      extension_range = r.extension_range;
+      reserved_range = r.reserved_range;
+      reserved_name = r.reserved_name;
+      options = r.options;
+    }) (messages_of_list b.nested_type)
 
 abbrev pub rest_of : Environment → List MessageStatementSyntax → RestParts
-rest_of env body = record { extension_range = map exclusive (flat_map extension_ranges body); reserved_range = map exclusive (flat_map ranges_reserved (flat_map reserves body)); reserved_name = flat_map names_reserved (flat_map reserves body); options = message_options (customs_bytes env of.Message (options_of_body body)) (options_of_body body) }
+rest_of env body =
+    record {
+      extension_range = map exclusive (flat_map extension_ranges body);
+      reserved_range =
+          map exclusive (flat_map ranges_reserved (flat_map reserves body));
+      reserved_name =
+          flat_map names_reserved (flat_map reserves body);
+      options =
+          message_options (customs_bytes env of.Message (options_of_body body)) (options_of_body body);
+    }
 
 -- what the options of a field say
 pub record Said : Type 0 where
@@ -149,13 +233,29 @@ pub record Said : Type 0 where
   pub options : Option FieldOptionsSet
 
 abbrev pub said_view : FieldSaid → Said
-said_view s = record { default_value = option_map string_bytes s.default_value; json_name = string_bytes s.json_name; options = option_map field_options_view s.options }
+said_view s =
+    record {
+      default_value = option_map string_bytes s.default_value;
+      json_name =
+          string_bytes s.json_name;
+      options = option_map field_options_view s.options;
+    }
 
 abbrev pub said_by : Environment → FieldType → Text → List OptionSyntax → Said
-said_by env type_ name os = record { default_value = fields.default_of type_ os; json_name = fields.json_name_of name os; options = field_options (customs_bytes env of.Field os) os }
+said_by env type_ name os =
+    record {
+      default_value = fields.default_of type_ os;
+      json_name = fields.json_name_of name os;
+      options = field_options (customs_bytes env of.Field os) os;
+    }
 
 abbrev pub place_view : FieldPlace → fields.FieldPlace
-place_view p = record { extendee = option_map (λ (s : Bor (List ℕ)). s.now) p.extendee; oneof_index = p.oneof_index }
+place_view p =
+    record {
+      extendee = option_map (λ (s : Bor (List ℕ)). s.now) p.extendee;
+      oneof_index =
+          p.oneof_index;
+    }
 
 -- what kind of type is declared, where a written name may mean it
 abbrev pub type_kind : DeclarationKind → Option TypeKind
@@ -164,10 +264,12 @@ type_kind declaration.Enum = Some kind.Enum
 type_kind declaration.Generated = None
 type_kind declaration.Extension = None
 
--- the type that the first declaration declares that is of one and stands in a file with one of these numbers
+-- the type that the first declaration declares that is of one and stands in a file with one of
+-- these numbers
 abbrev pub first_type : List ℕ → List Declaration → Option TypeKind
 first_type sight [] = None
-first_type sight (d ∷ ds) = if list_any (nat_eq d.file) sight then option_or (type_kind d.kind) (first_type sight ds) else first_type sight ds
+first_type sight (d ∷ ds) = if list_any (nat_eq d.file) sight
+    then option_or (type_kind d.kind) (first_type sight ds) else first_type sight ds
 
 -- the declarations of a list that may be there
 abbrev pub listed : Option (Vec Declaration) → List Declaration
@@ -182,10 +284,19 @@ abbrev pub declared_type : Text → TypeKind → DeclaredType
 declared_type name k = record { name = name; what = kind_view k }
 
 abbrev pub seen_types : Seen → Text → Option DeclaredType
-seen_types seen name = option_map (declared_type name) (first_type seen.sight.now (declared_as seen.declarations.now name))
+seen_types seen name =
+    option_map (declared_type name)
+    (first_type seen.sight.now (declared_as seen.declarations.now name))
 
 abbrev pub environment_in : Customs → Context → Environment
-environment_in customs c = record { syntax = c.syntax; types = seen_types c.seen; scope = texts c.scope.now; customs = customs }
+environment_in customs c =
+    record {
+      syntax = c.syntax;
+      types = seen_types c.seen;
+      scope = texts c.scope.now;
+      customs =
+          customs;
+    }
 
 -- the environment that names of types are looked up in, which custom options are no part of
 abbrev pub names_in : Context → Environment
@@ -193,4 +304,5 @@ names_in c = environment_in no_customs c
 
 -- the same for a whole file, by what it sees
 abbrev pub environment_of_file : Customs → Seen → FileSyntax → Environment
-environment_of_file customs seen t = record { syntax = t.syntax; types = seen_types seen; scope = file_scope t; customs = customs }
+environment_of_file customs seen t =
+    record { syntax = t.syntax; types = seen_types seen; scope = file_scope t; customs = customs }

@@ -1,12 +1,20 @@
--- What a file declares, by full name: messages and enums, extensions, and the messages that stand behind maps and
--- groups. A full name has a dot before each identifier, from the package down to the declaration's own name.
--- Protocol Buffers Language Guide (proto2), "Nested Types", "Packages and Name Resolution", "Extensions", "Maps";
--- Protocol Buffers Language Specification, "Package", "Group field", "Map field", "Extend" (https://protobuf.dev).
+-- What a file declares, by full name: messages and enums, extensions, and the messages that stand
+-- behind maps and groups. A full name has a dot before each identifier, from the package down to
+-- the declaration's own name. Protocol Buffers Language Guide (proto2), "Nested Types", "Packages
+-- and Name Resolution", "Extensions", "Maps"; Protocol Buffers Language Specification, "Package",
+-- "Group field", "Map field", "Extend" (https://protobuf.dev).
 use Rattle.std.specs.Prelude.{List, [], ◌∷◌, ◌++◌, map, flat_map, unwrap_or, if◌then◌else◌}
 use Rattle.protobuf_parse_base.specs.Names.{absolute_text, relative_idents}
-use Rattle.protobuf_parse_syntax.specs.Trees.{FieldStatementSyntax, field, group, MessageStatementSyntax, message_oneof, message_extend, message_message, message_enum, message_field, MessageStatementList, no_statements, more_statements, MessageSyntax, ExtendSyntax, StatementSyntax, file_message, file_enum, file_extend, FileSyntax, package_of}
+use Rattle.protobuf_parse_syntax.specs.Trees.{FieldStatementSyntax, field, group}
+use Rattle.protobuf_parse_syntax.specs.Trees.{MessageStatementSyntax, message_oneof, message_extend}
+use Rattle.protobuf_parse_syntax.specs.Trees.{message_message, message_enum, message_field}
+use Rattle.protobuf_parse_syntax.specs.Trees.{MessageStatementList, no_statements, more_statements}
+use Rattle.protobuf_parse_syntax.specs.Trees.{MessageSyntax, ExtendSyntax, StatementSyntax}
+use Rattle.protobuf_parse_syntax.specs.Trees.{file_message, file_enum, file_extend, FileSyntax}
+use Rattle.protobuf_parse_syntax.specs.Trees.{package_of}
 use Rattle.protobuf_parse_model.specs.Descriptors.{Text}
-use Rattle.protobuf_parse_model.specs.Statements.{field_statement_name, entry_name, is_map, oneof_fields}
+use Rattle.protobuf_parse_model.specs.Statements.{field_statement_name, entry_name, is_map}
+use Rattle.protobuf_parse_model.specs.Statements.{oneof_fields}
 
 -- ---- names
 
@@ -46,7 +54,8 @@ DeclaredType = Declared TypeKind
 abbrev mutual
   -- what a statement of a body declares
   pub types_of : Scope → MessageStatementSyntax → List DeclaredType
-  types_of scope (message_message place name body) = declare scope name a_message ∷ types_in (inside scope name) body
+  types_of scope (message_message place name body) =
+      declare scope name a_message ∷ types_in (inside scope name) body
   types_of scope (message_enum e) = declare scope e.name an_enum ∷ []
   types_of scope _ = []
 
@@ -55,7 +64,8 @@ abbrev mutual
   types_in scope (more_statements s ss) = types_of scope s ++ types_in scope ss
 
 abbrev pub message_types : Scope → MessageSyntax → List DeclaredType
-message_types scope m = declare scope m.name a_message ∷ flat_map (types_of (inside scope m.name)) m.body
+message_types scope m = declare scope m.name a_message
+    ∷ flat_map (types_of (inside scope m.name)) m.body
 
 abbrev pub statement_types : Scope → StatementSyntax → List DeclaredType
 statement_types scope (file_message m) = message_types scope m
@@ -67,8 +77,8 @@ file_types t = flat_map (statement_types (file_scope t)) t.statements
 
 -- ---- extensions
 
--- a field of an `extend`, the name of the message that it extends as written, and the scope from which that name is
--- looked up
+-- a field of an `extend`, the name of the message that it extends as written, and the scope from
+-- which that name is looked up
 pub record ExtensionSyntax : Type 0 where
   pub extendee : Text
   pub scope : Scope
@@ -78,7 +88,9 @@ abbrev pub DeclaredExtension : Type 0
 DeclaredExtension = Declared ExtensionSyntax
 
 abbrev pub extend_extensions : Scope → ExtendSyntax → List DeclaredExtension
-extend_extensions scope e = map (λ (f : FieldStatementSyntax). declare scope (field_statement_name f) (record { extendee = e.extendee; scope = scope; field = f })) e.fields
+extend_extensions scope e =
+    map (λ (f : FieldStatementSyntax). declare scope (field_statement_name f)
+    (record { extendee = e.extendee; scope = scope; field = f })) e.fields
 
 abbrev mutual
   pub extensions_of : Scope → MessageStatementSyntax → List DeclaredExtension
@@ -101,13 +113,15 @@ file_extensions t = flat_map (statement_extensions (file_scope t)) t.statements
 -- ---- the messages behind maps and groups: no name that a file writes means one of them
 
 abbrev pub generated_by : Scope → FieldStatementSyntax → List Text
-generated_by scope (field f) = if is_map f.type_ then full_name scope (entry_name f.name) ∷ [] else []
+generated_by scope (field f) = if is_map f.type_ then full_name scope (entry_name f.name) ∷ []
+    else []
 generated_by scope (group place label name number fields) = full_name scope name ∷ []
 
 abbrev mutual
   pub generated_of : Scope → MessageStatementSyntax → List Text
   generated_of scope (message_field f) = generated_by scope f
-  generated_of scope (message_oneof o) = flat_map (generated_by scope) (flat_map oneof_fields o.body)
+  generated_of scope (message_oneof o) =
+      flat_map (generated_by scope) (flat_map oneof_fields o.body)
   generated_of scope (message_extend e) = flat_map (generated_by scope) e.fields
   generated_of scope (message_message place name body) = generated_in (inside scope name) body
   generated_of scope _ = []

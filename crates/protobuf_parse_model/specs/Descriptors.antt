@@ -1,8 +1,16 @@
--- What descriptors say, without where they lie in memory: the messages of google/protobuf/descriptor.proto
--- (Protocol Buffers, "Descriptors"). Names and texts are bytes; an absent text or list of options is None.
-use Rattle.std.specs.Prelude.{◌≡◌, ℕ, ℤ, Bool, List, [], ◌∷◌, Option, map, option_map, refl, string_bytes}
+-- What descriptors say, without where they lie in memory: the messages of
+-- google/protobuf/descriptor.proto (Protocol Buffers, "Descriptors"). Names and texts are bytes; an
+-- absent text or list of options is None.
+use Rattle.std.specs.Prelude.{◌≡◌, ℕ, ℤ, Bool, List, [], ◌∷◌, Option, map, option_map, refl}
+use Rattle.std.specs.Prelude.{string_bytes}
 use Rattle.protobuf_parse_syntax.specs.declared.tree.field.Label.{Label}
-use Rattle.protobuf_parse_model.specs.Options.{FileOptionsSet, MessageOptionsSet, FieldOptionsSet, OneofOptionsSet, EnumOptionsSet, EnumValueOptionsSet, ServiceOptionsSet, MethodOptionsSet, file_options_view, message_options_view, field_options_view, oneof_options_view, enum_options_view, enum_value_options_view, service_options_view, method_options_view}
+use Rattle.protobuf_parse_model.specs.Options.{FileOptionsSet, MessageOptionsSet, FieldOptionsSet}
+use Rattle.protobuf_parse_model.specs.Options.{OneofOptionsSet, EnumOptionsSet, EnumValueOptionsSet}
+use Rattle.protobuf_parse_model.specs.Options.{ServiceOptionsSet, MethodOptionsSet}
+use Rattle.protobuf_parse_model.specs.Options.{file_options_view, message_options_view}
+use Rattle.protobuf_parse_model.specs.Options.{field_options_view, oneof_options_view}
+use Rattle.protobuf_parse_model.specs.Options.{enum_options_view, enum_value_options_view}
+use Rattle.protobuf_parse_model.specs.Options.{service_options_view, method_options_view}
 use Rattle.protobuf_parse_model.specs.declared.descriptor.FieldType.{FieldType}
 use Rattle.protobuf_parse_model.specs.declared.descriptor.FieldDescriptorProto.{FieldDescriptorProto}
 use Rattle.protobuf_parse_model.specs.declared.descriptor.OneofDescriptorProto.{OneofDescriptorProto}
@@ -13,7 +21,9 @@ use Rattle.protobuf_parse_model.specs.declared.descriptor.ExtensionRange.{Extens
 use Rattle.protobuf_parse_model.specs.declared.descriptor.ReservedRange.{ReservedRange}
 use Rattle.protobuf_parse_model.specs.declared.descriptor.ServiceDescriptorProto.{ServiceDescriptorProto}
 use Rattle.protobuf_parse_model.specs.declared.descriptor.MethodDescriptorProto.{MethodDescriptorProto}
-use Rattle.protobuf_parse_model.specs.declared.descriptor.DescriptorProto.{DescriptorProto, fold-DescriptorProto, out-DescriptorProto}
+use Rattle.protobuf_parse_model.specs.declared.descriptor.DescriptorProto.{DescriptorProto}
+use Rattle.protobuf_parse_model.specs.declared.descriptor.DescriptorProto.{fold-DescriptorProto}
+use Rattle.protobuf_parse_model.specs.declared.descriptor.DescriptorProto.{out-DescriptorProto}
 use Rattle.protobuf_parse_model.specs.declared.descriptor.DescriptorProto.TheFolds.{fold_out-DescriptorProto}
 use Rattle.protobuf_parse_model.specs.declared.descriptor.DescriptorProto.TheOpen.{DescriptorProto-F}
 use Rattle.protobuf_parse_model.specs.declared.descriptor.FileDescriptorProto.{FileDescriptorProto}
@@ -129,10 +139,17 @@ field_view f = record {
 }
 
 abbrev pub oneof_view : OneofDescriptorProto → OneofDescriptor
-oneof_view o = record { name = string_bytes o.name; options = option_map oneof_options_view o.options }
+oneof_view o =
+    record { name = string_bytes o.name; options = option_map oneof_options_view o.options }
 
 abbrev pub enum_value_view : EnumValueDescriptorProto → EnumValueDescriptor
-enum_value_view v = record { name = string_bytes v.name; number = v.number; options = option_map enum_value_options_view v.options }
+enum_value_view v =
+    record {
+      name = string_bytes v.name;
+      number = v.number;
+      options =
+          option_map enum_value_options_view v.options;
+    }
 
 abbrev pub enum_range_view : EnumReservedRange → Range
 enum_range_view r = record { start = r.start; end = r.end }
@@ -176,7 +193,9 @@ abbrev pub message_parts : DescriptorProto → MessageParts
 message_parts m = parts_of (out-DescriptorProto m)
 
 -- a message seen one level deep
-pub message_view_is : (m : DescriptorProto) → message_view m ≡ a_message (message_parts m) (messages_of_list (map message_view (out-DescriptorProto m).nested_type.items))
+pub message_view_is : (m : DescriptorProto)
+    → message_view m ≡ a_message (message_parts m)
+    (messages_of_list (map message_view (out-DescriptorProto m).nested_type.items))
 message_view_is m = fold_out-DescriptorProto MessageDescriptor message_step m
 
 abbrev pub method_view : MethodDescriptorProto → MethodDescriptor
@@ -190,7 +209,13 @@ method_view m = record {
 }
 
 abbrev pub service_view : ServiceDescriptorProto → ServiceDescriptor
-service_view s = record { name = string_bytes s.name; method = map method_view s.method.items; options = option_map service_options_view s.options }
+service_view s =
+    record {
+      name = string_bytes s.name;
+      method = map method_view s.method.items;
+      options =
+          option_map service_options_view s.options;
+    }
 
 abbrev pub file_view : FileDescriptorProto → FileDescriptor
 file_view f = record {

@@ -20,7 +20,8 @@ stands_in name (x ∷ xs) = bytes_eq x name || stands_in name xs
 -- the fault for each name that stands among those before it; `before` are those before the first
 abbrev pub repeats_after : List Text → ElabErrorKind → List Text → List Fault
 repeats_after before kind [] = []
-repeats_after before kind (x ∷ xs) = fault_when (stands_in x before) kind x ++ repeats_after (before ++ x ∷ []) kind xs
+repeats_after before kind (x ∷ xs) = fault_when (stands_in x before) kind x
+    ++ repeats_after (before ++ x ∷ []) kind xs
 
 abbrev pub repeats : ElabErrorKind → List Text → List Fault
 repeats kind names = repeats_after [] kind names

@@ -1,8 +1,12 @@
--- What the declaration of an enum becomes: an EnumDescriptorProto of google/protobuf/descriptor.proto; and the faults that
--- stand in it. A reserved range has both its ends.
--- Protocol Buffers Language Specification, "Enum definition", "Reserved" (https://protobuf.dev).
+-- What the declaration of an enum becomes: an EnumDescriptorProto of
+-- google/protobuf/descriptor.proto; and the faults that stand in it. A reserved range has both its
+-- ends. Protocol Buffers Language Specification, "Enum definition", "Reserved"
+-- (https://protobuf.dev).
 use Rattle.std.specs.Prelude.{List, [], ◌∷◌, ◌++◌, map, flat_map}
-use Rattle.protobuf_parse_syntax.specs.Trees.{OptionSyntax, RangeSyntax, ReservedSyntax, reserved_ranges, reserved_names, EnumStatementSyntax, enum_reserved, enum_option, enum_value, EnumValueSyntax, EnumSyntax}
+use Rattle.protobuf_parse_syntax.specs.Trees.{OptionSyntax, RangeSyntax, ReservedSyntax}
+use Rattle.protobuf_parse_syntax.specs.Trees.{reserved_ranges, reserved_names, EnumStatementSyntax}
+use Rattle.protobuf_parse_syntax.specs.Trees.{enum_reserved, enum_option, enum_value}
+use Rattle.protobuf_parse_syntax.specs.Trees.{EnumValueSyntax, EnumSyntax}
 use Rattle.protobuf_parse_model.specs.Descriptors.{Text, Range, EnumValueDescriptor, EnumDescriptor}
 use Rattle.protobuf_parse_model.specs.Faults.{Fault}
 use Rattle.protobuf_parse_model.specs.Duplicates.{duplicates}
@@ -42,7 +46,13 @@ options_of_enum e = flat_map options_in_enum e.body
 -- ---- descriptors
 
 abbrev pub value_of : Environment → EnumValueSyntax → EnumValueDescriptor
-value_of env v = record { name = v.name; number = v.number; options = enum_value_options (customs_bytes env of.EnumValue v.options) v.options }
+value_of env v =
+    record {
+      name = v.name;
+      number = v.number;
+      options =
+          enum_value_options (customs_bytes env of.EnumValue v.options) v.options;
+    }
 
 abbrev pub inclusive : RangeSyntax → Range
 inclusive r = record { start = r.from; end = r.to }
@@ -66,8 +76,10 @@ value_faults env v = construct_faults env of.EnumValue enum_value_table v.option
 
 -- E1 for two values that have one name
 abbrev pub values_faults : Environment → List EnumValueSyntax → List Fault
-values_faults env values = duplicates (map (λ (v : EnumValueSyntax). v.name) values) ++ flat_map (value_faults env) values
+values_faults env values = duplicates (map (λ (v : EnumValueSyntax). v.name) values)
+    ++ flat_map (value_faults env) values
 
 abbrev pub enum_faults : Environment → EnumSyntax → List Fault
 enum_faults env e =
-    values_faults env (flat_map enum_values e.body) ++ construct_faults env of.Enum enum_table (options_of_enum e)
+    values_faults env (flat_map enum_values e.body)
+    ++ construct_faults env of.Enum enum_table (options_of_enum e)

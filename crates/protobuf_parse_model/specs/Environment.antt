@@ -1,8 +1,12 @@
 -- From where a construct is seen: what its names may mean, and what its custom options are.
-use Rattle.std.specs.Prelude.{List, [], ◌∷◌, ◌++◌, flat_map, codes, Option, Some, None, option_map, if◌then◌else◌}
-use Rattle.protobuf_parse_syntax.specs.Trees.{OptionPartSyntax, direct, extension, OptionNameSyntax, builtin, custom, OptionSyntax}
+use Rattle.std.specs.Prelude.{List, [], ◌∷◌, ◌++◌, flat_map, codes, Option, Some, None, option_map}
+use Rattle.std.specs.Prelude.{if◌then◌else◌}
+use Rattle.protobuf_parse_syntax.specs.Trees.{OptionPartSyntax, direct, extension, OptionNameSyntax}
+use Rattle.protobuf_parse_syntax.specs.Trees.{builtin, custom, OptionSyntax}
 use Rattle.protobuf_parse_syntax.specs.declared.tree.Syntax.{Syntax}
-use Rattle.protobuf_parse_model.specs.declared.error.ElabErrorKind.TheVariants.{BuiltinOptionNotFound, NotFoundByAbsPath, NotFoundByRelPath}
+use Rattle.protobuf_parse_model.specs.declared.error.ElabErrorKind.TheVariants.{BuiltinOptionNotFound}
+use Rattle.protobuf_parse_model.specs.declared.error.ElabErrorKind.TheVariants.{NotFoundByAbsPath}
+use Rattle.protobuf_parse_model.specs.declared.error.ElabErrorKind.TheVariants.{NotFoundByRelPath}
 use Rattle.protobuf_parse_model.specs.declared.customs.Construct.{Construct}
 use Rattle.protobuf_parse_model.specs.Descriptors.{Text}
 use Rattle.protobuf_parse_model.specs.Faults.{Fault}
@@ -53,7 +57,8 @@ type_full_name env name = option_map (λ (d : DeclaredType). d.name) (type_named
 
 -- E2 or E3
 abbrev pub missing_name : Text → List Fault
-missing_name name = fault (if begins_with_dot name then NotFoundByAbsPath else NotFoundByRelPath) name
+missing_name name =
+    fault (if begins_with_dot name then NotFoundByAbsPath else NotFoundByRelPath) name
 
 -- for a name that means nothing
 abbrev pub missing : {A : Type 0} → Text → Option A → List Fault

@@ -1,14 +1,20 @@
--- What a file becomes: a FileDescriptorProto of google/protobuf/descriptor.proto; and the faults that stand in it. Where
--- one stands the descriptor may be anything. The tree's places say nothing here.
+-- What a file becomes: a FileDescriptorProto of google/protobuf/descriptor.proto; and the faults
+-- that stand in it. Where one stands the descriptor may be anything. The tree's places say nothing
+-- here.
 --
--- Which files a file sees, and which it reaches by its imports, are given as lists, the file itself among them.
--- Protocol Buffers Language Specification, "Proto file", "Import Statement", "Package" (https://protobuf.dev).
+-- Which files a file sees, and which it reaches by its imports, are given as lists, the file itself
+-- among them. Protocol Buffers Language Specification, "Proto file", "Import Statement", "Package"
+-- (https://protobuf.dev).
 use Rattle.std.specs.Prelude.{List, [], ◌∷◌, ◌++◌, map, flat_map, codes, Some}
-use Rattle.protobuf_parse_syntax.specs.Trees.{OptionSyntax, StatementSyntax, file_option, file_message, file_enum, file_extend, file_service, FileSyntax, package_of}
+use Rattle.protobuf_parse_syntax.specs.Trees.{OptionSyntax, StatementSyntax, file_option}
+use Rattle.protobuf_parse_syntax.specs.Trees.{file_message, file_enum, file_extend, file_service}
+use Rattle.protobuf_parse_syntax.specs.Trees.{FileSyntax, package_of}
 use Rattle.protobuf_parse_syntax.specs.Dependencies.{imports, imports_of}
 use Rattle.protobuf_parse_syntax.specs.declared.tree.Syntax.{Syntax}
 use Rattle.protobuf_parse_syntax.specs.declared.tree.Syntax.TheVariants.{Proto2, Proto3}
-use Rattle.protobuf_parse_model.specs.Descriptors.{Text, FieldDescriptor, EnumDescriptor, MessageDescriptor, ServiceDescriptor, FileDescriptor}
+use Rattle.protobuf_parse_model.specs.Descriptors.{Text, FieldDescriptor, EnumDescriptor}
+use Rattle.protobuf_parse_model.specs.Descriptors.{MessageDescriptor, ServiceDescriptor}
+use Rattle.protobuf_parse_model.specs.Descriptors.{FileDescriptor}
 use Rattle.protobuf_parse_model.specs.Faults.{Fault}
 use Rattle.protobuf_parse_model.specs.Declarations.{DeclaredType, file_scope, file_types}
 use Rattle.protobuf_parse_model.specs.Lookup.{declared}
@@ -20,7 +26,9 @@ use Rattle.protobuf_parse_model.specs.ConstructOptions.{construct_faults}
 use Rattle.protobuf_parse_model.specs.OptionsSet.{file_options}
 use Rattle.protobuf_parse_model.specs.Fields.{names_of_fields}
 use Rattle.protobuf_parse_model.specs.Enums.{enum_of, enum_faults}
-use Rattle.protobuf_parse_model.specs.Messages.{messages_behind, message_of, message_faults, extend_fields, extend_faults, names_of_messages, names_of_enums}
+use Rattle.protobuf_parse_model.specs.Messages.{messages_behind, message_of, message_faults}
+use Rattle.protobuf_parse_model.specs.Messages.{extend_fields, extend_faults, names_of_messages}
+use Rattle.protobuf_parse_model.specs.Messages.{names_of_enums}
 use Rattle.protobuf_parse_model.specs.Services.{service_of, service_faults}
 
 -- ---- the statements of a file
@@ -84,7 +92,8 @@ file_of env path t = record {
   enum_type = flat_map (enums_of env) t.statements;
   service = flat_map (services_of env) t.statements;
   extension = flat_map (extensions_of env) t.statements;
-  options = file_options (customs_bytes env of.File (options_of_statements t.statements)) (options_of_statements t.statements);
+  options = file_options (customs_bytes env of.File (options_of_statements t.statements))
+      (options_of_statements t.statements);
 }
 
 -- ---- faults

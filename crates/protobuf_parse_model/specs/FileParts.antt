@@ -2,13 +2,16 @@
 use Rattle.std.specs.Prelude.{List, ◌++◌, map, flat_map}
 use Rattle.protobuf_parse_syntax.specs.Trees.{StatementSyntax}
 use Rattle.protobuf_parse_model.specs.declared.convert.contents.Contents.{Contents}
-use Rattle.protobuf_parse_model.specs.Descriptors.{FieldDescriptor, EnumDescriptor, MessageDescriptor, ServiceDescriptor, enum_view, field_view, message_view, service_view}
+use Rattle.protobuf_parse_model.specs.Descriptors.{FieldDescriptor, EnumDescriptor}
+use Rattle.protobuf_parse_model.specs.Descriptors.{MessageDescriptor, ServiceDescriptor, enum_view}
+use Rattle.protobuf_parse_model.specs.Descriptors.{field_view, message_view, service_view}
 use Rattle.protobuf_parse_model.specs.Duplicates.{duplicates}
 use Rattle.protobuf_parse_model.specs.Environment.{Environment}
 use Rattle.protobuf_parse_model.specs.Faults.{Fault}
 use Rattle.protobuf_parse_model.specs.Fields.{names_of_fields}
 use Rattle.protobuf_parse_model.specs.Messages.{names_of_messages, names_of_enums}
-use Rattle.protobuf_parse_model.specs.FileDescriptor.{enums_of, extensions_of, messages_of, names_of_services, services_of}
+use Rattle.protobuf_parse_model.specs.FileDescriptor.{enums_of, extensions_of, messages_of}
+use Rattle.protobuf_parse_model.specs.FileDescriptor.{names_of_services, services_of}
 
 pub record FileParts : Type 0 where
   pub message_type : List MessageDescriptor
@@ -17,14 +20,36 @@ pub record FileParts : Type 0 where
   pub extension : List FieldDescriptor
 
 abbrev pub parts_view : Contents → FileParts
-parts_view c = record { message_type = map message_view c.message_type.items; enum_type = map enum_view c.enum_type.items; service = map service_view c.service.items; extension = map field_view c.extension.items }
+parts_view c =
+    record {
+      message_type = map message_view c.message_type.items;
+      enum_type =
+          map enum_view c.enum_type.items;
+      service = map service_view c.service.items;
+      extension =
+          map field_view c.extension.items;
+    }
 
 -- with one statement more
 abbrev pub with_file_statement : Environment → FileParts → StatementSyntax → FileParts
-with_file_statement env p s = record { message_type = p.message_type ++ messages_of env s; enum_type = p.enum_type ++ enums_of env s; service = p.service ++ services_of env s; extension = p.extension ++ extensions_of env s }
+with_file_statement env p s =
+    record {
+      message_type = p.message_type ++ messages_of env s;
+      enum_type =
+          p.enum_type ++ enums_of env s;
+      service = p.service ++ services_of env s;
+      extension =
+          p.extension ++ extensions_of env s;
+    }
 
 abbrev pub parts_of : Environment → List StatementSyntax → FileParts
-parts_of env ss = record { message_type = flat_map (messages_of env) ss; enum_type = flat_map (enums_of env) ss; service = flat_map (services_of env) ss; extension = flat_map (extensions_of env) ss }
+parts_of env ss =
+    record {
+      message_type = flat_map (messages_of env) ss;
+      enum_type = flat_map (enums_of env) ss;
+      service = flat_map (services_of env) ss;
+      extension = flat_map (extensions_of env) ss;
+    }
 
 -- E1 for two of a kind that have one name
 abbrev pub parts_faults : FileParts → List Fault

@@ -1,5 +1,6 @@
 -- Files by their paths: the tree of each, and lists of some of them.
-use Rattle.std.specs.Prelude.{◌≡◌, Bool, true, false, List, [], ◌∷◌, flat_map, Option, Some, option_to_list, bytes_eq}
+use Rattle.std.specs.Prelude.{◌≡◌, Bool, true, false, List, [], ◌∷◌, flat_map, Option, Some}
+use Rattle.std.specs.Prelude.{option_to_list, bytes_eq}
 use Rattle.std.specs.List.{list_any}
 use Rattle.protobuf_parse_syntax.specs.Trees.{FileSyntax}
 use Rattle.protobuf_parse_model.specs.Descriptors.{Text}
@@ -11,10 +12,12 @@ Trees = Text → Option FileSyntax
 abbrev pub among : Text → List Text → Bool
 among path paths = list_any (λ x. bytes_eq path x) paths
 
--- Where `next` are the paths that a file names, a file leads to itself and to all that the files lead to that it names.
+-- Where `next` are the paths that a file names, a file leads to itself and to all that the files
+-- lead to that it names.
 pub data Leads (next : FileSyntax → List Text) (trees : Trees) : Text → Text → Type 0 where
   stays : (p : Text) → Leads next trees p p
-  leads : (p q r : Text) (t : FileSyntax) → trees p ≡ Some t → among q (next t) ≡ true → Leads next trees q r → Leads next trees p r
+  leads : (p q r : Text) (t : FileSyntax) → trees p ≡ Some t → among q (next t) ≡ true
+      → Leads next trees q r → Leads next trees p r
 
 -- each of the paths stands once
 abbrev pub AreDistinct : List Text → Type 0

@@ -1,15 +1,19 @@
 -- What files declare more than once.
 --
--- In a file and all that it reaches a full name is declared once: as a message or an enum, those behind maps and groups
--- counted with them (else E5), and once as an extension (else E6). The files are each given once, in any order.
--- Protocol Buffers Language Guide, "Packages" (https://protobuf.dev).
-use Rattle.std.specs.Prelude.{ℕ, nat_lt, List, [], ◌∷◌, ◌++◌, map, filter, flat_map, length, bytes_eq}
+-- In a file and all that it reaches a full name is declared once: as a message or an enum, those
+-- behind maps and groups counted with them (else E5), and once as an extension (else E6). The files
+-- are each given once, in any order. Protocol Buffers Language Guide, "Packages"
+-- (https://protobuf.dev).
+use Rattle.std.specs.Prelude.{ℕ, nat_lt, List, [], ◌∷◌, ◌++◌, map, filter, flat_map, length}
+use Rattle.std.specs.Prelude.{bytes_eq}
 use Rattle.protobuf_parse_syntax.specs.Trees.{FileSyntax}
-use Rattle.protobuf_parse_model.specs.declared.error.ElabErrorKind.TheVariants.{TypeDeclaredTwice, ExtensionDeclaredTwice}
+use Rattle.protobuf_parse_model.specs.declared.error.ElabErrorKind.TheVariants.{TypeDeclaredTwice}
+use Rattle.protobuf_parse_model.specs.declared.error.ElabErrorKind.TheVariants.{ExtensionDeclaredTwice}
 use Rattle.protobuf_parse_model.specs.Descriptors.{Text}
 use Rattle.protobuf_parse_model.specs.Faults.{Fault}
 use Rattle.protobuf_parse_model.specs.Duplicates.{fault}
-use Rattle.protobuf_parse_model.specs.Declarations.{DeclaredType, DeclaredExtension, file_types, file_generated, file_extensions}
+use Rattle.protobuf_parse_model.specs.Declarations.{DeclaredType, DeclaredExtension, file_types}
+use Rattle.protobuf_parse_model.specs.Declarations.{file_generated, file_extensions}
 
 -- the full names of messages and enums, also of those behind maps and groups; and of extensions
 abbrev pub type_names : FileSyntax → List Text
@@ -32,8 +36,8 @@ link_faults reached =
     flat_map (fault TypeDeclaredTwice) (repeated (flat_map type_names reached))
     ++ flat_map (fault ExtensionDeclaredTwice) (repeated (flat_map extension_names reached))
 
--- The faults of a file: those, or where there are none these others. Until each name is declared once, what names mean isn't
--- settled, so that nothing else is looked for.
+-- The faults of a file: those, or where there are none these others. Until each name is declared
+-- once, what names mean isn't settled, so that nothing else is looked for.
 abbrev pub before_others : List Fault → List Fault → List Fault
 before_others [] others = others
 before_others (f ∷ fs) others = f ∷ fs

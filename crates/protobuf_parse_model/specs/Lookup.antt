@@ -1,10 +1,12 @@
 -- What a name means in a scope.
 --
--- A name with a dot before it means the declaration of that full name. Any other is looked up from the innermost scope
--- outward: it means the declaration whose full name is a front of the scope, a dot and the name, for the longest such
--- front. Which declarations a file sees is not said here: they are given as a list.
--- Protocol Buffers Language Guide, "Packages and Name Resolution" (https://protobuf.dev).
-use Rattle.std.specs.Prelude.{◌≡◌, ◌==◌, Bool, true, false, List, [], ◌∷◌, ◌++◌, Option, Some, None, bytes_eq, if◌then◌else◌, All}
+-- A name with a dot before it means the declaration of that full name. Any other is looked up from
+-- the innermost scope outward: it means the declaration whose full name is a front of the scope, a
+-- dot and the name, for the longest such front. Which declarations a file sees is not said here:
+-- they are given as a list. Protocol Buffers Language Guide, "Packages and Name Resolution"
+-- (https://protobuf.dev).
+use Rattle.std.specs.Prelude.{◌≡◌, ◌==◌, Bool, true, false, List, [], ◌∷◌, ◌++◌, Option, Some, None}
+use Rattle.std.specs.Prelude.{bytes_eq, if◌then◌else◌, All}
 use Rattle.std.specs.List.{find}
 use Rattle.std.specs.Option.{option_or}
 use Rattle.protobuf_parse_base.specs.Names.{fronts}
@@ -37,8 +39,10 @@ meaning ds scope name = meant (declared ds) scope name
 
 -- ---- what the walk outward means
 
--- The declaration has the name in one of the scopes, and none before it has a declaration of that name.
-pub record IsFirst {A : Type 0} (ds : List (Declared A)) (name : Text) (scopes : List Scope) (d : Declared A) : Type 0 where
+-- The declaration has the name in one of the scopes, and none before it has a declaration of that
+-- name.
+pub record IsFirst {A : Type 0} (ds : List (Declared A)) (name : Text) (scopes : List Scope)
+    (d : Declared A) : Type 0 where
   pub longer : List Scope
   pub front : Scope
   pub shorter : List Scope
@@ -49,12 +53,17 @@ pub record IsFirst {A : Type 0} (ds : List (Declared A)) (name : Text) (scopes :
 
 -- What a relative name means is declared, and no longer front has such a declaration.
 abbrev pub MeansTheLongest : Type 0 → Type 0
-MeansTheLongest A = (ds : List (Declared A)) (scope : Scope) (name : Text) (d : Declared A) → begins_with_dot name ≡ false → meaning ds scope name ≡ Some d → IsFirst ds name (fronts scope) d
+MeansTheLongest A = (ds : List (Declared A)) (scope : Scope) (name : Text) (d : Declared A)
+    → begins_with_dot name ≡ false → meaning ds scope name ≡ Some d
+    → IsFirst ds name (fronts scope) d
 
 -- What has no meaning is declared in none of the fronts.
 abbrev pub MeansNothing : Type 0 → Type 0
-MeansNothing A = (ds : List (Declared A)) (scope : Scope) (name : Text) → begins_with_dot name ≡ false → meaning ds scope name ≡ None → All (λ front. declared ds (full_name front name) ≡ None) (fronts scope)
+MeansNothing A = (ds : List (Declared A)) (scope : Scope) (name : Text)
+    → begins_with_dot name ≡ false → meaning ds scope name ≡ None
+    → All (λ front. declared ds (full_name front name) ≡ None) (fronts scope)
 
 -- What an absolute name means is declared by that name.
 abbrev pub MeansItself : Type 0 → Type 0
-MeansItself A = (ds : List (Declared A)) (scope : Scope) (name : Text) (d : Declared A) → begins_with_dot name ≡ true → meaning ds scope name ≡ Some d → Among ds d × (d.name ≡ name)
+MeansItself A = (ds : List (Declared A)) (scope : Scope) (name : Text) (d : Declared A)
+    → begins_with_dot name ≡ true → meaning ds scope name ≡ Some d → Among ds d × (d.name ≡ name)

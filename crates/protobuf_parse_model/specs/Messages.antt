@@ -1,30 +1,46 @@
--- What the declaration of a message becomes: a DescriptorProto of google/protobuf/descriptor.proto; and the faults that
--- stand in it. Where one stands the descriptor may be anything.
+-- What the declaration of a message becomes: a DescriptorProto of google/protobuf/descriptor.proto;
+-- and the faults that stand in it. Where one stands the descriptor may be anything.
 --
--- Every list is in source order. Behind a map stands the message of its entries, behind a group a message with the group's
--- fields; they stand among the nested messages where the field stands. In proto3 each field of the body with the label
--- `optional` is alone in a oneof of its own. Ranges end behind their last number.
--- Protocol Buffers Language Specification (proto2), "Message definition", "Reserved", "Extensions", "Oneof and oneof
--- field", "Group field", "Map field", "Extend"; Protocol Buffers Language Guide, "Maps", "Backwards compatibility", and
--- "Field Presence in proto3" (https://protobuf.dev).
-use Rattle.std.specs.Prelude.{ℕ, ℤ, pos, ◌+◌, ◌+ℤ◌, Bool, false, List, [], ◌∷◌, ◌++◌, map, flat_map, length, codes, Option, Some, None, if◌then◌else◌}
+-- Every list is in source order. Behind a map stands the message of its entries, behind a group a
+-- message with the group's fields; they stand among the nested messages where the field stands. In
+-- proto3 each field of the body with the label `optional` is alone in a oneof of its own. Ranges
+-- end behind their last number. Protocol Buffers Language Specification (proto2), "Message
+-- definition", "Reserved", "Extensions", "Oneof and oneof field", "Group field", "Map field",
+-- "Extend"; Protocol Buffers Language Guide, "Maps", "Backwards compatibility", and "Field Presence
+-- in proto3" (https://protobuf.dev).
+use Rattle.std.specs.Prelude.{ℕ, ℤ, pos, ◌+◌, ◌+ℤ◌, Bool, false, List, [], ◌∷◌, ◌++◌, map, flat_map}
+use Rattle.std.specs.Prelude.{length, codes, Option, Some, None, if◌then◌else◌}
 use Rattle.std.specs.Ordering.{int_eq}
-use Rattle.protobuf_parse_syntax.specs.Trees.{OptionSyntax, TypeSyntax, scalar, map_of, named, FieldStatementSyntax, field, group, RangeSyntax, ReservedSyntax, OneofSyntax, ExtendSyntax, MessageStatementSyntax, message_reserved, message_oneof, message_extend, message_message, message_enum, message_extensions, message_option, message_field, MessageStatementList, no_statements, more_statements, MessageSyntax}
+use Rattle.protobuf_parse_syntax.specs.Trees.{OptionSyntax, TypeSyntax, scalar, map_of, named}
+use Rattle.protobuf_parse_syntax.specs.Trees.{FieldStatementSyntax, field, group, RangeSyntax}
+use Rattle.protobuf_parse_syntax.specs.Trees.{ReservedSyntax, OneofSyntax, ExtendSyntax}
+use Rattle.protobuf_parse_syntax.specs.Trees.{MessageStatementSyntax, message_reserved}
+use Rattle.protobuf_parse_syntax.specs.Trees.{message_oneof, message_extend, message_message}
+use Rattle.protobuf_parse_syntax.specs.Trees.{message_enum, message_extensions, message_option}
+use Rattle.protobuf_parse_syntax.specs.Trees.{message_field, MessageStatementList, no_statements}
+use Rattle.protobuf_parse_syntax.specs.Trees.{more_statements, MessageSyntax}
 use Rattle.protobuf_parse_syntax.specs.declared.tree.field.Label.{Label}
 use Rattle.protobuf_parse_syntax.specs.declared.tree.field.Label.TheVariants.{Optional}
 use Rattle.protobuf_parse_model.specs.declared.error.ElabErrorKind.TheVariants.{RangeEndOverflow}
 use Rattle.protobuf_parse_model.specs.Options.{MessageOptionsSet}
-use Rattle.protobuf_parse_model.specs.Descriptors.{Text, Range, FieldDescriptor, OneofDescriptor, EnumDescriptor, MessageDescriptor, a_message, no_messages, messages_of_list}
+use Rattle.protobuf_parse_model.specs.Descriptors.{Text, Range, FieldDescriptor, OneofDescriptor}
+use Rattle.protobuf_parse_model.specs.Descriptors.{EnumDescriptor, MessageDescriptor, a_message}
+use Rattle.protobuf_parse_model.specs.Descriptors.{no_messages, messages_of_list}
 use Rattle.protobuf_parse_model.specs.Faults.{Fault}
-use Rattle.protobuf_parse_model.specs.Statements.{group_body, message_body, entry_name, field_statement_name, oneof_fields}
+use Rattle.protobuf_parse_model.specs.Statements.{group_body, message_body, entry_name}
+use Rattle.protobuf_parse_model.specs.Statements.{field_statement_name, oneof_fields}
 use Rattle.protobuf_parse_model.specs.Statements as statements
 use Rattle.protobuf_parse_model.specs.Duplicates.{fault_when, duplicates}
 use Rattle.protobuf_parse_model.specs.declared.customs.Construct.TheVariants as of
-use Rattle.protobuf_parse_model.specs.Environment.{Environment, customs_bytes, inside, type_full_name, type_missing}
+use Rattle.protobuf_parse_model.specs.Environment.{Environment, customs_bytes, inside}
+use Rattle.protobuf_parse_model.specs.Environment.{type_full_name, type_missing}
 use Rattle.protobuf_parse_model.specs.BuiltinOptions.{message_table, oneof_table}
 use Rattle.protobuf_parse_model.specs.ConstructOptions.{construct_faults}
 use Rattle.protobuf_parse_model.specs.OptionsSet.{message_options, entry_options, oneof_options}
-use Rattle.protobuf_parse_model.specs.Fields.{FieldTypeOf, type_of, says_optional, FieldPlace, plain, field_statement_of, names_of_fields, fields_of_group, field_statement_faults, extension_faults}
+use Rattle.protobuf_parse_model.specs.Fields.{FieldTypeOf, type_of, says_optional, FieldPlace}
+use Rattle.protobuf_parse_model.specs.Fields.{plain, field_statement_of, names_of_fields}
+use Rattle.protobuf_parse_model.specs.Fields.{fields_of_group, field_statement_faults}
+use Rattle.protobuf_parse_model.specs.Fields.{extension_faults}
 use Rattle.protobuf_parse_model.specs.Enums.{enum_of, enum_faults, ranges_reserved, names_reserved}
 
 -- ---- the messages behind maps and groups
@@ -60,7 +76,10 @@ entry_field name number type_ = record {
 }
 
 abbrev pub entry_message : Text → FieldTypeOf → FieldTypeOf → MessageDescriptor
-entry_message name key value = message_with (entry_name name) (entry_field (codes "key") (pos 1) key ∷ entry_field (codes "value") (pos 2) value ∷ []) entry_options
+entry_message name key value =
+    message_with (entry_name name)
+    (entry_field (codes "key") (pos 1) key ∷ entry_field (codes "value") (pos 2) value ∷ [])
+    entry_options
 
 abbrev pub entry_of : Environment → Text → TypeSyntax → TypeSyntax → MessageDescriptor
 entry_of env name key value = entry_message name (type_of env name key) (type_of env name value)
@@ -76,11 +95,13 @@ group_message env name fields = message_with name (fields_of_group env fields) N
 -- the message behind a field, if one stands there
 abbrev pub messages_behind : Environment → FieldStatementSyntax → List MessageDescriptor
 messages_behind env (field f) = entries_of env f.name f.type_
-messages_behind env (group at label name number fields) = group_message env name (group_body fields) ∷ []
+messages_behind env (group at label name number fields) =
+    group_message env name (group_body fields) ∷ []
 
 -- ---- oneofs
 
--- in proto3 a field with the label `optional` has a oneof of its own, with an underscore before the field's name
+-- in proto3 a field with the label `optional` has a oneof of its own, with an underscore before the
+-- field's name
 abbrev pub statement_label : FieldStatementSyntax → Option Label
 statement_label (field f) = f.label
 statement_label (group at label name number fields) = label
@@ -98,7 +119,12 @@ abbrev pub options_in_oneof : OneofSyntax → List OptionSyntax
 options_in_oneof o = flat_map statements.oneof_options o.body
 
 abbrev pub oneof_of : Environment → OneofSyntax → OneofDescriptor
-oneof_of env o = record { name = o.name; options = oneof_options (customs_bytes env of.Oneof (options_in_oneof o)) (options_in_oneof o) }
+oneof_of env o =
+    record {
+      name = o.name;
+      options =
+          oneof_options (customs_bytes env of.Oneof (options_in_oneof o)) (options_in_oneof o);
+    }
 
 abbrev pub oneofs_of : Environment → MessageStatementSyntax → List OneofDescriptor
 oneofs_of env (message_oneof o) = oneof_of env o ∷ []
@@ -113,13 +139,16 @@ in_oneof index = record { extendee = None; oneof_index = Some index }
 
 -- the fields of a statement before which so many oneofs stand
 abbrev pub fields_of : Environment → ℕ → MessageStatementSyntax → List FieldDescriptor
-fields_of env index (message_field f) = field_statement_of env (if has_own_oneof env f then in_oneof index else plain) f ∷ []
-fields_of env index (message_oneof o) = map (field_statement_of env (in_oneof index)) (flat_map oneof_fields o.body)
+fields_of env index (message_field f) =
+    field_statement_of env (if has_own_oneof env f then in_oneof index else plain) f ∷ []
+fields_of env index (message_oneof o) =
+    map (field_statement_of env (in_oneof index)) (flat_map oneof_fields o.body)
 fields_of env index _ = []
 
 abbrev pub fields_from : Environment → ℕ → List MessageStatementSyntax → List FieldDescriptor
 fields_from env index [] = []
-fields_from env index (s ∷ ss) = fields_of env index s ++ fields_from env (index + length (oneofs_of env s)) ss
+fields_from env index (s ∷ ss) = fields_of env index s
+    ++ fields_from env (index + length (oneofs_of env s)) ss
 
 -- ---- extensions
 
@@ -171,8 +200,10 @@ options_of_body body = flat_map options_in_message body
 
 -- ---- messages
 
--- the message of that name with that body and those messages inside it; its own options are seen from where it stands
-abbrev pub message_from : Environment → Text → List MessageStatementSyntax → List MessageDescriptor → MessageDescriptor
+-- the message of that name with that body and those messages inside it; its own options are seen
+-- from where it stands
+abbrev pub message_from : Environment → Text → List MessageStatementSyntax → List MessageDescriptor
+    → MessageDescriptor
 message_from env name body nested = a_message (record {
   name = name;
   field = fields_from (inside env name) 0 body;
@@ -182,13 +213,15 @@ message_from env name body nested = a_message (record {
   extension_range = map exclusive (flat_map extension_ranges body);
   reserved_range = map exclusive (flat_map ranges_reserved (flat_map reserves body));
   reserved_name = flat_map names_reserved (flat_map reserves body);
-  options = message_options (customs_bytes env of.Message (options_of_body body)) (options_of_body body);
+  options = message_options (customs_bytes env of.Message (options_of_body body))
+      (options_of_body body);
 }) (messages_of_list nested)
 
 abbrev mutual
   -- the messages of a statement: those written there, and those behind maps and groups
   pub nested_of : Environment → MessageStatementSyntax → List MessageDescriptor
-  nested_of env (message_message at name body) = message_from env name (message_body body) (nested_in (inside env name) body) ∷ []
+  nested_of env (message_message at name body) =
+      message_from env name (message_body body) (nested_in (inside env name) body) ∷ []
   nested_of env (message_field f) = messages_behind env f
   nested_of env (message_oneof o) = flat_map (messages_behind env) (flat_map oneof_fields o.body)
   nested_of env (message_extend e) = flat_map (messages_behind env) e.fields
@@ -199,7 +232,8 @@ abbrev mutual
   nested_in env (more_statements s ss) = nested_of env s ++ nested_in env ss
 
 abbrev pub message_of_body : Environment → Text → List MessageStatementSyntax → MessageDescriptor
-message_of_body env name body = message_from env name body (flat_map (nested_of (inside env name)) body)
+message_of_body env name body =
+    message_from env name body (flat_map (nested_of (inside env name)) body)
 
 abbrev pub message_of : Environment → MessageSyntax → MessageDescriptor
 message_of env m = message_of_body env m.name m.body
@@ -219,7 +253,8 @@ abbrev pub names_of_enums : List EnumDescriptor → List Text
 names_of_enums enums = map (λ (e : EnumDescriptor). e.name) enums
 
 -- E1 for two fields, oneofs, extensions, enums or messages of one body that have one name
-abbrev pub body_duplicates : Environment → List MessageStatementSyntax → List MessageDescriptor → List Fault
+abbrev pub body_duplicates : Environment → List MessageStatementSyntax → List MessageDescriptor
+    → List Fault
 body_duplicates env body nested =
     duplicates (names_of_fields (fields_from env 0 body))
     ++ duplicates (names_of_oneofs (flat_map (oneofs_of env) body))
@@ -235,7 +270,8 @@ rest_faults env name body =
     ++ construct_faults env of.Message message_table (options_of_body body)
 
 -- of the message of that name, but those that stand in one statement of its body
-abbrev pub whole_faults : Environment → Text → List MessageStatementSyntax → List MessageDescriptor → List Fault
+abbrev pub whole_faults : Environment → Text → List MessageStatementSyntax → List MessageDescriptor
+    → List Fault
 whole_faults env name body nested =
     body_duplicates (inside env name) body nested ++ rest_faults env name body
 
@@ -247,7 +283,9 @@ oneof_faults env o =
 abbrev mutual
   -- of a statement of a body
   pub statement_faults : Environment → MessageStatementSyntax → List Fault
-  statement_faults env (message_message at name body) = whole_faults env name (message_body body) (nested_in (inside env name) body) ++ faults_in (inside env name) body
+  statement_faults env (message_message at name body) =
+      whole_faults env name (message_body body) (nested_in (inside env name) body)
+      ++ faults_in (inside env name) body
   statement_faults env (message_field f) = field_statement_faults env f
   statement_faults env (message_oneof o) = oneof_faults env o
   statement_faults env (message_extend e) = extend_faults env e
@@ -259,7 +297,9 @@ abbrev mutual
   faults_in env (more_statements s ss) = statement_faults env s ++ faults_in env ss
 
 abbrev pub faults_of_body : Environment → Text → List MessageStatementSyntax → List Fault
-faults_of_body env name body = whole_faults env name body (flat_map (nested_of (inside env name)) body) ++ flat_map (statement_faults (inside env name)) body
+faults_of_body env name body =
+    whole_faults env name body (flat_map (nested_of (inside env name)) body)
+    ++ flat_map (statement_faults (inside env name)) body
 
 abbrev pub message_faults : Environment → MessageSyntax → List Fault
 message_faults env m = faults_of_body env m.name m.body

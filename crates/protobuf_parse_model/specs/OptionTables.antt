@@ -2,7 +2,9 @@
 use Rattle.std.specs.Prelude.{List, map}
 use Rattle.protobuf_parse_model.specs.declared.customs.Construct.{Construct}
 use Rattle.protobuf_parse_model.specs.declared.customs.Construct.TheVariants as of
-use Rattle.protobuf_parse_model.specs.BuiltinOptions.{Table, BuiltinKind, file_table, message_table, field_table, oneof_table, enum_table, enum_value_table, service_table, method_table}
+use Rattle.protobuf_parse_model.specs.BuiltinOptions.{Table, BuiltinKind, file_table, message_table}
+use Rattle.protobuf_parse_model.specs.BuiltinOptions.{field_table, oneof_table, enum_table}
+use Rattle.protobuf_parse_model.specs.BuiltinOptions.{enum_value_table, service_table, method_table}
 use Rattle.protobuf_parse_model.specs.Descriptors.{Text}
 
 abbrev pub table_of : Construct → Table

@@ -2,7 +2,8 @@
 use Rattle.std.specs.Prelude.{◌≡◌, ℕ, List, map, Option, option_map, String, string_bytes}
 use Rattle.std.specs.Borrow.{Bor}
 use Rattle.std.specs.Global.{Global}
-use Rattle.protobuf_parse_syntax.specs.Trees.{ConstantSyntax, constant_view, OptionSyntax, option_view}
+use Rattle.protobuf_parse_syntax.specs.Trees.{ConstantSyntax, constant_view, OptionSyntax}
+use Rattle.protobuf_parse_syntax.specs.Trees.{option_view}
 use Rattle.protobuf_parse_syntax.specs.declared.tree.constant.ProtobufConstant.{ProtobufConstant}
 use Rattle.protobuf_parse_syntax.specs.declared.tree.option.ProtobufOption.{ProtobufOption}
 use Rattle.protobuf_parse_model.specs.declared.convert.options.tables.BuiltinKind.{BuiltinKind}

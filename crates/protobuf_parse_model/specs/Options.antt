@@ -1,5 +1,5 @@
--- The built-in options of each construct, by the options messages of google/protobuf/descriptor.proto, and
--- the bytes of its custom options.
+-- The built-in options of each construct, by the options messages of
+-- google/protobuf/descriptor.proto, and the bytes of its custom options.
 use Rattle.std.specs.Prelude.{ℕ, Bool, List, Option, option_map, string_bytes}
 use Rattle.protobuf_parse_model.specs.declared.descriptor.options.OptimizeMode.{OptimizeMode}
 use Rattle.protobuf_parse_model.specs.declared.descriptor.options.CType.{CType}

@@ -1,9 +1,13 @@
--- The options message of each construct, from the bytes that its custom options become and the statements that set its
--- options.
+-- The options message of each construct, from the bytes that its custom options become and the
+-- statements that set its options.
 use Rattle.std.specs.Prelude.{true, List, [], codes, Option, Some, None}
 use Rattle.protobuf_parse_syntax.specs.Trees.{OptionSyntax}
-use Rattle.protobuf_parse_model.specs.Options.{FileOptionsSet, MessageOptionsSet, FieldOptionsSet, OneofOptionsSet, EnumOptionsSet, EnumValueOptionsSet, ServiceOptionsSet, MethodOptionsSet}
-use Rattle.protobuf_parse_model.specs.BuiltinOptions.{text_option, truth_option, word_option, where_any, optimize_modes, c_types, js_types, idempotency_levels}
+use Rattle.protobuf_parse_model.specs.Options.{FileOptionsSet, MessageOptionsSet, FieldOptionsSet}
+use Rattle.protobuf_parse_model.specs.Options.{OneofOptionsSet, EnumOptionsSet, EnumValueOptionsSet}
+use Rattle.protobuf_parse_model.specs.Options.{ServiceOptionsSet, MethodOptionsSet}
+use Rattle.protobuf_parse_model.specs.BuiltinOptions.{text_option, truth_option, word_option}
+use Rattle.protobuf_parse_model.specs.BuiltinOptions.{where_any, optimize_modes, c_types, js_types}
+use Rattle.protobuf_parse_model.specs.BuiltinOptions.{idempotency_levels}
 use Rattle.protobuf_parse_model.specs.Descriptors.{Text}
 
 abbrev pub file_options : Text → List OptionSyntax → Option FileOptionsSet
@@ -41,7 +45,14 @@ message_options custom os = where_any os (record {
 
 -- of the message behind a map
 abbrev pub entry_options : Option MessageOptionsSet
-entry_options = Some (record { message_set_wire_format = None; no_standard_descriptor_accessor = None; deprecated = None; map_entry = Some true; custom = [] })
+entry_options =
+    Some (record {
+      message_set_wire_format = None;
+      no_standard_descriptor_accessor = None;
+      deprecated = None;
+      map_entry = Some true;
+      custom = [];
+    })
 
 abbrev pub field_options : Text → List OptionSyntax → Option FieldOptionsSet
 field_options custom os = where_any os (record {

@@ -2,7 +2,13 @@
 use Rattle.std.specs.Prelude.{◌≡◌, refl, ◌++◌, List, [], ◌∷◌, map, Bool, true, false, codes}
 use Rattle.std.specs.Char.{to_ascii_lowercase}
 use Rattle.protobuf_parse_base.specs.Cases.{camel_case_text}
-use Rattle.protobuf_parse_syntax.specs.Trees.{OptionSyntax, TypeSyntax, scalar, map_of, named, FieldStatementSyntax, field, group, FieldStatementList, no_field_statements, more_field_statements, field_statements, MessageStatementSyntax, MessageStatementList, no_statements, more_statements, message_statements, OneofStatementSyntax, oneof_option, oneof_field}
+use Rattle.protobuf_parse_syntax.specs.Trees.{OptionSyntax, TypeSyntax, scalar, map_of, named}
+use Rattle.protobuf_parse_syntax.specs.Trees.{FieldStatementSyntax, field, group}
+use Rattle.protobuf_parse_syntax.specs.Trees.{FieldStatementList, no_field_statements}
+use Rattle.protobuf_parse_syntax.specs.Trees.{more_field_statements, field_statements}
+use Rattle.protobuf_parse_syntax.specs.Trees.{MessageStatementSyntax, MessageStatementList}
+use Rattle.protobuf_parse_syntax.specs.Trees.{no_statements, more_statements, message_statements}
+use Rattle.protobuf_parse_syntax.specs.Trees.{OneofStatementSyntax, oneof_option, oneof_field}
 use Rattle.protobuf_parse_model.specs.Descriptors.{Text}
 
 -- the statements of a group's body, and those of a message inside another

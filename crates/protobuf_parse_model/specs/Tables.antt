@@ -1,8 +1,11 @@
 -- What a table of declarations tells of files.
-use Rattle.std.specs.Prelude.{◌≡◌, ℕ, ◌<◌, suc, Bool, true, false, not, ◌&&◌, List, [], ◌∷◌, ◌++◌, map, flat_map, filter, length, bytes_eq, nat_eq, nat_lt, string_bytes, option_to_list, slice_get, if◌then◌else◌, Contains}
+use Rattle.std.specs.Prelude.{◌≡◌, ℕ, ◌<◌, suc, Bool, true, false, not, ◌&&◌, List, [], ◌∷◌, ◌++◌}
+use Rattle.std.specs.Prelude.{map, flat_map, filter, length, bytes_eq, nat_eq, nat_lt, string_bytes}
+use Rattle.std.specs.Prelude.{option_to_list, slice_get, if◌then◌else◌, Contains}
 use Rattle.std.specs.List.{list_any}
 use Rattle.protobuf_parse_syntax.specs.Trees.{FileSyntax}
-use Rattle.protobuf_parse_model.specs.declared.error.ElabErrorKind.TheVariants.{TypeDeclaredTwice, ExtensionDeclaredTwice}
+use Rattle.protobuf_parse_model.specs.declared.error.ElabErrorKind.TheVariants.{TypeDeclaredTwice}
+use Rattle.protobuf_parse_model.specs.declared.error.ElabErrorKind.TheVariants.{ExtensionDeclaredTwice}
 use Rattle.protobuf_parse_model.specs.declared.scope.seen.DeclarationKind.{DeclarationKind}
 use Rattle.protobuf_parse_model.specs.declared.scope.seen.DeclarationKind.TheVariants as kind
 use Rattle.protobuf_parse_model.specs.declared.scope.seen.Declaration.{Declaration}
@@ -12,7 +15,9 @@ use Rattle.protobuf_parse_model.specs.Descriptors.{Text}
 use Rattle.protobuf_parse_model.specs.Faults.{Fault}
 use Rattle.protobuf_parse_model.specs.Duplicates.{fault_when}
 use Rattle.protobuf_parse_model.specs.Declarations as declared
-use Rattle.protobuf_parse_model.specs.Declarations.{Declared, DeclaredType, DeclaredExtension, a_message, an_enum, file_types, file_generated, file_extensions}
+use Rattle.protobuf_parse_model.specs.Declarations.{Declared, DeclaredType, DeclaredExtension}
+use Rattle.protobuf_parse_model.specs.Declarations.{a_message, an_enum, file_types, file_generated}
+use Rattle.protobuf_parse_model.specs.Declarations.{file_extensions}
 use Rattle.protobuf_parse_model.specs.Contexts.{declared_as}
 
 -- a full name, and what it is declared as
@@ -34,13 +39,16 @@ extension_entry d = record { name = d.name; what = kind.Extension }
 
 -- the declarations of the name among things that the file with that number declares
 abbrev pub declared_by : {A : Type 0} → (A → Entry) → Text → ℕ → List A → List Declaration
-declared_by entry name file ds = map (λ d. record { file = file; kind = (entry d).what }) (filter (λ d. bytes_eq (entry d).name name) ds)
+declared_by entry name file ds =
+    map (λ d. record { file = file; kind = (entry d).what })
+    (filter (λ d. bytes_eq (entry d).name name) ds)
 
 -- the declarations of the name in a file
 abbrev pub declared_in_file : Text → ℕ → FileSyntax → List Declaration
 declared_in_file name file t =
     declared_by type_entry name file (file_types t)
-    ++ (declared_by generated_entry name file (file_generated t) ++ declared_by extension_entry name file (file_extensions t))
+    ++ (declared_by generated_entry name file (file_generated t)
+    ++ declared_by extension_entry name file (file_extensions t))
 
 -- the same in files, of which the first has the number n and each next one the next number
 abbrev pub declared_in : Text → ℕ → List FileSyntax → List Declaration
@@ -53,7 +61,8 @@ listed_names table = map string_bytes table.repeated.items
 
 -- Each name that is declared more than once is listed.
 abbrev pub ListsRepeated : Declarations → Type 0
-ListsRepeated table = (name : Text) → 1 < length (declared_as table name) → Contains (listed_names table) name
+ListsRepeated table = (name : Text) → 1 < length (declared_as table name)
+    → Contains (listed_names table) name
 
 -- Each name is declared in the table as the files declare it, in their order.
 pub record Tells (table : Declarations) (files : List FileSyntax) : Type 0 where
@@ -61,13 +70,16 @@ pub record Tells (table : Declarations) (files : List FileSyntax) : Type 0 where
   pub lists : ListsRepeated table
 
 -- what the file declares was added at the end of each name's declarations
-pub record Adds {A : Type 0} (entry : A → Entry) (old new : Declarations) (file : ℕ) (ds : List A) : Type 0 where
-  pub declares : (name : Text) → declared_as new name ≡ declared_as old name ++ declared_by entry name file ds
+pub record Adds {A : Type 0} (entry : A → Entry) (old new : Declarations) (file : ℕ)
+    (ds : List A) : Type 0 where
+  pub declares : (name : Text)
+      → declared_as new name ≡ declared_as old name ++ declared_by entry name file ds
   pub lists : ListsRepeated old → ListsRepeated new
 
 -- the same of one declaration, by its full name
 pub record AddsOne (old new : Declarations) (full : Text) (d : Declaration) : Type 0 where
-  pub declares : (name : Text) → declared_as new name ≡ declared_as old name ++ (if bytes_eq full name then d ∷ [] else [])
+  pub declares : (name : Text)
+      → declared_as new name ≡ declared_as old name ++ (if bytes_eq full name then d ∷ [] else [])
   pub lists : ListsRepeated old → ListsRepeated new
 
 -- the files with these numbers
@@ -85,11 +97,14 @@ is_of extension kind.Extension = extension
 
 -- how many of the declarations, of extensions or else of types, stand in files with these numbers
 abbrev pub times : Bool → List ℕ → List Declaration → ℕ
-times extension reach ds = length (filter (λ (d : Declaration). is_of extension d.kind && list_any (nat_eq d.file) reach) ds)
+times extension reach ds =
+    length (filter (λ (d : Declaration). is_of extension d.kind && list_any (nat_eq d.file) reach)
+    ds)
 
 -- how often the files that are reached declare the name
 abbrev pub times_declared : Bool → Seen → Text → ℕ
-times_declared extension seen name = times extension seen.reach.now (declared_as seen.declarations.now name)
+times_declared extension seen name =
+    times extension seen.reach.now (declared_as seen.declarations.now name)
 
 -- E5 and E6 for the name
 abbrev pub name_faults : Seen → Text → List Fault

@@ -39,13 +39,14 @@ use std::alloc::Global;
 
 /// The descriptor of a file.
 ///
-/// Takes the path that the file is known by, its tree, what it sees: the declarations of files, and the
-/// numbers of those among them whose names it sees, itself with them; and who says what its custom options
-/// become. Where the declarations are those that `Declarations::add` made of files one after the other, the
-/// answer is what the language says of a file that sees the files with these numbers.
+/// Takes the path that the file is known by, its tree, what it sees: the declarations of files, and
+/// the numbers of those among them whose names it sees, itself with them; and who says what its
+/// custom options become. Where the declarations are those that `Declarations::add` made of files
+/// one after the other, the answer is what the language says of a file that sees the files with
+/// these numbers.
 ///
-/// Where no fault stands in the file it gives the descriptor. Else it tells one that stands, whichever it
-/// meets first, unless memory runs out:
+/// Where no fault stands in the file it gives the descriptor. Else it tells one that stands,
+/// whichever it meets first, unless memory runs out:
 ///
 /// - E1: two things of one kind have one name in one scope;
 /// - E2, E3: the name of a type means none;
@@ -54,10 +55,11 @@ use std::alloc::Global;
 /// - E8 to E13: what a built-in option is set to, or its name, is wrong;
 /// - what is wrong in a custom option, by who says what they become.
 ///
-/// The tree of a text has at most 2147483647 statements, those of all bodies counted: `parse_file` says so.
+/// The tree of a text has at most 2147483647 statements, those of all bodies counted: `parse_file`
+/// says so.
 ///
-/// E5 and E6, for full names that the reached files declare twice, are no part of this: `link` tells them,
-/// and is to be called first.
+/// E5 and E6, for full names that the reached files declare twice, are no part of this: `link`
+/// tells them, and is to be called first.
 pub fn elaborate<C: CustomOptions>(
     alloc: Global,
     name: &str,
@@ -66,10 +68,12 @@ pub fn elaborate<C: CustomOptions>(
     custom: &C,
 ) -> Result<FileDescriptorProto, ElabFailure>
     requires few { statements_in (file_view tree.now) ≤ 2147483647 }
-    ensures by_table { let t = file_view tree.now in let env = environment_of_file (C.customs custom.now) seen.now t in
+    ensures by_table { let t = file_view tree.now in
+        let env = environment_of_file (C.customs custom.now) seen.now t in
         Elaborates described.file_view result (file_faults env t) (file_of env name.now t) }
     ensures by_files { (files : List FileSyntax) → Tells seen.now.declarations.now files →
-        let t = file_view tree.now in let env = environment (picked files seen.now.sight.now) (C.customs custom.now) t in
+        let t = file_view tree.now in
+        let env = environment (picked files seen.now.sight.now) (C.customs custom.now) t in
         Elaborates described.file_view result (file_faults env t) (file_of env name.now t) }
 {
     file_descriptor(alloc, name, tree, seen, custom)

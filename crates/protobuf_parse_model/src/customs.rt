@@ -3,7 +3,8 @@
 ghost use Rattle.std.specs.Prelude.{◌≡◌, ◌++◌, [], codes, map, flat_map, string_bytes, IfOk, OnOk};
 ghost use Rattle.protobuf_parse_syntax.specs.Trees.{option_part_view, option_view};
 ghost use Rattle.protobuf_parse_model.specs.Contexts.{texts};
-ghost use Rattle.protobuf_parse_model.specs.Environment.{Customs, no_customs, no_extensions, part_text, path_text, unknown_option};
+ghost use Rattle.protobuf_parse_model.specs.Environment.{Customs, no_customs, no_extensions};
+ghost use Rattle.protobuf_parse_model.specs.Environment.{part_text, path_text, unknown_option};
 ghost use Rattle.protobuf_parse_model.specs.Faults.{Elaborates};
 ghost use Rattle.protobuf_parse_model.specs.OptionViews.{options_seen};
 
@@ -12,7 +13,8 @@ use crate::error::{ElabErrorKind, ElabFailure};
 use protobuf_parse_syntax::{ProtobufOption, ProtobufOptionName, ProtobufOptionNamePart};
 use std::alloc::{AllocError, Global};
 
-/// What has options: each kind has an options message of its own in google/protobuf/descriptor.proto.
+/// What has options: each kind has an options message of its own in
+/// google/protobuf/descriptor.proto.
 #[derive(Clone, Copy, Debug, PartialEq, Eq)]
 pub enum Construct {
     File,
@@ -30,10 +32,12 @@ pub trait CustomOptions {
     /// What is wrong in the custom options of constructs, and the bytes that they become.
     ghost customs: { Self → Customs };
 
-    /// The bytes that the custom options become among the statements that set the options of a construct.
+    /// The bytes that the custom options become among the statements that set the options of a
+    /// construct.
     ///
-    /// The names of extensions are looked up from the scope: the names of the package and of the messages
-    /// around the construct, the outermost first. Where something is wrong, one of the faults is told.
+    /// The names of extensions are looked up from the scope: the names of the package and of the
+    /// messages around the construct, the outermost first. Where something is wrong, one of the
+    /// faults is told.
     fn bytes(
         &self,
         alloc: Global,
@@ -42,7 +46,8 @@ pub trait CustomOptions {
         options: &[&ProtobufOption],
     ) -> Result<Vec<u8>, ElabFailure>
         ensures { let c = customs self.now in let os = options_seen options.now in
-            Elaborates (λ v. v.items) result (c.faults construct (texts scope.now) os) (c.bytes construct (texts scope.now) os) };
+            Elaborates (λ v. v.items) result (c.faults construct (texts scope.now) os)
+            (c.bytes construct (texts scope.now) os) };
 }
 
 /// Knows no extension: a custom option is refused as one that isn't there, E11.
@@ -124,7 +129,8 @@ pub fn path_text(alloc: Global, parts: &[ProtobufOptionNamePart]) -> Result<Stri
 
 /// Adds a part, an extension in parentheses.
 fn push_part(text: &mut String, part: &ProtobufOptionNamePart) -> Result<(), AllocError>
-    ensures { OnOk result (string_bytes text.new ≡ string_bytes text.old ++ part_text (option_part_view part.now)) }
+    ensures { OnOk result
+        (string_bytes text.new ≡ string_bytes text.old ++ part_text (option_part_view part.now)) }
 {
     match part {
         ProtobufOptionNamePart::Direct(name) => text.push_str(name),

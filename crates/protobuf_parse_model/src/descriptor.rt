@@ -40,7 +40,8 @@ pub struct FileDescriptorProto {
     pub options: Option<FileOptions>,
 }
 
-// Written out: a crate above calls it, and need not prove anew how each kind of descriptor is dropped.
+// Written out: a crate above calls it, and need not prove anew how each kind of descriptor is
+// dropped.
 impl Drop for FileDescriptorProto {
     fn drop(self) {
         let FileDescriptorProto {

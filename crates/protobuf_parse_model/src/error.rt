@@ -11,11 +11,12 @@ use thiserror::Error;
 #[error("{kind}: {what}")]
 pub struct ElabError {
     pub kind: ElabErrorKind,
-    /// E1: the name. E2, E3: the name of the type as written. E4, E8: the field's name. E5, E6: the full
-    /// name with its dot. E7: the message's name. E9 to E13: the option's name as written, with the names
-    /// of extensions in parentheses. E14, E15: the extension's name as written. E16, E24: the part as
-    /// written. E17: the field's name. E18: the value's name. E19 to E23: the name of the field that
-    /// was to be set. E26: the name in the constant with its brackets. E28: `uninterpreted_option`.
+    /// E1: the name. E2, E3: the name of the type as written. E4, E8: the field's name. E5, E6: the
+    /// full name with its dot. E7: the message's name. E9 to E13: the option's name as written,
+    /// with the names of extensions in parentheses. E14, E15: the extension's name as written. E16,
+    /// E24: the part as written. E17: the field's name. E18: the value's name. E19 to E23: the name
+    /// of the field that was to be set. E26: the name in the constant with its brackets. E28:
+    /// `uninterpreted_option`.
     pub what: String,
 }
 

@@ -15,8 +15,8 @@ use std::alloc::Global;
 /// Refuses a full name that the files that are reached declare more than once.
 ///
 /// Takes what a file sees: the declarations of files, and the numbers of those among them that it
-/// reaches, itself with them. Where the declarations are those that `Declarations::add` made of files one
-/// after the other, it tells a fault just where one stands, unless memory runs out:
+/// reaches, itself with them. Where the declarations are those that `Declarations::add` made of
+/// files one after the other, it tells a fault just where one stands, unless memory runs out:
 ///
 /// - E5: messages and enums, those behind maps and groups among them, have one full name;
 /// - E6: extensions have one full name.

@@ -1,11 +1,13 @@
 //! What the names of types mean.
 
-ghost use Rattle.std.specs.Prelude.{◌≡◌, ◌+◌, ◌<◌, ℕ, List, length, map, nat_eq, option_map, string_bytes, IfOk};
+ghost use Rattle.std.specs.Prelude.{◌≡◌, ◌+◌, ◌<◌, ℕ, List, length, map, nat_eq, option_map};
+ghost use Rattle.std.specs.Prelude.{string_bytes, IfOk};
 ghost use Rattle.std.specs.Borrow.{Bor};
 ghost use Rattle.std.specs.List.{list_any};
 ghost use Rattle.protobuf_parse_model.specs.Declarations as names;
 ghost use Rattle.protobuf_parse_model.specs.Environment.{type_named};
-ghost use Rattle.protobuf_parse_model.specs.Contexts.{declared_as, names_in, first_type, meaning_view, seen_types, texts, type_kind};
+ghost use Rattle.protobuf_parse_model.specs.Contexts.{declared_as, names_in, first_type};
+ghost use Rattle.protobuf_parse_model.specs.Contexts.{meaning_view, seen_types, texts, type_kind};
 
 mod declare;
 mod extensions;
@@ -77,7 +79,8 @@ pub fn type_named(
     context: &Context<'_>,
     name: &str,
 ) -> Result<Option<Meaning>, AllocError>
-    ensures { IfOk result (λ m. option_map meaning_view m ≡ type_named (names_in context.now) name.now) }
+    ensures { IfOk result
+        (λ m. option_map meaning_view m ≡ type_named (names_in context.now) name.now) }
 {
     if name.starts_with('.') {
         let full_name = String::from_str(alloc, name)?;

@@ -1,14 +1,21 @@
 -- What the readers of constants read, where the next tokens are known.
-use Rattle.std.proofs.Common.{◌≡◌, ℕ, ℤ, pos, List, [], ◌∷◌, Option, Some, None, Bool, true, false, ◌||◌, map, length, get_or, ◌<◌, ◌≤◌, bytes_eq, codes, refl, arith}
+use Rattle.std.proofs.Common.{◌≡◌, ℕ, ℤ, pos, List, [], ◌∷◌, Option, Some, None, Bool, true, false}
+use Rattle.std.proofs.Common.{◌||◌, map, length, get_or, ◌<◌, ◌≤◌, bytes_eq, codes, refl, arith}
 use Rattle.std.proofs.lemmas.Slice.Eq.{bytes_eq-Decides}
-use Rattle.protobuf_parse_base.specs.Readers.{Rest, end, token, Read, read, stuck, wrong, bind, seen, starts, run_one, taken, or_true, or_left, false_by, all_apart-law}
+use Rattle.protobuf_parse_base.specs.Readers.{Rest, end, token, Read, read, stuck, wrong, bind}
+use Rattle.protobuf_parse_base.specs.Readers.{seen, starts, run_one, taken, or_true, or_left}
+use Rattle.protobuf_parse_base.specs.Readers.{false_by, all_apart-law}
 use Rattle.protobuf_parse_base.specs.Whole.{whole}
 use Rattle.protobuf_parse_base.specs.Conditions.{meaning}
 use Rattle.protobuf_parse_syntax.specs.Tokens.{Lexeme, lexeme}
 use Rattle.protobuf_parse_syntax.specs.Text.{Bytes}
-use Rattle.protobuf_parse_syntax.specs.Classes.{sees, symbol as symbol_class, integer, float, text, lexicon, is_one_of, is_floating, is_string}
-use Rattle.protobuf_parse_syntax.specs.Grammar.{if_so, number, small_number, negative, piece_at, other_constants}
-use Rattle.protobuf_parse_syntax.specs.Productions.{symbol, signed_by, sign_and, said_of, found, or_floating, plus, minus, number-law, small-law, str}
+use Rattle.protobuf_parse_syntax.specs.Classes.{sees, symbol as symbol_class, integer, float, text}
+use Rattle.protobuf_parse_syntax.specs.Classes.{lexicon, is_one_of, is_floating, is_string}
+use Rattle.protobuf_parse_syntax.specs.Grammar.{if_so, number, small_number, negative, piece_at}
+use Rattle.protobuf_parse_syntax.specs.Grammar.{other_constants}
+use Rattle.protobuf_parse_syntax.specs.Productions.{symbol, signed_by, sign_and, said_of, found}
+use Rattle.protobuf_parse_syntax.specs.Productions.{or_floating, plus, minus, number-law, small-law}
+use Rattle.protobuf_parse_syntax.specs.Productions.{str}
 use Rattle.protobuf_parse_syntax.specs.Code.{off, comes, Fails, SignedFloat, floats_second}
 use Rattle.protobuf_parse_syntax.specs.declared.lexer.token.Place.{Place}
 use Rattle.protobuf_parse_syntax.specs.declared.lexer.token.Token.{Token}
@@ -19,18 +26,26 @@ use Rattle.protobuf_parse_syntax.specs.declared.parser.refusal.Refusal.TheVarian
 
 -- ---- the second token
 
-pub short_floats : (ts : List Token) (m : Place) → length ts < 2 → false ≡ floats_second (whole (map lexeme ts) m)
+pub short_floats : (ts : List Token) (m : Place) → length ts < 2
+    → false ≡ floats_second (whole (map lexeme ts) m)
 short_floats [] m h = refl
 short_floats (t ∷ []) m h = refl
 short_floats (t ∷ u ∷ ts) m h = absurd (omega (arith, h))
 
-no_float : (k : TokenKind) (w : Bytes) (p : Place) → k ≡ kind.Ident → (w ≡ codes "nan" → ⊥) → (w ≡ codes "inf" → ⊥) → false ≡ is_floating (record { kind = k; text = w; place = p })
+no_float : (k : TokenKind) (w : Bytes) (p : Place) → k ≡ kind.Ident → (w ≡ codes "nan" → ⊥)
+    → (w ≡ codes "inf" → ⊥) → false ≡ is_floating (record { kind = k; text = w; place = p })
 no_float k w p e n i =
-    let x : bytes_eq w (codes "inf") ≡ false = false_by (bytes_eq w (codes "inf")) (λ h. i ((bytes_eq-Decides w (codes "inf")).0 h)) in
-    let y : bytes_eq w (codes "nan") ≡ false = false_by (bytes_eq w (codes "nan")) (λ h. n ((bytes_eq-Decides w (codes "nan")).0 h)) in
+    let x : bytes_eq w (codes "inf")
+    ≡ false = false_by (bytes_eq w (codes "inf"))
+    (λ h. i ((bytes_eq-Decides w (codes "inf")).0 h)) in
+    let y : bytes_eq w (codes "nan")
+    ≡ false = false_by (bytes_eq w (codes "nan"))
+    (λ h. n ((bytes_eq-Decides w (codes "nan")).0 h)) in
     rw (e, x, y) refl
 
-pub other_second : (ts : List Token) (m : Place) (d : Token) → 2 ≤ length ts → (get_or ts 1 d).kind ≡ kind.Ident → ((get_or ts 1 d).text.now ≡ codes "nan" → ⊥) → ((get_or ts 1 d).text.now ≡ codes "inf" → ⊥) → false ≡ floats_second (whole (map lexeme ts) m)
+pub other_second : (ts : List Token) (m : Place) (d : Token) → 2 ≤ length ts
+    → (get_or ts 1 d).kind ≡ kind.Ident → ((get_or ts 1 d).text.now ≡ codes "nan" → ⊥)
+    → ((get_or ts 1 d).text.now ≡ codes "inf" → ⊥) → false ≡ floats_second (whole (map lexeme ts) m)
 other_second [] m d h e n i = absurd (omega (arith, h))
 other_second (t ∷ []) m d h e n i = absurd (omega (arith, h))
 other_second (t ∷ u ∷ ts) m d h e n i = no_float u.kind u.text.now u.place e n i
@@ -41,9 +56,11 @@ one_seen : (b : Bool) → (b || false) ≡ true → b ≡ true
 one_seen true h = refl
 one_seen false h = absurd cc
 
-module _ (c : ℕ) (says : Lexeme → Option ℕ) (f : ℕ → ℤ) (law : (t : Lexeme) (n : ℕ) → says t ≡ Some n → seen sees (integer ∷ []) t ≡ true) where
+module _ (c : ℕ) (says : Lexeme → Option ℕ) (f : ℕ → ℤ)
+    (law : (t : Lexeme) (n : ℕ) → says t ≡ Some n → seen sees (integer ∷ []) t ≡ true) where
   -- before a float, `inf` or `nan`
-  pub sign_wrong : (ts : Rest Lexeme Place) → starts lexicon (symbol_class c ∷ []) ts ≡ true → floats_second ts ≡ true → (signed_by c says f law).run ts ≡ wrong ts
+  pub sign_wrong : (ts : Rest Lexeme Place) → starts lexicon (symbol_class c ∷ []) ts ≡ true
+      → floats_second ts ≡ true → (signed_by c says f law).run ts ≡ wrong ts
   unfolding starts signed_by
   sign_wrong (end m) h e = absurd cc
   sign_wrong (token t (end m)) h e = absurd cc
@@ -55,72 +72,104 @@ module _ (c : ℕ) (says : Lexeme → Option ℕ) (f : ℕ → ℤ) (law : (t : 
   signed_value : Rest Lexeme Place → Option ℕ → Rest Lexeme Place → Read Lexeme Place ℤ
   signed_value ts o us = meaning (sign_and c says f law) (said_of f) ts (said_of f o) us
 
-  no_number : (b : Bool) (ts : Rest Lexeme Place) (m : Place) → bind (bind (after_sign b ts (end m)) (λ a us. run_one (or_floating says) us)) (signed_value ts) ≡ bind (after_sign b ts (end m)) (λ a us. bind (run_one says us) (λ n vs. read (f n) vs))
+  no_number : (b : Bool) (ts : Rest Lexeme Place) (m : Place)
+      → bind (bind (after_sign b ts (end m)) (λ a us. run_one (or_floating says) us))
+      (signed_value ts) ≡ bind (after_sign b ts (end m))
+      (λ a us. bind (run_one says us) (λ n vs. read (f n) vs))
   unfolding after_sign signed_value
   no_number true ts m = refl
   no_number false ts m = refl
 
-  a_number : (ts us vs : Rest Lexeme Place) (p : Option ℕ) → bind (taken (found p) us vs) (signed_value ts) ≡ bind (taken p us vs) (λ n ws. read (f n) ws)
+  a_number : (ts us vs : Rest Lexeme Place) (p : Option ℕ)
+      → bind (taken (found p) us vs) (signed_value ts)
+      ≡ bind (taken p us vs) (λ n ws. read (f n) ws)
   unfolding signed_value
   a_number ts us vs None = refl
   a_number ts us vs (Some n) = refl
 
-  then_number : (b : Bool) (ts : Rest Lexeme Place) (u : Lexeme) (vs : Rest Lexeme Place) → is_floating u ≡ false → bind (bind (after_sign b ts (token u vs)) (λ a us. run_one (or_floating says) us)) (signed_value ts) ≡ bind (after_sign b ts (token u vs)) (λ a us. bind (run_one says us) (λ n ws. read (f n) ws))
+  then_number : (b : Bool) (ts : Rest Lexeme Place) (u : Lexeme) (vs : Rest Lexeme Place)
+      → is_floating u ≡ false
+      → bind (bind (after_sign b ts (token u vs)) (λ a us. run_one (or_floating says) us))
+      (signed_value ts) ≡ bind (after_sign b ts (token u vs))
+      (λ a us. bind (run_one says us) (λ n ws. read (f n) ws))
   unfolding after_sign
   then_number true ts u vs e = rw e (a_number ts (token u vs) vs (says u))
   then_number false ts u vs e = refl
 
   -- before any other token
-  pub sign_plain : (ts : Rest Lexeme Place) → floats_second ts ≡ false → (signed_by c says f law).run ts ≡ bind ((symbol c).run ts) (λ a us. bind (run_one says us) (λ n vs. read (f n) vs))
+  pub sign_plain : (ts : Rest Lexeme Place) → floats_second ts ≡ false
+      → (signed_by c says f law).run ts
+      ≡ bind ((symbol c).run ts) (λ a us. bind (run_one says us) (λ n vs. read (f n) vs))
   unfolding signed_by after_sign signed_value
   sign_plain (end m) e = refl
   sign_plain (token t (end m)) e = no_number (sees (symbol_class c) t) (token t (end m)) m
-  sign_plain (token t (token u rest)) e = then_number (sees (symbol_class c) t) (token t (token u rest)) u rest e
+  sign_plain (token t (token u rest)) e =
+      then_number (sees (symbol_class c) t) (token t (token u rest)) u rest e
 
   -- where the sign does not come next
-  pub sign_absent : (ts : Rest Lexeme Place) → starts lexicon (symbol_class c ∷ []) ts ≡ false → (signed_by c says f law).run ts ≡ stuck ts
+  pub sign_absent : (ts : Rest Lexeme Place) → starts lexicon (symbol_class c ∷ []) ts ≡ false
+      → (signed_by c says f law).run ts ≡ stuck ts
   unfolding starts signed_by
   sign_absent (end m) h = refl
   sign_absent (token t rest) h = rw (or_left (sees (symbol_class c) t) false h) refl
 
-  tells_at : (ts : Rest Lexeme Place) → ((t : Lexeme) → sees (symbol_class c) t ≡ true → is_one_of (symbol_class 43 ∷ symbol_class 45 ∷ []) t ≡ true) → starts lexicon (symbol_class c ∷ []) ts ≡ true → floats_second ts ≡ true → SignedFloat ts (off ts)
+  tells_at : (ts : Rest Lexeme Place)
+      → ((t : Lexeme) → sees (symbol_class c) t ≡ true
+      → is_one_of (symbol_class 43 ∷ symbol_class 45 ∷ []) t ≡ true)
+      → starts lexicon (symbol_class c ∷ []) ts ≡ true → floats_second ts ≡ true
+      → SignedFloat ts (off ts)
   unfolding starts
   tells_at (end m) is h e = absurd cc
   tells_at (token t (end m)) is h e = absurd cc
   tells_at (token t (token u rest)) is h e = (is t (one_seen (sees (symbol_class c) t) h), e, refl)
 
-  sign_fails : (ts : Rest Lexeme Place) → ((t : Lexeme) → sees (symbol_class c) t ≡ true → is_one_of (symbol_class 43 ∷ symbol_class 45 ∷ []) t ≡ true) → starts lexicon (symbol_class c ∷ []) ts ≡ true → floats_second ts ≡ true → Fails (Here error.FloatConstant) ts ((signed_by c says f law).run ts)
+  sign_fails : (ts : Rest Lexeme Place)
+      → ((t : Lexeme) → sees (symbol_class c) t ≡ true
+      → is_one_of (symbol_class 43 ∷ symbol_class 45 ∷ []) t ≡ true)
+      → starts lexicon (symbol_class c ∷ []) ts ≡ true → floats_second ts ≡ true
+      → Fails (Here error.FloatConstant) ts ((signed_by c says f law).run ts)
   sign_fails ts is h e = (off ts, sign_wrong ts h e, tells_at ts is h e)
 
-pub plus_absent : (ts : Rest Lexeme Place) → starts lexicon (symbol_class 43 ∷ []) ts ≡ false → plus.run ts ≡ stuck ts
+pub plus_absent : (ts : Rest Lexeme Place) → starts lexicon (symbol_class 43 ∷ []) ts ≡ false
+    → plus.run ts ≡ stuck ts
 plus_absent = sign_absent 43 number pos number-law
 
-pub plus_fails : (ts : Rest Lexeme Place) → starts lexicon (symbol_class 43 ∷ []) ts ≡ true → floats_second ts ≡ true → Fails (Here error.FloatConstant) ts (plus.run ts)
+pub plus_fails : (ts : Rest Lexeme Place) → starts lexicon (symbol_class 43 ∷ []) ts ≡ true
+    → floats_second ts ≡ true → Fails (Here error.FloatConstant) ts (plus.run ts)
 plus_fails ts h e = sign_fails 43 number pos number-law ts (λ t i. rw i refl) h e
 
-pub plus_plain : (ts : Rest Lexeme Place) → floats_second ts ≡ false → plus.run ts ≡ bind ((symbol 43).run ts) (λ a us. bind (run_one number us) (λ n vs. read (pos n) vs))
+pub plus_plain : (ts : Rest Lexeme Place) → floats_second ts ≡ false
+    → plus.run ts ≡ bind ((symbol 43).run ts)
+    (λ a us. bind (run_one number us) (λ n vs. read (pos n) vs))
 plus_plain = sign_plain 43 number pos number-law
 
 abbrev most : ℕ
 most = 9223372036854775808
 
-pub minus_absent : (ts : Rest Lexeme Place) → starts lexicon (symbol_class 45 ∷ []) ts ≡ false → minus.run ts ≡ stuck ts
+pub minus_absent : (ts : Rest Lexeme Place) → starts lexicon (symbol_class 45 ∷ []) ts ≡ false
+    → minus.run ts ≡ stuck ts
 minus_absent = sign_absent 45 (small_number most) negative (small-law most)
 
-pub minus_fails : (ts : Rest Lexeme Place) → starts lexicon (symbol_class 45 ∷ []) ts ≡ true → floats_second ts ≡ true → Fails (Here error.FloatConstant) ts (minus.run ts)
-minus_fails ts h e = sign_fails 45 (small_number most) negative (small-law most) ts (λ t i. or_true (sees (symbol_class 43) t) (sees (symbol_class 45) t || false) (rw i refl)) h e
+pub minus_fails : (ts : Rest Lexeme Place) → starts lexicon (symbol_class 45 ∷ []) ts ≡ true
+    → floats_second ts ≡ true → Fails (Here error.FloatConstant) ts (minus.run ts)
+minus_fails ts h e = sign_fails 45 (small_number most) negative (small-law most) ts
+    (λ t i. or_true (sees (symbol_class 43) t) (sees (symbol_class 45) t || false) (rw i refl)) h e
 
-pub minus_plain : (ts : Rest Lexeme Place) → floats_second ts ≡ false → minus.run ts ≡ bind ((symbol 45).run ts) (λ a us. bind (run_one (small_number most) us) (λ n vs. read (negative n) vs))
+pub minus_plain : (ts : Rest Lexeme Place) → floats_second ts ≡ false
+    → minus.run ts ≡ bind ((symbol 45).run ts)
+    (λ a us. bind (run_one (small_number most) us) (λ n vs. read (negative n) vs))
 minus_plain = sign_plain 45 (small_number most) negative (small-law most)
 
 -- ---- the next token
 
-pub float_stands : (ts : Rest Lexeme Place) → starts lexicon (float ∷ []) ts ≡ true → comes (float ∷ []) ts ≡ true
+pub float_stands : (ts : Rest Lexeme Place) → starts lexicon (float ∷ []) ts ≡ true
+    → comes (float ∷ []) ts ≡ true
 unfolding starts
 float_stands (end m) h = h
 float_stands (token t rest) h = h
 
-pub symbol_absent : (c : ℕ) (ts : Rest Lexeme Place) → starts lexicon (symbol_class c ∷ []) ts ≡ false → (symbol c).run ts ≡ stuck ts
+pub symbol_absent : (c : ℕ) (ts : Rest Lexeme Place)
+    → starts lexicon (symbol_class c ∷ []) ts ≡ false → (symbol c).run ts ≡ stuck ts
 unfolding starts
 symbol_absent c (end m) h = refl
 symbol_absent c (token t rest) h = rw (or_left (sees (symbol_class c) t) false h) refl
@@ -132,13 +181,16 @@ piece_at_none kind.Float w h = refl
 piece_at_none kind.Str w h = absurd cc
 piece_at_none (kind.Symbol c) w h = refl
 
-pub str_absent : (ts : Rest Lexeme Place) → starts lexicon (text ∷ []) ts ≡ false → str.run ts ≡ stuck ts
+pub str_absent : (ts : Rest Lexeme Place) → starts lexicon (text ∷ []) ts ≡ false
+    → str.run ts ≡ stuck ts
 unfolding starts str
 str_absent (end m) h = refl
 str_absent (token t rest) h = rw (piece_at_none t.kind t.text (or_left (sees text t) false h)) refl
 
 -- no other constant begins as a message constant does
-pub no_other_constant : (ts : Rest Lexeme Place) → starts lexicon (symbol_class 123 ∷ []) ts ≡ true → starts lexicon other_constants ts ≡ false
+pub no_other_constant : (ts : Rest Lexeme Place) → starts lexicon (symbol_class 123 ∷ []) ts ≡ true
+    → starts lexicon other_constants ts ≡ false
 unfolding starts
 no_other_constant (end m) h = absurd cc
-no_other_constant (token t rest) h = all_apart-law lexicon (symbol_class 123 ∷ []) other_constants t refl h
+no_other_constant (token t rest) h =
+    all_apart-law lexicon (symbol_class 123 ∷ []) other_constants t refl h

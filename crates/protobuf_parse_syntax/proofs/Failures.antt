@@ -6,7 +6,9 @@ use Rattle.protobuf_parse_syntax.specs.Code.{Failure, at, off, too_deep, failed}
 use Rattle.protobuf_parse_syntax.specs.declared.lexer.token.Place.{Place}
 
 -- the same failure of a reader of something else
-pub failed_as : {X Y : Type 0} (f : Failure) (g : Failure) → (let r : Read Lexeme Place X = failed f in r ≡ failed g) → (let s : Read Lexeme Place Y = failed f in s ≡ failed g)
+pub failed_as : {X Y : Type 0} (f : Failure) (g : Failure)
+    → (let r : Read Lexeme Place X = failed f in r ≡ failed g)
+    → (let s : Read Lexeme Place Y = failed f in s ≡ failed g)
 failed_as (at m) (at n) e = let p : m ≡ n = cc in ap (λ (x : Rest Lexeme Place). stuck x) p
 failed_as (at m) (off n) e = absurd cc
 failed_as (at m) too_deep e = absurd cc
@@ -18,7 +20,8 @@ failed_as too_deep (off n) e = absurd cc
 failed_as too_deep too_deep e = refl
 
 -- what was read did not fail
-pub never_failed : {X : Type 0} (x : X) (us : Rest Lexeme Place) (f : Failure) → (let r : Read Lexeme Place X = read x us in r ≡ failed f) → ⊥
+pub never_failed : {X : Type 0} (x : X) (us : Rest Lexeme Place) (f : Failure)
+    → (let r : Read Lexeme Place X = read x us in r ≡ failed f) → ⊥
 never_failed x us (at n) e = cc
 never_failed x us (off n) e = cc
 never_failed x us too_deep e = cc

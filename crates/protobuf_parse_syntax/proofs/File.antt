@@ -1,24 +1,34 @@
 -- What the reader of a file gives, said of the grammar.
-use Rattle.std.proofs.Common.{◌≡◌, ℕ, ◌<◌, List, [], ◌∷◌, ◌++◌, length, true, false, Result, Ok, Err, IfOk, IfErr, refl, sym, ap, subst, ◌∙◌, inl, inr, ◌⊎◌}
-use Rattle.protobuf_parse_base.specs.Readers.{Rest, end, token, onto, onto-append, read, stuck, wrong, Begins, starts}
+use Rattle.std.proofs.Common.{◌≡◌, ℕ, ◌<◌, List, [], ◌∷◌, ◌++◌, length, true, false, Result, Ok}
+use Rattle.std.proofs.Common.{Err, IfOk, IfErr, refl, sym, ap, subst, ◌∙◌, inl, inr, ◌⊎◌}
+use Rattle.protobuf_parse_base.specs.Readers.{Rest, end, token, onto, onto-append, read, stuck}
+use Rattle.protobuf_parse_base.specs.Readers.{wrong, Begins, starts}
 use Rattle.protobuf_parse_base.specs.Relations.{BeginsOtherwise}
 use Rattle.protobuf_parse_syntax.proofs.Strings.{str_ends}
 use Rattle.protobuf_parse_base.specs.Conditions.{mark_of}
-use Rattle.protobuf_parse_base.specs.Whole.{whole, StopsAt, left_whole, local_stuck, local_wrong, deep_found, deep_only, deep_wrong, deep_never, deep_stops, deep_leaves}
+use Rattle.protobuf_parse_base.specs.Whole.{whole, StopsAt, left_whole, local_stuck, local_wrong}
+use Rattle.protobuf_parse_base.specs.Whole.{deep_found, deep_only, deep_wrong, deep_never}
+use Rattle.protobuf_parse_base.specs.Whole.{deep_stops, deep_leaves}
 use Rattle.protobuf_parse_syntax.specs.Text.{Bytes}
 use Rattle.protobuf_parse_syntax.specs.Tokens.{Lexeme}
 use Rattle.protobuf_parse_syntax.specs.Trees.{Pieces, FileSyntax, file_view}
-use Rattle.protobuf_parse_syntax.specs.Classes.{symbol, ident, sees, float, text, is_one_of, is_floating, lexicon}
+use Rattle.protobuf_parse_syntax.specs.Classes.{symbol, ident, sees, float, text, is_one_of}
+use Rattle.protobuf_parse_syntax.specs.Classes.{is_floating, lexicon}
 use Rattle.protobuf_parse_syntax.specs.Grammar.{IsFile, IsStr, place_of}
 use Rattle.protobuf_parse_syntax.specs.Productions as parse
 use Rattle.protobuf_parse_syntax.specs.Nested as nest
 use Rattle.protobuf_parse_syntax.specs.Readings.{steady-near}
-use Rattle.protobuf_parse_syntax.specs.Parsing.{HasTree, NoTree, StandsAt, LargeToken, NextPart, Floats, WrongStrings, SaysNothing, IsGrammarFault}
-use Rattle.protobuf_parse_syntax.specs.Code.{Stands, Tells, Fails, Failure, at, failed, SaysNot, SignedFloat, IsLargeNext, comes, is_end, RefusesFile, error_at}
-use Rattle.protobuf_parse_syntax.specs.Cut.{Stream, HasTokens, out_of_memory, error_place as place_at}
+use Rattle.protobuf_parse_syntax.specs.Parsing.{HasTree, NoTree, StandsAt, LargeToken, NextPart}
+use Rattle.protobuf_parse_syntax.specs.Parsing.{Floats, WrongStrings, SaysNothing, IsGrammarFault}
+use Rattle.protobuf_parse_syntax.specs.Code.{Stands, Tells, Fails, Failure, at, failed, SaysNot}
+use Rattle.protobuf_parse_syntax.specs.Code.{SignedFloat, IsLargeNext, comes, is_end, RefusesFile}
+use Rattle.protobuf_parse_syntax.specs.Code.{error_at}
+use Rattle.protobuf_parse_syntax.specs.Cut.{Stream, HasTokens, out_of_memory}
+use Rattle.protobuf_parse_syntax.specs.Cut.{error_place as place_at}
 use Rattle.protobuf_parse_syntax.specs.declared.error.ParserErrorWithLocation.{ParserErrorWithLocation}
 use Rattle.protobuf_parse_syntax.specs.declared.parser.refusal.Refusal.{Refusal}
-use Rattle.protobuf_parse_syntax.specs.declared.parser.refusal.Refusal.TheVariants.{Memory, Next, Here}
+use Rattle.protobuf_parse_syntax.specs.declared.parser.refusal.Refusal.TheVariants.{Memory, Next}
+use Rattle.protobuf_parse_syntax.specs.declared.parser.refusal.Refusal.TheVariants.{Here}
 use Rattle.protobuf_parse_syntax.specs.declared.lexer.token.Place.{Place}
 use Rattle.protobuf_parse_syntax.specs.declared.tree.FileTree.{FileTree}
 use Rattle.protobuf_parse_syntax.specs.declared.error.ParserError.{ParserError}
@@ -27,103 +37,173 @@ use Rattle.protobuf_parse_syntax.specs.declared.error.ParserError.TheVariants as
 -- ---- a token at a place
 
 -- what is left begins with a token of the tokens
-stands_at : (P : List Lexeme → Lexeme → List Lexeme → Type 0) (ts used : List Lexeme) (m : Place) (t : Lexeme) (rest : Rest Lexeme Place) → whole ts m ≡ onto used (token t rest) → ((back : List Lexeme) → rest ≡ whole back m → P used t back) → StandsAt P ts t.place
+stands_at : (P : List Lexeme → Lexeme → List Lexeme → Type 0) (ts used : List Lexeme) (m : Place)
+    (t : Lexeme) (rest : Rest Lexeme Place) → whole ts m ≡ onto used (token t rest)
+    → ((back : List Lexeme) → rest ≡ whole back m → P used t back) → StandsAt P ts t.place
 stands_at P ts used m t rest e p = let k = left_whole ts used m (token t rest) e in go k.0 k.1 k.2
   where
-    go : (back : List Lexeme) → token t rest ≡ whole back m → ts ≡ used ++ back → StandsAt P ts t.place
+    go : (back : List Lexeme) → token t rest ≡ whole back m → ts ≡ used ++ back
+        → StandsAt P ts t.place
     go [] f parts = absurd cc
     go (u ∷ us) f parts =
         let q : t ≡ u = cc in
         let r : rest ≡ whole us m = cc in
-        record { front = used; token = t; back = us; parts = parts ∙ ap (λ (x : Lexeme). used ++ x ∷ us) (sym q); at = refl; is = p us r }
+        record {
+          front = used;
+          token = t;
+          back = us;
+          parts = parts
+              ∙ ap (λ (x : Lexeme). used ++ x ∷ us) (sym q);
+          at = refl;
+          is = p us r;
+        }
 
-large_at : (ts used : List Lexeme) (m : Place) (after : Rest Lexeme Place) → whole ts m ≡ onto used after → IsLargeNext after → StandsAt LargeToken ts (mark_of place_of after)
+large_at : (ts used : List Lexeme) (m : Place) (after : Rest Lexeme Place)
+    → whole ts m ≡ onto used after → IsLargeNext after
+    → StandsAt LargeToken ts (mark_of place_of after)
 large_at ts used m (end n) e large = absurd large
-large_at ts used m (token t rest) e large = stands_at LargeToken ts used m t rest e (λ back f. large)
+large_at ts used m (token t rest) e large =
+    stands_at LargeToken ts used m t rest e (λ back f. large)
 
-float_next : (used back : List Lexeme) (t : Lexeme) → is_one_of (float ∷ []) t ≡ true → Floats used t back
+float_next : (used back : List Lexeme) (t : Lexeme) → is_one_of (float ∷ []) t ≡ true
+    → Floats used t back
 float_next used [] t h = h
 float_next used (u ∷ us) t h = inl h
 
-float_at : (ts used : List Lexeme) (m : Place) (after : Rest Lexeme Place) → whole ts m ≡ onto used after → comes (float ∷ []) after ≡ true → StandsAt Floats ts (mark_of place_of after)
+float_at : (ts used : List Lexeme) (m : Place) (after : Rest Lexeme Place)
+    → whole ts m ≡ onto used after → comes (float ∷ []) after ≡ true
+    → StandsAt Floats ts (mark_of place_of after)
 float_at ts used m (end n) e h = absurd cc
-float_at ts used m (token t rest) e h = stands_at Floats ts used m t rest e (λ back f. float_next used back t h)
+float_at ts used m (token t rest) e h =
+    stands_at Floats ts used m t rest e (λ back f. float_next used back t h)
 
-sign_next : (used back : List Lexeme) (m : Place) (t u : Lexeme) (rest : Rest Lexeme Place) → token u rest ≡ whole back m → is_one_of (symbol 43 ∷ symbol 45 ∷ []) t ≡ true → is_floating u ≡ true → Floats used t back
+sign_next : (used back : List Lexeme) (m : Place) (t u : Lexeme) (rest : Rest Lexeme Place)
+    → token u rest ≡ whole back m → is_one_of (symbol 43 ∷ symbol 45 ∷ []) t ≡ true
+    → is_floating u ≡ true → Floats used t back
 sign_next used [] m t u rest e h i = absurd cc
-sign_next used (v ∷ vs) m t u rest e h i = let p : u ≡ v = cc in inr (h, subst (λ (x : Lexeme). is_floating x ≡ true) p i)
+sign_next used (v ∷ vs) m t u rest e h i = let p : u ≡ v = cc in
+    inr (h, subst (λ (x : Lexeme). is_floating x ≡ true) p i)
 
-sign_at : (ts used : List Lexeme) (m : Place) (after : Rest Lexeme Place) (f : Failure) → whole ts m ≡ onto used after → SignedFloat after f → StandsAt Floats ts (mark_of place_of after)
+sign_at : (ts used : List Lexeme) (m : Place) (after : Rest Lexeme Place) (f : Failure)
+    → whole ts m ≡ onto used after → SignedFloat after f
+    → StandsAt Floats ts (mark_of place_of after)
 sign_at ts used m (end n) f e h = absurd h
 sign_at ts used m (token t (end n)) f e h = absurd h
-sign_at ts used m (token t (token u rest)) f e h = stands_at Floats ts used m t (token u rest) e (λ back g. sign_next used back m t u rest g h.0 h.1)
+sign_at ts used m (token t (token u rest)) f e h =
+    stands_at Floats ts used m t (token u rest) e
+    (λ back g. sign_next used back m t u rest g h.0 h.1)
 
-part_at : (ts used : List Lexeme) (m : Place) (dot : Lexeme) (after : Rest Lexeme Place) → whole ts m ≡ onto used (token dot after) → is_one_of (symbol 46 ∷ []) dot ≡ true → comes (ident [] ∷ symbol 40 ∷ []) after ≡ true → StandsAt NextPart ts (mark_of place_of after)
+part_at : (ts used : List Lexeme) (m : Place) (dot : Lexeme) (after : Rest Lexeme Place)
+    → whole ts m ≡ onto used (token dot after) → is_one_of (symbol 46 ∷ []) dot ≡ true
+    → comes (ident [] ∷ symbol 40 ∷ []) after ≡ true → StandsAt NextPart ts (mark_of place_of after)
 part_at ts used m dot (end n) e d h = absurd cc
 part_at ts used m dot (token t rest) e d h =
-    let parts : whole ts m ≡ onto (used ++ dot ∷ []) (token t rest) = e ∙ sym (onto-append used (dot ∷ []) (token t rest)) in
+    let parts : whole ts m ≡ onto (used ++ dot ∷ []) (token t rest) = e
+    ∙ sym (onto-append used (dot ∷ []) (token t rest)) in
     stands_at NextPart ts (used ++ dot ∷ []) m t rest parts (λ back f. (used, dot, refl, d, h))
 
 -- what is left does not begin with a string
-no_more : (others : List Lexeme) (m : Place) (us : Rest Lexeme Place) → us ≡ whole others m → starts lexicon (text ∷ []) us ≡ false → BeginsOtherwise (is_one_of (text ∷ [])) others
+no_more : (others : List Lexeme) (m : Place) (us : Rest Lexeme Place) → us ≡ whole others m
+    → starts lexicon (text ∷ []) us ≡ false → BeginsOtherwise (is_one_of (text ∷ [])) others
 unfolding starts
 no_more [] m us e h = tt
 no_more (t ∷ others) m us e h = rw e at h
 
-strings_next : (used used' : List Lexeme) (m : Place) (e : ParserError) (t : Lexeme) (rest us : Rest Lexeme Place) (pieces : Pieces) → token t rest ≡ onto used' us → IsStr used' pieces → starts lexicon (text ∷ []) us ≡ false → SaysNothing pieces e → (back : List Lexeme) → rest ≡ whole back m → WrongStrings e used t back
+strings_next : (used used' : List Lexeme) (m : Place) (e : ParserError) (t : Lexeme)
+    (rest us : Rest Lexeme Place) (pieces : Pieces) → token t rest ≡ onto used' us
+    → IsStr used' pieces → starts lexicon (text ∷ []) us ≡ false → SaysNothing pieces e
+    → (back : List Lexeme) → rest ≡ whole back m → WrongStrings e used t back
 strings_next used used' m e t rest us pieces f is ends says back g =
     let k = left_whole (t ∷ back) used' m us (sym (ap (token t) g) ∙ f) in
-    record { strings = used'; others = k.0; pieces = pieces; parts = k.2; is = is; last = no_more k.0 m us k.1 ends; says = says }
+    record {
+      strings = used';
+      others = k.0;
+      pieces = pieces;
+      parts = k.2;
+      is = is;
+      last =
+          no_more k.0 m us k.1 ends;
+      says = says;
+    }
 
-strings_at : (ts used : List Lexeme) (m : Place) (e : ParserError) (after rest : Rest Lexeme Place) (pieces : Pieces) → whole ts m ≡ onto used after → parse.str.run after ≡ read pieces rest → SaysNothing pieces e → StandsAt (WrongStrings e) ts (mark_of place_of after)
+strings_at : (ts used : List Lexeme) (m : Place) (e : ParserError) (after rest : Rest Lexeme Place)
+    (pieces : Pieces) → whole ts m ≡ onto used after → parse.str.run after ≡ read pieces rest
+    → SaysNothing pieces e → StandsAt (WrongStrings e) ts (mark_of place_of after)
 strings_at ts used m e (end n) rest pieces parts h says =
     let l = parse.str.sound (end n) pieces rest h in
     no_strings l.used l.parts (parse.str.begins l.used pieces l.holds)
   where
-    no_strings : (strings : List Lexeme) → (let r : Rest Lexeme Place = end n in r ≡ onto strings rest) → Begins lexicon (text ∷ []) false strings → StandsAt (WrongStrings e) ts n
+    no_strings : (strings : List Lexeme)
+        → (let r : Rest Lexeme Place = end n in r ≡ onto strings rest)
+        → Begins lexicon (text ∷ []) false strings → StandsAt (WrongStrings e) ts n
     no_strings [] f b = absurd cc
     no_strings (u ∷ us) f b = absurd cc
 strings_at ts used m e (token t us) rest pieces parts h says =
     let l = parse.str.sound (token t us) pieces rest h in
-    stands_at (WrongStrings e) ts used m t us parts (strings_next used l.used m e t us rest pieces l.parts l.holds (str_ends (token t us) rest pieces h) says)
+    stands_at (WrongStrings e) ts used m t us parts
+    (strings_next used l.used m e t us rest pieces l.parts l.holds
+    (str_ends (token t us) rest pieces h) says)
 
 dotted : (t : Lexeme) → sees (symbol 46) t ≡ true → is_one_of (symbol 46 ∷ []) t ≡ true
 dotted t h = rw h refl
 
 -- ---- a file
 
-no_tree_behind : (ts : List Lexeme) (last place : Place) → StopsAt place_of IsFile ts last place → NoTree ts
-no_tree_behind ts last place s t w = s.never s.rest t refl (subst (λ (v : List Lexeme). IsFile v t) s.parts w)
+no_tree_behind : (ts : List Lexeme) (last place : Place) → StopsAt place_of IsFile ts last place
+    → NoTree ts
+no_tree_behind ts last place s t w =
+    s.never s.rest t refl (subst (λ (v : List Lexeme). IsFile v t) s.parts w)
 
 module _ (ts : List Lexeme) (m : Place) (n : ℕ) where
-  pub found : (a : FileSyntax) (after : Rest Lexeme Place) → (nest.files n).low.run (whole ts m) ≡ read a after → is_end after ≡ true → IsFile ts a
-  found a (end k) e h = deep_found (λ i. (nest.file i).low) (steady-near nest.file nest.file-same) refl n ts m k a e
+  pub found : (a : FileSyntax) (after : Rest Lexeme Place)
+      → (nest.files n).low.run (whole ts m) ≡ read a after → is_end after ≡ true → IsFile ts a
+  found a (end k) e h =
+      deep_found (λ i. (nest.file i).low) (steady-near nest.file nest.file-same) refl n ts m k a e
   found a (token t rest) e h = absurd cc
 
-  pub leftover : (a : FileSyntax) (after : Rest Lexeme Place) → (nest.files n).low.run (whole ts m) ≡ read a after → is_end after ≡ false → StopsAt place_of IsFile ts m (mark_of place_of after)
+  pub leftover : (a : FileSyntax) (after : Rest Lexeme Place)
+      → (nest.files n).low.run (whole ts m) ≡ read a after → is_end after ≡ false
+      → StopsAt place_of IsFile ts m (mark_of place_of after)
   leftover a (end k) e h = absurd cc
-  leftover a (token t rest) e h = deep_leaves (λ i. (nest.file i).low) (steady-near nest.file nest.file-same) refl n ts m a (token t rest) t e refl
+  leftover a (token t rest) e h =
+      deep_leaves (λ i. (nest.file i).low) (steady-near nest.file nest.file-same) refl n ts m a
+      (token t rest) t e refl
 
   module _ (enough : length ts < n) where
-    pub only : (a b : FileSyntax) (after : Rest Lexeme Place) → (nest.files n).low.run (whole ts m) ≡ read a after → is_end after ≡ true → IsFile ts b → b ≡ a
-    only a b (end k) e h w = deep_only (λ i. (nest.file i).low) (steady-near nest.file nest.file-same) refl n ts m k a b enough e w
+    pub only : (a b : FileSyntax) (after : Rest Lexeme Place)
+        → (nest.files n).low.run (whole ts m) ≡ read a after → is_end after ≡ true → IsFile ts b
+        → b ≡ a
+    only a b (end k) e h w =
+        deep_only (λ i. (nest.file i).low)
+        (steady-near nest.file nest.file-same) refl n ts m k a b enough e w
     only a b (token t rest) e h w = absurd cc
 
-    none_if_stuck : (rest : Rest Lexeme Place) → (nest.files n).low.run (whole ts m) ≡ stuck rest → NoTree ts
+    none_if_stuck : (rest : Rest Lexeme Place) → (nest.files n).low.run (whole ts m) ≡ stuck rest
+        → NoTree ts
     none_if_stuck rest e t w =
-        no_tree_behind ts m (mark_of place_of rest) (deep_stops (λ i. (nest.file i).low) (steady-near nest.file nest.file-same) refl n ts m rest enough e) t w
+        no_tree_behind ts m (mark_of place_of rest)
+        (deep_stops (λ i. (nest.file i).low)
+        (steady-near nest.file nest.file-same) refl n ts m rest enough e) t w
 
-    none_if_wrong : (rest : Rest Lexeme Place) → (nest.files n).low.run (whole ts m) ≡ wrong rest → NoTree ts
-    none_if_wrong rest e t w = deep_wrong (λ i. (nest.file i).low) (steady-near nest.file nest.file-same) refl n ts m rest t enough e w
+    none_if_wrong : (rest : Rest Lexeme Place) → (nest.files n).low.run (whole ts m) ≡ wrong rest
+        → NoTree ts
+    none_if_wrong rest e t w =
+        deep_wrong (λ i. (nest.file i).low)
+        (steady-near nest.file nest.file-same) refl n ts m rest t enough e w
 
     -- the tokens cannot stand there
-    next_fault : (e : ParserError) (after : Rest Lexeme Place) → (nest.files n).low.run (whole ts m) ≡ stuck after → Stands e after → IsGrammarFault ts m e (mark_of place_of after)
+    next_fault : (e : ParserError) (after : Rest Lexeme Place)
+        → (nest.files n).low.run (whole ts m) ≡ stuck after → Stands e after
+        → IsGrammarFault ts m e (mark_of place_of after)
     next_fault e after h stands =
-        let stop = deep_stops (λ i. (nest.file i).low) (steady-near nest.file nest.file-same) refl n ts m after enough h in
+        let stop = deep_stops (λ i. (nest.file i).low)
+        (steady-near nest.file nest.file-same) refl n ts m after enough h in
         let l = local_stuck (nest.file n).low refl (whole ts m) after h in
         go e stop l.used l.parts stands
       where
-        go : (e : ParserError) → StopsAt place_of IsFile ts m (mark_of place_of after) → (used : List Lexeme) → whole ts m ≡ onto used after → Stands e after → IsGrammarFault ts m e (mark_of place_of after)
+        go : (e : ParserError) → StopsAt place_of IsFile ts m (mark_of place_of after)
+            → (used : List Lexeme) → whole ts m ≡ onto used after → Stands e after
+            → IsGrammarFault ts m e (mark_of place_of after)
         go error.IncorrectInput stop used parts s = stop
         go error.ExpectConstant stop used parts s = stop
         go error.LabelNotAllowed stop used parts s = stop
@@ -133,7 +213,8 @@ module _ (ts : List Lexeme) (m : Place) (n : ℕ) where
         go error.OneOfInGroup stop used parts s = stop
         go error.OnlyFieldsInGroup stop used parts s = stop
         go error.IntegerOverflow stop used parts s = (stop, large_at ts used m after parts s)
-        go error.FloatConstant stop used parts s = (none_if_stuck after h, float_at ts used m after parts s)
+        go error.FloatConstant stop used parts s =
+            (none_if_stuck after h, float_at ts used m after parts s)
         go error.Memory stop used parts s = absurd s
         go error.UnexpectedCharacter stop used parts s = absurd s
         go error.UnterminatedComment stop used parts s = absurd s
@@ -147,13 +228,17 @@ module _ (ts : List Lexeme) (m : Place) (n : ℕ) where
         go error.TextTooLong stop used parts s = absurd s
 
     -- strings say nothing
-    strings_fault : (e : ParserError) (after : Rest Lexeme Place) (f : Failure) → (nest.files n).low.run (whole ts m) ≡ failed f → SaysNot e after f → NoTree ts × StandsAt (WrongStrings e) ts (mark_of place_of after)
+    strings_fault : (e : ParserError) (after : Rest Lexeme Place) (f : Failure)
+        → (nest.files n).low.run (whole ts m) ≡ failed f → SaysNot e after f
+        → NoTree ts × StandsAt (WrongStrings e) ts (mark_of place_of after)
     strings_fault e after f h says =
         let w : (nest.files n).low.run (whole ts m) ≡ wrong after = rw (says.4) at h in
         let l = local_wrong (nest.file n).low (whole ts m) after w in
         (none_if_wrong after w, strings_at ts l.0 m e after says.1 says.0 l.1 says.2 says.3)
 
-    sign_fault : (after : Rest Lexeme Place) (f : Failure) → (nest.files n).low.run (whole ts m) ≡ failed f → SignedFloat after f → NoTree ts × StandsAt Floats ts (mark_of place_of after)
+    sign_fault : (after : Rest Lexeme Place) (f : Failure)
+        → (nest.files n).low.run (whole ts m) ≡ failed f → SignedFloat after f
+        → NoTree ts × StandsAt Floats ts (mark_of place_of after)
     sign_fault (end k) f h tells = absurd tells
     sign_fault (token t (end k)) f h tells = absurd tells
     sign_fault (token t (token u rest)) f h tells =
@@ -162,20 +247,29 @@ module _ (ts : List Lexeme) (m : Place) (n : ℕ) where
         let l = local_wrong (nest.file n).low (whole ts m) after w in
         (none_if_wrong after w, sign_at ts l.0 m after f l.1 tells)
 
-    part_fault : (after : Rest Lexeme Place) (f : Failure) (dot : Lexeme) → (nest.files n).low.run (whole ts m) ≡ failed f → is_one_of (symbol 46 ∷ []) dot ≡ true → comes (ident [] ∷ symbol 40 ∷ []) after ≡ true → f ≡ at (token dot after) → NoTree ts × StandsAt NextPart ts (mark_of place_of after)
+    part_fault : (after : Rest Lexeme Place) (f : Failure) (dot : Lexeme)
+        → (nest.files n).low.run (whole ts m) ≡ failed f → is_one_of (symbol 46 ∷ []) dot ≡ true
+        → comes (ident [] ∷ symbol 40 ∷ []) after ≡ true → f ≡ at (token dot after)
+        → NoTree ts × StandsAt NextPart ts (mark_of place_of after)
     part_fault after f dot h d c e =
         let w : (nest.files n).low.run (whole ts m) ≡ stuck (token dot after) = rw e at h in
         let l = local_stuck (nest.file n).low refl (whole ts m) (token dot after) w in
         (none_if_stuck (token dot after) w, part_at ts l.used m dot after l.parts d c)
 
     -- the part that begins there has the fault
-    here_fault : (e : ParserError) (after : Rest Lexeme Place) (f : Failure) → (nest.files n).low.run (whole ts m) ≡ failed f → Tells e after f → IsGrammarFault ts m e (mark_of place_of after)
+    here_fault : (e : ParserError) (after : Rest Lexeme Place) (f : Failure)
+        → (nest.files n).low.run (whole ts m) ≡ failed f → Tells e after f
+        → IsGrammarFault ts m e (mark_of place_of after)
     here_fault error.FloatConstant after f h t = sign_fault after f h t
-    here_fault error.OptionNameTooLong after f h t = part_fault after f t.0 h (dotted t.0 t.1) t.2 t.3
+    here_fault error.OptionNameTooLong after f h t =
+        part_fault after f t.0 h (dotted t.0 t.1) t.2 t.3
     here_fault error.UnknownSyntax after f h t = strings_fault error.UnknownSyntax after f h t
     here_fault error.StrLitDecode after f h t = strings_fault error.StrLitDecode after f h t
-    here_fault (error.BadImportPath e) after f h t = strings_fault (error.BadImportPath e) after f h t
-    here_fault error.NestingTooDeep after f h t = absurd (deep_never (λ i. (nest.file i).low) (steady-near nest.file nest.file-same) refl n ts m enough (rw t at h))
+    here_fault (error.BadImportPath e) after f h t =
+        strings_fault (error.BadImportPath e) after f h t
+    here_fault error.NestingTooDeep after f h t =
+        absurd (deep_never (λ i. (nest.file i).low)
+        (steady-near nest.file nest.file-same) refl n ts m enough (rw t at h))
     here_fault error.Memory after f h t = absurd t
     here_fault error.UnexpectedCharacter after f h t = absurd t
     here_fault error.UnterminatedComment after f h t = absurd t
@@ -192,12 +286,16 @@ module _ (ts : List Lexeme) (m : Place) (n : ℕ) where
     here_fault error.OnlyFieldsInGroup after f h t = absurd t
     here_fault error.TextTooLong after f h t = absurd t
 
-    pub refused : (e : Refusal) (after : Rest Lexeme Place) → Fails e after ((nest.files n).low.run (whole ts m)) → RefusesFile ts m e (mark_of place_of after)
+    pub refused : (e : Refusal) (after : Rest Lexeme Place)
+        → Fails e after ((nest.files n).low.run (whole ts m))
+        → RefusesFile ts m e (mark_of place_of after)
     refused Memory after h = tt
     refused (Next e) after h = next_fault e after h.0 h.1
     refused (Here e) after h = here_fault e after h.0 h.1 h.2
 
-pub told : (ts : List Lexeme) (m : Place) (e : Refusal) (next : Place) (r : ParserErrorWithLocation) → RefusesFile ts m e next → r ≡ error_at e next → (r ≡ out_of_memory) ⊎ IsGrammarFault ts m r.error (place_at r)
+pub told : (ts : List Lexeme) (m : Place) (e : Refusal) (next : Place) (r : ParserErrorWithLocation)
+    → RefusesFile ts m e next → r ≡ error_at e next
+    → (r ≡ out_of_memory) ⊎ IsGrammarFault ts m r.error (place_at r)
 told ts m Memory next r h e = inl e
 told ts m (Next x) next r h e = inr (rw e h)
 told ts m (Here x) next r h e = inr (rw e h)
@@ -205,7 +303,8 @@ told ts m (Here x) next r h e = inr (rw e h)
 -- ---- a text
 
 -- where a fault stands there is no tree
-pub fault_none : (ts : List Lexeme) (last place : Place) (e : ParserError) → IsGrammarFault ts last e place → NoTree ts
+pub fault_none : (ts : List Lexeme) (last place : Place) (e : ParserError)
+    → IsGrammarFault ts last e place → NoTree ts
 fault_none ts last place error.IncorrectInput h = no_tree_behind ts last place h
 fault_none ts last place error.ExpectConstant h = no_tree_behind ts last place h
 fault_none ts last place error.LabelNotAllowed h = no_tree_behind ts last place h
@@ -232,11 +331,16 @@ module _ (text : Bytes) (s : Stream) (same : (v : Stream) → HasTokens text v �
   its_tree : (u : FileSyntax) → HasTree text u → IsFile s.tokens u
   its_tree u w = subst (λ (v : Stream). IsFile v.tokens u) (sym (same w.stream w.tokens)) w.file
 
-  pub only_of : (r : Result FileTree ParserErrorWithLocation) → IfOk r (λ t. (u : FileSyntax) → IsFile s.tokens u → u ≡ file_view t) → IfOk r (λ t. (u : FileSyntax) → HasTree text u → u ≡ file_view t)
+  pub only_of : (r : Result FileTree ParserErrorWithLocation)
+      → IfOk r (λ t. (u : FileSyntax) → IsFile s.tokens u → u ≡ file_view t)
+      → IfOk r (λ t. (u : FileSyntax) → HasTree text u → u ≡ file_view t)
   only_of (Ok t) h = λ u w. h u (its_tree u w)
   only_of (Err e) h = h
 
-  pub none_of : (r : Result FileTree ParserErrorWithLocation) → IfErr r (λ e. (e ≡ out_of_memory) ⊎ IsGrammarFault s.tokens s.end e.error (place_at e)) → IfErr r (λ e. (e ≡ out_of_memory) ⊎ ((u : FileSyntax) → HasTree text u → ⊥))
+  pub none_of : (r : Result FileTree ParserErrorWithLocation)
+      → IfErr r (λ e. (e ≡ out_of_memory) ⊎ IsGrammarFault s.tokens s.end e.error (place_at e))
+      → IfErr r (λ e. (e ≡ out_of_memory) ⊎ ((u : FileSyntax) → HasTree text u → ⊥))
   none_of (Ok t) h = h
   none_of (Err e) (inl h) = inl h
-  none_of (Err e) (inr h) = inr (λ u w. fault_none s.tokens s.end (place_at e) e.error h u (its_tree u w))
+  none_of (Err e) (inr h) =
+      inr (λ u w. fault_none s.tokens s.end (place_at e) e.error h u (its_tree u w))

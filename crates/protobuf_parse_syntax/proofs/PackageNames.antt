@@ -1,5 +1,7 @@
 -- A package that the tree of a text names has a name.
-use Rattle.std.proofs.Common.{◌≡◌, ℕ, ◌<◌, ◌≤◌, List, [], ◌∷◌, ◌++◌, Option, Some, None, length, take, length-append, length-take, sym, subst, inl, inr, ◌⊎◌, arith, Bool, true, false}
+use Rattle.std.proofs.Common.{◌≡◌, ℕ, ◌<◌, ◌≤◌, List, [], ◌∷◌, ◌++◌, Option, Some, None, length}
+use Rattle.std.proofs.Common.{take, length-append, length-take, sym, subst, inl, inr, ◌⊎◌, arith}
+use Rattle.std.proofs.Common.{Bool, true, false}
 use Rattle.std.specs.List.{AllByRecursion, fold}
 use Rattle.protobuf_parse_base.specs.Relations.{Nothing, Then, Either, Many, none, more, At, somes}
 use Rattle.protobuf_parse_syntax.specs.Text.{Bytes}
@@ -8,8 +10,10 @@ use Rattle.protobuf_parse_syntax.specs.Cut.{Cut, done, blank, token}
 use Rattle.protobuf_parse_syntax.specs.Classes.{sees, ident}
 use Rattle.protobuf_parse_syntax.specs.declared.lexer.token.Place.{Place}
 use Rattle.protobuf_parse_syntax.specs.declared.tree.Syntax.{Syntax}
-use Rattle.protobuf_parse_syntax.specs.Grammar.{if_so, IsIdent, dots, IsDotted, Item, Statements, IsPackage, IsFileStatement, IsFileOf}
-use Rattle.protobuf_parse_syntax.specs.Trees.{StatementSyntax, file_package, FileSyntax, package_behind, package_of}
+use Rattle.protobuf_parse_syntax.specs.Grammar.{if_so, IsIdent, dots, IsDotted, Item, Statements}
+use Rattle.protobuf_parse_syntax.specs.Grammar.{IsPackage, IsFileStatement, IsFileOf}
+use Rattle.protobuf_parse_syntax.specs.Trees.{StatementSyntax, file_package, FileSyntax}
+use Rattle.protobuf_parse_syntax.specs.Trees.{package_behind, package_of}
 use Rattle.protobuf_parse_syntax.specs.Parsing.{HasTree}
 use Rattle.protobuf_parse_syntax.proofs.Cuts.{token_some}
 
@@ -47,7 +51,8 @@ record Says {A : Type 0} (R : List Lexeme → A → Type 0) (P : A → Type 0) :
   says : (ts : List Lexeme) (a : A) → R ts a → HaveTexts ts → P a
 
 infixl 10 ◌>>=◌
-◌>>=◌ : {A B : Type 0} {R : List Lexeme → A → Type 0} {S : A → List Lexeme → B → Type 0} {P : A → Type 0} {Q : B → Type 0} →
+◌>>=◌ : {A B : Type 0} {R : List Lexeme → A → Type 0} {S : A → List Lexeme → B → Type 0}
+    {P : A → Type 0} {Q : B → Type 0} →
     Says R P → ((x : (a : A) × P a) → Says (S x.0) Q) → Says (Then R S) Q
 r >>= s = record {
   says = λ ts b h have.
@@ -57,7 +62,8 @@ r >>= s = record {
 }
 
 infixl 10 ◌>>◌
-◌>>◌ : {A B : Type 0} {R : List Lexeme → A → Type 0} {S : List Lexeme → B → Type 0} {P : A → Type 0} {Q : B → Type 0} →
+◌>>◌ : {A B : Type 0} {R : List Lexeme → A → Type 0} {S : List Lexeme → B → Type 0} {P : A → Type 0}
+    {Q : B → Type 0} →
     Says R P → Says S Q → Says (Then R (λ a. S)) Q
 r >> s = r >>= (λ x. s)
 
@@ -68,21 +74,24 @@ skip = record { says = λ ts a h have. tt }
 nothing : {A : Type 0} {a : A} {P : A → Type 0} → P a → Says (Nothing a) P
 nothing {P = P} p = record { says = λ ts b h have. subst P (sym h.1) p }
 
-either : {A : Type 0} {R S : List Lexeme → A → Type 0} {P : A → Type 0} → Says R P → Says S P → Says (Either R S) P
+either : {A : Type 0} {R S : List Lexeme → A → Type 0} {P : A → Type 0} → Says R P → Says S P
+    → Says (Either R S) P
 either {A = A} {R = R} {S = S} {P = P} r s = record { says = go }
   where
     go : (ts : List Lexeme) (a : A) → R ts a ⊎ S ts a → HaveTexts ts → P a
     go ts a (inl h) have = r.says ts a h have
     go ts a (inr h) have = s.says ts a h have
 
-at_place : {A : Type 0} {R : Lexeme → List Lexeme → A → Type 0} {P : A → Type 0} → ((t : Lexeme) → Says (R t) P) → Says (At (λ (t : Lexeme). t) R) P
+at_place : {A : Type 0} {R : Lexeme → List Lexeme → A → Type 0} {P : A → Type 0}
+    → ((t : Lexeme) → Says (R t) P) → Says (At (λ (t : Lexeme). t) R) P
 at_place {A = A} {R = R} {P = P} r = record { says = go }
   where
     go : (ts : List Lexeme) (a : A) → At (λ (t : Lexeme). t) R ts a → HaveTexts ts → P a
     go [] a h have = absurd h
     go (t ∷ ts) a h have = (r t).says (t ∷ ts) a h have
 
-many : {A : Type 0} {R : List Lexeme → A → Type 0} {P : A → Type 0} → Says R P → Says (Many R) (AllByRecursion P)
+many : {A : Type 0} {R : List Lexeme → A → Type 0} {P : A → Type 0} → Says R P
+    → Says (Many R) (AllByRecursion P)
 many {A = A} {R = R} {P = P} r = record { says = go }
   where
     go : (ts : List Lexeme) (as' : List A) → Many R ts as' → HaveTexts ts → AllByRecursion P as'
@@ -94,15 +103,18 @@ abbrev OnSome : {A : Type 0} → (A → Type 0) → Option A → Type 0
 OnSome P None = Unit {0}
 OnSome P (Some a) = P a
 
-item : {A : Type 0} {R : List Lexeme → A → Type 0} {P : A → Type 0} → Says R P → Says (Item R) (OnSome P)
+item : {A : Type 0} {R : List Lexeme → A → Type 0} {P : A → Type 0} → Says R P
+    → Says (Item R) (OnSome P)
 item r = either (do skip; nothing tt) (do statement ← r; nothing statement.1)
 
-all-somes : {A : Type 0} (P : A → Type 0) (items : List (Option A)) → AllByRecursion (OnSome P) items → AllByRecursion P (somes items)
+all-somes : {A : Type 0} (P : A → Type 0) (items : List (Option A))
+    → AllByRecursion (OnSome P) items → AllByRecursion P (somes items)
 all-somes P [] h = tt
 all-somes P (None ∷ items) h = all-somes P items h.1
 all-somes P (Some a ∷ items) h = (h.0, all-somes P items h.1)
 
-statements : {A : Type 0} {R : List Lexeme → A → Type 0} {P : A → Type 0} → Says R P → Says (Statements R) (AllByRecursion P)
+statements : {A : Type 0} {R : List Lexeme → A → Type 0} {P : A → Type 0} → Says R P
+    → Says (Statements R) (AllByRecursion P)
 statements {P = P} r = do
   items ← many (item r)
   nothing (all-somes P items.0 items.1)
@@ -113,9 +125,14 @@ abbrev HasName : Bytes → Type 0
 HasName name = 0 < length name
 
 identifier : Says IsIdent HasName
-identifier = record { says = λ ts name h have. at h.0 name (sees (ident []) h.0) h.2 (subst HaveTexts h.1 have).0 }
+identifier =
+    record {
+      says = λ ts name h have. at h.0 name (sees (ident []) h.0) h.2
+          (subst HaveTexts h.1 have).0;
+    }
   where
-    at : (t : Lexeme) (name : Bytes) (b : Bool) → if_so b t.text ≡ Some name → HasText t → HasName name
+    at : (t : Lexeme) (name : Bytes) (b : Bool) → if_so b t.text ≡ Some name → HasText t
+        → HasName name
     at t name true e has = let same : t.text ≡ name = cc in subst HasName same has
     at t name false e has = absurd cc
 
@@ -158,7 +175,8 @@ file d = do
   nothing body.1
 
 -- the name that counts behind statements, if one stands before them
-behind : (before : Option Bytes) (ss : List StatementSyntax) → OnSome HasName before → AllByRecursion IsNamed ss → OnSome HasName (fold package_behind before ss)
+behind : (before : Option Bytes) (ss : List StatementSyntax) → OnSome HasName before
+    → AllByRecursion IsNamed ss → OnSome HasName (fold package_behind before ss)
 behind before [] h k = h
 behind before (s ∷ ss) h k = behind (package_behind before s) ss (step s k.0) k.1
   where
@@ -168,6 +186,9 @@ behind before (s ∷ ss) h k = behind (package_behind before s) ss (step s k.0) 
 
 -- ---- the law
 
-pub package_has_name : (text : Bytes) (t : FileSyntax) → HasTree text t → (name : Bytes) → package_of t ≡ Some name → 0 < length name
+pub package_has_name : (text : Bytes) (t : FileSyntax) → HasTree text t → (name : Bytes)
+    → package_of t ≡ Some name → 0 < length name
 package_has_name text t h name e =
-    subst (OnSome HasName) e (behind None t.statements tt ((file h.file.0).says h.stream.tokens t h.file.1 (cut-have h.tokens.cut)))
+    subst (OnSome HasName) e
+    (behind None t.statements tt
+    ((file h.file.0).says h.stream.tokens t h.file.1 (cut-have h.tokens.cut)))

@@ -1,5 +1,5 @@
--- What is read of statements and bodies whose readers are given for each version of the language apart: in a form
--- that is the same for both.
+-- What is read of statements and bodies whose readers are given for each version of the language
+-- apart: in a form that is the same for both.
 use Rattle.std.proofs.Common.{◌≡◌, ℕ, [], ◌∷◌, Bool, true, false, cond, codes, refl, ◌∙◌}
 use Rattle.protobuf_parse_base.specs.Relations.{somes}
 use Rattle.protobuf_parse_base.specs.Readers.{Rest, end, token, Read, read, bind, starts, run_many}
@@ -36,47 +36,65 @@ abbrev pub made : {A B : Type 0} → (A → B) → Read Lexeme Place A → Read 
 made f r = bind r (λ a rest. read (f a) rest)
 
 -- what fails first fails
-pub made_fails : {A B : Type 0} (f : A → B) (e : Refusal) (after : Rest Lexeme Place) (r : Read Lexeme Place A) (total : Read Lexeme Place B) → total ≡ made f r → Fails e after r → Fails e after total
+pub made_fails : {A B : Type 0} (f : A → B) (e : Refusal) (after : Rest Lexeme Place)
+    (r : Read Lexeme Place A) (total : Read Lexeme Place B) → total ≡ made f r → Fails e after r
+    → Fails e after total
 made_fails f e after r total h g = rw h (fails_first e after r (λ a rest. read (f a) rest) g)
 
 -- what is read is seen so
-pub made_reads : {A B : Type 0} (f : A → B) (a : A) (b : B) (after : Rest Lexeme Place) (r : Read Lexeme Place A) (total : Read Lexeme Place B) → total ≡ made f r → r ≡ read a after → b ≡ f a → total ≡ read b after
+pub made_reads : {A B : Type 0} (f : A → B) (a : A) (b : B) (after : Rest Lexeme Place)
+    (r : Read Lexeme Place A) (total : Read Lexeme Place B) → total ≡ made f r → r ≡ read a after
+    → b ≡ f a → total ≡ read b after
 made_reads f a b after r total h e v = h ∙ rw (e, v) refl
 
 -- ---- services
 
-pub service_statement_runs : (s : Syntax) (n : ℕ) (ts : Rest Lexeme Place) → (nest.service_statement s n).low.run ts ≡
+pub service_statement_runs : (s : Syntax) (n : ℕ) (ts : Rest Lexeme Place)
+    → (nest.service_statement s n).low.run ts ≡
     cond (says (codes "rpc") ts) (made tree.service_method ((nest.rpc n).low.run ts))
-    (cond (says_in_proto2 s (codes "stream") ts) (made tree.service_method ((nest.stream n).low.run ts))
+    (cond (says_in_proto2 s (codes "stream") ts)
+    (made tree.service_method ((nest.stream n).low.run ts))
     (made tree.service_option ((nest.option n).low.run ts)))
 unfolding nest.service_statement
 service_statement_runs Proto2 n ts = refl
 service_statement_runs Proto3 n ts = rw (none_starts ts) refl
 
-pub service_item_runs : (s : Syntax) (n : ℕ) (ts : Rest Lexeme Place) → (nest.service_item s n).low.run ts ≡ (nest.item (nest.service_statement s n)).low.run ts
+pub service_item_runs : (s : Syntax) (n : ℕ) (ts : Rest Lexeme Place)
+    → (nest.service_item s n).low.run ts ≡ (nest.item (nest.service_statement s n)).low.run ts
 unfolding nest.service_item
 service_item_runs Proto2 n ts = refl
 service_item_runs Proto3 n ts = refl
 
-pub service_items_run : (s : Syntax) (n : ℕ) (ts : Rest Lexeme Place) → (nest.service_items s n).low.run ts ≡ made somes (run_many (nest.service_item s n).low ts)
+pub service_items_run : (s : Syntax) (n : ℕ) (ts : Rest Lexeme Place)
+    → (nest.service_items s n).low.run ts ≡ made somes (run_many (nest.service_item s n).low ts)
 unfolding nest.service_items
 service_items_run Proto2 n ts = refl
 service_items_run Proto3 n ts = refl
 
-pub service_runs : (s : Syntax) (n : ℕ) (ts : Rest Lexeme Place) → (nest.service s n).low.run ts ≡ bind ((parse.word (codes "service")).run ts) (λ u us. bind (parse.ident.run us) (λ name vs. bind (bind ((parse.symbol 123).run vs) (λ u ws. bind ((nest.service_items s n).low.run ws) (λ body xs. bind ((parse.symbol 125).run xs) (λ u ys. read body ys)))) (λ body ws. read (record { place = mark_of lexicon.mark ts; name = name; body = body }) ws)))
+pub service_runs : (s : Syntax) (n : ℕ) (ts : Rest Lexeme Place)
+    → (nest.service s n).low.run ts
+    ≡ bind ((parse.word (codes "service")).run ts)
+    (λ u us. bind (parse.ident.run us)
+    (λ name vs. bind
+    (bind ((parse.symbol 123).run vs)
+    (λ u ws. bind ((nest.service_items s n).low.run ws)
+    (λ body xs. bind ((parse.symbol 125).run xs) (λ u ys. read body ys)))) (λ body ws.
+    read (record { place = mark_of lexicon.mark ts; name = name; body = body }) ws)))
 unfolding nest.service_pair
 service_runs Proto2 n ts = refl
 service_runs Proto3 n ts = refl
 
 -- ---- messages
 
-message_statement_runs : (s : Syntax) (n : ℕ) (ts : Rest Lexeme Place) → (nest.message_statement s n).low.run ts ≡
+message_statement_runs : (s : Syntax) (n : ℕ) (ts : Rest Lexeme Place)
+    → (nest.message_statement s n).low.run ts ≡
     cond (says (codes "reserved") ts) (made tree.message_reserved (parse.reserved.run ts))
     (cond (says (codes "oneof") ts) (made tree.message_oneof ((nest.oneof s n).low.run ts))
     (cond (says (codes "extend") ts) (made tree.message_extend ((nest.extend s n).low.run ts))
     (cond (says (codes "message") ts) (made tree.nested_message ((nest.message s n).run ts))
     (cond (says (codes "enum") ts) (made tree.message_enum ((nest.enumeration n).low.run ts))
-    (cond (says_in_proto2 s (codes "extensions") ts) (made tree.message_extensions (parse.extensions.run ts))
+    (cond (says_in_proto2 s (codes "extensions") ts)
+    (made tree.message_extensions (parse.extensions.run ts))
     (cond (says (codes "option") ts) (made tree.message_option ((nest.option n).low.run ts))
     (made tree.message_field ((nest.field s n).run ts))))))))
 unfolding nest.message_statement_of
@@ -84,53 +102,82 @@ message_statement_runs Proto2 n ts = refl
 message_statement_runs Proto3 n ts = rw (none_starts ts) refl
 
 -- not `extensions`, or not in proto2
-no_extensions : (s : Syntax) (ts : Rest Lexeme Place) → (s ≡ Proto2 → says (codes "extensions") ts ≡ false) → says_in_proto2 s (codes "extensions") ts ≡ false
+no_extensions : (s : Syntax) (ts : Rest Lexeme Place)
+    → (s ≡ Proto2 → says (codes "extensions") ts ≡ false)
+    → says_in_proto2 s (codes "extensions") ts ≡ false
 no_extensions Proto2 ts h = h refl
 no_extensions Proto3 ts h = refl
 
 -- each alternative, where the words before it do not come next
 module _ (s : Syntax) (n : ℕ) (ts : Rest Lexeme Place) where
-  pub message_reserved : says (codes "reserved") ts ≡ true → (nest.message_statement s n).low.run ts ≡ made tree.message_reserved (parse.reserved.run ts)
+  pub message_reserved : says (codes "reserved") ts ≡ true
+      → (nest.message_statement s n).low.run ts ≡ made tree.message_reserved (parse.reserved.run ts)
   message_reserved h = message_statement_runs s n ts ∙ rw h refl
 
   module _ (a : says (codes "reserved") ts ≡ false) where
-    pub message_oneof : says (codes "oneof") ts ≡ true → (nest.message_statement s n).low.run ts ≡ made tree.message_oneof ((nest.oneof s n).low.run ts)
+    pub message_oneof : says (codes "oneof") ts ≡ true
+        → (nest.message_statement s n).low.run ts
+        ≡ made tree.message_oneof ((nest.oneof s n).low.run ts)
     message_oneof h = message_statement_runs s n ts ∙ rw (a, h) refl
 
     module _ (b : says (codes "oneof") ts ≡ false) where
-      pub message_extend : says (codes "extend") ts ≡ true → (nest.message_statement s n).low.run ts ≡ made tree.message_extend ((nest.extend s n).low.run ts)
+      pub message_extend : says (codes "extend") ts ≡ true
+          → (nest.message_statement s n).low.run ts
+          ≡ made tree.message_extend ((nest.extend s n).low.run ts)
       message_extend h = message_statement_runs s n ts ∙ rw (a, b, h) refl
 
       module _ (c : says (codes "extend") ts ≡ false) where
-        pub message_message : says (codes "message") ts ≡ true → (nest.message_statement s n).low.run ts ≡ made tree.nested_message ((nest.message s n).run ts)
+        pub message_message : says (codes "message") ts ≡ true
+            → (nest.message_statement s n).low.run ts
+            ≡ made tree.nested_message ((nest.message s n).run ts)
         message_message h = message_statement_runs s n ts ∙ rw (a, b, c, h) refl
 
         module _ (d : says (codes "message") ts ≡ false) where
-          pub message_enum : says (codes "enum") ts ≡ true → (nest.message_statement s n).low.run ts ≡ made tree.message_enum ((nest.enumeration n).low.run ts)
+          pub message_enum : says (codes "enum") ts ≡ true
+              → (nest.message_statement s n).low.run ts
+              ≡ made tree.message_enum ((nest.enumeration n).low.run ts)
           message_enum h = message_statement_runs s n ts ∙ rw (a, b, c, d, h) refl
 
           module _ (e : says (codes "enum") ts ≡ false) where
-            pub message_extensions : s ≡ Proto2 → says (codes "extensions") ts ≡ true → (nest.message_statement s n).low.run ts ≡ made tree.message_extensions (parse.extensions.run ts)
+            pub message_extensions : s ≡ Proto2 → says (codes "extensions") ts ≡ true
+                → (nest.message_statement s n).low.run ts
+                ≡ made tree.message_extensions (parse.extensions.run ts)
             message_extensions v h = message_statement_runs s n ts ∙ rw (a, b, c, d, e, v, h) refl
 
             module _ (f : s ≡ Proto2 → says (codes "extensions") ts ≡ false) where
-              pub message_option : says (codes "option") ts ≡ true → (nest.message_statement s n).low.run ts ≡ made tree.message_option ((nest.option n).low.run ts)
-              message_option h = message_statement_runs s n ts ∙ rw (a, b, c, d, e, no_extensions s ts f, h) refl
+              pub message_option : says (codes "option") ts ≡ true
+                  → (nest.message_statement s n).low.run ts
+                  ≡ made tree.message_option ((nest.option n).low.run ts)
+              message_option h = message_statement_runs s n ts
+                  ∙ rw (a, b, c, d, e, no_extensions s ts f, h) refl
 
-              pub message_field : says (codes "option") ts ≡ false → (nest.message_statement s n).low.run ts ≡ made tree.message_field ((nest.field s n).run ts)
-              message_field h = message_statement_runs s n ts ∙ rw (a, b, c, d, e, no_extensions s ts f, h) refl
+              pub message_field : says (codes "option") ts ≡ false
+                  → (nest.message_statement s n).low.run ts
+                  ≡ made tree.message_field ((nest.field s n).run ts)
+              message_field h = message_statement_runs s n ts
+                  ∙ rw (a, b, c, d, e, no_extensions s ts f, h) refl
 
-pub message_item_runs : (s : Syntax) (n : ℕ) (ts : Rest Lexeme Place) → (nest.message_item s n).low.run ts ≡ (nest.item (nest.message_statement s n)).low.run ts
+pub message_item_runs : (s : Syntax) (n : ℕ) (ts : Rest Lexeme Place)
+    → (nest.message_item s n).low.run ts ≡ (nest.item (nest.message_statement s n)).low.run ts
 unfolding nest.message_item_of
 message_item_runs Proto2 n ts = refl
 message_item_runs Proto3 n ts = refl
 
-pub message_items_run : (s : Syntax) (n : ℕ) (ts : Rest Lexeme Place) → (nest.message_items s n).low.run ts ≡ made somes (run_many (nest.message_item s n).low ts)
+pub message_items_run : (s : Syntax) (n : ℕ) (ts : Rest Lexeme Place)
+    → (nest.message_items s n).low.run ts ≡ made somes (run_many (nest.message_item s n).low ts)
 unfolding nest.message_items_of
 message_items_run Proto2 n ts = refl
 message_items_run Proto3 n ts = refl
 
-pub message_in_runs : (s : Syntax) (n : ℕ) (ts : Rest Lexeme Place) → (nest.message_in s n).low.run ts ≡ bind ((parse.word (codes "message")).run ts) (λ u us. bind (parse.ident.run us) (λ name vs. bind (bind ((parse.symbol 123).run vs) (λ u ws. bind ((nest.message_items s n).low.run ws) (λ body xs. bind ((parse.symbol 125).run xs) (λ u ys. read body ys)))) (λ body ws. read (record { place = mark_of lexicon.mark ts; name = name; body = body }) ws)))
+pub message_in_runs : (s : Syntax) (n : ℕ) (ts : Rest Lexeme Place)
+    → (nest.message_in s n).low.run ts
+    ≡ bind ((parse.word (codes "message")).run ts)
+    (λ u us. bind (parse.ident.run us)
+    (λ name vs. bind
+    (bind ((parse.symbol 123).run vs)
+    (λ u ws. bind ((nest.message_items s n).low.run ws)
+    (λ body xs. bind ((parse.symbol 125).run xs) (λ u ys. read body ys)))) (λ body ws.
+    read (record { place = mark_of lexicon.mark ts; name = name; body = body }) ws)))
 unfolding nest.message_of
 message_in_runs Proto2 n ts = refl
 message_in_runs Proto3 n ts = refl

@@ -1,8 +1,10 @@
 -- How a parser tells tokens from one another by the next token alone.
-use Rattle.std.proofs.Common.{◌≡◌, ℕ, List, [], ◌∷◌, Bool, true, false, not, ◌&&◌, ◌||◌, cond, eqb, bytes_eq, eq-eqb, codes, refl, sym, ◌∙◌, subst}
+use Rattle.std.proofs.Common.{◌≡◌, ℕ, List, [], ◌∷◌, Bool, true, false, not, ◌&&◌, ◌||◌, cond, eqb}
+use Rattle.std.proofs.Common.{bytes_eq, eq-eqb, codes, refl, sym, ◌∙◌, subst}
 use Rattle.std.proofs.lemmas.Bool.{eqb-true}
 use Rattle.std.proofs.lemmas.Slice.Eq.{bytes_eq-Decides}
-use Rattle.protobuf_parse_base.specs.Readers.{Lexicon, seen, and_left, and_right, false_by, not_true}
+use Rattle.protobuf_parse_base.specs.Readers.{Lexicon, seen, and_left, and_right, false_by}
+use Rattle.protobuf_parse_base.specs.Readers.{not_true}
 use Rattle.protobuf_parse_syntax.specs.Text.{Bytes}
 use Rattle.protobuf_parse_syntax.specs.Tokens.{Lexeme}
 use Rattle.protobuf_parse_syntax.specs.declared.lexer.token.Place.{Place}
@@ -98,7 +100,8 @@ not_both : (b : Bool) → b ≡ true → not b ≡ true → ⊥
 not_both b h e = no_both b e h
 
 -- of one sort, one tests more
-apart_same-law : (c d : Class) (k : TokenKind) (w : Bytes) → apart_same c d ≡ true → sees_at c k w ≡ true → sees_at d k w ≡ true → ⊥
+apart_same-law : (c d : Class) (k : TokenKind) (w : Bytes) → apart_same c d ≡ true
+    → sees_at c k w ≡ true → sees_at d k w ≡ true → ⊥
 apart_same-law (symbol c) (symbol d) (kind.Symbol x) w h e f =
     let p : x ≡ c = eqb-true x c e in
     let q : x ≡ d = eqb-true x d f in
@@ -120,9 +123,12 @@ apart_same-law c d k w h e f = absurd cc
 pub apart-law : (c d : Class) (t : Lexeme) → apart c d ≡ true → sees c t ≡ true → sees d t ≡ false
 apart-law c d t h e = false_by _ (λ f. go (eqb (sort c) (sort d)) refl h f)
   where
-    go : (b : Bool) → eqb (sort c) (sort d) ≡ b → (not b || apart_same c d) ≡ true → sees d t ≡ true → ⊥
+    go : (b : Bool) → eqb (sort c) (sort d) ≡ b → (not b || apart_same c d) ≡ true → sees d t ≡ true
+        → ⊥
     go true i h f = apart_same-law c d t.kind t.text h e f
-    go false i h f = let p : eqb (sort c) (sort d) ≡ true = eq-eqb (sort c) (sort d) (sees-sort c t.kind t.text e ∙ sym (sees-sort d t.kind t.text f)) in cc
+    go false i h f = let p : eqb (sort c) (sort d)
+        ≡ true = eq-eqb (sort c) (sort d)
+        (sees-sort c t.kind t.text e ∙ sym (sees-sort d t.kind t.text f)) in cc
 
 -- ---- classes one of which sees what the other sees
 
@@ -140,7 +146,8 @@ within float float = true
 within text text = true
 within c d = false
 
-are_among-law : (w : Bytes) (us vs : List Bytes) → are_among us vs ≡ true → is_among w vs ≡ false → is_among w us ≡ false
+are_among-law : (w : Bytes) (us vs : List Bytes) → are_among us vs ≡ true → is_among w vs ≡ false
+    → is_among w us ≡ false
 are_among-law w [] vs h e = refl
 are_among-law w (u ∷ us) vs h e = go (bytes_eq w u) refl (are_among-law w us vs (and_right _ _ h) e)
   where
@@ -173,14 +180,16 @@ abbrev pub but : Class → Class → List Class
 but (ident vs) (word w) = ident (w ∷ vs) ∷ []
 but c d = cond (within c d) [] (c ∷ [])
 
-but-rest : (c d : Class) (t : Lexeme) → sees c t ≡ true → sees d t ≡ false → seen sees (cond (within c d) [] (c ∷ [])) t ≡ true
+but-rest : (c d : Class) (t : Lexeme) → sees c t ≡ true → sees d t ≡ false
+    → seen sees (cond (within c d) [] (c ∷ [])) t ≡ true
 but-rest c d t h e = go (within c d) refl
   where
     go : (b : Bool) → within c d ≡ b → seen sees (cond b [] (c ∷ [])) t ≡ true
     go true i = let f : sees d t ≡ true = within-law c d t i h in absurd cc
     go false i = rw h refl
 
-pub but-law : (c d : Class) (t : Lexeme) → sees c t ≡ true → sees d t ≡ false → seen sees (but c d) t ≡ true
+pub but-law : (c d : Class) (t : Lexeme) → sees c t ≡ true → sees d t ≡ false
+    → seen sees (but c d) t ≡ true
 but-law (ident vs) (word w) t h e =
     let r : is_ident t.kind ≡ true = and_left _ _ h in
     let n : is_among t.text vs ≡ false = not_true _ (and_right _ _ h) in
@@ -193,7 +202,17 @@ but-law float d t h e = but-rest float d t h e
 but-law text d t h e = but-rest text d t h e
 
 abbrev pub lexicon : Lexicon Lexeme Place Class
-lexicon = record { mark = λ t. t.place; sees = sees; apart = apart; within = within; but = but; apart-law = apart-law; within-law = within-law; but-law = but-law }
+lexicon =
+    record {
+      mark = λ t. t.place;
+      sees = sees;
+      apart = apart;
+      within = within;
+      but = but;
+      apart-law = apart-law;
+      within-law = within-law;
+      but-law = but-law;
+    }
 
 -- one of the classes sees the token
 abbrev pub is_one_of : List Class → Lexeme → Bool

@@ -1,12 +1,15 @@
 -- What the parser's functions say of readers.
-use Rattle.std.specs.Prelude.{◌≡◌, Bool, true, false, Option, Some, None, List, [], ◌∷◌, map, Result, Ok, Err}
+use Rattle.std.specs.Prelude.{◌≡◌, Bool, true, false, Option, Some, None, List, [], ◌∷◌, map}
+use Rattle.std.specs.Prelude.{Result, Ok, Err}
 use Rattle.std.proofs.Common.{ap, ◌∙◌, refl}
-use Rattle.protobuf_parse_base.specs.Readers.{Rest, end, token, Read, read, stuck, wrong, deep, bind}
+use Rattle.protobuf_parse_base.specs.Readers.{Rest, end, token, Read, read, stuck, wrong, deep}
+use Rattle.protobuf_parse_base.specs.Readers.{bind}
 use Rattle.protobuf_parse_base.specs.Whole.{whole}
 use Rattle.protobuf_parse_syntax.specs.Text.{Bytes}
 use Rattle.protobuf_parse_syntax.specs.Tokens.{Lexeme, lexeme}
 use Rattle.protobuf_parse_syntax.specs.Trees.{Pieces}
-use Rattle.protobuf_parse_syntax.specs.Classes.{Class, sees, symbol, ident, is_one_of, float, is_floating}
+use Rattle.protobuf_parse_syntax.specs.Classes.{Class, sees, symbol, ident, is_one_of, float}
+use Rattle.protobuf_parse_syntax.specs.Classes.{is_floating}
 use Rattle.protobuf_parse_syntax.specs.Grammar.{any_ident}
 use Rattle.protobuf_parse_syntax.specs.Parsing.{IsLarge, SaysNothing, IsGrammarFault}
 use Rattle.protobuf_parse_syntax.specs.Cut.{out_of_memory, located as located_at}
@@ -18,7 +21,8 @@ use Rattle.protobuf_parse_syntax.specs.declared.error.ParserError.TheVariants as
 use Rattle.protobuf_parse_syntax.specs.declared.lexer.str_lit.StrLitDecodeError.{StrLitDecodeError}
 use Rattle.protobuf_parse_syntax.specs.declared.lexer.str_lit.StrLitDecodeError.TheVariants as decoding
 use Rattle.protobuf_parse_syntax.specs.declared.parser.refusal.Refusal.{Refusal}
-use Rattle.protobuf_parse_syntax.specs.declared.parser.refusal.Refusal.TheVariants.{Memory, Next, Here}
+use Rattle.protobuf_parse_syntax.specs.declared.parser.refusal.Refusal.TheVariants.{Memory, Next}
+use Rattle.protobuf_parse_syntax.specs.declared.parser.refusal.Refusal.TheVariants.{Here}
 use Rattle.protobuf_parse_syntax.specs.declared.parser.cursor.Cursor.{Cursor}
 
 -- the tokens that are left, and the place of the end
@@ -32,8 +36,8 @@ is_end (token t rest) = false
 
 -- ---- why nothing is read
 
--- Tokens from one on that cannot stand there; tokens from the first one on of a part that says nothing; or parts
--- that nest deeper than was looked at.
+-- Tokens from one on that cannot stand there; tokens from the first one on of a part that says
+-- nothing; or parts that nest deeper than was looked at.
 pub data Failure : Type 0 where
   at : Rest Lexeme Place → Failure
   off : Rest Lexeme Place → Failure
@@ -66,12 +70,14 @@ next_ident (token t rest) = any_ident t
 
 -- a sign comes next, and a float, `inf` or `nan` second, so that they say nothing
 abbrev pub SignedFloat : Rest Lexeme Place → Failure → Type 0
-SignedFloat (token t (token u rest)) f = (is_one_of (symbol 43 ∷ symbol 45 ∷ []) t ≡ true) × (is_floating u ≡ true) × (f ≡ off (token t (token u rest)))
+SignedFloat (token t (token u rest)) f = (is_one_of (symbol 43 ∷ symbol 45 ∷ []) t ≡ true)
+    × (is_floating u ≡ true) × (f ≡ off (token t (token u rest)))
 SignedFloat _ f = ⊥
 
 -- strings come next that say nothing
 abbrev pub SaysNot : ParserError → Rest Lexeme Place → Failure → Type 0
-SaysNot e after f = (pieces : Pieces) × (rest : Rest Lexeme Place) × (parse.str.run after ≡ read pieces rest) × SaysNothing pieces e × (f ≡ off after)
+SaysNot e after f = (pieces : Pieces) × (rest : Rest Lexeme Place)
+    × (parse.str.run after ≡ read pieces rest) × SaysNothing pieces e × (f ≡ off after)
 
 -- what a fault at the next token says of it
 abbrev pub Stands : ParserError → Rest Lexeme Place → Type 0
@@ -102,23 +108,25 @@ AtOneToken _ = ⊥
 -- what a fault of the part that begins next says of it, and of why nothing is read
 abbrev pub Tells : ParserError → Rest Lexeme Place → Failure → Type 0
 Tells error.FloatConstant after f = SignedFloat after f
-Tells error.OptionNameTooLong after f = (dot : Lexeme) × (sees (symbol 46) dot ≡ true) × (comes (ident [] ∷ symbol 40 ∷ []) after ≡ true) × (f ≡ at (token dot after))
+Tells error.OptionNameTooLong after f = (dot : Lexeme) × (sees (symbol 46) dot ≡ true)
+    × (comes (ident [] ∷ symbol 40 ∷ []) after ≡ true) × (f ≡ at (token dot after))
 Tells error.UnknownSyntax after f = SaysNot error.UnknownSyntax after f
 Tells error.StrLitDecode after f = SaysNot error.StrLitDecode after f
 Tells (error.BadImportPath e) after f = SaysNot (error.BadImportPath e) after f
 Tells error.NestingTooDeep after f = f ≡ too_deep
 Tells _ after f = ⊥
 
--- Memory ran out; or the tokens from the next one on cannot stand there; or nothing is read of the part that
--- begins there, and why.
+-- Memory ran out; or the tokens from the next one on cannot stand there; or nothing is read of the
+-- part that begins there, and why.
 abbrev pub Fails : {Y : Type 0} → Refusal → Rest Lexeme Place → Read Lexeme Place Y → Type 0
 Fails Memory after r = Unit {0}
 Fails (Next e) after r = (r ≡ stuck after) × Stands e after
 Fails (Here e) after r = (f : Failure) × (r ≡ failed f) × Tells e after f
 
--- What a function returned, seen by view, is what was read, and the cursor stands behind it or at the fault,
--- unless memory ran out.
-abbrev pub Gives : {X Y : Type 0} → (X → Y) → Result X Refusal → Rest Lexeme Place → Read Lexeme Place Y → Type 0
+-- What a function returned, seen by view, is what was read, and the cursor stands behind it or at
+-- the fault, unless memory ran out.
+abbrev pub Gives : {X Y : Type 0} → (X → Y) → Result X Refusal → Rest Lexeme Place
+    → Read Lexeme Place Y → Type 0
 Gives view (Ok x) after r = r ≡ read (view x) after
 Gives view (Err e) after r = Fails e after r
 
@@ -135,15 +143,18 @@ seen_by view (Some x) = Some (view x)
 
 -- ---- what fails first fails
 
-failed_bind : {Y Z : Type 0} (f : Failure) (g : Y → Rest Lexeme Place → Read Lexeme Place Z) → bind (failed f) g ≡ failed f
+failed_bind : {Y Z : Type 0} (f : Failure) (g : Y → Rest Lexeme Place → Read Lexeme Place Z)
+    → bind (failed f) g ≡ failed f
 failed_bind (at rest) g = refl
 failed_bind (off rest) g = refl
 failed_bind too_deep g = refl
 
-pub fails_first : {Y Z : Type 0} (e : Refusal) (after : Rest Lexeme Place) (r : Read Lexeme Place Y) (g : Y → Rest Lexeme Place → Read Lexeme Place Z) → Fails e after r → Fails e after (bind r g)
+pub fails_first : {Y Z : Type 0} (e : Refusal) (after : Rest Lexeme Place) (r : Read Lexeme Place Y)
+    (g : Y → Rest Lexeme Place → Read Lexeme Place Z) → Fails e after r → Fails e after (bind r g)
 fails_first Memory after r g h = tt
 fails_first {Y = Y} (Next e) after r g h = (ap (λ (x : Read Lexeme Place Y). bind x g) h.0, h.1)
-fails_first {Y = Y} (Here e) after r g h = (h.0, ap (λ (x : Read Lexeme Place Y). bind x g) h.1 ∙ failed_bind h.0 g, h.2)
+fails_first {Y = Y} (Here e) after r g h =
+    (h.0, ap (λ (x : Read Lexeme Place Y). bind x g) h.1 ∙ failed_bind h.0 g, h.2)
 
 -- ---- the file
 

@@ -1,5 +1,6 @@
 -- What the decoder of strings answers.
-use Rattle.std.specs.Prelude.{◌≡◌, ◌<◌, ◌≤◌, ◌⊎◌, ℕ, List, [], ◌∷◌, ◌++◌, length, slice_index, slice_range, encode_utf8, Result, MatchResult}
+use Rattle.std.specs.Prelude.{◌≡◌, ◌<◌, ◌≤◌, ◌⊎◌, ℕ, List, [], ◌∷◌, ◌++◌, length, slice_index}
+use Rattle.std.specs.Prelude.{slice_range, encode_utf8, Result, MatchResult}
 use Rattle.std.specs.Char.{IsScalar}
 use Rattle.std.specs.Str.{IsUtf8}
 use Rattle.std.specs.Str.Parse.{digits_value}
@@ -18,10 +19,12 @@ pub record NamesByte (c : ByteClass) (radix from : ℕ) (z : Bytes) (p : Part) :
   pub end : ℕ
   pub digits : IsDigits c z from 4 end
   pub small : digits_value radix (slice_range z from end) ≤ 255
-  pub is : p ≡ record { len = end; meaning = meaning.Byte (digits_value radix (slice_range z from end)) }
+  pub is : p
+      ≡ record { len = end; meaning = meaning.Byte (digits_value radix (slice_range z from end)) }
 
 abbrev pub NamesNoByte : ByteClass → ℕ → ℕ → Bytes → Type 0
-NamesNoByte c radix from z = (n : ℕ) → IsDigits c z from 4 n → digits_value radix (slice_range z from n) ≤ 255 → ⊥
+NamesNoByte c radix from z = (n : ℕ) → IsDigits c z from 4 n
+    → digits_value radix (slice_range z from n) ≤ 255 → ⊥
 
 -- the hexadecimal digits from 2 up to `end` name a character
 pub record NamesChar (end : ℕ) (z : Bytes) (p : Part) : Type 0 where
@@ -31,7 +34,8 @@ pub record NamesChar (end : ℕ) (z : Bytes) (p : Part) : Type 0 where
   pub is : p ≡ record { len = end; meaning = meaning.Char (digits_value 16 (slice_range z 2 end)) }
 
 abbrev pub NamesNoChar : ℕ → Bytes → Type 0
-NamesNoChar end z = end ≤ length z → AllIn class.Hex z 2 end → IsScalar (digits_value 16 (slice_range z 2 end)) → ⊥
+NamesNoChar end z = end ≤ length z → AllIn class.Hex z 2 end
+    → IsScalar (digits_value 16 (slice_range z 2 end)) → ⊥
 
 -- the bytes that a part stands for
 abbrev pub meaning_bytes : Meaning → Bytes
@@ -48,7 +52,8 @@ HasNoEscape z = (n : ℕ) (w : Bytes) → IsEscape z n w → ⊥
 pub record IsPart (z : Bytes) (n : ℕ) (w : Bytes) : Type 0 where
   pub some : 0 < n
   pub within : n ≤ length z
-  pub is : ((slice_index z 0 ≡ 92) × IsEscape z n w) ⊎ ((slice_index z 0 ≡ 92 → ⊥) × (n ≡ 1) × (w ≡ slice_index z 0 ∷ []))
+  pub is : ((slice_index z 0 ≡ 92) × IsEscape z n w)
+      ⊎ ((slice_index z 0 ≡ 92 → ⊥) × (n ≡ 1) × (w ≡ slice_index z 0 ∷ []))
 
 abbrev pub HasPart : Bytes → Part → Type 0
 HasPart z p = IsPart z p.len (meaning_bytes p.meaning)
@@ -59,11 +64,14 @@ HasNoPart z = (slice_index z 0 ≡ 92) × HasNoEscape z
 -- what a piece stands for comes behind the bytes, or it stands for nothing
 abbrev pub PushesPiece : Bytes → Bytes → Bytes → Result (Unit {0}) StrLitDecodeError → Type 0
 PushesPiece piece old new r =
-    MatchResult r (λ _. (w : Bytes) × Decodes piece w × (new ≡ old ++ w)) (λ e. (e ≡ error.Memory) ⊎ ((e ≡ error.BadEscape) × ((w : Bytes) → Decodes piece w → ⊥)))
+    MatchResult r (λ _. (w : Bytes) × Decodes piece w × (new ≡ old ++ w))
+    (λ e. (e ≡ error.Memory) ⊎ ((e ≡ error.BadEscape) × ((w : Bytes) → Decodes piece w → ⊥)))
 
 -- why pieces don't decode to bytes, and to a text
 abbrev pub RefusesBytes : List Bytes → StrLitDecodeError → Type 0
-RefusesBytes pieces e = (e ≡ error.Memory) ⊎ ((e ≡ error.BadEscape) × ((v : Bytes) → DecodesAll pieces v → ⊥))
+RefusesBytes pieces e = (e ≡ error.Memory)
+    ⊎ ((e ≡ error.BadEscape) × ((v : Bytes) → DecodesAll pieces v → ⊥))
 
 abbrev pub RefusesText : List Bytes → StrLitDecodeError → Type 0
-RefusesText pieces e = RefusesBytes pieces e ⊎ ((e ≡ error.NotUtf8) × ((v : Bytes) × DecodesAll pieces v × (IsUtf8 v → ⊥)))
+RefusesText pieces e = RefusesBytes pieces e
+    ⊎ ((e ≡ error.NotUtf8) × ((v : Bytes) × DecodesAll pieces v × (IsUtf8 v → ⊥)))

@@ -176,7 +176,8 @@ IsName = do
   dotted ← IsDotted
   Nothing (root ++ dotted)
 
--- ---- constant = msgconst | list | "true" | "false" | [ "+" | "-" ] int | str | ident { "." ident }
+-- ---- constant = msgconst | list | "true" | "false" | [ "+" | "-" ] int | str | ident { "." ident
+-- }
 
 abbrev pub truth_words : List Bytes
 truth_words = codes "true" ∷ codes "false" ∷ []

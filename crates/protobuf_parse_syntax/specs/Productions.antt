@@ -1,19 +1,42 @@
 -- A reader for each production of the grammar in which nothing nests.
-use Rattle.std.proofs.Common.{◌≡◌, ℕ, zero, suc, ℤ, pos, List, [], ◌∷◌, ◌++◌, Option, Some, None, Bool, true, false, ◌||◌, cond, bytes_eq, slice_index, codes, refl, sym, ap, ◌∙◌}
+use Rattle.std.proofs.Common.{◌≡◌, ℕ, zero, suc, ℤ, pos, List, [], ◌∷◌, ◌++◌, Option, Some, None}
+use Rattle.std.proofs.Common.{Bool, true, false, ◌||◌, cond, bytes_eq, slice_index, codes, refl}
+use Rattle.std.proofs.Common.{sym, ap, ◌∙◌}
 use Rattle.std.proofs.lemmas.List.{append-nil}
-use Rattle.protobuf_parse_base.specs.Relations.{Rel, Then, Nothing, Either, One, Separated, Meant, Unless}
-use Rattle.protobuf_parse_base.specs.Readers.{Rest, end, token, read, bind, run_many, starts, Reader, Shape, shape, seen, then_shape, give, one, choose, many, shaped, ◌>>=◌, ◌>>◌, or_true, all_apart-law}
+use Rattle.protobuf_parse_base.specs.Relations.{Rel, Then, Nothing, Either, One, Separated, Meant}
+use Rattle.protobuf_parse_base.specs.Relations.{Unless}
+use Rattle.protobuf_parse_base.specs.Readers.{Rest, end, token, read, bind, run_many, starts}
+use Rattle.protobuf_parse_base.specs.Readers.{Reader, Shape, shape, seen, then_shape, give, one}
+use Rattle.protobuf_parse_base.specs.Readers.{choose, many, shaped, ◌>>=◌, ◌>>◌, or_true}
+use Rattle.protobuf_parse_base.specs.Readers.{all_apart-law}
 use Rattle.protobuf_parse_base.specs.Conditions.{at, one_or_more, separated, unless, meant}
 use Rattle.protobuf_parse_base.specs.Loops.{with_rest}
 use Rattle.protobuf_parse_syntax.specs.Text.{Bytes}
 use Rattle.protobuf_parse_syntax.specs.Tokens.{Lexeme}
 use Rattle.protobuf_parse_syntax.specs.Trees as tree
 use Rattle.protobuf_parse_syntax.specs.Trees.{Pieces, OptionPartSyntax}
-use Rattle.protobuf_parse_syntax.specs.Classes.{Class, sees, symbol as symbol_class, word as word_class, ident as ident_class, integer, text, is_ident, lexicon, words, floatings, is_floating, is_one_of}
+use Rattle.protobuf_parse_syntax.specs.Classes.{Class, sees, symbol as symbol_class}
+use Rattle.protobuf_parse_syntax.specs.Classes.{word as word_class, ident as ident_class, integer}
+use Rattle.protobuf_parse_syntax.specs.Classes.{text, is_ident, lexicon, words, floatings}
+use Rattle.protobuf_parse_syntax.specs.Classes.{is_floating, is_one_of}
 use Rattle.protobuf_parse_syntax.specs.Grammar as grammar
-use Rattle.protobuf_parse_syntax.specs.Grammar.{if_so, IsSymbol, IsWord, any_ident, IsIdent, lookup, word_of, IsWordOf, table_words, number_at, IsNumber, small_at, small_number, IsNumberUpTo, negative, piece_at, string_piece, capital_ident, dots, truth_words, AfterSlash, labels, labels3, scalars, IsVisibility, IsStr, IsDotted, IsRoot, IsName, IsInteger, IsBracketedName, IsConstantName, IsFieldEnd, IsWordConstant, IsOptionPart, IsFieldNumber, IsRangeEnd, IsRange, IsExtensions, IsEnumNumber, IsStreamed, IsPackage, AtMost, IsNextPart, IsOptionName, StandsFor, SaysVersion, SaysPath, IsVersion, IsPath, IsReservedName, IsSyntax, IsImport, AreReserved, IsReserved}
-use Rattle.protobuf_parse_syntax.specs.Readings.{never, for, finding, none-to, none-from, more-to, more-from}
-use Rattle.protobuf_parse_syntax.specs.Decoder.{version_of, version-to, version-from, path_of, path-to, path-from, text_of, text-to, text-from}
+use Rattle.protobuf_parse_syntax.specs.Grammar.{if_so, IsSymbol, IsWord, any_ident, IsIdent, lookup}
+use Rattle.protobuf_parse_syntax.specs.Grammar.{word_of, IsWordOf, table_words, number_at, IsNumber}
+use Rattle.protobuf_parse_syntax.specs.Grammar.{small_at, small_number, IsNumberUpTo, negative}
+use Rattle.protobuf_parse_syntax.specs.Grammar.{piece_at, string_piece, capital_ident, dots}
+use Rattle.protobuf_parse_syntax.specs.Grammar.{truth_words, AfterSlash, labels, labels3, scalars}
+use Rattle.protobuf_parse_syntax.specs.Grammar.{IsVisibility, IsStr, IsDotted, IsRoot, IsName}
+use Rattle.protobuf_parse_syntax.specs.Grammar.{IsInteger, IsBracketedName, IsConstantName}
+use Rattle.protobuf_parse_syntax.specs.Grammar.{IsFieldEnd, IsWordConstant, IsOptionPart}
+use Rattle.protobuf_parse_syntax.specs.Grammar.{IsFieldNumber, IsRangeEnd, IsRange, IsExtensions}
+use Rattle.protobuf_parse_syntax.specs.Grammar.{IsEnumNumber, IsStreamed, IsPackage, AtMost}
+use Rattle.protobuf_parse_syntax.specs.Grammar.{IsNextPart, IsOptionName, StandsFor, SaysVersion}
+use Rattle.protobuf_parse_syntax.specs.Grammar.{SaysPath, IsVersion, IsPath, IsReservedName}
+use Rattle.protobuf_parse_syntax.specs.Grammar.{IsSyntax, IsImport, AreReserved, IsReserved}
+use Rattle.protobuf_parse_syntax.specs.Readings.{never, for, finding, none-to, none-from, more-to}
+use Rattle.protobuf_parse_syntax.specs.Readings.{more-from}
+use Rattle.protobuf_parse_syntax.specs.Decoder.{version_of, version-to, version-from, path_of}
+use Rattle.protobuf_parse_syntax.specs.Decoder.{path-to, path-from, text_of, text-to, text-from}
 use Rattle.protobuf_parse_syntax.specs.declared.tree.ImportVis.TheVariants as visible
 use Rattle.protobuf_parse_syntax.specs.declared.tree.Syntax.TheVariants.{Proto2}
 use Rattle.protobuf_parse_syntax.specs.declared.lexer.token.Place.{Place}
@@ -25,32 +48,37 @@ Parses = Reader lexicon
 
 -- ---- tokens
 
-if_so-seen : {A : Type 0} (c : Class) (t : Lexeme) (v a : A) → if_so (sees c t) v ≡ Some a → seen sees (c ∷ []) t ≡ true
+if_so-seen : {A : Type 0} (c : Class) (t : Lexeme) (v a : A) → if_so (sees c t) v ≡ Some a
+    → seen sees (c ∷ []) t ≡ true
 if_so-seen c t v a e = go (sees c t) refl e
   where
     go : (b : Bool) → sees c t ≡ b → if_so b v ≡ Some a → (sees c t || false) ≡ true
     go true h e = rw h refl
     go false h e = absurd cc
 
-pub symbol-law : (c : ℕ) (t : Lexeme) (a : Unit {0}) → if_so (sees (symbol_class c) t) tt ≡ Some a → seen sees (symbol_class c ∷ []) t ≡ true
+pub symbol-law : (c : ℕ) (t : Lexeme) (a : Unit {0}) → if_so (sees (symbol_class c) t) tt ≡ Some a
+    → seen sees (symbol_class c ∷ []) t ≡ true
 symbol-law c t a e = if_so-seen (symbol_class c) t tt a e
 
 abbrev pub symbol : (c : ℕ) → Reader lexicon (IsSymbol c) (shape (symbol_class c ∷ []) false [])
 symbol c = one (λ t. if_so (sees (symbol_class c) t) tt) (symbol_class c ∷ []) (symbol-law c)
 
-pub word-law : (w : Bytes) (t : Lexeme) (a : Unit {0}) → if_so (sees (word_class w) t) tt ≡ Some a → seen sees (word_class w ∷ []) t ≡ true
+pub word-law : (w : Bytes) (t : Lexeme) (a : Unit {0}) → if_so (sees (word_class w) t) tt ≡ Some a
+    → seen sees (word_class w ∷ []) t ≡ true
 word-law w t a e = if_so-seen (word_class w) t tt a e
 
 abbrev pub word : (w : Bytes) → Reader lexicon (IsWord w) (shape (word_class w ∷ []) false [])
 word w = one (λ t. if_so (sees (word_class w) t) tt) (word_class w ∷ []) (word-law w)
 
-pub ident-law : (t : Lexeme) (a : Bytes) → any_ident t ≡ Some a → seen sees (ident_class [] ∷ []) t ≡ true
+pub ident-law : (t : Lexeme) (a : Bytes) → any_ident t ≡ Some a
+    → seen sees (ident_class [] ∷ []) t ≡ true
 ident-law t a e = if_so-seen (ident_class []) t t.text a e
 
 abbrev pub ident : Reader lexicon IsIdent (shape (ident_class [] ∷ []) false [])
 ident = one any_ident (ident_class [] ∷ []) ident-law
 
-pub capital-law : (t : Lexeme) (a : Bytes) → capital_ident t ≡ Some a → seen sees (ident_class [] ∷ []) t ≡ true
+pub capital-law : (t : Lexeme) (a : Bytes) → capital_ident t ≡ Some a
+    → seen sees (ident_class [] ∷ []) t ≡ true
 capital-law t a e = go (grammar.is_capital (slice_index t.text 0)) e
   where
     go : (b : Bool) → cond b (any_ident t) None ≡ Some a → seen sees (ident_class [] ∷ []) t ≡ true
@@ -60,28 +88,36 @@ capital-law t a e = go (grammar.is_capital (slice_index t.text 0)) e
 abbrev pub capital : Reader lexicon (One capital_ident) (shape (ident_class [] ∷ []) false [])
 capital = one capital_ident (ident_class [] ∷ []) capital-law
 
-lookup-seen : {A : Type 0} (table : List (Bytes × A)) (t : Lexeme) (a : A) → is_ident t.kind ≡ true → lookup table t.text ≡ Some a → seen sees (words (table_words table)) t ≡ true
+lookup-seen : {A : Type 0} (table : List (Bytes × A)) (t : Lexeme) (a : A) → is_ident t.kind ≡ true
+    → lookup table t.text ≡ Some a → seen sees (words (table_words table)) t ≡ true
 lookup-seen [] t a k e = absurd cc
 lookup-seen (p ∷ ps) t a k e = go (bytes_eq t.text p.0) refl e (lookup-seen ps t a k)
   where
-    go : (b : Bool) → bytes_eq t.text p.0 ≡ b → cond b (Some p.1) (lookup ps t.text) ≡ Some a → (lookup ps t.text ≡ Some a → seen sees (words (table_words ps)) t ≡ true) → seen sees (words (table_words (p ∷ ps))) t ≡ true
+    go : (b : Bool) → bytes_eq t.text p.0 ≡ b → cond b (Some p.1) (lookup ps t.text) ≡ Some a
+        → (lookup ps t.text ≡ Some a → seen sees (words (table_words ps)) t ≡ true)
+        → seen sees (words (table_words (p ∷ ps))) t ≡ true
     go true h e f = rw (k, h) refl
     go false h e f = or_true _ _ (f e)
 
-pub word_of-law : {A : Type 0} (table : List (Bytes × A)) (t : Lexeme) (a : A) → word_of table t ≡ Some a → seen sees (words (table_words table)) t ≡ true
+pub word_of-law : {A : Type 0} (table : List (Bytes × A)) (t : Lexeme) (a : A)
+    → word_of table t ≡ Some a → seen sees (words (table_words table)) t ≡ true
 word_of-law table t a e = go (is_ident t.kind) refl e
   where
-    go : (b : Bool) → is_ident t.kind ≡ b → cond b (lookup table t.text) None ≡ Some a → seen sees (words (table_words table)) t ≡ true
+    go : (b : Bool) → is_ident t.kind ≡ b → cond b (lookup table t.text) None ≡ Some a
+        → seen sees (words (table_words table)) t ≡ true
     go true h e = lookup-seen table t a h e
     go false h e = absurd cc
 
-abbrev pub one_of : {A : Type 0} (table : List (Bytes × A)) → Reader lexicon (IsWordOf table) (shape (words (table_words table)) false [])
+abbrev pub one_of : {A : Type 0} (table : List (Bytes × A))
+    → Reader lexicon (IsWordOf table) (shape (words (table_words table)) false [])
 one_of table = one (word_of table) (words (table_words table)) (word_of-law table)
 
-pub number-law : (t : Lexeme) (a : ℕ) → grammar.number t ≡ Some a → seen sees (integer ∷ []) t ≡ true
+pub number-law : (t : Lexeme) (a : ℕ) → grammar.number t ≡ Some a
+    → seen sees (integer ∷ []) t ≡ true
 number-law t a e = go t.kind e
   where
-    go : (k : TokenKind) → number_at k ≡ Some a → seen sees (integer ∷ []) (record t { kind = k }) ≡ true
+    go : (k : TokenKind) → number_at k ≡ Some a
+        → seen sees (integer ∷ []) (record t { kind = k }) ≡ true
     go (kind.Integer n) e = refl
     go kind.Ident e = absurd cc
     go kind.Float e = absurd cc
@@ -91,23 +127,27 @@ number-law t a e = go t.kind e
 abbrev pub number : Reader lexicon IsNumber (shape (integer ∷ []) false [])
 number = one grammar.number (integer ∷ []) number-law
 
-pub small-law : (limit : ℕ) (t : Lexeme) (a : ℕ) → small_number limit t ≡ Some a → seen sees (integer ∷ []) t ≡ true
+pub small-law : (limit : ℕ) (t : Lexeme) (a : ℕ) → small_number limit t ≡ Some a
+    → seen sees (integer ∷ []) t ≡ true
 small-law limit t a e = go t.kind e
   where
-    go : (k : TokenKind) → small_at limit k ≡ Some a → seen sees (integer ∷ []) (record t { kind = k }) ≡ true
+    go : (k : TokenKind) → small_at limit k ≡ Some a
+        → seen sees (integer ∷ []) (record t { kind = k }) ≡ true
     go (kind.Integer n) e = refl
     go kind.Ident e = absurd cc
     go kind.Float e = absurd cc
     go kind.Str e = absurd cc
     go (kind.Symbol c) e = absurd cc
 
-abbrev pub number_up_to : (limit : ℕ) → Reader lexicon (IsNumberUpTo limit) (shape (integer ∷ []) false [])
+abbrev pub number_up_to : (limit : ℕ)
+    → Reader lexicon (IsNumberUpTo limit) (shape (integer ∷ []) false [])
 number_up_to limit = one (small_number limit) (integer ∷ []) (small-law limit)
 
 pub piece-law : (t : Lexeme) (a : Bytes) → string_piece t ≡ Some a → seen sees (text ∷ []) t ≡ true
 piece-law t a e = go t.kind e
   where
-    go : (k : TokenKind) → piece_at k t.text ≡ Some a → seen sees (text ∷ []) (record t { kind = k }) ≡ true
+    go : (k : TokenKind) → piece_at k t.text ≡ Some a
+        → seen sees (text ∷ []) (record t { kind = k }) ≡ true
     go (kind.Integer n) e = absurd cc
     go kind.Ident e = absurd cc
     go kind.Float e = absurd cc
@@ -127,7 +167,8 @@ unfolding IsStr
 str = shaped str_shape (one_or_more piece refl) refl
 
 -- "." ident
-abbrev pub dot_ident : Reader lexicon (Then (IsSymbol 46) (λ u. IsIdent)) (shape (symbol_class 46 ∷ []) false [])
+abbrev pub dot_ident : Reader lexicon (Then (IsSymbol 46) (λ u. IsIdent))
+    (shape (symbol_class 46 ∷ []) false [])
 dot_ident = shaped (shape (symbol_class 46 ∷ []) false []) (do symbol 46; ident) refl
 
 abbrev pub dotted_shape : Shape Class
@@ -176,20 +217,25 @@ said_of f (Some n) = Some (f n)
 abbrev pub SignedBy : ℕ → (Lexeme → Option ℕ) → (ℕ → ℤ) → Rel Lexeme ℤ
 SignedBy c says f = Then (IsSymbol c) (λ u. Then (One says) (λ n. Nothing (f n)))
 
-module _ (c : ℕ) (says : Lexeme → Option ℕ) (f : ℕ → ℤ) (law : (t : Lexeme) (n : ℕ) → says t ≡ Some n → seen sees (integer ∷ []) t ≡ true) where
-  found-law : (t : Lexeme) (o : Option ℕ) (p : Option ℕ) → says t ≡ p → is_floating t ≡ false → found p ≡ Some o → seen sees (integer ∷ floatings) t ≡ true
+module _ (c : ℕ) (says : Lexeme → Option ℕ) (f : ℕ → ℤ)
+    (law : (t : Lexeme) (n : ℕ) → says t ≡ Some n → seen sees (integer ∷ []) t ≡ true) where
+  found-law : (t : Lexeme) (o : Option ℕ) (p : Option ℕ) → says t ≡ p → is_floating t ≡ false
+      → found p ≡ Some o → seen sees (integer ∷ floatings) t ≡ true
   found-law t o None e h i = absurd cc
   found-law t o (Some n) e h i = rw h (law t n e)
 
-  pub or_floating-law : (t : Lexeme) (o : Option ℕ) → or_floating says t ≡ Some o → seen sees (integer ∷ floatings) t ≡ true
+  pub or_floating-law : (t : Lexeme) (o : Option ℕ) → or_floating says t ≡ Some o
+      → seen sees (integer ∷ floatings) t ≡ true
   or_floating-law t o e = go (is_floating t) refl e
     where
-      go : (b : Bool) → is_floating t ≡ b → cond b (Some None) (found (says t)) ≡ Some o → seen sees (integer ∷ floatings) t ≡ true
+      go : (b : Bool) → is_floating t ≡ b → cond b (Some None) (found (says t)) ≡ Some o
+          → seen sees (integer ∷ floatings) t ≡ true
       go true h e = or_true _ _ h
       go false h e = found-law t o (says t) refl h e
 
   abbrev pub sign_shape : Shape Class
-  sign_shape = then_shape lexicon (shape (symbol_class c ∷ []) false []) (shape (integer ∷ floatings) false [])
+  sign_shape = then_shape lexicon (shape (symbol_class c ∷ []) false [])
+      (shape (integer ∷ floatings) false [])
 
   -- a sign and a number, or a float, `inf` or `nan`
   abbrev pub sign_and : Reader lexicon (Then (IsSymbol c) (λ u. One (or_floating says))) sign_shape
@@ -207,7 +253,9 @@ module _ (c : ℕ) (says : Lexeme → Option ℕ) (f : ℕ → ℤ) (law : (t : 
   said None z e = absurd cc
   said (Some n) z e = (n, refl, cc)
 
-  pub signed-to : (ts : List Lexeme) (z : ℤ) → Meant (Then (IsSymbol c) (λ u. One (or_floating says))) (said_of f) ts z → SignedBy c says f ts z
+  pub signed-to : (ts : List Lexeme) (z : ℤ)
+      → Meant (Then (IsSymbol c) (λ u. One (or_floating says))) (said_of f) ts z
+      → SignedBy c says f ts z
   signed-to ts z h =
       let w = h.1 in
       let s = said h.0 z h.2 in
@@ -218,35 +266,63 @@ module _ (c : ℕ) (says : Lexeme → Option ℕ) (f : ℕ → ℤ) (law : (t : 
         back = w.back;
         first = w.first;
         parts = w.parts;
-        second = record { value = s.0; front = w.back; back = []; first = (o.0, o.1, says_number o.0 s.0 (o.2 ∙ ap (λ (x : Option ℕ). Some x) s.1)); second = (refl, s.2); parts = sym (append-nil w.back) };
+        second =
+            record {
+              value = s.0;
+              front = w.back;
+              back = [];
+              first = (o.0, o.1, says_number o.0 s.0 (o.2 ∙ ap (λ (x : Option ℕ). Some x) s.1));
+              second = (refl, s.2);
+              parts = sym (append-nil w.back);
+            };
       }
 
-  pub signed-from : (ts : List Lexeme) (z : ℤ) → SignedBy c says f ts z → Meant (Then (IsSymbol c) (λ u. One (or_floating says))) (said_of f) ts z
+  pub signed-from : (ts : List Lexeme) (z : ℤ) → SignedBy c says f ts z
+      → Meant (Then (IsSymbol c) (λ u. One (or_floating says))) (said_of f) ts z
   signed-from ts z w =
       let v = w.second in
       let o = v.first in
       let n = v.second in
-      let flat : is_floating o.0 ≡ false = all_apart-law lexicon (integer ∷ []) floatings o.0 refl (law o.0 v.value o.2) in
-      let back : w.back ≡ v.front = v.parts ∙ ap (λ (x : List Lexeme). v.front ++ x) n.0 ∙ append-nil v.front in
-      let reads : or_floating says o.0 ≡ Some (Some v.value) = rw (flat, o.2) refl in
-      (Some v.value, record { value = w.value; front = w.front; back = w.back; first = w.first; parts = w.parts; second = (o.0, back ∙ o.1, reads) }, ap (λ (x : ℤ). Some x) (sym n.1))
+      let flat : is_floating o.0
+      ≡ false = all_apart-law lexicon (integer ∷ []) floatings o.0 refl (law o.0 v.value o.2) in
+      let back : w.back ≡ v.front = v.parts ∙ ap (λ (x : List Lexeme). v.front ++ x) n.0
+      ∙ append-nil v.front in
+      let reads : or_floating says o.0 ≡ Some (Some v.value) = rw (flat, o.2) refl in (
+        Some v.value,
+        record {
+          value = w.value;
+          front = w.front;
+          back = w.back;
+          first = w.first;
+          parts =
+              w.parts;
+          second = (o.0, back ∙ o.1, reads);
+        },
+        ap (λ (x : ℤ). Some x) (sym n.1),
+      )
 
-  -- a sign and a number; tokens from the sign on that say nothing, where a float, `inf` or `nan` follows it
+  -- a sign and a number; tokens from the sign on that say nothing, where a float, `inf` or `nan`
+  -- follows it
   unfoldable pub signed_by : Reader lexicon (SignedBy c says f) sign_shape
   signed_by = for signed-to signed-from (meant sign_and (said_of f))
 
-abbrev pub plus : Reader lexicon (SignedBy 43 grammar.number pos) (shape (symbol_class 43 ∷ []) false [])
-plus = shaped (shape (symbol_class 43 ∷ []) false []) (signed_by 43 grammar.number pos number-law) refl
+abbrev pub plus : Reader lexicon (SignedBy 43 grammar.number pos)
+    (shape (symbol_class 43 ∷ []) false [])
+plus = shaped (shape (symbol_class 43 ∷ []) false [])
+    (signed_by 43 grammar.number pos number-law) refl
 
-abbrev pub minus : Reader lexicon (SignedBy 45 (small_number 9223372036854775808) negative) (shape (symbol_class 45 ∷ []) false [])
-minus = shaped (shape (symbol_class 45 ∷ []) false []) (signed_by 45 (small_number 9223372036854775808) negative (small-law 9223372036854775808)) refl
+abbrev pub minus : Reader lexicon (SignedBy 45 (small_number 9223372036854775808) negative)
+    (shape (symbol_class 45 ∷ []) false [])
+minus = shaped (shape (symbol_class 45 ∷ []) false [])
+    (signed_by 45 (small_number 9223372036854775808) negative (small-law 9223372036854775808)) refl
 
 unfoldable pub signed : Parses IsInteger integer_shape
 unfolding IsInteger
 signed = shaped integer_shape (choose (do n ← number; give (pos n)) refl (choose plus refl minus)) refl
 
 -- an integer as a constant
-unfoldable pub integer_constant : Parses (Then IsInteger (λ n. Nothing (tree.integer n))) integer_shape
+unfoldable pub integer_constant : Parses
+    (Then IsInteger (λ n. Nothing (tree.integer n))) integer_shape
 integer_constant = shaped integer_shape (do n ← signed; give (tree.integer n)) refl
 
 abbrev pub slash_shape : Shape Class
@@ -273,11 +349,13 @@ unfolding IsConstantName
 constant_name = shaped constant_name_shape (choose (do name ← ident; give (tree.regular_name name)) refl bracketed_name) refl
 
 abbrev pub field_end_shape : Shape Class
-field_end_shape = shape (symbol_class 44 ∷ symbol_class 59 ∷ []) true (symbol_class 44 ∷ symbol_class 59 ∷ [])
+field_end_shape = shape (symbol_class 44 ∷ symbol_class 59 ∷ []) true
+    (symbol_class 44 ∷ symbol_class 59 ∷ [])
 
 unfoldable pub field_end : Parses IsFieldEnd field_end_shape
 unfolding IsFieldEnd
-field_end = shaped field_end_shape (choose (symbol 44) refl (choose (symbol 59) refl (give tt))) refl
+field_end =
+    shaped field_end_shape (choose (symbol 44) refl (choose (symbol 59) refl (give tt))) refl
 
 unfoldable pub word_constant : Parses IsWordConstant dotted_shape
 unfolding IsWordConstant
@@ -286,7 +364,9 @@ word_constant = shaped dotted_shape
     (choose (do word (codes "false"); give (tree.truth false)) refl
     (do name ← unless (words truth_words) dotted refl; give (tree.dotted name)))) refl
 
-neither_word : (v w : Bytes) (ts : Rest Lexeme Place) → starts lexicon (word_class v ∷ []) ts ≡ false → starts lexicon (word_class w ∷ []) ts ≡ false → starts lexicon (words (v ∷ w ∷ [])) ts ≡ false
+neither_word : (v w : Bytes) (ts : Rest Lexeme Place)
+    → starts lexicon (word_class v ∷ []) ts ≡ false → starts lexicon (word_class w ∷ []) ts ≡ false
+    → starts lexicon (words (v ∷ w ∷ [])) ts ≡ false
 unfolding starts
 neither_word v w (end m) h i = refl
 neither_word v w (token t ts) h i = go (sees (word_class v) t) (sees (word_class w) t) h i
@@ -296,7 +376,10 @@ neither_word v w (token t ts) h i = go (sees (word_class v) t) (sees (word_class
     go false y h i = i
 
 -- where neither truth value comes next
-pub word_constant_name : (ts : Rest Lexeme Place) → starts lexicon (word_class (codes "true") ∷ []) ts ≡ false → starts lexicon (word_class (codes "false") ∷ []) ts ≡ false → word_constant.run ts ≡ bind (dotted.run ts) (λ name rest. read (tree.dotted name) rest)
+pub word_constant_name : (ts : Rest Lexeme Place)
+    → starts lexicon (word_class (codes "true") ∷ []) ts ≡ false
+    → starts lexicon (word_class (codes "false") ∷ []) ts ≡ false
+    → word_constant.run ts ≡ bind (dotted.run ts) (λ name rest. read (tree.dotted name) rest)
 unfolding word_constant
 word_constant_name ts h i = rw (h, i, neither_word (codes "true") (codes "false") ts h i) refl
 
@@ -333,7 +416,8 @@ range = shaped range_shape (do
   give (record { from = from; to = to })) refl
 
 -- "," range
-abbrev pub comma_range : Reader lexicon (Then (IsSymbol 44) (λ u. IsRange)) (shape (symbol_class 44 ∷ []) false (word_class (codes "to") ∷ []))
+abbrev pub comma_range : Reader lexicon (Then (IsSymbol 44) (λ u. IsRange))
+    (shape (symbol_class 44 ∷ []) false (word_class (codes "to") ∷ []))
 comma_range = shaped (shape (symbol_class 44 ∷ []) false (word_class (codes "to") ∷ [])) (do symbol 44; range) refl
 
 abbrev pub ranges_shape : Shape Class
@@ -343,12 +427,15 @@ unfoldable pub ranges : Parses (Separated (IsSymbol 44) IsRange) ranges_shape
 ranges = shaped ranges_shape (separated (symbol 44) refl range) refl
 
 -- behind the first of them
-pub ranges_first : (ts us : Rest Lexeme Place) (a : tree.RangeSyntax) → range.run ts ≡ read a us → ranges.run ts ≡ with_rest (λ (v : List tree.RangeSyntax). v) (λ (v : List tree.RangeSyntax). v) (a ∷ []) (run_many comma_range us)
+pub ranges_first : (ts us : Rest Lexeme Place) (a : tree.RangeSyntax) → range.run ts ≡ read a us
+    → ranges.run ts ≡ with_rest (λ (v : List tree.RangeSyntax). v)
+    (λ (v : List tree.RangeSyntax). v) (a ∷ []) (run_many comma_range us)
 unfolding ranges range run_many
 ranges_first ts us a e = rw e refl
 
 abbrev pub extensions_shape : Shape Class
-extensions_shape = shape (word_class (codes "extensions") ∷ []) false (word_class (codes "to") ∷ symbol_class 44 ∷ [])
+extensions_shape = shape (word_class (codes "extensions") ∷ []) false
+    (word_class (codes "to") ∷ symbol_class 44 ∷ [])
 
 unfoldable pub extensions : Parses IsExtensions extensions_shape
 unfolding IsExtensions
@@ -365,8 +452,10 @@ enum_number = shaped (shape (integer ∷ symbol_class 45 ∷ []) false []) (choo
 abbrev pub other_statements : List Class
 other_statements = words (codes "reserved" ∷ codes "option" ∷ [])
 
-unfoldable pub value_name : Reader lexicon (Unless (is_one_of other_statements) IsIdent) (shape (ident_class (codes "reserved" ∷ codes "option" ∷ []) ∷ []) false [])
-value_name = shaped (shape (ident_class (codes "reserved" ∷ codes "option" ∷ []) ∷ []) false []) (unless other_statements ident refl) refl
+unfoldable pub value_name : Reader lexicon (Unless (is_one_of other_statements) IsIdent)
+    (shape (ident_class (codes "reserved" ∷ codes "option" ∷ []) ∷ []) false [])
+value_name = shaped (shape (ident_class (codes "reserved" ∷ codes "option" ∷ []) ∷ []) false [])
+    (unless other_statements ident refl) refl
 
 -- ---- services and files
 
@@ -397,7 +486,9 @@ next_part = shaped (shape (symbol_class 46 ∷ []) false []) (do symbol 46; opti
 
 -- at most so many parts, each behind a dot, and no dot behind them
 unfoldable pub parts_up_to : (limit : ℕ) → Parses (AtMost limit IsNextPart) parts_shape
-parts_up_to zero = for (none-to IsNextPart) (none-from IsNextPart) (shaped parts_shape (choose (shaped (shape (symbol_class 46 ∷ []) false []) never refl) refl (give [])) refl)
+parts_up_to zero = for (none-to IsNextPart) (none-from IsNextPart)
+    (shaped parts_shape
+    (choose (shaped (shape (symbol_class 46 ∷ []) false []) never refl) refl (give [])) refl)
 parts_up_to (suc k) = for (more-to IsNextPart k) (more-from IsNextPart k) (shaped parts_shape (choose (do first ← next_part; others ← parts_up_to k; give (first ∷ others)) refl (give [])) refl)
 
 abbrev pub option_name_shape : Shape Class
@@ -434,11 +525,15 @@ syntax = shaped (shape (word_class (codes "syntax") ∷ []) false []) (do
   give syntax) refl
 
 -- [ syntax ]; proto2 where it is absent
-unfoldable pub version_statement : Parses (Either IsSyntax (Nothing Proto2)) (shape (word_class (codes "syntax") ∷ []) true (word_class (codes "syntax") ∷ []))
-version_statement = shaped (shape (word_class (codes "syntax") ∷ []) true (word_class (codes "syntax") ∷ [])) (choose syntax refl (give Proto2)) refl
+unfoldable pub version_statement : Parses (Either IsSyntax (Nothing Proto2))
+    (shape (word_class (codes "syntax") ∷ []) true (word_class (codes "syntax") ∷ []))
+version_statement =
+    shaped (shape (word_class (codes "syntax") ∷ []) true (word_class (codes "syntax") ∷ []))
+    (choose syntax refl (give Proto2)) refl
 
 abbrev pub visibility_shape : Shape Class
-visibility_shape = shape (words (codes "weak" ∷ codes "public" ∷ [])) true (words (codes "weak" ∷ codes "public" ∷ []))
+visibility_shape = shape (words (codes "weak" ∷ codes "public" ∷ [])) true
+    (words (codes "weak" ∷ codes "public" ∷ []))
 
 -- [ "weak" | "public" ]
 unfoldable pub visibility : Parses IsVisibility visibility_shape
@@ -455,17 +550,23 @@ imported = shaped (shape (word_class (codes "import") ∷ []) false []) (at (λ 
   give (record { place = place; vis = vis; path = path })) refl) refl
 
 abbrev pub reserved_shape : Shape Class
-reserved_shape = shape (text ∷ integer ∷ []) false (text ∷ symbol_class 44 ∷ word_class (codes "to") ∷ [])
+reserved_shape = shape (text ∷ integer ∷ []) false
+    (text ∷ symbol_class 44 ∷ word_class (codes "to") ∷ [])
 
 -- "," and a text
-abbrev pub comma_name : Reader lexicon (Then (IsSymbol 44) (λ u. IsReservedName)) (shape (symbol_class 44 ∷ []) false (text ∷ []))
+abbrev pub comma_name : Reader lexicon (Then (IsSymbol 44) (λ u. IsReservedName))
+    (shape (symbol_class 44 ∷ []) false (text ∷ []))
 comma_name = shaped (shape (symbol_class 44 ∷ []) false (text ∷ [])) (do symbol 44; reserved_name) refl
 
-unfoldable pub names : Parses (Separated (IsSymbol 44) IsReservedName) (shape (text ∷ []) false (text ∷ symbol_class 44 ∷ []))
-names = shaped (shape (text ∷ []) false (text ∷ symbol_class 44 ∷ [])) (separated (symbol 44) refl reserved_name) refl
+unfoldable pub names : Parses (Separated (IsSymbol 44) IsReservedName)
+    (shape (text ∷ []) false (text ∷ symbol_class 44 ∷ []))
+names = shaped (shape (text ∷ []) false (text ∷ symbol_class 44 ∷ []))
+    (separated (symbol 44) refl reserved_name) refl
 
 -- behind the first of them
-pub names_first : (ts us : Rest Lexeme Place) (a : Bytes) → reserved_name.run ts ≡ read a us → names.run ts ≡ with_rest (λ (v : List Bytes). v) (λ (v : List Bytes). v) (a ∷ []) (run_many comma_name us)
+pub names_first : (ts us : Rest Lexeme Place) (a : Bytes) → reserved_name.run ts ≡ read a us
+    → names.run ts ≡ with_rest (λ (v : List Bytes). v) (λ (v : List Bytes). v) (a ∷ [])
+    (run_many comma_name us)
 unfolding names reserved_name run_many
 names_first ts us a e = rw e refl
 

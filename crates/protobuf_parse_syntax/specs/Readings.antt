@@ -1,18 +1,24 @@
--- Readers that the grammar of this language needs beside those of base: of what is nowhere, of a relation
--- said otherwise, of a part that is looked at only where it can begin, of a value that is found by a test, and
--- of at most so many parts.
-use Rattle.std.proofs.Common.{◌≡◌, ◌≤◌, ℕ, suc, List, [], ◌∷◌, ◌++◌, length, Option, Some, Bool, true, false, cond, refl, sym, ap, subst, ◌∙◌, inl, inr, arith}
+-- Readers that the grammar of this language needs beside those of base: of what is nowhere, of a
+-- relation said otherwise, of a part that is looked at only where it can begin, of a value that is
+-- found by a test, and of at most so many parts.
+use Rattle.std.proofs.Common.{◌≡◌, ◌≤◌, ℕ, suc, List, [], ◌∷◌, ◌++◌, length, Option, Some, Bool}
+use Rattle.std.proofs.Common.{true, false, cond, refl, sym, ap, subst, ◌∙◌, inl, inr, arith}
 use Rattle.std.proofs.lemmas.List.{append-nil}
-use Rattle.protobuf_parse_base.specs.Relations.{Rel, Nothing, Such, Never, Either, Many, none, more, Meant, ◌>>=◌}
-use Rattle.protobuf_parse_base.specs.Readers.{Rest, onto, Read, read, stuck, Lexicon, Shape, shape, Sound, Reader, starts, deep, run_choose, choose-local, begins-starts}
+use Rattle.protobuf_parse_base.specs.Relations.{Rel, Nothing, Such, Never, Either, Many, none, more}
+use Rattle.protobuf_parse_base.specs.Relations.{Meant, ◌>>=◌}
+use Rattle.protobuf_parse_base.specs.Readers.{Rest, onto, Read, read, stuck, Lexicon, Shape, shape}
+use Rattle.protobuf_parse_base.specs.Readers.{Sound, Reader, starts, deep, run_choose, choose-local}
+use Rattle.protobuf_parse_base.specs.Readers.{begins-starts}
 use Rattle.protobuf_parse_base.specs.Conditions.{meant}
 use Rattle.protobuf_parse_base.specs.Depth.{Near, NearAt, near-choose, near_same}
 use Rattle.protobuf_parse_base.specs.Pairs.{Pair}
 
-pub never-sound : {Tok Mark A : Type 0} (ts : Rest Tok Mark) (a : A) (rest : Rest Tok Mark) → (let r : Read Tok Mark A = stuck ts in r ≡ read a rest) → Sound Never ts a rest
+pub never-sound : {Tok Mark A : Type 0} (ts : Rest Tok Mark) (a : A) (rest : Rest Tok Mark)
+    → (let r : Read Tok Mark A = stuck ts in r ≡ read a rest) → Sound Never ts a rest
 never-sound ts a rest e = absurd cc
 
-pub never-shallow : {Tok Mark A : Type 0} (ts : Rest Tok Mark) → (let r : Read Tok Mark A = stuck ts in r ≡ deep) → ⊥
+pub never-shallow : {Tok Mark A : Type 0} (ts : Rest Tok Mark)
+    → (let r : Read Tok Mark A = stuck ts in r ≡ deep) → ⊥
 never-shallow ts e = cc
 
 module _ {Tok Mark Class : Type 0} {L : Lexicon Tok Mark Class} where
@@ -28,21 +34,26 @@ module _ {Tok Mark Class : Type 0} {L : Lexicon Tok Mark Class} where
   }
 
   -- the reader of a relation, for another that holds of the same
-  abbrev pub for : {A : Type 0} {R S : List Tok → A → Type 0} {s : Shape Class} → ((ts : List Tok) (a : A) → R ts a → S ts a) → ((ts : List Tok) (a : A) → S ts a → R ts a) → Reader L R s → Reader L S s
+  abbrev pub for : {A : Type 0} {R S : List Tok → A → Type 0} {s : Shape Class}
+      → ((ts : List Tok) (a : A) → R ts a → S ts a) → ((ts : List Tok) (a : A) → S ts a → R ts a)
+      → Reader L R s → Reader L S s
   for to from p = record {
     run = p.run;
     local = p.local;
-    sound = λ ts a rest e. let l = p.sound ts a rest e in record { used = l.used; parts = l.parts; holds = to l.used a l.holds };
+    sound = λ ts a rest e. let l = p.sound ts a rest e in
+        record { used = l.used; parts = l.parts; holds = to l.used a l.holds };
     complete = λ f used a rest h e. p.complete f used a rest (from used a h) e;
     begins = λ used a h. p.begins used a (from used a h);
     shallow = p.shallow;
   }
 
-module _ {Tok Mark Class A : Type 0} {L : Lexicon Tok Mark Class} {R : List Tok → A → Type 0} {s : Shape Class} (p : Reader L R s) where
+module _ {Tok Mark Class A : Type 0} {L : Lexicon Tok Mark Class} {R : List Tok → A → Type 0}
+    {s : Shape Class} (p : Reader L R s) where
   abbrev pub run_begun : Rest Tok Mark → Read Tok Mark A
   run_begun ts = run_choose p never ts
 
-  pub begun-sound : (ts : Rest Tok Mark) (a : A) (rest : Rest Tok Mark) → run_begun ts ≡ read a rest → Sound R ts a rest
+  pub begun-sound : (ts : Rest Tok Mark) (a : A) (rest : Rest Tok Mark) → run_begun ts ≡ read a rest
+      → Sound R ts a rest
   begun-sound ts a rest e = go (starts L s.firsts ts) e
     where
       go : (b : Bool) → cond b (p.run ts) (stuck ts) ≡ read a rest → Sound R ts a rest
@@ -56,18 +67,34 @@ module _ {Tok Mark Class A : Type 0} {L : Lexicon Tok Mark Class} {R : List Tok 
       go true e = p.shallow n ts e
       go false e = cc
 
-  pub begun-complete : s.empty ≡ false → s.fine ≡ true → (used : List Tok) (a : A) (rest : Rest Tok Mark) → R used a → starts L s.goes rest ≡ false → run_begun (onto used rest) ≡ read a rest
-  begun-complete some f used a rest h e = rw (begins-starts L s.firsts s.empty used rest some (p.begins used a h)) (p.complete f used a rest h e)
+  pub begun-complete : s.empty ≡ false → s.fine ≡ true
+      → (used : List Tok) (a : A) (rest : Rest Tok Mark) → R used a → starts L s.goes rest ≡ false
+      → run_begun (onto used rest) ≡ read a rest
+  begun-complete some f used a rest h e =
+      rw (begins-starts L s.firsts s.empty used rest some (p.begins used a h))
+      (p.complete f used a rest h e)
 
   -- a part, which is not empty, that is looked at only where it can begin
   abbrev pub begun_reader : s.empty ≡ false → Reader L R s
-  begun_reader some = record { run = run_begun; local = choose-local p never; sound = begun-sound; complete = begun-complete some; begins = p.begins; shallow = begun-shallow }
+  begun_reader some =
+      record {
+        run = run_begun;
+        local = choose-local p never;
+        sound = begun-sound;
+        complete =
+            begun-complete some;
+        begins = p.begins;
+        shallow = begun-shallow;
+      }
 
 -- what a part says, and then a value with a property of it
 abbrev pub Finding : {Tok A B : Type 0} → Rel Tok A → (A → B → Type 0) → Rel Tok B
 Finding R M = do a ← R; b ← Such (M a); Nothing b
 
-module _ {Tok Mark Class A B : Type 0} {L : Lexicon Tok Mark Class} {R : List Tok → A → Type 0} {s : Shape Class} (p : Reader L R s) (M : A → B → Type 0) (means : A → Option B) (to : (a : A) (b : B) → means a ≡ Some b → M a b) (from : (a : A) (b : B) → M a b → means a ≡ Some b) where
+module _ {Tok Mark Class A B : Type 0} {L : Lexicon Tok Mark Class} {R : List Tok → A → Type 0}
+    {s : Shape Class} (p : Reader L R s) (M : A → B → Type 0) (means : A → Option B)
+    (to : (a : A) (b : B) → means a ≡ Some b → M a b)
+    (from : (a : A) (b : B) → M a b → means a ≡ Some b) where
   pub found-to : (ts : List Tok) (b : B) → Meant R means ts b → Finding R M ts b
   found-to ts b h = record {
     value = h.0;
@@ -75,7 +102,15 @@ module _ {Tok Mark Class A B : Type 0} {L : Lexicon Tok Mark Class} {R : List To
     back = [];
     first = h.1;
     parts = sym (append-nil ts);
-    second = record { value = b; front = []; back = []; first = (refl, to h.0 b h.2); second = (refl, refl); parts = refl };
+    second =
+        record {
+          value = b;
+          front = [];
+          back = [];
+          first = (refl, to h.0 b h.2);
+          second = (refl, refl);
+          parts = refl;
+        };
   }
 
   pub found-from : (ts : List Tok) (b : B) → Finding R M ts b → Meant R means ts b
@@ -84,8 +119,12 @@ module _ {Tok Mark Class A B : Type 0} {L : Lexicon Tok Mark Class} {R : List To
       let x = v.first in
       let y = v.second in
       let back : w.back ≡ [] = v.parts ∙ ap (λ (z : List Tok). z ++ v.back) x.0 ∙ y.0 in
-      let all : ts ≡ w.front = w.parts ∙ ap (λ (z : List Tok). w.front ++ z) back ∙ append-nil w.front in
-      (w.value, subst (λ z. R z w.value) (sym all) w.first, from w.value b (subst (λ z. M w.value z) (sym y.1) x.1))
+      let all : ts ≡ w.front = w.parts ∙ ap (λ (z : List Tok). w.front ++ z) back
+      ∙ append-nil w.front in (
+        w.value,
+        subst (λ z. R z w.value) (sym all) w.first,
+        from w.value b (subst (λ z. M w.value z) (sym y.1) x.1),
+      )
 
   -- a part whose value means another, by a test that finds it; or else is wrong at its first token
   abbrev pub finding : Reader L (Finding R M) s
@@ -107,27 +146,41 @@ module _ {Tok A : Type 0} (R : List Tok → A → Type 0) where
 
   pub none-to : (ts : List Tok) (items : List A) → NoMore ts items → UpTo 0 ts items
   none-to ts items (inl h) = absurd h
-  none-to ts items (inr h) = (subst (λ z. Many R z items) (sym h.0) (subst (λ z. Many R [] z) (sym h.1) none), rw h.1 (omega arith))
+  none-to ts items (inr h) = (
+    subst (λ z. Many R z items) (sym h.0) (subst (λ z. Many R [] z) (sym h.1) none),
+    rw h.1 (omega arith),
+  )
 
-  none-from-at : (ts : List Tok) (items : List A) → Many R ts items → length items ≤ 0 → NoMore ts items
+  none-from-at : (ts : List Tok) (items : List A) → Many R ts items → length items ≤ 0
+      → NoMore ts items
   none-from-at ts items none l = inr (refl, refl)
   none-from-at ts items (more h m) l = absurd (omega (arith, l))
 
   pub none-from : (ts : List Tok) (items : List A) → UpTo 0 ts items → NoMore ts items
   none-from ts items h = none-from-at ts items h.0 h.1
 
-  pub more-to : (k : ℕ) (ts : List Tok) (items : List A) → OneMore k ts items → UpTo (suc k) ts items
-  more-to k ts items (inr h) = (subst (λ z. Many R z items) (sym h.0) (subst (λ z. Many R [] z) (sym h.1) none), rw h.1 (omega arith))
+  pub more-to : (k : ℕ) (ts : List Tok) (items : List A) → OneMore k ts items
+      → UpTo (suc k) ts items
+  more-to k ts items (inr h) = (
+    subst (λ z. Many R z items) (sym h.0) (subst (λ z. Many R [] z) (sym h.1) none),
+    rw h.1 (omega arith),
+  )
   more-to k ts items (inl w) =
       let v = w.second in
       let y = v.second in
       let m = v.first in
-      let back : w.back ≡ v.front = v.parts ∙ ap (λ (z : List Tok). v.front ++ z) y.0 ∙ append-nil v.front in
-      let all : w.front ++ v.front ≡ ts = sym (w.parts ∙ ap (λ (z : List Tok). w.front ++ z) back) in
-      let l : length items ≤ suc k = rw y.1 (omega (arith, m.1)) in
-      (subst (λ z. Many R z items) all (subst (λ z. Many R (w.front ++ v.front) z) (sym y.1) (more w.first m.0)), l)
+      let back : w.back ≡ v.front = v.parts ∙ ap (λ (z : List Tok). v.front ++ z) y.0
+      ∙ append-nil v.front in
+      let all : w.front ++ v.front
+      ≡ ts = sym (w.parts ∙ ap (λ (z : List Tok). w.front ++ z) back) in
+      let l : length items ≤ suc k = rw y.1 (omega (arith, m.1)) in (
+        subst (λ z. Many R z items) all
+            (subst (λ z. Many R (w.front ++ v.front) z) (sym y.1) (more w.first m.0)),
+        l,
+      )
 
-  more-from-at : (k : ℕ) (ts : List Tok) (items : List A) → Many R ts items → length items ≤ suc k → OneMore k ts items
+  more-from-at : (k : ℕ) (ts : List Tok) (items : List A) → Many R ts items → length items ≤ suc k
+      → OneMore k ts items
   more-from-at k ts items none l = inr (refl, refl)
   more-from-at k ts items (more {ts = us} {us = vs} {a = a} {as' = bs} h m) l = inl (record {
     value = a;
@@ -135,16 +188,27 @@ module _ {Tok A : Type 0} (R : List Tok → A → Type 0) where
     back = vs;
     first = h;
     parts = refl;
-    second = record { value = bs; front = vs; back = []; first = (m, omega (arith, l)); second = (refl, refl); parts = sym (append-nil vs) };
+    second =
+        record {
+          value = bs;
+          front = vs;
+          back = [];
+          first = (m, omega (arith, l));
+          second = (refl, refl);
+          parts = sym (append-nil vs);
+        };
   })
 
-  pub more-from : (k : ℕ) (ts : List Tok) (items : List A) → UpTo (suc k) ts items → OneMore k ts items
+  pub more-from : (k : ℕ) (ts : List Tok) (items : List A) → UpTo (suc k) ts items
+      → OneMore k ts items
   more-from k ts items h = more-from-at k ts items h.0 h.1
 
 -- ---- parts that nest
 
 -- a pair for each number of levels, of which one is read at the higher as the next is at the lower
-module _ {Tok Mark Class A : Type 0} {L : Lexicon Tok Mark Class} {R : ℕ → List Tok → A → Type 0} {s : Shape Class} (p : (n : ℕ) → Pair L (R n) (R (suc n)) s n) (same : (n : ℕ) (ts : Rest Tok Mark) → (p n).high.run ts ≡ (p (suc n)).low.run ts) where
+module _ {Tok Mark Class A : Type 0} {L : Lexicon Tok Mark Class} {R : ℕ → List Tok → A → Type 0}
+    {s : Shape Class} (p : (n : ℕ) → Pair L (R n) (R (suc n)) s n)
+    (same : (n : ℕ) (ts : Rest Tok Mark) → (p n).high.run ts ≡ (p (suc n)).low.run ts) where
   pub steady-near : (n : ℕ) → Near n (p n).low.run (p (suc n)).low.run
   steady-near n ts = subst (λ r. NearAt n ts ((p n).low.run ts) r) (same n ts) ((p n).near ts)
 
@@ -153,5 +217,14 @@ module _ {Tok Mark Class A : Type 0} {L : Lexicon Tok Mark Class} {R : ℕ → L
   steady n = record { low = (p n).low; high = (p (suc n)).low; near = steady-near n }
 
 -- such a part, in which others may nest
-abbrev pub begun : {Tok Mark Class A : Type 0} {L : Lexicon Tok Mark Class} {R R' : List Tok → A → Type 0} {s : Shape Class} {k : ℕ} (p : Pair L R R' s k) → s.empty ≡ false → Pair L R R' s k
-begun {A = A} {L = L} {k = k} p some = record { low = begun_reader p.low some; high = begun_reader p.high some; near = near-choose p.low p.high (never {L = L} {A = A}) (never {L = L} {A = A}) k p.near (near_same (never {L = L} {A = A}) refl) }
+abbrev pub begun : {Tok Mark Class A : Type 0} {L : Lexicon Tok Mark Class}
+    {R R' : List Tok → A → Type 0} {s : Shape Class} {k : ℕ} (p : Pair L R R' s k) → s.empty ≡ false
+    → Pair L R R' s k
+begun {A = A} {L = L} {k = k} p some =
+    record {
+      low = begun_reader p.low some;
+      high = begun_reader p.high some;
+      near =
+          near-choose p.low p.high (never {L = L} {A = A}) (never {L = L} {A = A}) k p.near
+          (near_same (never {L = L} {A = A}) refl);
+    }

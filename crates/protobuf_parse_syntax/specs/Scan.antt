@@ -1,28 +1,35 @@
 -- What the scanners of the front of a text answer.
-use Rattle.std.specs.Prelude.{◌≡◌, ◌≤◌, ◌<◌, ◌⊎◌, ℕ, ◌+◌, Bool, true, false, not, nat_lt, ◌&&◌, ◌||◌, if◌then◌else◌, ◌==◌, List, [], ◌∷◌, length, slice_index, Option, Some, None}
+use Rattle.std.specs.Prelude.{◌≡◌, ◌≤◌, ◌<◌, ◌⊎◌, ℕ, ◌+◌, Bool, true, false, not, nat_lt, ◌&&◌}
+use Rattle.std.specs.Prelude.{◌||◌, if◌then◌else◌, ◌==◌, List, [], ◌∷◌, length, slice_index, Option}
+use Rattle.std.specs.Prelude.{Some, None}
 use Rattle.std.specs.Int.{w64, trailing_zeros}
-use Rattle.protobuf_parse_syntax.specs.Text.{Bytes, is_in, AllIn, RunStopsAt, IsBlank, IsToken, IsFault}
+use Rattle.protobuf_parse_syntax.specs.Text.{Bytes, is_in, AllIn, RunStopsAt, IsBlank, IsToken}
+use Rattle.protobuf_parse_syntax.specs.Text.{IsFault}
 use Rattle.protobuf_parse_syntax.specs.declared.lexer.bytes.ByteClass.TheVariants as class
 use Rattle.protobuf_parse_syntax.specs.declared.lexer.token.TokenKind.{TokenKind}
 use Rattle.protobuf_parse_syntax.specs.declared.lexer.token.TokenKind.TheVariants as kind
 use Rattle.protobuf_parse_syntax.specs.declared.lexer.front.Piece.{Piece}
 use Rattle.protobuf_parse_syntax.specs.declared.lexer.front.Piece.TheVariants as piece
 
--- The place after the closing quote, for a text that begins at `at`. The test is whether a backslash takes the first byte.
+-- The place after the closing quote, for a text that begins at `at`. The test is whether a
+-- backslash takes the first byte.
 abbrev pub closing : ℕ → Bool → ℕ → List ℕ → Option ℕ
 closing quote is_escaped at [] = None
 closing quote true at (b ∷ z) = if b == 10 || b == 0 then None else closing quote false (at + 1) z
 closing quote false at (b ∷ z) =
-    if b == 10 || b == 0 then None else (if b == quote then Some (at + 1) else closing quote (b == 92) (at + 1) z)
+    if b == 10 || b == 0 then None
+    else (if b == quote then Some (at + 1) else closing quote (b == 92) (at + 1) z)
 
 -- the longest fraction after the digits up to `whole` ends at `point`
 pub record EndsFraction (z : Bytes) (whole point : ℕ) : Type 0 where
   pub within : point ≤ length z
   pub ends : ((point ≡ whole) × (slice_index z whole ≡ 46 → ⊥))
-      ⊎ ((slice_index z whole ≡ 46) × (whole + 1 ≤ point) × AllIn class.Digit z (whole + 1) point × RunStopsAt class.Digit z point)
+      ⊎ ((slice_index z whole ≡ 46) × (whole + 1 ≤ point) × AllIn class.Digit z (whole + 1) point
+      × RunStopsAt class.Digit z point)
 
 abbrev pub BeginsNumber : Bytes → Type 0
-BeginsNumber z = (is_in class.Digit (slice_index z 0) ≡ true) ⊎ ((slice_index z 0 ≡ 46) × (is_in class.Digit (slice_index z 1) ≡ true))
+BeginsNumber z = (is_in class.Digit (slice_index z 0) ≡ true)
+    ⊎ ((slice_index z 0 ≡ 46) × (is_in class.Digit (slice_index z 1) ≡ true))
 
 -- the bytes from i up to n pass the test
 abbrev pub AllPass : (ℕ → Bool) → Bytes → ℕ → ℕ → Type 0

@@ -134,7 +134,8 @@ IsIntegerText z n v =
     ⊎ (IsHex z n × (v ≡ digits_value 16 (slice_range z 2 n)))
     ⊎ (IsOctal z n × (v ≡ digits_value 8 (slice_range z 1 n)))
 
--- ---- floats: decimals "." [ decimals ] [ exponent ] | decimals exponent | "." decimals [ exponent ]
+-- ---- floats: decimals "." [ decimals ] [ exponent ] | decimals exponent | "." decimals [ exponent
+-- ]
 
 abbrev pub IsLetterE : ℕ → Type 0
 IsLetterE b = (b ≡ 101) ⊎ (b ≡ 69)

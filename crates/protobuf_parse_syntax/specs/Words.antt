@@ -14,9 +14,12 @@ abbrev pub takes : List Class → Bytes → Bool
 takes cs w = seen (λ c v. sees_at c kind.Ident v) cs w
 
 -- what a function says that reads a word of a table, if one comes next
-abbrev pub Finds : {A : Type 0} → List (Bytes × A) → Option A → Rest Lexeme Place → Rest Lexeme Place → Type 0
-Finds table None before after = (starts lexicon (words (table_words table)) before ≡ false) × (after ≡ before)
-Finds table (Some x) before after = (starts lexicon (words (table_words table)) before ≡ true) × ((one_of table).run before ≡ read x after)
+abbrev pub Finds : {A : Type 0} → List (Bytes × A) → Option A → Rest Lexeme Place
+    → Rest Lexeme Place → Type 0
+Finds table None before after = (starts lexicon (words (table_words table)) before ≡ false)
+    × (after ≡ before)
+Finds table (Some x) before after = (starts lexicon (words (table_words table)) before ≡ true)
+    × ((one_of table).run before ≡ read x after)
 
 -- the tokens behind the next one
 abbrev pub behind_next : Rest Lexeme Place → Rest Lexeme Place

@@ -1,6 +1,7 @@
 //! The imports of a file.
 
-ghost use Rattle.std.specs.Prelude.{◌≡◌, ◌≤◌, ◌⊎◌, ◌++◌, [], ◌∷◌, length, map, IfOk, IfErr, OnOk, string_bytes, if◌then◌else◌};
+ghost use Rattle.std.specs.Prelude.{◌≡◌, ◌≤◌, ◌⊎◌, ◌++◌, [], ◌∷◌, length, map, IfOk, IfErr, OnOk};
+ghost use Rattle.std.specs.Prelude.{string_bytes, if◌then◌else◌};
 ghost use Rattle.protobuf_parse_base.specs.PathViews.{path_buf_text};
 ghost use Rattle.protobuf_parse_syntax.specs.Cut.{out_of_memory, error_place as place_at};
 ghost use Rattle.protobuf_parse_syntax.specs.Dependencies as spec;
@@ -49,11 +50,13 @@ pub fn parse_dependencies(
     Ok(found)
 }
 
-/// What a file's statements import. The tree of a text has no more of them than a position can count.
+/// What a file's statements import. The tree of a text has no more of them than a position can
+/// count.
 #[tactic(auto, unfolding(crate::specs::Dependencies::dependencies_of))]
 pub fn imports_of(alloc: Global, statements: &[FileStatement]) -> Result<Dependencies, AllocError>
     requires { length statements.now ≤ 2147483647 }
-    ensures { IfOk result (λ d. dependencies_view d ≡ dependencies_of (map statement_view statements.now)) }
+    ensures { IfOk result
+        (λ d. dependencies_view d ≡ dependencies_of (map statement_view statements.now)) }
 {
     let mut found = Dependencies {
         dependency: Vec::new(alloc),

@@ -3,7 +3,9 @@
 ghost use Rattle.std.specs.Prelude.{◌≡◌, ◌⊎◌, ◌+◌, [], length, drop, IfOk, IfErr, MatchResult};
 ghost use Rattle.protobuf_parse_syntax.specs.Text.{IsFault};
 ghost use Rattle.protobuf_parse_syntax.specs.Cut as cut;
-ghost use Rattle.protobuf_parse_syntax.specs.Cut.{mark_len, IsShort, stream, HasTokens, IsRefused, Answers, Reads, Refuses, error_place, out_of_memory};
+ghost use Rattle.protobuf_parse_syntax.specs.Cut.{mark_len, IsShort, stream, HasTokens, IsRefused};
+ghost use Rattle.protobuf_parse_syntax.specs.Cut.{Answers, Reads, Refuses, error_place};
+ghost use Rattle.protobuf_parse_syntax.specs.Cut.{out_of_memory};
 
 mod bytes;
 mod depth;
@@ -72,7 +74,8 @@ fn cut<'a>(alloc: Global, text: &'a str) -> Result<TokenStream<'a>, ParserErrorW
 /// The tokens of a text, of which nothing is wrong.
 fn checked<'a>(alloc: Global, text: &'a str) -> Result<TokenStream<'a>, ParserErrorWithLocation>
     ensures read { IfOk result (λ s. HasTokens text.now (stream s)) }
-    ensures refused { IfErr result (λ e. (e ≡ out_of_memory) ⊎ IsRefused text.now e.error (error_place e)) }
+    ensures refused { IfErr result (λ e. (e ≡ out_of_memory)
+        ⊎ IsRefused text.now e.error (error_place e)) }
 {
     if text.len() > MAX_TEXT_LEN {
         return Err(located(ParserError::TextTooLong, Place { line: 1, col: 1 }));
@@ -92,7 +95,8 @@ pub fn tokenize<'a>(
 ) -> Result<TokenStream<'a>, ParserErrorWithLocation>
     // What is read are the text's tokens, and what is refused has that fault there.
     ensures read { IfOk result (λ s. HasTokens text.now (stream s)) }
-    ensures refused { IfErr result (λ e. (e ≡ out_of_memory) ⊎ IsRefused text.now e.error (error_place e)) }
+    ensures refused { IfErr result (λ e. (e ≡ out_of_memory)
+        ⊎ IsRefused text.now e.error (error_place e)) }
 
     // A text with tokens is read, and one with a fault is refused.
     ensures reads { Reads text.now result }

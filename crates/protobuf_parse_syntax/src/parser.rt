@@ -16,10 +16,12 @@ mod words;
 
 ghost use Rattle.std.specs.Prelude.{◌≡◌, ◌≤◌, ◌⊎◌, IfOk, IfErr};
 ghost use Rattle.protobuf_parse_syntax.specs.Counts.{statements_in};
-ghost use Rattle.protobuf_parse_syntax.specs.Cut.{out_of_memory, stream as tokens_of, error_place as place_at};
+ghost use Rattle.protobuf_parse_syntax.specs.Cut.{out_of_memory, stream as tokens_of};
+ghost use Rattle.protobuf_parse_syntax.specs.Cut.{error_place as place_at};
 ghost use Rattle.protobuf_parse_syntax.specs.Grammar.{IsFile};
 ghost use Rattle.protobuf_parse_syntax.specs.Nesting.{ShallowFile};
-ghost use Rattle.protobuf_parse_syntax.specs.Parsing.{IsGrammarFault, HasTree, IsFaultOf, TellsFaults};
+ghost use Rattle.protobuf_parse_syntax.specs.Parsing.{IsGrammarFault, HasTree, IsFaultOf};
+ghost use Rattle.protobuf_parse_syntax.specs.Parsing.{TellsFaults};
 ghost use Rattle.protobuf_parse_syntax.specs.Trees.{FileSyntax, file_view};
 
 use crate::error::{ParserError, ParserErrorWithLocation};
@@ -33,8 +35,9 @@ use std::alloc::Global;
 
 /// The tree of a file's text, by the Protocol Buffers Language Specifications (proto2 and proto3).
 ///
-/// A text without a tree is refused with its first fault, at a line and a column that count from 1, the
-/// column in characters. Want of memory is [`ParserError::Memory`](crate::ParserError::Memory) at 0:0.
+/// A text without a tree is refused with its first fault, at a line and a column that count from 1,
+/// the column in characters. Want of memory is [`ParserError::Memory`](crate::ParserError::Memory)
+/// at 0:0.
 pub fn parse_file(alloc: Global, text: &str) -> Result<FileTree, ParserErrorWithLocation>
     // What is read is the one tree of the text.
     ensures found { IfOk result (λ t. HasTree text.now (file_view t)) }

@@ -1,5 +1,5 @@
-//! The syntax tree of a file: the statements of the file and of each body in one list, in source order,
-//! each with the place of its first token. Empty statements, lone semicolons, are not kept.
+//! The syntax tree of a file: the statements of the file and of each body in one list, in source
+//! order, each with the place of its first token. Empty statements, lone semicolons, are not kept.
 
 mod constant;
 mod declaration;
@@ -7,7 +7,8 @@ mod field;
 mod option;
 
 ghost use Rattle.std.specs.Prelude.{◌≡◌};
-ghost use Rattle.protobuf_parse_syntax.specs.Trees.{file_view, statement_view, package_of, package_behind};
+ghost use Rattle.protobuf_parse_syntax.specs.Trees.{file_view, statement_view, package_of};
+ghost use Rattle.protobuf_parse_syntax.specs.Trees.{package_behind};
 ghost use Rattle.protobuf_parse_syntax.specs.Code.{seen_by};
 
 use crate::lexer::token::Place;
@@ -35,7 +36,8 @@ pub struct FileTree {
     pub statements: Vec<FileStatement>,
 }
 
-// Written out: a crate above calls it, and need not prove anew how each kind of statement is dropped.
+// Written out: a crate above calls it, and need not prove anew how each kind of statement is
+// dropped.
 impl Drop for FileTree {
     fn drop(self) {
         let FileTree {
@@ -46,8 +48,8 @@ impl Drop for FileTree {
 }
 
 impl FileTree {
-    /// The file's package, without a dot before it: the name of the last `package` statement, since it is
-    /// the one that counts, and `None` where there is none.
+    /// The file's package, without a dot before it: the name of the last `package` statement, since
+    /// it is the one that counts, and `None` where there is none.
     pub fn package(&self) -> Option<&str>
         ensures { seen_by (λ z. z.now) result ≡ package_of (file_view self.now) }
     {

@@ -1,6 +1,6 @@
-//! Tests of what is no text: names and paths as values, descriptors made by hand, values of entries, a
-//! resolver that is called by the library's own way, and the program on files. Nothing but tests stands
-//! here; the tables of texts are cases of `protobuf_parse_cases`.
+//! Tests of what is no text: names and paths as values, descriptors made by hand, values of
+//! entries, a resolver that is called by the library's own way, and the program on files. Nothing
+//! but tests stands here; the tables of texts are cases of `protobuf_parse_cases`.
 #![tactic(auto)]
 
 #[cfg(test)]

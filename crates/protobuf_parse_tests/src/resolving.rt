@@ -60,7 +60,8 @@ fn path(alloc: Global, text: &str) -> Result<ProtoPathBuf, Fail> {
     }
 }
 
-/// What `Fruit` finds. It refuses nothing, so all that can be wrong is in the files, or memory is short.
+/// What `Fruit` finds. It refuses nothing, so all that can be wrong is in the files, or memory is
+/// short.
 fn fruits(alloc: Global, paths: &[ProtoPathBuf]) -> Result<Vec<FileDescriptorProto>, RunFault>
     ensures { IfErr result IsOfTheFiles }
 {
@@ -92,8 +93,9 @@ fn tells_what_no_resolver_finds(rt: HostRuntime) -> Result<(), Fail> {
     Ok(())
 }
 
-/// Finds `top.proto`, which imports two files that import `base.proto`, and counts how often it is asked:
-/// as a resolver, and as a reader of files that say nothing. What it says of `odd.proto` is another each time.
+/// Finds `top.proto`, which imports two files that import `base.proto`, and counts how often it is
+/// asked: as a resolver, and as a reader of files that say nothing. What it says of `odd.proto` is
+/// another each time.
 #[derive(Drop)]
 struct Counted {
     found: Cell<usize>,

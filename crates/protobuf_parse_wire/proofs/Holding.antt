@@ -1,6 +1,9 @@
 -- What stands at the places that the index holds, in the files that are picked.
 use Rattle.std.specs.Prelude.{String}
-use Rattle.std.proofs.Common.{◌≡◌, ℕ, suc, ◌+◌, Bool, true, false, cond, if◌then◌else◌, List, [], ◌∷◌, ◌++◌, map, flat_map, filter, length, Option, Some, None, refl, sym, ap, ◌∙◌, arith, bytes_eq, nat_eq, slice_get, zero-add, append_assoc, append-nil, string_bytes, ◌<◌, drop, get_or}
+use Rattle.std.proofs.Common.{◌≡◌, ℕ, suc, ◌+◌, Bool, true, false, cond, if◌then◌else◌, List, []}
+use Rattle.std.proofs.Common.{◌∷◌, ◌++◌, map, flat_map, filter, length, Option, Some, None, refl}
+use Rattle.std.proofs.Common.{sym, ap, ◌∙◌, arith, bytes_eq, nat_eq, slice_get, zero-add}
+use Rattle.std.proofs.Common.{append_assoc, append-nil, string_bytes, ◌<◌, drop, get_or}
 use Rattle.std.specs.Prelude.{option_to_list}
 use Rattle.std.specs.Global.{Global, Vec}
 use Rattle.std.specs.BTreeMap.{BTreeMap, IsEmpty}
@@ -16,7 +19,10 @@ use Rattle.protobuf_parse_wire.specs.declared.customs.picked_files.PickedFiles.{
 use Rattle.protobuf_parse_wire.specs.declared.customs.places.Place.{Place}
 use Rattle.protobuf_parse_wire.specs.ByName.{named}
 use Rattle.protobuf_parse_wire.specs.Declarations.{Declaration, declared_in, messages_named}
-use Rattle.protobuf_parse_wire.specs.Holding.{AddsSpots, Picks, Spot, at_spot, at_spots, beside, file_numbered, files_seen, inside_of, placed_known, spot_in, spot_view, spots_in, spots_known, spots_of, spots_under}
+use Rattle.protobuf_parse_wire.specs.Holding.{AddsSpots, Picks, Spot, at_spot, at_spots, beside}
+use Rattle.protobuf_parse_wire.specs.Holding.{file_numbered, files_seen, inside_of, placed_known}
+use Rattle.protobuf_parse_wire.specs.Holding.{spot_in, spot_view, spots_in, spots_known, spots_of}
+use Rattle.protobuf_parse_wire.specs.Holding.{spots_under}
 use Rattle.protobuf_parse_wire.specs.Groups.{group}
 use Rattle.protobuf_parse_wire.specs.Indexed.{parts_seen}
 use Rattle.protobuf_parse_wire.specs.Places.{Inside, Placed, one_of, placed_messages}
@@ -60,7 +66,8 @@ seen_is files p h = ap (flat_map option_to_list) h ∙ joined_is files p.numbers
 -- ---- what stands at the places
 
 -- what has the name in a file
-abbrev pub named_in : {T : Type 0} → (FileDescriptor → List (Placed T)) → Text → FileDescriptor → List T
+abbrev pub named_in : {T : Type 0} → (FileDescriptor → List (Placed T)) → Text → FileDescriptor
+    → List T
 named_in {T = T} listed name file = map (λ (p : Placed T). p.what)
     (filter (λ (p : Placed T). bytes_eq name p.name) (listed file))
 
@@ -171,7 +178,8 @@ pub spots_push : {T : Type 0} (listed : FileDescriptor → List (Placed T)) (nam
     ≡ spots_of listed name n fs ++ spots_in (n + length fs) name (listed f)
 spots_push listed name n [] f = let e : n ≡ n + 0 = omega arith in
     append-nil (spots_in n name (listed f)) ∙ ap (λ i. spots_in i name (listed f)) e
-spots_push listed name n (x ∷ fs) f = let e : suc n + length fs ≡ n + suc (length fs) = omega arith in
+spots_push listed name n (x ∷ fs) f = let e : suc n + length fs
+    ≡ n + suc (length fs) = omega arith in
     ap (λ ss. spots_in n name (listed x) ++ ss)
     (spots_push listed name (suc n) fs f
     ∙ ap (λ i. spots_of listed name (suc n) fs ++ spots_in i name (listed f)) e)
@@ -220,7 +228,8 @@ named_without {T = T} name (p ∷ ps) = by_test (bytes_eq name p.name) (named_wi
     by_test : (b : Bool)
         → map (λ (q : Placed T). q.what) (filter (λ (q : Placed T). bytes_eq name q.name) ps)
         ≡ named name (map declared_of ps)
-        → map (λ (q : Placed T). q.what) (cond b (p ∷ filter (λ (q : Placed T). bytes_eq name q.name)
+        → map (λ (q : Placed T). q.what)
+        (cond b (p ∷ filter (λ (q : Placed T). bytes_eq name q.name)
         ps) (filter (λ (q : Placed T). bytes_eq name q.name) ps))
         ≡ map (λ (d : Declared T). d.what) (cond b (declared_of p ∷ filter
         (λ (d : Declared T). bytes_eq name d.name) (map declared_of ps))
@@ -307,7 +316,8 @@ module _ {T : Type 0} (list : Inside → List T) (picks : PickedFiles) (places :
   abbrev later : List T
   later = at_spots list picks (map spot_view (drop (i + 1) places))
 
-  pub opened : at_spots list picks (map spot_view (drop i places)) ≡ option_to_list at_place ++ later
+  pub opened : at_spots list picks (map spot_view (drop i places)) ≡ option_to_list at_place
+      ++ later
   opened = ap (at_spots list picks) (mapped_rest spot_view places i place lt is)
 
 -- ---- no places

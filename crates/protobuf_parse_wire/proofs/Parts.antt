@@ -1,19 +1,27 @@
 -- What lists and message constants give, part by part.
-use Rattle.std.proofs.Common.{◌≡◌, ◌-◌, ◌==◌, arith, drop, get_or, length, take, List, [], ◌∷◌, ◌++◌, map, flat_map, Option, Some, None, Bool, true, false, option_to_list, refl, sym, ap, subst, ◌∙◌, append-nil, Result}
+use Rattle.std.proofs.Common.{◌≡◌, ◌-◌, ◌==◌, arith, drop, get_or, length, take, List, [], ◌∷◌}
+use Rattle.std.proofs.Common.{◌++◌, map, flat_map, Option, Some, None, Bool, true, false}
+use Rattle.std.proofs.Common.{option_to_list, refl, sym, ap, subst, ◌∙◌, append-nil, Result}
 use Rattle.std.specs.Global.{Vec}
 use Rattle.std.proofs.lemmas.List.{take_all}
-use Rattle.protobuf_parse_syntax.specs.Trees.{ConstantSyntax, ConstantFieldSyntax, list, fields, constants, constant_fields, constant_view, constant_field_view, option_part_view}
+use Rattle.protobuf_parse_syntax.specs.Trees.{ConstantSyntax, ConstantFieldSyntax, list, fields}
+use Rattle.protobuf_parse_syntax.specs.Trees.{constants, constant_fields, constant_view}
+use Rattle.protobuf_parse_syntax.specs.Trees.{constant_field_view, option_part_view}
 use Rattle.protobuf_parse_syntax.specs.declared.tree.option.ProtobufOptionNamePart.{ProtobufOptionNamePart}
 use Rattle.protobuf_parse_syntax.specs.declared.tree.constant.ConstantField.{ConstantField}
 use Rattle.protobuf_parse_syntax.specs.declared.tree.constant.ProtobufConstant.{ProtobufConstant}
-use Rattle.protobuf_parse_syntax.specs.declared.tree.constant.ProtobufConstant.TheVariants.{List as Constants, Message as Fields}
+use Rattle.protobuf_parse_syntax.specs.declared.tree.constant.ProtobufConstant.TheVariants.{List as Constants}
+use Rattle.protobuf_parse_syntax.specs.declared.tree.constant.ProtobufConstant.TheVariants.{Message as Fields}
 use Rattle.protobuf_parse_syntax.proofs.Views.{views_list, views_fields}
 use Rattle.protobuf_parse_model.specs.declared.error.ElabFailure.{ElabFailure}
 use Rattle.protobuf_parse_model.specs.Faults.{Elaborates, Fault}
 use Rattle.protobuf_parse_model.specs.Descriptors.{Text, FieldDescriptor}
-use Rattle.protobuf_parse_wire.specs.CustomFaults.{value_faults, list_faults, field_faults, message_value_faults, part_faults, path_faults}
-use Rattle.protobuf_parse_wire.specs.CustomOptions.{value_items, list_items, field_items, message_item, path_items}
-use Rattle.protobuf_parse_wire.specs.Given.{field_faults_of, field_items_of, through_faults, through_items}
+use Rattle.protobuf_parse_wire.specs.CustomFaults.{value_faults, list_faults, field_faults}
+use Rattle.protobuf_parse_wire.specs.CustomFaults.{message_value_faults, part_faults, path_faults}
+use Rattle.protobuf_parse_wire.specs.CustomOptions.{value_items, list_items, field_items}
+use Rattle.protobuf_parse_wire.specs.CustomOptions.{message_item, path_items}
+use Rattle.protobuf_parse_wire.specs.Given.{field_faults_of, field_items_of, through_faults}
+use Rattle.protobuf_parse_wire.specs.Given.{through_items}
 use Rattle.protobuf_parse_wire.specs.OptionFields.{OptionScope, part_field, takes, type_name_of}
 use Rattle.protobuf_parse_wire.specs.Views.{Item}
 

@@ -1,14 +1,29 @@
--- What stands at the places of what a file declares, and that without them it is what the file declares.
-use Rattle.std.proofs.Common.{◌≡◌, ℕ, suc, ◌+◌, List, [], ◌∷◌, ◌++◌, map, flat_map, Option, Some, None, option_map, refl, sym, ap, ◌∙◌, arith, slice_get, zero-add, append_assoc}
+-- What stands at the places of what a file declares, and that without them it is what the file
+-- declares.
+use Rattle.std.proofs.Common.{◌≡◌, ℕ, suc, ◌+◌, List, [], ◌∷◌, ◌++◌, map, flat_map, Option, Some}
+use Rattle.std.proofs.Common.{None, option_map, refl, sym, ap, ◌∙◌, arith, slice_get, zero-add}
+use Rattle.std.proofs.Common.{append_assoc}
 use Rattle.std.specs.List.{AllByRecursion}
 use Rattle.std.proofs.lemmas.List.{map-append}
 use Rattle.protobuf_parse_model.specs.Declarations.{Declared}
-use Rattle.protobuf_parse_model.specs.Descriptors.{Text, FileDescriptor, MessageParts, MessageDescriptor, MessageDescriptors, a_message, no_messages, messages, messages_of_list, list_of, list_of_is, message_parts, message_view, message_view_is}
-use Rattle.protobuf_parse_model.specs.declared.descriptor.DescriptorProto.{DescriptorProto, out-DescriptorProto}
-use Rattle.protobuf_parse_wire.specs.Declarations.{Declaration, declared_extensions, declared_in, declared_message, declared_messages, package_scope, within}
+use Rattle.protobuf_parse_model.specs.Descriptors.{Text, FileDescriptor, MessageParts}
+use Rattle.protobuf_parse_model.specs.Descriptors.{MessageDescriptor, MessageDescriptors, a_message}
+use Rattle.protobuf_parse_model.specs.Descriptors.{no_messages, messages, messages_of_list, list_of}
+use Rattle.protobuf_parse_model.specs.Descriptors.{list_of_is, message_parts, message_view}
+use Rattle.protobuf_parse_model.specs.Descriptors.{message_view_is}
+use Rattle.protobuf_parse_model.specs.declared.descriptor.DescriptorProto.{DescriptorProto}
+use Rattle.protobuf_parse_model.specs.declared.descriptor.DescriptorProto.{out-DescriptorProto}
+use Rattle.protobuf_parse_wire.specs.Declarations.{Declaration, declared_extensions, declared_in}
+use Rattle.protobuf_parse_wire.specs.Declarations.{declared_message, declared_messages}
+use Rattle.protobuf_parse_wire.specs.Declarations.{package_scope, within}
 use Rattle.protobuf_parse_wire.specs.Indexed.{parts_seen}
 use Rattle.protobuf_parse_wire.specs.OptionFields.{declared_enums}
-use Rattle.protobuf_parse_wire.specs.Places.{Inside, Placed, down, enum_name, enums_inside, extensions_inside, field_name, inside_file, inside_message, messages_inside, next_inside, one_of, path_to, placed_each, placed_enums, placed_extensions, placed_in, placed_inside, placed_list, placed_message, placed_messages, placed_nested}
+use Rattle.protobuf_parse_wire.specs.Places.{Inside, Placed, down, enum_name, enums_inside}
+use Rattle.protobuf_parse_wire.specs.Places.{extensions_inside, field_name, inside_file}
+use Rattle.protobuf_parse_wire.specs.Places.{inside_message, messages_inside, next_inside, one_of}
+use Rattle.protobuf_parse_wire.specs.Places.{path_to, placed_each, placed_enums, placed_extensions}
+use Rattle.protobuf_parse_wire.specs.Places.{placed_in, placed_inside, placed_list, placed_message}
+use Rattle.protobuf_parse_wire.specs.Places.{placed_messages, placed_nested}
 use Rattle.protobuf_parse_wire.proofs.SoundSets.{both, flat}
 
 -- ---- the way down
@@ -74,7 +89,8 @@ module _ (start : Option Inside) where
         let inside = inside_message (a_message parts nested) in (
           e,
           nested_stand (within scope parts.name) (path ++ index ∷ []) inside
-              (down-push start path index ∙ next_is (down start path) index (a_message parts nested) e)
+              (down-push start path index
+              ∙ next_is (down start path) index (a_message parts nested) e)
               0 nested (all_rest (list_of nested)),
         )
 
@@ -134,7 +150,8 @@ pub messages_stand : (file : FileDescriptor)
 messages_stand file = list_stands (Some (inside_file file)) (package_scope file.«package») []
     (inside_file file) refl 0 file.message_type (all_rest file.message_type)
 
-pub placed_stand : {T : Type 0} (name_of : T → Text) (list : Inside → List T) (file : FileDescriptor)
+pub placed_stand : {T : Type 0} (name_of : T → Text) (list : Inside → List T)
+    (file : FileDescriptor)
     → AllByRecursion (StandsIn list file) (placed_in name_of list file)
 placed_stand name_of list file =
     let start = Some (inside_file file) in
@@ -178,7 +195,8 @@ list_without scope path n (m ∷ ms) =
     (message_without scope path n m)
     ∙ ap (λ ds. declared_message scope m ++ ds) (list_without scope path (suc n) ms)
 
-pub messages_without : (file : FileDescriptor) → map message_of (placed_messages file) ≡ declared_in file
+pub messages_without : (file : FileDescriptor)
+    → map message_of (placed_messages file) ≡ declared_in file
 messages_without file = list_without (package_scope file.«package») [] 0 file.message_type
 
 module _ {T : Type 0} (name_of : T → Text) where
@@ -198,7 +216,8 @@ module _ {T : Type 0} (name_of : T → Text) where
         ≡ flat_map (λ (d : Declaration). map (whole d.name) (list_in d.parts)) (map message_of ms)
     inside_without [] = refl
     inside_without (m ∷ ms) =
-        map-append declared_of (placed_each name_of m.name (path_to m) 0 (list (inside_message m.what)))
+        map-append declared_of
+        (placed_each name_of m.name (path_to m) 0 (list (inside_message m.what)))
         (placed_inside name_of list ms)
         ∙ ap (λ ds. ds ++ map declared_of (placed_inside name_of list ms))
         (each_without m.name (path_to m) 0 (list (inside_message m.what))
@@ -277,4 +296,5 @@ pub message_listed : (scope name : Text) (path : List ℕ) (index : ℕ) (m : De
     → new ≡ old ++ placed_message scope path index (message_view m)
 message_listed scope name path index m old new named is =
     parts_listed scope name path index (message_view m) (message_parts m)
-    (map message_view (out-DescriptorProto m).nested_type.items) old new (message_view_is m) named is
+    (map message_view (out-DescriptorProto m).nested_type.items) old new
+    (message_view_is m) named is

@@ -5,7 +5,8 @@ use Rattle.std.specs.Int.RustNames.{FitsSigned}
 use Rattle.std.proofs.Math.Facts.{yes_ltb, ltb_yes, yes_leb}
 use Rattle.std.proofs.lemmas.Bool.{ltb-true, lt-ltb}
 use lib.Signed.{le_z_yes, lt_z_yes}
-use Rattle.protobuf_parse_wire.specs.Kinds.{unsigned, twos_complement, zigzag, Shape, whole, truth, text, octets, message, InRange}
+use Rattle.protobuf_parse_wire.specs.Kinds.{unsigned, twos_complement, zigzag, Shape, whole, truth}
+use Rattle.protobuf_parse_wire.specs.Kinds.{text, octets, message, InRange}
 
 abbrev pub Converts : Shape → ℤ → Type 0
 Converts (whole word w unsigned) v = FitsUnsigned w v
@@ -17,7 +18,8 @@ Converts octets v = ⊥
 Converts message v = ⊥
 
 pub converts : (s : Shape) (v : ℤ) → InRange s v → Converts s v
-converts (whole word w unsigned) (pos n) e = (le_z_yes (yes_leb (omega arith)), lt_z_yes (yes_ltb (ltb-true _ _ e)))
+converts (whole word w unsigned) (pos n) e =
+    (le_z_yes (yes_leb (omega arith)), lt_z_yes (yes_ltb (ltb-true _ _ e)))
 converts (whole word w unsigned) (negsuc n) e = absurd cc
 converts (whole word w twos_complement) (pos n) e = record { sfits = ltb-true _ _ e }
 converts (whole word w twos_complement) (negsuc n) e = record { sfits = ltb-true _ _ e }

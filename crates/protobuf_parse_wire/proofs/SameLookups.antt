@@ -1,7 +1,8 @@
 -- Where names mean the same, the same is wrong in custom options and they denote the same.
 use Rattle.std.proofs.Common.{option_map, ap}
 use Rattle.protobuf_parse_wire.specs.OptionFields.{OptionScope}
-use Rattle.protobuf_parse_wire.specs.SameLookups.{SameLookups, LookupsDecideFaults, LookupsDecideMeaning}
+use Rattle.protobuf_parse_wire.specs.SameLookups.{SameLookups, LookupsDecideFaults}
+use Rattle.protobuf_parse_wire.specs.SameLookups.{LookupsDecideMeaning}
 use Rattle.protobuf_parse_wire.specs.WithoutOptions.{bare_field}
 use Rattle.protobuf_parse_wire.proofs.BareDeclarations.{bare_extension}
 use Rattle.protobuf_parse_wire.proofs.AlikeLookups.{AlikeLookups, faults-same, meaning-same}
@@ -19,4 +20,5 @@ pub lookups_decide_faults : LookupsDecideFaults
 lookups_decide_faults at at' same construct os = faults-same at at' (alike at at' same) construct os
 
 pub lookups_decide_meaning : LookupsDecideMeaning
-lookups_decide_meaning at at' same construct os = meaning-same at at' (alike at at' same) construct os
+lookups_decide_meaning at at' same construct os =
+    meaning-same at at' (alike at at' same) construct os

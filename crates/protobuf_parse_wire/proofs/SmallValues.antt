@@ -1,5 +1,7 @@
 -- What has small numbers is found to have them.
-use Rattle.std.proofs.Common.{◌≡◌, ℕ, zero, suc, ◌<◌, ℤ, Bool, true, false, List, [], ◌∷◌, ◌++◌, map, flat_map, length, take, get_or, Option, Some, option_map, cond, bytes_eq, refl, sym, subst, arith, ap, ◌∙◌}
+use Rattle.std.proofs.Common.{◌≡◌, ℕ, zero, suc, ◌<◌, ℤ, Bool, true, false, List, [], ◌∷◌, ◌++◌}
+use Rattle.std.proofs.Common.{map, flat_map, length, take, get_or, Option, Some, option_map, cond}
+use Rattle.std.proofs.Common.{bytes_eq, refl, sym, subst, arith, ap, ◌∙◌}
 use Rattle.std.specs.Int.{w32}
 use Rattle.std.specs.Int.RustNames.{FitsSigned}
 use Rattle.std.specs.Prelude.{option_to_list, slice_get}
@@ -7,7 +9,8 @@ use Rattle.std.specs.List.{AllByRecursion, find}
 use Rattle.std.specs.Borrow.{Bor}
 use Rattle.protobuf_parse_model.specs.declared.descriptor.EnumDescriptorProto.{EnumDescriptorProto}
 use Rattle.protobuf_parse_model.specs.Declarations.{Declared}
-use Rattle.protobuf_parse_model.specs.Descriptors.{Text, EnumDescriptor, EnumValueDescriptor, FileDescriptor}
+use Rattle.protobuf_parse_model.specs.Descriptors.{Text, EnumDescriptor, EnumValueDescriptor}
+use Rattle.protobuf_parse_model.specs.Descriptors.{FileDescriptor}
 use Rattle.protobuf_parse_wire.specs.declared.customs.known.Known.{Known}
 use Rattle.protobuf_parse_wire.specs.Holding.{enums_placed}
 use Rattle.protobuf_parse_wire.specs.Places.{placed_enums}

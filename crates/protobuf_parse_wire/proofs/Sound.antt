@@ -1,13 +1,16 @@
--- What a text's grammar says of its tree: option names of at most 100 parts, numbers of enum values of 32 bits, and
--- names of packages.
-use Rattle.std.proofs.Common.{◌≡◌, ℕ, zero, suc, ◌<◌, ◌≤◌, ◌⊎◌, inl, inr, Bool, true, false, cond, List, [], ◌∷◌, ◌++◌, length, Option, Some, None, refl, sym, subst, arith, nat_le, take, fold, codes}
+-- What a text's grammar says of its tree: option names of at most 100 parts, numbers of enum values
+-- of 32 bits, and names of packages.
+use Rattle.std.proofs.Common.{◌≡◌, ℕ, zero, suc, ◌<◌, ◌≤◌, ◌⊎◌, inl, inr, Bool, true, false, cond}
+use Rattle.std.proofs.Common.{List, [], ◌∷◌, ◌++◌, length, Option, Some, None, refl, sym, subst}
+use Rattle.std.proofs.Common.{arith, nat_le, take, fold, codes}
 use Rattle.std.specs.Prelude.{⊤, IfSome}
 use Rattle.std.specs.List.{AllByRecursion}
 use Rattle.std.specs.Int.{w32}
 use Rattle.std.specs.Int.RustNames.{FitsSigned}
 use Rattle.std.proofs.lemmas.Bool.{leb-true}
 use Rattle.std.proofs.lemmas.List.{length-take-le}
-use Rattle.protobuf_parse_base.specs.Relations.{Nothing, Never, Level, Then, Either, Many, Separated, none, more, Unless, At, somes}
+use Rattle.protobuf_parse_base.specs.Relations.{Nothing, Never, Level, Then, Either, Many}
+use Rattle.protobuf_parse_base.specs.Relations.{Separated, none, more, Unless, At, somes}
 use Rattle.protobuf_parse_syntax.specs.Tokens.{Lexeme}
 use Rattle.protobuf_parse_syntax.specs.declared.lexer.token.Place.{Place}
 use Rattle.protobuf_parse_syntax.specs.declared.lexer.token.TokenKind.{TokenKind}
@@ -17,9 +20,27 @@ use Rattle.protobuf_parse_syntax.specs.declared.tree.Syntax.TheVariants.{Proto2,
 use Rattle.protobuf_parse_syntax.specs.declared.tree.field.Label.{Label}
 use Rattle.protobuf_parse_syntax.specs.Text.{Bytes}
 use Rattle.protobuf_parse_syntax.specs.Classes.{sees_at, ident, is_one_of, words}
-use Rattle.protobuf_parse_syntax.specs.Grammar.{table_words, statement_words, labels, if_so, small_at, negative, AtMost, Item, Statements, Braced, IsIdent, IsDotted, option_name, IsOptionName, IsAssignment, IsOption, AreOptions, IsFieldNumber, IsNumberUpTo, PlainFieldOf, GroupOf, AfterLabel, FieldOf, IsField, IsOneofField, IsOneofStatement, IsOneof, IsExtend, IsEnumNumber, IsEnumValue, IsEnumStatement, IsEnum, MessageStatementOf, MessageOf, IsMessage, IsMethodEnd, IsRpc, IsStream, IsStreamIn, IsServiceStatement, IsService, IsPackage, IsFileStatement, IsFileOf, IsFile}
+use Rattle.protobuf_parse_syntax.specs.Grammar.{table_words, statement_words, labels, if_so}
+use Rattle.protobuf_parse_syntax.specs.Grammar.{small_at, negative, AtMost, Item, Statements}
+use Rattle.protobuf_parse_syntax.specs.Grammar.{Braced, IsIdent, IsDotted, option_name}
+use Rattle.protobuf_parse_syntax.specs.Grammar.{IsOptionName, IsAssignment, IsOption, AreOptions}
+use Rattle.protobuf_parse_syntax.specs.Grammar.{IsFieldNumber, IsNumberUpTo, PlainFieldOf, GroupOf}
+use Rattle.protobuf_parse_syntax.specs.Grammar.{AfterLabel, FieldOf, IsField, IsOneofField}
+use Rattle.protobuf_parse_syntax.specs.Grammar.{IsOneofStatement, IsOneof, IsExtend, IsEnumNumber}
+use Rattle.protobuf_parse_syntax.specs.Grammar.{IsEnumValue, IsEnumStatement, IsEnum}
+use Rattle.protobuf_parse_syntax.specs.Grammar.{MessageStatementOf, MessageOf, IsMessage}
+use Rattle.protobuf_parse_syntax.specs.Grammar.{IsMethodEnd, IsRpc, IsStream, IsStreamIn}
+use Rattle.protobuf_parse_syntax.specs.Grammar.{IsServiceStatement, IsService, IsPackage}
+use Rattle.protobuf_parse_syntax.specs.Grammar.{IsFileStatement, IsFileOf, IsFile}
 use Rattle.protobuf_parse_syntax.specs.Trees as tree
-use Rattle.protobuf_parse_syntax.specs.Trees.{OptionPartSyntax, OptionSyntax, OptionStatementSyntax, FieldStatementSyntax, FieldStatementList, OneofStatementSyntax, OneofSyntax, ExtendSyntax, EnumValueSyntax, EnumStatementSyntax, EnumSyntax, MessageStatementSyntax, MessageStatementList, MessageSyntax, MethodSyntax, ServiceStatementSyntax, ServiceSyntax, PackageSyntax, StatementSyntax, FileSyntax}
+use Rattle.protobuf_parse_syntax.specs.Trees.{OptionPartSyntax, OptionSyntax, OptionStatementSyntax}
+use Rattle.protobuf_parse_syntax.specs.Trees.{FieldStatementSyntax, FieldStatementList}
+use Rattle.protobuf_parse_syntax.specs.Trees.{OneofStatementSyntax, OneofSyntax, ExtendSyntax}
+use Rattle.protobuf_parse_syntax.specs.Trees.{EnumValueSyntax, EnumStatementSyntax, EnumSyntax}
+use Rattle.protobuf_parse_syntax.specs.Trees.{MessageStatementSyntax, MessageStatementList}
+use Rattle.protobuf_parse_syntax.specs.Trees.{MessageSyntax, MethodSyntax, ServiceStatementSyntax}
+use Rattle.protobuf_parse_syntax.specs.Trees.{ServiceSyntax, PackageSyntax, StatementSyntax}
+use Rattle.protobuf_parse_syntax.specs.Trees.{FileSyntax}
 use Rattle.protobuf_parse_model.specs.Faults.{Among, here, there}
 use Rattle.protobuf_parse_syntax.specs.Text.{IsToken}
 use Rattle.protobuf_parse_syntax.specs.Cut.{Cut, done, blank, token}
@@ -128,15 +149,19 @@ any : {A : Type 0} {R : List Lexeme → A → Type 0} → Says R Any
 any = record { says = λ ts a full h. tt }
 
 infixl 10 ◌>>=◌
-◌>>=◌ : {A B : Type 0} {R : List Lexeme → A → Type 0} {S : A → List Lexeme → B → Type 0} {P : A → Type 0} {Q : B → Type 0} → Says R P → ((x : (a : A) × P a) → Says (S x.0) Q) → Says (Then R S) Q
+◌>>=◌ : {A B : Type 0} {R : List Lexeme → A → Type 0} {S : A → List Lexeme → B → Type 0}
+    {P : A → Type 0} {Q : B → Type 0} → Says R P → ((x : (a : A) × P a) → Says (S x.0) Q)
+    → Says (Then R S) Q
 r >>= s = record {
   says = λ ts b full h.
       let both : HasTexts (h.front ++ h.back) = subst HasTexts h.parts full in
-      (s (h.value, r.says h.front h.value (λ t k. both t (among_left h.back k)) h.first)).says h.back b (λ t k. both t (among_right h.front k)) h.second;
+      (s (h.value, r.says h.front h.value (λ t k. both t (among_left h.back k)) h.first)).says
+      h.back b (λ t k. both t (among_right h.front k)) h.second;
 }
 
 infixl 10 ◌>>◌
-◌>>◌ : {A B : Type 0} {R : List Lexeme → A → Type 0} {S : List Lexeme → B → Type 0} {P : A → Type 0} {Q : B → Type 0} → Says R P → Says S Q → Says (Then R (λ a. S)) Q
+◌>>◌ : {A B : Type 0} {R : List Lexeme → A → Type 0} {S : List Lexeme → B → Type 0} {P : A → Type 0}
+    {Q : B → Type 0} → Says R P → Says S Q → Says (Then R (λ a. S)) Q
 r >> s = r >>= (λ x. s)
 
 nothing : {A : Type 0} {a : A} {P : A → Type 0} → P a → Says (Nothing a) P
@@ -145,48 +170,58 @@ nothing {P = P} p = record { says = λ ts b full h. subst P (sym h.1) p }
 never : {A : Type 0} {P : A → Type 0} → Says Never P
 never = record { says = λ ts a full h. absurd h }
 
-either : {A : Type 0} {R S : List Lexeme → A → Type 0} {P : A → Type 0} → Says R P → Says S P → Says (Either R S) P
+either : {A : Type 0} {R S : List Lexeme → A → Type 0} {P : A → Type 0} → Says R P → Says S P
+    → Says (Either R S) P
 either {A = A} {R = R} {S = S} {P = P} r s = record { says = go }
   where
     go : (ts : List Lexeme) (a : A) → HasTexts ts → R ts a ⊎ S ts a → P a
     go ts a full (inl h) = r.says ts a full h
     go ts a full (inr h) = s.says ts a full h
 
-many : {A : Type 0} {R : List Lexeme → A → Type 0} {P : A → Type 0} → Says R P → Says (Many R) (AllByRecursion P)
+many : {A : Type 0} {R : List Lexeme → A → Type 0} {P : A → Type 0} → Says R P
+    → Says (Many R) (AllByRecursion P)
 many {A = A} {R = R} {P = P} r = record { says = go }
   where
     go : (ts : List Lexeme) (as' : List A) → HasTexts ts → Many R ts as' → AllByRecursion P as'
     go _ _ full none = tt
-    go _ _ full (more {ts = ts} {us = us} {a = a} {as' = as'} h hs) =
-        (r.says ts a (λ t k. full t (among_left us k)) h, go us as' (λ t k. full t (among_right ts k)) hs)
+    go _ _ full (more {ts = ts} {us = us} {a = a} {as' = as'} h hs) = (
+      r.says ts a (λ t k. full t (among_left us k)) h,
+      go us as' (λ t k. full t (among_right ts k)) hs,
+    )
 
-unless : {A : Type 0} {test : Lexeme → Bool} {R : List Lexeme → A → Type 0} {P : A → Type 0} → Says R P → Says (Unless test R) P
+unless : {A : Type 0} {test : Lexeme → Bool} {R : List Lexeme → A → Type 0} {P : A → Type 0}
+    → Says R P → Says (Unless test R) P
 unless r = record { says = λ ts a full h. r.says ts a full h.0 }
 
 -- a part that may depend on the place of its first token
-at_place : {A : Type 0} {R : Lexeme → List Lexeme → A → Type 0} {P : A → Type 0} → ((t : Lexeme) → Says (R t) P) → Says (At (λ (t : Lexeme). t) R) P
+at_place : {A : Type 0} {R : Lexeme → List Lexeme → A → Type 0} {P : A → Type 0}
+    → ((t : Lexeme) → Says (R t) P) → Says (At (λ (t : Lexeme). t) R) P
 at_place {A = A} {R = R} {P = P} r = record { says = go }
   where
     go : (ts : List Lexeme) (a : A) → HasTexts ts → At (λ (t : Lexeme). t) R ts a → P a
     go [] a full h = absurd h
     go (t ∷ ts) a full h = (r t).says (t ∷ ts) a full h
 
-separated : {A B : Type 0} {S : List Lexeme → B → Type 0} {R : List Lexeme → A → Type 0} {P : A → Type 0} → Says R P → Says (Separated S R) (AllByRecursion P)
+separated : {A B : Type 0} {S : List Lexeme → B → Type 0} {R : List Lexeme → A → Type 0}
+    {P : A → Type 0} → Says R P → Says (Separated S R) (AllByRecursion P)
 separated r = do first ← r; others ← many (do any; r); nothing (first.1, others.1)
 
 -- the statements that are there
-somes_have : {A : Type 0} (P : A → Type 0) (items : List (Option A)) → AllByRecursion (λ o. IfSome o P) items → AllByRecursion P (somes items)
+somes_have : {A : Type 0} (P : A → Type 0) (items : List (Option A))
+    → AllByRecursion (λ o. IfSome o P) items → AllByRecursion P (somes items)
 somes_have P [] h = tt
 somes_have P (None ∷ items) h = somes_have P items h.1
 somes_have P (Some a ∷ items) h = (h.0, somes_have P items h.1)
 
-statements : {A : Type 0} {R : List Lexeme → A → Type 0} {P : A → Type 0} → Says R P → Says (Statements R) (AllByRecursion P)
+statements : {A : Type 0} {R : List Lexeme → A → Type 0} {P : A → Type 0} → Says R P
+    → Says (Statements R) (AllByRecursion P)
 statements {A = A} {R = R} {P = P} r = do items ← many item; nothing (somes_have P items.0 items.1)
   where
     item : Says (Item R) (λ (o : Option A). IfSome o P)
     item = either (do any; nothing tt) (do s ← r; nothing s.1)
 
-braced : {A : Type 0} {R : List Lexeme → A → Type 0} {P : A → Type 0} → Says R P → Says (Braced R) (AllByRecursion P)
+braced : {A : Type 0} {R : List Lexeme → A → Type 0} {P : A → Type 0} → Says R P
+    → Says (Braced R) (AllByRecursion P)
 braced r = do any; body ← statements r; any; nothing body.1
 
 -- ---- numbers and names
@@ -217,13 +252,18 @@ enum_number = either field_number (do any; n ← small 2147483648; nothing (belo
 
 -- a name with some bytes
 full_ident : Says IsIdent (λ w. 0 < length w)
-full_ident = record { says = λ ts w full h. go h.0.kind h.0.text w (full h.0 (subst (λ us. Among us h.0) (sym h.1) here)) h.2 }
+full_ident =
+    record {
+      says = λ ts w full h. go h.0.kind h.0.text w
+          (full h.0 (subst (λ us. Among us h.0) (sym h.1) here)) h.2;
+    }
   where
     at : (text w : Bytes) (b : Bool) → 0 < length text → if_so b text ≡ Some w → 0 < length w
     at text w true l e = let p : text ≡ w = cc in subst (λ v. 0 < length v) p l
     at text w false l e = absurd cc
 
-    go : (k : TokenKind) (text w : Bytes) → (k ≡ kind.Ident → 0 < length text) → if_so (sees_at (ident []) k text) text ≡ Some w → 0 < length w
+    go : (k : TokenKind) (text w : Bytes) → (k ≡ kind.Ident → 0 < length text)
+        → if_so (sees_at (ident []) k text) text ≡ Some w → 0 < length w
     go kind.Ident text w full e = at text w (sees_at (ident []) kind.Ident text) (full refl) e
     go _ text w full e = absurd cc
 
@@ -237,10 +277,12 @@ dotted = do first ← full_ident; others ← any; nothing (full_append first.0 _
 
 -- ---- options
 
-at_most : {A : Type 0} {R : List Lexeme → A → Type 0} (limit : ℕ) → Says (AtMost limit R) (λ as'. length as' ≤ limit)
+at_most : {A : Type 0} {R : List Lexeme → A → Type 0} (limit : ℕ)
+    → Says (AtMost limit R) (λ as'. length as' ≤ limit)
 at_most limit = record { says = λ ts a full h. h.1 }
 
-few_parts : (part : OptionPartSyntax) (parts : List OptionPartSyntax) → length parts ≤ 99 → length (parts_of (option_name part parts)) ≤ 100
+few_parts : (part : OptionPartSyntax) (parts : List OptionPartSyntax) → length parts ≤ 99
+    → length (parts_of (option_name part parts)) ≤ 100
 few_parts (tree.direct name) [] l = omega arith
 few_parts (tree.direct name) (p ∷ ps) l = omega (arith, l)
 few_parts (tree.extension name) ps l = omega (arith, l)
@@ -263,23 +305,28 @@ options d = either (do any; options ← separated (assignment d); any; nothing o
 
 -- ---- fields
 
-plain_field : (d : ℕ) (T : List Lexeme → tree.TypeSyntax → Type 0) (place : Place) (label : Option Label) → Says (PlainFieldOf d T place label) SoundField
+plain_field : (d : ℕ) (T : List Lexeme → tree.TypeSyntax → Type 0) (place : Place)
+    (label : Option Label) → Says (PlainFieldOf d T place label) SoundField
 unfolding PlainFieldOf
 plain_field d T place label = do type_ ← any; name ← any; any; number ← any; options ← options d; any; nothing options.1
 
-fields_sound : (fs : List FieldStatementSyntax) → AllByRecursion SoundField fs → SoundFields (tree.field_statements fs)
+fields_sound : (fs : List FieldStatementSyntax) → AllByRecursion SoundField fs
+    → SoundFields (tree.field_statements fs)
 fields_sound [] h = tt
 fields_sound (f ∷ fs) h = (h.0, fields_sound fs h.1)
 
-group_of : {F : List Lexeme → FieldStatementSyntax → Type 0} (place : Place) (label : Option Label) → Says F SoundField → Says (GroupOf F place label) SoundField
+group_of : {F : List Lexeme → FieldStatementSyntax → Type 0} (place : Place) (label : Option Label)
+    → Says F SoundField → Says (GroupOf F place label) SoundField
 unfolding GroupOf
 group_of place label f = do any; name ← any; any; number ← any; fields ← braced f; nothing (fields_sound fields.0 fields.1)
 
-after_label : (d : ℕ) {F : List Lexeme → FieldStatementSyntax → Type 0} (place : Place) (label : Option Label) → Says F SoundField → Says (AfterLabel d F place label) SoundField
+after_label : (d : ℕ) {F : List Lexeme → FieldStatementSyntax → Type 0} (place : Place)
+    (label : Option Label) → Says F SoundField → Says (AfterLabel d F place label) SoundField
 unfolding AfterLabel
 after_label d place label f = either (group_of place label f) (plain_field d _ place label)
 
-field_of : (syntax : Syntax) (d : ℕ) {F : List Lexeme → FieldStatementSyntax → Type 0} → Says F SoundField → Says (FieldOf syntax d F) SoundField
+field_of : (syntax : Syntax) (d : ℕ) {F : List Lexeme → FieldStatementSyntax → Type 0}
+    → Says F SoundField → Says (FieldOf syntax d F) SoundField
 unfolding FieldOf
 field_of Proto2 d f = at_place (λ t. either (do l ← any; after_label (suc d) t.place (Some l.0) f) (plain_field (suc d) _ t.place None))
 field_of Proto3 d f = at_place (λ t. either (do l ← any; after_label (suc d) t.place (Some l.0) f) (unless {test = is_one_of (words (table_words labels ++ statement_words))} (after_label (suc d) t.place None f)))
@@ -293,7 +340,10 @@ field syntax (suc d) = field_of syntax d (field syntax d)
 
 oneof_field : (syntax : Syntax) (d : ℕ) → Says (IsOneofField syntax d) SoundField
 unfolding IsOneofField
-oneof_field syntax d = at_place (λ t. unless {test = is_one_of (words (codes "map" ∷ table_words labels ++ statement_words))} (after_label d t.place None (field syntax d)))
+oneof_field syntax d =
+    at_place
+    (λ t. unless {test = is_one_of (words (codes "map" ∷ table_words labels ++ statement_words))}
+    (after_label d t.place None (field syntax d)))
 
 oneof_statement : (syntax : Syntax) (d : ℕ) → Says (IsOneofStatement syntax d) SoundOneofStatement
 unfolding IsOneofStatement
@@ -321,11 +371,13 @@ enum d = at_place (λ t. do any; name ← any; body ← braced (enum_statement d
 
 -- ---- messages
 
-body_sound : (ss : List MessageStatementSyntax) → AllByRecursion SoundMessageStatement ss → SoundBody (tree.message_statements ss)
+body_sound : (ss : List MessageStatementSyntax) → AllByRecursion SoundMessageStatement ss
+    → SoundBody (tree.message_statements ss)
 body_sound [] h = tt
 body_sound (s ∷ ss) h = (h.0, body_sound ss h.1)
 
-message_statement : (syntax : Syntax) (d : ℕ) {M : List Lexeme → MessageSyntax → Type 0} → Says M SoundMessage → Says (MessageStatementOf syntax d M) SoundMessageStatement
+message_statement : (syntax : Syntax) (d : ℕ) {M : List Lexeme → MessageSyntax → Type 0}
+    → Says M SoundMessage → Says (MessageStatementOf syntax d M) SoundMessageStatement
 unfolding MessageStatementOf
 message_statement syntax d m =
     either (do r ← any; nothing tt)
@@ -361,7 +413,8 @@ unfolding IsStreamIn
 stream_in Proto2 d = stream d
 stream_in Proto3 d = never
 
-service_statement : (syntax : Syntax) (d : ℕ) → Says (IsServiceStatement syntax d) SoundServiceStatement
+service_statement : (syntax : Syntax) (d : ℕ)
+    → Says (IsServiceStatement syntax d) SoundServiceStatement
 unfolding IsServiceStatement
 service_statement syntax d = either (do m ← rpc d; nothing m.1) (either (do m ← stream_in syntax d; nothing m.1) (do o ← option d; nothing o.1))
 
@@ -396,7 +449,8 @@ tokens_sound ts t full h = (file h.0).says ts t full h.1
 -- ---- the tokens of a text
 
 -- an identifier has a byte
-ident_full : (z : Bytes) (n : ℕ) (k : TokenKind) → IsToken z n k → k ≡ kind.Ident → 0 < length (take n z)
+ident_full : (z : Bytes) (n : ℕ) (k : TokenKind) → IsToken z n k → k ≡ kind.Ident
+    → 0 < length (take n z)
 ident_full z n kind.Ident is e =
     let some = is.0.some in
     let within = is.0.within in
@@ -418,18 +472,22 @@ text_sound text t h = tokens_sound h.stream.tokens t (cut_full h.tokens.cut) h.f
 abbrev IsFull : Option Bytes → Type 0
 IsFull o = (name : Bytes) → o ≡ Some name → 0 < length name
 
-behind : (before : Option Bytes) (s : StatementSyntax) → IsFull before → SoundStatement s → IsFull (tree.package_behind before s)
+behind : (before : Option Bytes) (s : StatementSyntax) → IsFull before → SoundStatement s
+    → IsFull (tree.package_behind before s)
 behind before (tree.file_import i) f h = f
-behind before (tree.file_package p) f h = λ name e. let q : p.name ≡ name = cc in subst (λ v. 0 < length v) q h.full
+behind before (tree.file_package p) f h = λ name e. let q : p.name ≡ name = cc in
+    subst (λ v. 0 < length v) q h.full
 behind before (tree.file_option o) f h = f
 behind before (tree.file_message m) f h = f
 behind before (tree.file_enum e) f h = f
 behind before (tree.file_extend e) f h = f
 behind before (tree.file_service s) f h = f
 
-all_behind : (before : Option Bytes) (ss : List StatementSyntax) → IsFull before → AllByRecursion SoundStatement ss → IsFull (fold tree.package_behind before ss)
+all_behind : (before : Option Bytes) (ss : List StatementSyntax) → IsFull before
+    → AllByRecursion SoundStatement ss → IsFull (fold tree.package_behind before ss)
 all_behind before [] f h = f
-all_behind before (s ∷ ss) f h = all_behind (tree.package_behind before s) ss (behind before s f h.0) h.1
+all_behind before (s ∷ ss) f h =
+    all_behind (tree.package_behind before s) ss (behind before s f h.0) h.1
 
 pub package_named : (t : FileSyntax) → SoundFile t → HasPackageName t
 package_named t h = all_behind None t.statements (λ name e. absurd cc) h

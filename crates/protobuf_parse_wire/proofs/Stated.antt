@@ -1,9 +1,12 @@
 -- What a statement gives, by the first part of its name; and what all of them give.
-use Rattle.std.proofs.Common.{◌≡◌, ◌≤◌, List, [], ◌∷◌, ◌++◌, map, flat_map, length, get_or, Result, String, string_bytes, refl, sym, ap, subst, ◌∙◌, arith}
+use Rattle.std.proofs.Common.{◌≡◌, ◌≤◌, List, [], ◌∷◌, ◌++◌, map, flat_map, length, get_or, Result}
+use Rattle.std.proofs.Common.{String, string_bytes, refl, sym, ap, subst, ◌∙◌, arith}
 use Rattle.std.specs.Global.{Global}
-use Rattle.protobuf_parse_syntax.specs.Trees.{ConstantSyntax, OptionPartSyntax, direct, extension, option_part_view, OptionSyntax}
+use Rattle.protobuf_parse_syntax.specs.Trees.{ConstantSyntax, OptionPartSyntax, direct, extension}
+use Rattle.protobuf_parse_syntax.specs.Trees.{option_part_view, OptionSyntax}
 use Rattle.protobuf_parse_syntax.specs.declared.tree.option.ProtobufOptionNamePart.{ProtobufOptionNamePart}
-use Rattle.protobuf_parse_syntax.specs.declared.tree.option.ProtobufOptionNamePart.TheVariants.{Direct, Ext}
+use Rattle.protobuf_parse_syntax.specs.declared.tree.option.ProtobufOptionNamePart.TheVariants.{Direct}
+use Rattle.protobuf_parse_syntax.specs.declared.tree.option.ProtobufOptionNamePart.TheVariants.{Ext}
 use Rattle.protobuf_parse_model.specs.declared.customs.Construct.{Construct}
 use Rattle.protobuf_parse_model.specs.declared.error.ElabFailure.{ElabFailure}
 use Rattle.protobuf_parse_model.specs.Descriptors.{Text}

@@ -1,13 +1,18 @@
 -- What a varint spells is read.
-use Rattle.std.proofs.Common.{◌≡◌, ℕ, zero, suc, ◌+◌, ◌*◌, ◌%◌, ◌^◌, ◌<◌, false, ltb, List, [], ◌∷◌, ◌++◌, length, Result, Ok, refl, sym, ap, ◌∙◌, append_assoc, length-append, arith}
+use Rattle.std.proofs.Common.{◌≡◌, ℕ, zero, suc, ◌+◌, ◌*◌, ◌%◌, ◌^◌, ◌<◌, false, ltb, List, [], ◌∷◌}
+use Rattle.std.proofs.Common.{◌++◌, length, Result, Ok, refl, sym, ap, ◌∙◌, append_assoc}
+use Rattle.std.proofs.Common.{length-append, arith}
 use Rattle.std.specs.Int.{w32, w64, to_le_bytes, from_le_bytes}
 use Rattle.std.proofs.lemmas.Bool.{lt-ltb, le-ltb}
 use Rattle.std.proofs.lemmas.List.{take_at, drop_at}
 use Rattle.std.proofs.lemmas.Nat.{from_le_bytes-to_le_bytes_4, from_le_bytes-to_le_bytes_8}
-use Rattle.protobuf_parse_wire.specs.Wire.{groups, IsChain, EndsAboveZero, IsShortest, IsVarint, SaysDelimited}
-use Rattle.protobuf_parse_wire.specs.Reading.{◌>>=◌, varint_at, part_at, delimited_at, four_at, eight_at}
+use Rattle.protobuf_parse_wire.specs.Wire.{groups, IsChain, EndsAboveZero, IsShortest, IsVarint}
+use Rattle.protobuf_parse_wire.specs.Wire.{SaysDelimited}
+use Rattle.protobuf_parse_wire.specs.Reading.{◌>>=◌, varint_at, part_at, delimited_at, four_at}
+use Rattle.protobuf_parse_wire.specs.Reading.{eight_at}
 
-pub positive : (b : ℕ) (bs : List ℕ) → IsChain (b ∷ bs) → EndsAboveZero (b ∷ bs) → 0 < groups (b ∷ bs)
+pub positive : (b : ℕ) (bs : List ℕ) → IsChain (b ∷ bs) → EndsAboveZero (b ∷ bs)
+    → 0 < groups (b ∷ bs)
 positive b [] chain ends = omega arith
 positive b (c ∷ bs) chain ends = let h = positive c bs chain.2 ends in omega arith
 
@@ -20,7 +25,9 @@ abbrev below : ℕ → ℕ
 below zero = 1
 below (suc n) = 128 * below n
 
-again : (n b : ℕ) (bs rest : List ℕ) → IsChain (b ∷ bs) → IsShortest (b ∷ bs) → 0 < n → groups (b ∷ bs) < below n → groups (b ∷ bs) < 2 ^ 64 → varint_at n (b ∷ (bs ++ rest)) ≡ Ok (groups (b ∷ bs), rest)
+again : (n b : ℕ) (bs rest : List ℕ) → IsChain (b ∷ bs) → IsShortest (b ∷ bs) → 0 < n
+    → groups (b ∷ bs) < below n → groups (b ∷ bs) < 2 ^ 64
+    → varint_at n (b ∷ (bs ++ rest)) ≡ Ok (groups (b ∷ bs), rest)
 unfolding varint_at
 again zero b bs rest chain ends more fits lt = absurd (omega arith)
 again (suc n) b [] rest chain ends more fits lt =
@@ -29,37 +36,52 @@ again (suc n) b [] rest chain ends more fits lt =
 again (suc n) b (c ∷ cs) rest chain ends more fits lt =
     let above : 0 < groups (c ∷ cs) = positive c cs chain.2 ends in
     let some : 0 < n = some_left n (b % 128) (groups (c ∷ cs)) above fits in
-    let ih : varint_at n (c ∷ (cs ++ rest)) ≡ Ok (groups (c ∷ cs), rest) = again n c cs rest chain.2 (shortest_inside c cs ends) some (omega arith) (omega arith) in
+    let ih : varint_at n (c ∷ (cs ++ rest))
+    ≡ Ok (groups (c ∷ cs), rest) =
+    again n c cs rest chain.2 (shortest_inside c cs ends) some (omega arith) (omega arith) in
     rw (le-ltb b 128 chain.0, ih, lt-ltb (b % 128 + 128 * groups (c ∷ cs)) (2 ^ 64) lt) refl
   where
     some_left : (n low high : ℕ) → 0 < high → low + 128 * high < below (suc n) → 0 < n
     some_left zero low high above fits = absurd (omega arith)
     some_left (suc n) low high above fits = omega arith
 
-pub varint_again : (bs : List ℕ) (u : ℕ) (rest : List ℕ) → u < 2 ^ 64 → IsVarint bs u → varint_at 10 (bs ++ rest) ≡ Ok (u, rest)
+pub varint_again : (bs : List ℕ) (u : ℕ) (rest : List ℕ) → u < 2 ^ 64 → IsVarint bs u
+    → varint_at 10 (bs ++ rest) ≡ Ok (u, rest)
 varint_again [] u rest lt h = absurd h.chain
 varint_again (b ∷ bs) u rest lt h =
     let is = h.value in
-    again 10 b bs rest h.chain h.shortest (omega arith) (omega arith) (omega arith) ∙ ap (λ (x : ℕ). Ok (x, rest)) (sym is)
+    again 10 b bs rest h.chain h.shortest (omega arith) (omega arith) (omega arith)
+    ∙ ap (λ (x : ℕ). Ok (x, rest)) (sym is)
 
-pub part_again : (text rest : List ℕ) (n : ℕ) → length text ≡ n → part_at n (text ++ rest) ≡ Ok (text, rest)
+pub part_again : (text rest : List ℕ) (n : ℕ) → length text ≡ n
+    → part_at n (text ++ rest) ≡ Ok (text, rest)
 unfolding part_at
 part_again text rest n e =
-    let enough : ltb (length (text ++ rest)) n ≡ false = le-ltb _ _ (omega (arith, length-append text rest)) in
+    let enough : ltb (length (text ++ rest)) n
+    ≡ false = le-ltb _ _ (omega (arith, length-append text rest)) in
     rw (enough, take_at text rest n e, drop_at text rest n e) refl
 
-pub delimited_again : (text bs rest : List ℕ) → length text < 2 ^ 64 → SaysDelimited text bs → delimited_at (bs ++ rest) ≡ Ok (text, rest)
+pub delimited_again : (text bs rest : List ℕ) → length text < 2 ^ 64 → SaysDelimited text bs
+    → delimited_at (bs ++ rest) ≡ Ok (text, rest)
 unfolding delimited_at
 delimited_again text bs rest lt h =
-    let e : bs ++ rest ≡ h.front ++ (text ++ rest) = ap (λ (x : List ℕ). x ++ rest) h.parts ∙ append_assoc h.front text rest in
-    rw (e, varint_again h.front (length text) (text ++ rest) lt h.length_first) (part_again text rest (length text) refl)
+    let e : bs ++ rest ≡ h.front ++ (text ++ rest) = ap (λ (x : List ℕ). x ++ rest) h.parts
+    ∙ append_assoc h.front text rest in
+    rw (e, varint_again h.front (length text) (text ++ rest) lt h.length_first)
+    (part_again text rest (length text) refl)
 
-pub four_again : (u : ℕ) (rest : List ℕ) → u < 2 ^ 32 → four_at (to_le_bytes w32 u ++ rest) ≡ Ok (u, rest)
+pub four_again : (u : ℕ) (rest : List ℕ) → u < 2 ^ 32
+    → four_at (to_le_bytes w32 u ++ rest) ≡ Ok (u, rest)
 unfolding four_at
 four_again u rest lt =
-    ap (λ (r : Result (List ℕ × List ℕ) _). r >>= λ part. Ok (from_le_bytes w32 part.0, part.1)) (part_again (to_le_bytes w32 u) rest 4 refl) ∙ ap (λ (x : ℕ). Ok (x, rest)) (from_le_bytes-to_le_bytes_4 u lt)
+    ap (λ (r : Result (List ℕ × List ℕ) _). r >>= λ part. Ok (from_le_bytes w32 part.0, part.1))
+    (part_again (to_le_bytes w32 u) rest 4 refl)
+    ∙ ap (λ (x : ℕ). Ok (x, rest)) (from_le_bytes-to_le_bytes_4 u lt)
 
-pub eight_again : (u : ℕ) (rest : List ℕ) → u < 2 ^ 64 → eight_at (to_le_bytes w64 u ++ rest) ≡ Ok (u, rest)
+pub eight_again : (u : ℕ) (rest : List ℕ) → u < 2 ^ 64
+    → eight_at (to_le_bytes w64 u ++ rest) ≡ Ok (u, rest)
 unfolding eight_at
 eight_again u rest lt =
-    ap (λ (r : Result (List ℕ × List ℕ) _). r >>= λ part. Ok (from_le_bytes w64 part.0, part.1)) (part_again (to_le_bytes w64 u) rest 8 refl) ∙ ap (λ (x : ℕ). Ok (x, rest)) (from_le_bytes-to_le_bytes_8 u lt)
+    ap (λ (r : Result (List ℕ × List ℕ) _). r >>= λ part. Ok (from_le_bytes w64 part.0, part.1))
+    (part_again (to_le_bytes w64 u) rest 8 refl)
+    ∙ ap (λ (x : ℕ). Ok (x, rest)) (from_le_bytes-to_le_bytes_8 u lt)

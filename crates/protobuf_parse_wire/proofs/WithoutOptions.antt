@@ -1,5 +1,7 @@
--- Files that are the same but for their options read the same bytes alike, and give names the same meaning.
-use Rattle.std.proofs.Common.{◌≡◌, List, [], ◌∷◌, map, Option, Some, None, option_to_list, refl, sym, ap, ◌∙◌}
+-- Files that are the same but for their options read the same bytes alike, and give names the same
+-- meaning.
+use Rattle.std.proofs.Common.{◌≡◌, List, [], ◌∷◌, map, Option, Some, None, option_to_list, refl}
+use Rattle.std.proofs.Common.{sym, ap, ◌∙◌}
 use Rattle.std.proofs.Math.Path.{fun_ext}
 use Rattle.protobuf_parse_syntax.specs.Trees.{FileSyntax, OptionSyntax}
 use Rattle.protobuf_parse_model.specs.Descriptors.{Text, FileDescriptor}
@@ -11,7 +13,10 @@ use Rattle.protobuf_parse_wire.specs.Reading.{reader}
 use Rattle.protobuf_parse_wire.specs.Encoded.{encoded}
 use Rattle.protobuf_parse_wire.specs.OptionBytes.{known_customs, option_bytes}
 use Rattle.protobuf_parse_wire.specs.DescriptorsByPath.{Environments, described_at, descriptors_at}
-use Rattle.protobuf_parse_wire.specs.WithoutOptions.{bare_file, ReadingIgnoresOptions, MeaningIgnoresOptions, CustomsIgnoreOptions, DifferOnlyInCustoms, CustomsAreOptions, CustomsMakeNoDifference}
+use Rattle.protobuf_parse_wire.specs.WithoutOptions.{bare_file, ReadingIgnoresOptions}
+use Rattle.protobuf_parse_wire.specs.WithoutOptions.{MeaningIgnoresOptions, CustomsIgnoreOptions}
+use Rattle.protobuf_parse_wire.specs.WithoutOptions.{DifferOnlyInCustoms, CustomsAreOptions}
+use Rattle.protobuf_parse_wire.specs.WithoutOptions.{CustomsMakeNoDifference}
 use Rattle.protobuf_parse_wire.proofs.BareFiles.{all-alike, file-alike}
 use Rattle.protobuf_parse_wire.proofs.BareReading.{reader-bare}
 use Rattle.protobuf_parse_wire.proofs.AlikeLookups.{faults-same, meaning-same}
@@ -25,20 +30,31 @@ reading_ignores_options files files' same message bytes =
 
 pub meaning_ignores_options : MeaningIgnoresOptions
 meaning_ignores_options files files' visible visible' same seen scope construct os =
-    meaning-same (seen_from files visible scope) (seen_from files' visible' scope) (lookups-alike files files' visible visible' same seen scope) construct os
+    meaning-same (seen_from files visible scope) (seen_from files' visible' scope)
+    (lookups-alike files files' visible visible' same seen scope) construct os
 
 pub customs_ignore_options : CustomsIgnoreOptions
 customs_ignore_options files files' visible visible' same seen =
     let alike = lookups-alike files files' visible visible' same seen in
     let faults : (known_customs files visible).faults ≡ (known_customs files' visible').faults =
-    fun_ext (λ (construct : Construct). fun_ext (λ (scope : Scope). fun_ext (λ (os : List OptionSyntax). faults-same (seen_from files visible scope) (seen_from files' visible' scope) (alike scope) construct os))) in
+    fun_ext (λ (construct : Construct). fun_ext
+    (λ (scope : Scope). fun_ext
+    (λ (os : List OptionSyntax). faults-same (seen_from files visible scope)
+    (seen_from files' visible' scope) (alike scope) construct os))) in
     let bytes : option_bytes files visible ≡ option_bytes files' visible' =
-    fun_ext (λ (construct : Construct). fun_ext (λ (scope : Scope). fun_ext (λ (os : List OptionSyntax). ap encoded (meaning_ignores_options files files' visible visible' same seen scope construct os)))) in
+    fun_ext (λ (construct : Construct). fun_ext
+    (λ (scope : Scope). fun_ext
+    (λ (os : List OptionSyntax). ap encoded
+    (meaning_ignores_options files files' visible visible' same seen scope construct os)))) in
     ap (λ (fs : CustomFaults). record { faults = fs; bytes = option_bytes files visible }) faults
-    ∙ ap (λ (bs : CustomBytes). record { faults = (known_customs files' visible').faults; bytes = bs }) bytes
+    ∙ ap (λ (bs : CustomBytes). record
+    { faults = (known_customs files' visible').faults; bytes = bs }) bytes
 
 -- what a path's tree becomes, if there is one
-at-path : (env env' : Environments) → DifferOnlyInCustoms env env' → (p : Text) (o : Option FileSyntax) → map bare_file (map (described_at env p) (option_to_list o)) ≡ map bare_file (map (described_at env' p) (option_to_list o))
+at-path : (env env' : Environments) → DifferOnlyInCustoms env env'
+    → (p : Text) (o : Option FileSyntax)
+    → map bare_file (map (described_at env p) (option_to_list o))
+    ≡ map bare_file (map (described_at env' p) (option_to_list o))
 at-path env env' differ p None = refl
 at-path env env' differ p (Some t) = ap (λ f. f ∷ []) (
     ap (λ (e : Environment). bare_file (file_of e p t)) (differ p t)
@@ -47,12 +63,16 @@ at-path env env' differ p (Some t) = ap (λ f. f ∷ []) (
 
 pub customs_are_options : CustomsAreOptions
 customs_are_options trees env env' paths differ =
-    all-alike bare_file (λ (p : Text). map (described_at env p) (option_to_list (trees p))) (λ (p : Text). map (described_at env' p) (option_to_list (trees p))) (λ (p : Text). at-path env env' differ p (trees p)) paths
+    all-alike bare_file (λ (p : Text). map (described_at env p) (option_to_list (trees p)))
+    (λ (p : Text). map (described_at env' p) (option_to_list (trees p)))
+    (λ (p : Text). at-path env env' differ p (trees p)) paths
 
 pub customs_make_no_difference : CustomsMakeNoDifference
 customs_make_no_difference trees env env' reached seen differ =
     let reach = customs_are_options trees env env' reached differ in
     let sight = customs_are_options trees env env' seen differ in (
-      reading_ignores_options (descriptors_at trees env reached) (descriptors_at trees env' reached) reach,
-      customs_ignore_options (descriptors_at trees env reached) (descriptors_at trees env' reached) (descriptors_at trees env seen) (descriptors_at trees env' seen) reach sight,
+      reading_ignores_options (descriptors_at trees env reached)
+          (descriptors_at trees env' reached) reach,
+      customs_ignore_options (descriptors_at trees env reached) (descriptors_at trees env' reached)
+          (descriptors_at trees env seen) (descriptors_at trees env' seen) reach sight,
     )

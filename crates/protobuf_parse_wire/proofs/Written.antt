@@ -1,5 +1,6 @@
 -- Writing at the end, part by part.
-use Rattle.std.proofs.Common.{◌≡◌, ℕ, ◌+◌, ◌*◌, ◌/◌, ◌%◌, ◌<◌, ◌≤◌, List, [], ◌∷◌, ◌++◌, sym, ap, subst, ◌∙◌, append_assoc}
+use Rattle.std.proofs.Common.{◌≡◌, ℕ, ◌+◌, ◌*◌, ◌/◌, ◌%◌, ◌<◌, ◌≤◌, List, [], ◌∷◌, ◌++◌, sym, ap}
+use Rattle.std.proofs.Common.{subst, ◌∙◌, append_assoc}
 use Rattle.std.proofs.lemmas.List.{append-nil}
 use Rattle.protobuf_parse_wire.specs.declared.kind.Kind.{Kind}
 use Rattle.protobuf_parse_wire.specs.Trees.{EntryTree, Entries, no_entries, entry}
@@ -11,27 +12,43 @@ use Rattle.protobuf_parse_wire.proofs.Appending.{longer, last}
 use Rattle.protobuf_parse_wire.proofs.Encoded.{varint_unique, varint_says}
 
 -- one more byte
-pub more : (n r byte : ℕ) (old out : List ℕ) → 128 ≤ r → byte ≡ r % 128 + 128 → out ++ varint_of r ≡ old ++ varint_of n → (out ++ byte ∷ []) ++ varint_of (r / 128) ≡ old ++ varint_of n
+pub more : (n r byte : ℕ) (old out : List ℕ) → 128 ≤ r → byte ≡ r % 128 + 128
+    → out ++ varint_of r ≡ old ++ varint_of n
+    → (out ++ byte ∷ []) ++ varint_of (r / 128) ≡ old ++ varint_of n
 more n r byte old out many is so_far =
-    let next : byte ∷ varint_of (r / 128) ≡ varint_of r = varint_unique (byte ∷ varint_of (r / 128)) r (longer byte r (varint_of (r / 128)) many is (varint_says (r / 128))) in
-    append_assoc out (byte ∷ []) (varint_of (r / 128)) ∙ ap (λ (xs : List ℕ). out ++ xs) next ∙ so_far
+    let next : byte ∷ varint_of (r / 128)
+    ≡ varint_of r = varint_unique (byte ∷ varint_of (r / 128)) r
+    (longer byte r (varint_of (r / 128)) many is (varint_says (r / 128))) in
+    append_assoc out (byte ∷ []) (varint_of (r / 128)) ∙ ap (λ (xs : List ℕ). out ++ xs) next
+    ∙ so_far
 
 -- the last byte
-pub ended : (n r byte : ℕ) (old out : List ℕ) → r < 128 → byte ≡ r → out ++ varint_of r ≡ old ++ varint_of n → out ++ byte ∷ [] ≡ old ++ varint_of n
-ended n r byte old out few is so_far = ap (λ (xs : List ℕ). out ++ xs) (varint_unique (byte ∷ []) r (subst (λ (b : ℕ). IsVarint (b ∷ []) r) (sym is) (last r few))) ∙ so_far
+pub ended : (n r byte : ℕ) (old out : List ℕ) → r < 128 → byte ≡ r
+    → out ++ varint_of r ≡ old ++ varint_of n → out ++ byte ∷ [] ≡ old ++ varint_of n
+ended n r byte old out few is so_far =
+    ap (λ (xs : List ℕ). out ++ xs)
+    (varint_unique (byte ∷ []) r (subst (λ (b : ℕ). IsVarint (b ∷ []) r) (sym is) (last r few)))
+    ∙ so_far
 
 -- what is left can be written, and its bytes complete the list
 pub record Completes (left full : Entries) (old out : List ℕ) : Type 0 where
   pub writable : AreWritable left
   pub so_far : out ++ encoded left ≡ old ++ encoded full
 
-pub goes_on : (t n : ℕ) (k : Kind) (v : EntryTree) (rest full : Entries) (old out mid new : List ℕ) → Completes (entry n k v rest) full old out → t ≡ n * 8 + wire_type (shape k) → mid ≡ out ++ varint_of t → new ≡ mid ++ payload (shape k) v → Completes rest full old new
+pub goes_on : (t n : ℕ) (k : Kind) (v : EntryTree) (rest full : Entries) (old out mid new : List ℕ)
+    → Completes (entry n k v rest) full old out → t ≡ n * 8 + wire_type (shape k)
+    → mid ≡ out ++ varint_of t → new ≡ mid ++ payload (shape k) v → Completes rest full old new
 goes_on t n k v rest full old out mid new c is tag inside =
     let first = varint_of (n * 8 + wire_type (shape k)) in
     let second = payload (shape k) v in
-    let parts : new ≡ (out ++ first) ++ second = inside ∙ ap (λ (x : List ℕ). x ++ second) (tag ∙ ap (λ (u : ℕ). out ++ varint_of u) is) in
-    let together : new ++ encoded rest ≡ out ++ (first ++ (second ++ encoded rest)) = ap (λ (x : List ℕ). x ++ encoded rest) parts ∙ append_assoc (out ++ first) second (encoded rest) ∙ append_assoc out first (second ++ encoded rest) in
+    let parts : new ≡ (out ++ first) ++ second = inside
+    ∙ ap (λ (x : List ℕ). x ++ second) (tag ∙ ap (λ (u : ℕ). out ++ varint_of u) is) in
+    let together : new ++ encoded rest ≡ out
+    ++ (first ++ (second ++ encoded rest)) = ap (λ (x : List ℕ). x ++ encoded rest) parts
+    ∙ append_assoc (out ++ first) second (encoded rest)
+    ∙ append_assoc out first (second ++ encoded rest) in
     record { writable = c.writable.1; so_far = together ∙ c.so_far }
 
-pub is_done : (full : Entries) (old out : List ℕ) → Completes no_entries full old out → out ≡ old ++ encoded full
+pub is_done : (full : Entries) (old out : List ℕ) → Completes no_entries full old out
+    → out ≡ old ++ encoded full
 is_done full old out c = sym (append-nil out) ∙ c.so_far

@@ -3,7 +3,8 @@ use Rattle.std.specs.Prelude.{◌≡◌, ◌<◌, List, length, Some}
 use Rattle.protobuf_parse_syntax.specs.Trees.{FileSyntax, package_of}
 use Rattle.protobuf_parse_model.specs.Descriptors.{Text, FieldDescriptor}
 use Rattle.protobuf_parse_model.specs.Faults.{Among}
-use Rattle.protobuf_parse_model.specs.Declarations.{Declared, DeclaredExtension, file_scope, file_extensions}
+use Rattle.protobuf_parse_model.specs.Declarations.{Declared, DeclaredExtension, file_scope}
+use Rattle.protobuf_parse_model.specs.Declarations.{file_extensions}
 use Rattle.protobuf_parse_model.specs.Environment.{Environment}
 use Rattle.protobuf_parse_model.specs.Fields.{field_statement_of}
 use Rattle.protobuf_parse_model.specs.Messages.{extending}
@@ -18,7 +19,8 @@ at_extension env e = record env { scope = e.what.scope }
 abbrev pub described : Environment → DeclaredExtension → Declared FieldDescriptor
 described env e = record {
   name = e.name;
-  what = field_statement_of (at_extension env e) (extending (at_extension env e) e.what.extendee) e.what.field;
+  what = field_statement_of (at_extension env e)
+      (extending (at_extension env e) e.what.extendee) e.what.field;
 }
 
 -- Each extension that the file's tree declares is one of its descriptor, by the same full name,
@@ -32,7 +34,8 @@ ExtensionsAreDescribed =
     → Among (declared_extensions (file_of env path t)) (described env e)
 
 -- The extension is that of one that the tree declares.
-pub record Comes (env : Environment) (es : List DeclaredExtension) (d : Declared FieldDescriptor) : Type 0 where
+pub record Comes (env : Environment) (es : List DeclaredExtension)
+    (d : Declared FieldDescriptor) : Type 0 where
   pub extension : DeclaredExtension
   pub among : Among es extension
   pub is : described env extension ≡ d

@@ -1,7 +1,8 @@
 -- What messages and enums of a name have.
 use Rattle.std.specs.Prelude.{List, [], ◌∷◌, map, flat_map, filter, bytes_eq, Option, Some, None}
 use Rattle.protobuf_parse_model.specs.Declarations.{Declared}
-use Rattle.protobuf_parse_model.specs.Descriptors.{Text, FieldDescriptor, EnumDescriptor, EnumValueDescriptor, MessageParts}
+use Rattle.protobuf_parse_model.specs.Descriptors.{Text, FieldDescriptor, EnumDescriptor}
+use Rattle.protobuf_parse_model.specs.Descriptors.{EnumValueDescriptor, MessageParts}
 
 abbrev pub first : {T : Type 0} → List T → Option T
 first [] = None
@@ -13,7 +14,8 @@ fields_in ps = flat_map (λ (parts : MessageParts). parts.field) ps
 
 -- what has the full name
 abbrev pub named : {T : Type 0} → Text → List (Declared T) → List T
-named {T = T} name ds = map (λ (d : Declared T). d.what) (filter (λ (d : Declared T). bytes_eq name d.name) ds)
+named {T = T} name ds =
+    map (λ (d : Declared T). d.what) (filter (λ (d : Declared T). bytes_eq name d.name) ds)
 
 -- the values of all of the enums
 abbrev pub values_in : List EnumDescriptor → List EnumValueDescriptor

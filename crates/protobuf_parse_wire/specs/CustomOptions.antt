@@ -7,8 +7,13 @@
 -- message with an entry for each field; for a map it is the message of one of its entries.
 -- Protocol Buffers Language Guide (proto2), "Custom Options"; Protocol Buffers Encoding,
 -- "Message Structure" (https://protobuf.dev).
-use Rattle.std.specs.Prelude.{◌≡◌, ℤ, nat_abs, List, [], ◌∷◌, ◌++◌, map, flat_map, unwrap_or, option_to_list}
-use Rattle.protobuf_parse_syntax.specs.Trees.{ConstantSyntax, integer, truth, dotted, string, list, fields, ConstantList, no_constants, more_constants, ConstantFieldList, no_fields, more_fields, OptionPartSyntax, OptionNameSyntax, builtin, custom, OptionSyntax, FileSyntax}
+use Rattle.std.specs.Prelude.{◌≡◌, ℤ, nat_abs, List, [], ◌∷◌, ◌++◌, map, flat_map, unwrap_or}
+use Rattle.std.specs.Prelude.{option_to_list}
+use Rattle.protobuf_parse_syntax.specs.Trees.{ConstantSyntax, integer, truth, dotted, string, list}
+use Rattle.protobuf_parse_syntax.specs.Trees.{fields, ConstantList, no_constants, more_constants}
+use Rattle.protobuf_parse_syntax.specs.Trees.{ConstantFieldList, no_fields, more_fields}
+use Rattle.protobuf_parse_syntax.specs.Trees.{OptionPartSyntax, OptionNameSyntax, builtin, custom}
+use Rattle.protobuf_parse_syntax.specs.Trees.{OptionSyntax, FileSyntax}
 use Rattle.protobuf_parse_syntax.specs.Decoder.{decode}
 use Rattle.protobuf_parse_model.specs.Descriptors.{Text, FieldDescriptor, FileDescriptor}
 use Rattle.protobuf_parse_model.specs.Faults.{Among}
@@ -22,11 +27,13 @@ use Rattle.protobuf_parse_wire.specs.Trees as trees
 use Rattle.protobuf_parse_wire.specs.Trees.{EntryTree, Entries}
 use Rattle.protobuf_parse_wire.specs.Views.{Item, entries_of_list}
 use Rattle.protobuf_parse_wire.specs.Wire.{Spells}
-use Rattle.protobuf_parse_wire.specs.OptionFields.{OptionScope, options_message, number_of_value, part_field, constant_field, type_name_of}
+use Rattle.protobuf_parse_wire.specs.OptionFields.{OptionScope, options_message, number_of_value}
+use Rattle.protobuf_parse_wire.specs.OptionFields.{part_field, constant_field, type_name_of}
 
 -- the value under the number and the kind of the field
 abbrev pub item : FieldDescriptor → EntryTree → List Item
-item f value = map (λ (k : Kind). record { number = nat_abs f.number; kind = k; value = value }) (option_to_list (kind_of f.type_))
+item f value = map (λ (k : Kind). record { number = nat_abs f.number; kind = k; value = value })
+    (option_to_list (kind_of f.type_))
 
 abbrev pub message_item : FieldDescriptor → List Item → List Item
 message_item f inside = item f (trees.message (entries_of_list inside))
@@ -37,7 +44,8 @@ abbrev mutual
   value_items at f (integer z) = item f (trees.number z)
   value_items at f (truth b) = item f (trees.truth b)
   value_items at f (dotted name) =
-      flat_map (λ (z : ℤ). item f (trees.number z)) (option_to_list (number_of_value at.files (type_name_of f) name))
+      flat_map (λ (z : ℤ). item f (trees.number z))
+      (option_to_list (number_of_value at.files (type_name_of f) name))
   value_items at f (string pieces) = item f (trees.bytes (unwrap_or (decode pieces) []))
   value_items at f (list cs) = list_items at f cs
   value_items at f (fields fs) = message_item f (field_items at (type_name_of f) fs)
@@ -50,15 +58,20 @@ abbrev mutual
   pub field_items : OptionScope → Text → ConstantFieldList → List Item
   field_items at message no_fields = []
   field_items at message (more_fields name c fs) =
-      flat_map (λ (g : FieldDescriptor). value_items at g c) (option_to_list (constant_field at message name))
+      flat_map (λ (g : FieldDescriptor). value_items at g c)
+      (option_to_list (constant_field at message name))
       ++ field_items at message fs
 
 -- what a constant gives to the field that the parts lead to, from the message on
 abbrev pub path_items : OptionScope → ConstantSyntax → Text → List OptionPartSyntax → List Item
 path_items at value message [] = []
 path_items at value message (p ∷ []) =
-    flat_map (λ (g : FieldDescriptor). value_items at g value) (option_to_list (part_field at message p))
-path_items at value message (p ∷ q ∷ ps) = flat_map (λ (g : FieldDescriptor). message_item g (path_items at value (type_name_of g) (q ∷ ps))) (option_to_list (part_field at message p))
+    flat_map (λ (g : FieldDescriptor). value_items at g value)
+    (option_to_list (part_field at message p))
+path_items at value message (p ∷ q ∷ ps) =
+    flat_map
+    (λ (g : FieldDescriptor). message_item g (path_items at value (type_name_of g) (q ∷ ps)))
+    (option_to_list (part_field at message p))
 
 abbrev pub named_items : OptionScope → Text → ConstantSyntax → OptionNameSyntax → List Item
 named_items at message value (builtin name) = []
@@ -87,7 +100,8 @@ SpellsOptions files visible t spelled =
 -- The descriptor is that of the file known by the path, with its custom options, where the file
 -- sees the trees `seen`, and the descriptors of these are `visible`, those of all files that it
 -- reaches `files`.
-pub record IsElaborated (seen : List FileSyntax) (files visible : List FileDescriptor) (path : Text) (t : FileSyntax) (d : FileDescriptor) : Type 0 where
+pub record IsElaborated (seen : List FileSyntax) (files visible : List FileDescriptor) (path : Text)
+    (t : FileSyntax) (d : FileDescriptor) : Type 0 where
   pub spelled : CustomBytes
   pub spells : SpellsOptions files visible t spelled
   pub is : d ≡ file_of (environment seen (spelled_so spelled) t) path t

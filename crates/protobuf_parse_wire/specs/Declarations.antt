@@ -1,12 +1,17 @@
--- The messages and the extensions that files declare, and what the numbers in a message's records name.
--- Protocol Buffers Language Guide (proto2), "Nested Types", "Packages", "Extensions" (https://protobuf.dev).
-use Rattle.std.specs.Prelude.{ℕ, pos, Bool, true, false, ◌&&◌, List, [], ◌∷◌, ◌++◌, map, filter, find, Option, Some, None, not}
+-- The messages and the extensions that files declare, and what the numbers in a message's records
+-- name. Protocol Buffers Language Guide (proto2), "Nested Types", "Packages", "Extensions"
+-- (https://protobuf.dev).
+use Rattle.std.specs.Prelude.{ℕ, pos, Bool, true, false, ◌&&◌, List, [], ◌∷◌, ◌++◌, map, filter}
+use Rattle.std.specs.Prelude.{find, Option, Some, None, not}
 use Rattle.std.specs.List.{flat_map, list_any}
 use Rattle.std.specs.Option.{option_map_or}
 use Rattle.std.specs.Ordering.{int_eq}
 use Rattle.std.specs.Str.{bytes_eq}
 use Rattle.protobuf_parse_model.specs.Declarations.{Declared}
-use Rattle.protobuf_parse_model.specs.Descriptors.{Text, FileDescriptor, FieldDescriptor, MessageParts, MessageDescriptor, MessageDescriptors, a_message, no_messages, messages}
+use Rattle.protobuf_parse_model.specs.Descriptors.{Text, FileDescriptor, FieldDescriptor}
+use Rattle.protobuf_parse_model.specs.Descriptors.{MessageParts, MessageDescriptor}
+use Rattle.protobuf_parse_model.specs.Descriptors.{MessageDescriptors, a_message, no_messages}
+use Rattle.protobuf_parse_model.specs.Descriptors.{messages}
 
 -- a message by its full name
 pub record Declaration : Type 0 where
@@ -20,7 +25,9 @@ within scope name = scope ++ (46 ∷ name)
 abbrev mutual
   -- the message and those inside it
   pub declared_message : Text → MessageDescriptor → List Declaration
-  declared_message scope (a_message parts nested) = record { name = within scope parts.name; parts = parts } ∷ declared_messages (within scope parts.name) nested
+  declared_message scope (a_message parts nested) =
+      record { name = within scope parts.name; parts = parts }
+      ∷ declared_messages (within scope parts.name) nested
 
   pub declared_messages : Text → MessageDescriptors → List Declaration
   declared_messages scope no_messages = []
@@ -70,4 +77,6 @@ field_numbered fields number = find (λ field. int_eq (pos number) field.number)
 -- whether no two of the fields have one number
 abbrev pub have_distinct_numbers : List FieldDescriptor → Bool
 have_distinct_numbers [] = true
-have_distinct_numbers (field ∷ fields) = not (list_any (λ other. int_eq field.number other.number) fields) && have_distinct_numbers fields
+have_distinct_numbers (field ∷ fields) =
+    not (list_any (λ other. int_eq field.number other.number) fields)
+    && have_distinct_numbers fields

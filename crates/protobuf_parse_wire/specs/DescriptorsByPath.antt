@@ -1,4 +1,5 @@
--- Files by their paths: the descriptors of lists of some of them, and what custom options mean there.
+-- Files by their paths: the descriptors of lists of some of them, and what custom options mean
+-- there.
 --
 -- Custom options are defined over two lists, of the files that are reached and of those that are
 -- seen. Their order makes no difference, where no full name is declared twice in what is reached.

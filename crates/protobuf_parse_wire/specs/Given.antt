@@ -7,7 +7,8 @@ use Rattle.protobuf_parse_model.specs.Descriptors.{Text, FieldDescriptor}
 use Rattle.protobuf_parse_model.specs.Environment.{part_text}
 use Rattle.protobuf_parse_model.specs.Faults.{Fault}
 use Rattle.protobuf_parse_wire.specs.declared.customs.fields.OptionPlace.{OptionPlace}
-use Rattle.protobuf_parse_wire.specs.CustomFaults.{constant_name_faults, number_faults, path_faults, step_faults, value_faults}
+use Rattle.protobuf_parse_wire.specs.CustomFaults.{constant_name_faults, number_faults, path_faults}
+use Rattle.protobuf_parse_wire.specs.CustomFaults.{step_faults, value_faults}
 use Rattle.protobuf_parse_wire.specs.CustomOptions.{message_item, path_items, value_items}
 use Rattle.protobuf_parse_wire.specs.Holding.{files_seen}
 use Rattle.protobuf_parse_wire.specs.OptionFields.{OptionScope, constant_field, takes, type_name_of}

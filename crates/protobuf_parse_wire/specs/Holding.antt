@@ -1,5 +1,7 @@
 -- What the index of a run holds: the places of what files declare, by full name.
-use Rattle.std.specs.Prelude.{◌≡◌, ℕ, suc, List, [], ◌∷◌, ◌++◌, map, flat_map, filter, bytes_eq, nat_eq, String, string_bytes, Option, Some, None, option_map, option_to_list, slice_get, if◌then◌else◌}
+use Rattle.std.specs.Prelude.{◌≡◌, ℕ, suc, List, [], ◌∷◌, ◌++◌, map, flat_map, filter, bytes_eq}
+use Rattle.std.specs.Prelude.{nat_eq, String, string_bytes, Option, Some, None, option_map}
+use Rattle.std.specs.Prelude.{option_to_list, slice_get, if◌then◌else◌}
 use Rattle.std.specs.List.{AllByRecursion}
 use Rattle.std.specs.Borrow.{Bor}
 use Rattle.std.specs.Global.{Global, Vec}
@@ -8,7 +10,9 @@ use Rattle.protobuf_parse_model.specs.declared.descriptor.DescriptorProto.{Descr
 use Rattle.protobuf_parse_model.specs.declared.descriptor.EnumDescriptorProto.{EnumDescriptorProto}
 use Rattle.protobuf_parse_model.specs.declared.descriptor.FieldDescriptorProto.{FieldDescriptorProto}
 use Rattle.protobuf_parse_model.specs.declared.descriptor.FileDescriptorProto.{FileDescriptorProto}
-use Rattle.protobuf_parse_model.specs.Descriptors.{Text, FileDescriptor, FieldDescriptor, EnumDescriptor, MessageDescriptor, message_view, enum_view, field_view, file_view}
+use Rattle.protobuf_parse_model.specs.Descriptors.{Text, FileDescriptor, FieldDescriptor}
+use Rattle.protobuf_parse_model.specs.Descriptors.{EnumDescriptor, MessageDescriptor, message_view}
+use Rattle.protobuf_parse_model.specs.Descriptors.{enum_view, field_view, file_view}
 use Rattle.protobuf_parse_wire.specs.declared.customs.known.Known.{Known}
 use Rattle.protobuf_parse_wire.specs.declared.customs.members.Members.{Members}
 use Rattle.protobuf_parse_wire.specs.declared.customs.picked_files.PickedFiles.{PickedFiles}
@@ -17,7 +21,8 @@ use Rattle.protobuf_parse_wire.specs.declared.customs.places.DeclaredPlaces.{Dec
 use Rattle.protobuf_parse_wire.specs.Groups.{group}
 use Rattle.protobuf_parse_wire.specs.Known.{field_seen}
 use Rattle.protobuf_parse_wire.specs.OptionFields.{declared_enums}
-use Rattle.protobuf_parse_wire.specs.Places.{Inside, Placed, down, inside_file, one_of, placed_enums, placed_extensions, placed_messages}
+use Rattle.protobuf_parse_wire.specs.Places.{Inside, Placed, down, inside_file, one_of}
+use Rattle.protobuf_parse_wire.specs.Places.{placed_enums, placed_extensions, placed_messages}
 use Rattle.protobuf_parse_wire.specs.SmallValues.{HaveSmall}
 
 -- a place in the file with a number
@@ -57,7 +62,8 @@ messages_placed ks = map (placed_known message_seen) ks
 abbrev pub enums_placed : List (Known (Bor EnumDescriptorProto)) → List (Placed EnumDescriptor)
 enums_placed ks = map (placed_known enum_seen) ks
 
-abbrev pub extensions_placed : List (Known (Bor FieldDescriptorProto)) → List (Placed FieldDescriptor)
+abbrev pub extensions_placed : List (Known (Bor FieldDescriptorProto))
+    → List (Placed FieldDescriptor)
 extensions_placed ks = map (placed_known field_seen) ks
 
 -- ---- under names
@@ -84,15 +90,18 @@ spots_of listed name n [] = []
 spots_of listed name n (f ∷ fs) = spots_in n name (listed f) ++ spots_of listed name (suc n) fs
 
 -- these places were added behind the others of each name
-abbrev pub AddsSpots : (old new : BTreeMap (String Global) (Vec Place)) → (Text → List Spot) → Type 0
+abbrev pub AddsSpots : (old new : BTreeMap (String Global) (Vec Place)) → (Text → List Spot)
+    → Type 0
 AddsSpots old new added = (name : Text) → spots_under new name ≡ spots_under old name ++ added name
 
--- The index has the places of what the files declare, in their order. The numbers of enums' values have
--- 32 bits.
+-- The index has the places of what the files declare, in their order. The numbers of enums' values
+-- have 32 bits.
 pub record Holds (places : DeclaredPlaces) (files : List FileDescriptor) : Type 0 where
-  pub messages : (name : Text) → spots_under places.messages name ≡ spots_of placed_messages name 0 files
+  pub messages : (name : Text)
+      → spots_under places.messages name ≡ spots_of placed_messages name 0 files
   pub enums : (name : Text) → spots_under places.enums name ≡ spots_of placed_enums name 0 files
-  pub extensions : (name : Text) → spots_under places.extensions name ≡ spots_of placed_extensions name 0 files
+  pub extensions : (name : Text)
+      → spots_under places.extensions name ≡ spots_of placed_extensions name 0 files
   pub small : AllByRecursion (λ f. HaveSmall (declared_enums f)) files
 
 -- ---- the files that are picked

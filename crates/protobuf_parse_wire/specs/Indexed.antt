@@ -1,17 +1,22 @@
--- What the reader's indexes say: by name the messages and the extensions of files, by number the fields of a message.
-use Rattle.std.specs.Prelude.{◌≡◌, ℕ, ◌^◌, ◌≤◌, nat_lt, if◌then◌else◌, ℤ, pos, true, List, ◌++◌, map, filter, find, Option, Some, None, Ok, Err, option_map, IfSome}
+-- What the reader's indexes say: by name the messages and the extensions of files, by number the
+-- fields of a message.
+use Rattle.std.specs.Prelude.{◌≡◌, ℕ, ◌^◌, ◌≤◌, nat_lt, if◌then◌else◌, ℤ, pos, true, List, ◌++◌}
+use Rattle.std.specs.Prelude.{map, filter, find, Option, Some, None, Ok, Err, option_map, IfSome}
 use Rattle.std.specs.Ordering.{int_cmp, int_eq}
 use Rattle.std.specs.List.{flat_map}
 use Rattle.std.specs.Borrow.{Bor}
 use Rattle.std.specs.BTreeMap.{BTreeMap, get, get_by_text}
 use Rattle.protobuf_parse_model.specs.declared.descriptor.DescriptorProto.{DescriptorProto}
 use Rattle.protobuf_parse_model.specs.declared.descriptor.FieldDescriptorProto.{FieldDescriptorProto}
-use Rattle.protobuf_parse_model.specs.Descriptors.{Text, FileDescriptor, FieldDescriptor, MessageParts, MessageDescriptor, a_message, message_view, field_view}
+use Rattle.protobuf_parse_model.specs.Descriptors.{Text, FileDescriptor, FieldDescriptor}
+use Rattle.protobuf_parse_model.specs.Descriptors.{MessageParts, MessageDescriptor, a_message}
+use Rattle.protobuf_parse_model.specs.Descriptors.{message_view, field_view}
 use Rattle.protobuf_parse_wire.specs.declared.fault.ReadFault.TheVariants.{UnknownMessage}
 use Rattle.protobuf_parse_wire.specs.declared.reader.index.Index.{Index}
 use Rattle.protobuf_parse_wire.specs.declared.reader.visited.Visited.{Visited}
 use Rattle.protobuf_parse_wire.specs.Groups.{group}
-use Rattle.protobuf_parse_wire.specs.Declarations.{Declaration, messages_named, messages_of, extends, extensions_of, have_distinct_numbers}
+use Rattle.protobuf_parse_wire.specs.Declarations.{Declaration, messages_named, messages_of}
+use Rattle.protobuf_parse_wire.specs.Declarations.{extends, extensions_of, have_distinct_numbers}
 use Rattle.protobuf_parse_wire.specs.Reading.{Read, Numbers, only_one}
 
 -- a message without those inside it
@@ -20,10 +25,12 @@ parts_seen (a_message parts nested) = parts
 
 -- what the index has under a name
 abbrev pub messages_in : Index → Text → List MessageParts
-messages_in index name = map (λ (m : Bor DescriptorProto). parts_seen (message_view m.now)) (group index.messages name)
+messages_in index name =
+    map (λ (m : Bor DescriptorProto). parts_seen (message_view m.now)) (group index.messages name)
 
 abbrev pub extensions_in : Index → Text → List FieldDescriptor
-extensions_in index name = map (λ (f : Bor FieldDescriptorProto). field_view f.now) (group index.extensions name)
+extensions_in index name =
+    map (λ (f : Bor FieldDescriptorProto). field_view f.now) (group index.extensions name)
 
 -- entering a message by the index
 abbrev pub entered_by : Index → Option Text → Read Numbers
@@ -32,8 +39,10 @@ entered_by index (Some name) = only_one (messages_in index name) (extensions_in 
 
 -- The index has these messages and these extensions in addition, behind what it had.
 pub record Adds (old new : Index) (ds : List Declaration) (es : List FieldDescriptor) : Type 0 where
-  pub messages : (name : Text) → messages_in new name ≡ messages_in old name ++ messages_named name ds
-  pub extensions : (name : Text) → extensions_in new name ≡ extensions_in old name ++ filter (extends name) es
+  pub messages : (name : Text)
+      → messages_in new name ≡ messages_in old name ++ messages_named name ds
+  pub extensions : (name : Text)
+      → extensions_in new name ≡ extensions_in old name ++ filter (extends name) es
 
 -- these messages, with the extensions inside them
 abbrev pub AddsMessages : Index → Index → List Declaration → Type 0
@@ -46,11 +55,17 @@ pub record Indexes (files : List FileDescriptor) (index : Index) : Type 0 where
 
 -- which field each number names by a map, whose keys are numbers of 31 bits and a sign
 abbrev pub numbered : BTreeMap ℤ (Bor FieldDescriptorProto) → Numbers
-numbered fields n = if nat_lt n (2 ^ 31) then option_map (λ (f : Bor FieldDescriptorProto). field_view f.now) (get int_cmp fields (pos n)) else None
+numbered fields n = if nat_lt n (2 ^ 31)
+    then option_map (λ (f : Bor FieldDescriptorProto). field_view f.now)
+    (get int_cmp fields (pos n)) else None
 
--- The map has the fields by their numbers, which are distinct, and none has a number of more than 31 bits.
-pub record IsByNumber (by_numbers : BTreeMap ℤ (Bor FieldDescriptorProto)) (fields : List FieldDescriptor) : Type 0 where
-  pub found : (n : ℤ) → option_map (λ (f : Bor FieldDescriptorProto). field_view f.now) (get int_cmp by_numbers n) ≡ find (λ f. int_eq n f.number) fields
+-- The map has the fields by their numbers, which are distinct, and none has a number of more than
+-- 31 bits.
+pub record IsByNumber (by_numbers : BTreeMap ℤ (Bor FieldDescriptorProto))
+    (fields : List FieldDescriptor) : Type 0 where
+  pub found : (n : ℤ)
+      → option_map (λ (f : Bor FieldDescriptorProto). field_view f.now) (get int_cmp by_numbers n)
+      ≡ find (λ f. int_eq n f.number) fields
   pub small : (n : ℕ) → 2 ^ 31 ≤ n → find (λ f. int_eq (pos n) f.number) fields ≡ None
   pub distinct : have_distinct_numbers fields ≡ true
 

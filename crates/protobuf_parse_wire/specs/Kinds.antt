@@ -1,6 +1,8 @@
--- How each kind of value stands on the wire: the table of Protocol Buffers Encoding, "Message Structure",
--- "More Integer Types" and "Condensed Reference Card" (https://protobuf.dev/programming-guides/encoding/).
-use Rattle.std.specs.Prelude.{ℕ, ℤ, pos, negsuc, nat_lt, ◌^◌, Bool, false, Option, Some, None, IsTrue}
+-- How each kind of value stands on the wire: the table of Protocol Buffers Encoding, "Message
+-- Structure", "More Integer Types" and "Condensed Reference Card"
+-- (https://protobuf.dev/programming-guides/encoding/).
+use Rattle.std.specs.Prelude.{ℕ, ℤ, pos, negsuc, nat_lt, ◌^◌, Bool, false, Option, Some, None}
+use Rattle.std.specs.Prelude.{IsTrue}
 use Rattle.std.specs.Int.{w32, w64}
 use mir.Syntax.{Width}
 use mir.Val.{bits, hbits}

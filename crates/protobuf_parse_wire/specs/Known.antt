@@ -1,11 +1,14 @@
 -- What the code holds of the files' descriptors: references to them, and to what they declare.
-use Rattle.std.specs.Prelude.{ℤ, List, [], flat_map, string_bytes, bytes_eq, Option, option_map, if◌then◌else◌}
+use Rattle.std.specs.Prelude.{ℤ, List, [], flat_map, string_bytes, bytes_eq, Option, option_map}
+use Rattle.std.specs.Prelude.{if◌then◌else◌}
 use Rattle.std.specs.List.{find}
 use Rattle.std.specs.Borrow.{Bor}
 use Rattle.protobuf_parse_model.specs.declared.descriptor.EnumDescriptorProto.{EnumDescriptorProto}
 use Rattle.protobuf_parse_model.specs.declared.descriptor.FieldDescriptorProto.{FieldDescriptorProto}
 use Rattle.protobuf_parse_model.specs.Declarations.{Declared}
-use Rattle.protobuf_parse_model.specs.Descriptors.{Text, FieldDescriptor, EnumDescriptor, EnumValueDescriptor, MessageParts, enum_view, field_view}
+use Rattle.protobuf_parse_model.specs.Descriptors.{Text, FieldDescriptor, EnumDescriptor}
+use Rattle.protobuf_parse_model.specs.Descriptors.{EnumValueDescriptor, MessageParts, enum_view}
+use Rattle.protobuf_parse_model.specs.Descriptors.{field_view}
 use Rattle.protobuf_parse_wire.specs.declared.customs.known.Known.{Known}
 use Rattle.protobuf_parse_wire.specs.Declarations.{Declaration, messages_named}
 

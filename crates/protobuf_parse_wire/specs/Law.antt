@@ -1,13 +1,18 @@
 -- What is spelled is read: the law between what bytes spell and the reader.
-use Rattle.std.specs.Prelude.{◌≡◌, ℕ, pos, ◌+◌, ◌<◌, ◌≤◌, ◌^◌, max, List, [], ◌∷◌, ◌++◌, length, Contains, Some, Ok, IsTrue}
+use Rattle.std.specs.Prelude.{◌≡◌, ℕ, pos, ◌+◌, ◌<◌, ◌≤◌, ◌^◌, max, List, [], ◌∷◌, ◌++◌, length}
+use Rattle.std.specs.Prelude.{Contains, Some, Ok, IsTrue}
 use Rattle.std.specs.Str.{IsUtf8}
-use Rattle.protobuf_parse_model.specs.Descriptors.{Text, FileDescriptor, FieldDescriptor, MessageParts}
+use Rattle.protobuf_parse_model.specs.Descriptors.{Text, FileDescriptor, FieldDescriptor}
+use Rattle.protobuf_parse_model.specs.Descriptors.{MessageParts}
 use Rattle.protobuf_parse_wire.specs.declared.kind.Kind.{Kind}
-use Rattle.protobuf_parse_wire.specs.Kinds.{Shape, InRange, whole, truth, text, octets, message, shape, kind_of}
+use Rattle.protobuf_parse_wire.specs.Kinds.{Shape, InRange, whole, truth, text, octets, message}
+use Rattle.protobuf_parse_wire.specs.Kinds.{shape, kind_of}
 use Rattle.protobuf_parse_wire.specs.Trees as trees
-use Rattle.protobuf_parse_wire.specs.Trees.{EntryTree, Entries, ValueTree, Field, fields_of_list, no_entries, entry}
+use Rattle.protobuf_parse_wire.specs.Trees.{EntryTree, Entries, ValueTree, Field, fields_of_list}
+use Rattle.protobuf_parse_wire.specs.Trees.{no_entries, entry}
 use Rattle.protobuf_parse_wire.specs.Wire.{Spells}
-use Rattle.protobuf_parse_wire.specs.Declarations.{messages_of, extensions_of, have_distinct_numbers}
+use Rattle.protobuf_parse_wire.specs.Declarations.{messages_of, extensions_of}
+use Rattle.protobuf_parse_wire.specs.Declarations.{have_distinct_numbers}
 use Rattle.protobuf_parse_wire.specs.Reading.{reader}
 
 abbrev mutual
@@ -42,15 +47,19 @@ IsText (whole word w code) bs = Unit {0}
 IsText truth bs = Unit {0}
 IsText message bs = Unit {0}
 
--- The message is declared exactly once, no two of its fields and extensions have one number, and P holds of them.
-pub record Enters (files : List FileDescriptor) (name : Text) (P : List FieldDescriptor → Type 0) : Type 0 where
+-- The message is declared exactly once, no two of its fields and extensions have one number, and P
+-- holds of them.
+pub record Enters (files : List FileDescriptor) (name : Text)
+    (P : List FieldDescriptor → Type 0) : Type 0 where
   pub parts : MessageParts
   pub once : messages_of files name ≡ parts ∷ []
   pub distinct : IsTrue (have_distinct_numbers (parts.field ++ extensions_of files name))
   pub inside : P (parts.field ++ extensions_of files name)
 
--- The field is one of the fields, with the number and the kind. A descriptor's number has at most 31 bits.
-pub record IsField (fields : List FieldDescriptor) (n : ℕ) (k : Kind) (f : FieldDescriptor) : Type 0 where
+-- The field is one of the fields, with the number and the kind. A descriptor's number has at most
+-- 31 bits.
+pub record IsField (fields : List FieldDescriptor) (n : ℕ) (k : Kind)
+    (f : FieldDescriptor) : Type 0 where
   pub declared : Contains fields f
   pub number : f.number ≡ pos n
   pub small : n < 2 ^ 31
@@ -60,16 +69,18 @@ abbrev mutual
   -- Each entry has the number and the kind of one of the fields, and a value of that kind.
   pub Suit : List FileDescriptor → List FieldDescriptor → Entries → Type 0
   Suit files fields no_entries = Unit {0}
-  Suit files fields (entry n k v others) = (f : FieldDescriptor) × IsField fields n k f × ValueSuits files f (shape k) v × Suit files fields others
+  Suit files fields (entry n k v others) = (f : FieldDescriptor) × IsField fields n k f
+      × ValueSuits files f (shape k) v × Suit files fields others
 
   pub ValueSuits : List FileDescriptor → FieldDescriptor → Shape → EntryTree → Type 0
   ValueSuits files f s (trees.number v) = InRange s v
   ValueSuits files f s (trees.truth b) = Unit {0}
   ValueSuits files f s (trees.bytes bs) = IsText s bs
-  ValueSuits files f s (trees.message es) = (name : Text) × (f.type_name ≡ Some name) × Enters files name (λ fields. Suit files fields es)
+  ValueSuits files f s (trees.message es) = (name : Text) × (f.type_name ≡ Some name)
+      × Enters files name (λ fields. Suit files fields es)
 
--- Bytes (fewer than 2 ^ 64, as every slice has) that spell a list which suits the descriptors, with at most 256 messages
--- inside one another, are read as the numbers and values of the list.
+-- Bytes (fewer than 2 ^ 64, as every slice has) that spell a list which suits the descriptors, with
+-- at most 256 messages inside one another, are read as the numbers and values of the list.
 abbrev pub SpelledIsRead : Type 0
 SpelledIsRead =
     (files : List FileDescriptor) (name : Text) (es : Entries) (bs : List ℕ)

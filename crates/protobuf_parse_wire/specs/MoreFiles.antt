@@ -9,10 +9,12 @@ use Rattle.protobuf_parse_model.specs.Declarations.{Scope, Declared}
 use Rattle.protobuf_parse_model.specs.FilesByPath.{Trees, trees_at}
 use Rattle.protobuf_parse_model.specs.Linking.{link_faults}
 use Rattle.protobuf_parse_model.specs.declared.customs.Construct.{Construct}
-use Rattle.protobuf_parse_wire.specs.OptionFields.{OptionScope, field_named, number_of_value, is_message, extension_meant}
+use Rattle.protobuf_parse_wire.specs.OptionFields.{OptionScope, field_named, number_of_value}
+use Rattle.protobuf_parse_wire.specs.OptionFields.{is_message, extension_meant}
 use Rattle.protobuf_parse_wire.specs.CustomOptions.{denotes}
 use Rattle.protobuf_parse_wire.specs.CustomFaults.{statement_faults}
-use Rattle.protobuf_parse_wire.specs.DescriptorsByPath.{Environments, descriptors_at, HasFileScopes, AreWithin}
+use Rattle.protobuf_parse_wire.specs.DescriptorsByPath.{Environments, descriptors_at, HasFileScopes}
+use Rattle.protobuf_parse_wire.specs.DescriptorsByPath.{AreWithin}
 
 -- What a name means from the first it means from the second; from there other names may mean
 -- something too.
@@ -32,7 +34,8 @@ pub record KeepsLookups (at at' : OptionScope) : Type 0 where
 
 -- Of the statements of a construct: nothing is wrong in them from the second, and from there they
 -- denote what they denote from the first.
-pub record KeepsMeaning (at at' : OptionScope) (construct : Construct) (os : List OptionSyntax) : Type 0 where
+pub record KeepsMeaning (at at' : OptionScope) (construct : Construct)
+    (os : List OptionSyntax) : Type 0 where
   pub faultless : statement_faults at' construct os ≡ []
   pub same : denotes at' construct os ≡ denotes at construct os
 
@@ -43,8 +46,10 @@ LookupsKeepMeaning =
     → (construct : Construct) (os : List OptionSyntax)
     → statement_faults at construct os ≡ [] → KeepsMeaning at at' construct os
 
--- what is seen from a scope in a file that sees the files `visible`, by the descriptors of the paths
-abbrev pub known_at : Trees → Environments → (paths : List Text) (visible : List FileDescriptor) → Scope → OptionScope
+-- what is seen from a scope in a file that sees the files `visible`, by the descriptors of the
+-- paths
+abbrev pub known_at : Trees → Environments → (paths : List Text) (visible : List FileDescriptor)
+    → Scope → OptionScope
 known_at trees env paths visible scope = record {
   files = descriptors_at trees env paths;
   visible = visible;
@@ -57,7 +62,8 @@ abbrev pub MoreFilesKeepMeaning : Type 0
 MoreFilesKeepMeaning =
     (trees : Trees) (env : Environments) (reached more : List Text)
     → HasFileScopes trees env → AreWithin reached more → link_faults (trees_at trees more) ≡ []
-    → (visible : List FileDescriptor) (scope : Scope) (construct : Construct) (os : List OptionSyntax)
+    → (visible : List FileDescriptor) (scope : Scope) (construct : Construct)
+    (os : List OptionSyntax)
     → (let at : OptionScope = known_at trees env reached visible scope in
     statement_faults at construct os ≡ []
     → KeepsMeaning at (known_at trees env more visible scope) construct os)

@@ -1,6 +1,9 @@
 -- How deep the messages stand in what custom options denote.
 use Rattle.std.specs.Prelude.{ℕ, suc, ◌≤◌, max, List, [], length}
-use Rattle.protobuf_parse_syntax.specs.Trees.{ConstantSyntax, list, fields, ConstantList, no_constants, more_constants, ConstantFieldList, no_fields, more_fields, OptionPartSyntax, OptionNameSyntax, builtin, custom, OptionSyntax}
+use Rattle.protobuf_parse_syntax.specs.Trees.{ConstantSyntax, list, fields, ConstantList}
+use Rattle.protobuf_parse_syntax.specs.Trees.{no_constants, more_constants, ConstantFieldList}
+use Rattle.protobuf_parse_syntax.specs.Trees.{no_fields, more_fields, OptionPartSyntax}
+use Rattle.protobuf_parse_syntax.specs.Trees.{OptionNameSyntax, builtin, custom, OptionSyntax}
 use Rattle.protobuf_parse_model.specs.Faults.{Among}
 use Rattle.protobuf_parse_model.specs.declared.customs.Construct.{Construct}
 use Rattle.protobuf_parse_wire.specs.Law.{depth}

@@ -6,19 +6,23 @@
 -- it, and one in brackets an extension, looked up in the same way. The messages and enums that a
 -- field's type names are those of the descriptors that declare them, in all files reached.
 -- Protocol Buffers Language Guide (proto2), "Custom Options" (https://protobuf.dev).
-use Rattle.std.specs.Prelude.{ℤ, Bool, ◌&&◌, List, [], ◌++◌, map, flat_map, codes, bytes_eq, Option, Some, None, unwrap_or, option_map, if◌then◌else◌}
+use Rattle.std.specs.Prelude.{ℤ, Bool, ◌&&◌, List, [], ◌++◌, map, flat_map, codes, bytes_eq, Option}
+use Rattle.std.specs.Prelude.{Some, None, unwrap_or, option_map, if◌then◌else◌}
 use Rattle.std.specs.List.{find, list_any}
-use Rattle.protobuf_parse_syntax.specs.Trees.{ConstantNameSyntax, regular_name, extension_name, url_name, OptionPartSyntax, direct, extension}
+use Rattle.protobuf_parse_syntax.specs.Trees.{ConstantNameSyntax, regular_name, extension_name}
+use Rattle.protobuf_parse_syntax.specs.Trees.{url_name, OptionPartSyntax, direct, extension}
 use Rattle.protobuf_parse_model.specs.declared.descriptor.FieldType.{FieldType}
 use Rattle.protobuf_parse_model.specs.declared.descriptor.FieldType.TheVariants as types
-use Rattle.protobuf_parse_model.specs.Descriptors.{Text, FieldDescriptor, EnumValueDescriptor, EnumDescriptor, MessageParts, FileDescriptor}
+use Rattle.protobuf_parse_model.specs.Descriptors.{Text, FieldDescriptor, EnumValueDescriptor}
+use Rattle.protobuf_parse_model.specs.Descriptors.{EnumDescriptor, MessageParts, FileDescriptor}
 use Rattle.protobuf_parse_model.specs.Declarations.{Scope, Declared}
 use Rattle.protobuf_parse_model.specs.Lookup.{meaning}
 use Rattle.protobuf_parse_model.specs.declared.customs.Construct.{Construct}
 use Rattle.protobuf_parse_model.specs.declared.customs.Construct.TheVariants as of
 use Rattle.protobuf_parse_wire.specs.declared.kind.Kind.{Kind}
 use Rattle.protobuf_parse_wire.specs.declared.kind.Kind.TheVariants as kinds
-use Rattle.protobuf_parse_wire.specs.Declarations.{Declaration, within, package_scope, declared_in, declared_extensions, messages_of, extends}
+use Rattle.protobuf_parse_wire.specs.Declarations.{Declaration, within, package_scope, declared_in}
+use Rattle.protobuf_parse_wire.specs.Declarations.{declared_extensions, messages_of, extends}
 
 -- ---- what files declare, by their descriptors
 
@@ -26,21 +30,28 @@ abbrev pub enum_in : Text → EnumDescriptor → Declared EnumDescriptor
 enum_in scope e = record { name = within scope e.name; what = e }
 
 abbrev pub declared_enums : FileDescriptor → List (Declared EnumDescriptor)
-declared_enums file = flat_map (λ (d : Declaration). map (enum_in d.name) d.parts.enum_type) (declared_in file) ++ map (enum_in (package_scope file.«package»)) file.enum_type
+declared_enums file = flat_map (λ (d : Declaration). map (enum_in d.name) d.parts.enum_type)
+    (declared_in file) ++ map (enum_in (package_scope file.«package»)) file.enum_type
 
 -- the fields of the message of that full name
 abbrev pub fields_of_message : List FileDescriptor → Text → List FieldDescriptor
-fields_of_message files message = flat_map (λ (parts : MessageParts). parts.field) (messages_of files message)
+fields_of_message files message =
+    flat_map (λ (parts : MessageParts). parts.field) (messages_of files message)
 
 abbrev pub field_named : List FileDescriptor → Text → Text → Option FieldDescriptor
-field_named files message name = find (λ (f : FieldDescriptor). bytes_eq f.name name) (fields_of_message files message)
+field_named files message name =
+    find (λ (f : FieldDescriptor). bytes_eq f.name name) (fields_of_message files message)
 
 -- the number of the value that has the name, in the enum of that full name
 abbrev pub values_in : List FileDescriptor → Text → List EnumValueDescriptor
-values_in files enum_name = flat_map (λ (e : Declared EnumDescriptor). if bytes_eq e.name enum_name then e.what.value else []) (flat_map declared_enums files)
+values_in files enum_name =
+    flat_map (λ (e : Declared EnumDescriptor). if bytes_eq e.name enum_name then e.what.value
+    else []) (flat_map declared_enums files)
 
 abbrev pub number_of_value : List FileDescriptor → Text → Text → Option ℤ
-number_of_value files enum_name name = option_map (λ (v : EnumValueDescriptor). v.number) (find (λ (v : EnumValueDescriptor). bytes_eq v.name name) (values_in files enum_name))
+number_of_value files enum_name name =
+    option_map (λ (v : EnumValueDescriptor). v.number)
+    (find (λ (v : EnumValueDescriptor). bytes_eq v.name name) (values_in files enum_name))
 
 -- ---- where options are set
 
@@ -76,7 +87,8 @@ abbrev pub extends_message : List FileDescriptor → Text → FieldDescriptor �
 extends_message files message f = extends message f && is_message files message
 
 -- the extension, if it extends the message
-abbrev pub if_extends : List FileDescriptor → Text → Option (Declared FieldDescriptor) → Option FieldDescriptor
+abbrev pub if_extends : List FileDescriptor → Text → Option (Declared FieldDescriptor)
+    → Option FieldDescriptor
 if_extends files message None = None
 if_extends files message (Some d) =
     if extends_message files message d.what then Some d.what else None

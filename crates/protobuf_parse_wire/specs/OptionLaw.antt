@@ -1,17 +1,21 @@
 -- What bytes of custom options are read as: the law between what statements denote and the reader.
-use Rattle.std.specs.Prelude.{◌≡◌, ℕ, ℤ, ◌<◌, ◌≤◌, ◌^◌, List, [], ◌∷◌, ◌++◌, length, Some, Ok, IsTrue}
+use Rattle.std.specs.Prelude.{◌≡◌, ℕ, ℤ, ◌<◌, ◌≤◌, ◌^◌, List, [], ◌∷◌, ◌++◌, length, Some, Ok}
+use Rattle.std.specs.Prelude.{IsTrue}
 use Rattle.std.specs.Int.{w32}
 use Rattle.std.specs.Int.RustNames.{FitsSigned}
 use Rattle.protobuf_parse_syntax.specs.Trees.{OptionSyntax}
 use Rattle.protobuf_parse_model.specs.declared.descriptor.FieldType.TheVariants as types
-use Rattle.protobuf_parse_model.specs.Descriptors.{Text, FileDescriptor, FieldDescriptor, MessageParts}
+use Rattle.protobuf_parse_model.specs.Descriptors.{Text, FileDescriptor, FieldDescriptor}
+use Rattle.protobuf_parse_model.specs.Descriptors.{MessageParts}
 use Rattle.protobuf_parse_model.specs.Faults.{Among}
 use Rattle.protobuf_parse_model.specs.declared.customs.Construct.{Construct}
 use Rattle.protobuf_parse_wire.specs.Wire.{Spells}
-use Rattle.protobuf_parse_wire.specs.Declarations.{messages_of, extensions_of, have_distinct_numbers}
+use Rattle.protobuf_parse_wire.specs.Declarations.{messages_of, extensions_of}
+use Rattle.protobuf_parse_wire.specs.Declarations.{have_distinct_numbers}
 use Rattle.protobuf_parse_wire.specs.Reading.{reader}
 use Rattle.protobuf_parse_wire.specs.Law.{said, depth}
-use Rattle.protobuf_parse_wire.specs.OptionFields.{OptionScope, options_message, fields_of_message, number_of_value}
+use Rattle.protobuf_parse_wire.specs.OptionFields.{OptionScope, options_message, fields_of_message}
+use Rattle.protobuf_parse_wire.specs.OptionFields.{number_of_value}
 use Rattle.protobuf_parse_wire.specs.CustomOptions.{denotes}
 use Rattle.protobuf_parse_wire.specs.CustomFaults.{statement_faults}
 
@@ -27,14 +31,17 @@ fields_at files name = fields_of_message files name ++ extensions_of files name
 
 -- The numbers of the values of enums have 32 bits, as those of every descriptor have.
 abbrev pub HasSmallValues : List FileDescriptor → Type 0
-HasSmallValues files = (enum_name name : Text) (z : ℤ) → number_of_value files enum_name name ≡ Some z → FitsSigned w32 z
+HasSmallValues files = (enum_name name : Text) (z : ℤ)
+    → number_of_value files enum_name name ≡ Some z → FitsSigned w32 z
 
 -- The files that are seen are among those that are reached, and in these stands, once and with
 -- distinct numbers, each message that a field holds.
 pub record IsReadable (at : OptionScope) : Type 0 where
   pub small : HasSmallValues at.files
   pub seen : (file : FileDescriptor) → Among at.visible file → Among at.files file
-  pub held : (message : Text) (f : FieldDescriptor) → Among (fields_at at.files message) f → f.type_ ≡ types.Message → (name : Text) × (f.type_name ≡ Some name) × IsEntered at.files name
+  pub held : (message : Text) (f : FieldDescriptor) → Among (fields_at at.files message) f
+      → f.type_ ≡ types.Message → (name : Text) × (f.type_name ≡ Some name)
+      × IsEntered at.files name
 
 -- Where no fault stands in the custom options of a construct, bytes that spell what they denote are
 -- read as the numbers and values of it, by the options message of the construct.

@@ -1,6 +1,10 @@
 -- Where in a file its messages, enums and extensions stand, and what stands at such a place.
-use Rattle.std.specs.Prelude.{ℕ, suc, List, [], ◌∷◌, ◌++◌, flat_map, Option, Some, None, option_map, slice_get}
-use Rattle.protobuf_parse_model.specs.Descriptors.{Text, FileDescriptor, FieldDescriptor, EnumDescriptor, MessageDescriptor, MessageDescriptors, a_message, no_messages, messages, list_of}
+use Rattle.std.specs.Prelude.{ℕ, suc, List, [], ◌∷◌, ◌++◌, flat_map, Option, Some, None, option_map}
+use Rattle.std.specs.Prelude.{slice_get}
+use Rattle.protobuf_parse_model.specs.Descriptors.{Text, FileDescriptor, FieldDescriptor}
+use Rattle.protobuf_parse_model.specs.Descriptors.{EnumDescriptor, MessageDescriptor}
+use Rattle.protobuf_parse_model.specs.Descriptors.{MessageDescriptors, a_message, no_messages}
+use Rattle.protobuf_parse_model.specs.Descriptors.{messages, list_of}
 use Rattle.protobuf_parse_wire.specs.Declarations.{within, package_scope}
 
 -- ---- the way down
@@ -42,8 +46,8 @@ one_of list (Some inside) index = slice_get (list inside) index
 
 -- ---- with their places
 
--- What has a full name, the path to the message around it, which is empty where there is none, and its
--- number in its list.
+-- What has a full name, the path to the message around it, which is empty where there is none, and
+-- its number in its list.
 pub record Placed (T : Type 0) : Type 0 where
   pub name : Text
   pub path : List ℕ
@@ -98,7 +102,8 @@ placed_inside name_of list ms =
 -- what stands in the messages of a file, and then in the file
 abbrev pub placed_in : {T : Type 0} → (T → Text) → (Inside → List T) → FileDescriptor
     → List (Placed T)
-placed_in name_of list file = placed_inside name_of list (placed_messages file) ++ placed_each name_of
+placed_in name_of list file = placed_inside name_of list (placed_messages file)
+    ++ placed_each name_of
     (package_scope file.«package») [] 0 (list (inside_file file))
 
 abbrev pub enum_name : EnumDescriptor → Text

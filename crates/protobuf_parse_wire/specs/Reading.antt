@@ -1,19 +1,31 @@
 -- Reading bytes by descriptors, from left to right, up to the first thing that is wrong.
--- Protocol Buffers Encoding (https://protobuf.dev/programming-guides/encoding/): any varint is taken, the low 32
--- bits count for kinds of 32 bits, and any number but 0 is true.
-use Rattle.std.specs.Prelude.{◌≡◌, ◌≢◌, ℕ, zero, suc, ℤ, pos, negsuc, ◌+◌, ◌*◌, ◌/◌, ◌%◌, ◌^◌, List, [], ◌∷◌, ◌++◌, length, take, drop, Option, Some, None, Result, Ok, Err, nat_lt, ◌==◌, if◌then◌else◌}
+-- Protocol Buffers Encoding (https://protobuf.dev/programming-guides/encoding/): any varint is
+-- taken, the low 32 bits count for kinds of 32 bits, and any number but 0 is true.
+use Rattle.std.specs.Prelude.{◌≡◌, ◌≢◌, ℕ, zero, suc, ℤ, pos, negsuc, ◌+◌, ◌*◌, ◌/◌, ◌%◌, ◌^◌, List}
+use Rattle.std.specs.Prelude.{[], ◌∷◌, ◌++◌, length, take, drop, Option, Some, None, Result, Ok}
+use Rattle.std.specs.Prelude.{Err, nat_lt, ◌==◌, if◌then◌else◌}
 use Rattle.std.specs.Int.{w32, w64, from_le_bytes, cast_signed}
 use Rattle.std.specs.Str.{is_utf8}
 use mir.Syntax.{Width}
 use mir.Val.{bits}
-use Rattle.protobuf_parse_model.specs.Descriptors.{Text, FileDescriptor, FieldDescriptor, MessageParts}
+use Rattle.protobuf_parse_model.specs.Descriptors.{Text, FileDescriptor, FieldDescriptor}
+use Rattle.protobuf_parse_model.specs.Descriptors.{MessageParts}
 use Rattle.protobuf_parse_wire.specs.declared.kind.Kind.{Kind}
 use Rattle.protobuf_parse_wire.specs.declared.fault.ReadFault.{ReadFault}
-use Rattle.protobuf_parse_wire.specs.declared.fault.ReadFault.TheVariants.{UnknownMessage, UnknownNumber, AmbiguousNumber, Truncated, WrongWireType, BadVarint, BadUtf8, FloatOrGroup, TooDeep, Memory}
-use Rattle.protobuf_parse_wire.specs.Kinds.{Word, varint, eight_bytes, four_bytes, Code, unsigned, twos_complement, zigzag, Shape, whole, truth, text, octets, message, shape, wire_type, kind_of}
+use Rattle.protobuf_parse_wire.specs.declared.fault.ReadFault.TheVariants.{UnknownMessage}
+use Rattle.protobuf_parse_wire.specs.declared.fault.ReadFault.TheVariants.{UnknownNumber}
+use Rattle.protobuf_parse_wire.specs.declared.fault.ReadFault.TheVariants.{AmbiguousNumber}
+use Rattle.protobuf_parse_wire.specs.declared.fault.ReadFault.TheVariants.{Truncated, WrongWireType}
+use Rattle.protobuf_parse_wire.specs.declared.fault.ReadFault.TheVariants.{BadVarint, BadUtf8}
+use Rattle.protobuf_parse_wire.specs.declared.fault.ReadFault.TheVariants.{FloatOrGroup, TooDeep}
+use Rattle.protobuf_parse_wire.specs.declared.fault.ReadFault.TheVariants.{Memory}
+use Rattle.protobuf_parse_wire.specs.Kinds.{Word, varint, eight_bytes, four_bytes, Code, unsigned}
+use Rattle.protobuf_parse_wire.specs.Kinds.{twos_complement, zigzag, Shape, whole, truth, text}
+use Rattle.protobuf_parse_wire.specs.Kinds.{octets, message, shape, wire_type, kind_of}
 use Rattle.protobuf_parse_wire.specs.Trees as trees
 use Rattle.protobuf_parse_wire.specs.Trees.{ValueTree, Field, fields_of_list}
-use Rattle.protobuf_parse_wire.specs.Declarations.{messages_of, extensions_of, field_numbered, have_distinct_numbers}
+use Rattle.protobuf_parse_wire.specs.Declarations.{messages_of, extensions_of, field_numbered}
+use Rattle.protobuf_parse_wire.specs.Declarations.{have_distinct_numbers}
 
 -- what was read, or what is wrong
 abbrev pub Read : Type 0 → Type 0
@@ -110,7 +122,9 @@ payload_at inner name message bs = do
 -- the kind, then the wire type, then the payload
 unfoldable pub typed_at : Inner → Option Text → Option Kind → ℕ → List ℕ → Read (ValueTree × List ℕ)
 typed_at inner name None wire bs = Err FloatOrGroup
-typed_at inner name (Some kind) wire bs = if wire == wire_type (shape kind) then payload_at inner name (shape kind) bs else Err WrongWireType
+typed_at inner name (Some kind) wire bs =
+    if wire == wire_type (shape kind) then payload_at inner name (shape kind) bs
+    else Err WrongWireType
 
 -- the field that the number names, then the rest
 unfoldable pub value_at : Inner → Option FieldDescriptor → ℕ → List ℕ → Read (ValueTree × List ℕ)
@@ -137,7 +151,8 @@ records inner numbers (suc n) (b ∷ bs) = do
 
 -- the fields and the extensions of a message by their numbers
 abbrev pub by_number : List FieldDescriptor → Read Numbers
-by_number fields = if have_distinct_numbers fields then Ok (field_numbered fields) else Err AmbiguousNumber
+by_number fields = if have_distinct_numbers fields then Ok (field_numbered fields)
+    else Err AmbiguousNumber
 
 -- Exactly one message has the name.
 abbrev pub only_one : List MessageParts → List FieldDescriptor → Read Numbers
@@ -150,14 +165,15 @@ abbrev pub entered : List FileDescriptor → Option Text → Read Numbers
 entered files None = Err UnknownMessage
 entered files (Some name) = only_one (messages_of files name) (extensions_of files name)
 
--- A message with at most so many levels of messages in it, itself one. Each record has a byte at least, so there
--- are no more records than bytes.
+-- A message with at most so many levels of messages in it, itself one. Each record has a byte at
+-- least, so there are no more records than bytes.
 unfoldable pub message_at : (Option Text → Read Numbers) → ℕ → Inner
 message_at enter zero name bs = Err TooDeep
 message_at enter (suc levels) name bs = do
   numbers ← enter name
   records (message_at enter levels) numbers (length bs) bs
 
--- The fields that the bytes of the message so named say. Messages stand inside one another to a depth of 256.
+-- The fields that the bytes of the message so named say. Messages stand inside one another to a
+-- depth of 256.
 abbrev pub reader : List FileDescriptor → Text → List ℕ → Read (List Field)
 reader files name bs = message_at (entered files) 256 (Some name) bs

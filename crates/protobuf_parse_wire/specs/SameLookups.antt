@@ -5,7 +5,8 @@ use Rattle.std.specs.Prelude.{◌≡◌, List}
 use Rattle.protobuf_parse_syntax.specs.Trees.{OptionSyntax}
 use Rattle.protobuf_parse_model.specs.Descriptors.{Text}
 use Rattle.protobuf_parse_model.specs.declared.customs.Construct.{Construct}
-use Rattle.protobuf_parse_wire.specs.OptionFields.{OptionScope, field_named, number_of_value, is_message, extension_meant}
+use Rattle.protobuf_parse_wire.specs.OptionFields.{OptionScope, field_named, number_of_value}
+use Rattle.protobuf_parse_wire.specs.OptionFields.{is_message, extension_meant}
 use Rattle.protobuf_parse_wire.specs.CustomOptions.{denotes}
 use Rattle.protobuf_parse_wire.specs.CustomFaults.{statement_faults}
 

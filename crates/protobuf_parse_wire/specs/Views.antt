@@ -10,7 +10,8 @@ use Rattle.protobuf_parse_wire.specs.declared.field.ReadValue.TheOpen.{ReadValue
 use Rattle.protobuf_parse_wire.specs.Kinds as kinds
 use Rattle.protobuf_parse_wire.specs.Kinds.{Shape}
 use Rattle.protobuf_parse_wire.specs.Reading.{decoded}
-use Rattle.protobuf_parse_wire.specs.Trees.{EntryTree, Entries, ValueTree, Field, fields_of_list, number, truth, bytes, message, no_entries, entry}
+use Rattle.protobuf_parse_wire.specs.Trees.{EntryTree, Entries, ValueTree, Field, fields_of_list}
+use Rattle.protobuf_parse_wire.specs.Trees.{number, truth, bytes, message, no_entries, entry}
 
 -- one entry
 pub record Item : Type 0 where

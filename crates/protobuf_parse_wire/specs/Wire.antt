@@ -1,10 +1,13 @@
--- Which bytes spell a list of entries: the summing up of given bytes, and nothing of how they are written.
--- Protocol Buffers Encoding, "Base 128 Varints", "Message Structure", "More Integer Types" and
--- "Length-Delimited Records" (https://protobuf.dev/programming-guides/encoding/).
-use Rattle.std.specs.Prelude.{◌≡◌, ℕ, ℤ, pos, negsuc, ◌+◌, ◌*◌, ◌%◌, ◌<◌, ◌≤◌, Bool, List, [], ◌∷◌, ◌++◌, length, if◌then◌else◌}
+-- Which bytes spell a list of entries: the summing up of given bytes, and nothing of how they are
+-- written. Protocol Buffers Encoding, "Base 128 Varints", "Message Structure", "More Integer Types"
+-- and "Length-Delimited Records" (https://protobuf.dev/programming-guides/encoding/).
+use Rattle.std.specs.Prelude.{◌≡◌, ℕ, ℤ, pos, negsuc, ◌+◌, ◌*◌, ◌%◌, ◌<◌, ◌≤◌, Bool, List, [], ◌∷◌}
+use Rattle.std.specs.Prelude.{◌++◌, length, if◌then◌else◌}
 use Rattle.std.specs.Int.{w32, w64, to_le_bytes, cast_unsigned}
 use mir.Syntax.{Width}
-use Rattle.protobuf_parse_wire.specs.Kinds.{Word, varint, eight_bytes, four_bytes, Code, unsigned, twos_complement, zigzag, Shape, whole, truth, text, octets, message, shape, wire_type}
+use Rattle.protobuf_parse_wire.specs.Kinds.{Word, varint, eight_bytes, four_bytes, Code, unsigned}
+use Rattle.protobuf_parse_wire.specs.Kinds.{twos_complement, zigzag, Shape, whole, truth, text}
+use Rattle.protobuf_parse_wire.specs.Kinds.{octets, message, shape, wire_type}
 use Rattle.protobuf_parse_wire.specs.Trees as trees
 use Rattle.protobuf_parse_wire.specs.Trees.{EntryTree, Entries, no_entries, entry}
 
@@ -103,15 +106,17 @@ HasMessages octets = ⊥
 -- ---- records
 
 abbrev mutual
-  -- Each entry has its record, one behind the other: a tag, which is eight times the number and the wire type,
-  -- and a payload.
+  -- Each entry has its record, one behind the other: a tag, which is eight times the number and the
+  -- wire type, and a payload.
   pub Spells : Entries → List ℕ → Type 0
   Spells no_entries bs = bs ≡ []
-  Spells (entry n k v others) bs = (tag payload more : List ℕ) × (bs ≡ tag ++ (payload ++ more)) × IsVarint tag (n * 8 + wire_type (shape k)) × Says (shape k) v payload × Spells others more
+  Spells (entry n k v others) bs = (tag payload more : List ℕ) × (bs ≡ tag ++ (payload ++ more))
+      × IsVarint tag (n * 8 + wire_type (shape k)) × Says (shape k) v payload × Spells others more
 
   -- The payload is the value of such a kind.
   pub Says : Shape → EntryTree → List ℕ → Type 0
   Says s (trees.number v) bs = SaysNumber s v bs
   Says s (trees.truth b) bs = SaysTruth s b bs
   Says s (trees.bytes inside) bs = HasBytes s × SaysDelimited inside bs
-  Says s (trees.message es) bs = (inside : List ℕ) × HasMessages s × SaysDelimited inside bs × Spells es inside
+  Says s (trees.message es) bs = (inside : List ℕ) × HasMessages s × SaysDelimited inside bs
+      × Spells es inside

@@ -1,15 +1,20 @@
 -- By files that are the same but for their options the same bytes are read as the same, and custom
 -- options mean the same.
 --
--- No option of a descriptor says how bytes are read: a record goes by the number and the type of its
--- field. None says what a name means: that is decided by full names and by extendees. What the custom
--- options of a file become stands in the options of its descriptor alone, so it makes no difference to
--- what is read by that descriptor, nor to what custom options mean.
+-- No option of a descriptor says how bytes are read: a record goes by the number and the type of
+-- its field. None says what a name means: that is decided by full names and by extendees. What the
+-- custom options of a file become stands in the options of its descriptor alone, so it makes no
+-- difference to what is read by that descriptor, nor to what custom options mean.
 -- Protocol Buffers Encoding, "Message Structure"; Protocol Buffers Language Guide (proto2), "Custom
 -- Options", "Packages and Name Resolution" (https://protobuf.dev).
 use Rattle.std.specs.Prelude.{◌≡◌, ℕ, List, map, None}
 use Rattle.protobuf_parse_syntax.specs.Trees.{FileSyntax, OptionSyntax}
-use Rattle.protobuf_parse_model.specs.Descriptors.{Text, FieldDescriptor, OneofDescriptor, EnumValueDescriptor, EnumDescriptor, MessageParts, MessageDescriptor, MessageDescriptors, a_message, no_messages, messages, MethodDescriptor, ServiceDescriptor, FileDescriptor}
+use Rattle.protobuf_parse_model.specs.Descriptors.{Text, FieldDescriptor, OneofDescriptor}
+use Rattle.protobuf_parse_model.specs.Descriptors.{EnumValueDescriptor, EnumDescriptor}
+use Rattle.protobuf_parse_model.specs.Descriptors.{MessageParts, MessageDescriptor}
+use Rattle.protobuf_parse_model.specs.Descriptors.{MessageDescriptors, a_message, no_messages}
+use Rattle.protobuf_parse_model.specs.Descriptors.{messages, MethodDescriptor, ServiceDescriptor}
+use Rattle.protobuf_parse_model.specs.Descriptors.{FileDescriptor}
 use Rattle.protobuf_parse_model.specs.Declarations.{Scope}
 use Rattle.protobuf_parse_model.specs.FilesByPath.{Trees}
 use Rattle.protobuf_parse_model.specs.declared.customs.Construct.{Construct}
@@ -108,7 +113,8 @@ CustomsAreOptions =
 -- So they make no difference to what is read, nor to what custom options mean.
 abbrev pub CustomsMakeNoDifference : Type 0
 CustomsMakeNoDifference =
-    (trees : Trees) (env env' : Environments) (reached seen : List Text) → DifferOnlyInCustoms env env'
+    (trees : Trees) (env env' : Environments) (reached seen : List Text)
+    → DifferOnlyInCustoms env env'
     → ((message : Text) (bytes : List ℕ)
     → reader (descriptors_at trees env reached) message bytes
     ≡ reader (descriptors_at trees env' reached) message bytes)

@@ -1,5 +1,6 @@
 -- What can be written.
-use Rattle.protobuf_parse_wire.specs.Kinds.{Shape, whole, truth, text, octets, message, shape, InRange}
+use Rattle.protobuf_parse_wire.specs.Kinds.{Shape, whole, truth, text, octets, message, shape}
+use Rattle.protobuf_parse_wire.specs.Kinds.{InRange}
 use Rattle.protobuf_parse_wire.specs.Trees as trees
 use Rattle.protobuf_parse_wire.specs.Trees.{EntryTree, Entries, no_entries, entry}
 use Rattle.protobuf_parse_wire.specs.Wire.{HasBytes, HasMessages}

@@ -5,7 +5,8 @@ ghost use Rattle.protobuf_parse_wire.specs.Kinds.{InRange, shape, wire_type};
 ghost use Rattle.protobuf_parse_wire.specs.Wire.{Spells, zigzag_of};
 ghost use Rattle.protobuf_parse_wire.specs.Writing.{AreWritable, IsWritable};
 ghost use Rattle.protobuf_parse_wire.specs.Views.{entries_view, entry_value_view};
-ghost use Rattle.protobuf_parse_wire.specs.Encoded.{varint_of, number_bytes, delimited, payload, encoded};
+ghost use Rattle.protobuf_parse_wire.specs.Encoded.{varint_of, number_bytes, delimited, payload};
+ghost use Rattle.protobuf_parse_wire.specs.Encoded.{encoded};
 
 use crate::entry::{Entry, EntryValue};
 use crate::kind::Kind;
@@ -45,7 +46,8 @@ fn put_value(
     value: &EntryValue,
 ) -> Result<(), AllocError>
     requires { IsWritable (shape kind) (entry_value_view value.now) }
-    ensures { OnOk result (out.new.items ≡ out.old.items ++ payload (shape kind) (entry_value_view value.now)) }
+    ensures { OnOk result
+        (out.new.items ≡ out.old.items ++ payload (shape kind) (entry_value_view value.now)) }
 {
     match value {
         EntryValue::Number(number) => put_number(out, kind, *number),

@@ -22,18 +22,20 @@ use std::alloc::Global;
 /// How many messages may stand inside one another, the outer one too.
 const LEVELS: u32 = 256;
 
-/// The fields that the bytes of a message say, in order, or the first thing that is wrong, from the left.
+/// The fields that the bytes of a message say, in order, or the first thing that is wrong, from the
+/// left.
 ///
-/// The message is the one that the files declare with the full name. A record's field is found by its number
-/// among the fields of the message and the extensions of it in all files; the message inside a record by the
-/// text of the field's type name.
+/// The message is the one that the files declare with the full name. A record's field is found by
+/// its number among the fields of the message and the extensions of it in all files; the message
+/// inside a record by the text of the field's type name.
 pub fn read_custom(
     alloc: Global,
     files: &[FileDescriptorProto],
     message: ProtobufAbsPathRef<'_>,
     bytes: &[u8],
 ) -> Result<Vec<ReadField>, ReadFault>
-    ensures { Gives (λ v. map read_field_view v.items) result (reader (map file_view files.now) (abs_ref_text message.entry) bytes.now) }
+    ensures { Gives (λ v. map read_field_view v.items) result
+        (reader (map file_view files.now) (abs_ref_text message.entry) bytes.now) }
 {
     read_named(alloc, files, message.as_str(), bytes)
 }
@@ -44,7 +46,8 @@ fn read_named(
     name: &str,
     bytes: &[u8],
 ) -> Result<Vec<ReadField>, ReadFault>
-    ensures { Gives (λ v. map read_field_view v.items) result (reader (map file_view files.now) name.now bytes.now) }
+    ensures { Gives (λ v. map read_field_view v.items) result
+        (reader (map file_view files.now) name.now bytes.now) }
 {
     let index = index::index_of(alloc, files)?;
     let mut visited = visited::none(alloc);

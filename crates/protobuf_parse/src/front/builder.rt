@@ -1,11 +1,15 @@
 //! A parser over real files: includes and inputs are added, and then it runs.
 
-ghost use Rattle.std.specs.Prelude.{◌≡◌, IfOk, IfErr, OnOk, OnErr, [], ◌∷◌, ◌++◌, length, map, filter, option_map, string_bytes};
+ghost use Rattle.std.specs.Prelude.{◌≡◌, IfOk, IfErr, OnOk, OnErr, [], ◌∷◌, ◌++◌, length, map};
+ghost use Rattle.std.specs.Prelude.{filter, option_map, string_bytes};
 ghost use Rattle.protobuf_parse_base.specs.PathViews.{path_buf_text};
 ghost use Rattle.protobuf_parse.specs.Run.{IsCaused, input_view};
 ghost use Rattle.protobuf_parse.specs.Includes.{part_views};
 ghost use Rattle.protobuf_parse.specs.Folders.{MayFind};
-ghost use Rattle.protobuf_parse.specs.Parsers.{IsParsed, IsSameParser, IsSetOfInputs, MayReadAnything, RanOverFolders, TellsFault, includes_of, inputs_at, inputs_of, is_among, is_of_input};
+ghost use Rattle.protobuf_parse.specs.Parsers.{IsParsed, IsSameParser, IsSetOfInputs};
+ghost use Rattle.protobuf_parse.specs.Parsers.{MayReadAnything, RanOverFolders, TellsFault};
+ghost use Rattle.protobuf_parse.specs.Parsers.{includes_of, inputs_at, inputs_of, is_among};
+ghost use Rattle.protobuf_parse.specs.Parsers.{is_of_input};
 
 use crate::bundled::bundled_files;
 use crate::front::files::{FsReader, copy_texts, fs_resolver};
@@ -145,9 +149,10 @@ impl Parser {
 
     /// Parses the inputs and all files that they import, and checks their types.
     ///
-    /// All inputs get their proto paths before any file is read: the error is L3 or L11 of the first
-    /// one that gets none. Then each input is read at its own path, and its imports are looked for in
-    /// the includes and among the files that this library brings: the errors are those of the run.
+    /// All inputs get their proto paths before any file is read: the error is L3 or L11 of the
+    /// first one that gets none. Then each input is read at its own path, and its imports are
+    /// looked for in the includes and among the files that this library brings: the errors are
+    /// those of the run.
     pub fn parse_and_typecheck<R: Files + AllocGlobal>(
         &self,
         rt: &R,

@@ -4,7 +4,11 @@ ghost use Rattle.std.specs.Prelude.{◌≡◌, IfOk, IfErr, OnOk, ◌++◌, flat
 ghost use Rattle.protobuf_parse_base.specs.Paths.{joined, kept_parts};
 ghost use Rattle.protobuf_parse_base.specs.PathViews.{path_buf_text};
 ghost use Rattle.protobuf_parse.specs.Loading.{OrMemory};
-ghost use Rattle.protobuf_parse.specs.Includes.{AreNamed, IsMisnamed, IsOutside, StandsAtFirst, StandsAtInput, includes_text, left_by, left_of, named_as, naming_of, naming_of_rest, next_include, next_part, part_views, parts_after, quoted_include, rest_view, unnamed};
+ghost use Rattle.protobuf_parse.specs.Includes.{AreNamed, IsMisnamed, IsOutside, StandsAtFirst};
+ghost use Rattle.protobuf_parse.specs.Includes.{StandsAtInput, includes_text, left_by, left_of};
+ghost use Rattle.protobuf_parse.specs.Includes.{named_as, naming_of, naming_of_rest, next_include};
+ghost use Rattle.protobuf_parse.specs.Includes.{next_part, part_views, parts_after, quoted_include};
+ghost use Rattle.protobuf_parse.specs.Includes.{rest_view, unnamed};
 
 use crate::run::fault::RunFault;
 use protobuf_parse_base::proto_path::{PathError, ProtoPathBuf};

@@ -14,7 +14,8 @@ use declarations::put_file;
 use protobuf_parse_model::FileDescriptorProto;
 use std::alloc::{AllocError, Global};
 
-/// The listing of the files, in order. Each line ends with a line feed. An absent text prints as nothing.
+/// The listing of the files, in order. Each line ends with a line feed. An absent text prints as
+/// nothing.
 ///
 /// | construct | line | below it, in this order |
 /// |---|---|---|

@@ -1,14 +1,18 @@
 //! One read: who is asked, and what the answer says.
 
-ghost use Rattle.std.specs.Prelude.{◌≡◌, ℕ, List, Some, None, Option, Result, IfOk, IfErr, option_map};
+ghost use Rattle.std.specs.Prelude.{◌≡◌, ℕ, List, Some, None, Option, Result, IfOk, IfErr};
+ghost use Rattle.std.specs.Prelude.{option_map};
 ghost use Rattle.std.specs.Borrow.{Bor};
 ghost use Rattle.std.specs.Str.{IsUtf8};
 ghost use Rattle.protobuf_parse_base.specs.PathViews.{path_buf_text};
 ghost use Rattle.protobuf_parse_syntax.specs.Parsing.{HasTree};
 ghost use Rattle.protobuf_parse_syntax.specs.Trees.{FileSyntax, file_view};
 ghost use Rattle.protobuf_parse.specs.Walks.{the_resolver, the_reader};
-ghost use Rattle.protobuf_parse.specs.Run.{Resolved, WasRead, StandsInLoad, origin_given, row_of, rows, said, text_given, IsTheTree};
-ghost use Rattle.protobuf_parse.specs.Loading.{OrMemory, asked_by, legal_by, CanGive, IsUnreadable, IsUnfound, IsUnresolved, IsParseFault, IsContentFault, IsNoText};
+ghost use Rattle.protobuf_parse.specs.Run.{Resolved, WasRead, StandsInLoad, origin_given, row_of};
+ghost use Rattle.protobuf_parse.specs.Run.{rows, said, text_given, IsTheTree};
+ghost use Rattle.protobuf_parse.specs.Loading.{OrMemory, asked_by, legal_by, CanGive, IsUnreadable};
+ghost use Rattle.protobuf_parse.specs.Loading.{IsUnfound, IsUnresolved, IsParseFault};
+ghost use Rattle.protobuf_parse.specs.Loading.{IsContentFault, IsNoText};
 
 use crate::run::fault::{ReadInputFault, ResolveFault, RunFault};
 use crate::run::log::{ReadEntry, ReadOutcome};
@@ -18,14 +22,17 @@ use protobuf_parse_syntax::{FileTree, ParserError, parse_file};
 use std::alloc::{AllocError, Global};
 use std::str;
 
-/// The answer to a read of a proto path: the resolver's, or the reader's at a path of the input's own.
+/// The answer to a read of a proto path: the resolver's, or the reader's at a path of the input's
+/// own.
 pub fn answer<R: ProtoPathResolver, I: InputReader>(
     alloc: Global,
     sources: &Sources<'_, R, I>,
     path: &ProtoPathBuf,
     fs_path: Option<&str>,
 ) -> Result<ReadOutcome, AllocError>
-    ensures { IfOk result (legal_by R.may_answer I.may_read sources.now (asked_by fs_path.entry) (path_buf_text path.now)) }
+    ensures { IfOk result
+        (legal_by R.may_answer I.may_read sources.now (asked_by fs_path.entry)
+        (path_buf_text path.now)) }
 {
     match fs_path {
         None => resolved(alloc, sources.resolver, path),
@@ -78,7 +85,8 @@ fn bundled_text<'a>(bundled: &[(&'a str, &'a str)], path: &str) -> Option<&'a st
 
 /// The bytes that an answer gives for a path, if it gives any.
 pub fn content<'a>(entry: &'a ReadEntry, bundled: &[(&'a str, &'a str)]) -> Option<&'a [u8]>
-    ensures { option_map (λ (b : Bor (List ℕ)). b.now) result ≡ text_given (rows bundled.now) (path_buf_text entry.now.path) (Some entry.now.outcome) }
+    ensures { option_map (λ (b : Bor (List ℕ)). b.now) result
+        ≡ text_given (rows bundled.now) (path_buf_text entry.now.path) (Some entry.now.outcome) }
 {
     match &entry.outcome {
         ReadOutcome::Content { content, .. } => Some(content.as_slice()),
@@ -109,9 +117,16 @@ pub fn opened<R: ProtoPathResolver, I>(
     outcome: &ReadOutcome,
 ) -> Result<FileTree, RunFault>
     requires { CanGive (asked_by fs_path) outcome.now }
-    ensures tree { IfOk result (λ t. IsTheTree (text_given (rows sources.now.bundled.now) path.now (Some outcome.now)) (Some (file_view t))) }
-    ensures treeless { IfErr result (λ f. OrMemory f (IsTheTree (text_given (rows sources.now.bundled.now) path.now (Some outcome.now)) None)) }
-    ensures stands { IfErr result (λ f. OrMemory f (StandsInLoad (asked_by fs_path.entry) path.now (Some outcome.now) (text_given (rows sources.now.bundled.now) path.now (Some outcome.now)) f)) }
+    ensures tree { IfOk result
+        (λ t. IsTheTree (text_given (rows sources.now.bundled.now) path.now (Some outcome.now))
+        (Some (file_view t))) }
+    ensures treeless { IfErr result
+        (λ f. OrMemory f
+        (IsTheTree (text_given (rows sources.now.bundled.now) path.now (Some outcome.now)) None)) }
+    ensures stands { IfErr result
+        (λ f. OrMemory f
+        (StandsInLoad (asked_by fs_path.entry) path.now (Some outcome.now)
+        (text_given (rows sources.now.bundled.now) path.now (Some outcome.now)) f)) }
 {
     match outcome {
         ReadOutcome::Content { origin, content } => tree_of_bytes(alloc, path, origin, content),
@@ -185,7 +200,8 @@ fn tree_of_bytes(
 ) -> Result<FileTree, RunFault>
     ensures tree { IfOk result (λ t. IsTheTree (Some content.now) (Some (file_view t))) }
     ensures treeless { IfErr result (λ f. OrMemory f (IsTheTree (Some content.now) None)) }
-    ensures stands { IfErr result (λ f. OrMemory f (IsContentFault path.now origin.now content.now f)) }
+    ensures stands { IfErr result
+        (λ f. OrMemory f (IsContentFault path.now origin.now content.now f)) }
 {
     let Ok(text) = str::from_utf8(content) else {
         return Err(not_utf8(alloc, path));

@@ -17,8 +17,8 @@ pub enum RunFault {
     /// L1: the content of the file of this proto path isn't UTF-8.
     #[error("file `{0}` content is not UTF-8")]
     ContentIsNotUtf8(String),
-    /// L2: neither the resolver nor the table of bundled files has this proto path. The second text is the
-    /// resolver's own.
+    /// L2: neither the resolver nor the table of bundled files has this proto path. The second text
+    /// is the resolver's own.
     #[error("protobuf path `{0}` is not found in import path {1}")]
     FileNotFoundInImportPath(String, String),
     /// L3: no include is a front of the input. The second text lists the includes, as `["a", "b"]`.
@@ -30,7 +30,8 @@ pub enum RunFault {
     /// L5: the resolver gave a fault for this proto path.
     #[error("could not resolve `{0}`: {1}")]
     Resolver(String, ResolveFault),
-    /// L6: the input's own file, the first path, has other content than was loaded for the proto path.
+    /// L6: the input's own file, the first path, has other content than was loaded for the proto
+    /// path.
     #[error("input `{0}` is shadowed: `{1}` was loaded with other content")]
     Shadowed(String, String),
     /// L7: the file of this proto path imports itself, through others or at once.

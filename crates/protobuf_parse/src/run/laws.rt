@@ -1,6 +1,7 @@
 //! Laws of the definitions of a run. The functions do nothing.
 
-ghost use Rattle.protobuf_parse.specs.Stability.{TreesAreOfTexts, StandsOnItsReach, OrderStays, DescriptorsStay};
+ghost use Rattle.protobuf_parse.specs.Stability.{TreesAreOfTexts, StandsOnItsReach, OrderStays};
+ghost use Rattle.protobuf_parse.specs.Stability.{DescriptorsStay};
 
 /// What stays where other texts are read. A path that has the same text has the same tree. Where
 /// two runs agree on the files that a file reaches, the same faults stand in it, and it becomes

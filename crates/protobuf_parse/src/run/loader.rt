@@ -1,6 +1,8 @@
 //! Loading: each file once, its imports first.
 
-ghost use Rattle.std.specs.Prelude.{◌≡◌, true, false, ◌≤◌, ◌<◌, ◌+◌, ◌-◌, ◌*◌, ◌^◌, ◌++◌, ◌∷◌, [], ℕ, List, map, length, Result, Ok, Option, Some, option_map, IfOk, IfErr, OnOk, OnErr, String, slice_get, string_bytes};
+ghost use Rattle.std.specs.Prelude.{◌≡◌, true, false, ◌≤◌, ◌<◌, ◌+◌, ◌-◌, ◌*◌, ◌^◌, ◌++◌, ◌∷◌, []};
+ghost use Rattle.std.specs.Prelude.{ℕ, List, map, length, Result, Ok, Option, Some, option_map};
+ghost use Rattle.std.specs.Prelude.{IfOk, IfErr, OnOk, OnErr, String, slice_get, string_bytes};
 ghost use Rattle.std.specs.Borrow.{Bor};
 ghost use Rattle.std.specs.Global.{Global};
 ghost use Rattle.std.specs.List.Sorted.{IsStrictlyIncreasing};
@@ -14,10 +16,20 @@ ghost use Rattle.protobuf_parse_model.specs.Tables.{Tells};
 ghost use Rattle.protobuf_parse.specs.declared.run.fault.RunFault.TheVariants.{Memory};
 ghost use Rattle.protobuf_parse.specs.declared.run.log.ReadEntry.{ReadEntry};
 ghost use Rattle.protobuf_parse_model.specs.Descriptors.{Text};
-ghost use Rattle.protobuf_parse.specs.Walks.{Event, among, at, checks, events, input_walk, keep, statements, walk};
-ghost use Rattle.protobuf_parse.specs.Run.{Files, IsCounted, are_same_bytes, input_view, StandsInCheck, StandsInCycle, StandsInElab, StandsInLong, origin_given, rows, text_given};
-ghost use Rattle.protobuf_parse.specs.Loading.{AreKnown, AreJoined, AreNumbered, Describes, Goes, GoesOn, Good, Grows, IsDecided, IsElabFault, IsPlaced, IsReaders, IsShadowed, OrMemory, ReadsTree, SettlesOver, asked_by, faults_over, file_at, legal_by, named_trees, plains_over, texts, trees_of, with_next};
-ghost use Rattle.protobuf_parse.specs.Frames.{Joined, Meets, is_public_at, number_if, StandsMet, path_of};
+ghost use Rattle.protobuf_parse.specs.Walks.{Event, among, at, checks, events, input_walk, keep};
+ghost use Rattle.protobuf_parse.specs.Walks.{statements, walk};
+ghost use Rattle.protobuf_parse.specs.Run.{Files, IsCounted, are_same_bytes, input_view};
+ghost use Rattle.protobuf_parse.specs.Run.{StandsInCheck, StandsInCycle, StandsInElab};
+ghost use Rattle.protobuf_parse.specs.Run.{StandsInLong, origin_given, rows, text_given};
+ghost use Rattle.protobuf_parse.specs.Loading.{AreKnown, AreJoined, AreNumbered, Begins, Describes};
+ghost use Rattle.protobuf_parse.specs.Loading.{Goes, GoesOn, Good, Grows, IsDecided, IsElabFault};
+ghost use Rattle.protobuf_parse.specs.Loading.{IsPlaced, IsReaders, IsShadowed, OrMemory};
+ghost use Rattle.protobuf_parse.specs.Loading.{ReadsTree, SettlesOver, asked_by, faults_over};
+ghost use Rattle.protobuf_parse.specs.Loading.{file_at, legal_by, named_trees, plain_in, plain_or};
+ghost use Rattle.protobuf_parse.specs.Loading.{plains_over, plains_with, texts, trees_of};
+ghost use Rattle.protobuf_parse.specs.Loading.{with_next};
+ghost use Rattle.protobuf_parse.specs.Frames.{Joined, Meets, is_public_at, number_if, StandsMet};
+ghost use Rattle.protobuf_parse.specs.Frames.{path_of};
 
 use crate::run::asking::{answer, content, opened, origin, unreadable};
 use crate::run::describe::{Described, elaborated};
@@ -26,9 +38,10 @@ use crate::run::frame::LoadFrame;
 use crate::run::log::{ReadEntry, ReadOutcome, RunInput};
 use crate::run::reach::{ImportNumbers, Sights, sights_of};
 use crate::run::source::{InputReader, ProtoPathResolver, Sources};
+use crate::run::tables::Tables;
 use indexmap::IndexMap;
 use protobuf_parse_base::proto_path::ProtoPathBuf;
-use protobuf_parse_model::{Declarations, ElabError, ElabFailure, FileDescriptorProto};
+use protobuf_parse_model::{ElabError, ElabFailure, FileDescriptorProto};
 use protobuf_parse_syntax::{FileStatement, FileTree, ImportVis};
 use std::alloc::{AllocError, Global};
 use std::mem;
@@ -68,7 +81,7 @@ pub type LoadedFiles = IndexMap<String, LoadedFile>;
 pub struct Loader {
     pub loaded: LoadedFiles,
     /// What the loaded files declare, by their numbers.
-    pub names: Declarations,
+    pub tables: Tables,
     pub reads: Vec<ReadEntry>,
     /// The files whose imports are being loaded, each imported by the one before it.
     pub chain: Vec<String>,
@@ -92,18 +105,24 @@ pub fn load_inputs<R: ProtoPathResolver, I: InputReader>(
     inputs: &[RunInput],
 ) -> Result<(), RunFault>
     requires loaded { loader.old.loaded.entries ≡ [] }
-    requires names { Tells loader.old.names [] }
+    requires names { Tells loader.old.tables.names [] }
+    requires places { Begins loader.old.tables.places [] }
     requires reads { loader.old.reads.items ≡ [] }
     requires chain { loader.old.chain.items ≡ [] }
     requires meets { loader.old.meets ≡ 0 }
     ensures goes { (files : Files)
         → let legal = legal_by R.may_answer I.may_read sources.now in
         GoesOn files (rows sources.now.bundled.now) loader.new.reads.items
-        → Goes legal files (events files.trees (map input_view inputs.now)) loader.new.loaded.entries loader.new.reads.items result }
-    ensures count { (files : Files) → GoesOn files (rows sources.now.bundled.now) loader.new.reads.items
-        → IsCounted loader.new.meets (length inputs.now + statements files.trees (events files.trees (map input_view inputs.now))) result }
+        → Goes legal files (events files.trees (map input_view inputs.now))
+        loader.new.loaded.entries loader.new.reads.items result }
+    ensures count { (files : Files)
+        → GoesOn files (rows sources.now.bundled.now) loader.new.reads.items
+        → IsCounted loader.new.meets
+        (length inputs.now + statements files.trees
+        (events files.trees (map input_view inputs.now))) result }
     ensures decided { IsDecided (rows sources.now.bundled.now) loader.new.reads.items }
-    ensures known { OnOk result (AreKnown loader.new.loaded.entries loader.new.names loader.new.reads.items) }
+    ensures known { OnOk result
+        (AreKnown loader.new.loaded.entries loader.new.tables loader.new.reads.items) }
 {
     for input in inputs {
         load_input(alloc, loader, sources, input)?;
@@ -119,7 +138,7 @@ fn load_input<R: ProtoPathResolver, I: InputReader>(
     input: &RunInput,
 ) -> Result<(), RunFault>
     requires chain { loader.old.chain.items ≡ [] }
-    requires known { AreKnown loader.old.loaded.entries loader.old.names loader.old.reads.items }
+    requires known { AreKnown loader.old.loaded.entries loader.old.tables loader.old.reads.items }
     requires room { loader.old.meets + 1 ≤ 2 ^ 65 + length loader.old.reads.items * 2 ^ 64 }
     ensures grows { Grows loader.old.reads.items loader.new.reads.items }
     ensures chain { OnOk result (loader.new.chain.items ≡ []) }
@@ -129,16 +148,22 @@ fn load_input<R: ProtoPathResolver, I: InputReader>(
         → let legal = legal_by R.may_answer I.may_read sources.now in
         GoesOn files (rows sources.now.bundled.now) loader.new.reads.items
         → Good legal files kept loader.old.loaded.entries loader.old.reads.items []
-        → Goes legal files (keep (kept ++ checks kept (input_view input.now)) (input_walk files.trees (input_view input.now))) loader.new.loaded.entries loader.new.reads.items result }
+        → Goes legal files
+        (keep (kept ++ checks kept (input_view input.now))
+        (input_walk files.trees (input_view input.now))) loader.new.loaded.entries
+        loader.new.reads.items result }
     ensures count { (files : Files) (kept : List Event)
         → let legal = legal_by R.may_answer I.may_read sources.now in
         GoesOn files (rows sources.now.bundled.now) loader.new.reads.items
         → Good legal files kept loader.old.loaded.entries loader.old.reads.items []
         → IsCounted (loader.new.meets + statements files.trees kept)
-        (loader.old.meets + 1 + statements files.trees (keep (kept ++ checks kept (input_view input.now)) (input_walk files.trees (input_view input.now)))) result }
+        (loader.old.meets + 1 + statements files.trees
+        (keep (kept ++ checks kept (input_view input.now))
+        (input_walk files.trees (input_view input.now)))) result }
     ensures decided { IsDecided (rows sources.now.bundled.now) loader.old.reads.items
         → IsDecided (rows sources.now.bundled.now) loader.new.reads.items }
-    ensures known { OnOk result (AreKnown loader.new.loaded.entries loader.new.names loader.new.reads.items) }
+    ensures known { OnOk result
+        (AreKnown loader.new.loaded.entries loader.new.tables loader.new.reads.items) }
 {
     match input {
         RunInput::Named(name) => load_file(alloc, loader, sources, name, None),
@@ -149,8 +174,8 @@ fn load_input<R: ProtoPathResolver, I: InputReader>(
     }
 }
 
-/// Where the file of an input that lies at a path of its own is loaded already, reads it there too: other
-/// content is L6.
+/// Where the file of an input that lies at a path of its own is loaded already, reads it there too:
+/// other content is L6.
 fn check_loaded<R: ProtoPathResolver, I: InputReader>(
     alloc: Global,
     loader: &mut Loader,
@@ -158,10 +183,10 @@ fn check_loaded<R: ProtoPathResolver, I: InputReader>(
     name: &ProtoPathBuf,
     fs_path: &str,
 ) -> Result<(), RunFault>
-    requires known { AreKnown loader.old.loaded.entries loader.old.names loader.old.reads.items }
+    requires known { AreKnown loader.old.loaded.entries loader.old.tables loader.old.reads.items }
     ensures chain { loader.new.chain ≡ loader.old.chain }
     ensures loaded { loader.new.loaded ≡ loader.old.loaded }
-    ensures names { loader.new.names ≡ loader.old.names }
+    ensures names { loader.new.tables ≡ loader.old.tables }
     ensures meets { loader.new.meets ≡ loader.old.meets }
     ensures grows { Grows loader.old.reads.items loader.new.reads.items }
     ensures more { length loader.old.reads.items ≤ length loader.new.reads.items }
@@ -169,7 +194,8 @@ fn check_loaded<R: ProtoPathResolver, I: InputReader>(
         → let legal = legal_by R.may_answer I.may_read sources.now in
         GoesOn files (rows sources.now.bundled.now) loader.new.reads.items
         → Good legal files kept loader.old.loaded.entries loader.old.reads.items []
-        → Goes legal files (kept ++ checks kept (at (path_buf_text name.now) fs_path.now)) loader.new.loaded.entries loader.new.reads.items result }
+        → Goes legal files (kept ++ checks kept (at (path_buf_text name.now) fs_path.now))
+        loader.new.loaded.entries loader.new.reads.items result }
     ensures decided { IsDecided (rows sources.now.bundled.now) loader.old.reads.items
         → IsDecided (rows sources.now.bundled.now) loader.new.reads.items }
 {
@@ -193,7 +219,9 @@ fn content_of<'a>(
     read: usize,
     bundled: &[(&'a str, &'a str)],
 ) -> Option<&'a [u8]>
-    ensures { (e : ReadEntry) → slice_get reads.now read ≡ Some e → option_map (λ (b : Bor (List ℕ)). b.now) result ≡ text_given (rows bundled.now) (path_buf_text e.path) (Some e.outcome) }
+    ensures { (e : ReadEntry) → slice_get reads.now read ≡ Some e
+        → option_map (λ (b : Bor (List ℕ)). b.now) result
+        ≡ text_given (rows bundled.now) (path_buf_text e.path) (Some e.outcome) }
 {
     match reads.get(read) {
         Some(entry) => content(entry, bundled),
@@ -210,9 +238,16 @@ fn compared(
     loaded: Option<&[u8]>,
 ) -> Result<(), RunFault>
     requires { IsReaders outcome.now }
-    ensures same { OnOk result (are_same_bytes (text_given [] [] (Some outcome.now)) (option_map (λ (b : Bor (List ℕ)). b.now) loaded.entry) ≡ true) }
-    ensures other { IfErr result (λ f. OrMemory f (are_same_bytes (text_given [] [] (Some outcome.now)) (option_map (λ (b : Bor (List ℕ)). b.now) loaded.entry) ≡ false)) }
-    ensures stands { IfErr result (λ f. OrMemory f (StandsInCheck fs_path.now (path_buf_text name.now) (Some outcome.now) f)) }
+    ensures same { OnOk result
+        (are_same_bytes (text_given [] [] (Some outcome.now))
+        (option_map (λ (b : Bor (List ℕ)). b.now) loaded.entry) ≡ true) }
+    ensures other { IfErr result
+        (λ f. OrMemory f
+        (are_same_bytes (text_given [] [] (Some outcome.now))
+        (option_map (λ (b : Bor (List ℕ)). b.now) loaded.entry) ≡ false)) }
+    ensures stands { IfErr result
+        (λ f. OrMemory f
+        (StandsInCheck fs_path.now (path_buf_text name.now) (Some outcome.now) f)) }
 {
     match outcome {
         ReadOutcome::ReaderFault(fault) => Err(unreadable(alloc, fs_path, *fault)),
@@ -245,10 +280,12 @@ fn note(
     outcome: ReadOutcome,
 ) -> Result<(), AllocError>
     ensures loaded { loader.new.loaded ≡ loader.old.loaded }
-    ensures names { loader.new.names ≡ loader.old.names }
+    ensures names { loader.new.tables ≡ loader.old.tables }
     ensures chain { loader.new.chain ≡ loader.old.chain }
     ensures meets { loader.new.meets ≡ loader.old.meets }
-    ensures ok { OnOk result ((e : ReadEntry) × (loader.new.reads.items ≡ loader.old.reads.items ++ e ∷ []) × (path_buf_text e.path ≡ path_buf_text path.now) × (e.outcome ≡ outcome)) }
+    ensures ok { OnOk result ((e : ReadEntry)
+        × (loader.new.reads.items ≡ loader.old.reads.items ++ e ∷ [])
+        × (path_buf_text e.path ≡ path_buf_text path.now) × (e.outcome ≡ outcome)) }
     ensures err { OnErr result (loader.new.reads.items ≡ loader.old.reads.items) }
 {
     let path = path.as_path().to_proto_path_buf(alloc)?;
@@ -256,7 +293,8 @@ fn note(
     Ok(())
 }
 
-/// Loads an input, its imports first. `fs_path` is where it lies, if it isn't found by the resolver.
+/// Loads an input, its imports first. `fs_path` is where it lies, if it isn't found by the
+/// resolver.
 fn load_file<R: ProtoPathResolver, I: InputReader>(
     alloc: Global,
     loader: &mut Loader,
@@ -265,7 +303,7 @@ fn load_file<R: ProtoPathResolver, I: InputReader>(
     fs_path: Option<&str>,
 ) -> Result<(), RunFault>
     requires chain { loader.old.chain.items ≡ [] }
-    requires known { AreKnown loader.old.loaded.entries loader.old.names loader.old.reads.items }
+    requires known { AreKnown loader.old.loaded.entries loader.old.tables loader.old.reads.items }
     requires room { loader.old.meets + 1 ≤ 2 ^ 65 + length loader.old.reads.items * 2 ^ 64 }
     ensures grows { Grows loader.old.reads.items loader.new.reads.items }
     ensures chain { OnOk result (loader.new.chain.items ≡ []) }
@@ -285,10 +323,12 @@ fn load_file<R: ProtoPathResolver, I: InputReader>(
         GoesOn files (rows sources.now.bundled.now) loader.new.reads.items
         → Good legal files kept loader.old.loaded.entries loader.old.reads.items []
         → IsCounted (loader.new.meets + statements files.trees kept)
-        (loader.old.meets + 1 + statements files.trees (keep kept (walk files.trees p (asked_by fs_path.entry) LIMIT [] p))) result }
+        (loader.old.meets + 1 + statements files.trees
+        (keep kept (walk files.trees p (asked_by fs_path.entry) LIMIT [] p))) result }
     ensures decided { IsDecided (rows sources.now.bundled.now) loader.old.reads.items
         → IsDecided (rows sources.now.bundled.now) loader.new.reads.items }
-    ensures known { OnOk result (AreKnown loader.new.loaded.entries loader.new.names loader.new.reads.items) }
+    ensures known { OnOk result
+        (AreKnown loader.new.loaded.entries loader.new.tables loader.new.reads.items) }
 {
     let first = meet(alloc, loader, sources, input, input, fs_path)?;
     let mut top = match first {
@@ -321,7 +361,8 @@ fn load_file<R: ProtoPathResolver, I: InputReader>(
     }
 }
 
-/// Meets a file: as `input`, or as an import of the last file of the chain. Opens it if it isn't loaded.
+/// Meets a file: as `input`, or as an import of the last file of the chain. Opens it if it isn't
+/// loaded.
 fn meet<R: ProtoPathResolver, I: InputReader>(
     alloc: Global,
     loader: &mut Loader,
@@ -333,17 +374,22 @@ fn meet<R: ProtoPathResolver, I: InputReader>(
     requires chain { length loader.old.chain.items ≤ LIMIT }
     requires room { loader.old.meets + 1 < 2 ^ 128 }
     ensures loaded { loader.new.loaded ≡ loader.old.loaded }
-    ensures names { loader.new.names ≡ loader.old.names }
+    ensures names { loader.new.tables ≡ loader.old.tables }
     ensures meets { loader.new.meets ≡ loader.old.meets + 1 }
     ensures grows { Grows loader.old.reads.items loader.new.reads.items }
     ensures decided { IsDecided (rows sources.now.bundled.now) loader.old.reads.items
         → IsDecided (rows sources.now.bundled.now) loader.new.reads.items }
-    ensures stands { StandsMet (texts loader.old.chain.items) (path_buf_text path.now) loader.old.loaded.entries loader.old.reads.items (texts loader.new.chain.items) loader.new.reads.items result }
+    ensures stands { StandsMet (texts loader.old.chain.items)
+        (path_buf_text path.now) loader.old.loaded.entries loader.old.reads.items
+        (texts loader.new.chain.items) loader.new.reads.items result }
     ensures leaves { (files : Files) (kept : List Event)
         → let legal = legal_by R.may_answer I.may_read sources.now in
         GoesOn files (rows sources.now.bundled.now) loader.new.reads.items
-        → Good legal files kept loader.old.loaded.entries loader.old.reads.items (texts loader.old.chain.items)
-        → Meets legal files kept (path_buf_text input.now) (asked_by fs_path.entry) (texts loader.old.chain.items) (path_buf_text path.now) loader.old.loaded.entries loader.new.reads.items result }
+        → Good legal files kept loader.old.loaded.entries loader.old.reads.items
+        (texts loader.old.chain.items)
+        → Meets legal files kept (path_buf_text input.now) (asked_by fs_path.entry)
+        (texts loader.old.chain.items)
+        (path_buf_text path.now) loader.old.loaded.entries loader.new.reads.items result }
 {
     loader.meets += 1;
     let text = path.as_path().to_str();
@@ -426,12 +472,17 @@ fn push_if(numbers: &mut Vec<usize>, public: bool, number: usize) -> Result<(), 
 fn close(alloc: Global, loader: &mut Loader, frame: LoadFrame) -> Result<Placed, RunFault>
     requires low { frame.height < LIMIT }
     requires few { statements_in (file_view frame.tree) ≤ 2147483647 }
+    requires begins { Begins loader.old.tables.places (map plain_in loader.old.loaded.entries) }
     ensures reads { loader.new.reads ≡ loader.old.reads }
     ensures meets { loader.new.meets ≡ loader.old.meets }
-    ensures chain { (chain : List Text) → texts loader.old.chain.items ≡ chain ++ path_of frame ∷ [] → texts loader.new.chain.items ≡ chain }
+    ensures chain { (chain : List Text) → texts loader.old.chain.items ≡ chain ++ path_of frame ∷ []
+        → texts loader.new.chain.items ≡ chain }
     ensures height { IfOk result (λ placed. placed.height ≡ frame.height + 1) }
-    ensures settles { Tells loader.old.names (trees_of (named_trees loader.old.loaded.entries))
-        → SettlesOver (path_of frame) (file_view frame.tree) (frame.height + 1) frame.read frame.below.items frame.public.items loader.old.reads.items loader.old.loaded.entries loader.new.loaded.entries loader.new.names result }
+    ensures settles { Tells loader.old.tables.names
+        (trees_of (named_trees loader.old.loaded.entries))
+        → SettlesOver (path_of frame) (file_view frame.tree)
+        (frame.height + 1) frame.read frame.below.items frame.public.items loader.old.reads.items
+        loader.old.loaded.entries loader.new.loaded.entries loader.new.tables result }
 {
     let LoadFrame {
         path,
@@ -496,7 +547,8 @@ fn place_of(loaded: &LoadedFiles, path: &str) -> Option<Placed>
 
 /// Adds a file to the end of the chain.
 fn enter(alloc: Global, chain: &mut Vec<String>, path: &str) -> Result<(), AllocError>
-    ensures { OnOk result ((s : String Global) × (chain.new.items ≡ chain.old.items ++ s ∷ []) × (string_bytes s ≡ path.now)) }
+    ensures { OnOk result ((s : String Global) × (chain.new.items ≡ chain.old.items ++ s ∷ [])
+        × (string_bytes s ≡ path.now)) }
 {
     chain.push(String::from_str(alloc, path)?)?;
     Ok(())
@@ -511,10 +563,12 @@ fn read_tree<R: ProtoPathResolver, I: InputReader>(
     fs_path: Option<&str>,
 ) -> Result<FileTree, RunFault>
     ensures loaded { loader.new.loaded ≡ loader.old.loaded }
-    ensures names { loader.new.names ≡ loader.old.names }
+    ensures names { loader.new.tables ≡ loader.old.tables }
     ensures chain { loader.new.chain ≡ loader.old.chain }
     ensures meets { loader.new.meets ≡ loader.old.meets }
-    ensures read { ReadsTree (legal_by R.may_answer I.may_read sources.now) (rows sources.now.bundled.now) (asked_by fs_path.entry) (path_buf_text path.now) loader.old.reads.items loader.new.reads.items result }
+    ensures read { ReadsTree (legal_by R.may_answer I.may_read sources.now)
+        (rows sources.now.bundled.now) (asked_by fs_path.entry)
+        (path_buf_text path.now) loader.old.reads.items loader.new.reads.items result }
 {
     let outcome = answer(alloc, sources, path, fs_path)?;
     let tree = opened(alloc, sources, path.as_path().to_str(), fs_path, &outcome);
@@ -557,15 +611,20 @@ fn settle(
     read: usize,
 ) -> Result<Placed, RunFault>
     requires few { statements_in (file_view tree) ≤ 2147483647 }
+    requires begins { Begins loader.old.tables.places (map plain_in loader.old.loaded.entries) }
     ensures reads { loader.new.reads ≡ loader.old.reads }
     ensures chain { loader.new.chain ≡ loader.old.chain }
     ensures meets { loader.new.meets ≡ loader.old.meets }
     ensures height { IfOk result (λ placed. placed.height ≡ height) }
-    ensures settles { Tells loader.old.names (trees_of (named_trees loader.old.loaded.entries))
-        → SettlesOver (string_bytes path) (file_view tree) height read imports.now.all.now imports.now.public.now loader.old.reads.items loader.old.loaded.entries loader.new.loaded.entries loader.new.names result }
+    ensures settles { Tells loader.old.tables.names
+        (trees_of (named_trees loader.old.loaded.entries))
+        → SettlesOver (string_bytes path)
+        (file_view tree) height read imports.now.all.now imports.now.public.now
+        loader.old.reads.items loader.old.loaded.entries loader.new.loaded.entries loader.new.tables
+        result }
 {
     let sights = sights_of(alloc, &loader.loaded, imports)?;
-    loader.names.add(alloc, loader.loaded.len(), &tree)?;
+    loader.tables.names.add(alloc, loader.loaded.len(), &tree)?;
     let described = descriptor_of(alloc, loader, &sights, &path, &tree, read)?;
     let Described { descriptor, plain } = described;
     let Sights {
@@ -590,7 +649,8 @@ fn settle(
 fn add(loaded: &mut LoadedFiles, path: String, file: LoadedFile) -> Result<Placed, AllocError>
     ensures height { IfOk result (λ placed. placed.height ≡ file.height) }
     ensures added { IfOk result (λ placed. file_at (string_bytes path) loaded.old.entries ≡ None
-        → (loaded.new.entries ≡ loaded.old.entries ++ (path, file) ∷ []) × (placed.number ≡ length loaded.old.entries)) }
+        → (loaded.new.entries ≡ loaded.old.entries ++ (path, file) ∷ [])
+        × (placed.number ≡ length loaded.old.entries)) }
 {
     let number = loaded.len();
     let height = file.height;
@@ -601,7 +661,7 @@ fn add(loaded: &mut LoadedFiles, path: String, file: LoadedFile) -> Result<Place
 /// What a file becomes over the files that it reaches and sees, or L10 of this read.
 fn descriptor_of(
     alloc: Global,
-    loader: &Loader,
+    loader: &mut Loader,
     sights: &Sights,
     path: &str,
     tree: &FileTree,
@@ -610,14 +670,35 @@ fn descriptor_of(
     requires few { statements_in (file_view tree.now) ≤ 2147483647 }
     requires reach { IsStrictlyIncreasing sights.now.reach.items }
     requires sight { IsStrictlyIncreasing sights.now.sight.items }
-    ensures ok { (files : List FileSyntax) → Tells loader.now.names files →
-        IfOk result (λ d. Describes loader.now.loaded.entries files sights.now.reach.items sights.now.sight.items path.now (file_view tree.now) (Ok d)) }
-    ensures err { (files : List FileSyntax) → Tells loader.now.names files → let t = file_view tree.now in
-        IfErr result (λ f. (e : ReadEntry) → slice_get loader.now.reads.items read ≡ Some e → path_buf_text e.path ≡ path.now
+    requires begins { Begins loader.old.tables.places (map plain_in loader.old.loaded.entries) }
+    ensures loaded { loader.new.loaded ≡ loader.old.loaded }
+    ensures names { loader.new.tables.names ≡ loader.old.tables.names }
+    ensures reads { loader.new.reads ≡ loader.old.reads }
+    ensures chain { loader.new.chain ≡ loader.old.chain }
+    ensures meets { loader.new.meets ≡ loader.old.meets }
+    ensures ok { (files : List FileSyntax) → Tells loader.old.tables.names files →
+        IfOk result
+        (λ d. Describes loader.old.loaded.entries files sights.now.reach.items
+        sights.now.sight.items path.now (file_view tree.now) (Ok d)) }
+    ensures err { (files : List FileSyntax) → Tells loader.old.tables.names files
+        → let t = file_view tree.now in
+        IfErr result (λ f. (e : ReadEntry) → slice_get loader.old.reads.items read ≡ Some e
+        → path_buf_text e.path ≡ path.now
         → OrMemory f (StandsInElab (origin_given path.now (Some e.outcome))
-        (faults_over files (plains_over loader.now.loaded.entries files sights.now.sight.items path.now t) sights.now.reach.items sights.now.sight.items t) f)) }
+        (faults_over files
+        (plains_over loader.old.loaded.entries files sights.now.sight.items path.now t)
+        sights.now.reach.items sights.now.sight.items t) f)) }
+    ensures begins { IfOk result (λ d. Begins loader.new.tables.places
+        (plains_with loader.old.loaded.entries (plain_or d.plain d.descriptor))) }
 {
-    match elaborated(alloc, loader, sights, path, tree) {
+    match elaborated(
+        alloc,
+        &loader.loaded,
+        &mut loader.tables,
+        sights,
+        path,
+        tree,
+    ) {
         Ok(described) => Ok(described),
         Err(ElabFailure::Memory) => Err(RunFault::Memory),
         Err(ElabFailure::Fault(error)) => Err(refused(alloc, &loader.reads, read, path, error)),
@@ -632,7 +713,9 @@ fn refused(
     path: &str,
     error: ElabError,
 ) -> RunFault
-    ensures { (e : ReadEntry) → slice_get reads.now read ≡ Some e → path_buf_text e.path ≡ path.now → OrMemory result (IsElabFault (origin_given path.now (Some e.outcome)) (fault_view error) result) }
+    ensures { (e : ReadEntry) → slice_get reads.now read ≡ Some e → path_buf_text e.path ≡ path.now
+        → OrMemory result
+        (IsElabFault (origin_given path.now (Some e.outcome)) (fault_view error) result) }
 {
     let file = match reads.get(read) {
         Some(entry) => origin(entry),

@@ -17,7 +17,8 @@ pub enum Held {
     HandedOn,
 }
 
-/// The numbers of the files that a file reaches, sees and hands on, each list ascending and with its own.
+/// The numbers of the files that a file reaches, sees and hands on, each list ascending and with
+/// its own.
 #[derive(Drop)]
 pub struct Sights {
     pub reach: Vec<usize>,
@@ -32,15 +33,20 @@ pub struct ImportNumbers<'a> {
     pub public: &'a [usize],
 }
 
-/// What the next file to be loaded reaches, sees and hands on, where its imports have these numbers.
+/// What the next file to be loaded reaches, sees and hands on, where its imports have these
+/// numbers.
 pub fn sights_of(
     alloc: Global,
     loaded: &LoadedFiles,
     imports: &ImportNumbers<'_>,
 ) -> Result<Sights, AllocError>
-    ensures reach { IfOk result (λ s. AreJoined held_as.Reach loaded.now.entries imports.now.all.now s.reach.items) }
-    ensures sight { IfOk result (λ s. AreJoined held_as.HandedOn loaded.now.entries imports.now.all.now s.sight.items) }
-    ensures handed_on { IfOk result (λ s. AreJoined held_as.HandedOn loaded.now.entries imports.now.public.now s.handed_on.items) }
+    ensures reach { IfOk result
+        (λ s. AreJoined held_as.Reach loaded.now.entries imports.now.all.now s.reach.items) }
+    ensures sight { IfOk result
+        (λ s. AreJoined held_as.HandedOn loaded.now.entries imports.now.all.now s.sight.items) }
+    ensures handed_on { IfOk result
+        (λ s. AreJoined held_as.HandedOn loaded.now.entries imports.now.public.now
+        s.handed_on.items) }
 {
     let reach = joined(alloc, loaded, imports.all, Held::Reach)?;
     let sight = joined(alloc, loaded, imports.all, Held::HandedOn)?;
@@ -67,7 +73,8 @@ fn joined(
     Ok(numbers)
 }
 
-/// The numbers that each of these files holds, one file after another, and then that of the next file.
+/// The numbers that each of these files holds, one file after another, and then that of the next
+/// file.
 fn gathered(
     alloc: Global,
     loaded: &LoadedFiles,

@@ -1,5 +1,5 @@
-//! Who is asked for files: a resolver of proto paths, and a reader of the inputs that lie at a path of
-//! their own.
+//! Who is asked for files: a resolver of proto paths, and a reader of the inputs that lie at a path
+//! of their own.
 
 ghost use Rattle.std.specs.Prelude.{◌≡◌, Err};
 ghost use Rattle.protobuf_parse.specs.declared.run.fault.ReadInputFault.TheVariants.{NotFound};

@@ -1,8 +1,12 @@
 //! Absolute paths: identifiers with a dot before each.
-ghost use Rattle.std.specs.Prelude.{◌≡◌, ◌≢◌, ◌↔◌, ◌||◌, ◌<◌, ℕ, List, [], ◌∷◌, ◌++◌, map, length, IsTrue, IsSome, IfOk, OnOk, OnErr, IfSome, IfNone, MatchOption, Some};
+ghost use Rattle.std.specs.Prelude.{◌≡◌, ◌≢◌, ◌↔◌, ◌||◌, ◌<◌, ℕ, List, [], ◌∷◌, ◌++◌, map, length};
+ghost use Rattle.std.specs.Prelude.{IsTrue, IsSome, IfOk, OnOk, OnErr, IfSome, IfNone, MatchOption};
+ghost use Rattle.std.specs.Prelude.{Some};
 ghost use Rattle.std.specs.String.{string_bytes};
 ghost use Rattle.std.specs.Option.{ForSome};
-ghost use Rattle.protobuf_parse_base.specs.Names.{is_absolute, is_relative, looks_absolute, are_idents, absolute_text, absolute_idents, relative_idents, IsAbsolute, fronts};
+ghost use Rattle.protobuf_parse_base.specs.Names.{is_absolute, is_relative, looks_absolute};
+ghost use Rattle.protobuf_parse_base.specs.Names.{are_idents, absolute_text, absolute_idents};
+ghost use Rattle.protobuf_parse_base.specs.Names.{relative_idents, IsAbsolute, fronts};
 
 use super::dots;
 use super::ident::{ProtobufIdent, ProtobufIdentRef};
@@ -11,7 +15,8 @@ use crate::joins::join_at_dot;
 use std::alloc::{AllocError, Global};
 use std::fmt;
 
-/// An absolute path, lent: the empty text, which is the root, or identifiers with a dot before each.
+/// An absolute path, lent: the empty text, which is the root, or identifiers with a dot before
+/// each.
 ///
 /// See the Protocol Buffers Language Specification, "Identifiers" (<https://protobuf.dev>).
 #[derive(Clone, Copy, Debug, PartialEq, Eq, Hash)]
@@ -32,7 +37,8 @@ fn is_absolute_text(text: &str) -> bool
 }
 
 impl<'a> ProtobufAbsPathRef<'a> {
-    ghost use Rattle.protobuf_parse_base.specs.NameViews.{abs_ref_text, abs_ref_idents, abs_text, abs_idents, rel_ref_idents};
+    ghost use Rattle.protobuf_parse_base.specs.NameViews.{abs_ref_text, abs_ref_idents, abs_text};
+    ghost use Rattle.protobuf_parse_base.specs.NameViews.{abs_idents, rel_ref_idents};
 
     /// The path with this text, if the text is an absolute path.
     pub fn try_new(text: &'a str) -> Option<Self>
@@ -88,8 +94,10 @@ impl<'a> ProtobufAbsPathRef<'a> {
     /// What follows `prefix` in this path, or `None` where the path does not begin with it.
     pub fn remove_prefix(self, prefix: ProtobufAbsPathRef<'_>) -> Option<ProtobufRelPathRef<'a>>
         ensures { MatchOption result
-            ((rest : List (List ℕ)) → abs_ref_idents self.entry ≢ abs_ref_idents prefix.entry ++ rest)
-            (λ rest. abs_ref_idents self.entry ≡ abs_ref_idents prefix.entry ++ rel_ref_idents rest) }
+            ((rest : List (List ℕ))
+            → abs_ref_idents self.entry ≢ abs_ref_idents prefix.entry ++ rest)
+            (λ rest. abs_ref_idents self.entry ≡ abs_ref_idents prefix.entry
+            ++ rel_ref_idents rest) }
     {
         let rest = self.text.strip_prefix(prefix.text)?;
         if rest.is_empty() {
@@ -101,7 +109,8 @@ impl<'a> ProtobufAbsPathRef<'a> {
 
     /// Whether the path begins with `prefix`.
     pub fn starts_with(self, prefix: ProtobufAbsPathRef<'_>) -> bool
-        ensures { IsTrue result ↔ ((rest : List (List ℕ)) × (abs_ref_idents self.entry ≡ abs_ref_idents prefix.entry ++ rest)) }
+        ensures { IsTrue result ↔ ((rest : List (List ℕ))
+            × (abs_ref_idents self.entry ≡ abs_ref_idents prefix.entry ++ rest)) }
     {
         self.remove_prefix(prefix).is_some()
     }
@@ -109,7 +118,8 @@ impl<'a> ProtobufAbsPathRef<'a> {
     /// The path without its last identifier, or `None` of the root.
     pub fn parent(self) -> Option<Self>
         ensures { MatchOption result (abs_ref_idents self.entry ≡ [])
-            (λ parent. (last : List ℕ) × (abs_ref_idents self.entry ≡ abs_ref_idents parent ++ last ∷ [])) }
+            (λ parent. (last : List ℕ)
+            × (abs_ref_idents self.entry ≡ abs_ref_idents parent ++ last ∷ [])) }
     {
         let (parent, _) = dots::cut_last(self.text)?;
         Some(ProtobufAbsPathRef::new(parent))
@@ -118,7 +128,8 @@ impl<'a> ProtobufAbsPathRef<'a> {
     /// Every front of the path once, the whole path first and the root last. The one error is that
     /// memory is short.
     pub fn self_and_parents(self, alloc: Global) -> Result<Vec<ProtobufAbsPathRef<'a>>, AllocError>
-        ensures { IfOk result (λ paths. map abs_ref_idents paths.items ≡ fronts (abs_ref_idents self.entry)) }
+        ensures { IfOk result
+            (λ paths. map abs_ref_idents paths.items ≡ fronts (abs_ref_idents self.entry)) }
     {
         let mut paths = Vec::new(alloc);
         let mut next = Some(self);
@@ -138,7 +149,9 @@ pub struct ProtobufAbsPath {
 }
 
 impl ProtobufAbsPath {
-    ghost use Rattle.protobuf_parse_base.specs.NameViews.{ident_ref_text, ident_text, rel_ref_idents, rel_idents, abs_ref_text, abs_ref_idents, abs_text, abs_idents};
+    ghost use Rattle.protobuf_parse_base.specs.NameViews.{ident_ref_text, ident_text};
+    ghost use Rattle.protobuf_parse_base.specs.NameViews.{rel_ref_idents, rel_idents, abs_ref_text};
+    ghost use Rattle.protobuf_parse_base.specs.NameViews.{abs_ref_idents, abs_text, abs_idents};
 
     /// The weak test: whether the text is empty, or begins with a dot and is not `.`.
     pub fn is_abs(text: &str) -> bool
@@ -200,7 +213,8 @@ impl ProtobufAbsPath {
 
     /// The path followed by a relative one. The one error is that memory is short.
     pub fn concat(&self, alloc: Global, path: ProtobufRelPathRef<'_>) -> Result<Self, AllocError>
-        ensures { IfOk result (λ joined. abs_idents joined ≡ abs_idents self.now ++ rel_ref_idents path.entry) }
+        ensures { IfOk result
+            (λ joined. abs_idents joined ≡ abs_idents self.now ++ rel_ref_idents path.entry) }
     {
         if path.is_empty() {
             return self.as_ref().to_owned(alloc);
@@ -219,13 +233,15 @@ impl ProtobufAbsPath {
         ProtobufAbsPath::new_from_rel(alloc, text)
     }
 
-    /// The path with the identifiers of this text, which may begin with a dot. The one error is that
-    /// memory is short.
+    /// The path with the identifiers of this text, which may begin with a dot. The one error is
+    /// that memory is short.
     pub fn from_path_maybe_dot(alloc: Global, text: &str) -> Result<Self, AllocError>
         requires nonempty { 0 < length text.now }
         requires well_formed { IsTrue (is_absolute text.now || is_relative text.now) }
-        ensures absolute { IsTrue (is_absolute text.now) → IfOk result (λ path. abs_idents path ≡ absolute_idents text.now) }
-        ensures relative { IsTrue (is_relative text.now) → IfOk result (λ path. abs_idents path ≡ relative_idents text.now) }
+        ensures absolute { IsTrue (is_absolute text.now)
+            → IfOk result (λ path. abs_idents path ≡ absolute_idents text.now) }
+        ensures relative { IsTrue (is_relative text.now)
+            → IfOk result (λ path. abs_idents path ≡ relative_idents text.now) }
     {
         if text.starts_with('.') {
             ProtobufAbsPath::new(alloc, text)
@@ -250,7 +266,8 @@ impl ProtobufAbsPath {
     /// Adds an identifier at the end. The one error is that memory is short: the path is then as it
     /// was.
     pub fn push_simple(&mut self, simple: ProtobufIdentRef<'_>) -> Result<(), AllocError>
-        ensures ok { OnOk result (abs_idents self.new ≡ abs_idents self.old ++ ident_ref_text simple.entry ∷ []) }
+        ensures ok { OnOk result
+            (abs_idents self.new ≡ abs_idents self.old ++ ident_ref_text simple.entry ∷ []) }
         ensures err { OnErr result (abs_text self.new ≡ abs_text self.old) }
     {
         self.push_relative(ProtobufRelPathRef::new(simple.as_str()))
@@ -259,7 +276,8 @@ impl ProtobufAbsPath {
     /// Adds a relative path at the end. The one error is that memory is short: the path is then as
     /// it was.
     pub fn push_relative(&mut self, relative: ProtobufRelPathRef<'_>) -> Result<(), AllocError>
-        ensures ok { OnOk result (abs_idents self.new ≡ abs_idents self.old ++ rel_ref_idents relative.entry) }
+        ensures ok { OnOk result
+            (abs_idents self.new ≡ abs_idents self.old ++ rel_ref_idents relative.entry) }
         ensures err { OnErr result (abs_text self.new ≡ abs_text self.old) }
     {
         if relative.is_empty() {
@@ -288,7 +306,8 @@ impl ProtobufAbsPath {
 
     /// Whether the path ends with `suffix`.
     pub fn ends_with(&self, suffix: ProtobufRelPathRef<'_>) -> bool
-        ensures { IsTrue result ↔ ((front : List (List ℕ)) × (abs_idents self.now ≡ front ++ rel_ref_idents suffix.entry)) }
+        ensures { IsTrue result ↔ ((front : List (List ℕ))
+            × (abs_idents self.now ≡ front ++ rel_ref_idents suffix.entry)) }
     {
         self.remove_suffix(suffix).is_some()
     }
@@ -298,7 +317,10 @@ impl ProtobufAbsPath {
     pub fn pop(&mut self, alloc: Global) -> Result<Option<ProtobufIdent>, AllocError>
         ensures root { IfOk result (λ last. IfNone last (abs_idents self.old ≡ [])) }
         ensures kept { IfOk result (λ last. IfNone last (abs_text self.new ≡ abs_text self.old)) }
-        ensures popped { IfOk result (λ last. IfSome last (λ ident. abs_idents self.old ≡ abs_idents self.new ++ ident_text ident ∷ [])) }
+        ensures popped { IfOk result
+            (λ last.
+            IfSome last (λ ident. abs_idents self.old ≡ abs_idents self.new ++ ident_text ident
+            ∷ [])) }
         ensures err { OnErr result (abs_text self.new ≡ abs_text self.old) }
     {
         let Some((front, last)) = dots::cut_last(self.text.as_str()) else {

@@ -29,7 +29,8 @@ pub(super) fn parts_are_idents(text: &str) -> bool
 /// What stands before and after the first dot.
 pub(super) fn cut_first(text: &str) -> Option<(&str, &str)>
     ensures { MatchOption result (dotted_parts text.now ≡ text.now ∷ [])
-        (λ parts. (text.now ≡ parts.0.now ++ 46 ∷ parts.1.now) × (dotted_parts parts.0.now ≡ parts.0.now ∷ [])) }
+        (λ parts. (text.now ≡ parts.0.now ++ 46 ∷ parts.1.now)
+        × (dotted_parts parts.0.now ≡ parts.0.now ∷ [])) }
 {
     text.split_once('.')
 }
@@ -37,7 +38,8 @@ pub(super) fn cut_first(text: &str) -> Option<(&str, &str)>
 /// What stands before and after the last dot.
 pub(super) fn cut_last(text: &str) -> Option<(&str, &str)>
     ensures { MatchOption result (dotted_parts text.now ≡ text.now ∷ [])
-        (λ parts. (text.now ≡ parts.0.now ++ 46 ∷ parts.1.now) × (dotted_parts parts.1.now ≡ parts.1.now ∷ [])) }
+        (λ parts. (text.now ≡ parts.0.now ++ 46 ∷ parts.1.now)
+        × (dotted_parts parts.1.now ≡ parts.1.now ∷ [])) }
 {
     text.rsplit_once('.')
 }

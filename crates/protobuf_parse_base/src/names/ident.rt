@@ -9,8 +9,8 @@ use std::fmt;
 
 /// An identifier, lent: a nonempty text without `/`, `.`, `:`, `(` and `)`.
 ///
-/// See the Protocol Buffers Language Specification, "Identifiers" (<https://protobuf.dev>), of whose
-/// identifiers these are a wider class.
+/// See the Protocol Buffers Language Specification, "Identifiers" (<https://protobuf.dev>), of
+/// whose identifiers these are a wider class.
 #[derive(Clone, Copy, Debug, PartialEq, Eq, Hash)]
 pub struct ProtobufIdentRef<'a> {
     text: &'a str,

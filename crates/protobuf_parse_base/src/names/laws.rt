@@ -1,6 +1,8 @@
 //! Laws of the clauses of the calls on paths. The functions do nothing.
 
-ghost use Rattle.protobuf_parse_base.specs.Undo.{PopUndoesPush, RemovePrefixUndoesConcat, RemoveSuffixUndoesConcat, IntoAbsoluteUndoesToRootRel};
+ghost use Rattle.protobuf_parse_base.specs.Undo.{PopUndoesPush, RemovePrefixUndoesConcat};
+ghost use Rattle.protobuf_parse_base.specs.Undo.{RemoveSuffixUndoesConcat};
+ghost use Rattle.protobuf_parse_base.specs.Undo.{IntoAbsoluteUndoesToRootRel};
 
 /// An identifier that was pushed is popped, and the path is as it was.
 pub fn pop_undoes_push()

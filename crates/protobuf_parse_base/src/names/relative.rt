@@ -1,7 +1,9 @@
 //! Relative paths: identifiers with dots between them.
-ghost use Rattle.std.specs.Prelude.{◌≡◌, ◌↔◌, ℕ, List, [], ◌∷◌, ◌++◌, map, IsTrue, IfOk, MatchOption, Some};
+ghost use Rattle.std.specs.Prelude.{◌≡◌, ◌↔◌, ℕ, List, [], ◌∷◌, ◌++◌, map, IsTrue, IfOk};
+ghost use Rattle.std.specs.Prelude.{MatchOption, Some};
 ghost use Rattle.std.specs.String.{string_bytes};
-ghost use Rattle.protobuf_parse_base.specs.Names.{is_relative, are_idents, relative_text, IsRelative, fronts};
+ghost use Rattle.protobuf_parse_base.specs.Names.{is_relative, are_idents, relative_text};
+ghost use Rattle.protobuf_parse_base.specs.Names.{IsRelative, fronts};
 
 use super::absolute::ProtobufAbsPath;
 use super::components::Components;
@@ -21,7 +23,9 @@ pub struct ProtobufRelPathRef<'a> {
 }
 
 impl<'a> ProtobufRelPathRef<'a> {
-    ghost use Rattle.protobuf_parse_base.specs.NameViews.{ident_ref_text, rel_ref_text, rel_ref_idents, rel_text, rel_idents, abs_idents, components_left};
+    ghost use Rattle.protobuf_parse_base.specs.NameViews.{ident_ref_text, rel_ref_text};
+    ghost use Rattle.protobuf_parse_base.specs.NameViews.{rel_ref_idents, rel_text, rel_idents};
+    ghost use Rattle.protobuf_parse_base.specs.NameViews.{abs_idents, components_left};
 
     /// Whether the text is a relative path, so that `new` takes it.
     pub fn is_rel(text: &str) -> bool
@@ -92,7 +96,8 @@ impl<'a> ProtobufRelPathRef<'a> {
     /// The path without its last identifier, or `None` of the empty path.
     fn parent(self) -> Option<Self>
         ensures { MatchOption result (rel_ref_idents self.entry ≡ [])
-            (λ parent. (last : List ℕ) × (rel_ref_idents self.entry ≡ rel_ref_idents parent ++ last ∷ [])) }
+            (λ parent. (last : List ℕ)
+            × (rel_ref_idents self.entry ≡ rel_ref_idents parent ++ last ∷ [])) }
     {
         if self.text.is_empty() {
             return None;
@@ -106,7 +111,8 @@ impl<'a> ProtobufRelPathRef<'a> {
     /// Every front of the path once, the whole path first and the empty path last. The one error is
     /// that memory is short.
     pub fn self_and_parents(self, alloc: Global) -> Result<Vec<ProtobufRelPathRef<'a>>, AllocError>
-        ensures { IfOk result (λ paths. map rel_ref_idents paths.items ≡ fronts (rel_ref_idents self.entry)) }
+        ensures { IfOk result
+            (λ paths. map rel_ref_idents paths.items ≡ fronts (rel_ref_idents self.entry)) }
     {
         let mut paths = Vec::new(alloc);
         let mut next = Some(self);
@@ -123,7 +129,8 @@ impl<'a> ProtobufRelPathRef<'a> {
         alloc: Global,
         path: ProtobufRelPathRef<'_>,
     ) -> Result<ProtobufRelPath, AllocError>
-        ensures { IfOk result (λ joined. rel_idents joined ≡ rel_ref_idents self.entry ++ rel_ref_idents path.entry) }
+        ensures { IfOk result
+            (λ joined. rel_idents joined ≡ rel_ref_idents self.entry ++ rel_ref_idents path.entry) }
     {
         if self.text.is_empty() {
             return path.to_owned(alloc);
@@ -141,7 +148,9 @@ impl<'a> ProtobufRelPathRef<'a> {
         alloc: Global,
         ident: ProtobufIdentRef<'_>,
     ) -> Result<ProtobufRelPath, AllocError>
-        ensures { IfOk result (λ joined. rel_idents joined ≡ rel_ref_idents self.entry ++ ident_ref_text ident.entry ∷ []) }
+        ensures { IfOk result
+            (λ joined. rel_idents joined ≡ rel_ref_idents self.entry ++ ident_ref_text ident.entry
+            ∷ []) }
     {
         self.append(alloc, ProtobufRelPathRef::new(ident.as_str()))
     }
@@ -169,7 +178,8 @@ pub struct ProtobufRelPath {
 }
 
 impl ProtobufRelPath {
-    ghost use Rattle.protobuf_parse_base.specs.NameViews.{ident_ref_text, ident_text, rel_ref_text, rel_text, rel_idents, abs_idents};
+    ghost use Rattle.protobuf_parse_base.specs.NameViews.{ident_ref_text, ident_text, rel_ref_text};
+    ghost use Rattle.protobuf_parse_base.specs.NameViews.{rel_text, rel_idents, abs_idents};
 
     /// A copy of this text, as a path. The one error is that memory is short.
     pub fn new(alloc: Global, text: &str) -> Result<Self, AllocError>

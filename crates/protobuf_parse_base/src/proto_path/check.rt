@@ -2,7 +2,8 @@
 ghost use Rattle.std.specs.Prelude.{◌≡◌, IfOk};
 ghost use Rattle.std.specs.List.{list_any};
 ghost use Rattle.std.specs.String.{string_bytes};
-ghost use Rattle.protobuf_parse_base.specs.Paths.{has_backslash, is_dot_dot, joined, kept_parts, first_fault, part_fault, path_fault, slash_parts};
+ghost use Rattle.protobuf_parse_base.specs.Paths.{has_backslash, is_dot_dot, joined, kept_parts};
+ghost use Rattle.protobuf_parse_base.specs.Paths.{first_fault, part_fault, path_fault, slash_parts};
 
 use super::error::PathError;
 use crate::joins::push_part;

@@ -1,7 +1,8 @@
 //! Proto paths.
 ghost use Rattle.std.specs.Prelude.{◌≡◌, ◌↔◌, IsOk, ◌≢◌, IfOk, IfErr, None, Some};
 ghost use Rattle.std.specs.String.{string_bytes};
-ghost use Rattle.protobuf_parse_base.specs.Paths.{path_fault, host_path_fault, kept_parts, joined, IsProtoPath};
+ghost use Rattle.protobuf_parse_base.specs.Paths.{path_fault, host_path_fault, kept_parts, joined};
+ghost use Rattle.protobuf_parse_base.specs.Paths.{IsProtoPath};
 
 use super::check;
 use super::error::PathError;
@@ -84,11 +85,13 @@ impl ProtoPathBuf {
 
     /// The proto path that a path of the host names: its parts between slashes without the empty
     /// ones and `.`. In this order, the error is [`PathError::Absolute`] for a first slash,
-    /// [`PathError::Backslashes`], [`PathError::DotDot`] for a part `..`, [`PathError::Empty`] if no
-    /// part is left, or [`PathError::Memory`].
+    /// [`PathError::Backslashes`], [`PathError::DotDot`] for a part `..`, [`PathError::Empty`] if
+    /// no part is left, or [`PathError::Memory`].
     pub fn from_path(alloc: Global, text: &str) -> Result<Self, PathError>
-        ensures ok { IfOk result (λ path. (path_buf_text path ≡ joined (kept_parts text.now)) × (host_path_fault text.now ≡ None)) }
-        ensures fault { IfErr result (λ fault. fault ≢ PathError.Memory → host_path_fault text.now ≡ Some fault) }
+        ensures ok { IfOk result (λ path. (path_buf_text path ≡ joined (kept_parts text.now))
+            × (host_path_fault text.now ≡ None)) }
+        ensures fault { IfErr result (λ fault. fault ≢ PathError.Memory
+            → host_path_fault text.now ≡ Some fault) }
     {
         if text.starts_with('/') {
             return Err(PathError::Absolute);

@@ -13,9 +13,9 @@ use protobuf_parse_wire::{Entry, EntryValue, Kind, encode};
 use std::alloc::{AllocError, Global};
 use std::slice;
 
-/// The fields that the bytes of a message say, or the fault. Behind the verb stand the message's absolute
-/// name, or `root`, and behind ` in ` the descriptors, or behind ` over ` the inputs of a run over the files
-/// of the case.
+/// The fields that the bytes of a message say, or the fault. Behind the verb stand the message's
+/// absolute name, or `root`, and behind ` in ` the descriptors, or behind ` over ` the inputs of a
+/// run over the files of the case.
 pub fn read(alloc: Global, case: &Case, given: &[u8]) -> Result<String> {
     let bytes = hex::decode(alloc, given)?;
     let (name, files) = match case.argument.split_once(" over ") {

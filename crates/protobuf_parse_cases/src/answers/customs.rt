@@ -1,4 +1,5 @@
-//! The custom options of the files that a run describes: whose they are, their bytes, and what these say.
+//! The custom options of the files that a run describes: whose they are, their bytes, and what
+//! these say.
 
 use super::bytes::read_told;
 use super::runs::{checked, files_with};
@@ -10,9 +11,9 @@ use protobuf_parse::{
 };
 use std::alloc::Global;
 
-/// For each construct with custom options its name, their bytes and what `read_custom` reads from them, by
-/// all descriptors of the run; or the fault of the run. The library's own files are known. A row's text is
-/// the file `f.proto`, which is then the input.
+/// For each construct with custom options its name, their bytes and what `read_custom` reads from
+/// them, by all descriptors of the run; or the fault of the run. The library's own files are known.
+/// A row's text is the file `f.proto`, which is then the input.
 pub fn customs(alloc: Global, case: &Case, row: &Row) -> Result<String> {
     match &row.given {
         Some(content) => customs_of(alloc, "f.proto", &files_with(alloc, case, content)?),

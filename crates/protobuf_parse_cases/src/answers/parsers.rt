@@ -36,8 +36,8 @@ fn parser_of(alloc: Global, given: &str) -> Result<Parser, AllocError> {
     Ok(parser)
 }
 
-/// The proto paths of the inputs, the files of all descriptors, and those of the inputs' own ones; or the
-/// fault.
+/// The proto paths of the inputs, the files of all descriptors, and those of the inputs' own ones;
+/// or the fault.
 fn parser_answer<R: Files + AllocGlobal>(rt: &R, given: &str) -> Result<String> {
     let parser = parser_of(rt.alloc(), given)?;
     let mut text = String::new(rt.alloc());

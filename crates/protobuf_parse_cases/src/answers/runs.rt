@@ -24,7 +24,8 @@ fn path_of(alloc: Global, text: &str) -> Result<ProtoPathBuf> {
     }
 }
 
-/// The inputs that the words name: a proto path, or a proto path, `=` and the path of the input's own file.
+/// The inputs that the words name: a proto path, or a proto path, `=` and the path of the input's
+/// own file.
 fn inputs_of(alloc: Global, words: &str) -> Result<Vec<RunInput>> {
     let mut inputs = Vec::new(alloc);
     for word in words.split_whitespace() {
@@ -90,8 +91,8 @@ fn put_read(alloc: Global, text: &mut String, entry: &ReadEntry) -> Result<(), A
     }
 }
 
-/// The listing of a run over the inputs behind the verb, or its fault. A row's text is the file `f.proto`,
-/// which is then the input.
+/// The listing of a run over the inputs behind the verb, or its fault. A row's text is the file
+/// `f.proto`, which is then the input.
 pub fn list(alloc: Global, case: &Case, row: &Row) -> Result<String> {
     let Some(content) = &row.given else {
         return list_of(alloc, &case.argument, &case.files);
@@ -114,7 +115,8 @@ pub fn shipped(alloc: Global, case: &Case, words: &[u8]) -> Result<String> {
     Ok(listed_or_fault(alloc, &outcome)?)
 }
 
-/// The descriptors of a run over these proto paths with the files that the library brings, or the fault.
+/// The descriptors of a run over these proto paths with the files that the library brings, or the
+/// fault.
 pub fn checked(
     alloc: Global,
     words: &str,
@@ -165,8 +167,8 @@ pub fn answers(alloc: Global, given: &[u8]) -> Result<String> {
     Ok(told(alloc, &log_of(alloc, words, &source, &[])?)?)
 }
 
-/// The names of the descriptors in order, or the fault; then the reads with what was answered; and how often
-/// a file was met.
+/// The names of the descriptors in order, or the fault; then the reads with what was answered; and
+/// how often a file was met.
 fn told(alloc: Global, log: &RunLog) -> Result<String, AllocError> {
     let mut text = String::new(alloc);
     match &log.result {

@@ -63,8 +63,8 @@ pub fn parse(alloc: Global, text: &str) -> Result<String, AllocError> {
     }
 }
 
-/// Of a text whose tokens stand between blanks: whether each front with a `$` behind it is refused at the
-/// `$`. If not, the first that isn't.
+/// Of a text whose tokens stand between blanks: whether each front with a `$` behind it is refused
+/// at the `$`. If not, the first that isn't.
 pub fn fronts(alloc: Global, text: &str) -> Result<String, AllocError> {
     let whole = parse(alloc, text)?;
     if whole.as_str() != "ok" {

@@ -41,8 +41,10 @@ pub fn add_field<C: CustomOptions>(
     statement: &FieldStatement,
 ) -> Result<(), ElabFailure>
     requires { length body.old.oneof_decl.items < 2 ^ 31 }
-    ensures { let env = environment_in (C.customs custom.now) context.now in let s = tree.field_statement_view statement.now in
-        Elaborates (λ _. body_view body.new) result (field_statement_faults env s) (with_statement env (body_view body.old) (tree.message_field s)) }
+    ensures { let env = environment_in (C.customs custom.now) context.now in
+        let s = tree.field_statement_view statement.now in
+        Elaborates (λ _. body_view body.new) result (field_statement_faults env s)
+        (with_statement env (body_view body.old) (tree.message_field s)) }
 {
     if has_own_oneof(context, statement) {
         add_in_own_oneof(alloc, context, custom, body, statement)
@@ -59,9 +61,12 @@ fn add_plain<C: CustomOptions>(
     body: &mut Body,
     statement: &FieldStatement,
 ) -> Result<(), ElabFailure>
-    requires { has_own_oneof (environment_in (C.customs custom.now) context.now) (tree.field_statement_view statement.now) ≡ false }
-    ensures { let env = environment_in (C.customs custom.now) context.now in let s = tree.field_statement_view statement.now in
-        Elaborates (λ _. body_view body.new) result (field_statement_faults env s) (with_statement env (body_view body.old) (tree.message_field s)) }
+    requires { has_own_oneof (environment_in (C.customs custom.now) context.now)
+        (tree.field_statement_view statement.now) ≡ false }
+    ensures { let env = environment_in (C.customs custom.now) context.now in
+        let s = tree.field_statement_view statement.now in
+        Elaborates (λ _. body_view body.new) result (field_statement_faults env s)
+        (with_statement env (body_view body.old) (tree.message_field s)) }
 {
     let place = FieldPlace {
         extendee: None,
@@ -82,9 +87,12 @@ fn add_in_own_oneof<C: CustomOptions>(
     statement: &FieldStatement,
 ) -> Result<(), ElabFailure>
     requires few { length body.old.oneof_decl.items < 2 ^ 31 }
-    requires own { has_own_oneof (environment_in (C.customs custom.now) context.now) (tree.field_statement_view statement.now) ≡ true }
-    ensures { let env = environment_in (C.customs custom.now) context.now in let s = tree.field_statement_view statement.now in
-        Elaborates (λ _. body_view body.new) result (field_statement_faults env s) (with_statement env (body_view body.old) (tree.message_field s)) }
+    requires own { has_own_oneof (environment_in (C.customs custom.now) context.now)
+        (tree.field_statement_view statement.now) ≡ true }
+    ensures { let env = environment_in (C.customs custom.now) context.now in
+        let s = tree.field_statement_view statement.now in
+        Elaborates (λ _. body_view body.new) result (field_statement_faults env s)
+        (with_statement env (body_view body.old) (tree.message_field s)) }
 {
     let place = FieldPlace {
         extendee: None,
@@ -108,8 +116,10 @@ pub fn add_oneof<C: CustomOptions>(
     oneof: &OneOf,
 ) -> Result<(), ElabFailure>
     requires { length body.old.oneof_decl.items < 2 ^ 31 }
-    ensures { let env = environment_in (C.customs custom.now) context.now in let o = tree.oneof_view oneof.now in
-        Elaborates (λ _. body_view body.new) result (oneof_faults env o) (with_statement env (body_view body.old) (tree.message_oneof o)) }
+    ensures { let env = environment_in (C.customs custom.now) context.now in
+        let o = tree.oneof_view oneof.now in
+        Elaborates (λ _. body_view body.new) result (oneof_faults env o)
+        (with_statement env (body_view body.old) (tree.message_oneof o)) }
 {
     let place = FieldPlace {
         extendee: None,
@@ -131,8 +141,10 @@ pub fn add_extend<C: CustomOptions>(
     body: &mut Body,
     extend: &Extend,
 ) -> Result<(), ElabFailure>
-    ensures { let env = environment_in (C.customs custom.now) context.now in let e = tree.extend_view extend.now in
-        Elaborates (λ _. body_view body.new) result (extend_faults env e) (with_statement env (body_view body.old) (tree.message_extend e)) }
+    ensures { let env = environment_in (C.customs custom.now) context.now in
+        let e = tree.extend_view extend.now in
+        Elaborates (λ _. body_view body.new) result (extend_faults env e)
+        (with_statement env (body_view body.old) (tree.message_extend e)) }
 {
     let mut declared = fields_of_extend(alloc, context, custom, &extend.extendee, &extend.fields)?;
     body.extension.append(&mut declared.fields)?;
@@ -148,8 +160,10 @@ pub fn add_enum<C: CustomOptions>(
     body: &mut Body,
     enumeration: &Enumeration,
 ) -> Result<(), ElabFailure>
-    ensures { let env = environment_in (C.customs custom.now) context.now in let e = tree.enum_view enumeration.now in
-        Elaborates (λ _. body_view body.new) result (enum_faults env e) (with_statement env (body_view body.old) (tree.message_enum e)) }
+    ensures { let env = environment_in (C.customs custom.now) context.now in
+        let e = tree.enum_view enumeration.now in
+        Elaborates (λ _. body_view body.new) result (enum_faults env e)
+        (with_statement env (body_view body.old) (tree.message_enum e)) }
 {
     let descriptor = enum_descriptor(alloc, context, custom, enumeration)?;
     body.enum_type.push(descriptor)?;

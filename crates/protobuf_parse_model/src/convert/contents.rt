@@ -7,7 +7,8 @@ ghost use Rattle.protobuf_parse_model.specs.Contexts.{environment_in};
 ghost use Rattle.protobuf_parse_model.specs.Descriptors as described;
 ghost use Rattle.protobuf_parse_model.specs.Faults.{Elaborates};
 ghost use Rattle.protobuf_parse_model.specs.FileDescriptor.{statement_faults};
-ghost use Rattle.protobuf_parse_model.specs.FileParts.{parts_faults, parts_of, parts_view, with_file_statement};
+ghost use Rattle.protobuf_parse_model.specs.FileParts.{parts_faults, parts_of, parts_view};
+ghost use Rattle.protobuf_parse_model.specs.FileParts.{with_file_statement};
 ghost use Rattle.protobuf_parse_model.specs.Messages.{extend_faults};
 
 use crate::convert::enumeration::enum_descriptor;
@@ -33,8 +34,8 @@ pub struct Contents {
     pub extension: Vec<FieldDescriptorProto>,
 }
 
-/// What these statements declare, of which no two of a kind have one name: E1. The faults inside each
-/// are told too.
+/// What these statements declare, of which no two of a kind have one name: E1. The faults inside
+/// each are told too.
 #[tactic(auto, using(crate::proofs::Blaming::blames_left, crate::proofs::Blaming::blames_right))]
 pub fn contents_of<C: CustomOptions>(
     alloc: Global,
@@ -43,8 +44,11 @@ pub fn contents_of<C: CustomOptions>(
     statements: &[FileStatement],
 ) -> Result<Contents, ElabFailure>
     requires few { sum_by statement_count (map statement_view statements.now) ≤ 2147483647 }
-    ensures { let env = environment_in (C.customs custom.now) context.now in let ss = map statement_view statements.now in
-        Elaborates parts_view result (parts_faults (parts_of env ss) ++ flat_map (statement_faults env) ss) (parts_of env ss) }
+    ensures { let env = environment_in (C.customs custom.now) context.now in
+        let ss = map statement_view statements.now in
+        Elaborates parts_view result
+        (parts_faults (parts_of env ss) ++ flat_map (statement_faults env) ss)
+        (parts_of env ss) }
 {
     let contents = declared(alloc, context, custom, statements)?;
     check_names(alloc, &contents)?;
@@ -71,7 +75,8 @@ fn declared<C: CustomOptions>(
     statements: &[FileStatement],
 ) -> Result<Contents, ElabFailure>
     requires few { sum_by statement_count (map statement_view statements.now) ≤ 2147483647 }
-    ensures { let env = environment_in (C.customs custom.now) context.now in let ss = map statement_view statements.now in
+    ensures { let env = environment_in (C.customs custom.now) context.now in
+        let ss = map statement_view statements.now in
         Elaborates parts_view result (flat_map (statement_faults env) ss) (parts_of env ss) }
 {
     let mut contents = Contents {
@@ -95,8 +100,10 @@ fn add_statement<C: CustomOptions>(
     statement: &FileStatement,
 ) -> Result<(), ElabFailure>
     requires few { statement_count (statement_view statement.now) ≤ 2147483647 }
-    ensures { let env = environment_in (C.customs custom.now) context.now in let s = statement_view statement.now in
-        Elaborates (λ _. parts_view contents.new) result (statement_faults env s) (with_file_statement env (parts_view contents.old) s) }
+    ensures { let env = environment_in (C.customs custom.now) context.now in
+        let s = statement_view statement.now in
+        Elaborates (λ _. parts_view contents.new) result (statement_faults env s)
+        (with_file_statement env (parts_view contents.old) s) }
 {
     match statement {
         FileStatement::Message(message) => {
@@ -125,8 +132,10 @@ fn add_extensions<C: CustomOptions>(
     contents: &mut Contents,
     extend: &Extend,
 ) -> Result<(), ElabFailure>
-    ensures { let env = environment_in (C.customs custom.now) context.now in let e = extend_view extend.now in
-        Elaborates (λ _. parts_view contents.new) result (extend_faults env e) (with_file_statement env (parts_view contents.old) (file_extend e)) }
+    ensures { let env = environment_in (C.customs custom.now) context.now in
+        let e = extend_view extend.now in
+        Elaborates (λ _. parts_view contents.new) result (extend_faults env e)
+        (with_file_statement env (parts_view contents.old) (file_extend e)) }
 {
     let mut declared = fields_of_extend(alloc, context, custom, &extend.extendee, &extend.fields)?;
     contents.extension.append(&mut declared.fields)?;

@@ -4,7 +4,8 @@ ghost use Rattle.std.specs.Prelude.{◌≡◌, ◌++◌, map, flat_map, option_m
 ghost use Rattle.protobuf_parse_syntax.specs.Trees as tree;
 ghost use Rattle.protobuf_parse_model.specs.BuiltinOptions.{enum_table};
 ghost use Rattle.protobuf_parse_model.specs.ConstructOptions.{construct_faults};
-ghost use Rattle.protobuf_parse_model.specs.Contexts.{environment_in, reserves_seen, texts, values_seen};
+ghost use Rattle.protobuf_parse_model.specs.Contexts.{environment_in, reserves_seen, texts};
+ghost use Rattle.protobuf_parse_model.specs.Contexts.{values_seen};
 ghost use Rattle.protobuf_parse_model.specs.Descriptors as described;
 ghost use Rattle.protobuf_parse_model.specs.Enums as enums;
 ghost use Rattle.protobuf_parse_model.specs.Faults.{Elaborates};
@@ -36,7 +37,8 @@ pub fn enum_descriptor<C: CustomOptions>(
     custom: &C,
     enumeration: &Enumeration,
 ) -> Result<EnumDescriptorProto, ElabFailure>
-    ensures { let env = environment_in (C.customs custom.now) context.now in let e = tree.enum_view enumeration.now in
+    ensures { let env = environment_in (C.customs custom.now) context.now in
+        let e = tree.enum_view enumeration.now in
         Elaborates described.enum_view result (enums.enum_faults env e) (enums.enum_of env e) }
 {
     let value = enum_values(alloc, context, custom, &enumeration.body)?;
@@ -58,8 +60,10 @@ fn enum_values<C: CustomOptions>(
     custom: &C,
     body: &[EnumStatement],
 ) -> Result<Vec<EnumValueDescriptorProto>, ElabFailure>
-    ensures { let env = environment_in (C.customs custom.now) context.now in let vs = flat_map enums.enum_values (map tree.enum_statement_view body.now) in
-        Elaborates (λ v. map described.enum_value_view v.items) result (enums.values_faults env vs) (map (enums.value_of env) vs) }
+    ensures { let env = environment_in (C.customs custom.now) context.now in
+        let vs = flat_map enums.enum_values (map tree.enum_statement_view body.now) in
+        Elaborates (λ v. map described.enum_value_view v.items) result (enums.values_faults env vs)
+        (map (enums.value_of env) vs) }
 {
     let values = values(alloc, body)?;
     unlike_values(alloc, context, custom, &values)
@@ -73,8 +77,10 @@ fn unlike_values<C: CustomOptions>(
     custom: &C,
     values: &[&EnumValue],
 ) -> Result<Vec<EnumValueDescriptorProto>, ElabFailure>
-    ensures { let env = environment_in (C.customs custom.now) context.now in let vs = values_seen values.now in
-        Elaborates (λ v. map described.enum_value_view v.items) result (enums.values_faults env vs) (map (enums.value_of env) vs) }
+    ensures { let env = environment_in (C.customs custom.now) context.now in
+        let vs = values_seen values.now in
+        Elaborates (λ v. map described.enum_value_view v.items) result (enums.values_faults env vs)
+        (map (enums.value_of env) vs) }
 {
     check_unique(alloc, &names(alloc, values)?)?;
     value_descriptors(alloc, context, custom, values)
@@ -82,7 +88,9 @@ fn unlike_values<C: CustomOptions>(
 
 /// The values of an enum.
 fn values(alloc: Global, body: &[EnumStatement]) -> Result<Vec<&EnumValue>, AllocError>
-    ensures { IfOk result (λ v. values_seen v.items ≡ flat_map enums.enum_values (map tree.enum_statement_view body.now)) }
+    ensures { IfOk result
+        (λ v. values_seen v.items
+        ≡ flat_map enums.enum_values (map tree.enum_statement_view body.now)) }
 {
     let mut values = Vec::new(alloc);
     for statement in body {
@@ -95,7 +103,8 @@ fn values(alloc: Global, body: &[EnumStatement]) -> Result<Vec<&EnumValue>, Allo
 
 /// Their names.
 fn names<'a>(alloc: Global, values: &[&'a EnumValue]) -> Result<Vec<&'a str>, AllocError>
-    ensures { IfOk result (λ v. texts v.items ≡ map (λ (v : tree.EnumValueSyntax). v.name) (values_seen values.now)) }
+    ensures { IfOk result
+        (λ v. texts v.items ≡ map (λ (v : tree.EnumValueSyntax). v.name) (values_seen values.now)) }
 {
     let mut names = Vec::new(alloc);
     for value in values {
@@ -112,8 +121,10 @@ fn value_descriptors<C: CustomOptions>(
     custom: &C,
     values: &[&EnumValue],
 ) -> Result<Vec<EnumValueDescriptorProto>, ElabFailure>
-    ensures { let env = environment_in (C.customs custom.now) context.now in let vs = values_seen values.now in
-        Elaborates (λ v. map described.enum_value_view v.items) result (flat_map (enums.value_faults env) vs) (map (enums.value_of env) vs) }
+    ensures { let env = environment_in (C.customs custom.now) context.now in
+        let vs = values_seen values.now in
+        Elaborates (λ v. map described.enum_value_view v.items) result
+        (flat_map (enums.value_faults env) vs) (map (enums.value_of env) vs) }
 {
     let mut descriptors = Vec::new(alloc);
     for value in values {
@@ -128,8 +139,10 @@ fn value_descriptor<C: CustomOptions>(
     custom: &C,
     value: &EnumValue,
 ) -> Result<EnumValueDescriptorProto, ElabFailure>
-    ensures { let env = environment_in (C.customs custom.now) context.now in let v = tree.value_view value.now in
-        Elaborates described.enum_value_view result (enums.value_faults env v) (enums.value_of env v) }
+    ensures { let env = environment_in (C.customs custom.now) context.now in
+        let v = tree.value_view value.now in
+        Elaborates described.enum_value_view result (enums.value_faults env v)
+        (enums.value_of env v) }
 {
     let options = options_of(alloc, &value.options)?;
     let bytes = checked_customs(
@@ -154,8 +167,11 @@ fn checked_options<C: CustomOptions>(
     custom: &C,
     body: &[EnumStatement],
 ) -> Result<Option<EnumOptions>, ElabFailure>
-    ensures { let env = environment_in (C.customs custom.now) context.now in let os = flat_map enums.options_in_enum (map tree.enum_statement_view body.now) in
-        Elaborates (λ o. option_map enum_options_view o) result (construct_faults env of.Enum enum_table os) (sets.enum_options (customs_bytes env of.Enum os) os) }
+    ensures { let env = environment_in (C.customs custom.now) context.now in
+        let os = flat_map enums.options_in_enum (map tree.enum_statement_view body.now) in
+        Elaborates (λ o. option_map enum_options_view o) result
+        (construct_faults env of.Enum enum_table os)
+        (sets.enum_options (customs_bytes env of.Enum os) os) }
 {
     let options = options_in(alloc, body)?;
     let bytes = checked_customs(
@@ -171,7 +187,9 @@ fn checked_options<C: CustomOptions>(
 
 /// The options of an enum.
 fn options_in(alloc: Global, body: &[EnumStatement]) -> Result<Vec<&ProtobufOption>, AllocError>
-    ensures { IfOk result (λ v. options_seen v.items ≡ flat_map enums.options_in_enum (map tree.enum_statement_view body.now)) }
+    ensures { IfOk result
+        (λ v. options_seen v.items
+        ≡ flat_map enums.options_in_enum (map tree.enum_statement_view body.now)) }
 {
     let mut options = Vec::new(alloc);
     for statement in body {
@@ -184,7 +202,9 @@ fn options_in(alloc: Global, body: &[EnumStatement]) -> Result<Vec<&ProtobufOpti
 
 /// What an enum reserves.
 fn reserves(alloc: Global, body: &[EnumStatement]) -> Result<Vec<&Reserved>, AllocError>
-    ensures { IfOk result (λ v. reserves_seen v.items ≡ flat_map enums.enum_reserves (map tree.enum_statement_view body.now)) }
+    ensures { IfOk result
+        (λ v. reserves_seen v.items
+        ≡ flat_map enums.enum_reserves (map tree.enum_statement_view body.now)) }
 {
     let mut reserves = Vec::new(alloc);
     for statement in body {

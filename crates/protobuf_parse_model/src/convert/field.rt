@@ -1,9 +1,11 @@
 //! Fields and groups.
 
-ghost use Rattle.std.specs.Prelude.{◌≡◌, ◌++◌, ◌<◌, ◌^◌, List, [], ◌∷◌, map, flat_map, IfSome, IfOk, option_map, string_bytes};
+ghost use Rattle.std.specs.Prelude.{◌≡◌, ◌++◌, ◌<◌, ◌^◌, List, [], ◌∷◌, map, flat_map, IfSome};
+ghost use Rattle.std.specs.Prelude.{IfOk, option_map, string_bytes};
 ghost use Rattle.std.specs.Borrow.{Bor};
 ghost use Rattle.protobuf_parse_syntax.specs.Trees.{field_view, group_view, option_view, type_view};
-ghost use Rattle.protobuf_parse_model.specs.Contexts.{environment_in, place_view, resolved_view, said_by, said_view, names_in};
+ghost use Rattle.protobuf_parse_model.specs.Contexts.{environment_in, place_view, resolved_view};
+ghost use Rattle.protobuf_parse_model.specs.Contexts.{said_by, said_view, names_in};
 ghost use Rattle.protobuf_parse_model.specs.OptionViews.{options_seen};
 ghost use Rattle.protobuf_parse_model.specs.Descriptors as described;
 ghost use Rattle.protobuf_parse_model.specs.Faults.{Elaborates};
@@ -32,8 +34,10 @@ pub fn field_descriptor<C: CustomOptions>(
     place: &FieldPlace<'_>,
     field: &Field,
 ) -> Result<FieldDescriptorProto, ElabFailure>
-    ensures { let env = environment_in (C.customs custom.now) context.now in let f = field_view field.now in
-        Elaborates described.field_view result (fields.field_faults env f) (fields.field_of env (place_view place.now) f) }
+    ensures { let env = environment_in (C.customs custom.now) context.now in
+        let f = field_view field.now in
+        Elaborates described.field_view result (fields.field_faults env f)
+        (fields.field_of env (place_view place.now) f) }
 {
     let resolved = resolved_type(alloc, context, &field.name, &field.type_)?;
     field_with(alloc, context, custom, place, field, resolved)
@@ -48,8 +52,11 @@ fn field_with<C: CustomOptions>(
     field: &Field,
     resolved: ResolvedType,
 ) -> Result<FieldDescriptorProto, ElabFailure>
-    ensures { let env = environment_in (C.customs custom.now) context.now in let f = field_view field.now in
-        Elaborates described.field_view result (fields.faults_of_options env resolved.kind f.name f.options) (fields.field_with env (place_view place.now) f (resolved_view resolved)) }
+    ensures { let env = environment_in (C.customs custom.now) context.now in
+        let f = field_view field.now in
+        Elaborates described.field_view result
+        (fields.faults_of_options env resolved.kind f.name f.options)
+        (fields.field_with env (place_view place.now) f (resolved_view resolved)) }
 {
     let said = field_said(
         alloc,
@@ -91,8 +98,10 @@ fn field_said<C: CustomOptions>(
     name: &str,
     options: &[ProtobufOption],
 ) -> Result<FieldSaid, ElabFailure>
-    ensures { let env = environment_in (C.customs custom.now) context.now in let os = map option_view options.now in
-        Elaborates said_view result (fields.faults_of_options env kind name.now os) (said_by env kind name.now os) }
+    ensures { let env = environment_in (C.customs custom.now) context.now in
+        let os = map option_view options.now in
+        Elaborates said_view result (fields.faults_of_options env kind name.now os)
+        (said_by env kind name.now os) }
 {
     let options = options_of(alloc, options)?;
     said_by_options(alloc, context, custom, kind, name, &options)
@@ -108,8 +117,10 @@ fn said_by_options<C: CustomOptions>(
     name: &str,
     options: &[&ProtobufOption],
 ) -> Result<FieldSaid, ElabFailure>
-    ensures { let env = environment_in (C.customs custom.now) context.now in let os = options_seen options.now in
-        Elaborates said_view result (fields.faults_of_options env kind name.now os) (said_by env kind name.now os) }
+    ensures { let env = environment_in (C.customs custom.now) context.now in
+        let os = options_seen options.now in
+        Elaborates said_view result (fields.faults_of_options env kind name.now os)
+        (said_by env kind name.now os) }
 {
     let default_value = default_value(alloc, kind, name, options)?;
     let json_name = json_name_of(alloc, name, options)?;
@@ -129,7 +140,8 @@ pub fn group_field(
     group: &Group,
 ) -> Result<FieldDescriptorProto, AllocError>
     ensures { IfOk result (λ d. let g = group_view group.now in
-        described.field_view d ≡ fields.group_field (names_in context.now) (place_view place.now) g.label g.name g.number) }
+        described.field_view d ≡ fields.group_field (names_in context.now)
+        (place_view place.now) g.label g.name g.number) }
 {
     let name = group_field_name(alloc, &group.name)?;
     let json_name = json_name(alloc, &name)?;

@@ -8,7 +8,8 @@ ghost use Rattle.protobuf_parse_model.specs.ConstructOptions.{construct_faults};
 ghost use Rattle.protobuf_parse_model.specs.Contexts.{environment_in, environment_of_file};
 ghost use Rattle.protobuf_parse_model.specs.Descriptors as described;
 ghost use Rattle.protobuf_parse_model.specs.Faults.{Elaborates};
-ghost use Rattle.protobuf_parse_model.specs.FileDescriptor.{file_faults, file_of, options_in_file, options_of_statements, syntax_text};
+ghost use Rattle.protobuf_parse_model.specs.FileDescriptor.{file_faults, file_of, options_in_file};
+ghost use Rattle.protobuf_parse_model.specs.FileDescriptor.{options_of_statements, syntax_text};
 ghost use Rattle.protobuf_parse_model.specs.Environment.{customs_bytes};
 ghost use Rattle.protobuf_parse_model.specs.OptionViews.{options_seen};
 ghost use Rattle.protobuf_parse_model.specs.Options.{file_options_view};
@@ -26,8 +27,9 @@ use std::alloc::{AllocError, Global};
 
 /// The descriptor of a file that is known by the path `name`, by what it sees.
 ///
-/// E1 where two messages, enums, extensions or services of the file have one name, the faults of its options
-/// and those inside what it declares. Where several faults stand, any one of them is told.
+/// E1 where two messages, enums, extensions or services of the file have one name, the faults of
+/// its options and those inside what it declares. Where several faults stand, any one of them is
+/// told.
 pub fn file_descriptor<C: CustomOptions>(
     alloc: Global,
     name: &str,
@@ -36,7 +38,8 @@ pub fn file_descriptor<C: CustomOptions>(
     custom: &C,
 ) -> Result<FileDescriptorProto, ElabFailure>
     requires few { statements_in (file_view tree.now) ≤ 2147483647 }
-    ensures { let t = file_view tree.now in let env = environment_of_file (C.customs custom.now) seen.now t in
+    ensures { let t = file_view tree.now in
+        let env = environment_of_file (C.customs custom.now) seen.now t in
         Elaborates described.file_view result (file_faults env t) (file_of env name.now t) }
 {
     let scope = package_scope(alloc, tree)?;
@@ -58,7 +61,8 @@ fn descriptor_in<C: CustomOptions>(
     tree: &FileTree,
 ) -> Result<FileDescriptorProto, ElabFailure>
     requires few { statements_in (file_view tree.now) ≤ 2147483647 }
-    ensures { let t = file_view tree.now in let env = environment_in (C.customs custom.now) context.now in
+    ensures { let t = file_view tree.now in
+        let env = environment_in (C.customs custom.now) context.now in
         Elaborates described.file_view result (file_faults env t) (file_of env name.now t) }
 {
     let contents = contents_of(alloc, context, custom, &tree.statements)?;
@@ -92,7 +96,8 @@ struct Heading {
 fn heading_of(alloc: Global, name: &str, tree: &FileTree) -> Result<Heading, AllocError>
     ensures name { IfOk result (λ h. string_bytes h.name ≡ name.now) }
     ensures syntax { IfOk result (λ h. string_bytes h.syntax ≡ syntax_text tree.now.syntax) }
-    ensures package_name { IfOk result (λ h. option_map string_bytes h.package_name ≡ package_of (file_view tree.now)) }
+    ensures package_name { IfOk result
+        (λ h. option_map string_bytes h.package_name ≡ package_of (file_view tree.now)) }
 {
     let name = String::from_str(alloc, name)?;
     let syntax = String::from_str(alloc, syntax_text(tree.syntax))?;
@@ -112,8 +117,11 @@ fn checked_options<C: CustomOptions>(
     custom: &C,
     statements: &[FileStatement],
 ) -> Result<Option<FileOptions>, ElabFailure>
-    ensures { let env = environment_in (C.customs custom.now) context.now in let os = options_of_statements (map statement_view statements.now) in
-        Elaborates (λ o. option_map file_options_view o) result (construct_faults env of.File file_table os) (sets.file_options (customs_bytes env of.File os) os) }
+    ensures { let env = environment_in (C.customs custom.now) context.now in
+        let os = options_of_statements (map statement_view statements.now) in
+        Elaborates (λ o. option_map file_options_view o) result
+        (construct_faults env of.File file_table os)
+        (sets.file_options (customs_bytes env of.File os) os) }
 {
     let options = options_in(alloc, statements)?;
     let bytes = checked_customs(
@@ -132,7 +140,8 @@ fn options_in(
     alloc: Global,
     statements: &[FileStatement],
 ) -> Result<Vec<&ProtobufOption>, AllocError>
-    ensures { IfOk result (λ v. options_seen v.items ≡ flat_map options_in_file (map statement_view statements.now)) }
+    ensures { IfOk result
+        (λ v. options_seen v.items ≡ flat_map options_in_file (map statement_view statements.now)) }
 {
     let mut options = Vec::new(alloc);
     for statement in statements {

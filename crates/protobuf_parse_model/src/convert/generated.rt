@@ -1,7 +1,9 @@
 //! The messages that stand behind maps and groups.
 
-ghost use Rattle.std.specs.Prelude.{◌≡◌, ◌++◌, pos, ℤ, List, [], ◌∷◌, map, flat_map, option_map, option_to_list, string_bytes, IfOk};
-ghost use Rattle.protobuf_parse_syntax.specs.Trees.{field_statement_view, field_view, group_view, type_view};
+ghost use Rattle.std.specs.Prelude.{◌≡◌, ◌++◌, pos, ℤ, List, [], ◌∷◌, map, flat_map, option_map};
+ghost use Rattle.std.specs.Prelude.{option_to_list, string_bytes, IfOk};
+ghost use Rattle.protobuf_parse_syntax.specs.Trees.{field_statement_view, field_view, group_view};
+ghost use Rattle.protobuf_parse_syntax.specs.Trees.{type_view};
 ghost use Rattle.protobuf_parse_model.specs.Contexts.{environment_in, resolved_view, names_in};
 ghost use Rattle.protobuf_parse_model.specs.Descriptors as described;
 ghost use Rattle.protobuf_parse_model.specs.Duplicates.{duplicates};
@@ -30,7 +32,9 @@ pub fn map_entry(
     type_: &Type,
 ) -> Result<Option<DescriptorProto>, ElabFailure>
     ensures { let env = names_in context.now in
-        Elaborates (λ m. map described.message_view (option_to_list m)) result (fields.type_faults env name.now (type_view type_.now)) (messages.entries_of env name.now (type_view type_.now)) }
+        Elaborates (λ m. map described.message_view (option_to_list m)) result
+        (fields.type_faults env name.now (type_view type_.now))
+        (messages.entries_of env name.now (type_view type_.now)) }
 {
     match type_ {
         Type::Map(key, value) => Ok(Some(entry(alloc, context, name, key, value)?)),
@@ -51,8 +55,11 @@ fn entry(
     key: &Type,
     value: &Type,
 ) -> Result<DescriptorProto, ElabFailure>
-    ensures { let env = names_in context.now in let k = type_view key.now in let v = type_view value.now in
-        Elaborates described.message_view result (fields.inner_type_faults env name.now k ++ fields.inner_type_faults env name.now v) (messages.entry_of env name.now k v) }
+    ensures { let env = names_in context.now in let k = type_view key.now in
+        let v = type_view value.now in
+        Elaborates described.message_view result
+        (fields.inner_type_faults env name.now k ++ fields.inner_type_faults env name.now v)
+        (messages.entry_of env name.now k v) }
 {
     let key = inner_type(alloc, context, name, key)?;
     let value = inner_type(alloc, context, name, value)?;
@@ -65,7 +72,9 @@ fn entry_message(
     key: ResolvedType,
     value: ResolvedType,
 ) -> Result<DescriptorProto, AllocError>
-    ensures { IfOk result (λ m. described.message_view m ≡ messages.entry_message name.now (resolved_view key) (resolved_view value)) }
+    ensures { IfOk result
+        (λ m. described.message_view m
+        ≡ messages.entry_message name.now (resolved_view key) (resolved_view value)) }
 {
     let mut field = Vec::new(alloc);
     field.push(entry_field(alloc, "key", 1, key)?)?;
@@ -87,7 +96,8 @@ fn entry_field(
     number: i32,
     type_: ResolvedType,
 ) -> Result<FieldDescriptorProto, AllocError>
-    ensures { IfOk result (λ f. described.field_view f ≡ messages.entry_field name.now number (resolved_view type_)) }
+    ensures { IfOk result
+        (λ f. described.field_view f ≡ messages.entry_field name.now number (resolved_view type_)) }
 {
     Ok(FieldDescriptorProto {
         name: String::from_str(alloc, name)?,
@@ -111,7 +121,9 @@ fn message_with(
     field: Vec<FieldDescriptorProto>,
     options: Option<MessageOptions>,
 ) -> DescriptorProto
-    ensures { described.message_view result ≡ messages.message_with (string_bytes name) (map described.field_view field.items) (option_map message_options_view options) }
+    ensures { described.message_view result
+        ≡ messages.message_with (string_bytes name) (map described.field_view field.items)
+        (option_map message_options_view options) }
 {
     DescriptorProto {
         name,
@@ -135,8 +147,10 @@ pub fn group_message<C: CustomOptions>(
     custom: &C,
     group: &Group,
 ) -> Result<DescriptorProto, ElabFailure>
-    ensures { let env = environment_in (C.customs custom.now) context.now in let g = group_view group.now in
-        Elaborates described.message_view result (fields.group_faults env g.fields) (messages.group_message env g.name g.fields) }
+    ensures { let env = environment_in (C.customs custom.now) context.now in
+        let g = group_view group.now in
+        Elaborates described.message_view result (fields.group_faults env g.fields)
+        (messages.group_message env g.name g.fields) }
 {
     let field = grouped_fields(alloc, context, custom, &group.fields)?;
     check_unique(alloc, &names_of_fields(alloc, &field)?)?;
@@ -151,8 +165,11 @@ fn grouped_fields<C: CustomOptions>(
     custom: &C,
     statements: &[FieldStatement],
 ) -> Result<Vec<FieldDescriptorProto>, ElabFailure>
-    ensures { let env = environment_in (C.customs custom.now) context.now in let ss = map field_statement_view statements.now in
-        Elaborates (λ v. map described.field_view v.items) result (flat_map (fields.grouped_faults env) ss) (map (fields.field_statement_of env fields.plain) ss) }
+    ensures { let env = environment_in (C.customs custom.now) context.now in
+        let ss = map field_statement_view statements.now in
+        Elaborates (λ v. map described.field_view v.items) result
+        (flat_map (fields.grouped_faults env) ss)
+        (map (fields.field_statement_of env fields.plain) ss) }
 {
     let mut fields = Vec::new(alloc);
     for statement in statements {
@@ -168,8 +185,10 @@ fn grouped_field<C: CustomOptions>(
     custom: &C,
     statement: &FieldStatement,
 ) -> Result<FieldDescriptorProto, ElabFailure>
-    ensures { let env = environment_in (C.customs custom.now) context.now in let s = field_statement_view statement.now in
-        Elaborates described.field_view result (fields.grouped_faults env s) (fields.field_statement_of env fields.plain s) }
+    ensures { let env = environment_in (C.customs custom.now) context.now in
+        let s = field_statement_view statement.now in
+        Elaborates described.field_view result (fields.grouped_faults env s)
+        (fields.field_statement_of env fields.plain s) }
 {
     match statement {
         FieldStatement::Field(field) => grouped_plain(alloc, context, custom, field),
@@ -188,8 +207,10 @@ fn grouped_plain<C: CustomOptions>(
     custom: &C,
     field: &Field,
 ) -> Result<FieldDescriptorProto, ElabFailure>
-    ensures { let env = environment_in (C.customs custom.now) context.now in let f = field_view field.now in
-        Elaborates described.field_view result (fields.map_faults f ++ fields.field_faults env f) (fields.field_of env fields.plain f) }
+    ensures { let env = environment_in (C.customs custom.now) context.now in
+        let f = field_view field.now in
+        Elaborates described.field_view result (fields.map_faults f ++ fields.field_faults env f)
+        (fields.field_of env fields.plain f) }
 {
     check_no_map(alloc, field)?;
     let place = FieldPlace {

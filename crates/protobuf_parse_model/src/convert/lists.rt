@@ -1,8 +1,11 @@
 //! Several fields: those of a oneof, and those of an `extend`.
 
 ghost use Rattle.std.specs.Prelude.{◌≡◌, ◌++◌, map, flat_map, option_to_list, IfOk, OnOk};
-ghost use Rattle.protobuf_parse_syntax.specs.Trees.{field_statement_view, oneof_statement_view, oneof_view};
-ghost use Rattle.protobuf_parse_model.specs.Contexts.{declared_by, declared_view, environment_in, fields_declared, fields_view, place_view, statements_seen};
+ghost use Rattle.protobuf_parse_syntax.specs.Trees.{field_statement_view, oneof_statement_view};
+ghost use Rattle.protobuf_parse_syntax.specs.Trees.{oneof_view};
+ghost use Rattle.protobuf_parse_model.specs.Contexts.{declared_by, declared_view, environment_in};
+ghost use Rattle.protobuf_parse_model.specs.Contexts.{fields_declared, fields_view, place_view};
+ghost use Rattle.protobuf_parse_model.specs.Contexts.{statements_seen};
 ghost use Rattle.protobuf_parse_model.specs.Faults.{Elaborates};
 ghost use Rattle.protobuf_parse_model.specs.Fields.{field_statement_faults};
 ghost use Rattle.protobuf_parse_model.specs.Messages.{extending, extension_faults_of};
@@ -33,8 +36,10 @@ pub fn fields_of_oneof<C: CustomOptions>(
     place: &FieldPlace<'_>,
     oneof: &OneOf,
 ) -> Result<DeclaredFields, ElabFailure>
-    ensures { let env = environment_in (C.customs custom.now) context.now in let ss = flat_map oneof_fields (oneof_view oneof.now).body in
-        Elaborates fields_view result (flat_map (field_statement_faults env) ss) (fields_declared env (place_view place.now) ss) }
+    ensures { let env = environment_in (C.customs custom.now) context.now in
+        let ss = flat_map oneof_fields (oneof_view oneof.now).body in
+        Elaborates fields_view result (flat_map (field_statement_faults env) ss)
+        (fields_declared env (place_view place.now) ss) }
 {
     let statements = fields_in(alloc, &oneof.body)?;
     declared_fields(alloc, context, custom, place, &statements)
@@ -42,7 +47,8 @@ pub fn fields_of_oneof<C: CustomOptions>(
 
 /// The statements of a oneof that declare fields.
 fn fields_in(alloc: Global, body: &[OneOfStatement]) -> Result<Vec<&FieldStatement>, AllocError>
-    ensures { IfOk result (λ v. statements_seen v.items ≡ flat_map oneof_fields (map oneof_statement_view body.now)) }
+    ensures { IfOk result
+        (λ v. statements_seen v.items ≡ flat_map oneof_fields (map oneof_statement_view body.now)) }
 {
     let mut fields = Vec::new(alloc);
     for statement in body {
@@ -62,8 +68,10 @@ fn declared_fields<C: CustomOptions>(
     place: &FieldPlace<'_>,
     statements: &[&FieldStatement],
 ) -> Result<DeclaredFields, ElabFailure>
-    ensures { let env = environment_in (C.customs custom.now) context.now in let ss = statements_seen statements.now in
-        Elaborates fields_view result (flat_map (field_statement_faults env) ss) (fields_declared env (place_view place.now) ss) }
+    ensures { let env = environment_in (C.customs custom.now) context.now in
+        let ss = statements_seen statements.now in
+        Elaborates fields_view result (flat_map (field_statement_faults env) ss)
+        (fields_declared env (place_view place.now) ss) }
 {
     let mut fields = Vec::new(alloc);
     let mut behind = Vec::new(alloc);
@@ -84,8 +92,10 @@ pub fn fields_of_extend<C: CustomOptions>(
     extendee: &str,
     statements: &[FieldStatement],
 ) -> Result<DeclaredFields, ElabFailure>
-    ensures { let env = environment_in (C.customs custom.now) context.now in let ss = map field_statement_view statements.now in
-        Elaborates fields_view result (flat_map (extension_faults_of env extendee.now) ss) (fields_declared env (extending env extendee.now) ss) }
+    ensures { let env = environment_in (C.customs custom.now) context.now in
+        let ss = map field_statement_view statements.now in
+        Elaborates fields_view result (flat_map (extension_faults_of env extendee.now) ss)
+        (fields_declared env (extending env extendee.now) ss) }
 {
     let mut fields = Vec::new(alloc);
     let mut behind = Vec::new(alloc);
@@ -97,8 +107,8 @@ pub fn fields_of_extend<C: CustomOptions>(
     Ok(DeclaredFields { fields, behind })
 }
 
-/// What a statement of an `extend` declares. E2 or E3 where the name of the message that is extended
-/// means none.
+/// What a statement of an `extend` declares. E2 or E3 where the name of the message that is
+/// extended means none.
 #[tactic(auto, using(crate::proofs::Blaming::blames_left, crate::proofs::Blaming::blames_right))]
 fn extension<C: CustomOptions>(
     alloc: Global,
@@ -107,8 +117,10 @@ fn extension<C: CustomOptions>(
     extendee: &str,
     statement: &FieldStatement,
 ) -> Result<DeclaredField, ElabFailure>
-    ensures { let env = environment_in (C.customs custom.now) context.now in let s = field_statement_view statement.now in
-        Elaborates declared_view result (extension_faults_of env extendee.now s) (declared_by env (extending env extendee.now) s) }
+    ensures { let env = environment_in (C.customs custom.now) context.now in
+        let s = field_statement_view statement.now in
+        Elaborates declared_view result (extension_faults_of env extendee.now s)
+        (declared_by env (extending env extendee.now) s) }
 {
     let extendee = type_full_name(alloc, context, extendee)?;
     let place = FieldPlace {

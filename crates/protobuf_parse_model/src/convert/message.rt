@@ -1,10 +1,12 @@
 //! Messages.
 
-ghost use Rattle.std.specs.Prelude.{◌≡◌, ◌++◌, ◌<◌, ◌≤◌, ◌^◌, List, [], ◌∷◌, length, map, flat_map, string_bytes, sum_by, IfOk};
+ghost use Rattle.std.specs.Prelude.{◌≡◌, ◌++◌, ◌<◌, ◌≤◌, ◌^◌, List, [], ◌∷◌, length, map, flat_map};
+ghost use Rattle.std.specs.Prelude.{string_bytes, sum_by, IfOk};
 ghost use Rattle.protobuf_parse_syntax.specs.Counts.{in_message, message_statement_count};
 ghost use Rattle.protobuf_parse_syntax.specs.Trees.{message_statement_view, message_view};
 ghost use Rattle.protobuf_parse_model.specs.Contexts as contexts;
-ghost use Rattle.protobuf_parse_model.specs.Contexts.{body_view, environment_in, names_faults, texts, with_statement};
+ghost use Rattle.protobuf_parse_model.specs.Contexts.{body_view, environment_in, names_faults};
+ghost use Rattle.protobuf_parse_model.specs.Contexts.{texts, with_statement};
 ghost use Rattle.protobuf_parse_model.specs.Declarations as names;
 ghost use Rattle.protobuf_parse_model.specs.Descriptors as described;
 ghost use Rattle.protobuf_parse_model.specs.Environment.{inside};
@@ -23,8 +25,8 @@ use std::alloc::{AllocError, Global};
 
 /// The descriptor of a message, with all that stands inside it.
 ///
-/// E1 where two fields, oneofs, extensions, enums or messages of one body have one name, E7 where a range
-/// ends at the largest number, and the faults of what stands in it.
+/// E1 where two fields, oneofs, extensions, enums or messages of one body have one name, E7 where a
+/// range ends at the largest number, and the faults of what stands in it.
 #[cycle(message)]
 pub fn message_descriptor<C: CustomOptions>(
     alloc: Global,
@@ -33,8 +35,10 @@ pub fn message_descriptor<C: CustomOptions>(
     message: &Message,
 ) -> Result<DescriptorProto, ElabFailure>
     requires few { in_message (message_view message.now) ≤ 2147483647 }
-    ensures { let env = environment_in (C.customs custom.now) context.now in let m = message_view message.now in
-        Elaborates described.message_view result (messages.message_faults env m) (messages.message_of env m) }
+    ensures { let env = environment_in (C.customs custom.now) context.now in
+        let m = message_view message.now in
+        Elaborates described.message_view result (messages.message_faults env m)
+        (messages.message_of env m) }
 {
     message_of_body(alloc, context, custom, &message.name, &message.body)
 }
@@ -48,9 +52,12 @@ fn message_of_body<C: CustomOptions>(
     name: &str,
     body: &[MessageStatement],
 ) -> Result<DescriptorProto, ElabFailure>
-    requires few { sum_by message_statement_count (map message_statement_view body.now) ≤ 2147483647 }
-    ensures { let env = environment_in (C.customs custom.now) context.now in let ss = map message_statement_view body.now in
-        Elaborates described.message_view result (messages.faults_of_body env name.now ss) (messages.message_of_body env name.now ss) }
+    requires few { sum_by message_statement_count (map message_statement_view body.now)
+        ≤ 2147483647 }
+    ensures { let env = environment_in (C.customs custom.now) context.now in
+        let ss = map message_statement_view body.now in
+        Elaborates described.message_view result (messages.faults_of_body env name.now ss)
+        (messages.message_of_body env name.now ss) }
 {
     let parts = body_inside(alloc, context, custom, name, body)?;
     finished(alloc, context, custom, name, body, parts)
@@ -66,8 +73,11 @@ fn finished<C: CustomOptions>(
     body: &[MessageStatement],
     parts: Body,
 ) -> Result<DescriptorProto, ElabFailure>
-    ensures { let env = environment_in (C.customs custom.now) context.now in let ss = map message_statement_view body.now in
-        Elaborates described.message_view result (names_faults (body_view parts) ++ messages.rest_faults env name.now ss) (contexts.message_with name.now (body_view parts) (contexts.rest_of env ss)) }
+    ensures { let env = environment_in (C.customs custom.now) context.now in
+        let ss = map message_statement_view body.now in
+        Elaborates described.message_view result
+        (names_faults (body_view parts) ++ messages.rest_faults env name.now ss)
+        (contexts.message_with name.now (body_view parts) (contexts.rest_of env ss)) }
 {
     check_names(alloc, &parts)?;
     let rest = rest_of_message(alloc, context, custom, name, body)?;
@@ -77,7 +87,8 @@ fn finished<C: CustomOptions>(
 
 /// A message of these parts.
 fn assembled(name: String, body: Body, rest: Rest) -> DescriptorProto
-    ensures { described.message_view result ≡ contexts.message_with (string_bytes name) (body_view body) (contexts.rest_view rest) }
+    ensures { described.message_view result
+        ≡ contexts.message_with (string_bytes name) (body_view body) (contexts.rest_view rest) }
 {
     DescriptorProto {
         name,
@@ -128,9 +139,12 @@ fn body_inside<C: CustomOptions>(
     name: &str,
     body: &[MessageStatement],
 ) -> Result<Body, ElabFailure>
-    requires few { sum_by message_statement_count (map message_statement_view body.now) ≤ 2147483647 }
-    ensures { let env = inside (environment_in (C.customs custom.now) context.now) name.now in let ss = map message_statement_view body.now in
-        Elaborates body_view result (flat_map (messages.statement_faults env) ss) (contexts.body_of env ss) }
+    requires few { sum_by message_statement_count (map message_statement_view body.now)
+        ≤ 2147483647 }
+    ensures { let env = inside (environment_in (C.customs custom.now) context.now) name.now in
+        let ss = map message_statement_view body.now in
+        Elaborates body_view result (flat_map (messages.statement_faults env) ss)
+        (contexts.body_of env ss) }
 {
     let scope = scope_inside(alloc, context.scope, name)?;
     let inner = Context {
@@ -150,9 +164,12 @@ fn body_of<C: CustomOptions>(
     custom: &C,
     statements: &[MessageStatement],
 ) -> Result<Body, ElabFailure>
-    requires few { sum_by message_statement_count (map message_statement_view statements.now) ≤ 2147483647 }
-    ensures { let env = environment_in (C.customs custom.now) context.now in let ss = map message_statement_view statements.now in
-        Elaborates body_view result (flat_map (messages.statement_faults env) ss) (contexts.body_of env ss) }
+    requires few { sum_by message_statement_count (map message_statement_view statements.now)
+        ≤ 2147483647 }
+    ensures { let env = environment_in (C.customs custom.now) context.now in
+        let ss = map message_statement_view statements.now in
+        Elaborates body_view result (flat_map (messages.statement_faults env) ss)
+        (contexts.body_of env ss) }
 {
     let mut body = Body {
         field: Vec::new(alloc),
@@ -178,8 +195,10 @@ fn add_statement<C: CustomOptions>(
 ) -> Result<(), ElabFailure>
     requires places { length body.old.oneof_decl.items < 2 ^ 31 }
     requires few { message_statement_count (message_statement_view statement.now) ≤ 2147483647 }
-    ensures { let env = environment_in (C.customs custom.now) context.now in let s = message_statement_view statement.now in
-        Elaborates (λ _. body_view body.new) result (messages.statement_faults env s) (with_statement env (body_view body.old) s) }
+    ensures { let env = environment_in (C.customs custom.now) context.now in
+        let s = message_statement_view statement.now in
+        Elaborates (λ _. body_view body.new) result (messages.statement_faults env s)
+        (with_statement env (body_view body.old) s) }
 {
     match statement {
         MessageStatement::Field(field) => add_field(alloc, context, custom, body, field),
@@ -203,8 +222,10 @@ fn add_message<C: CustomOptions>(
     message: &Message,
 ) -> Result<(), ElabFailure>
     requires few { in_message (message_view message.now) ≤ 2147483647 }
-    ensures { let env = environment_in (C.customs custom.now) context.now in let m = message_view message.now in
-        Elaborates (λ _. body_view body.new) result (messages.message_faults env m) (contexts.with_message (body_view body.old) (messages.message_of env m)) }
+    ensures { let env = environment_in (C.customs custom.now) context.now in
+        let m = message_view message.now in
+        Elaborates (λ _. body_view body.new) result (messages.message_faults env m)
+        (contexts.with_message (body_view body.old) (messages.message_of env m)) }
 {
     let nested = message_descriptor(alloc, context, custom, message)?;
     Ok(body.nested_type.push(nested)?)

@@ -22,7 +22,8 @@ pub fn names_of_fields(
     alloc: Global,
     fields: &[FieldDescriptorProto],
 ) -> Result<Vec<&str>, AllocError>
-    ensures { IfOk result (λ v. texts v.items ≡ spec.names_of_fields (map described.field_view fields.now)) }
+    ensures { IfOk result
+        (λ v. texts v.items ≡ spec.names_of_fields (map described.field_view fields.now)) }
 {
     let mut names = Vec::new(alloc);
     for field in fields {
@@ -36,7 +37,8 @@ pub fn names_of_oneofs(
     alloc: Global,
     oneofs: &[OneofDescriptorProto],
 ) -> Result<Vec<&str>, AllocError>
-    ensures { IfOk result (λ v. texts v.items ≡ bodies.names_of_oneofs (map described.oneof_view oneofs.now)) }
+    ensures { IfOk result
+        (λ v. texts v.items ≡ bodies.names_of_oneofs (map described.oneof_view oneofs.now)) }
 {
     let mut names = Vec::new(alloc);
     for oneof in oneofs {
@@ -47,7 +49,8 @@ pub fn names_of_oneofs(
 
 /// The names of enums.
 pub fn names_of_enums(alloc: Global, enums: &[EnumDescriptorProto]) -> Result<Vec<&str>, AllocError>
-    ensures { IfOk result (λ v. texts v.items ≡ bodies.names_of_enums (map described.enum_view enums.now)) }
+    ensures { IfOk result
+        (λ v. texts v.items ≡ bodies.names_of_enums (map described.enum_view enums.now)) }
 {
     let mut names = Vec::new(alloc);
     for each in enums {
@@ -61,7 +64,8 @@ pub fn names_of_messages(
     alloc: Global,
     messages: &[DescriptorProto],
 ) -> Result<Vec<&str>, AllocError>
-    ensures { IfOk result (λ v. texts v.items ≡ bodies.names_of_messages (map described.message_view messages.now)) }
+    ensures { IfOk result
+        (λ v. texts v.items ≡ bodies.names_of_messages (map described.message_view messages.now)) }
 {
     let mut names = Vec::new(alloc);
     for message in messages {
@@ -75,7 +79,8 @@ pub fn names_of_services(
     alloc: Global,
     services: &[ServiceDescriptorProto],
 ) -> Result<Vec<&str>, AllocError>
-    ensures { IfOk result (λ v. texts v.items ≡ files.names_of_services (map described.service_view services.now)) }
+    ensures { IfOk result
+        (λ v. texts v.items ≡ files.names_of_services (map described.service_view services.now)) }
 {
     let mut names = Vec::new(alloc);
     for service in services {
@@ -86,28 +91,32 @@ pub fn names_of_services(
 
 /// Refuses two fields that have one name: E1.
 pub fn unlike_fields(alloc: Global, fields: &[FieldDescriptorProto]) -> Result<(), ElabFailure>
-    ensures { Elaborates (λ u. u) result (duplicates (spec.names_of_fields (map described.field_view fields.now))) tt }
+    ensures { Elaborates (λ u. u) result
+        (duplicates (spec.names_of_fields (map described.field_view fields.now))) tt }
 {
     check_unique(alloc, &names_of_fields(alloc, fields)?)
 }
 
 /// Refuses two oneofs that have one name: E1.
 pub fn unlike_oneofs(alloc: Global, oneofs: &[OneofDescriptorProto]) -> Result<(), ElabFailure>
-    ensures { Elaborates (λ u. u) result (duplicates (bodies.names_of_oneofs (map described.oneof_view oneofs.now))) tt }
+    ensures { Elaborates (λ u. u) result
+        (duplicates (bodies.names_of_oneofs (map described.oneof_view oneofs.now))) tt }
 {
     check_unique(alloc, &names_of_oneofs(alloc, oneofs)?)
 }
 
 /// Refuses two enums that have one name: E1.
 pub fn unlike_enums(alloc: Global, enums: &[EnumDescriptorProto]) -> Result<(), ElabFailure>
-    ensures { Elaborates (λ u. u) result (duplicates (bodies.names_of_enums (map described.enum_view enums.now))) tt }
+    ensures { Elaborates (λ u. u) result
+        (duplicates (bodies.names_of_enums (map described.enum_view enums.now))) tt }
 {
     check_unique(alloc, &names_of_enums(alloc, enums)?)
 }
 
 /// Refuses two messages that have one name: E1.
 pub fn unlike_messages(alloc: Global, messages: &[DescriptorProto]) -> Result<(), ElabFailure>
-    ensures { Elaborates (λ u. u) result (duplicates (bodies.names_of_messages (map described.message_view messages.now))) tt }
+    ensures { Elaborates (λ u. u) result
+        (duplicates (bodies.names_of_messages (map described.message_view messages.now))) tt }
 {
     check_unique(alloc, &names_of_messages(alloc, messages)?)
 }
@@ -117,7 +126,8 @@ pub fn unlike_services(
     alloc: Global,
     services: &[ServiceDescriptorProto],
 ) -> Result<(), ElabFailure>
-    ensures { Elaborates (λ u. u) result (duplicates (files.names_of_services (map described.service_view services.now))) tt }
+    ensures { Elaborates (λ u. u) result
+        (duplicates (files.names_of_services (map described.service_view services.now))) tt }
 {
     check_unique(alloc, &names_of_services(alloc, services)?)
 }

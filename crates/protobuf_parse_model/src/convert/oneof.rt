@@ -1,7 +1,8 @@
 //! Oneofs.
 
 ghost use Rattle.std.specs.Prelude.{◌≡◌, ◌++◌, codes, map, flat_map, option_map, IfOk};
-ghost use Rattle.protobuf_parse_syntax.specs.Trees.{field_statement_view, oneof_statement_view, oneof_view};
+ghost use Rattle.protobuf_parse_syntax.specs.Trees.{field_statement_view, oneof_statement_view};
+ghost use Rattle.protobuf_parse_syntax.specs.Trees.{oneof_view};
 ghost use Rattle.protobuf_parse_model.specs.BuiltinOptions.{oneof_table};
 ghost use Rattle.protobuf_parse_model.specs.ConstructOptions.{construct_faults};
 ghost use Rattle.protobuf_parse_model.specs.Contexts.{environment_in, names_in};
@@ -31,8 +32,11 @@ pub fn oneof_descriptor<C: CustomOptions>(
     custom: &C,
     oneof: &OneOf,
 ) -> Result<OneofDescriptorProto, ElabFailure>
-    ensures { let env = environment_in (C.customs custom.now) context.now in let o = oneof_view oneof.now in
-        Elaborates described.oneof_view result (construct_faults env of.Oneof oneof_table (messages.options_in_oneof o)) (messages.oneof_of env o) }
+    ensures { let env = environment_in (C.customs custom.now) context.now in
+        let o = oneof_view oneof.now in
+        Elaborates described.oneof_view result
+        (construct_faults env of.Oneof oneof_table (messages.options_in_oneof o))
+        (messages.oneof_of env o) }
 {
     let options = checked_options(alloc, context, custom, &oneof.body)?;
     Ok(OneofDescriptorProto {
@@ -48,8 +52,11 @@ fn checked_options<C: CustomOptions>(
     custom: &C,
     body: &[OneOfStatement],
 ) -> Result<Option<OneofOptions>, ElabFailure>
-    ensures { let env = environment_in (C.customs custom.now) context.now in let os = flat_map statements.oneof_options (map oneof_statement_view body.now) in
-        Elaborates (λ o. option_map oneof_options_view o) result (construct_faults env of.Oneof oneof_table os) (sets.oneof_options (customs_bytes env of.Oneof os) os) }
+    ensures { let env = environment_in (C.customs custom.now) context.now in
+        let os = flat_map statements.oneof_options (map oneof_statement_view body.now) in
+        Elaborates (λ o. option_map oneof_options_view o) result
+        (construct_faults env of.Oneof oneof_table os)
+        (sets.oneof_options (customs_bytes env of.Oneof os) os) }
 {
     let options = options_in(alloc, body)?;
     let bytes = checked_customs(
@@ -65,7 +72,9 @@ fn checked_options<C: CustomOptions>(
 
 /// The options of a oneof.
 fn options_in(alloc: Global, body: &[OneOfStatement]) -> Result<Vec<&ProtobufOption>, AllocError>
-    ensures { IfOk result (λ v. options_seen v.items ≡ flat_map statements.oneof_options (map oneof_statement_view body.now)) }
+    ensures { IfOk result
+        (λ v. options_seen v.items
+        ≡ flat_map statements.oneof_options (map oneof_statement_view body.now)) }
 {
     let mut options = Vec::new(alloc);
     for statement in body {
@@ -78,7 +87,8 @@ fn options_in(alloc: Global, body: &[OneOfStatement]) -> Result<Vec<&ProtobufOpt
 
 /// Whether the field is alone in a oneof of its own: in proto3 with the label `optional`.
 pub fn has_own_oneof(context: &Context<'_>, statement: &FieldStatement) -> bool
-    ensures { result ≡ messages.has_own_oneof (names_in context.now) (field_statement_view statement.now) }
+    ensures { result ≡ messages.has_own_oneof (names_in context.now)
+        (field_statement_view statement.now) }
 {
     match statement {
         FieldStatement::Field(field) => says_optional(context.syntax, field.label),

@@ -11,7 +11,8 @@ use std::collections::HashSet;
 
 /// Refuses a name that stands among those before it: E1.
 pub fn check_unique(alloc: Global, names: &[&str]) -> Result<(), ElabFailure>
-    ensures { Elaborates (λ u. u) result (duplicates (map (λ (s : Bor (List ℕ)). s.now) names.now)) tt }
+    ensures { Elaborates (λ u. u) result
+        (duplicates (map (λ (s : Bor (List ℕ)). s.now) names.now)) tt }
 {
     let mut seen: HashSet<&str> = HashSet::new(alloc);
     for name in names {

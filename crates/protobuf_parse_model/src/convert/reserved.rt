@@ -19,7 +19,8 @@ pub fn ranges_reserved(
     alloc: Global,
     statements: &[&Reserved],
 ) -> Result<Vec<FieldNumberRange>, AllocError>
-    ensures { IfOk result (λ v. map range_view v.items ≡ flat_map ranges_reserved (reserves_seen statements.now)) }
+    ensures { IfOk result
+        (λ v. map range_view v.items ≡ flat_map ranges_reserved (reserves_seen statements.now)) }
 {
     let mut ranges = Vec::new(alloc);
     for statement in statements {
@@ -32,7 +33,8 @@ pub fn ranges_reserved(
 
 /// The names that these statements reserve.
 pub fn names_reserved(alloc: Global, statements: &[&Reserved]) -> Result<Vec<String>, AllocError>
-    ensures { IfOk result (λ v. map string_bytes v.items ≡ flat_map names_reserved (reserves_seen statements.now)) }
+    ensures { IfOk result
+        (λ v. map string_bytes v.items ≡ flat_map names_reserved (reserves_seen statements.now)) }
 {
     let mut names = Vec::new(alloc);
     for statement in statements {
@@ -46,7 +48,9 @@ fn push_names(
     names: &mut Vec<String>,
     statement: &Reserved,
 ) -> Result<(), AllocError>
-    ensures { OnOk result (map string_bytes names.new.items ≡ map string_bytes names.old.items ++ names_reserved (reserved_view statement.now)) }
+    ensures { OnOk result
+        (map string_bytes names.new.items ≡ map string_bytes names.old.items
+        ++ names_reserved (reserved_view statement.now)) }
 {
     match statement {
         Reserved::Ranges(_) => Ok(()),
@@ -55,7 +59,9 @@ fn push_names(
 }
 
 fn push_clones(names: &mut Vec<String>, more: &[String]) -> Result<(), AllocError>
-    ensures { OnOk result (map string_bytes names.new.items ≡ map string_bytes names.old.items ++ map string_bytes more.now) }
+    ensures { OnOk result
+        (map string_bytes names.new.items ≡ map string_bytes names.old.items
+        ++ map string_bytes more.now) }
 {
     for name in more {
         names.push(name.clone()?)?;
@@ -68,7 +74,8 @@ pub fn inclusive_ranges(
     alloc: Global,
     ranges: &[FieldNumberRange],
 ) -> Result<Vec<EnumReservedRange>, AllocError>
-    ensures { IfOk result (λ v. map described.enum_range_view v.items ≡ map inclusive (map range_view ranges.now)) }
+    ensures { IfOk result
+        (λ v. map described.enum_range_view v.items ≡ map inclusive (map range_view ranges.now)) }
 {
     let mut found = Vec::new(alloc);
     for range in ranges {
@@ -88,7 +95,8 @@ pub fn extension_ranges(
     ranges: &[FieldNumberRange],
 ) -> Result<Vec<ExtensionRange>, ElabFailure>
     ensures { let rs = map range_view ranges.now in
-        Elaborates (λ v. map described.extension_range_view v.items) result (flat_map (range_faults name.now) rs) (map exclusive rs) }
+        Elaborates (λ v. map described.extension_range_view v.items) result
+        (flat_map (range_faults name.now) rs) (map exclusive rs) }
 {
     let mut found = Vec::new(alloc);
     for range in ranges {
@@ -102,7 +110,8 @@ fn extension_range(
     name: &str,
     range: &FieldNumberRange,
 ) -> Result<ExtensionRange, ElabFailure>
-    ensures { Elaborates described.extension_range_view result (range_faults name.now (range_view range.now)) (exclusive (range_view range.now)) }
+    ensures { Elaborates described.extension_range_view result
+        (range_faults name.now (range_view range.now)) (exclusive (range_view range.now)) }
 {
     let end = end_behind(alloc, name, range)?;
     Ok(ExtensionRange {
@@ -119,7 +128,8 @@ pub fn reserved_ranges(
     ranges: &[FieldNumberRange],
 ) -> Result<Vec<ReservedRange>, ElabFailure>
     ensures { let rs = map range_view ranges.now in
-        Elaborates (λ v. map described.reserved_range_view v.items) result (flat_map (range_faults name.now) rs) (map exclusive rs) }
+        Elaborates (λ v. map described.reserved_range_view v.items) result
+        (flat_map (range_faults name.now) rs) (map exclusive rs) }
 {
     let mut found = Vec::new(alloc);
     for range in ranges {
@@ -133,7 +143,8 @@ fn reserved_range(
     name: &str,
     range: &FieldNumberRange,
 ) -> Result<ReservedRange, ElabFailure>
-    ensures { Elaborates described.reserved_range_view result (range_faults name.now (range_view range.now)) (exclusive (range_view range.now)) }
+    ensures { Elaborates described.reserved_range_view result
+        (range_faults name.now (range_view range.now)) (exclusive (range_view range.now)) }
 {
     let end = end_behind(alloc, name, range)?;
     Ok(ReservedRange {
@@ -144,7 +155,8 @@ fn reserved_range(
 
 /// The number behind the last. E7 where the last is the largest.
 fn end_behind(alloc: Global, name: &str, range: &FieldNumberRange) -> Result<i32, ElabFailure>
-    ensures { Elaborates (λ n. n) result (range_faults name.now (range_view range.now)) ((exclusive (range_view range.now)).end) }
+    ensures { Elaborates (λ n. n) result (range_faults name.now (range_view range.now))
+        ((exclusive (range_view range.now)).end) }
 {
     if range.to == i32::MAX {
         Err(fault(alloc, ElabErrorKind::RangeEndOverflow, name))

@@ -4,7 +4,8 @@ ghost use Rattle.std.specs.Prelude.{◌≡◌, ◌++◌, map, flat_map, option_m
 ghost use Rattle.protobuf_parse_syntax.specs.Trees.{message_statement_view, range_view};
 ghost use Rattle.protobuf_parse_model.specs.BuiltinOptions.{message_table};
 ghost use Rattle.protobuf_parse_model.specs.ConstructOptions.{construct_faults};
-ghost use Rattle.protobuf_parse_model.specs.Contexts.{environment_in, reserved_parts, reserves_seen, rest_of, rest_view};
+ghost use Rattle.protobuf_parse_model.specs.Contexts.{environment_in, reserved_parts};
+ghost use Rattle.protobuf_parse_model.specs.Contexts.{reserves_seen, rest_of, rest_view};
 ghost use Rattle.protobuf_parse_model.specs.Descriptors as described;
 ghost use Rattle.protobuf_parse_model.specs.Enums as enums;
 ghost use Rattle.protobuf_parse_model.specs.Faults.{Elaborates};
@@ -46,7 +47,8 @@ pub fn rest_of_message<C: CustomOptions>(
     name: &str,
     body: &[MessageStatement],
 ) -> Result<Rest, ElabFailure>
-    ensures { let env = environment_in (C.customs custom.now) context.now in let ss = map message_statement_view body.now in
+    ensures { let env = environment_in (C.customs custom.now) context.now in
+        let ss = map message_statement_view body.now in
         Elaborates rest_view result (messages.rest_faults env name.now ss) (rest_of env ss) }
 {
     let extension_range = extensions(alloc, name, body)?;
@@ -67,7 +69,8 @@ fn extensions(
     body: &[MessageStatement],
 ) -> Result<Vec<ExtensionRange>, ElabFailure>
     ensures { let rs = flat_map messages.extension_ranges (map message_statement_view body.now) in
-        Elaborates (λ v. map described.extension_range_view v.items) result (flat_map (messages.range_faults name.now) rs) (map messages.exclusive rs) }
+        Elaborates (λ v. map described.extension_range_view v.items) result
+        (flat_map (messages.range_faults name.now) rs) (map messages.exclusive rs) }
 {
     let ranges = ranges_of_extensions(alloc, body)?;
     extension_ranges(alloc, name, &ranges)
@@ -78,7 +81,9 @@ fn ranges_of_extensions(
     alloc: Global,
     body: &[MessageStatement],
 ) -> Result<Vec<FieldNumberRange>, AllocError>
-    ensures { IfOk result (λ v. map range_view v.items ≡ flat_map messages.extension_ranges (map message_statement_view body.now)) }
+    ensures { IfOk result
+        (λ v. map range_view v.items
+        ≡ flat_map messages.extension_ranges (map message_statement_view body.now)) }
 {
     let mut ranges = Vec::new(alloc);
     for statement in body {
@@ -96,7 +101,11 @@ fn reserved(
     body: &[MessageStatement],
 ) -> Result<(Vec<ReservedRange>, Vec<String>), ElabFailure>
     ensures { let rs = flat_map messages.reserves (map message_statement_view body.now) in
-        Elaborates reserved_parts result (flat_map (messages.range_faults name.now) (flat_map enums.ranges_reserved rs)) (map messages.exclusive (flat_map enums.ranges_reserved rs), flat_map enums.names_reserved rs) }
+        Elaborates reserved_parts result
+        (flat_map (messages.range_faults name.now) (flat_map enums.ranges_reserved rs)) (
+          map messages.exclusive (flat_map enums.ranges_reserved rs),
+          flat_map enums.names_reserved rs,
+        ) }
 {
     let reserves = reserves(alloc, body)?;
     reserved_by(alloc, name, &reserves)
@@ -109,7 +118,11 @@ fn reserved_by(
     reserves: &[&Reserved],
 ) -> Result<(Vec<ReservedRange>, Vec<String>), ElabFailure>
     ensures { let rs = reserves_seen reserves.now in
-        Elaborates reserved_parts result (flat_map (messages.range_faults name.now) (flat_map enums.ranges_reserved rs)) (map messages.exclusive (flat_map enums.ranges_reserved rs), flat_map enums.names_reserved rs) }
+        Elaborates reserved_parts result
+        (flat_map (messages.range_faults name.now) (flat_map enums.ranges_reserved rs)) (
+          map messages.exclusive (flat_map enums.ranges_reserved rs),
+          flat_map enums.names_reserved rs,
+        ) }
 {
     let names = names_reserved(alloc, reserves)?;
     let ranges = ranges_reserved(alloc, reserves)?;
@@ -118,7 +131,9 @@ fn reserved_by(
 
 /// What a message reserves.
 fn reserves(alloc: Global, body: &[MessageStatement]) -> Result<Vec<&Reserved>, AllocError>
-    ensures { IfOk result (λ v. reserves_seen v.items ≡ flat_map messages.reserves (map message_statement_view body.now)) }
+    ensures { IfOk result
+        (λ v. reserves_seen v.items
+        ≡ flat_map messages.reserves (map message_statement_view body.now)) }
 {
     let mut reserves = Vec::new(alloc);
     for statement in body {
@@ -136,8 +151,11 @@ fn checked_options<C: CustomOptions>(
     custom: &C,
     body: &[MessageStatement],
 ) -> Result<Option<MessageOptions>, ElabFailure>
-    ensures { let env = environment_in (C.customs custom.now) context.now in let os = messages.options_of_body (map message_statement_view body.now) in
-        Elaborates (λ o. option_map message_options_view o) result (construct_faults env of.Message message_table os) (sets.message_options (customs_bytes env of.Message os) os) }
+    ensures { let env = environment_in (C.customs custom.now) context.now in
+        let os = messages.options_of_body (map message_statement_view body.now) in
+        Elaborates (λ o. option_map message_options_view o) result
+        (construct_faults env of.Message message_table os)
+        (sets.message_options (customs_bytes env of.Message os) os) }
 {
     let options = options_in(alloc, body)?;
     let bytes = checked_customs(
@@ -153,7 +171,9 @@ fn checked_options<C: CustomOptions>(
 
 /// The options of a message.
 fn options_in(alloc: Global, body: &[MessageStatement]) -> Result<Vec<&ProtobufOption>, AllocError>
-    ensures { IfOk result (λ v. options_seen v.items ≡ flat_map messages.options_in_message (map message_statement_view body.now)) }
+    ensures { IfOk result
+        (λ v. options_seen v.items
+        ≡ flat_map messages.options_in_message (map message_statement_view body.now)) }
 {
     let mut options = Vec::new(alloc);
     for statement in body {

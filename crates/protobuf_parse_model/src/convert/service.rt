@@ -1,12 +1,15 @@
 //! Services.
 
-ghost use Rattle.std.specs.Prelude.{◌≡◌, ◌++◌, [], map, flat_map, option_map, string_bytes, unwrap_or, IfOk};
+ghost use Rattle.std.specs.Prelude.{◌≡◌, ◌++◌, [], map, flat_map, option_map, string_bytes};
+ghost use Rattle.std.specs.Prelude.{unwrap_or, IfOk};
 ghost use Rattle.protobuf_parse_syntax.specs.Trees as tree;
 ghost use Rattle.protobuf_parse_model.specs.BuiltinOptions.{method_table, service_table};
 ghost use Rattle.protobuf_parse_model.specs.ConstructOptions.{construct_faults};
-ghost use Rattle.protobuf_parse_model.specs.Contexts.{environment_in, methods_seen, texts, names_in};
+ghost use Rattle.protobuf_parse_model.specs.Contexts.{environment_in, methods_seen, texts};
+ghost use Rattle.protobuf_parse_model.specs.Contexts.{names_in};
 ghost use Rattle.protobuf_parse_model.specs.Descriptors as described;
-ghost use Rattle.protobuf_parse_model.specs.Environment.{customs_bytes, type_full_name, type_missing};
+ghost use Rattle.protobuf_parse_model.specs.Environment.{customs_bytes, type_full_name};
+ghost use Rattle.protobuf_parse_model.specs.Environment.{type_missing};
 ghost use Rattle.protobuf_parse_model.specs.declared.customs.Construct.TheVariants as of;
 ghost use Rattle.protobuf_parse_model.specs.Faults.{Elaborates};
 ghost use Rattle.protobuf_parse_model.specs.OptionViews.{options_seen};
@@ -30,8 +33,8 @@ use std::alloc::{AllocError, Global};
 
 /// The descriptor of a service.
 ///
-/// E1 where two of its methods have one name, E2 and E3 where the type of one means none, and the faults
-/// of its options.
+/// E1 where two of its methods have one name, E2 and E3 where the type of one means none, and the
+/// faults of its options.
 #[tactic(auto, using(crate::proofs::Blaming::blames_left, crate::proofs::Blaming::blames_right))]
 pub fn service_descriptor<C: CustomOptions>(
     alloc: Global,
@@ -39,8 +42,10 @@ pub fn service_descriptor<C: CustomOptions>(
     custom: &C,
     service: &Service,
 ) -> Result<ServiceDescriptorProto, ElabFailure>
-    ensures { let env = environment_in (C.customs custom.now) context.now in let s = tree.service_view service.now in
-        Elaborates described.service_view result (services.service_faults env s) (services.service_of env s) }
+    ensures { let env = environment_in (C.customs custom.now) context.now in
+        let s = tree.service_view service.now in
+        Elaborates described.service_view result (services.service_faults env s)
+        (services.service_of env s) }
 {
     let method = service_methods(alloc, context, custom, &service.body)?;
     let options = checked_options(alloc, context, custom, &service.body)?;
@@ -58,8 +63,10 @@ fn service_methods<C: CustomOptions>(
     custom: &C,
     body: &[ServiceStatement],
 ) -> Result<Vec<MethodDescriptorProto>, ElabFailure>
-    ensures { let env = environment_in (C.customs custom.now) context.now in let ms = flat_map services.methods_in (map tree.service_statement_view body.now) in
-        Elaborates (λ v. map described.method_view v.items) result (services.methods_faults env ms) (map (services.method_of env) ms) }
+    ensures { let env = environment_in (C.customs custom.now) context.now in
+        let ms = flat_map services.methods_in (map tree.service_statement_view body.now) in
+        Elaborates (λ v. map described.method_view v.items) result (services.methods_faults env ms)
+        (map (services.method_of env) ms) }
 {
     let methods = methods(alloc, body)?;
     unlike_methods(alloc, context, custom, &methods)
@@ -73,8 +80,10 @@ fn unlike_methods<C: CustomOptions>(
     custom: &C,
     methods: &[&Method],
 ) -> Result<Vec<MethodDescriptorProto>, ElabFailure>
-    ensures { let env = environment_in (C.customs custom.now) context.now in let ms = methods_seen methods.now in
-        Elaborates (λ v. map described.method_view v.items) result (services.methods_faults env ms) (map (services.method_of env) ms) }
+    ensures { let env = environment_in (C.customs custom.now) context.now in
+        let ms = methods_seen methods.now in
+        Elaborates (λ v. map described.method_view v.items) result (services.methods_faults env ms)
+        (map (services.method_of env) ms) }
 {
     check_unique(alloc, &names(alloc, methods)?)?;
     method_descriptors(alloc, context, custom, methods)
@@ -82,7 +91,9 @@ fn unlike_methods<C: CustomOptions>(
 
 /// The methods of a service.
 fn methods(alloc: Global, body: &[ServiceStatement]) -> Result<Vec<&Method>, AllocError>
-    ensures { IfOk result (λ v. methods_seen v.items ≡ flat_map services.methods_in (map tree.service_statement_view body.now)) }
+    ensures { IfOk result
+        (λ v. methods_seen v.items
+        ≡ flat_map services.methods_in (map tree.service_statement_view body.now)) }
 {
     let mut methods = Vec::new(alloc);
     for statement in body {
@@ -95,7 +106,8 @@ fn methods(alloc: Global, body: &[ServiceStatement]) -> Result<Vec<&Method>, All
 
 /// Their names.
 fn names<'a>(alloc: Global, methods: &[&'a Method]) -> Result<Vec<&'a str>, AllocError>
-    ensures { IfOk result (λ v. texts v.items ≡ map (λ (m : tree.MethodSyntax). m.name) (methods_seen methods.now)) }
+    ensures { IfOk result
+        (λ v. texts v.items ≡ map (λ (m : tree.MethodSyntax). m.name) (methods_seen methods.now)) }
 {
     let mut names = Vec::new(alloc);
     for method in methods {
@@ -112,8 +124,10 @@ fn method_descriptors<C: CustomOptions>(
     custom: &C,
     methods: &[&Method],
 ) -> Result<Vec<MethodDescriptorProto>, ElabFailure>
-    ensures { let env = environment_in (C.customs custom.now) context.now in let ms = methods_seen methods.now in
-        Elaborates (λ v. map described.method_view v.items) result (flat_map (services.method_faults env) ms) (map (services.method_of env) ms) }
+    ensures { let env = environment_in (C.customs custom.now) context.now in
+        let ms = methods_seen methods.now in
+        Elaborates (λ v. map described.method_view v.items) result
+        (flat_map (services.method_faults env) ms) (map (services.method_of env) ms) }
 {
     let mut descriptors = Vec::new(alloc);
     for method in methods {
@@ -129,8 +143,10 @@ fn method_descriptor<C: CustomOptions>(
     custom: &C,
     method: &Method,
 ) -> Result<MethodDescriptorProto, ElabFailure>
-    ensures { let env = environment_in (C.customs custom.now) context.now in let m = tree.method_view method.now in
-        Elaborates described.method_view result (services.method_faults env m) (services.method_of env m) }
+    ensures { let env = environment_in (C.customs custom.now) context.now in
+        let m = tree.method_view method.now in
+        Elaborates described.method_view result (services.method_faults env m)
+        (services.method_of env m) }
 {
     let input_type = method_type(alloc, context, &method.input)?;
     let output_type = method_type(alloc, context, &method.output)?;
@@ -148,7 +164,8 @@ fn method_descriptor<C: CustomOptions>(
 /// The full name of a method's type. E2 or E3 where the name means none.
 fn method_type(alloc: Global, context: &Context<'_>, name: &str) -> Result<String, ElabFailure>
     ensures { let env = names_in context.now in
-        Elaborates string_bytes result (type_missing env name.now) (unwrap_or (type_full_name env name.now) []) }
+        Elaborates string_bytes result (type_missing env name.now)
+        (unwrap_or (type_full_name env name.now) []) }
 {
     type_full_name(alloc, context, name)
 }
@@ -160,8 +177,11 @@ fn checked_method_options<C: CustomOptions>(
     custom: &C,
     statements: &[OptionStatement],
 ) -> Result<Option<MethodOptions>, ElabFailure>
-    ensures { let env = environment_in (C.customs custom.now) context.now in let os = map services.statement_option (map tree.option_statement_view statements.now) in
-        Elaborates (λ o. option_map method_options_view o) result (construct_faults env of.Method method_table os) (sets.method_options (customs_bytes env of.Method os) os) }
+    ensures { let env = environment_in (C.customs custom.now) context.now in
+        let os = map services.statement_option (map tree.option_statement_view statements.now) in
+        Elaborates (λ o. option_map method_options_view o) result
+        (construct_faults env of.Method method_table os)
+        (sets.method_options (customs_bytes env of.Method os) os) }
 {
     let options = statement_options(alloc, statements)?;
     let bytes = checked_customs(
@@ -180,7 +200,9 @@ fn statement_options(
     alloc: Global,
     statements: &[OptionStatement],
 ) -> Result<Vec<&ProtobufOption>, AllocError>
-    ensures { IfOk result (λ v. options_seen v.items ≡ map services.statement_option (map tree.option_statement_view statements.now)) }
+    ensures { IfOk result
+        (λ v. options_seen v.items
+        ≡ map services.statement_option (map tree.option_statement_view statements.now)) }
 {
     let mut options = Vec::new(alloc);
     for statement in statements {
@@ -196,8 +218,11 @@ fn checked_options<C: CustomOptions>(
     custom: &C,
     body: &[ServiceStatement],
 ) -> Result<Option<ServiceOptions>, ElabFailure>
-    ensures { let env = environment_in (C.customs custom.now) context.now in let os = flat_map services.options_in_service (map tree.service_statement_view body.now) in
-        Elaborates (λ o. option_map service_options_view o) result (construct_faults env of.Service service_table os) (sets.service_options (customs_bytes env of.Service os) os) }
+    ensures { let env = environment_in (C.customs custom.now) context.now in
+        let os = flat_map services.options_in_service (map tree.service_statement_view body.now) in
+        Elaborates (λ o. option_map service_options_view o) result
+        (construct_faults env of.Service service_table os)
+        (sets.service_options (customs_bytes env of.Service os) os) }
 {
     let options = options_in(alloc, body)?;
     let bytes = checked_customs(
@@ -213,7 +238,9 @@ fn checked_options<C: CustomOptions>(
 
 /// The options of a service.
 fn options_in(alloc: Global, body: &[ServiceStatement]) -> Result<Vec<&ProtobufOption>, AllocError>
-    ensures { IfOk result (λ v. options_seen v.items ≡ flat_map services.options_in_service (map tree.service_statement_view body.now)) }
+    ensures { IfOk result
+        (λ v. options_seen v.items
+        ≡ flat_map services.options_in_service (map tree.service_statement_view body.now)) }
 {
     let mut options = Vec::new(alloc);
     for statement in body {

@@ -1,8 +1,10 @@
 //! The statements that declare fields: fields with the messages behind maps, and groups.
 
 ghost use Rattle.protobuf_parse_syntax.specs.Trees as tree;
-ghost use Rattle.protobuf_parse_syntax.specs.Trees.{field_view, field_statement_view, group_of, group_view};
-ghost use Rattle.protobuf_parse_model.specs.Contexts.{declared_by, declared_view, environment_in, place_view};
+ghost use Rattle.protobuf_parse_syntax.specs.Trees.{field_view, field_statement_view, group_of};
+ghost use Rattle.protobuf_parse_syntax.specs.Trees.{group_view};
+ghost use Rattle.protobuf_parse_model.specs.Contexts.{declared_by, declared_view, environment_in};
+ghost use Rattle.protobuf_parse_model.specs.Contexts.{place_view};
 ghost use Rattle.protobuf_parse_model.specs.Faults.{Elaborates};
 ghost use Rattle.protobuf_parse_model.specs.Fields as fields;
 
@@ -35,8 +37,10 @@ pub fn declared_field<C: CustomOptions>(
     place: &FieldPlace<'_>,
     statement: &FieldStatement,
 ) -> Result<DeclaredField, ElabFailure>
-    ensures { let env = environment_in (C.customs custom.now) context.now in let s = field_statement_view statement.now in
-        Elaborates declared_view result (fields.field_statement_faults env s) (declared_by env (place_view place.now) s) }
+    ensures { let env = environment_in (C.customs custom.now) context.now in
+        let s = field_statement_view statement.now in
+        Elaborates declared_view result (fields.field_statement_faults env s)
+        (declared_by env (place_view place.now) s) }
 {
     match statement {
         FieldStatement::Field(field) => declared_plain(alloc, context, custom, place, field),
@@ -52,8 +56,10 @@ pub fn declared_extension<C: CustomOptions>(
     place: &FieldPlace<'_>,
     statement: &FieldStatement,
 ) -> Result<DeclaredField, ElabFailure>
-    ensures { let env = environment_in (C.customs custom.now) context.now in let s = field_statement_view statement.now in
-        Elaborates declared_view result (fields.extension_faults env s) (declared_by env (place_view place.now) s) }
+    ensures { let env = environment_in (C.customs custom.now) context.now in
+        let s = field_statement_view statement.now in
+        Elaborates declared_view result (fields.extension_faults env s)
+        (declared_by env (place_view place.now) s) }
 {
     match statement {
         FieldStatement::Field(field) => declared_unless_map(alloc, context, custom, place, field),
@@ -70,8 +76,10 @@ fn declared_plain<C: CustomOptions>(
     place: &FieldPlace<'_>,
     field: &Field,
 ) -> Result<DeclaredField, ElabFailure>
-    ensures { let env = environment_in (C.customs custom.now) context.now in let s = tree.field (field_view field.now) in
-        Elaborates declared_view result (fields.field_statement_faults env s) (declared_by env (place_view place.now) s) }
+    ensures { let env = environment_in (C.customs custom.now) context.now in
+        let s = tree.field (field_view field.now) in
+        Elaborates declared_view result (fields.field_statement_faults env s)
+        (declared_by env (place_view place.now) s) }
 {
     let behind = map_entry(alloc, context, &field.name, &field.type_)?;
     let field = field_descriptor(alloc, context, custom, place, field)?;
@@ -87,8 +95,10 @@ fn declared_unless_map<C: CustomOptions>(
     place: &FieldPlace<'_>,
     field: &Field,
 ) -> Result<DeclaredField, ElabFailure>
-    ensures { let env = environment_in (C.customs custom.now) context.now in let s = tree.field (field_view field.now) in
-        Elaborates declared_view result (fields.extension_faults env s) (declared_by env (place_view place.now) s) }
+    ensures { let env = environment_in (C.customs custom.now) context.now in
+        let s = tree.field (field_view field.now) in
+        Elaborates declared_view result (fields.extension_faults env s)
+        (declared_by env (place_view place.now) s) }
 {
     check_no_map(alloc, field)?;
     declared_plain(alloc, context, custom, place, field)
@@ -103,8 +113,10 @@ fn declared_group<C: CustomOptions>(
     place: &FieldPlace<'_>,
     group: &Group,
 ) -> Result<DeclaredField, ElabFailure>
-    ensures { let env = environment_in (C.customs custom.now) context.now in let s = group_of (group_view group.now) in
-        Elaborates declared_view result (fields.field_statement_faults env s) (declared_by env (place_view place.now) s) }
+    ensures { let env = environment_in (C.customs custom.now) context.now in
+        let s = group_of (group_view group.now) in
+        Elaborates declared_view result (fields.field_statement_faults env s)
+        (declared_by env (place_view place.now) s) }
 {
     let message = group_message(alloc, context, custom, group)?;
     let field = group_field(alloc, context, place, group)?;

@@ -3,9 +3,11 @@
 ghost use Rattle.std.specs.Prelude.{◌≡◌, ◌++◌, Some, string_bytes, IfOk};
 ghost use Rattle.protobuf_parse_syntax.specs.Trees.{type_view};
 ghost use Rattle.protobuf_parse_model.specs.Contexts.{names_in, resolved_view};
-ghost use Rattle.protobuf_parse_model.specs.Environment.{missing_name, type_full_name, type_missing, type_named};
+ghost use Rattle.protobuf_parse_model.specs.Environment.{missing_name, type_full_name};
+ghost use Rattle.protobuf_parse_model.specs.Environment.{type_missing, type_named};
 ghost use Rattle.protobuf_parse_model.specs.Faults.{Blames, Elaborates};
-ghost use Rattle.protobuf_parse_model.specs.Fields.{inner_type_faults, type_faults, type_of, type_of_meaning};
+ghost use Rattle.protobuf_parse_model.specs.Fields.{inner_type_faults, type_faults, type_of};
+ghost use Rattle.protobuf_parse_model.specs.Fields.{type_of_meaning};
 ghost use Rattle.protobuf_parse_model.specs.Statements as statements;
 
 use crate::convert::refuse::fault;
@@ -35,7 +37,8 @@ pub fn resolved_type(
     type_: &Type,
 ) -> Result<ResolvedType, ElabFailure>
     ensures { let env = names_in context.now in
-        Elaborates resolved_view result (type_faults env name.now (type_view type_.now)) (type_of env name.now (type_view type_.now)) }
+        Elaborates resolved_view result (type_faults env name.now (type_view type_.now))
+        (type_of env name.now (type_view type_.now)) }
 {
     match type_ {
         Type::Scalar(scalar) => Ok(ResolvedType {
@@ -57,7 +60,8 @@ pub fn resolved_type(
 /// The type that a name means. E2 or E3 where it means none.
 fn named_type(alloc: Global, context: &Context<'_>, name: &str) -> Result<ResolvedType, ElabFailure>
     ensures { let env = names_in context.now in
-        Elaborates resolved_view result (type_missing env name.now) (type_of_meaning (type_named env name.now)) }
+        Elaborates resolved_view result (type_missing env name.now)
+        (type_of_meaning (type_named env name.now)) }
 {
     match type_named(alloc, context, name)? {
         Some(meaning) => Ok(ResolvedType {
@@ -90,14 +94,17 @@ fn check_map(
     value: &Type,
 ) -> Result<(), ElabFailure>
     ensures { let env = names_in context.now in
-        Elaborates (λ u. u) result (inner_type_faults env name.now (type_view key.now) ++ inner_type_faults env name.now (type_view value.now)) tt }
+        Elaborates (λ u. u) result
+        (inner_type_faults env name.now (type_view key.now)
+        ++ inner_type_faults env name.now (type_view value.now)) tt }
 {
     inner_type(alloc, context, name, key)?;
     inner_type(alloc, context, name, value)?;
     Ok(())
 }
 
-/// A key's or a value's type in the map of that name. E2 or E3 where a name means no type; E4 for a map.
+/// A key's or a value's type in the map of that name. E2 or E3 where a name means no type; E4 for a
+/// map.
 pub fn inner_type(
     alloc: Global,
     context: &Context<'_>,
@@ -105,7 +112,8 @@ pub fn inner_type(
     type_: &Type,
 ) -> Result<ResolvedType, ElabFailure>
     ensures { let env = names_in context.now in
-        Elaborates resolved_view result (inner_type_faults env name.now (type_view type_.now)) (type_of env name.now (type_view type_.now)) }
+        Elaborates resolved_view result (inner_type_faults env name.now (type_view type_.now))
+        (type_of env name.now (type_view type_.now)) }
 {
     match type_ {
         Type::Scalar(scalar) => Ok(ResolvedType {
@@ -134,7 +142,8 @@ pub fn type_full_name(
     name: &str,
 ) -> Result<String, ElabFailure>
     ensures { let env = names_in context.now in
-        Elaborates (λ s. Some (string_bytes s)) result (type_missing env name.now) (type_full_name env name.now) }
+        Elaborates (λ s. Some (string_bytes s)) result (type_missing env name.now)
+        (type_full_name env name.now) }
 {
     match type_named(alloc, context, name)? {
         Some(meaning) => Ok(meaning.name),

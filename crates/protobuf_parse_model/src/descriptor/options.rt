@@ -1,6 +1,6 @@
-//! The options messages of google/protobuf/descriptor.proto. A field is `None` where no statement sets it.
-//! `custom` holds the bytes of the custom options, one record a setting, in the order of writing; it is
-//! empty where there are none.
+//! The options messages of google/protobuf/descriptor.proto. A field is `None` where no statement
+//! sets it. `custom` holds the bytes of the custom options, one record a setting, in the order of
+//! writing; it is empty where there are none.
 
 /// The options of a file.
 #[derive(Debug, PartialEq, Eq, Drop)]

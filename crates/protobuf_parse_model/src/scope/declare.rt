@@ -1,9 +1,11 @@
 //! What files declare, by full name.
 
-ghost use Rattle.std.specs.Prelude.{◌≡◌, List, [], ◌∷◌, ◌++◌, map, flat_map, length, nat_eq, bytes_eq, if◌then◌else◌, string_bytes, IfOk, OnOk};
+ghost use Rattle.std.specs.Prelude.{◌≡◌, List, [], ◌∷◌, ◌++◌, map, flat_map, length, nat_eq};
+ghost use Rattle.std.specs.Prelude.{bytes_eq, if◌then◌else◌, string_bytes, IfOk, OnOk};
 ghost use Rattle.std.specs.BTreeMap.{get_by_text};
 ghost use Rattle.protobuf_parse_base.specs.Names.{relative_idents};
-ghost use Rattle.protobuf_parse_syntax.specs.Trees.{FileSyntax, file_view, message_statement_view, message_view, statement_view};
+ghost use Rattle.protobuf_parse_syntax.specs.Trees.{FileSyntax, file_view, message_statement_view};
+ghost use Rattle.protobuf_parse_syntax.specs.Trees.{message_view, statement_view};
 ghost use Rattle.protobuf_parse_model.specs.Declarations as names;
 ghost use Rattle.protobuf_parse_model.specs.Descriptors.{Text};
 ghost use Rattle.protobuf_parse_model.specs.Contexts.{declared_as, kind_view, listed, texts};
@@ -28,8 +30,8 @@ impl Declarations {
         }
     }
 
-    /// Adds each message, enum and extension that a file declares, also the messages behind its maps and
-    /// groups, as declared by the file with that number.
+    /// Adds each message, enum and extension that a file declares, also the messages behind its
+    /// maps and groups, as declared by the file with that number.
     /// The one error is that memory is short: nothing is known of the table then.
     pub fn add(&mut self, alloc: Global, file: usize, tree: &FileTree) -> Result<(), AllocError>
         ensures { OnOk result ((files : List FileSyntax) → length files ≡ file →
@@ -52,7 +54,8 @@ fn add_types<'a>(
 ) -> Result<(), AllocError>
     ensures scope { OnOk result (texts scope.new.items ≡ texts scope.old.items) }
     ensures adds { OnOk result (Adds type_entry table.old table.new file
-        (flat_map (names.statement_types (texts scope.old.items)) (map statement_view statements.now))) }
+        (flat_map (names.statement_types (texts scope.old.items))
+        (map statement_view statements.now))) }
 {
     for statement in statements {
         add_declared(table, alloc, file, scope, statement)?;

@@ -1,7 +1,9 @@
 //! The extensions that files declare, by full name.
 
 ghost use Rattle.std.specs.Prelude.{◌≡◌, map, flat_map, OnOk};
-ghost use Rattle.protobuf_parse_syntax.specs.Trees.{extend_view, field_statement_view, message_statement_view, message_view, statement_view};
+ghost use Rattle.protobuf_parse_syntax.specs.Trees.{extend_view, field_statement_view};
+ghost use Rattle.protobuf_parse_syntax.specs.Trees.{message_statement_view, message_view};
+ghost use Rattle.protobuf_parse_syntax.specs.Trees.{statement_view};
 ghost use Rattle.protobuf_parse_model.specs.declared.scope.seen.DeclarationKind.TheVariants.{Extension};
 ghost use Rattle.protobuf_parse_model.specs.Declarations as names;
 ghost use Rattle.protobuf_parse_model.specs.Statements.{field_statement_name};

@@ -1,7 +1,10 @@
 //! The messages behind maps and groups, by full name.
 
 ghost use Rattle.std.specs.Prelude.{◌≡◌, [], ◌∷◌, map, flat_map, OnOk};
-ghost use Rattle.protobuf_parse_syntax.specs.Trees.{extend_view, field_statement_view, field_view, message_statement_view, message_view, oneof_statement_view, oneof_view, statement_view};
+ghost use Rattle.protobuf_parse_syntax.specs.Trees.{extend_view, field_statement_view, field_view};
+ghost use Rattle.protobuf_parse_syntax.specs.Trees.{message_statement_view, message_view};
+ghost use Rattle.protobuf_parse_syntax.specs.Trees.{oneof_statement_view, oneof_view};
+ghost use Rattle.protobuf_parse_syntax.specs.Trees.{statement_view};
 ghost use Rattle.protobuf_parse_syntax.specs.Trees as tree;
 ghost use Rattle.protobuf_parse_model.specs.Declarations as names;
 ghost use Rattle.protobuf_parse_model.specs.Statements.{oneof_fields};

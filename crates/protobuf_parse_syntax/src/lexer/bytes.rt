@@ -62,8 +62,10 @@ pub fn run_end(class: ByteClass, bytes: &[u8], at: usize) -> usize
     requires { at ≤ length bytes.now }
     ensures after { at ≤ result }
     ensures within { result ≤ length bytes.now }
-    ensures passes { (k : ℕ) → at ≤ k → k < result → text.is_in class (slice_index bytes.now k) ≡ true }
-    ensures stops { result < length bytes.now → text.is_in class (slice_index bytes.now result) ≡ false }
+    ensures passes { (k : ℕ) → at ≤ k → k < result
+        → text.is_in class (slice_index bytes.now k) ≡ true }
+    ensures stops { result < length bytes.now
+        → text.is_in class (slice_index bytes.now result) ≡ false }
 {
     let mut end = at;
     while end < bytes.len() && is_in(class, bytes[end]) {

@@ -11,7 +11,8 @@ const MAX_DEPTH: usize = 100;
 
 /// The place of the opening bracket with which more are open than may be, where there is one.
 pub fn too_deep(list: &[Token]) -> Option<Place>
-    ensures { MatchOption result (IsShallow (map lexeme list.now)) (DeepensAt (map lexeme list.now)) }
+    ensures { MatchOption result (IsShallow (map lexeme list.now))
+        (DeepensAt (map lexeme list.now)) }
 {
     let mut opened: usize = 0;
     let mut closed: usize = 0;

@@ -1,7 +1,9 @@
 //! What stands at the front of a text.
 
-ghost use Rattle.std.specs.Prelude.{◌≡◌, ◌≢◌, ℕ, ◌<◌, ◌≤◌, length, slice_index, true, false, MatchOption};
-ghost use Rattle.protobuf_parse_syntax.specs.Text.{is_in, IsBlock, IsQuote, IsString, IsIdentText, HasNoComment, Longest, NoFront};
+ghost use Rattle.std.specs.Prelude.{◌≡◌, ◌≢◌, ℕ, ◌<◌, ◌≤◌, length, slice_index, true, false};
+ghost use Rattle.std.specs.Prelude.{MatchOption};
+ghost use Rattle.protobuf_parse_syntax.specs.Text.{is_in, IsBlock, IsQuote, IsString, IsIdentText};
+ghost use Rattle.protobuf_parse_syntax.specs.Text.{HasNoComment, Longest, NoFront};
 ghost use Rattle.protobuf_parse_syntax.specs.Scan as scan;
 ghost use Rattle.protobuf_parse_syntax.specs.Scan.{Stands};
 

@@ -1,6 +1,8 @@
 //! Laws of the definitions that the lexer's contracts cite. The functions do nothing.
 
-ghost use Rattle.protobuf_parse_syntax.specs.Laws.{IsOneCut, IsOneFault, IsOneDecoding, PlacesCountCharacters, TokensStandInTheText, StringsAreQuoted, EscapedBytesDecode};
+ghost use Rattle.protobuf_parse_syntax.specs.Laws.{IsOneCut, IsOneFault, IsOneDecoding};
+ghost use Rattle.protobuf_parse_syntax.specs.Laws.{PlacesCountCharacters, TokensStandInTheText};
+ghost use Rattle.protobuf_parse_syntax.specs.Laws.{StringsAreQuoted, EscapedBytesDecode};
 
 /// A text is cut in one way, and one fault ends it.
 pub fn cuts_are_unique()
@@ -13,7 +15,8 @@ pub fn decoding_is_unique()
     ensures { IsOneDecoding }
 {}
 
-/// A place counts line feeds and the characters after the last one, and a token has that of what stands before it.
+/// A place counts line feeds and the characters after the last one, and a token has that of what
+/// stands before it.
 pub fn places_count_characters()
     ensures count { PlacesCountCharacters }
     ensures stand { TokensStandInTheText }

@@ -1,9 +1,12 @@
 //! The number at the front of a text.
 
-ghost use Rattle.std.specs.Prelude.{◌≡◌, ℕ, ◌<◌, ◌≤◌, ◌^◌, length, slice_index, slice_range, true, MatchOption, SomeIff};
+ghost use Rattle.std.specs.Prelude.{◌≡◌, ℕ, ◌<◌, ◌≤◌, ◌^◌, length, slice_index, slice_range, true};
+ghost use Rattle.std.specs.Prelude.{MatchOption, SomeIff};
 ghost use Rattle.std.specs.Str.Parse as parse;
 ghost use Rattle.std.specs.Char as char;
-ghost use Rattle.protobuf_parse_syntax.specs.Text.{is_in, AllIn, RunStopsAt, IsHex, IsOctal, IsDecimal, IsExponent, IsFloat, IsIntegerText, IsLongest, Longest, NoFront};
+ghost use Rattle.protobuf_parse_syntax.specs.Text.{is_in, AllIn, RunStopsAt, IsHex, IsOctal};
+ghost use Rattle.protobuf_parse_syntax.specs.Text.{IsDecimal, IsExponent, IsFloat, IsIntegerText};
+ghost use Rattle.protobuf_parse_syntax.specs.Text.{IsLongest, Longest, NoFront};
 ghost use Rattle.protobuf_parse_syntax.specs.Scan.{EndsFraction, BeginsNumber, Stands};
 
 use crate::error::ParserError;
@@ -38,7 +41,8 @@ fn octal_end(text: &[u8]) -> Option<usize>
 /// The end of an exponent that begins at `at`.
 fn exponent_end(text: &[u8], at: usize) -> Option<usize>
     requires { at ≤ length text.now }
-    ensures { MatchOption result (NoFront (IsExponent at) text.now) (Longest (IsExponent at) text.now) }
+    ensures { MatchOption result (NoFront (IsExponent at) text.now)
+        (Longest (IsExponent at) text.now) }
 {
     let letter = byte_at(text, at);
     if letter != b'e' && letter != b'E' {
@@ -116,8 +120,10 @@ pub fn digit_value(digit: u8) -> u64
 /// The number that digits spell, where it fits.
 pub fn digits_value(radix: u64, digits: &[u8]) -> Option<u64>
     requires low { 2 ≤ radix }
-    requires each { (k : ℕ) → k < length digits.now → is_in ByteClass.Hex (slice_index digits.now k) ≡ true }
-    ensures { SomeIff result (parse.digits_value radix digits.now < 2 ^ 64) (parse.digits_value radix digits.now) }
+    requires each { (k : ℕ) → k < length digits.now
+        → is_in ByteClass.Hex (slice_index digits.now k) ≡ true }
+    ensures { SomeIff result (parse.digits_value radix digits.now < 2 ^ 64)
+        (parse.digits_value radix digits.now) }
 {
     let mut number: u64 = 0;
     for digit in digits {
@@ -138,7 +144,8 @@ fn integer_piece(text: &[u8], radix: u64, from: usize, end: usize) -> Piece
     requires order { from ≤ end }
     requires within { end ≤ length text.now }
     requires each { AllIn ByteClass.Hex text.now from end }
-    requires spells { (v : ℕ) → v ≡ parse.digits_value radix (slice_range text.now from end) → IsIntegerText text.now end v }
+    requires spells { (v : ℕ) → v ≡ parse.digits_value radix (slice_range text.now from end)
+        → IsIntegerText text.now end v }
     requires longest { IsLongest text.now end }
     ensures { Stands text.now result }
 {

@@ -9,7 +9,8 @@ use crate::error::{ParserError, ParserErrorWithLocation};
 use crate::lexer::lanes::{LANES, plain_run_end};
 use crate::lexer::token::{Place, TokenKind};
 
-/// The place after one byte more. The bytes 128 to 191 go on with a character that begins before them.
+/// The place after one byte more. The bytes 128 to 191 go on with a character that begins before
+/// them.
 #[inline]
 fn step(place: Place, byte: u8) -> Place
     requires line { place.line + 1 < 2 ^ 32 }

@@ -1,10 +1,14 @@
 //! What strings say.
 
-ghost use Rattle.std.specs.Prelude.{◌≡◌, ◌<◌, ◌≤◌, ℕ, ◌++◌, true, length, map, MatchOption, OnOk, IfOk, IfErr, string_bytes};
+ghost use Rattle.std.specs.Prelude.{◌≡◌, ◌<◌, ◌≤◌, ℕ, ◌++◌, true, length, map, MatchOption, OnOk};
+ghost use Rattle.std.specs.Prelude.{IfOk, IfErr, string_bytes};
 ghost use Rattle.protobuf_parse_syntax.specs.Text.{is_in};
 ghost use Rattle.protobuf_parse_syntax.specs.Tokens as tokens;
 ghost use Rattle.protobuf_parse_syntax.specs.Tokens.{IsDigits, DecodesAll};
-ghost use Rattle.protobuf_parse_syntax.specs.Decoding.{NamesByte, NamesNoByte, NamesChar, NamesNoChar, HasEscape, HasNoEscape, HasPart, HasNoPart, meaning_bytes, PushesPiece, RefusesBytes, RefusesText};
+ghost use Rattle.protobuf_parse_syntax.specs.Decoding.{NamesByte, NamesNoByte, NamesChar};
+ghost use Rattle.protobuf_parse_syntax.specs.Decoding.{NamesNoChar, HasEscape, HasNoEscape};
+ghost use Rattle.protobuf_parse_syntax.specs.Decoding.{HasPart, HasNoPart, meaning_bytes};
+ghost use Rattle.protobuf_parse_syntax.specs.Decoding.{PushesPiece, RefusesBytes, RefusesText};
 ghost use Rattle.protobuf_parse_syntax.specs.declared.lexer.str_lit.StrLitDecodeError.TheVariants.{Memory};
 
 use crate::lexer::bytes::{ByteClass, byte_at, is_in, run_end};
@@ -73,7 +77,8 @@ enum Meaning {
     Char(char),
 }
 
-/// A part at the front of a string, a byte or an escape: how many bytes it has, and what it stands for.
+/// A part at the front of a string, a byte or an escape: how many bytes it has, and what it stands
+/// for.
 #[derive(Clone, Copy)]
 struct Part {
     len: usize,
@@ -99,7 +104,8 @@ fn letter_byte(letter: u8) -> Option<u8>
 
 /// The end of the digits from `from` on, as many as stand there, at most up to `limit`.
 fn digits_end(class: ByteClass, text: &[u8], from: usize, limit: usize) -> Option<usize>
-    ensures { MatchOption result ((n : ℕ) → IsDigits class text.now from limit n → ⊥) (IsDigits class text.now from limit) }
+    ensures { MatchOption result ((n : ℕ) → IsDigits class text.now from limit n → ⊥)
+        (IsDigits class text.now from limit) }
 {
     let within = text.len().min(limit);
     if within <= from {
@@ -113,7 +119,8 @@ fn digits_end(class: ByteClass, text: &[u8], from: usize, limit: usize) -> Optio
 fn byte_escape(class: ByteClass, radix: u64, text: &[u8], from: usize) -> Option<Part>
     requires radix { 2 ≤ radix }
     requires digits { (b : ℕ) → is_in class b ≡ true → is_in ByteClass.Hex b ≡ true }
-    ensures { MatchOption result (NamesNoByte class radix from text.now) (NamesByte class radix from text.now) }
+    ensures { MatchOption result (NamesNoByte class radix from text.now)
+        (NamesByte class radix from text.now) }
 {
     let end = digits_end(class, text, from, 4)?;
     let value = digits_value(radix, &text[from..end])?;
@@ -218,7 +225,8 @@ fn push_piece(bytes: &mut Vec<u8>, piece: &[u8]) -> Result<(), StrLitDecodeError
 impl StrLit {
     /// The bytes that the string stands for.
     pub fn decode_bytes(&self, alloc: Global) -> Result<Vec<u8>, StrLitDecodeError>
-        ensures bytes { IfOk result (λ v. DecodesAll (map string_bytes self.now.pieces.items) v.items) }
+        ensures bytes { IfOk result
+            (λ v. DecodesAll (map string_bytes self.now.pieces.items) v.items) }
         ensures refused { IfErr result (RefusesBytes (map string_bytes self.now.pieces.items)) }
     {
         let mut bytes = Vec::new(alloc);
@@ -230,7 +238,8 @@ impl StrLit {
 
     /// The text that the string stands for.
     pub fn decode_utf8(&self, alloc: Global) -> Result<String, StrLitDecodeError>
-        ensures text { IfOk result (λ t. DecodesAll (map string_bytes self.now.pieces.items) (string_bytes t)) }
+        ensures text { IfOk result
+            (λ t. DecodesAll (map string_bytes self.now.pieces.items) (string_bytes t)) }
         ensures refused { IfErr result (RefusesText (map string_bytes self.now.pieces.items)) }
     {
         match String::from_utf8(self.decode_bytes(alloc)?) {

@@ -26,7 +26,8 @@ pub fn constant(
     tokens: &mut Cursor<'_, '_>,
     levels: usize,
 ) -> Result<ProtobufConstant, Refusal>
-    ensures { Gives view.constant_view result (left tokens.new) ((nest.constant levels).run (left tokens.old)) }
+    ensures { Gives view.constant_view result (left tokens.new)
+        ((nest.constant levels).run (left tokens.old)) }
 {
     if levels == 0 {
         return Err(Refusal::Here(ParserError::NestingTooDeep));
@@ -42,7 +43,8 @@ fn constant_of(
     tokens: &mut Cursor<'_, '_>,
     levels: usize,
 ) -> Result<ProtobufConstant, Refusal>
-    ensures { Gives view.constant_view result (left tokens.new) ((nest.constant_in levels).run (left tokens.old)) }
+    ensures { Gives view.constant_view result (left tokens.new)
+        ((nest.constant_in levels).run (left tokens.old)) }
 {
     if tokens.sees_symbol('{') {
         return message_constant(alloc, tokens, levels);
@@ -79,7 +81,8 @@ fn constant_fault(tokens: &Cursor<'_, '_>) -> ParserError
 /// `true`, `false`, or a name that begins with neither.
 #[tactic(auto, unfolding(crate::specs::Productions::word_constant), using(crate::specs::Code::fails_first, crate::specs::Productions::word_constant_name))]
 fn word_constant(alloc: Global, tokens: &mut Cursor<'_, '_>) -> Result<ProtobufConstant, Refusal>
-    ensures { Gives view.constant_view result (left tokens.new) (read.word_constant.run (left tokens.old)) }
+    ensures { Gives view.constant_view result (left tokens.new)
+        (read.word_constant.run (left tokens.old)) }
 {
     if tokens.sees_word("true") {
         tokens.word("true")?;
@@ -106,7 +109,8 @@ fn begins_constant(tokens: &Cursor<'_, '_>) -> bool
 
 #[tactic(auto, using(crate::proofs::Left::starts_more))]
 fn begins_integer(tokens: &Cursor<'_, '_>) -> bool
-    ensures { result ≡ starts lexicon (class.integer ∷ class.symbol 43 ∷ class.symbol 45 ∷ []) (left tokens.now) }
+    ensures { result ≡ starts lexicon (class.integer ∷ class.symbol 43 ∷ class.symbol 45 ∷ [])
+        (left tokens.now) }
 {
     tokens.sees_integer() || tokens.sees_symbol('+') || tokens.sees_symbol('-')
 }
@@ -114,7 +118,8 @@ fn begins_integer(tokens: &Cursor<'_, '_>) -> bool
 /// `[ "+" | "-" ] int`
 #[tactic(auto, unfolding(crate::specs::Productions::integer_constant, crate::specs::Productions::signed), using(crate::specs::Code::fails_first, crate::proofs::Views::views_number, crate::proofs::Views::views_signed))]
 fn integer(tokens: &mut Cursor<'_, '_>) -> Result<ProtobufConstant, Refusal>
-    ensures { Gives view.constant_view result (left tokens.new) (read.integer_constant.run (left tokens.old)) }
+    ensures { Gives view.constant_view result (left tokens.new)
+        (read.integer_constant.run (left tokens.old)) }
 {
     if tokens.sees_integer() {
         return Ok(ProtobufConstant::U64(tokens.number()?));
@@ -179,7 +184,8 @@ fn list(
     tokens: &mut Cursor<'_, '_>,
     levels: usize,
 ) -> Result<ProtobufConstant, Refusal>
-    ensures { Gives view.constant_view result (left tokens.new) ((nest.list_of (both (nest.constant levels))).low.run (left tokens.old)) }
+    ensures { Gives view.constant_view result (left tokens.new)
+        ((nest.list_of (both (nest.constant levels))).low.run (left tokens.old)) }
 {
     tokens.symbol('[')?;
     if begins_constant(tokens) {
@@ -202,7 +208,8 @@ fn constants(
     tokens: &mut Cursor<'_, '_>,
     levels: usize,
 ) -> Result<Vec<ProtobufConstant>, Refusal>
-    ensures { Gives (λ v. map view.constant_view v.items) result (left tokens.new) ((nest.constants_of (both (nest.constant levels))).low.run (left tokens.old)) }
+    ensures { Gives (λ v. map view.constant_view v.items) result (left tokens.new)
+        ((nest.constants_of (both (nest.constant levels))).low.run (left tokens.old)) }
 {
     let mut items = Vec::new(alloc);
     items.push(constant(alloc, tokens, levels)?)?;
@@ -222,7 +229,8 @@ fn message_constant(
     tokens: &mut Cursor<'_, '_>,
     levels: usize,
 ) -> Result<ProtobufConstant, Refusal>
-    ensures { Gives view.constant_view result (left tokens.new) ((nest.message_constant_of (both (nest.constant levels))).low.run (left tokens.old)) }
+    ensures { Gives view.constant_view result (left tokens.new)
+        ((nest.message_constant_of (both (nest.constant levels))).low.run (left tokens.old)) }
 {
     tokens.symbol('{')?;
     let fields = constant_fields(alloc, tokens, levels)?;
@@ -237,7 +245,8 @@ fn constant_fields(
     tokens: &mut Cursor<'_, '_>,
     levels: usize,
 ) -> Result<Vec<ConstantField>, Refusal>
-    ensures { Gives (λ v. map view.constant_field_view v.items) result (left tokens.new) ((nest.constant_fields_of (both (nest.constant levels))).low.run (left tokens.old)) }
+    ensures { Gives (λ v. map view.constant_field_view v.items) result (left tokens.new)
+        ((nest.constant_fields_of (both (nest.constant levels))).low.run (left tokens.old)) }
 {
     let mut fields = Vec::new(alloc);
     'fields: while begins_constant_name(tokens) {
@@ -255,7 +264,8 @@ fn constant_field(
     tokens: &mut Cursor<'_, '_>,
     levels: usize,
 ) -> Result<ConstantField, Refusal>
-    ensures { Gives view.constant_field_view result (left tokens.new) ((nest.constant_field_of (both (nest.constant levels))).low.run (left tokens.old)) }
+    ensures { Gives view.constant_field_view result (left tokens.new)
+        ((nest.constant_field_of (both (nest.constant levels))).low.run (left tokens.old)) }
 {
     let name = constant_name(alloc, tokens)?;
     let value = field_value(alloc, tokens, levels)?;
@@ -271,7 +281,8 @@ fn field_value(
     tokens: &mut Cursor<'_, '_>,
     levels: usize,
 ) -> Result<ProtobufConstant, Refusal>
-    ensures { Gives view.constant_view result (left tokens.new) ((nest.value_of (both (nest.constant levels))).low.run (left tokens.old)) }
+    ensures { Gives view.constant_view result (left tokens.new)
+        ((nest.value_of (both (nest.constant levels))).low.run (left tokens.old)) }
 {
     if tokens.sees_symbol(':') {
         tokens.symbol(':')?;
@@ -307,7 +318,8 @@ fn begins_constant_name(tokens: &Cursor<'_, '_>) -> bool
 /// `cname = ident | "[" name "]" | "[" name "/" name "]"`
 #[tactic(auto, unfolding(crate::specs::Productions::constant_name, crate::specs::Productions::bracketed_name), using(crate::specs::Code::fails_first))]
 fn constant_name(alloc: Global, tokens: &mut Cursor<'_, '_>) -> Result<ConstantFieldName, Refusal>
-    ensures { Gives view.constant_name_view result (left tokens.new) (read.constant_name.run (left tokens.old)) }
+    ensures { Gives view.constant_name_view result (left tokens.new)
+        (read.constant_name.run (left tokens.old)) }
 {
     if tokens.sees_ident() {
         return Ok(ConstantFieldName::Regular(tokens.ident(alloc)?));
@@ -326,7 +338,8 @@ fn after_slash(
     tokens: &mut Cursor<'_, '_>,
     first: String,
 ) -> Result<ConstantFieldName, Refusal>
-    ensures { Gives view.constant_name_view result (left tokens.new) ((read.after_slash (string_bytes first)).run (left tokens.old)) }
+    ensures { Gives view.constant_name_view result (left tokens.new)
+        ((read.after_slash (string_bytes first)).run (left tokens.old)) }
 {
     if !tokens.sees_symbol('/') {
         return Ok(ConstantFieldName::Extension(first));

@@ -9,7 +9,8 @@ ghost use Rattle.protobuf_parse_syntax.specs.Classes as class;
 ghost use Rattle.protobuf_parse_syntax.specs.Classes.{lexicon};
 ghost use Rattle.protobuf_parse_syntax.specs.Grammar.{place_of};
 ghost use Rattle.protobuf_parse_syntax.specs.Productions as read;
-ghost use Rattle.protobuf_parse_syntax.specs.Code.{left, Gives, AtOneToken, is_end, seen_by, next_ident, floats_second};
+ghost use Rattle.protobuf_parse_syntax.specs.Code.{left, Gives, AtOneToken, is_end, seen_by};
+ghost use Rattle.protobuf_parse_syntax.specs.Code.{next_ident, floats_second};
 ghost use Rattle.protobuf_parse_syntax.specs.Words.{behind_next};
 
 use crate::error::ParserError;
@@ -67,7 +68,8 @@ impl<'t, 'text> Cursor<'t, 'text> {
 
     /// Reads this symbol. S8 at any other token.
     pub fn symbol(&mut self, symbol: char) -> Result<(), Refusal>
-        ensures { Gives (λ u. tt) result (left self.new) ((read.symbol symbol).run (left self.old)) }
+        ensures { Gives (λ u. tt) result (left self.new)
+            ((read.symbol symbol).run (left self.old)) }
     {
         self.symbol_or(symbol, ParserError::IncorrectInput)
     }
@@ -75,7 +77,8 @@ impl<'t, 'text> Cursor<'t, 'text> {
     /// Reads this symbol. The fault at any other token.
     pub fn symbol_or(&mut self, symbol: char, fault: ParserError) -> Result<(), Refusal>
         requires { AtOneToken fault }
-        ensures { Gives (λ u. tt) result (left self.new) ((read.symbol symbol).run (left self.old)) }
+        ensures { Gives (λ u. tt) result (left self.new)
+            ((read.symbol symbol).run (left self.old)) }
     {
         match self.rest {
             [token, rest @ ..] => match token.kind {
@@ -105,7 +108,8 @@ impl<'t, 'text> Cursor<'t, 'text> {
 
     /// Reads this word. S8 at any other token.
     pub fn word(&mut self, word: &str) -> Result<(), Refusal>
-        ensures { Gives (λ u. tt) result (left self.new) ((read.word word.now).run (left self.old)) }
+        ensures { Gives (λ u. tt) result (left self.new)
+            ((read.word word.now).run (left self.old)) }
     {
         match self.rest {
             [token, rest @ ..] => match token.kind {
@@ -176,8 +180,8 @@ impl<'t, 'text> Cursor<'t, 'text> {
         Ok(String::from_str(alloc, text)?)
     }
 
-    /// Reads a group's name, an identifier that begins with an ASCII capital. S13 at any other identifier,
-    /// S8 at any other token.
+    /// Reads a group's name, an identifier that begins with an ASCII capital. S13 at any other
+    /// identifier, S8 at any other token.
     pub fn group_name(&mut self, alloc: Global) -> Result<String, Refusal>
         ensures { Gives string_bytes result (left self.new) (read.capital.run (left self.old)) }
     {
@@ -224,7 +228,8 @@ impl<'t, 'text> Cursor<'t, 'text> {
     /// Reads an integer of at most the limit. S5 at a larger one, S8 at any other token.
     pub fn number_up_to(&mut self, limit: u64) -> Result<u64, Refusal>
         requires { 2147483647 ≤ limit }
-        ensures { Gives (λ n. n) result (left self.new) ((read.number_up_to limit).run (left self.old)) }
+        ensures { Gives (λ n. n) result (left self.new)
+            ((read.number_up_to limit).run (left self.old)) }
     {
         match self.rest {
             [token, rest @ ..] => match token.kind {
@@ -241,7 +246,8 @@ impl<'t, 'text> Cursor<'t, 'text> {
         }
     }
 
-    /// Reads a field's number or a range's end, from 0 to 2147483647. S5 at a larger integer, S8 at any other token.
+    /// Reads a field's number or a range's end, from 0 to 2147483647. S5 at a larger integer, S8 at
+    /// any other token.
     #[tactic(auto, unfolding(crate::specs::Productions::field_number), using(crate::specs::Code::fails_first))]
     pub fn field_number(&mut self) -> Result<i32, Refusal>
         ensures { Gives (λ n. n) result (left self.new) (read.field_number.run (left self.old)) }

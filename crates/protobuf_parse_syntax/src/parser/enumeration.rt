@@ -32,7 +32,8 @@ pub fn enumeration(
     tokens: &mut Cursor<'_, '_>,
     levels: usize,
 ) -> Result<Enumeration, Refusal>
-    ensures { Gives view.enum_view result (left tokens.new) ((nest.enumeration levels).low.run (left tokens.old)) }
+    ensures { Gives view.enum_view result (left tokens.new)
+        ((nest.enumeration levels).low.run (left tokens.old)) }
 {
     let place = tokens.place();
     tokens.word("enum")?;
@@ -49,7 +50,8 @@ fn enum_statements(
     tokens: &mut Cursor<'_, '_>,
     levels: usize,
 ) -> Result<Vec<EnumStatement>, Refusal>
-    ensures { Gives (λ v. map view.enum_statement_view v.items) result (left tokens.new) ((nest.enum_items levels).low.run (left tokens.old)) }
+    ensures { Gives (λ v. map view.enum_statement_view v.items) result (left tokens.new)
+        ((nest.enum_items levels).low.run (left tokens.old)) }
 {
     let mut body = Vec::new(alloc);
     'items: while begins_enum_item(tokens) {
@@ -74,7 +76,8 @@ fn enum_item(
     tokens: &mut Cursor<'_, '_>,
     levels: usize,
 ) -> Result<Option<EnumStatement>, Refusal>
-    ensures { Gives (seen_by view.enum_statement_view) result (left tokens.new) ((nest.enum_item levels).low.run (left tokens.old)) }
+    ensures { Gives (seen_by view.enum_statement_view) result (left tokens.new)
+        ((nest.enum_item levels).low.run (left tokens.old)) }
 {
     if tokens.sees_symbol(';') {
         tokens.symbol(';')?;
@@ -89,7 +92,8 @@ fn enum_statement(
     tokens: &mut Cursor<'_, '_>,
     levels: usize,
 ) -> Result<EnumStatement, Refusal>
-    ensures { Gives view.enum_statement_view result (left tokens.new) ((nest.enum_statement levels).low.run (left tokens.old)) }
+    ensures { Gives view.enum_statement_view result (left tokens.new)
+        ((nest.enum_statement levels).low.run (left tokens.old)) }
 {
     if tokens.sees_word("reserved") {
         return Ok(EnumStatement::Reserved(reserved(alloc, tokens)?));
@@ -107,7 +111,8 @@ fn enum_value(
     tokens: &mut Cursor<'_, '_>,
     levels: usize,
 ) -> Result<EnumValue, Refusal>
-    ensures { Gives view.value_view result (left tokens.new) ((nest.enum_value levels).low.run (left tokens.old)) }
+    ensures { Gives view.value_view result (left tokens.new)
+        ((nest.enum_value levels).low.run (left tokens.old)) }
 {
     let place = tokens.place();
     let name = value_name(alloc, tokens)?;
@@ -157,7 +162,8 @@ fn enum_number(tokens: &mut Cursor<'_, '_>) -> Result<i32, Refusal>
 /// `reserved = "reserved" ( str { "," str } | range { "," range } ) ";"`
 #[tactic(auto, unfolding(crate::specs::Productions::reserved), using(crate::specs::Code::fails_first))]
 pub fn reserved(alloc: Global, tokens: &mut Cursor<'_, '_>) -> Result<ReservedStatement, Refusal>
-    ensures { Gives view.reserved_statement_view result (left tokens.new) (read.reserved.run (left tokens.old)) }
+    ensures { Gives view.reserved_statement_view result (left tokens.new)
+        (read.reserved.run (left tokens.old)) }
 {
     let place = tokens.place();
     tokens.word("reserved")?;
@@ -169,7 +175,8 @@ pub fn reserved(alloc: Global, tokens: &mut Cursor<'_, '_>) -> Result<ReservedSt
 /// `str { "," str } | range { "," range }`
 #[tactic(auto, unfolding(crate::specs::Productions::reserved_items), using(crate::specs::Code::fails_first))]
 fn reserved_items(alloc: Global, tokens: &mut Cursor<'_, '_>) -> Result<Reserved, Refusal>
-    ensures { Gives view.reserved_view result (left tokens.new) (read.reserved_items.run (left tokens.old)) }
+    ensures { Gives view.reserved_view result (left tokens.new)
+        (read.reserved_items.run (left tokens.old)) }
 {
     if tokens.sees_str() {
         return Ok(Reserved::Names(names(alloc, tokens)?));
@@ -180,7 +187,8 @@ fn reserved_items(alloc: Global, tokens: &mut Cursor<'_, '_>) -> Result<Reserved
 /// `str { "," str }`, each of which is a text
 #[tactic(auto, unfolding(crate::specs::Productions::names), using(crate::specs::Code::fails_first))]
 fn names(alloc: Global, tokens: &mut Cursor<'_, '_>) -> Result<Vec<String>, Refusal>
-    ensures { Gives (λ v. map string_bytes v.items) result (left tokens.new) (read.names.run (left tokens.old)) }
+    ensures { Gives (λ v. map string_bytes v.items) result (left tokens.new)
+        (read.names.run (left tokens.old)) }
 {
     let mut names = Vec::new(alloc);
     names.push(text(alloc, tokens)?)?;
@@ -203,7 +211,8 @@ fn comma_name(alloc: Global, tokens: &mut Cursor<'_, '_>) -> Result<String, Refu
 /// `extensions = "extensions" range { "," range }`
 #[tactic(auto, unfolding(crate::specs::Productions::extensions), using(crate::specs::Code::fails_first))]
 pub fn extensions(alloc: Global, tokens: &mut Cursor<'_, '_>) -> Result<Extensions, Refusal>
-    ensures { Gives view.extensions_view result (left tokens.new) (read.extensions.run (left tokens.old)) }
+    ensures { Gives view.extensions_view result (left tokens.new)
+        (read.extensions.run (left tokens.old)) }
 {
     let place = tokens.place();
     tokens.word("extensions")?;
@@ -214,7 +223,8 @@ pub fn extensions(alloc: Global, tokens: &mut Cursor<'_, '_>) -> Result<Extensio
 /// `range { "," range }`
 #[tactic(auto, unfolding(crate::specs::Productions::ranges), using(crate::specs::Code::fails_first))]
 fn ranges(alloc: Global, tokens: &mut Cursor<'_, '_>) -> Result<Vec<FieldNumberRange>, Refusal>
-    ensures { Gives (λ v. map view.range_view v.items) result (left tokens.new) (read.ranges.run (left tokens.old)) }
+    ensures { Gives (λ v. map view.range_view v.items) result (left tokens.new)
+        (read.ranges.run (left tokens.old)) }
 {
     let mut ranges = Vec::new(alloc);
     ranges.push(range(tokens)?)?;
@@ -228,7 +238,8 @@ fn ranges(alloc: Global, tokens: &mut Cursor<'_, '_>) -> Result<Vec<FieldNumberR
 /// `"," range`
 #[tactic(auto, using(crate::specs::Code::fails_first))]
 fn comma_range(tokens: &mut Cursor<'_, '_>) -> Result<FieldNumberRange, Refusal>
-    ensures { Gives view.range_view result (left tokens.new) (read.comma_range.run (left tokens.old)) }
+    ensures { Gives view.range_view result (left tokens.new)
+        (read.comma_range.run (left tokens.old)) }
 {
     tokens.symbol(',')?;
     range(tokens)
@@ -247,7 +258,8 @@ fn range(tokens: &mut Cursor<'_, '_>) -> Result<FieldNumberRange, Refusal>
 /// `[ "to" ( int | "max" ) ]`
 #[tactic(auto, unfolding(crate::specs::Productions::range_end), using(crate::specs::Code::fails_first))]
 fn range_end(tokens: &mut Cursor<'_, '_>, from: i32) -> Result<i32, Refusal>
-    ensures { Gives (λ n. n) result (left tokens.new) ((read.range_end from).run (left tokens.old)) }
+    ensures { Gives (λ n. n) result (left tokens.new)
+        ((read.range_end from).run (left tokens.old)) }
 {
     if !tokens.sees_word("to") {
         return Ok(from);

@@ -7,7 +7,9 @@ ghost use Rattle.protobuf_parse_syntax.specs.Grammar as grammar;
 ghost use Rattle.protobuf_parse_syntax.specs.Trees as view;
 ghost use Rattle.protobuf_parse_syntax.specs.Code.{left, Gives, seen_by};
 ghost use Rattle.protobuf_parse_syntax.specs.Words.{Finds};
-ghost use Rattle.protobuf_parse_syntax.specs.Fields.{type_in, map_in, after_label_in, reads_map_field, labels_in, group_firsts, field_in};
+ghost use Rattle.protobuf_parse_syntax.specs.Fields.{type_in, map_in, after_label_in};
+ghost use Rattle.protobuf_parse_syntax.specs.Fields.{reads_map_field, labels_in, group_firsts};
+ghost use Rattle.protobuf_parse_syntax.specs.Fields.{field_in};
 ghost use Rattle.protobuf_parse_syntax.specs.Nested as nest;
 
 use crate::error::ParserError;
@@ -33,7 +35,8 @@ pub fn field(
     syntax: Syntax,
     levels: usize,
 ) -> Result<FieldStatement, Refusal>
-    ensures { Gives view.field_statement_view result (left tokens.new) ((nest.field syntax levels).run (left tokens.old)) }
+    ensures { Gives view.field_statement_view result (left tokens.new)
+        ((nest.field syntax levels).run (left tokens.old)) }
 {
     if levels == 0 {
         return Err(Refusal::Here(ParserError::NestingTooDeep));
@@ -41,8 +44,9 @@ pub fn field(
     field_of(alloc, tokens, syntax, levels, levels - 1)
 }
 
-/// A label word that begins a field is its label. In proto2 every field has a label, unless it begins with
-/// `map`; in proto3 none has the label `required`. The fields of a group have one level less.
+/// A label word that begins a field is its label. In proto2 every field has a label, unless it
+/// begins with `map`; in proto3 none has the label `required`. The fields of a group have one level
+/// less.
 #[cycle(field)]
 fn field_of(
     alloc: Global,
@@ -52,7 +56,8 @@ fn field_of(
     inner: usize,
 ) -> Result<FieldStatement, Refusal>
     requires { levels ≡ suc inner }
-    ensures { Gives view.field_statement_view result (left tokens.new) ((field_in syntax inner).run (left tokens.old)) }
+    ensures { Gives view.field_statement_view result (left tokens.new)
+        ((field_in syntax inner).run (left tokens.old)) }
 {
     if !begins_field(tokens, syntax) {
         return Err(Refusal::Next(field_fault(tokens, syntax)));
@@ -91,7 +96,8 @@ pub fn oneof_field(
     syntax: Syntax,
     levels: usize,
 ) -> Result<FieldStatement, Refusal>
-    ensures { Gives view.field_statement_view result (left tokens.new) ((nest.oneof_field syntax levels).low.run (left tokens.old)) }
+    ensures { Gives view.field_statement_view result (left tokens.new)
+        ((nest.oneof_field syntax levels).low.run (left tokens.old)) }
 {
     if begins_no_oneof_field(tokens) {
         return Err(Refusal::Next(oneof_fault(tokens)));
@@ -113,7 +119,8 @@ fn after_label(
     place: Place,
     label: Option<Label>,
 ) -> Result<FieldStatement, Refusal>
-    ensures { Gives view.field_statement_view result (left tokens.new) ((after_label_in syntax levels inner place label).low.run (left tokens.old)) }
+    ensures { Gives view.field_statement_view result (left tokens.new)
+        ((after_label_in syntax levels inner place label).low.run (left tokens.old)) }
 {
     if tokens.sees_word("group") {
         let group = group(alloc, tokens, syntax, inner, place, label)?;
@@ -134,7 +141,8 @@ fn group(
     place: Place,
     label: Option<Label>,
 ) -> Result<Group, Refusal>
-    ensures { Gives (λ g. view.group_of (view.group_view g)) result (left tokens.new) ((nest.group_of syntax place label (nest.fields syntax levels)).low.run (left tokens.old)) }
+    ensures { Gives (λ g. view.group_of (view.group_view g)) result (left tokens.new)
+        ((nest.group_of syntax place label (nest.fields syntax levels)).low.run (left tokens.old)) }
 {
     tokens.word("group")?;
     let name = tokens.group_name(alloc)?;
@@ -159,7 +167,8 @@ fn group_body(
     syntax: Syntax,
     levels: usize,
 ) -> Result<Vec<FieldStatement>, Refusal>
-    ensures { Gives (λ v. map view.field_statement_view v.items) result (left tokens.new) ((nest.field_block_of syntax (nest.fields syntax levels)).low.run (left tokens.old)) }
+    ensures { Gives (λ v. map view.field_statement_view v.items) result (left tokens.new)
+        ((nest.field_block_of syntax (nest.fields syntax levels)).low.run (left tokens.old)) }
 {
     tokens.symbol('{')?;
     let fields = field_statements(alloc, tokens, syntax, levels)?;
@@ -176,7 +185,8 @@ pub fn extend_body(
     syntax: Syntax,
     levels: usize,
 ) -> Result<Vec<FieldStatement>, Refusal>
-    ensures { Gives (λ v. map view.field_statement_view v.items) result (left tokens.new) ((nest.extend_body syntax levels).low.run (left tokens.old)) }
+    ensures { Gives (λ v. map view.field_statement_view v.items) result (left tokens.new)
+        ((nest.extend_body syntax levels).low.run (left tokens.old)) }
 {
     tokens.symbol('{')?;
     let fields = field_statements(alloc, tokens, syntax, levels)?;
@@ -192,7 +202,8 @@ fn field_statements(
     syntax: Syntax,
     levels: usize,
 ) -> Result<Vec<FieldStatement>, Refusal>
-    ensures { Gives (λ v. map view.field_statement_view v.items) result (left tokens.new) ((nest.field_items_of syntax (nest.fields syntax levels)).low.run (left tokens.old)) }
+    ensures { Gives (λ v. map view.field_statement_view v.items) result (left tokens.new)
+        ((nest.field_items_of syntax (nest.fields syntax levels)).low.run (left tokens.old)) }
 {
     let mut fields = Vec::new(alloc);
     'items: while begins_field_item(tokens, syntax) {
@@ -211,7 +222,8 @@ fn field_item(
     syntax: Syntax,
     levels: usize,
 ) -> Result<Option<FieldStatement>, Refusal>
-    ensures { Gives (seen_by view.field_statement_view) result (left tokens.new) ((nest.field_item_of syntax (nest.fields syntax levels)).low.run (left tokens.old)) }
+    ensures { Gives (seen_by view.field_statement_view) result (left tokens.new)
+        ((nest.field_item_of syntax (nest.fields syntax levels)).low.run (left tokens.old)) }
 {
     if tokens.sees_symbol(';') {
         tokens.symbol(';')?;
@@ -230,7 +242,8 @@ fn plain_field(
     label: Option<Label>,
 ) -> Result<Field, Refusal>
     requires { starts lexicon group_firsts (left tokens.old) ≡ false }
-    ensures { Gives (λ f. view.field (view.field_view f)) result (left tokens.new) ((nest.plain_field levels place label).low.run (left tokens.old)) }
+    ensures { Gives (λ f. view.field (view.field_view f)) result (left tokens.new)
+        ((nest.plain_field levels place label).low.run (left tokens.old)) }
 {
     let type_ = field_type(alloc, tokens, levels)?;
     after_type(alloc, tokens, levels, place, label, type_)
@@ -245,7 +258,8 @@ fn map_field(
     inner: usize,
     place: Place,
 ) -> Result<FieldStatement, Refusal>
-    ensures { Gives view.field_statement_view result (left tokens.new) (reads_map_field levels inner place (left tokens.old)) }
+    ensures { Gives view.field_statement_view result (left tokens.new)
+        (reads_map_field levels inner place (left tokens.old)) }
 {
     let type_ = map(alloc, tokens, inner)?;
     let field = after_type(alloc, tokens, levels, place, None, type_)?;
@@ -262,7 +276,8 @@ fn after_type(
     label: Option<Label>,
     type_: Type,
 ) -> Result<Field, Refusal>
-    ensures { Gives (λ f. view.field (view.field_view f)) result (left tokens.new) ((nest.after_type levels place label (view.type_view type_)).low.run (left tokens.old)) }
+    ensures { Gives (λ f. view.field (view.field_view f)) result (left tokens.new)
+        ((nest.after_type levels place label (view.type_view type_)).low.run (left tokens.old)) }
 {
     let name = tokens.ident(alloc)?;
     tokens.symbol('=')?;
@@ -283,7 +298,8 @@ fn after_type(
 #[cycle(types)]
 #[tactic(auto, using(crate::specs::Fields::type_zero, crate::specs::Fields::type_more))]
 fn field_type(alloc: Global, tokens: &mut Cursor<'_, '_>, levels: usize) -> Result<Type, Refusal>
-    ensures { Gives view.type_view result (left tokens.new) ((nest.type_ levels).run (left tokens.old)) }
+    ensures { Gives view.type_view result (left tokens.new)
+        ((nest.type_ levels).run (left tokens.old)) }
 {
     if levels == 0 {
         return Err(Refusal::Here(ParserError::NestingTooDeep));
@@ -295,7 +311,8 @@ fn field_type(alloc: Global, tokens: &mut Cursor<'_, '_>, levels: usize) -> Resu
 #[cycle(types)]
 #[tactic(auto, unfolding(crate::specs::Nested::type_of))]
 fn type_of(alloc: Global, tokens: &mut Cursor<'_, '_>, levels: usize) -> Result<Type, Refusal>
-    ensures { Gives view.type_view result (left tokens.new) ((type_in levels).run (left tokens.old)) }
+    ensures { Gives view.type_view result (left tokens.new)
+        ((type_in levels).run (left tokens.old)) }
 {
     match scalar(tokens) {
         Some(scalar) => Ok(Type::Scalar(scalar)),
@@ -328,7 +345,8 @@ fn scalar(tokens: &mut Cursor<'_, '_>) -> Option<Scalar>
 #[cycle(types)]
 #[tactic(auto, unfolding(crate::specs::Nested::map_of), using(crate::specs::Code::fails_first))]
 fn map(alloc: Global, tokens: &mut Cursor<'_, '_>, levels: usize) -> Result<Type, Refusal>
-    ensures { Gives view.type_view result (left tokens.new) ((map_in levels).run (left tokens.old)) }
+    ensures { Gives view.type_view result (left tokens.new)
+        ((map_in levels).run (left tokens.old)) }
 {
     tokens.word("map")?;
     tokens.symbol('<')?;

@@ -25,11 +25,12 @@ use crate::tree::{FileStatement, FileTree, Import, ImportVis, Package, Syntax};
 use protobuf_parse_base::proto_path::ProtoPathBuf;
 use std::alloc::Global;
 
-/// `file = [ syntax ] { import | package | option | message | enum | extend | service | ";" }`. Tokens may be left
-/// behind it.
+/// `file = [ syntax ] { import | package | option | message | enum | extend | service | ";" }`.
+/// Tokens may be left behind it.
 #[tactic(auto, unfolding(crate::specs::Nested::file), using(crate::specs::Code::fails_first))]
 pub fn file(alloc: Global, tokens: &mut Cursor<'_, '_>, levels: usize) -> Result<FileTree, Refusal>
-    ensures { Gives view.file_view result (left tokens.new) ((nest.files levels).low.run (left tokens.old)) }
+    ensures { Gives view.file_view result (left tokens.new)
+        ((nest.files levels).low.run (left tokens.old)) }
 {
     let syntax = version(alloc, tokens)?;
     let statements = file_statements(alloc, tokens, syntax, levels)?;
@@ -39,7 +40,8 @@ pub fn file(alloc: Global, tokens: &mut Cursor<'_, '_>, levels: usize) -> Result
 /// `[ "syntax" "=" str ";" ]`; proto2 where it is absent.
 #[tactic(auto, unfolding(crate::specs::Productions::version_statement, crate::specs::Productions::syntax), using(crate::specs::Code::fails_first))]
 fn version(alloc: Global, tokens: &mut Cursor<'_, '_>) -> Result<Syntax, Refusal>
-    ensures { Gives (λ s. s) result (left tokens.new) (read.version_statement.run (left tokens.old)) }
+    ensures { Gives (λ s. s) result (left tokens.new)
+        (read.version_statement.run (left tokens.old)) }
 {
     if !tokens.sees_word("syntax") {
         return Ok(Syntax::Proto2);
@@ -75,7 +77,8 @@ fn file_statements(
     syntax: Syntax,
     levels: usize,
 ) -> Result<Vec<FileStatement>, Refusal>
-    ensures { Gives (λ v. map view.statement_view v.items) result (left tokens.new) ((nest.file_items syntax levels).low.run (left tokens.old)) }
+    ensures { Gives (λ v. map view.statement_view v.items) result (left tokens.new)
+        ((nest.file_items syntax levels).low.run (left tokens.old)) }
 {
     let mut statements = Vec::new(alloc);
     'items: while begins_file_statement(tokens) {
@@ -93,7 +96,8 @@ fn file_item(
     syntax: Syntax,
     levels: usize,
 ) -> Result<Option<FileStatement>, Refusal>
-    ensures { Gives (seen_by view.statement_view) result (left tokens.new) ((nest.file_item syntax levels).low.run (left tokens.old)) }
+    ensures { Gives (seen_by view.statement_view) result (left tokens.new)
+        ((nest.file_item syntax levels).low.run (left tokens.old)) }
 {
     if tokens.sees_symbol(';') {
         tokens.symbol(';')?;
@@ -110,7 +114,8 @@ fn file_statement(
     syntax: Syntax,
     levels: usize,
 ) -> Result<FileStatement, Refusal>
-    ensures { Gives view.statement_view result (left tokens.new) ((nest.file_statement syntax levels).low.run (left tokens.old)) }
+    ensures { Gives view.statement_view result (left tokens.new)
+        ((nest.file_statement syntax levels).low.run (left tokens.old)) }
 {
     if tokens.sees_word("import") {
         return Ok(FileStatement::Import(import(alloc, tokens)?));
@@ -136,7 +141,8 @@ fn file_statement(
 /// `import = "import" [ "weak" | "public" ] str ";"`
 #[tactic(auto, unfolding(crate::specs::Productions::imported), using(crate::specs::Code::fails_first))]
 fn import(alloc: Global, tokens: &mut Cursor<'_, '_>) -> Result<Import, Refusal>
-    ensures { Gives view.import_view result (left tokens.new) (read.imported.run (left tokens.old)) }
+    ensures { Gives view.import_view result (left tokens.new)
+        (read.imported.run (left tokens.old)) }
 {
     let place = tokens.place();
     tokens.word("import")?;
@@ -181,7 +187,8 @@ fn path(alloc: Global, tokens: &mut Cursor<'_, '_>) -> Result<ProtoPathBuf, Refu
 /// `package = "package" ident { "." ident } ";"`
 #[tactic(auto, unfolding(crate::specs::Productions::package_name), using(crate::specs::Code::fails_first))]
 fn package(alloc: Global, tokens: &mut Cursor<'_, '_>) -> Result<Package, Refusal>
-    ensures { Gives view.package_view result (left tokens.new) (read.package_name.run (left tokens.old)) }
+    ensures { Gives view.package_view result (left tokens.new)
+        (read.package_name.run (left tokens.old)) }
 {
     let place = tokens.place();
     tokens.word("package")?;

@@ -28,7 +28,8 @@ pub fn message(
     syntax: Syntax,
     levels: usize,
 ) -> Result<Message, Refusal>
-    ensures { Gives view.message_view result (left tokens.new) ((nest.message syntax levels).run (left tokens.old)) }
+    ensures { Gives view.message_view result (left tokens.new)
+        ((nest.message syntax levels).run (left tokens.old)) }
 {
     if levels == 0 {
         return Err(Refusal::Here(ParserError::NestingTooDeep));
@@ -36,7 +37,8 @@ pub fn message(
     message_of(alloc, tokens, syntax, levels - 1)
 }
 
-/// `message = "message" ident "{" { ";" | reserved | oneof | extend | message | enum | extensions | option
+/// `message = "message" ident "{" { ";" | reserved | oneof | extend | message | enum | extensions |
+/// option
 /// | field } "}"`
 #[cycle(message)]
 #[tactic(auto, using(crate::specs::Code::fails_first, crate::proofs::Versions::message_in_runs, crate::proofs::Messages::view_parts))]
@@ -46,7 +48,8 @@ fn message_of(
     syntax: Syntax,
     levels: usize,
 ) -> Result<Message, Refusal>
-    ensures { Gives view.message_view result (left tokens.new) ((nest.message_in syntax levels).low.run (left tokens.old)) }
+    ensures { Gives view.message_view result (left tokens.new)
+        ((nest.message_in syntax levels).low.run (left tokens.old)) }
 {
     let place = tokens.place();
     tokens.word("message")?;
@@ -66,7 +69,8 @@ fn message_statements(
     syntax: Syntax,
     levels: usize,
 ) -> Result<Vec<MessageStatement>, Refusal>
-    ensures { Gives (λ v. map view.message_statement_view v.items) result (left tokens.new) ((nest.message_items syntax levels).low.run (left tokens.old)) }
+    ensures { Gives (λ v. map view.message_statement_view v.items) result (left tokens.new)
+        ((nest.message_items syntax levels).low.run (left tokens.old)) }
 {
     let mut body = Vec::new(alloc);
     'items: while begins_message_statement(tokens, syntax) {
@@ -85,7 +89,8 @@ fn message_item(
     syntax: Syntax,
     levels: usize,
 ) -> Result<Option<MessageStatement>, Refusal>
-    ensures { Gives (seen_by view.message_statement_view) result (left tokens.new) ((nest.message_item syntax levels).low.run (left tokens.old)) }
+    ensures { Gives (seen_by view.message_statement_view) result (left tokens.new)
+        ((nest.message_item syntax levels).low.run (left tokens.old)) }
 {
     if tokens.sees_symbol(';') {
         tokens.symbol(';')?;
@@ -94,8 +99,8 @@ fn message_item(
     Ok(Some(message_statement(alloc, tokens, syntax, levels)?))
 }
 
-/// `reserved | oneof | extend | message | enum | extensions | option | field`, where `extensions` stand in proto2
-/// alone.
+/// `reserved | oneof | extend | message | enum | extensions | option | field`, where `extensions`
+/// stand in proto2 alone.
 #[cycle(message)]
 fn message_statement(
     alloc: Global,
@@ -103,7 +108,8 @@ fn message_statement(
     syntax: Syntax,
     levels: usize,
 ) -> Result<MessageStatement, Refusal>
-    ensures { Gives view.message_statement_view result (left tokens.new) ((nest.message_statement syntax levels).low.run (left tokens.old)) }
+    ensures { Gives view.message_statement_view result (left tokens.new)
+        ((nest.message_statement syntax levels).low.run (left tokens.old)) }
 {
     if tokens.sees_word("reserved") {
         return Ok(MessageStatement::Reserved(reserved(alloc, tokens)?));
@@ -137,7 +143,8 @@ fn oneof(
     syntax: Syntax,
     levels: usize,
 ) -> Result<OneOf, Refusal>
-    ensures { Gives view.oneof_view result (left tokens.new) ((nest.oneof syntax levels).low.run (left tokens.old)) }
+    ensures { Gives view.oneof_view result (left tokens.new)
+        ((nest.oneof syntax levels).low.run (left tokens.old)) }
 {
     let place = tokens.place();
     tokens.word("oneof")?;
@@ -156,7 +163,8 @@ fn oneof_statements(
     syntax: Syntax,
     levels: usize,
 ) -> Result<Vec<OneOfStatement>, Refusal>
-    ensures { Gives (λ v. map view.oneof_statement_view v.items) result (left tokens.new) ((nest.oneof_items syntax levels).low.run (left tokens.old)) }
+    ensures { Gives (λ v. map view.oneof_statement_view v.items) result (left tokens.new)
+        ((nest.oneof_items syntax levels).low.run (left tokens.old)) }
 {
     let mut body = Vec::new(alloc);
     'items: while begins_oneof_statement(tokens) {
@@ -174,7 +182,8 @@ fn oneof_item(
     syntax: Syntax,
     levels: usize,
 ) -> Result<Option<OneOfStatement>, Refusal>
-    ensures { Gives (seen_by view.oneof_statement_view) result (left tokens.new) ((nest.oneof_item syntax levels).low.run (left tokens.old)) }
+    ensures { Gives (seen_by view.oneof_statement_view) result (left tokens.new)
+        ((nest.oneof_item syntax levels).low.run (left tokens.old)) }
 {
     if tokens.sees_symbol(';') {
         tokens.symbol(';')?;
@@ -196,7 +205,8 @@ pub fn extend(
     syntax: Syntax,
     levels: usize,
 ) -> Result<Extend, Refusal>
-    ensures { Gives view.extend_view result (left tokens.new) ((nest.extend syntax levels).low.run (left tokens.old)) }
+    ensures { Gives view.extend_view result (left tokens.new)
+        ((nest.extend syntax levels).low.run (left tokens.old)) }
 {
     let place = tokens.place();
     tokens.word("extend")?;

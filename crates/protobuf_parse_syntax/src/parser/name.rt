@@ -66,7 +66,8 @@ pub fn string(alloc: Global, tokens: &mut Cursor<'_, '_>) -> Result<StrLit, Refu
 /// The text that a string stands for. S15 at the string where it stands for none.
 #[tactic(auto, unfolding(crate::specs::Productions::reserved_name), using(crate::specs::Code::fails_first))]
 pub fn text(alloc: Global, tokens: &mut Cursor<'_, '_>) -> Result<String, Refusal>
-    ensures { Gives string_bytes result (left tokens.new) (read.reserved_name.run (left tokens.old)) }
+    ensures { Gives string_bytes result (left tokens.new)
+        (read.reserved_name.run (left tokens.old)) }
 {
     let before = *tokens;
     let string = string(alloc, tokens)?;

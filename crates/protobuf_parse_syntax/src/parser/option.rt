@@ -29,7 +29,8 @@ pub fn option(
     tokens: &mut Cursor<'_, '_>,
     levels: usize,
 ) -> Result<OptionStatement, Refusal>
-    ensures { Gives view.option_statement_view result (left tokens.new) ((nest.option levels).low.run (left tokens.old)) }
+    ensures { Gives view.option_statement_view result (left tokens.new)
+        ((nest.option levels).low.run (left tokens.old)) }
 {
     let place = tokens.place();
     tokens.word("option")?;
@@ -45,7 +46,8 @@ pub fn options(
     tokens: &mut Cursor<'_, '_>,
     levels: usize,
 ) -> Result<Vec<ProtobufOption>, Refusal>
-    ensures { Gives (λ v. map view.option_view v.items) result (left tokens.new) ((nest.options levels).low.run (left tokens.old)) }
+    ensures { Gives (λ v. map view.option_view v.items) result (left tokens.new)
+        ((nest.options levels).low.run (left tokens.old)) }
 {
     if !tokens.sees_symbol('[') {
         return Ok(Vec::new(alloc));
@@ -62,7 +64,8 @@ fn assignments(
     tokens: &mut Cursor<'_, '_>,
     levels: usize,
 ) -> Result<Vec<ProtobufOption>, Refusal>
-    ensures { Gives (λ v. map view.option_view v.items) result (left tokens.new) ((nest.assignments levels).low.run (left tokens.old)) }
+    ensures { Gives (λ v. map view.option_view v.items) result (left tokens.new)
+        ((nest.assignments levels).low.run (left tokens.old)) }
 {
     let mut options = Vec::new(alloc);
     options.push(assignment(alloc, tokens, levels)?)?;
@@ -81,7 +84,8 @@ fn assignment(
     tokens: &mut Cursor<'_, '_>,
     levels: usize,
 ) -> Result<ProtobufOption, Refusal>
-    ensures { Gives view.option_view result (left tokens.new) ((nest.assignment levels).low.run (left tokens.old)) }
+    ensures { Gives view.option_view result (left tokens.new)
+        ((nest.assignment levels).low.run (left tokens.old)) }
 {
     let name = option_name(alloc, tokens)?;
     tokens.symbol('=')?;
@@ -92,7 +96,8 @@ fn assignment(
 /// `optname = optpart { "." optpart }`, of at most 100 parts
 #[tactic(auto, unfolding(crate::specs::Productions::option_name), using(crate::specs::Code::fails_first))]
 fn option_name(alloc: Global, tokens: &mut Cursor<'_, '_>) -> Result<ProtobufOptionName, Refusal>
-    ensures { Gives view.option_name_view result (left tokens.new) (read.option_name.run (left tokens.old)) }
+    ensures { Gives view.option_name_view result (left tokens.new)
+        (read.option_name.run (left tokens.old)) }
 {
     let first = option_part(alloc, tokens)?;
     if tokens.sees_symbol('.') {
@@ -114,7 +119,8 @@ fn parts(
     tokens: &mut Cursor<'_, '_>,
     first: ProtobufOptionNamePart,
 ) -> Result<Vec<ProtobufOptionNamePart>, Refusal>
-    ensures { Gives (λ v. map view.option_part_view v.items) result (left tokens.new) (with_first (view.option_part_view first) ((read.parts_up_to 99).run (left tokens.old))) }
+    ensures { Gives (λ v. map view.option_part_view v.items) result (left tokens.new)
+        (with_first (view.option_part_view first) ((read.parts_up_to 99).run (left tokens.old))) }
 {
     let mut parts = Vec::new(alloc);
     parts.push(first)?;
@@ -134,15 +140,18 @@ fn parts(
 /// `"." optpart`
 #[tactic(auto, unfolding(crate::specs::Productions::next_part), using(crate::specs::Code::fails_first))]
 fn next_part(alloc: Global, tokens: &mut Cursor<'_, '_>) -> Result<ProtobufOptionNamePart, Refusal>
-    ensures { Gives view.option_part_view result (left tokens.new) (read.next_part.run (left tokens.old)) }
+    ensures { Gives view.option_part_view result (left tokens.new)
+        (read.next_part.run (left tokens.old)) }
 {
     tokens.symbol('.')?;
     option_part(alloc, tokens)
 }
 
-/// That no part follows the 100th. S7 at the first token of another part, S8 at a dot with no part behind it.
+/// That no part follows the 100th. S7 at the first token of another part, S8 at a dot with no part
+/// behind it.
 fn no_more_parts(tokens: &mut Cursor<'_, '_>) -> Result<(), Refusal>
-    ensures { Gives (λ u. []) result (left tokens.new) ((read.parts_up_to 0).run (left tokens.old)) }
+    ensures { Gives (λ u. []) result (left tokens.new)
+        ((read.parts_up_to 0).run (left tokens.old)) }
 {
     if !tokens.sees_symbol('.') {
         return Ok(());
@@ -170,7 +179,8 @@ fn option_part(
     alloc: Global,
     tokens: &mut Cursor<'_, '_>,
 ) -> Result<ProtobufOptionNamePart, Refusal>
-    ensures { Gives view.option_part_view result (left tokens.new) (read.option_part.run (left tokens.old)) }
+    ensures { Gives view.option_part_view result (left tokens.new)
+        (read.option_part.run (left tokens.old)) }
 {
     if tokens.sees_ident() {
         return Ok(ProtobufOptionNamePart::Direct(tokens.ident(alloc)?));
@@ -188,7 +198,8 @@ pub fn option_body(
     tokens: &mut Cursor<'_, '_>,
     levels: usize,
 ) -> Result<Vec<OptionStatement>, Refusal>
-    ensures { Gives (λ v. map view.option_statement_view v.items) result (left tokens.new) ((nest.option_body levels).low.run (left tokens.old)) }
+    ensures { Gives (λ v. map view.option_statement_view v.items) result (left tokens.new)
+        ((nest.option_body levels).low.run (left tokens.old)) }
 {
     tokens.symbol('{')?;
     let options = option_statements(alloc, tokens, levels)?;
@@ -202,7 +213,8 @@ fn option_statements(
     tokens: &mut Cursor<'_, '_>,
     levels: usize,
 ) -> Result<Vec<OptionStatement>, Refusal>
-    ensures { Gives (λ v. map view.option_statement_view v.items) result (left tokens.new) ((nest.option_items levels).low.run (left tokens.old)) }
+    ensures { Gives (λ v. map view.option_statement_view v.items) result (left tokens.new)
+        ((nest.option_items levels).low.run (left tokens.old)) }
 {
     let mut options = Vec::new(alloc);
     'items: while begins_option_item(tokens) {
@@ -214,7 +226,8 @@ fn option_statements(
 
 #[tactic(auto, using(crate::proofs::Left::starts_more))]
 fn begins_option_item(tokens: &Cursor<'_, '_>) -> bool
-    ensures { result ≡ starts lexicon (class.symbol 59 ∷ class.word (codes "option") ∷ []) (left tokens.now) }
+    ensures { result ≡ starts lexicon (class.symbol 59 ∷ class.word (codes "option") ∷ [])
+        (left tokens.now) }
 {
     tokens.sees_symbol(';') || tokens.sees_word("option")
 }
@@ -226,7 +239,8 @@ fn option_item(
     tokens: &mut Cursor<'_, '_>,
     levels: usize,
 ) -> Result<Option<OptionStatement>, Refusal>
-    ensures { Gives (seen_by view.option_statement_view) result (left tokens.new) ((nest.option_item levels).low.run (left tokens.old)) }
+    ensures { Gives (seen_by view.option_statement_view) result (left tokens.new)
+        ((nest.option_item levels).low.run (left tokens.old)) }
 {
     if tokens.sees_symbol(';') {
         tokens.symbol(';')?;

@@ -23,7 +23,8 @@ pub fn service(
     syntax: Syntax,
     levels: usize,
 ) -> Result<Service, Refusal>
-    ensures { Gives view.service_view result (left tokens.new) ((nest.service syntax levels).low.run (left tokens.old)) }
+    ensures { Gives view.service_view result (left tokens.new)
+        ((nest.service syntax levels).low.run (left tokens.old)) }
 {
     let place = tokens.place();
     tokens.word("service")?;
@@ -41,7 +42,8 @@ fn service_statements(
     syntax: Syntax,
     levels: usize,
 ) -> Result<Vec<ServiceStatement>, Refusal>
-    ensures { Gives (λ v. map view.service_statement_view v.items) result (left tokens.new) ((nest.service_items syntax levels).low.run (left tokens.old)) }
+    ensures { Gives (λ v. map view.service_statement_view v.items) result (left tokens.new)
+        ((nest.service_items syntax levels).low.run (left tokens.old)) }
 {
     let mut body = Vec::new(alloc);
     'items: while begins_service_statement(tokens, syntax) {
@@ -59,7 +61,8 @@ fn service_item(
     syntax: Syntax,
     levels: usize,
 ) -> Result<Option<ServiceStatement>, Refusal>
-    ensures { Gives (seen_by view.service_statement_view) result (left tokens.new) ((nest.service_item syntax levels).low.run (left tokens.old)) }
+    ensures { Gives (seen_by view.service_statement_view) result (left tokens.new)
+        ((nest.service_item syntax levels).low.run (left tokens.old)) }
 {
     if tokens.sees_symbol(';') {
         tokens.symbol(';')?;
@@ -76,7 +79,8 @@ fn service_statement(
     syntax: Syntax,
     levels: usize,
 ) -> Result<ServiceStatement, Refusal>
-    ensures { Gives view.service_statement_view result (left tokens.new) ((nest.service_statement syntax levels).low.run (left tokens.old)) }
+    ensures { Gives view.service_statement_view result (left tokens.new)
+        ((nest.service_statement syntax levels).low.run (left tokens.old)) }
 {
     if tokens.sees_word("rpc") {
         return Ok(ServiceStatement::Method(rpc(alloc, tokens, levels)?));
@@ -90,7 +94,8 @@ fn service_statement(
 /// `rpc = "rpc" ident "(" [ "stream" ] name ")" "returns" "(" [ "stream" ] name ")" end`
 #[tactic(auto, unfolding(crate::specs::Nested::rpc), using(crate::specs::Code::fails_first))]
 fn rpc(alloc: Global, tokens: &mut Cursor<'_, '_>, levels: usize) -> Result<Method, Refusal>
-    ensures { Gives view.method_view result (left tokens.new) ((nest.rpc levels).low.run (left tokens.old)) }
+    ensures { Gives view.method_view result (left tokens.new)
+        ((nest.rpc levels).low.run (left tokens.old)) }
 {
     let place = tokens.place();
     tokens.word("rpc")?;
@@ -113,7 +118,8 @@ fn rpc(alloc: Global, tokens: &mut Cursor<'_, '_>, levels: usize) -> Result<Meth
 /// `"(" [ "stream" ] name ")"`: whether the word stands there, and the name.
 #[tactic(auto, unfolding(crate::specs::Productions::streamed), using(crate::specs::Code::fails_first))]
 fn streamed(alloc: Global, tokens: &mut Cursor<'_, '_>) -> Result<(bool, String), Refusal>
-    ensures { Gives (λ s. (s.0, string_bytes s.1)) result (left tokens.new) (read.streamed.run (left tokens.old)) }
+    ensures { Gives (λ s. (s.0, string_bytes s.1)) result (left tokens.new)
+        (read.streamed.run (left tokens.old)) }
 {
     tokens.symbol('(')?;
     let streaming = tokens.sees_word("stream");
@@ -128,7 +134,8 @@ fn streamed(alloc: Global, tokens: &mut Cursor<'_, '_>) -> Result<(bool, String)
 /// `stream = "stream" ident "(" name "," name ")" end`
 #[tactic(auto, unfolding(crate::specs::Nested::stream), using(crate::specs::Code::fails_first))]
 fn stream(alloc: Global, tokens: &mut Cursor<'_, '_>, levels: usize) -> Result<Method, Refusal>
-    ensures { Gives view.method_view result (left tokens.new) ((nest.stream levels).low.run (left tokens.old)) }
+    ensures { Gives view.method_view result (left tokens.new)
+        ((nest.stream levels).low.run (left tokens.old)) }
 {
     let place = tokens.place();
     tokens.word("stream")?;
@@ -157,7 +164,8 @@ fn method_end(
     tokens: &mut Cursor<'_, '_>,
     levels: usize,
 ) -> Result<Vec<OptionStatement>, Refusal>
-    ensures { Gives (λ v. map view.option_statement_view v.items) result (left tokens.new) ((nest.method_end levels).low.run (left tokens.old)) }
+    ensures { Gives (λ v. map view.option_statement_view v.items) result (left tokens.new)
+        ((nest.method_end levels).low.run (left tokens.old)) }
 {
     if tokens.sees_symbol(';') {
         tokens.symbol(';')?;

@@ -94,7 +94,8 @@ pub fn begins_field(tokens: &Cursor<'_, '_>, syntax: Syntax) -> bool
 /// Whether a field of a message, a group or an `extend`, or a semicolon, comes next.
 #[tactic(auto, using(crate::proofs::Words::semicolon_or))]
 pub fn begins_field_item(tokens: &Cursor<'_, '_>, syntax: Syntax) -> bool
-    ensures { result ≡ starts lexicon (class.symbol 59 ∷ nest.field_firsts syntax) (left tokens.now) }
+    ensures { result ≡ starts lexicon (class.symbol 59 ∷ nest.field_firsts syntax)
+        (left tokens.now) }
 {
     tokens.sees_symbol(';') || begins_field(tokens, syntax)
 }
@@ -148,7 +149,8 @@ fn word_begins_message_statement(word: &str, syntax: Syntax) -> bool
 /// Whether a statement of a message begins with the next token.
 #[tactic(auto, using(crate::proofs::Words::signs_start, crate::proofs::Words::either_starts))]
 pub fn begins_message_statement(tokens: &Cursor<'_, '_>, syntax: Syntax) -> bool
-    ensures { result ≡ starts lexicon (class.symbol 59 ∷ nest.statement_firsts syntax) (left tokens.now) }
+    ensures { result ≡ starts lexicon (class.symbol 59 ∷ nest.statement_firsts syntax)
+        (left tokens.now) }
 {
     match tokens.next_word() {
         Some(word) => word_begins_message_statement(word, syntax),
@@ -172,7 +174,8 @@ fn word_begins_service_statement(word: &str, syntax: Syntax) -> bool
 /// Whether a statement of a service begins with the next token.
 #[tactic(auto, using(crate::proofs::Words::signs_start))]
 pub fn begins_service_statement(tokens: &Cursor<'_, '_>, syntax: Syntax) -> bool
-    ensures { result ≡ starts lexicon (class.symbol 59 ∷ nest.service_firsts syntax) (left tokens.now) }
+    ensures { result ≡ starts lexicon (class.symbol 59 ∷ nest.service_firsts syntax)
+        (left tokens.now) }
 {
     match tokens.next_word() {
         Some(word) => word_begins_service_statement(word, syntax),
@@ -201,8 +204,8 @@ pub fn begins_file_statement(tokens: &Cursor<'_, '_>) -> bool
     }
 }
 
-/// Why no field begins with the next token: S11 at a label that is not allowed, S12 where a label lacks,
-/// else S8.
+/// Why no field begins with the next token: S11 at a label that is not allowed, S12 where a label
+/// lacks, else S8.
 pub fn field_fault(tokens: &Cursor<'_, '_>, syntax: Syntax) -> ParserError
     ensures { AtOneToken result }
 {
@@ -228,8 +231,8 @@ pub fn extend_fault(tokens: &Cursor<'_, '_>, syntax: Syntax) -> ParserError
     field_fault(tokens, syntax)
 }
 
-/// Why no statement of a group begins with the next token: S16 at `oneof`, S17 at the word of another
-/// statement, else as for a field.
+/// Why no statement of a group begins with the next token: S16 at `oneof`, S17 at the word of
+/// another statement, else as for a field.
 pub fn group_fault(tokens: &Cursor<'_, '_>, syntax: Syntax) -> ParserError
     ensures { AtOneToken result }
 {

@@ -1,11 +1,13 @@
 //! Constants, and how they are written.
 
-ghost use Rattle.std.specs.Prelude.{◌≡◌, ◌==◌, ◌&&◌, ◌++◌, [], ◌∷◌, false, Some, IfOk, map, flat_map, not, encode_utf8, if◌then◌else◌};
+ghost use Rattle.std.specs.Prelude.{◌≡◌, ◌==◌, ◌&&◌, ◌++◌, [], ◌∷◌, false, Some, IfOk, map};
+ghost use Rattle.std.specs.Prelude.{flat_map, not, encode_utf8, if◌then◌else◌};
 ghost use Rattle.std.specs.Fmt.{DisplaysOnOk};
 ghost use Rattle.std.specs.List.{join_with_byte};
 ghost use Rattle.std.specs.String.{string_bytes};
 ghost use Rattle.protobuf_parse_syntax.specs.Formats as spec;
-ghost use Rattle.protobuf_parse_syntax.specs.Trees.{constant_view, constant_field_view, constant_name_view, pieces_of};
+ghost use Rattle.protobuf_parse_syntax.specs.Trees.{constant_view, constant_field_view};
+ghost use Rattle.protobuf_parse_syntax.specs.Trees.{constant_name_view, pieces_of};
 
 use crate::lexer::str_lit::StrLit;
 use std::alloc::{AllocError, Global};
@@ -46,8 +48,9 @@ pub enum ConstantFieldName {
 }
 
 impl ProtobufConstant {
-    /// The constant as it is written in a `.proto` file. A string keeps its pieces, each in double quotes;
-    /// a message has a blank after each of its fields but those that are messages themselves.
+    /// The constant as it is written in a `.proto` file. A string keeps its pieces, each in double
+    /// quotes; a message has a blank after each of its fields but those that are messages
+    /// themselves.
     pub fn format(&self, alloc: Global) -> Result<String, AllocError>
         ensures { IfOk result (λ text. string_bytes text ≡ spec.format (constant_view self.now)) }
     {
@@ -69,7 +72,8 @@ fn write_constant<W: fmt::Write>(
     f: &mut fmt::Formatter<W>,
     constant: &ProtobufConstant,
 ) -> fmt::Result
-    ensures { DisplaysOnOk W.write_str_gives f.old result (Some (spec.format (constant_view constant.now))) f.new }
+    ensures { DisplaysOnOk W.write_str_gives f.old result
+        (Some (spec.format (constant_view constant.now))) f.new }
 {
     match constant {
         ProtobufConstant::U64(number) => write!(f, "{number}"),
@@ -85,7 +89,8 @@ fn write_constant<W: fmt::Write>(
 /// The items in brackets.
 #[cycle(display)]
 fn write_list<W: fmt::Write>(f: &mut fmt::Formatter<W>, items: &[ProtobufConstant]) -> fmt::Result
-    ensures { DisplaysOnOk W.write_str_gives f.old result (Some (spec.list_text (map constant_view items.now))) f.new }
+    ensures { DisplaysOnOk W.write_str_gives f.old result
+        (Some (spec.list_text (map constant_view items.now))) f.new }
 {
     write!(f, "[")?;
     write_items(f, items)?;
@@ -95,7 +100,8 @@ fn write_list<W: fmt::Write>(f: &mut fmt::Formatter<W>, items: &[ProtobufConstan
 /// The items with a comma between each two.
 #[cycle(display)]
 fn write_items<W: fmt::Write>(f: &mut fmt::Formatter<W>, items: &[ProtobufConstant]) -> fmt::Result
-    ensures { DisplaysOnOk W.write_str_gives f.old result (Some (spec.items_text (map constant_view items.now))) f.new }
+    ensures { DisplaysOnOk W.write_str_gives f.old result
+        (Some (spec.items_text (map constant_view items.now))) f.new }
 {
     for (i, item) in items.iter().enumerate() {
         write_between(f, i, ",")?;
@@ -107,7 +113,8 @@ fn write_items<W: fmt::Write>(f: &mut fmt::Formatter<W>, items: &[ProtobufConsta
 /// The fields in braces.
 #[cycle(display)]
 fn write_message<W: fmt::Write>(f: &mut fmt::Formatter<W>, fields: &[ConstantField]) -> fmt::Result
-    ensures { DisplaysOnOk W.write_str_gives f.old result (Some (spec.message_text (map constant_field_view fields.now))) f.new }
+    ensures { DisplaysOnOk W.write_str_gives f.old result
+        (Some (spec.message_text (map constant_field_view fields.now))) f.new }
 {
     write!(f, "{{ ")?;
     write_fields(f, fields)?;
@@ -116,7 +123,8 @@ fn write_message<W: fmt::Write>(f: &mut fmt::Formatter<W>, fields: &[ConstantFie
 
 #[cycle(display)]
 fn write_fields<W: fmt::Write>(f: &mut fmt::Formatter<W>, fields: &[ConstantField]) -> fmt::Result
-    ensures { DisplaysOnOk W.write_str_gives f.old result (Some (flat_map spec.constant_field_text (map constant_field_view fields.now))) f.new }
+    ensures { DisplaysOnOk W.write_str_gives f.old result
+        (Some (flat_map spec.constant_field_text (map constant_field_view fields.now))) f.new }
 {
     for field in fields {
         write_field(f, field)?;
@@ -126,7 +134,8 @@ fn write_fields<W: fmt::Write>(f: &mut fmt::Formatter<W>, fields: &[ConstantFiel
 
 #[cycle(display)]
 fn write_field<W: fmt::Write>(f: &mut fmt::Formatter<W>, field: &ConstantField) -> fmt::Result
-    ensures { DisplaysOnOk W.write_str_gives f.old result (Some (spec.constant_field_text (constant_field_view field.now))) f.new }
+    ensures { DisplaysOnOk W.write_str_gives f.old result
+        (Some (spec.constant_field_text (constant_field_view field.now))) f.new }
 {
     let name = &field.name;
     let value = &field.value;
@@ -160,7 +169,8 @@ impl fmt::Display for ConstantFieldName {
 
 /// The pieces with a blank between each two.
 fn write_string<W: fmt::Write>(f: &mut fmt::Formatter<W>, string: &StrLit) -> fmt::Result
-    ensures { DisplaysOnOk W.write_str_gives f.old result (Some (spec.string_text (pieces_of string.now))) f.new }
+    ensures { DisplaysOnOk W.write_str_gives f.old result
+        (Some (spec.string_text (pieces_of string.now))) f.new }
 {
     for (i, piece) in string.pieces.iter().enumerate() {
         write_between(f, i, " ")?;
@@ -175,7 +185,8 @@ fn write_between<W: fmt::Write>(
     position: usize,
     between: &str,
 ) -> fmt::Result
-    ensures { DisplaysOnOk W.write_str_gives f.old result (Some (if position == 0 then [] else between.now)) f.new }
+    ensures { DisplaysOnOk W.write_str_gives f.old result
+        (Some (if position == 0 then [] else between.now)) f.new }
 {
     if position == 0 {
         Ok(())
@@ -195,7 +206,8 @@ fn write_piece<W: fmt::Write>(f: &mut fmt::Formatter<W>, piece: &str) -> fmt::Re
 
 /// A piece with a backslash before each `"` that no backslash takes with it.
 fn write_escaped<W: fmt::Write>(f: &mut fmt::Formatter<W>, piece: &str) -> fmt::Result
-    ensures { DisplaysOnOk W.write_str_gives f.old result (Some (spec.quotes_escaped false piece.now)) f.new }
+    ensures { DisplaysOnOk W.write_str_gives f.old result
+        (Some (spec.quotes_escaped false piece.now)) f.new }
 {
     let mut taken = false;
     for character in piece.chars() {
@@ -218,7 +230,8 @@ fn write_character<W: fmt::Write>(
     taken: bool,
     character: char,
 ) -> fmt::Result
-    ensures { DisplaysOnOk W.write_str_gives f.old result (Some (spec.escape_before taken character ++ encode_utf8 character)) f.new }
+    ensures { DisplaysOnOk W.write_str_gives f.old result
+        (Some (spec.escape_before taken character ++ encode_utf8 character)) f.new }
 {
     if character == '"' && !taken {
         f.write_str("\\")?;

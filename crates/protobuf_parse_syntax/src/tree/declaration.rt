@@ -129,8 +129,8 @@ pub enum ServiceStatement {
     Option(OptionStatement),
 }
 
-/// `rpc NAME ([stream] INPUT) returns ([stream] OUTPUT)`, or `stream NAME (INPUT, OUTPUT)`, which streams
-/// both ways.
+/// `rpc NAME ([stream] INPUT) returns ([stream] OUTPUT)`, or `stream NAME (INPUT, OUTPUT)`, which
+/// streams both ways.
 #[derive(Drop)]
 pub struct Method {
     /// The place of the word `rpc` or `stream`.

@@ -37,8 +37,8 @@ pub enum Type {
     Scalar(Scalar),
     /// `map<KEY, VALUE>`.
     Map(Box<Type>, Box<Type>),
-    /// The name of a message or an enum, without blanks: identifiers with dots between them, and a dot
-    /// before the first if the name begins at the root.
+    /// The name of a message or an enum, without blanks: identifiers with dots between them, and a
+    /// dot before the first if the name begins at the root.
     Named(String),
 }
 

@@ -8,8 +8,8 @@ use crate::tree::constant::ProtobufConstant;
 pub enum ProtobufOptionNamePart {
     /// A field's name.
     Direct(String),
-    /// The name of an extension, which stands in parentheses: identifiers with dots between them, and a
-    /// dot before the first if the name begins at the root.
+    /// The name of an extension, which stands in parentheses: identifiers with dots between them,
+    /// and a dot before the first if the name begins at the root.
     Ext(String),
 }
 

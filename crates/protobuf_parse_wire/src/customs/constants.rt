@@ -2,13 +2,17 @@
 
 ghost use Rattle.std.specs.Prelude.{◌≡◌, ◌++◌, map, flat_map, unwrap_or, []};
 ghost use Rattle.protobuf_parse_syntax.specs.Decoder.{decode};
-ghost use Rattle.protobuf_parse_syntax.specs.Trees.{constant_field_view, constant_view, dotted, pieces_of};
+ghost use Rattle.protobuf_parse_syntax.specs.Trees.{constant_field_view, constant_view, dotted};
+ghost use Rattle.protobuf_parse_syntax.specs.Trees.{pieces_of};
 ghost use Rattle.protobuf_parse_model.specs.Descriptors.{field_view};
 ghost use Rattle.protobuf_parse_model.specs.Faults.{Elaborates};
 ghost use Rattle.protobuf_parse_wire.specs.Trees as trees;
-ghost use Rattle.protobuf_parse_wire.specs.CustomFaults.{integer_faults, message_value_faults, string_value_faults, truth_faults, value_faults};
+ghost use Rattle.protobuf_parse_wire.specs.CustomFaults.{integer_faults, message_value_faults};
+ghost use Rattle.protobuf_parse_wire.specs.CustomFaults.{string_value_faults, truth_faults};
+ghost use Rattle.protobuf_parse_wire.specs.CustomFaults.{value_faults};
 ghost use Rattle.protobuf_parse_wire.specs.CustomOptions.{item, message_item, value_items};
-ghost use Rattle.protobuf_parse_wire.specs.Given.{field_faults_of, field_items_of, given_faults, place_view};
+ghost use Rattle.protobuf_parse_wire.specs.Given.{field_faults_of, field_items_of, given_faults};
+ghost use Rattle.protobuf_parse_wire.specs.Given.{place_view};
 ghost use Rattle.protobuf_parse_wire.specs.Holding.{files_seen};
 ghost use Rattle.protobuf_parse_wire.specs.OptionFields.{takes, type_name_of};
 ghost use Rattle.protobuf_parse_wire.specs.Views.{entry_view};
@@ -35,7 +39,8 @@ pub fn push_value(
     field: &FieldDescriptorProto,
     entries: &mut Vec<Entry>,
 ) -> Result<(), ElabFailure>
-    ensures { let s = place_view at.now in let f = field_view field.now in let c = constant_view value.now in
+    ensures { let s = place_view at.now in let f = field_view field.now in
+        let c = constant_view value.now in
         Elaborates (λ u. map entry_view entries.new.items) result (value_faults s option.now f c)
         (map entry_view entries.old.items ++ value_items s f c) }
 {
@@ -93,7 +98,8 @@ fn push_value_name(
     name: &str,
     entries: &mut Vec<Entry>,
 ) -> Result<(), ElabFailure>
-    ensures { let s = place_view at.now in let f = field_view field.now in let c = dotted name.now in
+    ensures { let s = place_view at.now in let f = field_view field.now in
+        let c = dotted name.now in
         Elaborates (λ u. map entry_view entries.new.items) result (value_faults s option.now f c)
         (map entry_view entries.old.items ++ value_items s f c) }
 {
@@ -134,7 +140,8 @@ fn push_list(
     field: &FieldDescriptorProto,
     entries: &mut Vec<Entry>,
 ) -> Result<(), ElabFailure>
-    ensures { let s = place_view at.now in let f = field_view field.now in let cs = map constant_view items.now in
+    ensures { let s = place_view at.now in let f = field_view field.now in
+        let cs = map constant_view items.now in
         Elaborates (λ u. map entry_view entries.new.items) result
         (flat_map (value_faults s option.now f) cs)
         (map entry_view entries.old.items ++ flat_map (value_items s f) cs) }
@@ -155,7 +162,8 @@ fn push_message(
     field: &FieldDescriptorProto,
     entries: &mut Vec<Entry>,
 ) -> Result<(), ElabFailure>
-    ensures { let s = place_view at.now in let f = field_view field.now in let fs = map constant_field_view fields.now in
+    ensures { let s = place_view at.now in let f = field_view field.now in
+        let fs = map constant_field_view fields.now in
         Elaborates (λ u. map entry_view entries.new.items) result
         (message_value_faults f.name (takes f.type_)
         (flat_map (field_faults_of s option.now (type_name_of f)) fs))
@@ -224,7 +232,8 @@ pub fn push_given(
     field: &FieldDescriptorProto,
     entries: &mut Vec<Entry>,
 ) -> Result<(), ElabFailure>
-    ensures { let s = place_view at.now in let f = field_view field.now in let c = constant_view value.now in
+    ensures { let s = place_view at.now in let f = field_view field.now in
+        let c = constant_view value.now in
         Elaborates (λ u. map entry_view entries.new.items) result (given_faults s option.now c f)
         (map entry_view entries.old.items ++ value_items s f c) }
 {

@@ -4,11 +4,15 @@ ghost use Rattle.std.specs.Prelude.{◌≡◌, Some, string_bytes, unwrap_or, If
 ghost use Rattle.protobuf_parse_syntax.specs.Trees.{constant_name_view, option_part_view};
 ghost use Rattle.protobuf_parse_model.specs.Descriptors.{field_view};
 ghost use Rattle.protobuf_parse_model.specs.Faults.{Elaborates};
-ghost use Rattle.protobuf_parse_wire.specs.CustomFaults.{bracketed, constant_name_faults, extension_faults, field_name_faults, part_faults};
+ghost use Rattle.protobuf_parse_wire.specs.CustomFaults.{bracketed, constant_name_faults};
+ghost use Rattle.protobuf_parse_wire.specs.CustomFaults.{extension_faults, field_name_faults};
+ghost use Rattle.protobuf_parse_wire.specs.CustomFaults.{part_faults};
 ghost use Rattle.protobuf_parse_wire.specs.Given.{place_view};
 ghost use Rattle.protobuf_parse_wire.specs.Holding.{files_seen};
 ghost use Rattle.protobuf_parse_wire.specs.Known.{field_seen};
-ghost use Rattle.protobuf_parse_wire.specs.OptionFields.{constant_field, extends_message, extension_meant, extension_named, field_named, part_field, type_name_of};
+ghost use Rattle.protobuf_parse_wire.specs.OptionFields.{constant_field, extends_message};
+ghost use Rattle.protobuf_parse_wire.specs.OptionFields.{extension_meant, extension_named};
+ghost use Rattle.protobuf_parse_wire.specs.OptionFields.{field_named, part_field, type_name_of};
 
 use crate::customs::known_files::KnownFiles;
 use crate::customs::lookup;
@@ -52,8 +56,8 @@ fn named_field<'a>(
     }
 }
 
-/// The extension of the message that the name means. E14 where it means none, E15 where it extends no
-/// such message.
+/// The extension of the message that the name means. E14 where it means none, E15 where it extends
+/// no such message.
 fn named_extension<'a>(
     alloc: Global,
     at: &OptionPlace<'_, 'a>,

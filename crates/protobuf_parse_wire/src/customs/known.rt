@@ -1,10 +1,15 @@
 //! What a file declares, in lists.
 
 ghost use Rattle.std.specs.Prelude.{◌≡◌, ◌++◌, ◌∷◌, [], map, string_bytes, IfOk, OnOk};
-ghost use Rattle.protobuf_parse_model.specs.Descriptors.{enum_view, field_view, file_view, message_view};
+ghost use Rattle.protobuf_parse_model.specs.Descriptors.{enum_view, field_view, file_view};
+ghost use Rattle.protobuf_parse_model.specs.Descriptors.{message_view};
 ghost use Rattle.protobuf_parse_wire.specs.Declarations.{package_scope, within};
-ghost use Rattle.protobuf_parse_wire.specs.Holding.{enums_placed, extensions_placed, messages_placed};
-ghost use Rattle.protobuf_parse_wire.specs.Places.{enum_name, enums_inside, extensions_inside, field_name, placed_each, placed_enums, placed_extensions, placed_inside, placed_list, placed_message, placed_messages};
+ghost use Rattle.protobuf_parse_wire.specs.Holding.{enums_placed, extensions_placed};
+ghost use Rattle.protobuf_parse_wire.specs.Holding.{messages_placed};
+ghost use Rattle.protobuf_parse_wire.specs.Places.{enum_name, enums_inside, extensions_inside};
+ghost use Rattle.protobuf_parse_wire.specs.Places.{field_name, placed_each, placed_enums};
+ghost use Rattle.protobuf_parse_wire.specs.Places.{placed_extensions, placed_inside, placed_list};
+ghost use Rattle.protobuf_parse_wire.specs.Places.{placed_message, placed_messages};
 
 use protobuf_parse_model::{
     DescriptorProto, EnumDescriptorProto, FieldDescriptorProto, FileDescriptorProto,
@@ -16,8 +21,8 @@ use std::alloc::{AllocError, Global};
 pub struct Known<T> {
     /// The full name.
     pub name: String,
-    /// The way to the message around it: the number of a message in its list, then that of a message in it,
-    /// and so on. Empty for what stands in no message.
+    /// The way to the message around it: the number of a message in its list, then that of a
+    /// message in it, and so on. Empty for what stands in no message.
     pub path: Vec<usize>,
     /// Its number in its list.
     pub index: usize,

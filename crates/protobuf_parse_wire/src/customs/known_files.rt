@@ -9,7 +9,8 @@ ghost use Rattle.protobuf_parse_wire.specs.Indexed.{parts_seen};
 ghost use Rattle.protobuf_parse_wire.specs.OptionBytes.{known_customs};
 ghost use Rattle.protobuf_parse_wire.specs.OptionFields.{declared_enums};
 ghost use Rattle.protobuf_parse_wire.specs.OptionLaw.{HasSmallValues};
-ghost use Rattle.protobuf_parse_wire.specs.Places.{enums_inside, extensions_inside, messages_inside};
+ghost use Rattle.protobuf_parse_wire.specs.Places.{enums_inside, extensions_inside};
+ghost use Rattle.protobuf_parse_wire.specs.Places.{messages_inside};
 
 use crate::customs::fields::OptionPlace;
 use crate::customs::picked_files::PickedFiles;
@@ -21,8 +22,8 @@ use std::alloc::Global;
 
 /// Who says what custom options become, by the descriptors of files.
 ///
-/// The names of extensions mean extensions of the files that are seen; the names of types in descriptors
-/// mean messages and enums of all files that are reached.
+/// The names of extensions mean extensions of the files that are seen; the names of types in
+/// descriptors mean messages and enums of all files that are reached.
 #[derive(Clone, Copy)]
 pub struct KnownFiles<'a> {
     pub(crate) places: &'a DeclaredPlaces,
@@ -40,8 +41,8 @@ pub struct KnownFiles<'a> {
 }
 
 impl<'a> KnownFiles<'a> {
-    /// Knows the extensions of the files that a file sees, itself among them, and the messages and enums of
-    /// all files that it reaches.
+    /// Knows the extensions of the files that a file sees, itself among them, and the messages and
+    /// enums of all files that it reaches.
     pub fn new(
         places: &'a DeclaredPlaces,
         reach: PickedFiles<'a>,

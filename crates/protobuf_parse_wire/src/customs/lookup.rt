@@ -7,7 +7,8 @@ ghost use Rattle.protobuf_parse_model.specs.Descriptors.{enum_value_view, field_
 ghost use Rattle.protobuf_parse_model.specs.Lookup.{declared, meaning};
 ghost use Rattle.protobuf_parse_wire.specs.Declarations.{declared_extensions};
 ghost use Rattle.protobuf_parse_wire.specs.Holding.{files_seen};
-ghost use Rattle.protobuf_parse_wire.specs.Known.{extension_named, field_among, field_seen, number_among, undeclared};
+ghost use Rattle.protobuf_parse_wire.specs.Known.{extension_named, field_among, field_seen};
+ghost use Rattle.protobuf_parse_wire.specs.Known.{number_among, undeclared};
 ghost use Rattle.protobuf_parse_wire.specs.OptionFields.{field_named, is_message, number_of_value};
 
 use crate::customs::known_files::KnownFiles;

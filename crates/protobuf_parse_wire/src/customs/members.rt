@@ -17,8 +17,8 @@ pub struct Members<'a> {
     pub extensions: &'a [FieldDescriptorProto],
 }
 
-/// What stands at the end of the path, which has the number of a message in its list, then that of a
-/// message in it, and so on.
+/// What stands at the end of the path, which has the number of a message in its list, then that of
+/// a message in it, and so on.
 pub fn members_down<'a>(file: &'a FileDescriptorProto, path: &[usize]) -> Option<Members<'a>>
     ensures { option_map members_view result ≡ down (Some (inside_file (file_view file.now)))
         path.now }
@@ -32,7 +32,8 @@ pub fn members_down<'a>(file: &'a FileDescriptorProto, path: &[usize]) -> Option
 
 /// What stands in the message with this number.
 fn next(members: Option<Members<'_>>, index: usize) -> Option<Members<'_>>
-    ensures { option_map members_view result ≡ next_inside (option_map members_view members.entry) index }
+    ensures { option_map members_view result
+        ≡ next_inside (option_map members_view members.entry) index }
 {
     match members {
         Some(members) => inside(members, index),
@@ -41,7 +42,8 @@ fn next(members: Option<Members<'_>>, index: usize) -> Option<Members<'_>>
 }
 
 fn inside(members: Members<'_>, index: usize) -> Option<Members<'_>>
-    ensures { option_map members_view result ≡ next_inside (Some (members_view members.entry)) index }
+    ensures { option_map members_view result
+        ≡ next_inside (Some (members_view members.entry)) index }
 {
     match members.messages.get(index) {
         Some(message) => Some(of_message(message)),

@@ -1,6 +1,7 @@
 //! The names of options, part by part.
 
-ghost use Rattle.std.specs.Prelude.{◌≡◌, [], ◌∷◌, ◌++◌, List, flat_map, map, option_to_list, string_bytes, IfOk, MatchResult};
+ghost use Rattle.std.specs.Prelude.{◌≡◌, [], ◌∷◌, ◌++◌, List, flat_map, map, option_to_list};
+ghost use Rattle.std.specs.Prelude.{string_bytes, IfOk, MatchResult};
 ghost use Rattle.protobuf_parse_syntax.specs.Trees.{constant_view, option_part_view};
 ghost use Rattle.protobuf_parse_model.specs.Descriptors.{field_view};
 ghost use Rattle.protobuf_parse_model.specs.Environment.{part_text};
@@ -20,8 +21,8 @@ use protobuf_parse_model::{ElabErrorKind, ElabFailure, FieldDescriptorProto, Fie
 use protobuf_parse_syntax::{ProtobufConstant, ProtobufOptionNamePart};
 use std::alloc::{AllocError, Global};
 
-/// Adds the entries that the constant gives to the field that the parts lead to, from the message on, for
-/// the option of that name.
+/// Adds the entries that the constant gives to the field that the parts lead to, from the message
+/// on, for the option of that name.
 #[cycle(path)]
 pub fn push_path(
     parts: &[ProtobufOptionNamePart],
@@ -32,7 +33,8 @@ pub fn push_path(
     message: &str,
     entries: &mut Vec<Entry>,
 ) -> Result<(), ElabFailure>
-    ensures { let s = place_view at.now in let ps = map option_part_view parts.now in let c = constant_view value.now in
+    ensures { let s = place_view at.now in let ps = map option_part_view parts.now in
+        let c = constant_view value.now in
         Elaborates (λ u. map entry_view entries.new.items) result
         (path_faults s option.now c message.now ps)
         (map entry_view entries.old.items ++ path_items s c message.now ps) }
@@ -59,7 +61,8 @@ fn push_first(
     message: &str,
     entries: &mut Vec<Entry>,
 ) -> Result<(), ElabFailure>
-    ensures { let s = place_view at.now in let p = option_part_view part.now in let ps = map option_part_view others.now in let c = constant_view value.now in
+    ensures { let s = place_view at.now in let p = option_part_view part.now in
+        let ps = map option_part_view others.now in let c = constant_view value.now in
         Elaborates (λ u. map entry_view entries.new.items) result
         (part_faults s message.now p ++ flat_map (through_faults s option.now c p ps)
         (option_to_list (part_field s message.now p)))
@@ -83,7 +86,9 @@ fn push_through(
     field: &FieldDescriptorProto,
     entries: &mut Vec<Entry>,
 ) -> Result<(), ElabFailure>
-    ensures { let s = place_view at.now in let p = option_part_view part.now in let ps = map option_part_view others.now in let c = constant_view value.now in let f = field_view field.now in
+    ensures { let s = place_view at.now in let p = option_part_view part.now in
+        let ps = map option_part_view others.now in let c = constant_view value.now in
+        let f = field_view field.now in
         Elaborates (λ u. map entry_view entries.new.items) result
         (through_faults s option.now c p ps f)
         (map entry_view entries.old.items ++ through_items s c ps f) }
@@ -115,7 +120,8 @@ pub fn push_last(
     message: &str,
     entries: &mut Vec<Entry>,
 ) -> Result<(), ElabFailure>
-    ensures { let s = place_view at.now in let ps = option_part_view part.now ∷ [] in let c = constant_view value.now in
+    ensures { let s = place_view at.now in let ps = option_part_view part.now ∷ [] in
+        let c = constant_view value.now in
         Elaborates (λ u. map entry_view entries.new.items) result
         (path_faults s option.now c message.now ps)
         (map entry_view entries.old.items ++ path_items s c message.now ps) }
@@ -124,7 +130,8 @@ pub fn push_last(
     push_given(value, alloc, at, option, field, entries)
 }
 
-/// Refuses a field that other parts follow and that is no message: E24 for a group, E16 for any other.
+/// Refuses a field that other parts follow and that is no message: E24 for a group, E16 for any
+/// other.
 pub fn check_step(
     alloc: Global,
     part: &ProtobufOptionNamePart,

@@ -10,6 +10,7 @@ pub struct PickedFiles<'a> {
     /// The numbers, ascending.
     pub numbers: &'a [usize],
     pub ghost ascends: { IsStrictlyIncreasing numbers.now },
-    /// The descriptors of the files with these numbers, in the same order: none where there is no such file.
+    /// The descriptors of the files with these numbers, in the same order: none where there is no
+    /// such file.
     pub files: &'a [Option<&'a FileDescriptorProto>],
 }

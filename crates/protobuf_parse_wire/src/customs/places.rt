@@ -1,10 +1,12 @@
 //! Where files declare messages, enums and extensions, by their full names.
 
-ghost use Rattle.std.specs.Prelude.{◌≡◌, ◌++◌, ◌∷◌, [], List, length, map, string_bytes, if◌then◌else◌, OnOk};
+ghost use Rattle.std.specs.Prelude.{◌≡◌, ◌++◌, ◌∷◌, [], List, length, map, string_bytes};
+ghost use Rattle.std.specs.Prelude.{if◌then◌else◌, OnOk};
 ghost use Rattle.std.specs.Int.{w32};
 ghost use Rattle.std.specs.Int.RustNames.{FitsSigned};
 ghost use Rattle.std.specs.Str.{bytes_eq};
-ghost use Rattle.protobuf_parse_model.specs.Descriptors.{FileDescriptor, Text, enum_value_view, file_view};
+ghost use Rattle.protobuf_parse_model.specs.Descriptors.{FileDescriptor, Text, enum_value_view};
+ghost use Rattle.protobuf_parse_model.specs.Descriptors.{file_view};
 ghost use Rattle.protobuf_parse_wire.specs.Holding.{AddsSpots, Holds, spots_known};
 ghost use Rattle.protobuf_parse_wire.specs.Known.{enum_known};
 ghost use Rattle.protobuf_parse_wire.specs.SmallValues.{AreSmall, HaveSmall};
@@ -20,15 +22,15 @@ use std::collections::BTreeMap;
 pub struct Place {
     /// The number of the file.
     pub file: usize,
-    /// The way to the message around it: the number of a message in its list, then that of a message in it,
-    /// and so on. Empty for what stands in no message.
+    /// The way to the message around it: the number of a message in its list, then that of a
+    /// message in it, and so on. Empty for what stands in no message.
     pub path: Vec<usize>,
     /// Its number in its list.
     pub index: usize,
 }
 
-/// Where the files of a run declare messages, enums and extensions: the places of each full name, which has
-/// its first dot, in the order of the files.
+/// Where the files of a run declare messages, enums and extensions: the places of each full name,
+/// which has its first dot, in the order of the files.
 #[derive(Debug, Drop)]
 pub struct DeclaredPlaces {
     pub(crate) messages: BTreeMap<String, Vec<Place>>,
@@ -104,7 +106,8 @@ fn put<T>(
 
 // ---- numbers of enums' values
 
-/// Reads the number of each value. It has 32 bits, as its type says; the encoder asks it of all of them.
+/// Reads the number of each value. It has 32 bits, as its type says; the encoder asks it of all of
+/// them.
 fn read_enums(enums: &[Known<&EnumDescriptorProto>])
     ensures { HaveSmall (map enum_known enums.now) }
 {

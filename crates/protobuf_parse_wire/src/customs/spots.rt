@@ -2,11 +2,14 @@
 
 ghost use Rattle.std.specs.Prelude.{◌≡◌, map, option_map, option_to_list, slice_get};
 ghost use Rattle.protobuf_parse_model.specs.Descriptors.{enum_view, message_view};
-ghost use Rattle.protobuf_parse_wire.specs.Holding.{at_spot, at_spots, enum_seen, file_numbered, file_seen, inside_of, members_view, message_seen, option_join, spot_view};
+ghost use Rattle.protobuf_parse_wire.specs.Holding.{at_spot, at_spots, enum_seen, file_numbered};
+ghost use Rattle.protobuf_parse_wire.specs.Holding.{file_seen, inside_of, members_view};
+ghost use Rattle.protobuf_parse_wire.specs.Holding.{message_seen, option_join, spot_view};
 ghost use Rattle.protobuf_parse_wire.specs.Known.{field_among, field_seen, number_among};
 ghost use Rattle.protobuf_parse_wire.specs.ByName.{fields_in, first, values_in};
 ghost use Rattle.protobuf_parse_wire.specs.Indexed.{parts_seen};
-ghost use Rattle.protobuf_parse_wire.specs.Places.{enums_inside, extensions_inside, messages_inside};
+ghost use Rattle.protobuf_parse_wire.specs.Places.{enums_inside, extensions_inside};
+ghost use Rattle.protobuf_parse_wire.specs.Places.{messages_inside};
 
 use crate::customs::lookup::{field_among, number_among};
 use crate::customs::members::{Members, members_down};

@@ -5,7 +5,8 @@ ghost use Rattle.protobuf_parse_syntax.specs.Trees.{constant_view, option_part_v
 ghost use Rattle.protobuf_parse_model.specs.Faults.{Blames, Elaborates};
 ghost use Rattle.protobuf_parse_model.specs.OptionTables.{table_of};
 ghost use Rattle.protobuf_parse_model.specs.OptionViews.{options_seen};
-ghost use Rattle.protobuf_parse_wire.specs.CustomFaults.{builtin_step_faults, custom_faults, named_faults, statement_faults};
+ghost use Rattle.protobuf_parse_wire.specs.CustomFaults.{builtin_step_faults, custom_faults};
+ghost use Rattle.protobuf_parse_wire.specs.CustomFaults.{named_faults, statement_faults};
 ghost use Rattle.protobuf_parse_wire.specs.CustomOptions.{denotes, option_items, path_items};
 ghost use Rattle.protobuf_parse_wire.specs.Encoded.{encoded};
 ghost use Rattle.protobuf_parse_wire.specs.Given.{place_view};
@@ -87,7 +88,8 @@ fn push_custom(
     value: &ProtobufConstant,
     entries: &mut Vec<Entry>,
 ) -> Result<(), ElabFailure>
-    ensures { let s = place_view at.now in let ps = map option_part_view parts.now in let c = constant_view value.now in
+    ensures { let s = place_view at.now in let ps = map option_part_view parts.now in
+        let c = constant_view value.now in
         Elaborates (λ u. map entry_view entries.new.items) result (custom_faults s construct c ps)
         (map entry_view entries.old.items ++ path_items s c (options_message construct) ps) }
 {
@@ -104,8 +106,8 @@ fn push_custom(
     }
 }
 
-/// The failure for a name that goes on from a plain part: E28 from `uninterpreted_option`, E16 from any other
-/// built-in option, E17 where there is none.
+/// The failure for a name that goes on from a plain part: E28 from `uninterpreted_option`, E16 from
+/// any other built-in option, E17 where there is none.
 fn plain_first(alloc: Global, construct: Construct, name: &str) -> ElabFailure
     ensures { Blames result (builtin_step_faults (table_of construct) name.now) }
 {

@@ -15,8 +15,8 @@ use protobuf_parse_model::{ElabErrorKind, ElabFailure, FieldDescriptorProto, Fie
 use protobuf_parse_syntax::{StrLit, StrLitDecodeError};
 use std::alloc::{AllocError, Global};
 
-/// The bytes of the string that the option of that name gives to the field. E9 for one that says nothing,
-/// of a text field too for one that is no text.
+/// The bytes of the string that the option of that name gives to the field. E9 for one that says
+/// nothing, of a text field too for one that is no text.
 pub fn bytes_given(
     alloc: Global,
     option: &str,

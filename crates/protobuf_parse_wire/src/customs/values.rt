@@ -3,7 +3,8 @@
 ghost use Rattle.std.specs.Prelude.{◌≡◌, ◌++◌, map, OnOk};
 ghost use Rattle.protobuf_parse_model.specs.Descriptors.{field_view};
 ghost use Rattle.protobuf_parse_model.specs.Faults.{Elaborates};
-ghost use Rattle.protobuf_parse_wire.specs.CustomFaults.{integer_faults, truth_faults, value_name_faults, number_faults};
+ghost use Rattle.protobuf_parse_wire.specs.CustomFaults.{integer_faults, truth_faults};
+ghost use Rattle.protobuf_parse_wire.specs.CustomFaults.{value_name_faults, number_faults};
 ghost use Rattle.protobuf_parse_wire.specs.CustomOptions.{item};
 ghost use Rattle.protobuf_parse_wire.specs.OptionFields.{integer_kind, takes};
 ghost use Rattle.protobuf_parse_wire.specs.Views.{entry_view, entry_value_view};
@@ -82,8 +83,8 @@ pub fn check_truth(alloc: Global, field: &FieldDescriptorProto) -> Result<(), El
     }
 }
 
-/// Refuses the name of a value that the field doesn't take, where the name has that number. E18 where it
-/// has none.
+/// Refuses the name of a value that the field doesn't take, where the name has that number. E18
+/// where it has none.
 pub fn check_value_name(
     alloc: Global,
     field: &FieldDescriptorProto,

@@ -23,7 +23,10 @@ pub fn put<T: Drop>(
     name: String,
     item: T,
 ) -> Result<(), AllocError>
-    ensures { OnOk result ((q : List ℕ) → group groups.new q ≡ (if bytes_eq q (string_bytes name) then group groups.old q ++ item ∷ [] else group groups.old q)) }
+    ensures { OnOk result ((q : List ℕ)
+        → group groups.new q
+        ≡ (if bytes_eq q (string_bytes name) then group groups.old q ++ item ∷ []
+        else group groups.old q)) }
 {
     groups.entry(name)?.or_default().push(item)?;
     Ok(())

@@ -3,7 +3,8 @@
 ghost use Rattle.std.specs.Prelude.{◌≡◌, [], ◌∷◌, map, OnOk, IfOk, string_bytes};
 ghost use Rattle.std.specs.List.{flat_map};
 ghost use Rattle.protobuf_parse_model.specs.Descriptors.{field_view, file_view, message_view};
-ghost use Rattle.protobuf_parse_wire.specs.Declarations.{declared_message, declared_in, extensions_in, package_scope};
+ghost use Rattle.protobuf_parse_wire.specs.Declarations.{declared_message, declared_in};
+ghost use Rattle.protobuf_parse_wire.specs.Declarations.{extensions_in, package_scope};
 ghost use Rattle.protobuf_parse_wire.specs.Indexed.{Adds, AddsMessages, Indexes};
 
 use super::groups;
@@ -41,7 +42,9 @@ fn add_file<'a>(
     index: &mut Index<'a>,
     file: &'a FileDescriptorProto,
 ) -> Result<(), AllocError>
-    ensures { OnOk result (Adds index.old index.new (declared_in (file_view file.now)) (extensions_in (file_view file.now))) }
+    ensures { OnOk result
+        (Adds index.old index.new (declared_in (file_view file.now))
+        (extensions_in (file_view file.now))) }
 {
     let scope = package_scope(alloc, file)?;
     add_messages(alloc, index, &scope, &file.message_type)?;
@@ -65,7 +68,9 @@ fn add_messages<'a>(
     scope: &str,
     messages: &'a [DescriptorProto],
 ) -> Result<(), AllocError>
-    ensures { OnOk result (AddsMessages index.old index.new (flat_map (declared_message scope.now) (map message_view messages.now))) }
+    ensures { OnOk result
+        (AddsMessages index.old index.new
+        (flat_map (declared_message scope.now) (map message_view messages.now))) }
 {
     'messages: for message in messages {
         add_message(alloc, index, scope, message)?;
@@ -80,7 +85,8 @@ fn add_message<'a>(
     scope: &str,
     message: &'a DescriptorProto,
 ) -> Result<(), AllocError>
-    ensures { OnOk result (AddsMessages index.old index.new (declared_message scope.now (message_view message.now))) }
+    ensures { OnOk result
+        (AddsMessages index.old index.new (declared_message scope.now (message_view message.now))) }
 {
     let name = format!(in alloc; "{scope}.{}", message.name)?;
     groups::put(&mut index.messages, name.clone()?, message)?;

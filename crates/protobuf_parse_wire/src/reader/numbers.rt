@@ -1,6 +1,7 @@
 //! The fields of a message by their numbers.
 
-ghost use Rattle.std.specs.Prelude.{◌≡◌, ◌≢◌, ◌<◌, ◌^◌, List, [], ◌∷◌, ◌++◌, map, option_map, IsSome, MatchResult};
+ghost use Rattle.std.specs.Prelude.{◌≡◌, ◌≢◌, ◌<◌, ◌^◌, List, [], ◌∷◌, ◌++◌, map, option_map};
+ghost use Rattle.std.specs.Prelude.{IsSome, MatchResult};
 ghost use Rattle.std.specs.Borrow.{Bor};
 ghost use Rattle.protobuf_parse_model.specs.Descriptors.{FieldDescriptor, field_view};
 ghost use Rattle.protobuf_parse_model.specs.declared.descriptor.FieldDescriptorProto.{FieldDescriptorProto};
@@ -40,7 +41,9 @@ fn by_number<'a>(
     fields: &'a [FieldDescriptorProto],
     extensions: &[&'a FieldDescriptorProto],
 ) -> Result<ByNumber<'a>, ReadFault>
-    ensures { Gives numbered result (by_number (map field_view fields.now ++ map (λ (f : Bor FieldDescriptorProto). field_view f.now) extensions.now)) }
+    ensures { Gives numbered result
+        (by_number (map field_view fields.now
+        ++ map (λ (f : Bor FieldDescriptorProto). field_view f.now) extensions.now)) }
 {
     let mut numbers = BTreeMap::new(alloc);
     'fields: for field in fields {
@@ -52,12 +55,16 @@ fn by_number<'a>(
     Ok(numbers)
 }
 
-/// Puts the field behind those whose numbers differ from its number, or says that one has it already.
+/// Puts the field behind those whose numbers differ from its number, or says that one has it
+/// already.
 fn add_field<'a>(
     numbers: &mut ByNumber<'a>,
     field: &'a FieldDescriptorProto,
 ) -> Result<(), ReadFault>
-    ensures { (fs : List FieldDescriptor) → IsByNumber numbers.old fs → MatchResult result (λ _. IsByNumber numbers.new (fs ++ field_view field.now ∷ [])) (λ e. e ≢ ReadFault.Memory → (more : List FieldDescriptor) → by_number (fs ++ field_view field.now ∷ more) ≡ Err e) }
+    ensures { (fs : List FieldDescriptor) → IsByNumber numbers.old fs
+        → MatchResult result (λ _. IsByNumber numbers.new (fs ++ field_view field.now ∷ []))
+        (λ e. e ≢ ReadFault.Memory → (more : List FieldDescriptor)
+        → by_number (fs ++ field_view field.now ∷ more) ≡ Err e) }
 {
     match numbers.insert(field.number, field)? {
         None => Ok(()),
@@ -67,7 +74,8 @@ fn add_field<'a>(
 
 /// The field that the number names.
 pub fn field_numbered<'a>(numbers: &ByNumber<'a>, number: u64) -> Option<&'a FieldDescriptorProto>
-    ensures found { option_map (λ (f : Bor FieldDescriptorProto). field_view f.now) result ≡ numbered numbers.now number }
+    ensures found { option_map (λ (f : Bor FieldDescriptorProto). field_view f.now) result
+        ≡ numbered numbers.now number }
     ensures small { IsSome result → number < 2 ^ 31 }
 {
     let number = i32::try_from(number).ok()?;

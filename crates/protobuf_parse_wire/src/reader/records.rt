@@ -4,9 +4,11 @@ ghost use Rattle.std.specs.Prelude.{◌≡◌, Option, ◌<◌, ◌≤◌, ◌/�
 ghost use Rattle.std.specs.Option.{option_copied};
 ghost use Rattle.protobuf_parse_model.specs.Descriptors.{Text, field_view};
 ghost use Rattle.protobuf_parse_wire.specs.Kinds.{shape, wire_type};
-ghost use Rattle.protobuf_parse_wire.specs.Reading.{Gives, Inner, message_at, payload_at, record_at, records, value_at};
+ghost use Rattle.protobuf_parse_wire.specs.Reading.{Gives, Inner, message_at, payload_at};
+ghost use Rattle.protobuf_parse_wire.specs.Reading.{record_at, records, value_at};
 ghost use Rattle.protobuf_parse_wire.specs.Indexed.{Remembers, entered_by, numbered};
-ghost use Rattle.protobuf_parse_wire.specs.Views.{HasNumber, number_said, read_field_view, read_value_view};
+ghost use Rattle.protobuf_parse_wire.specs.Views.{HasNumber, number_said, read_field_view};
+ghost use Rattle.protobuf_parse_wire.specs.Views.{read_value_view};
 
 use super::index::Index;
 use super::numbers::{self, ByNumber};
@@ -18,7 +20,8 @@ use crate::kind::Kind;
 use protobuf_parse_model::FieldDescriptorProto;
 use std::alloc::Global;
 
-/// The fields of the message of that name, if at most so many levels of messages are in it, itself one.
+/// The fields of the message of that name, if at most so many levels of messages are in it, itself
+/// one.
 #[cycle(message)]
 pub fn message_of<'a>(
     alloc: Global,
@@ -29,7 +32,8 @@ pub fn message_of<'a>(
     bytes: &[u8],
 ) -> Result<Vec<ReadField>, ReadFault>
     requires { Remembers index.now visited.old }
-    ensures gives { Gives (λ v. map read_field_view v.items) result (message_at (entered_by index.now) levels (option_copied name.entry) bytes.now) }
+    ensures gives { Gives (λ v. map read_field_view v.items) result
+        (message_at (entered_by index.now) levels (option_copied name.entry) bytes.now) }
     ensures kept { OnOk result (Remembers index.now visited.new) }
 {
     if levels == 0 {
@@ -49,7 +53,9 @@ fn records_of<'a>(
     bytes: &[u8],
 ) -> Result<Vec<ReadField>, ReadFault>
     requires { Remembers index.now visited.old }
-    ensures gives { Gives (λ v. map read_field_view v.items) result (records (message_at (entered_by index.now) levels) (numbered numbers.now) (length bytes.now) bytes.now) }
+    ensures gives { Gives (λ v. map read_field_view v.items) result
+        (records (message_at (entered_by index.now) levels) (numbered numbers.now)
+        (length bytes.now) bytes.now) }
     ensures kept { OnOk result (Remembers index.now visited.new) }
 {
     let mut fields = Vec::new(alloc);
@@ -73,7 +79,8 @@ fn record_of<'a, 'b>(
     bytes: &'b [u8],
 ) -> Result<(ReadField, &'b [u8]), ReadFault>
     requires { Remembers index.now visited.old }
-    ensures gives { Gives (λ x. (read_field_view x.0, x.1.now)) result (record_at (message_at (entered_by index.now) levels) (numbered numbers.now) bytes.now) }
+    ensures gives { Gives (λ x. (read_field_view x.0, x.1.now)) result
+        (record_at (message_at (entered_by index.now) levels) (numbered numbers.now) bytes.now) }
     ensures shorter { IfOk result (λ x. length x.1.now < length bytes.now) }
     ensures kept { OnOk result (Remembers index.now visited.new) }
 {
@@ -105,7 +112,9 @@ fn value_of<'a, 'b>(
     bytes: &'b [u8],
 ) -> Result<(ReadValue, &'b [u8]), ReadFault>
     requires { Remembers index.now visited.old }
-    ensures gives { Gives (λ x. (read_value_view x.0, x.1.now)) result (value_at (message_at (entered_by index.now) levels) (numbered numbers.now number) wire_type bytes.now) }
+    ensures gives { Gives (λ x. (read_value_view x.0, x.1.now)) result
+        (value_at (message_at (entered_by index.now) levels)
+        (numbered numbers.now number) wire_type bytes.now) }
     ensures small { IfOk result (λ x. number < 2 ^ 31) }
     ensures shorter { IfOk result (λ x. length x.1.now ≤ length bytes.now) }
     ensures kept { OnOk result (Remembers index.now visited.new) }
@@ -177,7 +186,9 @@ fn number_of(kind: Kind, word: u64) -> i128
 #[tactic(auto, unfolding(crate::specs::Reading::payload_at))]
 fn number_payload_of(kind: Kind, bytes: &[u8]) -> Result<(ReadValue, &[u8]), ReadFault>
     requires { HasNumber (shape kind) }
-    ensures gives { (inner : Inner) (name : Option Text) → Gives (λ x. (read_value_view x.0, x.1.now)) result (payload_at inner name (shape kind) bytes.now) }
+    ensures gives { (inner : Inner) (name : Option Text)
+        → Gives (λ x. (read_value_view x.0, x.1.now)) result
+        (payload_at inner name (shape kind) bytes.now) }
     ensures shorter { IfOk result (λ x. length x.1.now ≤ length bytes.now) }
 {
     let (word, rest) = match kind {
@@ -201,7 +212,9 @@ fn payload_of<'a, 'b>(
     bytes: &'b [u8],
 ) -> Result<(ReadValue, &'b [u8]), ReadFault>
     requires { Remembers index.now visited.old }
-    ensures gives { Gives (λ x. (read_value_view x.0, x.1.now)) result (payload_at (message_at (entered_by index.now) levels) (option_copied name.entry) (shape kind) bytes.now) }
+    ensures gives { Gives (λ x. (read_value_view x.0, x.1.now)) result
+        (payload_at (message_at (entered_by index.now) levels) (option_copied name.entry)
+        (shape kind) bytes.now) }
     ensures shorter { IfOk result (λ x. length x.1.now ≤ length bytes.now) }
     ensures kept { OnOk result (Remembers index.now visited.new) }
 {

@@ -2,7 +2,8 @@
 
 ghost use Rattle.std.specs.Prelude.{◌≡◌, ◌<◌, ◌≤◌, ◌^◌, ◌%◌, length, IfOk};
 ghost use Rattle.std.specs.Str.{is_utf8};
-ghost use Rattle.protobuf_parse_wire.specs.Reading.{Gives, varint_at, part_at, delimited_at, four_at, eight_at, unzigzag};
+ghost use Rattle.protobuf_parse_wire.specs.Reading.{Gives, varint_at, part_at, delimited_at};
+ghost use Rattle.protobuf_parse_wire.specs.Reading.{four_at, eight_at, unzigzag};
 
 use crate::fault::ReadFault;
 use std::str;

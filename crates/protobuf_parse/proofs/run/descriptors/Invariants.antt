@@ -4,4 +4,6 @@ use Rattle.protobuf_parse.specs.Loading.{Entry}
 use Rattle.protobuf_parse.proofs.run.descriptors.Given as goal
 
 abbrev pub invariant-loop-file : goal.invariant-loop-file
-invariant-loop-file l = l.descriptors.items ++ map (λ (f : LoadedFile). f.descriptor) l.file-iterator ≡ map (λ (e : Entry). e.1.descriptor) l.fn.loaded.entries
+invariant-loop-file l = l.descriptors.items
+    ++ map (λ (f : LoadedFile). f.descriptor) l.file-iterator
+    ≡ map (λ (e : Entry). e.1.descriptor) l.fn.loaded.entries

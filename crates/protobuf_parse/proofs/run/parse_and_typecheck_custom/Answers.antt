@@ -41,9 +41,14 @@ returns-in_err-push-clause-caused g c =
 
 pub returns-clause-told : goal.returns-clause-told
 returns-clause-told g c =
-    let whole : take c.loop-path.path-index c.args.input.now ≡ c.args.input.now = take_all _ _ (omega arith) in
-    let is = ap (map input_view) c.deref.ensures.value ∙ (c.loop-path.invariant ∙ ap (map (λ (b : ProtoPathBuf). named (path_buf_text b))) whole) in
-    by-resolver (g.R.ProtoPathResolver.may_answer c.args.resolver.now) (λ own answer. answer ≡ Err NotFound) c.run_inputs.result.reads.items _ c.args.input.now _ _ is c.bundled_files.ensures c.run_inputs.ensures.trees c.run_inputs.ensures.told
+    let whole : take c.loop-path.path-index c.args.input.now
+    ≡ c.args.input.now = take_all _ _ (omega arith) in
+    let is = ap (map input_view) c.deref.ensures.value
+    ∙ (c.loop-path.invariant ∙ ap (map (λ (b : ProtoPathBuf). named (path_buf_text b))) whole)
+    in
+    by-resolver (g.R.ProtoPathResolver.may_answer c.args.resolver.now)
+    (λ own answer. answer ≡ Err NotFound) c.run_inputs.result.reads.items _ c.args.input.now _ _
+    is c.bundled_files.ensures c.run_inputs.ensures.trees c.run_inputs.ensures.told
 
 pub returns-clause-caused : goal.returns-clause-caused
 returns-clause-caused g c =

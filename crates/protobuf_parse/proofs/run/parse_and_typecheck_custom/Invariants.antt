@@ -6,4 +6,5 @@ use Rattle.protobuf_parse.specs.Run.{input_view}
 use Rattle.protobuf_parse.proofs.run.parse_and_typecheck_custom.Given as goal
 
 abbrev pub invariant-loop-path : goal.invariant-loop-path
-invariant-loop-path g l = map input_view l.inputs.items ≡ map (λ (b : ProtoPathBuf). named (path_buf_text b)) (take l.path-index l.input)
+invariant-loop-path g l = map input_view l.inputs.items
+    ≡ map (λ (b : ProtoPathBuf). named (path_buf_text b)) (take l.path-index l.input)

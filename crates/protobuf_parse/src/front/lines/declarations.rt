@@ -3,7 +3,11 @@
 ghost use Rattle.std.specs.Prelude.{◌≡◌, ℕ, ◌+◌, ◌++◌, IfOk, OnOk, codes, flat_map, map, nat_eq};
 ghost use Rattle.std.specs.HashSet.{contains};
 ghost use Rattle.std.specs.String.{string_bytes};
-ghost use Rattle.protobuf_parse_model.specs.Descriptors.{enum_range_view, enum_value_view, enum_view, extension_range_view, file_view, message_parts, message_view, method_view, oneof_view, reserved_range_view, service_view};
+ghost use Rattle.protobuf_parse_model.specs.Descriptors.{enum_range_view, enum_value_view};
+ghost use Rattle.protobuf_parse_model.specs.Descriptors.{enum_view, extension_range_view};
+ghost use Rattle.protobuf_parse_model.specs.Descriptors.{file_view, message_parts, message_view};
+ghost use Rattle.protobuf_parse_model.specs.Descriptors.{method_view, oneof_view};
+ghost use Rattle.protobuf_parse_model.specs.Descriptors.{reserved_range_view, service_view};
 ghost use Rattle.protobuf_parse.specs.Listing as spec;
 
 use crate::front::lines::fields::{put_extensions, put_fields, put_words_if};
@@ -27,7 +31,8 @@ pub fn put_file(
     text: &mut String,
     file: &FileDescriptorProto,
 ) -> Result<(), AllocError>
-    ensures { OnOk result (string_bytes text.new ≡ string_bytes text.old ++ spec.file_lines (file_view file.now)) }
+    ensures { OnOk result
+        (string_bytes text.new ≡ string_bytes text.old ++ spec.file_lines (file_view file.now)) }
 {
     put_file_front(alloc, text, file)?;
     put_file_options(alloc, text, 1, &file.options)?;
@@ -41,7 +46,8 @@ fn put_file_front(
     text: &mut String,
     file: &FileDescriptorProto,
 ) -> Result<(), AllocError>
-    ensures { OnOk result (string_bytes text.new ≡ string_bytes text.old ++ spec.file_front (file_view file.now)) }
+    ensures { OnOk result
+        (string_bytes text.new ≡ string_bytes text.old ++ spec.file_front (file_view file.now)) }
 {
     put_optional_line(text, 0, "file ", &file.name)?;
     put_optional_line(text, 1, "syntax ", &file.syntax)?;
@@ -62,7 +68,9 @@ fn put_imports(
     public: &[i32],
     weak: &[i32],
 ) -> Result<(), AllocError>
-    ensures { OnOk result (string_bytes text.new ≡ string_bytes text.old ++ spec.import_lines public.now weak.now 0 (map string_bytes paths.now)) }
+    ensures { OnOk result
+        (string_bytes text.new ≡ string_bytes text.old
+        ++ spec.import_lines public.now weak.now 0 (map string_bytes paths.now)) }
 {
     let public = positions(alloc, public)?;
     let weak = positions(alloc, weak)?;
@@ -119,7 +127,8 @@ fn put_file_back(
     text: &mut String,
     file: &FileDescriptorProto,
 ) -> Result<(), AllocError>
-    ensures { OnOk result (string_bytes text.new ≡ string_bytes text.old ++ spec.file_back (file_view file.now)) }
+    ensures { OnOk result
+        (string_bytes text.new ≡ string_bytes text.old ++ spec.file_back (file_view file.now)) }
 {
     put_messages(alloc, text, 1, &file.message_type)?;
     put_enums(alloc, text, 1, &file.enum_type)?;
@@ -134,7 +143,9 @@ fn put_messages(
     level: usize,
     messages: &[DescriptorProto],
 ) -> Result<(), AllocError>
-    ensures { OnOk result (string_bytes text.new ≡ string_bytes text.old ++ flat_map (spec.message_lines level) (map message_view messages.now)) }
+    ensures { OnOk result
+        (string_bytes text.new ≡ string_bytes text.old
+        ++ flat_map (spec.message_lines level) (map message_view messages.now)) }
 {
     for message in messages {
         put_message(alloc, text, level, message)?;
@@ -151,7 +162,9 @@ fn put_message(
     level: usize,
     message: &DescriptorProto,
 ) -> Result<(), AllocError>
-    ensures { OnOk result (string_bytes text.new ≡ string_bytes text.old ++ spec.message_lines level (message_view message.now)) }
+    ensures { OnOk result
+        (string_bytes text.new ≡ string_bytes text.old
+        ++ spec.message_lines level (message_view message.now)) }
 {
     put_line(text, level, "message ", &message.name)?;
     put_message_front(alloc, text, level + 1, message)?;
@@ -168,7 +181,9 @@ fn put_message_front(
     level: usize,
     message: &DescriptorProto,
 ) -> Result<(), AllocError>
-    ensures { OnOk result (string_bytes text.new ≡ string_bytes text.old ++ spec.message_front level (message_parts message.now)) }
+    ensures { OnOk result
+        (string_bytes text.new ≡ string_bytes text.old
+        ++ spec.message_front level (message_parts message.now)) }
 {
     put_message_options(alloc, text, level, &message.options)?;
     put_fields(alloc, text, level, &message.field)?;
@@ -183,7 +198,9 @@ fn put_message_middle(
     level: usize,
     message: &DescriptorProto,
 ) -> Result<(), AllocError>
-    ensures { OnOk result (string_bytes text.new ≡ string_bytes text.old ++ spec.message_middle level (message_parts message.now)) }
+    ensures { OnOk result
+        (string_bytes text.new ≡ string_bytes text.old
+        ++ spec.message_middle level (message_parts message.now)) }
 {
     put_enums(alloc, text, level, &message.enum_type)?;
     put_extensions(alloc, text, level, &message.extension)
@@ -197,7 +214,9 @@ fn put_message_back(
     level: usize,
     message: &DescriptorProto,
 ) -> Result<(), AllocError>
-    ensures { OnOk result (string_bytes text.new ≡ string_bytes text.old ++ spec.message_back level (message_parts message.now)) }
+    ensures { OnOk result
+        (string_bytes text.new ≡ string_bytes text.old
+        ++ spec.message_back level (message_parts message.now)) }
 {
     put_extension_ranges(alloc, text, level, &message.extension_range)?;
     put_reserved_ranges(alloc, text, level, &message.reserved_range)?;
@@ -210,7 +229,10 @@ fn put_extension_ranges(
     level: usize,
     ranges: &[ExtensionRange],
 ) -> Result<(), AllocError>
-    ensures { OnOk result (string_bytes text.new ≡ string_bytes text.old ++ flat_map (spec.range_line level (codes "extension_range ")) (map extension_range_view ranges.now)) }
+    ensures { OnOk result
+        (string_bytes text.new ≡ string_bytes text.old
+        ++ flat_map (spec.range_line level (codes "extension_range "))
+        (map extension_range_view ranges.now)) }
 {
     for range in ranges {
         put_extension_range(alloc, text, level, range)?;
@@ -224,7 +246,9 @@ fn put_extension_range(
     level: usize,
     range: &ExtensionRange,
 ) -> Result<(), AllocError>
-    ensures { OnOk result (string_bytes text.new ≡ string_bytes text.old ++ spec.range_line level (codes "extension_range ") (extension_range_view range.now)) }
+    ensures { OnOk result
+        (string_bytes text.new ≡ string_bytes text.old
+        ++ spec.range_line level (codes "extension_range ") (extension_range_view range.now)) }
 {
     put_range_line(
         alloc,
@@ -242,7 +266,10 @@ fn put_reserved_ranges(
     level: usize,
     ranges: &[ReservedRange],
 ) -> Result<(), AllocError>
-    ensures { OnOk result (string_bytes text.new ≡ string_bytes text.old ++ flat_map (spec.range_line level (codes "reserved_range ")) (map reserved_range_view ranges.now)) }
+    ensures { OnOk result
+        (string_bytes text.new ≡ string_bytes text.old
+        ++ flat_map (spec.range_line level (codes "reserved_range "))
+        (map reserved_range_view ranges.now)) }
 {
     for range in ranges {
         put_reserved_range(alloc, text, level, range)?;
@@ -256,7 +283,9 @@ fn put_reserved_range(
     level: usize,
     range: &ReservedRange,
 ) -> Result<(), AllocError>
-    ensures { OnOk result (string_bytes text.new ≡ string_bytes text.old ++ spec.range_line level (codes "reserved_range ") (reserved_range_view range.now)) }
+    ensures { OnOk result
+        (string_bytes text.new ≡ string_bytes text.old
+        ++ spec.range_line level (codes "reserved_range ") (reserved_range_view range.now)) }
 {
     put_range_line(
         alloc,
@@ -274,7 +303,9 @@ fn put_oneofs(
     level: usize,
     oneofs: &[OneofDescriptorProto],
 ) -> Result<(), AllocError>
-    ensures { OnOk result (string_bytes text.new ≡ string_bytes text.old ++ flat_map (spec.oneof_lines level) (map oneof_view oneofs.now)) }
+    ensures { OnOk result
+        (string_bytes text.new ≡ string_bytes text.old
+        ++ flat_map (spec.oneof_lines level) (map oneof_view oneofs.now)) }
 {
     for oneof in oneofs {
         put_line(text, level, "oneof ", &oneof.name)?;
@@ -289,7 +320,9 @@ fn put_enums(
     level: usize,
     enums: &[EnumDescriptorProto],
 ) -> Result<(), AllocError>
-    ensures { OnOk result (string_bytes text.new ≡ string_bytes text.old ++ flat_map (spec.enum_lines level) (map enum_view enums.now)) }
+    ensures { OnOk result
+        (string_bytes text.new ≡ string_bytes text.old
+        ++ flat_map (spec.enum_lines level) (map enum_view enums.now)) }
 {
     for each in enums {
         put_line(text, level, "enum ", &each.name)?;
@@ -306,7 +339,9 @@ fn put_enum_parts(
     level: usize,
     of: &EnumDescriptorProto,
 ) -> Result<(), AllocError>
-    ensures { OnOk result (string_bytes text.new ≡ string_bytes text.old ++ spec.enum_parts level (enum_view of.now)) }
+    ensures { OnOk result
+        (string_bytes text.new ≡ string_bytes text.old
+        ++ spec.enum_parts level (enum_view of.now)) }
 {
     put_enum_options(alloc, text, level, &of.options)?;
     put_enum_values(alloc, text, level, &of.value)?;
@@ -320,7 +355,9 @@ fn put_enum_values(
     level: usize,
     values: &[EnumValueDescriptorProto],
 ) -> Result<(), AllocError>
-    ensures { OnOk result (string_bytes text.new ≡ string_bytes text.old ++ flat_map (spec.enum_value_lines level) (map enum_value_view values.now)) }
+    ensures { OnOk result
+        (string_bytes text.new ≡ string_bytes text.old
+        ++ flat_map (spec.enum_value_lines level) (map enum_value_view values.now)) }
 {
     for value in values {
         put_enum_value(alloc, text, level, value)?;
@@ -334,7 +371,9 @@ fn put_enum_value(
     level: usize,
     value: &EnumValueDescriptorProto,
 ) -> Result<(), AllocError>
-    ensures { OnOk result (string_bytes text.new ≡ string_bytes text.old ++ spec.enum_value_lines level (enum_value_view value.now)) }
+    ensures { OnOk result
+        (string_bytes text.new ≡ string_bytes text.old
+        ++ spec.enum_value_lines level (enum_value_view value.now)) }
 {
     let words = enum_value_words(alloc, value)?;
     put_line(text, level, "value ", &words)?;
@@ -344,7 +383,8 @@ fn put_enum_value(
 /// `NAME = NUMBER`.
 #[tactic(auto, unfolding(crate::specs::Listing::enum_value_words))]
 fn enum_value_words(alloc: Global, value: &EnumValueDescriptorProto) -> Result<String, AllocError>
-    ensures { IfOk result (λ s. string_bytes s ≡ spec.enum_value_words (enum_value_view value.now)) }
+    ensures { IfOk result
+        (λ s. string_bytes s ≡ spec.enum_value_words (enum_value_view value.now)) }
 {
     let mut words = String::from_str(alloc, &value.name)?;
     let number = value.number;
@@ -358,7 +398,10 @@ fn put_enum_ranges(
     level: usize,
     ranges: &[EnumReservedRange],
 ) -> Result<(), AllocError>
-    ensures { OnOk result (string_bytes text.new ≡ string_bytes text.old ++ flat_map (spec.range_line level (codes "reserved_range ")) (map enum_range_view ranges.now)) }
+    ensures { OnOk result
+        (string_bytes text.new ≡ string_bytes text.old
+        ++ flat_map (spec.range_line level (codes "reserved_range "))
+        (map enum_range_view ranges.now)) }
 {
     for range in ranges {
         put_enum_range(alloc, text, level, range)?;
@@ -372,7 +415,9 @@ fn put_enum_range(
     level: usize,
     range: &EnumReservedRange,
 ) -> Result<(), AllocError>
-    ensures { OnOk result (string_bytes text.new ≡ string_bytes text.old ++ spec.range_line level (codes "reserved_range ") (enum_range_view range.now)) }
+    ensures { OnOk result
+        (string_bytes text.new ≡ string_bytes text.old
+        ++ spec.range_line level (codes "reserved_range ") (enum_range_view range.now)) }
 {
     put_range_line(
         alloc,
@@ -390,7 +435,9 @@ fn put_services(
     level: usize,
     services: &[ServiceDescriptorProto],
 ) -> Result<(), AllocError>
-    ensures { OnOk result (string_bytes text.new ≡ string_bytes text.old ++ flat_map (spec.service_lines level) (map service_view services.now)) }
+    ensures { OnOk result
+        (string_bytes text.new ≡ string_bytes text.old
+        ++ flat_map (spec.service_lines level) (map service_view services.now)) }
 {
     for service in services {
         put_service(alloc, text, level, service)?;
@@ -404,7 +451,9 @@ fn put_service(
     level: usize,
     service: &ServiceDescriptorProto,
 ) -> Result<(), AllocError>
-    ensures { OnOk result (string_bytes text.new ≡ string_bytes text.old ++ spec.service_lines level (service_view service.now)) }
+    ensures { OnOk result
+        (string_bytes text.new ≡ string_bytes text.old
+        ++ spec.service_lines level (service_view service.now)) }
 {
     put_line(text, level, "service ", &service.name)?;
     put_service_options(alloc, text, level + 1, &service.options)?;
@@ -417,7 +466,9 @@ fn put_methods(
     level: usize,
     methods: &[MethodDescriptorProto],
 ) -> Result<(), AllocError>
-    ensures { OnOk result (string_bytes text.new ≡ string_bytes text.old ++ flat_map (spec.method_lines level) (map method_view methods.now)) }
+    ensures { OnOk result
+        (string_bytes text.new ≡ string_bytes text.old
+        ++ flat_map (spec.method_lines level) (map method_view methods.now)) }
 {
     for method in methods {
         put_method(alloc, text, level, method)?;
@@ -431,7 +482,9 @@ fn put_method(
     level: usize,
     method: &MethodDescriptorProto,
 ) -> Result<(), AllocError>
-    ensures { OnOk result (string_bytes text.new ≡ string_bytes text.old ++ spec.method_lines level (method_view method.now)) }
+    ensures { OnOk result
+        (string_bytes text.new ≡ string_bytes text.old
+        ++ spec.method_lines level (method_view method.now)) }
 {
     let words = method_words(alloc, method)?;
     put_line(text, level, "method ", &words)?;

@@ -16,7 +16,9 @@ pub fn put_fields(
     level: usize,
     fields: &[FieldDescriptorProto],
 ) -> Result<(), AllocError>
-    ensures { OnOk result (string_bytes text.new ≡ string_bytes text.old ++ flat_map (spec.field_lines level) (map field_view fields.now)) }
+    ensures { OnOk result
+        (string_bytes text.new ≡ string_bytes text.old
+        ++ flat_map (spec.field_lines level) (map field_view fields.now)) }
 {
     for field in fields {
         put_field(alloc, text, level, "field ", field)?;
@@ -30,7 +32,9 @@ pub fn put_extensions(
     level: usize,
     fields: &[FieldDescriptorProto],
 ) -> Result<(), AllocError>
-    ensures { OnOk result (string_bytes text.new ≡ string_bytes text.old ++ flat_map (spec.extension_lines level) (map field_view fields.now)) }
+    ensures { OnOk result
+        (string_bytes text.new ≡ string_bytes text.old
+        ++ flat_map (spec.extension_lines level) (map field_view fields.now)) }
 {
     for field in fields {
         put_extension(alloc, text, level, field)?;
@@ -44,7 +48,9 @@ fn put_extension(
     level: usize,
     field: &FieldDescriptorProto,
 ) -> Result<(), AllocError>
-    ensures { OnOk result (string_bytes text.new ≡ string_bytes text.old ++ spec.extension_lines level (field_view field.now)) }
+    ensures { OnOk result
+        (string_bytes text.new ≡ string_bytes text.old
+        ++ spec.extension_lines level (field_view field.now)) }
 {
     let extendee = match &field.extendee {
         Some(extendee) => extendee.as_str(),
@@ -63,7 +69,9 @@ fn put_field(
     front: &str,
     field: &FieldDescriptorProto,
 ) -> Result<(), AllocError>
-    ensures { OnOk result (string_bytes text.new ≡ string_bytes text.old ++ spec.field_lines_after front.now level (field_view field.now)) }
+    ensures { OnOk result
+        (string_bytes text.new ≡ string_bytes text.old
+        ++ spec.field_lines_after front.now level (field_view field.now)) }
 {
     put_field_line(alloc, text, level, front, field)?;
     put_field_options(alloc, text, level + 1, &field.options)
@@ -76,7 +84,9 @@ fn put_field_line(
     front: &str,
     field: &FieldDescriptorProto,
 ) -> Result<(), AllocError>
-    ensures { OnOk result (string_bytes text.new ≡ string_bytes text.old ++ spec.line level (front.now ++ spec.field_words (field_view field.now))) }
+    ensures { OnOk result
+        (string_bytes text.new ≡ string_bytes text.old
+        ++ spec.line level (front.now ++ spec.field_words (field_view field.now))) }
 {
     put_indent(text, level)?;
     text.push_str(front)?;
@@ -88,7 +98,8 @@ fn put_field_line(
 /// `LABEL TYPE NAME = NUMBER`.
 #[tactic(auto, unfolding(crate::specs::Listing::field_front))]
 fn put_field_front(text: &mut String, field: &FieldDescriptorProto) -> Result<(), AllocError>
-    ensures { OnOk result (string_bytes text.new ≡ string_bytes text.old ++ spec.field_front (field_view field.now)) }
+    ensures { OnOk result
+        (string_bytes text.new ≡ string_bytes text.old ++ spec.field_front (field_view field.now)) }
 {
     let label = label_word(field.label);
     let number = field.number;
@@ -105,7 +116,9 @@ fn put_type(
     type_: FieldType,
     type_name: &Option<String>,
 ) -> Result<(), AllocError>
-    ensures { OnOk result (string_bytes text.new ≡ string_bytes text.old ++ spec.type_words type_ (option_map string_bytes type_name.now)) }
+    ensures { OnOk result
+        (string_bytes text.new ≡ string_bytes text.old
+        ++ spec.type_words type_ (option_map string_bytes type_name.now)) }
 {
     text.push_str(type_word(type_))?;
     if !is_named(type_) {
@@ -125,7 +138,8 @@ fn put_field_back(
     text: &mut String,
     field: &FieldDescriptorProto,
 ) -> Result<(), AllocError>
-    ensures { OnOk result (string_bytes text.new ≡ string_bytes text.old ++ spec.field_back (field_view field.now)) }
+    ensures { OnOk result
+        (string_bytes text.new ≡ string_bytes text.old ++ spec.field_back (field_view field.now)) }
 {
     text.push_str(" json ")?;
     put_quoted(alloc, text, &field.json_name)?;
@@ -135,7 +149,9 @@ fn put_field_back(
 }
 
 fn put_default(alloc: Global, text: &mut String, value: &Option<String>) -> Result<(), AllocError>
-    ensures { OnOk result (string_bytes text.new ≡ string_bytes text.old ++ spec.default_words (option_map string_bytes value.now)) }
+    ensures { OnOk result
+        (string_bytes text.new ≡ string_bytes text.old
+        ++ spec.default_words (option_map string_bytes value.now)) }
 {
     match value {
         None => Ok(()),
@@ -147,7 +163,8 @@ fn put_default(alloc: Global, text: &mut String, value: &Option<String>) -> Resu
 }
 
 fn put_oneof_index(text: &mut String, index: Option<i32>) -> Result<(), AllocError>
-    ensures { OnOk result (string_bytes text.new ≡ string_bytes text.old ++ spec.oneof_words index) }
+    ensures { OnOk result
+        (string_bytes text.new ≡ string_bytes text.old ++ spec.oneof_words index) }
 {
     match index {
         None => Ok(()),
@@ -156,7 +173,8 @@ fn put_oneof_index(text: &mut String, index: Option<i32>) -> Result<(), AllocErr
 }
 
 pub fn put_words_if(text: &mut String, is_so: bool, words: &str) -> Result<(), AllocError>
-    ensures { OnOk result (string_bytes text.new ≡ string_bytes text.old ++ spec.words_if is_so words.now) }
+    ensures { OnOk result
+        (string_bytes text.new ≡ string_bytes text.old ++ spec.words_if is_so words.now) }
 {
     if is_so { text.push_str(words) } else { Ok(()) }
 }

@@ -1,6 +1,7 @@
 //! What lines are made of.
 
-ghost use Rattle.std.specs.Prelude.{◌≡◌, ◌+◌, ◌*◌, ◌++◌, IfOk, OnOk, flat_map, map, option_map, replicate};
+ghost use Rattle.std.specs.Prelude.{◌≡◌, ◌+◌, ◌*◌, ◌++◌, IfOk, OnOk, flat_map, map, option_map};
+ghost use Rattle.std.specs.Prelude.{replicate};
 ghost use Rattle.std.specs.String.{string_bytes};
 ghost use Rattle.protobuf_parse.specs.Listing as spec;
 
@@ -9,7 +10,8 @@ use std::alloc::{AllocError, Global};
 
 /// A line of two parts.
 pub fn put_line(text: &mut String, level: usize, words: &str, rest: &str) -> Result<(), AllocError>
-    ensures { OnOk result (string_bytes text.new ≡ string_bytes text.old ++ spec.line level (words.now ++ rest.now)) }
+    ensures { OnOk result
+        (string_bytes text.new ≡ string_bytes text.old ++ spec.line level (words.now ++ rest.now)) }
 {
     put_indent(text, level)?;
     text.push_str(words)?;
@@ -24,7 +26,9 @@ pub fn put_optional_line(
     words: &str,
     rest: &Option<String>,
 ) -> Result<(), AllocError>
-    ensures { OnOk result (string_bytes text.new ≡ string_bytes text.old ++ spec.line level (words.now ++ spec.text_or_nothing (option_map string_bytes rest.now))) }
+    ensures { OnOk result
+        (string_bytes text.new ≡ string_bytes text.old
+        ++ spec.line level (words.now ++ spec.text_or_nothing (option_map string_bytes rest.now))) }
 {
     match rest {
         Some(rest) => put_line(text, level, words, rest),
@@ -39,7 +43,9 @@ pub fn put_line_if_some(
     words: &str,
     rest: &Option<String>,
 ) -> Result<(), AllocError>
-    ensures { OnOk result (string_bytes text.new ≡ string_bytes text.old ++ spec.line_if_some level words.now (option_map string_bytes rest.now)) }
+    ensures { OnOk result
+        (string_bytes text.new ≡ string_bytes text.old
+        ++ spec.line_if_some level words.now (option_map string_bytes rest.now)) }
 {
     match rest {
         Some(rest) => put_line(text, level, words, rest),
@@ -57,7 +63,9 @@ pub fn put_range_line(
     start: &i32,
     end: &i32,
 ) -> Result<(), AllocError>
-    ensures { OnOk result (string_bytes text.new ≡ string_bytes text.old ++ spec.range_line level words.now (record { start = start.now; end = end.now })) }
+    ensures { OnOk result
+        (string_bytes text.new ≡ string_bytes text.old
+        ++ spec.range_line level words.now (record { start = start.now; end = end.now })) }
 {
     let range = format!(in alloc; "{start} {end}")?;
     put_line(text, level, words, &range)
@@ -65,7 +73,8 @@ pub fn put_range_line(
 
 /// Two spaces for each level.
 pub fn put_indent(text: &mut String, level: usize) -> Result<(), AllocError>
-    ensures { OnOk result (string_bytes text.new ≡ string_bytes text.old ++ replicate (2 * level) 32) }
+    ensures { OnOk result
+        (string_bytes text.new ≡ string_bytes text.old ++ replicate (2 * level) 32) }
 {
     for done in 0..level {
         text.push_str("  ")?;
@@ -100,7 +109,9 @@ pub fn put_reserved_names(
     level: usize,
     names: &[String],
 ) -> Result<(), AllocError>
-    ensures { OnOk result (string_bytes text.new ≡ string_bytes text.old ++ flat_map (spec.reserved_name_line level) (map string_bytes names.now)) }
+    ensures { OnOk result
+        (string_bytes text.new ≡ string_bytes text.old
+        ++ flat_map (spec.reserved_name_line level) (map string_bytes names.now)) }
 {
     for name in names {
         put_reserved_name(alloc, text, level, name)?;
@@ -115,7 +126,8 @@ fn put_reserved_name(
     level: usize,
     name: &str,
 ) -> Result<(), AllocError>
-    ensures { OnOk result (string_bytes text.new ≡ string_bytes text.old ++ spec.reserved_name_line level name.now) }
+    ensures { OnOk result
+        (string_bytes text.new ≡ string_bytes text.old ++ spec.reserved_name_line level name.now) }
 {
     let quoted = quoted(alloc, name)?;
     put_line(text, level, "reserved_name ", &quoted)

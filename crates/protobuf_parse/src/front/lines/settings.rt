@@ -2,7 +2,10 @@
 
 ghost use Rattle.std.specs.Prelude.{◌≡◌, ◌++◌, OnOk, flat_map, map, option_map};
 ghost use Rattle.std.specs.String.{string_bytes};
-ghost use Rattle.protobuf_parse_model.specs.Options.{enum_options_view, enum_value_options_view, field_options_view, file_options_view, message_options_view, method_options_view, oneof_options_view, service_options_view};
+ghost use Rattle.protobuf_parse_model.specs.Options.{enum_options_view, enum_value_options_view};
+ghost use Rattle.protobuf_parse_model.specs.Options.{field_options_view, file_options_view};
+ghost use Rattle.protobuf_parse_model.specs.Options.{message_options_view, method_options_view};
+ghost use Rattle.protobuf_parse_model.specs.Options.{oneof_options_view, service_options_view};
 ghost use Rattle.protobuf_parse.specs.Listing as spec;
 ghost use Rattle.protobuf_parse.specs.Settings.{setting_view, value_words};
 
@@ -28,7 +31,8 @@ pub enum Value<'a> {
 }
 
 fn text_setting<'a>(name: &'static str, value: &'a Option<String>) -> Setting<'a>
-    ensures { setting_view result ≡ (name.now, option_map spec.quoted (option_map string_bytes value.now)) }
+    ensures { setting_view result
+        ≡ (name.now, option_map spec.quoted (option_map string_bytes value.now)) }
 {
     let value = match value {
         Some(text) => Some(Value::Text(text.as_str())),
@@ -208,7 +212,9 @@ fn put_setting(
     level: usize,
     setting: &Setting<'_>,
 ) -> Result<(), AllocError>
-    ensures { OnOk result (string_bytes text.new ≡ string_bytes text.old ++ spec.setting_line level (setting_view setting.now)) }
+    ensures { OnOk result
+        (string_bytes text.new ≡ string_bytes text.old
+        ++ spec.setting_line level (setting_view setting.now)) }
 {
     match setting.value {
         None => Ok(()),
@@ -224,7 +230,8 @@ fn put_setting(
 }
 
 fn put_value(alloc: Global, text: &mut String, value: Value<'_>) -> Result<(), AllocError>
-    ensures { OnOk result (string_bytes text.new ≡ string_bytes text.old ++ value_words value.entry) }
+    ensures { OnOk result
+        (string_bytes text.new ≡ string_bytes text.old ++ value_words value.entry) }
 {
     match value {
         Value::Text(words) => put_quoted(alloc, text, words),
@@ -238,7 +245,9 @@ fn put_settings(
     level: usize,
     settings: &[Setting<'_>],
 ) -> Result<(), AllocError>
-    ensures { OnOk result (string_bytes text.new ≡ string_bytes text.old ++ flat_map (spec.setting_line level) (map setting_view settings.now)) }
+    ensures { OnOk result
+        (string_bytes text.new ≡ string_bytes text.old
+        ++ flat_map (spec.setting_line level) (map setting_view settings.now)) }
 {
     for setting in settings {
         put_setting(alloc, text, level, setting)?;
@@ -253,7 +262,8 @@ fn put_custom(
     level: usize,
     bytes: &[u8],
 ) -> Result<(), AllocError>
-    ensures { OnOk result (string_bytes text.new ≡ string_bytes text.old ++ spec.custom_line level bytes.now) }
+    ensures { OnOk result
+        (string_bytes text.new ≡ string_bytes text.old ++ spec.custom_line level bytes.now) }
 {
     if bytes.is_empty() {
         return Ok(());
@@ -270,7 +280,9 @@ pub fn put_file_options(
     level: usize,
     options: &Option<FileOptions>,
 ) -> Result<(), AllocError>
-    ensures { OnOk result (string_bytes text.new ≡ string_bytes text.old ++ spec.file_option_lines level (option_map file_options_view options.now)) }
+    ensures { OnOk result
+        (string_bytes text.new ≡ string_bytes text.old
+        ++ spec.file_option_lines level (option_map file_options_view options.now)) }
 {
     match options {
         None => Ok(()),
@@ -291,7 +303,9 @@ pub fn put_message_options(
     level: usize,
     options: &Option<MessageOptions>,
 ) -> Result<(), AllocError>
-    ensures { OnOk result (string_bytes text.new ≡ string_bytes text.old ++ spec.message_option_lines level (option_map message_options_view options.now)) }
+    ensures { OnOk result
+        (string_bytes text.new ≡ string_bytes text.old
+        ++ spec.message_option_lines level (option_map message_options_view options.now)) }
 {
     match options {
         None => Ok(()),
@@ -310,7 +324,9 @@ pub fn put_field_options(
     level: usize,
     options: &Option<FieldOptions>,
 ) -> Result<(), AllocError>
-    ensures { OnOk result (string_bytes text.new ≡ string_bytes text.old ++ spec.field_option_lines level (option_map field_options_view options.now)) }
+    ensures { OnOk result
+        (string_bytes text.new ≡ string_bytes text.old
+        ++ spec.field_option_lines level (option_map field_options_view options.now)) }
 {
     match options {
         None => Ok(()),
@@ -329,7 +345,9 @@ pub fn put_oneof_options(
     level: usize,
     options: &Option<OneofOptions>,
 ) -> Result<(), AllocError>
-    ensures { OnOk result (string_bytes text.new ≡ string_bytes text.old ++ spec.oneof_option_lines level (option_map oneof_options_view options.now)) }
+    ensures { OnOk result
+        (string_bytes text.new ≡ string_bytes text.old
+        ++ spec.oneof_option_lines level (option_map oneof_options_view options.now)) }
 {
     match options {
         None => Ok(()),
@@ -345,7 +363,9 @@ pub fn put_enum_options(
     level: usize,
     options: &Option<EnumOptions>,
 ) -> Result<(), AllocError>
-    ensures { OnOk result (string_bytes text.new ≡ string_bytes text.old ++ spec.enum_option_lines level (option_map enum_options_view options.now)) }
+    ensures { OnOk result
+        (string_bytes text.new ≡ string_bytes text.old
+        ++ spec.enum_option_lines level (option_map enum_options_view options.now)) }
 {
     match options {
         None => Ok(()),
@@ -364,7 +384,9 @@ pub fn put_enum_value_options(
     level: usize,
     options: &Option<EnumValueOptions>,
 ) -> Result<(), AllocError>
-    ensures { OnOk result (string_bytes text.new ≡ string_bytes text.old ++ spec.enum_value_option_lines level (option_map enum_value_options_view options.now)) }
+    ensures { OnOk result
+        (string_bytes text.new ≡ string_bytes text.old
+        ++ spec.enum_value_option_lines level (option_map enum_value_options_view options.now)) }
 {
     match options {
         None => Ok(()),
@@ -388,7 +410,9 @@ pub fn put_service_options(
     level: usize,
     options: &Option<ServiceOptions>,
 ) -> Result<(), AllocError>
-    ensures { OnOk result (string_bytes text.new ≡ string_bytes text.old ++ spec.service_option_lines level (option_map service_options_view options.now)) }
+    ensures { OnOk result
+        (string_bytes text.new ≡ string_bytes text.old
+        ++ spec.service_option_lines level (option_map service_options_view options.now)) }
 {
     match options {
         None => Ok(()),
@@ -412,7 +436,9 @@ pub fn put_method_options(
     level: usize,
     options: &Option<MethodOptions>,
 ) -> Result<(), AllocError>
-    ensures { OnOk result (string_bytes text.new ≡ string_bytes text.old ++ spec.method_option_lines level (option_map method_options_view options.now)) }
+    ensures { OnOk result
+        (string_bytes text.new ≡ string_bytes text.old
+        ++ spec.method_option_lines level (option_map method_options_view options.now)) }
 {
     match options {
         None => Ok(()),

@@ -8,4 +8,6 @@ use Rattle.protobuf_parse_base.proofs.text.join_words.Given as goal
 
 abbrev pub invariant-loop-character : goal.invariant-loop-character
 invariant-loop-character l =
-    string_bytes l.joined ++ encode_utf8_all (joined_words l.raise_next (drop (length l.yielded) (chars l.name))) ≡ encode_utf8_all (joined_words l.fn.raise (chars l.name))
+    string_bytes l.joined ++ encode_utf8_all
+    (joined_words l.raise_next (drop (length l.yielded) (chars l.name)))
+    ≡ encode_utf8_all (joined_words l.fn.raise (chars l.name))

@@ -8,4 +8,6 @@ use Rattle.protobuf_parse_base.proofs.text.snake_case.Given as goal
 
 abbrev pub invariant-loop-character : goal.invariant-loop-character
 invariant-loop-character l =
-    string_bytes l.split ++ encode_utf8_all (split_words l.after_lower (drop (length l.yielded) (chars l.name))) ≡ encode_utf8_all (split_words false (chars l.name))
+    string_bytes l.split ++ encode_utf8_all
+    (split_words l.after_lower (drop (length l.yielded) (chars l.name)))
+    ≡ encode_utf8_all (split_words false (chars l.name))

@@ -12,5 +12,16 @@ use Rattle.protobuf_parse_model.proofs.convert.elaborate.Goals as goal
 pub returns-clause-by_files : goal.returns-clause-by_files
 returns-clause-by_files g c files told =
     let t = file_view c.args.tree.now in
-    let sees : (Text → Option DeclaredType) → Environment = λ types. record { syntax = t.syntax; types = types; scope = file_scope t; customs = g.C.CustomOptions.customs c.args.custom.now } in
-    subst (λ (types : Text → Option DeclaredType). Elaborates described.file_view c.file_descriptor.result (file_faults (sees types) t) (file_of (sees types) c.args.name.now t)) (seen_types_are c.args.seen.now files told) c.file_descriptor.ensures
+    let sees : (Text → Option DeclaredType)
+    → Environment = λ types.
+    record {
+      syntax = t.syntax;
+      types = types;
+      scope = file_scope t;
+      customs =
+          g.C.CustomOptions.customs c.args.custom.now;
+    } in
+    subst (λ (types : Text → Option DeclaredType). Elaborates described.file_view
+    c.file_descriptor.result (file_faults (sees types) t)
+    (file_of (sees types) c.args.name.now t)) (seen_types_are c.args.seen.now files told)
+    c.file_descriptor.ensures

@@ -5,4 +5,6 @@ use Rattle.protobuf_parse_model.proofs.customs.path_text.Given as goal
 
 abbrev pub invariant-loop-part : goal.invariant-loop-part
 invariant-loop-part l =
-    string_bytes l.text ≡ string_bytes l.initial.text ++ flat_map (λ (q : OptionPartSyntax). codes "." ++ part_text q) (map option_part_view (take l.part-index l.others))
+    string_bytes l.text ≡ string_bytes l.initial.text
+    ++ flat_map (λ (q : OptionPartSyntax). codes "." ++ part_text q)
+    (map option_part_view (take l.part-index l.others))

@@ -4,4 +4,5 @@ use Rattle.protobuf_parse_model.specs.OptionViews.{options_seen}
 use Rattle.protobuf_parse_model.proofs.customs.refuse_customs.Given as goal
 
 abbrev pub invariant-loop-option : goal.invariant-loop-option
-invariant-loop-option l = flat_map unknown_option (options_seen (take l.option-index l.options)) ≡ []
+invariant-loop-option l = flat_map unknown_option (options_seen (take l.option-index l.options))
+    ≡ []

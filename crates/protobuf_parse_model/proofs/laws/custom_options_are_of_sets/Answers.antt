@@ -1,4 +1,5 @@
-use Rattle.protobuf_parse_model.proofs.CustomSets.{faults_are_of_sets, none_is_none_in_sets, options_are_builtin}
+use Rattle.protobuf_parse_model.proofs.CustomSets.{faults_are_of_sets, none_is_none_in_sets}
+use Rattle.protobuf_parse_model.proofs.CustomSets.{options_are_builtin}
 use Rattle.protobuf_parse_model.proofs.SameBytes.{bytes_are_of_sets}
 use Rattle.protobuf_parse_model.proofs.laws.custom_options_are_of_sets.Goals as goal
 

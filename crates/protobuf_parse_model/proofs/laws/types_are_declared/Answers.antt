@@ -1,4 +1,5 @@
-use Rattle.protobuf_parse_model.proofs.NamedTypes.{names_are_declared, types_are_named, extendees_are_named, messages_are_named}
+use Rattle.protobuf_parse_model.proofs.NamedTypes.{names_are_declared, types_are_named}
+use Rattle.protobuf_parse_model.proofs.NamedTypes.{extendees_are_named, messages_are_named}
 use Rattle.protobuf_parse_model.proofs.laws.types_are_declared.Goals as goal
 
 pub returns-clause-declared : goal.returns-clause-declared

@@ -3,4 +3,5 @@ use Rattle.protobuf_parse_model.specs.Tables.{name_faults}
 use Rattle.protobuf_parse_model.proofs.linking.check_names.Given as goal
 
 abbrev pub invariant-loop-name : goal.invariant-loop-name
-invariant-loop-name l = flat_map (name_faults l.seen) (map string_bytes (take l.name-index l.names)) ≡ []
+invariant-loop-name l = flat_map (name_faults l.seen) (map string_bytes (take l.name-index l.names))
+    ≡ []

@@ -8,5 +8,9 @@ use Rattle.protobuf_parse_model.proofs.linking.link.Goals as goal
 
 pub returns : goal.returns
 returns c = λ files tells.
-    let checked = subst (λ (names : List (String Global)). Elaborates {X = Unit {0}} {Y = Unit {0}} (λ u. u) c.check_names.result (flat_map (name_faults c.args.seen.now) (map string_bytes names)) tt) c.deref.ensures.value c.check_names.ensures in
+    let checked = subst
+    (λ (names : List (String Global)). Elaborates {X = Unit {0}} {Y = Unit {0}}
+    (λ u. u) c.check_names.result
+    (flat_map (name_faults c.args.seen.now) (map string_bytes names)) tt) c.deref.ensures.value
+    c.check_names.ensures in
     links c.args.seen.now files tells c.check_names.result checked

@@ -9,7 +9,9 @@ abbrev pub invariant-loop-length : goal.invariant-loop-length
 invariant-loop-length l =
     record {
       bound : l.length ≤ length l.context.scope.now;
-      none_longer : type_named (names_in l.context) l.name ≡ declared_in_first (seen_types l.context.seen) l.name (fronts (texts (take l.length l.context.scope.now)));
+      none_longer : type_named (names_in l.context) l.name
+          ≡ declared_in_first (seen_types l.context.seen) l.name
+          (fronts (texts (take l.length l.context.scope.now)));
     }
 
 abbrev pub decreases-loop-length : goal.decreases-loop-length

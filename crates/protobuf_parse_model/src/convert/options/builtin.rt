@@ -11,7 +11,8 @@ use crate::convert::options::tables::{
 };
 use crate::customs::Construct;
 
-/// Whether the construct has a built-in option of that name, which `default` and `json_name` of a field are not.
+/// Whether the construct has a built-in option of that name, which `default` and `json_name` of a
+/// field are not.
 pub fn has_builtin_option(construct: Construct, name: &str) -> bool
     ensures { result ≡ stands_in name.now (names_in (table_of construct)) }
 {

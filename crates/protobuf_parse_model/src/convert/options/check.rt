@@ -12,7 +12,8 @@ ghost use Rattle.protobuf_parse_model.specs.Duplicates.{stands_in};
 ghost use Rattle.protobuf_parse_model.specs.Environment.{customs_bytes, customs_faults};
 ghost use Rattle.protobuf_parse_model.specs.Faults.{Elaborates};
 ghost use Rattle.protobuf_parse_model.specs.Fields.{field_option_faults, field_options_faults};
-ghost use Rattle.protobuf_parse_model.specs.OptionViews.{entry_seen, kind_seen, options_seen, table_seen};
+ghost use Rattle.protobuf_parse_model.specs.OptionViews.{entry_seen, kind_seen, options_seen};
+ghost use Rattle.protobuf_parse_model.specs.OptionViews.{table_seen};
 
 use crate::convert::options::strings::text_given;
 use crate::convert::options::tables::{BuiltinKind, field_table};
@@ -23,9 +24,9 @@ use crate::scope::Context;
 use protobuf_parse_syntax::{ProtobufConstant, ProtobufOption, ProtobufOptionName};
 use std::alloc::Global;
 
-/// What the custom options of a construct become that has the built-in options of the table, once these are
-/// checked: E9 for a string that is no text, E11 for a name that the table doesn't have, E12 for
-/// `uninterpreted_option`, E13 for a value of another kind.
+/// What the custom options of a construct become that has the built-in options of the table, once
+/// these are checked: E9 for a string that is no text, E11 for a name that the table doesn't have,
+/// E12 for `uninterpreted_option`, E13 for a value of another kind.
 #[tactic(auto, using(crate::proofs::Blaming::blames_left, crate::proofs::Blaming::blames_right))]
 pub fn checked_customs<C: CustomOptions>(
     alloc: Global,
@@ -35,8 +36,10 @@ pub fn checked_customs<C: CustomOptions>(
     table: &[(&str, BuiltinKind)],
     options: &[&ProtobufOption],
 ) -> Result<Vec<u8>, ElabFailure>
-    ensures { let env = environment_in (C.customs custom.now) context.now in let os = options_seen options.now in
-        Elaborates (λ v. v.items) result (construct_faults env construct (table_seen table.now) os) (customs_bytes env construct os) }
+    ensures { let env = environment_in (C.customs custom.now) context.now in
+        let os = options_seen options.now in
+        Elaborates (λ v. v.items) result (construct_faults env construct (table_seen table.now) os)
+        (customs_bytes env construct os) }
 {
     check_options(alloc, table, options)?;
     custom.bytes(alloc, construct, context.scope, options)
@@ -50,8 +53,10 @@ pub fn checked_field_customs<C: CustomOptions>(
     custom: &C,
     options: &[&ProtobufOption],
 ) -> Result<Vec<u8>, ElabFailure>
-    ensures { let env = environment_in (C.customs custom.now) context.now in let os = options_seen options.now in
-        Elaborates (λ v. v.items) result (field_options_faults os ++ customs_faults env of.Field os) (customs_bytes env of.Field os) }
+    ensures { let env = environment_in (C.customs custom.now) context.now in
+        let os = options_seen options.now in
+        Elaborates (λ v. v.items) result (field_options_faults os ++ customs_faults env of.Field os)
+        (customs_bytes env of.Field os) }
 {
     check_field_options(alloc, options)?;
     custom.bytes(alloc, Construct::Field, context.scope, options)
@@ -64,7 +69,8 @@ fn check_options(
     table: &[(&str, BuiltinKind)],
     options: &[&ProtobufOption],
 ) -> Result<(), ElabFailure>
-    ensures { Elaborates (λ u. u) result (spec.options_faults (table_seen table.now) (options_seen options.now)) tt }
+    ensures { Elaborates (λ u. u) result
+        (spec.options_faults (table_seen table.now) (options_seen options.now)) tt }
 {
     for option in options {
         check_option(alloc, table, option)?;
@@ -77,7 +83,8 @@ fn check_option(
     table: &[(&str, BuiltinKind)],
     option: &ProtobufOption,
 ) -> Result<(), ElabFailure>
-    ensures { Elaborates (λ u. u) result (spec.option_faults (table_seen table.now) (option_view option.now)) tt }
+    ensures { Elaborates (λ u. u) result
+        (spec.option_faults (table_seen table.now) (option_view option.now)) tt }
 {
     match &option.name {
         ProtobufOptionName::Builtin(name) => check_builtin(alloc, table, name, &option.value),
@@ -116,7 +123,8 @@ fn check_builtin(
     name: &str,
     value: &ProtobufConstant,
 ) -> Result<(), ElabFailure>
-    ensures { Elaborates (λ u. u) result (spec.builtin_faults (table_seen table.now) name.now (constant_view value.now)) tt }
+    ensures { Elaborates (λ u. u) result
+        (spec.builtin_faults (table_seen table.now) name.now (constant_view value.now)) tt }
 {
     if name == "uninterpreted_option" {
         let kind = ElabErrorKind::BuiltinOptionPointsToNonSingularField;
@@ -133,7 +141,8 @@ fn entry<'a, 'b>(
     table: &'a [(&'b str, BuiltinKind)],
     name: &str,
 ) -> Option<&'a (&'b str, BuiltinKind)>
-    ensures { option_map (λ e. entry_seen e.now) result ≡ find (λ e. bytes_eq e.0 name.now) (table_seen table.now) }
+    ensures { option_map (λ e. entry_seen e.now) result
+        ≡ find (λ e. bytes_eq e.0 name.now) (table_seen table.now) }
 {
     for entry in table {
         if entry.0 == name {
@@ -150,7 +159,8 @@ fn check_value(
     kind: BuiltinKind,
     value: &ProtobufConstant,
 ) -> Result<(), ElabFailure>
-    ensures { Elaborates (λ u. u) result (spec.value_faults name.now (kind_seen kind) (constant_view value.now)) tt }
+    ensures { Elaborates (λ u. u) result
+        (spec.value_faults name.now (kind_seen kind) (constant_view value.now)) tt }
 {
     match kind {
         BuiltinKind::Text => check_text(alloc, name, value),
@@ -160,7 +170,8 @@ fn check_value(
 }
 
 fn check_text(alloc: Global, name: &str, value: &ProtobufConstant) -> Result<(), ElabFailure>
-    ensures { Elaborates (λ u. u) result (spec.value_faults name.now spec.a_text (constant_view value.now)) tt }
+    ensures { Elaborates (λ u. u) result
+        (spec.value_faults name.now spec.a_text (constant_view value.now)) tt }
 {
     match value {
         ProtobufConstant::String(string) => {
@@ -172,7 +183,8 @@ fn check_text(alloc: Global, name: &str, value: &ProtobufConstant) -> Result<(),
 }
 
 fn check_truth(alloc: Global, name: &str, value: &ProtobufConstant) -> Result<(), ElabFailure>
-    ensures { Elaborates (λ u. u) result (spec.value_faults name.now spec.a_truth (constant_view value.now)) tt }
+    ensures { Elaborates (λ u. u) result
+        (spec.value_faults name.now spec.a_truth (constant_view value.now)) tt }
 {
     match value {
         ProtobufConstant::Bool(_) => Ok(()),
@@ -186,7 +198,9 @@ fn check_word(
     words: &[&str],
     value: &ProtobufConstant,
 ) -> Result<(), ElabFailure>
-    ensures { Elaborates (λ u. u) result (spec.value_faults name.now (spec.a_word (map (λ (w : Bor (List ℕ)). w.now) words.now)) (constant_view value.now)) tt }
+    ensures { Elaborates (λ u. u) result
+        (spec.value_faults name.now (spec.a_word (map (λ (w : Bor (List ℕ)). w.now) words.now))
+        (constant_view value.now)) tt }
 {
     match value {
         ProtobufConstant::Ident(word) if stands_in(word, words) => Ok(()),

@@ -1,6 +1,7 @@
 //! What the built-in options among statements say.
 
-ghost use Rattle.std.specs.Prelude.{◌≡◌, bytes_eq, map, option_map, option_to_list, string_bytes, IfOk};
+ghost use Rattle.std.specs.Prelude.{◌≡◌, bytes_eq, map, option_map, option_to_list, string_bytes};
+ghost use Rattle.std.specs.Prelude.{IfOk};
 ghost use Rattle.std.specs.List.{find};
 ghost use Rattle.protobuf_parse_syntax.specs.Trees.{constant_view, option_view};
 ghost use Rattle.protobuf_parse_model.specs.BuiltinOptions as spec;
@@ -36,7 +37,8 @@ pub fn first_value<'a>(options: &[&'a ProtobufOption], name: &str) -> Option<&'a
 
 /// The value that the last statement gives to the built-in option of that name.
 pub fn last_value<'a>(options: &[&'a ProtobufOption], name: &str) -> Option<&'a ProtobufConstant>
-    ensures { option_map constant_seen result ≡ spec.last_value name.now (options_seen options.now) }
+    ensures { option_map constant_seen result
+        ≡ spec.last_value name.now (options_seen options.now) }
 {
     let mut last = None;
     for option in options {
@@ -53,7 +55,8 @@ pub fn text_option(
     options: &[&ProtobufOption],
     name: &str,
 ) -> Result<Option<String>, AllocError>
-    ensures { IfOk result (λ t. option_map string_bytes t ≡ spec.text_option (options_seen options.now) name.now) }
+    ensures { IfOk result
+        (λ t. option_map string_bytes t ≡ spec.text_option (options_seen options.now) name.now) }
 {
     match last_value(options, name) {
         Some(value) => text_said(alloc, value),
@@ -62,7 +65,8 @@ pub fn text_option(
 }
 
 fn text_said(alloc: Global, value: &ProtobufConstant) -> Result<Option<String>, AllocError>
-    ensures { IfOk result (λ t. option_map string_bytes t ≡ spec.text_said (constant_view value.now)) }
+    ensures { IfOk result
+        (λ t. option_map string_bytes t ≡ spec.text_said (constant_view value.now)) }
 {
     match value {
         ProtobufConstant::String(string) => text_of(alloc, string),
@@ -103,7 +107,8 @@ fn word_said<T: Copy>(value: &ProtobufConstant, words: &[(&str, T)]) -> Option<T
 
 /// The value of that name.
 fn value_of_word<T: Copy>(words: &[(&str, T)], said: &str) -> Option<T>
-    ensures { result ≡ option_map (λ w. w.1) (find (λ w. bytes_eq w.0 said.now) (words_seen words.now)) }
+    ensures { result ≡ option_map (λ w. w.1)
+        (find (λ w. bytes_eq w.0 said.now) (words_seen words.now)) }
 {
     for (word, value) in words {
         if *word == said {

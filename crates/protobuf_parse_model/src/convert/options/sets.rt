@@ -1,5 +1,5 @@
-//! The options message of each construct, from the statements that set its options. It is there where a
-//! statement stands. An option that the last statement with its name
+//! The options message of each construct, from the statements that set its options. It is there
+//! where a statement stands. An option that the last statement with its name
 //! sets to what it can't be is as one that isn't set.
 
 ghost use Rattle.std.specs.Prelude.{◌≡◌, codes, option_map, IfOk};
@@ -45,7 +45,9 @@ pub fn file_options(
     options: &[&ProtobufOption],
     custom: Vec<u8>,
 ) -> Result<Option<FileOptions>, AllocError>
-    ensures { IfOk result (λ o. option_map seen.file_options_view o ≡ spec.file_options custom.items (options_seen options.now)) }
+    ensures { IfOk result
+        (λ o. option_map seen.file_options_view o
+        ≡ spec.file_options custom.items (options_seen options.now)) }
 {
     if options.is_empty() {
         return Ok(None);
@@ -87,11 +89,16 @@ struct EarlyTexts {
 }
 
 fn early_texts(alloc: Global, options: &[&ProtobufOption]) -> Result<EarlyTexts, AllocError>
-    ensures java_package { IfOk result (λ t. IsTextOption options.now (codes "java_package") t.java_package) }
-    ensures java_outer_classname { IfOk result (λ t. IsTextOption options.now (codes "java_outer_classname") t.java_outer_classname) }
-    ensures go_package { IfOk result (λ t. IsTextOption options.now (codes "go_package") t.go_package) }
-    ensures objc_class_prefix { IfOk result (λ t. IsTextOption options.now (codes "objc_class_prefix") t.objc_class_prefix) }
-    ensures csharp_namespace { IfOk result (λ t. IsTextOption options.now (codes "csharp_namespace") t.csharp_namespace) }
+    ensures java_package { IfOk result
+        (λ t. IsTextOption options.now (codes "java_package") t.java_package) }
+    ensures java_outer_classname { IfOk result
+        (λ t. IsTextOption options.now (codes "java_outer_classname") t.java_outer_classname) }
+    ensures go_package { IfOk result
+        (λ t. IsTextOption options.now (codes "go_package") t.go_package) }
+    ensures objc_class_prefix { IfOk result
+        (λ t. IsTextOption options.now (codes "objc_class_prefix") t.objc_class_prefix) }
+    ensures csharp_namespace { IfOk result
+        (λ t. IsTextOption options.now (codes "csharp_namespace") t.csharp_namespace) }
 {
     let java_package = text_option(alloc, options, "java_package")?;
     let java_outer_classname = text_option(alloc, options, "java_outer_classname")?;
@@ -118,11 +125,16 @@ struct LateTexts {
 }
 
 fn late_texts(alloc: Global, options: &[&ProtobufOption]) -> Result<LateTexts, AllocError>
-    ensures swift_prefix { IfOk result (λ t. IsTextOption options.now (codes "swift_prefix") t.swift_prefix) }
-    ensures php_class_prefix { IfOk result (λ t. IsTextOption options.now (codes "php_class_prefix") t.php_class_prefix) }
-    ensures php_namespace { IfOk result (λ t. IsTextOption options.now (codes "php_namespace") t.php_namespace) }
-    ensures php_metadata_namespace { IfOk result (λ t. IsTextOption options.now (codes "php_metadata_namespace") t.php_metadata_namespace) }
-    ensures ruby_package { IfOk result (λ t. IsTextOption options.now (codes "ruby_package") t.ruby_package) }
+    ensures swift_prefix { IfOk result
+        (λ t. IsTextOption options.now (codes "swift_prefix") t.swift_prefix) }
+    ensures php_class_prefix { IfOk result
+        (λ t. IsTextOption options.now (codes "php_class_prefix") t.php_class_prefix) }
+    ensures php_namespace { IfOk result
+        (λ t. IsTextOption options.now (codes "php_namespace") t.php_namespace) }
+    ensures php_metadata_namespace { IfOk result
+        (λ t. IsTextOption options.now (codes "php_metadata_namespace") t.php_metadata_namespace) }
+    ensures ruby_package { IfOk result
+        (λ t. IsTextOption options.now (codes "ruby_package") t.ruby_package) }
 {
     let swift_prefix = text_option(alloc, options, "swift_prefix")?;
     let php_class_prefix = text_option(alloc, options, "php_class_prefix")?;
@@ -140,7 +152,8 @@ fn late_texts(alloc: Global, options: &[&ProtobufOption]) -> Result<LateTexts, A
 
 /// The options of a message.
 pub fn message_options(options: &[&ProtobufOption], custom: Vec<u8>) -> Option<MessageOptions>
-    ensures { option_map seen.message_options_view result ≡ spec.message_options custom.items (options_seen options.now) }
+    ensures { option_map seen.message_options_view result
+        ≡ spec.message_options custom.items (options_seen options.now) }
 {
     if options.is_empty() {
         return None;
@@ -156,7 +169,8 @@ pub fn message_options(options: &[&ProtobufOption], custom: Vec<u8>) -> Option<M
 
 /// The options of a field.
 pub fn field_options(options: &[&ProtobufOption], custom: Vec<u8>) -> Option<FieldOptions>
-    ensures { option_map seen.field_options_view result ≡ spec.field_options custom.items (options_seen options.now) }
+    ensures { option_map seen.field_options_view result
+        ≡ spec.field_options custom.items (options_seen options.now) }
 {
     if options.is_empty() {
         return None;
@@ -176,7 +190,8 @@ pub fn field_options(options: &[&ProtobufOption], custom: Vec<u8>) -> Option<Fie
 
 /// The options of a oneof.
 pub fn oneof_options(options: &[&ProtobufOption], custom: Vec<u8>) -> Option<OneofOptions>
-    ensures { option_map seen.oneof_options_view result ≡ spec.oneof_options custom.items (options_seen options.now) }
+    ensures { option_map seen.oneof_options_view result
+        ≡ spec.oneof_options custom.items (options_seen options.now) }
 {
     if options.is_empty() {
         return None;
@@ -186,7 +201,8 @@ pub fn oneof_options(options: &[&ProtobufOption], custom: Vec<u8>) -> Option<One
 
 /// The options of an enum.
 pub fn enum_options(options: &[&ProtobufOption], custom: Vec<u8>) -> Option<EnumOptions>
-    ensures { option_map seen.enum_options_view result ≡ spec.enum_options custom.items (options_seen options.now) }
+    ensures { option_map seen.enum_options_view result
+        ≡ spec.enum_options custom.items (options_seen options.now) }
 {
     if options.is_empty() {
         return None;
@@ -200,7 +216,8 @@ pub fn enum_options(options: &[&ProtobufOption], custom: Vec<u8>) -> Option<Enum
 
 /// The options of a value of an enum.
 pub fn enum_value_options(options: &[&ProtobufOption], custom: Vec<u8>) -> Option<EnumValueOptions>
-    ensures { option_map seen.enum_value_options_view result ≡ spec.enum_value_options custom.items (options_seen options.now) }
+    ensures { option_map seen.enum_value_options_view result
+        ≡ spec.enum_value_options custom.items (options_seen options.now) }
 {
     if options.is_empty() {
         return None;
@@ -213,7 +230,8 @@ pub fn enum_value_options(options: &[&ProtobufOption], custom: Vec<u8>) -> Optio
 
 /// The options of a service.
 pub fn service_options(options: &[&ProtobufOption], custom: Vec<u8>) -> Option<ServiceOptions>
-    ensures { option_map seen.service_options_view result ≡ spec.service_options custom.items (options_seen options.now) }
+    ensures { option_map seen.service_options_view result
+        ≡ spec.service_options custom.items (options_seen options.now) }
 {
     if options.is_empty() {
         return None;
@@ -226,7 +244,8 @@ pub fn service_options(options: &[&ProtobufOption], custom: Vec<u8>) -> Option<S
 
 /// The options of a method.
 pub fn method_options(options: &[&ProtobufOption], custom: Vec<u8>) -> Option<MethodOptions>
-    ensures { option_map seen.method_options_view result ≡ spec.method_options custom.items (options_seen options.now) }
+    ensures { option_map seen.method_options_view result
+        ≡ spec.method_options custom.items (options_seen options.now) }
 {
     if options.is_empty() {
         return None;

@@ -15,8 +15,8 @@ use protobuf_parse_base::text::{escape_bytes, json_name};
 use protobuf_parse_syntax::{ProtobufConstant, ProtobufOption};
 use std::alloc::Global;
 
-/// The default of the field of that type and name, where its options set one. E8 where the default of
-/// a string or of bytes is no string, E9 where it is a string that says nothing.
+/// The default of the field of that type and name, where its options set one. E8 where the default
+/// of a string or of bytes is no string, E9 where it is a string that says nothing.
 pub fn default_value(
     alloc: Global,
     kind: FieldType,
@@ -24,7 +24,8 @@ pub fn default_value(
     options: &[&ProtobufOption],
 ) -> Result<Option<String>, ElabFailure>
     ensures { let os = options_seen options.now in
-        Elaborates (λ o. option_map string_bytes o) result (spec.default_faults kind name.now os) (spec.default_of kind os) }
+        Elaborates (λ o. option_map string_bytes o) result (spec.default_faults kind name.now os)
+        (spec.default_of kind os) }
 {
     match first_value(options, "default") {
         Some(value) => Ok(Some(default_text(alloc, kind, name, value)?)),
@@ -40,7 +41,8 @@ fn default_text(
     value: &ProtobufConstant,
 ) -> Result<String, ElabFailure>
     ensures { let v = constant_view value.now in
-        Elaborates string_bytes result (spec.default_value_faults kind name.now (Some v)) (spec.default_text kind v) }
+        Elaborates string_bytes result (spec.default_value_faults kind name.now (Some v))
+        (spec.default_text kind v) }
 {
     match kind {
         FieldType::String => string_default(alloc, name, value),
@@ -55,7 +57,9 @@ fn string_default(
     value: &ProtobufConstant,
 ) -> Result<String, ElabFailure>
     ensures { let v = constant_view value.now in
-        Elaborates string_bytes result (spec.default_value_faults FieldType.String name.now (Some v)) (spec.default_text FieldType.String v) }
+        Elaborates string_bytes result
+        (spec.default_value_faults FieldType.String name.now (Some v))
+        (spec.default_text FieldType.String v) }
 {
     match value {
         ProtobufConstant::String(string) => text_given(alloc, "default", string),
@@ -65,7 +69,8 @@ fn string_default(
 
 fn bytes_default(alloc: Global, name: &str, value: &ProtobufConstant) -> Result<String, ElabFailure>
     ensures { let v = constant_view value.now in
-        Elaborates string_bytes result (spec.default_value_faults FieldType.Bytes name.now (Some v)) (spec.default_text FieldType.Bytes v) }
+        Elaborates string_bytes result (spec.default_value_faults FieldType.Bytes name.now (Some v))
+        (spec.default_text FieldType.Bytes v) }
 {
     match value {
         ProtobufConstant::String(string) => {
@@ -76,8 +81,8 @@ fn bytes_default(alloc: Global, name: &str, value: &ProtobufConstant) -> Result<
     }
 }
 
-/// The JSON name of the field of that name: as its options set it, or from the name. E10 where it is
-/// set to no string, E9 where to a string that is no text.
+/// The JSON name of the field of that name: as its options set it, or from the name. E10 where it
+/// is set to no string, E9 where to a string that is no text.
 pub fn json_name_of(
     alloc: Global,
     name: &str,

@@ -10,14 +10,24 @@ use Rattle.protobuf_parse_syntax.proofs.dependencies.imports_of.Goals as goal
 pub push_statement-requires : goal.push_statement-requires
 push_statement-requires c =
     let before = take c.loop-statement.statement-index c.args.statements.now in
-    let few = dependencies-few c.loop-statement.found (map statement_view before) c.loop-statement.invariant in
-    omega (arith, few, length-map before statement_view, length-take-le c.loop-statement.statement-index c.args.statements.now (omega arith), c.requires)
+    let few = dependencies-few c.loop-statement.found
+    (map statement_view before) c.loop-statement.invariant in
+    omega (
+      arith,
+      few,
+      length-map before statement_view,
+      length-take-le c.loop-statement.statement-index c.args.statements.now (omega arith),
+      c.requires,
+    )
 
 pub loop-statement-preserved : goal.loop-statement-preserved
 loop-statement-preserved c =
     let statement = c.statement-item.result in
     let before = map statement_view (take c.loop-statement.statement-index c.args.statements.now) in
     c.in_ok-push_statement.ensures
-    ∙ (ap (λ (found : FileImports). with_statement found (statement_view statement)) c.loop-statement.invariant
+    ∙ (ap (λ (found : FileImports). with_statement found (statement_view statement))
+    c.loop-statement.invariant
     ∙ (sym (dependencies-more before (statement_view statement))
-    ∙ ap dependencies_of (views-more statement_view c.args.statements.now c.loop-statement.statement-index statement (search rules) c.statement-item.is)))
+    ∙ ap dependencies_of
+    (views-more statement_view c.args.statements.now c.loop-statement.statement-index statement
+    (search rules) c.statement-item.is)))

@@ -5,4 +5,5 @@ use Rattle.protobuf_parse_syntax.specs.Trees.{statement_view}
 use Rattle.protobuf_parse_syntax.proofs.dependencies.imports_of.Given as goal
 
 abbrev pub invariant-loop-statement : goal.invariant-loop-statement
-invariant-loop-statement l = dependencies_view l.found ≡ dependencies_of (map statement_view (take l.statement-index l.statements))
+invariant-loop-statement l = dependencies_view l.found
+    ≡ dependencies_of (map statement_view (take l.statement-index l.statements))

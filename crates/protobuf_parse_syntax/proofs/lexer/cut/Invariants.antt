@@ -13,7 +13,8 @@ invariant-loop-tokens l =
     shadow (Utf8 l.rest)
     × (l.place.line + length l.rest ≤ 2147483648)
     × (l.place.col + length l.rest ≤ 2147483648)
-    × ((ts : List Lexeme) (q : Place) (r : Bytes) → Cut l.place l.rest ts q r → Cuts l.text (map lexeme l.tokens.items ++ ts) q r)
+    × ((ts : List Lexeme) (q : Place) (r : Bytes) → Cut l.place l.rest ts q r
+    → Cuts l.text (map lexeme l.tokens.items ++ ts) q r)
 
 abbrev pub decreases-loop-tokens : goal.decreases-loop-tokens
 decreases-loop-tokens l = length l.rest

@@ -5,4 +5,6 @@ use Rattle.protobuf_parse_wire.proofs.encoder.+entry.Given as goal
 
 -- The bytes of the entries that are left complete the list.
 abbrev pub invariant-encode_into-entries : goal.invariant-encode_into-entries
-invariant-encode_into-entries l = Completes (entries_view (drop l.entry-index l.entries)) (entries_view l.entries) l.fn.out.items l.out.items
+invariant-encode_into-entries l =
+    Completes (entries_view (drop l.entry-index l.entries))
+    (entries_view l.entries) l.fn.out.items l.out.items

@@ -8,4 +8,6 @@ use Rattle.protobuf_parse_wire.proofs.encoder.encode.Goals as goal
 pub returns-clause-spells : goal.returns-clause-spells
 returns-clause-spells c =
     let es = entries_view c.args.entries.now in
-    subst (Spells es) (sym (c.in_ok-encode_into.ensures ∙ ap (λ xs. xs ++ encoded es) c.new-out.ensures.items)) (encoded_spells es c.requires)
+    subst (Spells es)
+    (sym (c.in_ok-encode_into.ensures ∙ ap (λ xs. xs ++ encoded es) c.new-out.ensures.items))
+    (encoded_spells es c.requires)

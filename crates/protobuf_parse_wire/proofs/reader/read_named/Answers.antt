@@ -7,5 +7,9 @@ use Rattle.protobuf_parse_wire.proofs.reader.read_named.Goals as goal
 
 pub returns : goal.returns
 returns c =
-    let same = entered_is (map file_view c.args.files.now) c.in_ok-index.index c.in_ok-index.ensures in
-    subst (λ (enter : Option Text → Read Numbers). Gives (λ v. map read_field_view v.items) c.message_of.result (message_at enter 256 (Some c.args.name.now) c.args.bytes.now)) same c.message_of.ensures.gives
+    let same = entered_is (map file_view c.args.files.now) c.in_ok-index.index c.in_ok-index.ensures
+    in
+    subst (λ (enter : Option Text → Read Numbers). Gives
+    (λ v. map read_field_view v.items) c.message_of.result
+    (message_at enter 256 (Some c.args.name.now) c.args.bytes.now)) same
+    c.message_of.ensures.gives

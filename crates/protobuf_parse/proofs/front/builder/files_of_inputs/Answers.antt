@@ -9,5 +9,10 @@ use Rattle.protobuf_parse.proofs.front.builder.files_of_inputs.Goals as goal
 
 pub returns : goal.returns
 returns c =
-    let end = YieldsList-end (YieldsList-from_vec {s = c.into_iter-file-iterator.result} c.args.files.items (cc) (cc)) c.loop-file.yielded c.loop-file.file-iterator c.loop-file.yielded_by _ c.next.new.self c.in-None.is c.next.ensures.steps in
-    c.loop-file.invariant ∙ ap (filter (is_of_input (map path_buf_text c.args.names.now))) (sym (map-same c.loop-file.yielded) ∙ end.0)
+    let end = YieldsList-end
+    (YieldsList-from_vec {s = c.into_iter-file-iterator.result} c.args.files.items (cc) (cc))
+    c.loop-file.yielded c.loop-file.file-iterator c.loop-file.yielded_by _ c.next.new.self
+    c.in-None.is c.next.ensures.steps in
+    c.loop-file.invariant
+    ∙ ap (filter (is_of_input (map path_buf_text c.args.names.now)))
+    (sym (map-same c.loop-file.yielded) ∙ end.0)

@@ -8,4 +8,6 @@ use Rattle.protobuf_parse.proofs.front.builder.is_input.Given as goal
 
 abbrev pub invariant-loop-known : goal.invariant-loop-known
 invariant-loop-known l =
-    list_any (λ (n : Text). bytes_eq n (string_bytes l.name)) (map path_buf_text (drop l.known-index l.names)) ≡ list_any (λ (n : Text). bytes_eq n (string_bytes l.name)) (map path_buf_text l.names)
+    list_any (λ (n : Text). bytes_eq n (string_bytes l.name))
+    (map path_buf_text (drop l.known-index l.names))
+    ≡ list_any (λ (n : Text). bytes_eq n (string_bytes l.name)) (map path_buf_text l.names)

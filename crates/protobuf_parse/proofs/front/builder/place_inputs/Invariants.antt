@@ -6,4 +6,5 @@ use Rattle.protobuf_parse.specs.Parsers.{inputs_at}
 use Rattle.protobuf_parse.proofs.front.builder.place_inputs.Given as goal
 
 abbrev pub invariant-loop-i : goal.invariant-loop-i
-invariant-loop-i l = map input_view l.given.items ≡ inputs_at (map path_buf_text (take l.i l.names)) (map string_bytes (take l.i l.inputs))
+invariant-loop-i l = map input_view l.given.items
+    ≡ inputs_at (map path_buf_text (take l.i l.names)) (map string_bytes (take l.i l.inputs))

@@ -5,6 +5,7 @@ use Rattle.protobuf_parse.proofs.front.includes.after_front.Given as goal
 
 abbrev pub invariant-loop-i : goal.invariant-loop-i
 invariant-loop-i l = record {
-  same : parts_after (part_views (drop l.i l.front)) (part_views (drop l.i l.parts)) ≡ parts_after (part_views l.front) (part_views l.parts);
+  same : parts_after (part_views (drop l.i l.front)) (part_views (drop l.i l.parts))
+      ≡ parts_after (part_views l.front) (part_views l.parts);
   within : l.i ≤ length l.parts;
 }

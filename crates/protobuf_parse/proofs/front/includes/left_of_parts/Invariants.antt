@@ -6,4 +6,5 @@ use Rattle.protobuf_parse.proofs.front.includes.left_of_parts.Given as goal
 
 abbrev pub invariant-loop-include : goal.invariant-loop-include
 invariant-loop-include l =
-    left_of (map string_bytes (drop l.include-index l.includes)) l.input ≡ left_of (map string_bytes l.includes) l.input
+    left_of (map string_bytes (drop l.include-index l.includes)) l.input
+    ≡ left_of (map string_bytes l.includes) l.input

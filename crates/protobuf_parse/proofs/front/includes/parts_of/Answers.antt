@@ -6,5 +6,8 @@ use Rattle.protobuf_parse.proofs.front.includes.parts_of.Goals as goal
 
 pub returns : goal.returns
 returns c =
-    let end = YieldsList-end (YieldsList-from_str_split {s = c.into_iter-part-iterator.result} 47 c.args.path.now (lit< tt) (cc) (cc) (cc)) c.loop-part.yielded _ c.loop-part.yielded_by _ _ c.in-None.is c.next.ensures.steps in
+    let end = YieldsList-end
+    (YieldsList-from_str_split {s = c.into_iter-part-iterator.result} 47 c.args.path.now
+    (lit< tt) (cc) (cc) (cc)) c.loop-part.yielded _ c.loop-part.yielded_by _ _ c.in-None.is
+    c.next.ensures.steps in
     c.loop-part.invariant ∙ ap kept_of end.0

@@ -7,4 +7,5 @@ use Rattle.protobuf_parse.proofs.front.includes.proto_paths_of.Given as goal
 
 abbrev pub invariant-loop-input : goal.invariant-loop-input
 invariant-loop-input l =
-    AreNamed (map string_bytes l.includes) (map string_bytes (take l.input-index l.inputs)) (map path_buf_text l.names.items)
+    AreNamed (map string_bytes l.includes) (map string_bytes (take l.input-index l.inputs))
+    (map path_buf_text l.names.items)

@@ -9,7 +9,10 @@ loop-include-init c = sym (append-nil _)
 
 pub loop-include-preserved : goal.loop-include-preserved
 loop-include-preserved c =
-    appended_next next_include string_bytes _ _ _ _ _ _ c.loop-include-test.true c.include-item.is c.loop-include.invariant (rw c.deref.ensures at c.in_ok-put_next_include.ensures)
+    appended_next next_include string_bytes _ _ _ _ _ _ c.loop-include-test.true c.include-item.is
+    c.loop-include.invariant (rw c.deref.ensures at c.in_ok-put_next_include.ensures)
 
 pub returns : goal.returns
-returns c = appended_all next_include string_bytes _ _ _ _ c.loop-include-test.false c.loop-include.invariant
+returns c =
+    appended_all next_include string_bytes _ _ _ _ c.loop-include-test.false
+    c.loop-include.invariant

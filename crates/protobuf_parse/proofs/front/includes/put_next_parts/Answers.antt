@@ -8,7 +8,11 @@ pub loop-part-init : goal.loop-part-init
 loop-part-init c = sym (append-nil _)
 
 pub loop-part-preserved : goal.loop-part-preserved
-loop-part-preserved c = appended-part _ _ _ _ _ _ c.loop-part-test.true c.loop-part.invariant c.in_ok-put_next_part.ensures
+loop-part-preserved c =
+    appended-part _ _ _ _ _ _ c.loop-part-test.true c.loop-part.invariant
+    c.in_ok-put_next_part.ensures
 
 pub returns : goal.returns
-returns c = appended_all next_part (λ (p : Bor (List ℕ)). p.now) _ _ _ _ c.loop-part-test.false c.loop-part.invariant
+returns c =
+    appended_all next_part (λ (p : Bor (List ℕ)). p.now) _ _ _ _ c.loop-part-test.false
+    c.loop-part.invariant

@@ -5,4 +5,5 @@ use Rattle.protobuf_parse.proofs.front.includes.put_next_parts.Given as goal
 
 abbrev pub invariant-loop-part : goal.invariant-loop-part
 invariant-loop-part l =
-    string_bytes l.text ≡ string_bytes l.fn.text ++ flat_map next_part (part_views (take l.part-index l.parts))
+    string_bytes l.text ≡ string_bytes l.fn.text
+    ++ flat_map next_part (part_views (take l.part-index l.parts))

@@ -6,7 +6,8 @@ use Rattle.protobuf_parse.proofs.front.lines.listing.Goals as goal
 
 pub loop-file-preserved : goal.loop-file-preserved
 loop-file-preserved c =
-    appended_next file_lines file_view _ _ _ [] _ _ c.loop-file-test.true c.file-item.is c.loop-file.invariant c.in_ok-put_file.ensures
+    appended_next file_lines file_view _ _ _
+    [] _ _ c.loop-file-test.true c.file-item.is c.loop-file.invariant c.in_ok-put_file.ensures
 
 pub returns : goal.returns
 returns c = appended_all file_lines file_view _ _ [] _ c.loop-file-test.false c.loop-file.invariant

@@ -10,5 +10,13 @@ returns-in_ok-from_str-in_default c =
       tree = tt;
       only = tt;
       treeless = inl none;
-      stands = inl (c.in_ok-from_str-in_default.ensures.ok, record { treeless = none; stands = but_memory c.in-Err.error other c.in-Err.ensures.refused });
+      stands =
+          inl (
+            c.in_ok-from_str-in_default.ensures.ok,
+            record {
+              treeless = none;
+              stands =
+                  but_memory c.in-Err.error other c.in-Err.ensures.refused;
+            },
+          );
     }

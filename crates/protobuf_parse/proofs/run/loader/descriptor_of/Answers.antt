@@ -7,7 +7,7 @@ use Rattle.protobuf_parse.proofs.Leaving.{elab-stands}
 use Rattle.protobuf_parse.proofs.run.loader.descriptor_of.Goals as goal
 
 pub returns-in-Ok-clause-ok : goal.returns-in-Ok-clause-ok
-returns-in-Ok-clause-ok c = c.in-Ok.ensures
+returns-in-Ok-clause-ok c = c.in-Ok.ensures.describes
 
 pub returns-in-Err-Memory-clause-err : goal.returns-in-Err-Memory-clause-err
 returns-in-Err-Memory-clause-err c files told e found named = inr refl
@@ -17,4 +17,8 @@ returns-in-Err-Fault-clause-err c files told e found named =
     let t = file_view c.args.tree.now in
     let sight = c.args.sights.now.sight.items in
     let plains = plains_over c.args.loader.now.loaded.entries files sight c.args.path.now t in
-    elab-stands (origin_given c.args.path.now (Some e.outcome)) (faults_over files plains c.args.sights.now.reach.items sight t) (fault_view c.in-Err-Fault.error) c.refused.result (rw c.in-Err-Fault.field-0-is at (c.in-Err-Fault.ensures files told)) (c.refused.ensures e (rw c.deref.ensures.value found) named)
+    elab-stands (origin_given c.args.path.now (Some e.outcome))
+    (faults_over files plains c.args.sights.now.reach.items sight t)
+    (fault_view c.in-Err-Fault.error) c.refused.result
+    (rw c.in-Err-Fault.field-0-is at (c.in-Err-Fault.ensures.describes files told))
+    (c.refused.ensures e (rw c.deref.ensures.value found) named)

@@ -4,4 +4,5 @@ use Rattle.protobuf_parse.specs.Loading.{texts}
 use Rattle.protobuf_parse.proofs.run.loader.is_on_chain.Given as goal
 
 abbrev pub invariant-loop-above : goal.invariant-loop-above
-invariant-loop-above l = among l.path (texts (drop l.above-index l.chain)) ≡ among l.path (texts l.chain)
+invariant-loop-above l = among l.path (texts (drop l.above-index l.chain))
+    ≡ among l.path (texts l.chain)

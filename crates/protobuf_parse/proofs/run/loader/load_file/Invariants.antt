@@ -3,8 +3,10 @@ use Rattle.std.specs.List.{AllByRecursion}
 use Rattle.protobuf_parse_base.specs.PathViews.{path_buf_text}
 use Rattle.protobuf_parse.specs.Walks.{Event, among, keep, walk}
 use Rattle.protobuf_parse.specs.Run.{Files, rows}
-use Rattle.protobuf_parse.specs.Loading.{legal_by, AreKnown, AreUnloaded, GoesOn, Good, Grows, IsDecided, asked_by, texts}
-use Rattle.protobuf_parse.specs.Frames.{AreWaiting, IsRunning, IsTaken, chain_of, first_path, left_in, left_over, path_of, to_meet}
+use Rattle.protobuf_parse.specs.Loading.{legal_by, AreKnown, AreUnloaded, GoesOn, Good, Grows}
+use Rattle.protobuf_parse.specs.Loading.{IsDecided, asked_by, texts}
+use Rattle.protobuf_parse.specs.Frames.{AreWaiting, IsRunning, IsTaken, chain_of, first_path}
+use Rattle.protobuf_parse.specs.Frames.{left_in, left_over, path_of, to_meet}
 use Rattle.protobuf_parse.proofs.run.loader.load_file.Given as goal
 
 abbrev pub invariant-files : goal.invariant-files
@@ -13,17 +15,28 @@ invariant-files g l =
     record {
       chain : texts l.loader.chain.items ≡ chain_of [] l.stack.items ++ path_of l.top ∷ [];
       grows : Grows l.fn.loader.reads.items l.loader.reads.items;
-      decided : IsDecided (rows l.sources.bundled.now) l.fn.loader.reads.items → IsDecided (rows l.sources.bundled.now) l.loader.reads.items;
-      known : AreKnown l.loader.loaded.entries l.loader.names l.loader.reads.items;
-      unloaded : AreUnloaded (chain_of [] l.stack.items ++ path_of l.top ∷ []) l.loader.loaded.entries;
+      decided : IsDecided (rows l.sources.bundled.now) l.fn.loader.reads.items
+          → IsDecided (rows l.sources.bundled.now) l.loader.reads.items;
+      known : AreKnown l.loader.loaded.entries l.loader.tables l.loader.reads.items;
+      unloaded : AreUnloaded (chain_of [] l.stack.items ++ path_of l.top ∷ [])
+          l.loader.loaded.entries;
       off : among (path_of l.top) (chain_of [] l.stack.items) ≡ false;
       low : length l.stack.items + l.top.height < 100;
       taken : IsTaken l.loader.loaded.entries l.loader.reads.items l.top;
       below : AllByRecursion (IsTaken l.loader.loaded.entries l.loader.reads.items) l.stack.items;
       waiting : AreWaiting [] l.stack.items (path_of l.top);
       lowest : first_path l.stack.items (path_of l.top) ≡ path_buf_text l.input;
-      bound : l.loader.meets + (length (left_in l.top) + to_meet l.stack.items) + length l.fn.loader.reads.items * 2 ^ 64 ≤ l.fn.loader.meets + 1 + length l.loader.reads.items * 2 ^ 64;
-      inside : (files : Files) (kept : List Event) → GoesOn files (rows l.sources.bundled.now) l.loader.reads.items → Good legal files kept l.fn.loader.loaded.entries l.fn.loader.reads.items [] → IsRunning legal files kept (keep kept (walk files.trees (path_buf_text l.input) (asked_by l.fs_path) 100 [] (path_buf_text l.input))) (path_buf_text l.input) l.fn.loader.meets l.loader.meets l.stack.items l.top l.loader.loaded.entries l.loader.reads.items;
+      bound : l.loader.meets + (length (left_in l.top) + to_meet l.stack.items) + length
+          l.fn.loader.reads.items * 2 ^ 64
+          ≤ l.fn.loader.meets + 1 + length l.loader.reads.items * 2 ^ 64;
+      inside : (files : Files) (kept : List Event)
+          → GoesOn files (rows l.sources.bundled.now) l.loader.reads.items
+          → Good legal files kept l.fn.loader.loaded.entries l.fn.loader.reads.items []
+          → IsRunning legal files kept
+          (keep kept
+          (walk files.trees (path_buf_text l.input) (asked_by l.fs_path) 100 []
+          (path_buf_text l.input))) (path_buf_text l.input) l.fn.loader.meets l.loader.meets
+          l.stack.items l.top l.loader.loaded.entries l.loader.reads.items;
     }
 
 abbrev pub decreases-files : goal.decreases-files

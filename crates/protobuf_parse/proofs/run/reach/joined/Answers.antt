@@ -11,9 +11,13 @@ returns c =
     record {
       ascending = rw is (IsStrictlyIncreasing-dedup _ c.sort_unstable.ensures.sorted);
       all = λ n h.
-          let there = Contains-permutation _ _ n c.sort_unstable.ensures.permutation (subst (λ (xs : List ℕ). Contains xs n) (sym c.in_ok-numbers.ensures) h) in
+          let there = Contains-permutation _ _ n c.sort_unstable.ensures.permutation
+          (subst (λ (xs : List ℕ). Contains xs n) (sym c.in_ok-numbers.ensures) h) in
           rw is (Contains-dedup_nat _ n there);
       only = λ n h.
           let kept = subst (λ (xs : List ℕ). Contains xs n) is h in
-          subst (λ (xs : List ℕ). Contains xs n) c.in_ok-numbers.ensures (Contains-permutation _ _ n (IsPermutation-sym _ _ c.sort_unstable.ensures.permutation) (Contains-from_dedup nat_eq _ n kept));
+          subst (λ (xs : List ℕ). Contains xs n) c.in_ok-numbers.ensures
+          (Contains-permutation _ _ n
+          (IsPermutation-sym _ _ c.sort_unstable.ensures.permutation)
+          (Contains-from_dedup nat_eq _ n kept));
     }

@@ -7,5 +7,6 @@ use Rattle.protobuf_parse_base.proofs.names.dots.parts_are_idents.Goals as goal
 
 pub returns : goal.returns
 returns c = all_from_yields_List is_ident _ _ _ c.all.ensures.ran
-    (YieldsList-from_str_split 46 c.args.text.now (lit< tt) c.split.ensures.text c.split.ensures.has_more c.split.ensures.pattern)
+    (YieldsList-from_str_split 46 c.args.text.now
+    (lit< tt) c.split.ensures.text c.split.ensures.has_more c.split.ensures.pattern)
     (λ x b q k. search rules)

@@ -12,9 +12,24 @@ returns g c =
     let env = environment_in (g.C.CustomOptions.customs c.args.custom.now) c.args.context.now in
     let old = c.args.body.now in
     let d = c.in_ok-declared.ensures in
-    let oneofs = ap (map oneof_view) c.in_ok-push.ensures.items ∙ map-append oneof_view old.oneof_decl.items _ in
-    let fields = ap (map field_view) c.in_ok-push-2.ensures.items ∙ map-append field_view old.field.items _ in
-    let nested = ap (map message_view) c.in_ok-push_behind.ensures ∙ map-append message_view old.nested_type.items _ in (
+    let oneofs = ap (map oneof_view) c.in_ok-push.ensures.items
+    ∙ map-append oneof_view old.oneof_decl.items _ in
+    let fields = ap (map field_view) c.in_ok-push-2.ensures.items
+    ∙ map-append field_view old.field.items _ in
+    let nested = ap (map message_view) c.in_ok-push_behind.ensures
+    ∙ map-append message_view old.nested_type.items _ in (
       d.0,
-      with_own env old (record { field = c.push-2.new.self; oneof_decl = c.push.new.self; nested_type = c.push_behind.new.messages; enum_type = old.enum_type; extension = old.extension }) c.len.result _ (c.len.ensures ∙ old.oneof_decl.ok.0) oneofs refl refl (field_statement_view c.args.statement.now) (declared_view c.in_ok-declared.declared) c.requires.own d.1 (c.in_ok-own.ensures ∙ ap own_oneof_of c.deref.ensures) fields nested,
+      with_own env old
+          (record {
+            field = c.push-2.new.self;
+            oneof_decl = c.push.new.self;
+            nested_type =
+                c.push_behind.new.messages;
+            enum_type = old.enum_type;
+            extension = old.extension;
+          })
+          c.len.result _ (c.len.ensures ∙ old.oneof_decl.ok.0) oneofs refl refl
+          (field_statement_view c.args.statement.now)
+          (declared_view c.in_ok-declared.declared) c.requires.own d.1
+          (c.in_ok-own.ensures ∙ ap own_oneof_of c.deref.ensures) fields nested,
     )

@@ -14,8 +14,29 @@ returns g c =
     let e = extend_view c.args.extend.now in
     let old = c.args.contents.now in
     let declared = c.in_ok-declared.declared in
-    let by_name = subst (λ (name : Text). (flat_map (extension_faults_of env name) (map field_statement_view c.deref-2.result.now) ≡ []) × (fields_view declared ≡ fields_declared env (extending env name) (map field_statement_view c.deref-2.result.now))) c.deref.ensures c.in_ok-declared.ensures in
-    let d = subst (λ (xs : List FieldStatement). (flat_map (extension_faults_of env e.extendee) (map field_statement_view xs) ≡ []) × (fields_view declared ≡ fields_declared env (extending env e.extendee) (map field_statement_view xs))) c.deref-2.ensures.value by_name in
-    let extensions = ap (map field_view) c.in_ok-append.ensures.items ∙ map-append field_view old.extension.items _ in
-    let messages = ap (map message_view) c.in_ok-append-2.ensures.items ∙ map-append message_view old.message_type.items _ in
-    (d.0, file_with_extend env old (record { message_type = c.append-2.new.self; enum_type = old.enum_type; service = old.service; extension = c.append.new.self }) e (fields_view declared) d.1 extensions messages refl refl)
+    let by_name = subst
+    (λ (name : Text).
+    (flat_map (extension_faults_of env name) (map field_statement_view c.deref-2.result.now)
+    ≡ []) × (fields_view declared
+    ≡ fields_declared env (extending env name) (map field_statement_view c.deref-2.result.now)))
+    c.deref.ensures c.in_ok-declared.ensures in
+    let d = subst
+    (λ (xs : List FieldStatement).
+    (flat_map (extension_faults_of env e.extendee) (map field_statement_view xs) ≡ [])
+    × (fields_view declared ≡ fields_declared env (extending env e.extendee)
+    (map field_statement_view xs))) c.deref-2.ensures.value by_name in
+    let extensions = ap (map field_view) c.in_ok-append.ensures.items
+    ∙ map-append field_view old.extension.items _ in
+    let messages = ap (map message_view) c.in_ok-append-2.ensures.items
+    ∙ map-append message_view old.message_type.items _ in (
+      d.0,
+      file_with_extend env old
+          (record {
+            message_type = c.append-2.new.self;
+            enum_type = old.enum_type;
+            service =
+                old.service;
+            extension = c.append.new.self;
+          }) e (fields_view declared) d.1 extensions
+          messages refl refl,
+    )

@@ -6,5 +6,14 @@ use Rattle.protobuf_parse_model.proofs.convert.contents.declared.Goals as goal
 
 pub add_statement-requires : goal.add_statement-requires
 add_statement-requires g c =
-    let counted = item_counts statement_view statement_count c.args.statements.now c.loop-statement.statement-index c.statement-item.result c.loop-statement-test.true in
-    record { few = omega (arith, counted, ap (λ s. statement_count (statement_view s)) c.statement-item.is, c.requires.few) }
+    let counted = item_counts statement_view statement_count c.args.statements.now
+    c.loop-statement.statement-index c.statement-item.result c.loop-statement-test.true in
+    record {
+      few =
+          omega (
+            arith,
+            counted,
+            ap (λ s. statement_count (statement_view s)) c.statement-item.is,
+            c.requires.few,
+          );
+    }

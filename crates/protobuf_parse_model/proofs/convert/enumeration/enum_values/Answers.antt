@@ -9,4 +9,10 @@ use Rattle.protobuf_parse_model.specs.declared.descriptor.EnumValueDescriptorPro
 use Rattle.protobuf_parse_model.proofs.convert.enumeration.enum_values.Goals as goal
 
 pub returns : goal.returns
-returns g c = subst (λ (vs : List EnumValueSyntax). Elaborates {X = Vec EnumValueDescriptorProto} (λ v. map enum_value_view v.items) c.unlike_values.result (values_faults (environment_in (g.C.CustomOptions.customs c.args.custom.now) c.args.context.now) vs) (map (value_of (environment_in (g.C.CustomOptions.customs c.args.custom.now) c.args.context.now)) vs)) (ap values_seen c.deref.ensures.value ∙ c.in_ok-values.ensures) c.unlike_values.ensures
+returns g c =
+    subst (λ (vs : List EnumValueSyntax). Elaborates {X = Vec EnumValueDescriptorProto}
+    (λ v. map enum_value_view v.items) c.unlike_values.result
+    (values_faults (environment_in (g.C.CustomOptions.customs c.args.custom.now) c.args.context.now)
+    vs) (map
+    (value_of (environment_in (g.C.CustomOptions.customs c.args.custom.now) c.args.context.now))
+    vs)) (ap values_seen c.deref.ensures.value ∙ c.in_ok-values.ensures) c.unlike_values.ensures

@@ -4,4 +4,5 @@ use Rattle.protobuf_parse_model.specs.Contexts.{texts, values_seen}
 use Rattle.protobuf_parse_model.proofs.convert.enumeration.names.Given as goal
 
 abbrev pub invariant-loop-value : goal.invariant-loop-value
-invariant-loop-value l = texts l.names.items ≡ map (λ (v : EnumValueSyntax). v.name) (values_seen (take l.value-index l.values))
+invariant-loop-value l = texts l.names.items
+    ≡ map (λ (v : EnumValueSyntax). v.name) (values_seen (take l.value-index l.values))

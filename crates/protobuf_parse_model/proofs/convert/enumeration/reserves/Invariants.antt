@@ -5,4 +5,5 @@ use Rattle.protobuf_parse_model.specs.Enums.{enum_reserves}
 use Rattle.protobuf_parse_model.proofs.convert.enumeration.reserves.Given as goal
 
 abbrev pub invariant-loop-statement : goal.invariant-loop-statement
-invariant-loop-statement l = reserves_seen l.reserves.items ≡ flat_map enum_reserves (map enum_statement_view (take l.statement-index l.body))
+invariant-loop-statement l = reserves_seen l.reserves.items
+    ≡ flat_map enum_reserves (map enum_statement_view (take l.statement-index l.body))

@@ -5,4 +5,5 @@ use Rattle.protobuf_parse_model.specs.Enums.{enum_values}
 use Rattle.protobuf_parse_model.proofs.convert.enumeration.values.Given as goal
 
 abbrev pub invariant-loop-statement : goal.invariant-loop-statement
-invariant-loop-statement l = values_seen l.values.items ≡ flat_map enum_values (map enum_statement_view (take l.statement-index l.body))
+invariant-loop-statement l = values_seen l.values.items
+    ≡ flat_map enum_values (map enum_statement_view (take l.statement-index l.body))

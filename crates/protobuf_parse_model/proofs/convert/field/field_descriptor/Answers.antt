@@ -10,10 +10,16 @@ pub returns-in_err-resolved : goal.returns-in_err-resolved
 returns-in_err-resolved g c =
     let customs = g.C.CustomOptions.customs c.args.custom.now in
     let p = err_from_is_err_and c.from_residual.result c.from_residual.ensures.1 in
-    rw (p.1, p.2) (blames_type customs c.args.context.now (field_view c.args.field.now) c.deref.result.now c.deref.ensures c.in_err-resolved.field-0.0 c.in_err-resolved.ensures)
+    rw (p.1, p.2)
+    (blames_type customs c.args.context.now
+    (field_view c.args.field.now) c.deref.result.now c.deref.ensures c.in_err-resolved.field-0.0
+    c.in_err-resolved.ensures)
 
 pub returns : goal.returns
 returns g c =
     let customs = g.C.CustomOptions.customs c.args.custom.now in
     let resolved = c.in_ok-resolved.ensures in
-    field_elaborates customs c.args.context.now (field_view c.args.field.now) c.deref.result.now c.deref.ensures described.field_view c.field_with.result (place_view c.args.place.now) (resolved_view c.in_ok-resolved.resolved) resolved.0 resolved.1 c.field_with.ensures
+    field_elaborates customs c.args.context.now
+    (field_view c.args.field.now) c.deref.result.now c.deref.ensures described.field_view
+    c.field_with.result (place_view c.args.place.now)
+    (resolved_view c.in_ok-resolved.resolved) resolved.0 resolved.1 c.field_with.ensures

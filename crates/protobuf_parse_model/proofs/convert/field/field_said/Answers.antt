@@ -7,4 +7,11 @@ use Rattle.protobuf_parse_model.specs.OptionViews.{options_seen}
 use Rattle.protobuf_parse_model.proofs.convert.field.field_said.Goals as goal
 
 pub returns : goal.returns
-returns g c = subst (λ (os : List OptionSyntax). Elaborates said_view c.said_by_options.result (faults_of_options (environment_in (g.C.CustomOptions.customs c.args.custom.now) c.args.context.now) c.args.kind c.args.name.now os) (said_by (environment_in (g.C.CustomOptions.customs c.args.custom.now) c.args.context.now) c.args.kind c.args.name.now os)) (ap options_seen c.deref.ensures.value ∙ c.in_ok-options.ensures) c.said_by_options.ensures
+returns g c =
+    subst (λ (os : List OptionSyntax). Elaborates said_view c.said_by_options.result
+    (faults_of_options
+    (environment_in (g.C.CustomOptions.customs c.args.custom.now) c.args.context.now) c.args.kind
+    c.args.name.now os) (said_by
+    (environment_in (g.C.CustomOptions.customs c.args.custom.now) c.args.context.now) c.args.kind
+    c.args.name.now os)) (ap options_seen c.deref.ensures.value ∙ c.in_ok-options.ensures)
+    c.said_by_options.ensures

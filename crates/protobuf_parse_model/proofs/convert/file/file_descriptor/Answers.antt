@@ -11,5 +11,15 @@ use Rattle.protobuf_parse_model.proofs.convert.file.file_descriptor.Goals as goa
 pub returns : goal.returns
 returns g c =
     let t = file_view c.args.tree.now in
-    let within : List Text → Environment = λ scope. record { syntax = t.syntax; types = seen_types c.args.seen.now; scope = scope; customs = g.C.CustomOptions.customs c.args.custom.now } in
-    subst (λ (scope : List Text). Elaborates described.file_view c.descriptor_in.result (file_faults (within scope) t) (file_of (within scope) c.args.name.now t)) (ap texts c.deref.ensures.value ∙ c.in_ok-scope.ensures) c.descriptor_in.ensures
+    let within : List Text → Environment = λ scope.
+    record {
+      syntax = t.syntax;
+      types = seen_types c.args.seen.now;
+      scope = scope;
+      customs =
+          g.C.CustomOptions.customs c.args.custom.now;
+    } in
+    subst (λ (scope : List Text). Elaborates described.file_view c.descriptor_in.result
+    (file_faults (within scope) t)
+    (file_of (within scope) c.args.name.now t)) (ap texts c.deref.ensures.value
+    ∙ c.in_ok-scope.ensures) c.descriptor_in.ensures

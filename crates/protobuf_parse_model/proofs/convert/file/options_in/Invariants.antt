@@ -5,4 +5,5 @@ use Rattle.protobuf_parse_model.specs.FileDescriptor.{options_in_file}
 use Rattle.protobuf_parse_model.proofs.convert.file.options_in.Given as goal
 
 abbrev pub invariant-loop-statement : goal.invariant-loop-statement
-invariant-loop-statement l = options_seen l.options.items ≡ flat_map options_in_file (map statement_view (take l.statement-index l.statements))
+invariant-loop-statement l = options_seen l.options.items
+    ≡ flat_map options_in_file (map statement_view (take l.statement-index l.statements))

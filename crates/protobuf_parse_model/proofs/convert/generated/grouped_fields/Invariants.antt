@@ -9,6 +9,10 @@ abbrev pub invariant-loop-statement : goal.invariant-loop-statement
 invariant-loop-statement g l =
     let seen = map field_statement_view (take l.statement-index l.statements) in
     record {
-      no_fault : flat_map (grouped_faults (environment_in (g.C.CustomOptions.customs l.custom) l.context)) seen ≡ [];
-      all : map field_view l.fields.items ≡ map (field_statement_of (environment_in (g.C.CustomOptions.customs l.custom) l.context) plain) seen;
+      no_fault : flat_map
+          (grouped_faults (environment_in (g.C.CustomOptions.customs l.custom) l.context)) seen
+          ≡ [];
+      all : map field_view l.fields.items
+          ≡ map (field_statement_of (environment_in (g.C.CustomOptions.customs l.custom) l.context)
+          plain) seen;
     }

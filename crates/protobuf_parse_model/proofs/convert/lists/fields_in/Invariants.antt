@@ -5,4 +5,5 @@ use Rattle.protobuf_parse_model.specs.Statements.{oneof_fields}
 use Rattle.protobuf_parse_model.proofs.convert.lists.fields_in.Given as goal
 
 abbrev pub invariant-loop-statement : goal.invariant-loop-statement
-invariant-loop-statement l = statements_seen l.fields.items ≡ flat_map oneof_fields (map oneof_statement_view (take l.statement-index l.body))
+invariant-loop-statement l = statements_seen l.fields.items
+    ≡ flat_map oneof_fields (map oneof_statement_view (take l.statement-index l.body))

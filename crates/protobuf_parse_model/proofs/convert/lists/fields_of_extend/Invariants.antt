@@ -12,6 +12,7 @@ invariant-loop-statement g l =
     let seen = map field_statement_view (take l.statement-index l.statements) in
     record {
       no_fault : flat_map (extension_faults_of env l.extendee) seen ≡ [];
-      all : map field_view l.fields.items ≡ map (field_statement_of env (extending env l.extendee)) seen;
+      all : map field_view l.fields.items
+          ≡ map (field_statement_of env (extending env l.extendee)) seen;
       all_behind : map message_view l.behind.items ≡ flat_map (messages_behind env) seen;
     }

@@ -20,13 +20,16 @@ abbrev pub decreases-message_descriptor : goal.decreases-message_descriptor
 decreases-message_descriptor g l = 6 * in_message (message_view l.message.now) + 4
 
 abbrev pub decreases-message_of_body : goal.decreases-message_of_body
-decreases-message_of_body g l = 6 * sum_by message_statement_count (map message_statement_view l.body.now) + 3
+decreases-message_of_body g l =
+    6 * sum_by message_statement_count (map message_statement_view l.body.now) + 3
 
 abbrev pub decreases-body_inside : goal.decreases-body_inside
-decreases-body_inside g l = 6 * sum_by message_statement_count (map message_statement_view l.body.now) + 2
+decreases-body_inside g l =
+    6 * sum_by message_statement_count (map message_statement_view l.body.now) + 2
 
 abbrev pub decreases-body_of : goal.decreases-body_of
-decreases-body_of g l = 6 * sum_by message_statement_count (map message_statement_view l.statements.now) + 1
+decreases-body_of g l =
+    6 * sum_by message_statement_count (map message_statement_view l.statements.now) + 1
 
 abbrev pub decreases-add_statement : goal.decreases-add_statement
 decreases-add_statement g l = 6 * message_statement_count (message_statement_view l.statement.now)

@@ -5,4 +5,5 @@ use Rattle.protobuf_parse_model.specs.Messages.{names_of_enums}
 use Rattle.protobuf_parse_model.proofs.convert.names.names_of_enums.Given as goal
 
 abbrev pub invariant-loop-each : goal.invariant-loop-each
-invariant-loop-each l = texts l.names.items ≡ names_of_enums (map enum_view (take l.each-index l.enums))
+invariant-loop-each l = texts l.names.items
+    ≡ names_of_enums (map enum_view (take l.each-index l.enums))

@@ -5,4 +5,5 @@ use Rattle.protobuf_parse_model.specs.Fields.{names_of_fields}
 use Rattle.protobuf_parse_model.proofs.convert.names.names_of_fields.Given as goal
 
 abbrev pub invariant-loop-field : goal.invariant-loop-field
-invariant-loop-field l = texts l.names.items ≡ names_of_fields (map field_view (take l.field-index l.fields))
+invariant-loop-field l = texts l.names.items
+    ≡ names_of_fields (map field_view (take l.field-index l.fields))

@@ -5,4 +5,5 @@ use Rattle.protobuf_parse_model.specs.Messages.{names_of_messages}
 use Rattle.protobuf_parse_model.proofs.convert.names.names_of_messages.Given as goal
 
 abbrev pub invariant-loop-message : goal.invariant-loop-message
-invariant-loop-message l = texts l.names.items ≡ names_of_messages (map message_view (take l.message-index l.messages))
+invariant-loop-message l = texts l.names.items
+    ≡ names_of_messages (map message_view (take l.message-index l.messages))

@@ -5,4 +5,5 @@ use Rattle.protobuf_parse_model.specs.Messages.{names_of_oneofs}
 use Rattle.protobuf_parse_model.proofs.convert.names.names_of_oneofs.Given as goal
 
 abbrev pub invariant-loop-oneof : goal.invariant-loop-oneof
-invariant-loop-oneof l = texts l.names.items ≡ names_of_oneofs (map oneof_view (take l.oneof-index l.oneofs))
+invariant-loop-oneof l = texts l.names.items
+    ≡ names_of_oneofs (map oneof_view (take l.oneof-index l.oneofs))

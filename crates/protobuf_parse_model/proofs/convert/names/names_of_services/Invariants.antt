@@ -5,4 +5,5 @@ use Rattle.protobuf_parse_model.specs.FileDescriptor.{names_of_services}
 use Rattle.protobuf_parse_model.proofs.convert.names.names_of_services.Given as goal
 
 abbrev pub invariant-loop-service : goal.invariant-loop-service
-invariant-loop-service l = texts l.names.items ≡ names_of_services (map service_view (take l.service-index l.services))
+invariant-loop-service l = texts l.names.items
+    ≡ names_of_services (map service_view (take l.service-index l.services))

@@ -5,4 +5,5 @@ use Rattle.protobuf_parse_model.specs.Statements.{oneof_options}
 use Rattle.protobuf_parse_model.proofs.convert.oneof.options_in.Given as goal
 
 abbrev pub invariant-loop-statement : goal.invariant-loop-statement
-invariant-loop-statement l = options_seen l.options.items ≡ flat_map oneof_options (map oneof_statement_view (take l.statement-index l.body))
+invariant-loop-statement l = options_seen l.options.items
+    ≡ flat_map oneof_options (map oneof_statement_view (take l.statement-index l.body))

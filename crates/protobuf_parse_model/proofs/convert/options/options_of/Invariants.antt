@@ -4,4 +4,5 @@ use Rattle.protobuf_parse_model.specs.OptionViews.{options_seen}
 use Rattle.protobuf_parse_model.proofs.convert.options.options_of.Given as goal
 
 abbrev pub invariant-loop-option : goal.invariant-loop-option
-invariant-loop-option l = options_seen l.list.items ≡ map option_view (take l.option-index l.options)
+invariant-loop-option l = options_seen l.list.items
+    ≡ map option_view (take l.option-index l.options)

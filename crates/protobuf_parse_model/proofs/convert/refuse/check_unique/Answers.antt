@@ -1,4 +1,6 @@
-use Rattle.std.proofs.Common.{◌≡◌, ℕ, ◌+◌, ◌<◌, List, [], ◌∷◌, ◌++◌, length, map, take, drop, get_or, Bool, true, false, Bor, sym, refl, ◌∙◌, ap, add-one, drop-cons, cond}
+use Rattle.std.proofs.Common.{◌≡◌, ℕ, ◌+◌, ◌<◌, List, [], ◌∷◌, ◌++◌, length, map, take, drop}
+use Rattle.std.proofs.Common.{get_or, Bool, true, false, Bor, sym, refl, ◌∙◌, ap, add-one}
+use Rattle.std.proofs.Common.{drop-cons, cond}
 use Rattle.std.specs.Prelude.{not, bytes_eq}
 use Rattle.std.proofs.lemmas.List.{map_more}
 use Rattle.protobuf_parse_model.proofs.OrTests.{cond-true_or}
@@ -15,21 +17,39 @@ texts = map (λ (s : Bor (List ℕ)). s.now)
 abbrev duplicate : List ℕ → Fault
 duplicate name = record { kind = DuplicateName; what = name }
 
-rest_is : (names : List (Bor (List ℕ))) (i : ℕ) (d : Bor (List ℕ)) → i < length names → texts (drop i names) ≡ (get_or names i d).now ∷ texts (drop (i + 1) names)
+rest_is : (names : List (Bor (List ℕ))) (i : ℕ) (d : Bor (List ℕ)) → i < length names
+    → texts (drop i names) ≡ (get_or names i d).now ∷ texts (drop (i + 1) names)
 rest_is names i d lt = rw (add-one, drop-cons names i d) refl
 
 -- a name among those before it is a fault
-found_again : (names : List (Bor (List ℕ))) (i : ℕ) (d : Bor (List ℕ)) (t : List ℕ) → i < length names → stands_in (get_or names i d).now (texts (take i names)) ≡ true → (get_or names i d).now ≡ t → duplicates (texts names) ≡ repeats_after (texts (take i names)) DuplicateName (texts (drop i names)) → Among (duplicates (texts names)) (duplicate t)
+found_again : (names : List (Bor (List ℕ))) (i : ℕ) (d : Bor (List ℕ)) (t : List ℕ)
+    → i < length names → stands_in (get_or names i d).now (texts (take i names)) ≡ true
+    → (get_or names i d).now ≡ t
+    → duplicates (texts names)
+    ≡ repeats_after (texts (take i names)) DuplicateName (texts (drop i names))
+    → Among (duplicates (texts names)) (duplicate t)
 found_again names i d t lt e h inv =
-    rw (inv, rest_is names i d lt) (among_when (stands_in (get_or names i d).now (texts (take i names))) (duplicate (get_or names i d).now) (duplicate t) _ e (ap duplicate h))
+    rw (inv, rest_is names i d lt)
+    (among_when (stands_in (get_or names i d).now (texts (take i names)))
+    (duplicate (get_or names i d).now) (duplicate t) _ e (ap duplicate h))
 
 -- a name that is not among those before it adds none
-new_name : (before xs : List (List ℕ)) (x : List ℕ) → stands_in x before ≡ false → repeats_after before DuplicateName (x ∷ xs) ≡ repeats_after (before ++ x ∷ []) DuplicateName xs
+new_name : (before xs : List (List ℕ)) (x : List ℕ) → stands_in x before ≡ false
+    → repeats_after before DuplicateName (x ∷ xs)
+    ≡ repeats_after (before ++ x ∷ []) DuplicateName xs
 new_name before xs x e = rw e refl
 
-goes_on : (names : List (Bor (List ℕ))) (i : ℕ) (d : Bor (List ℕ)) → i < length names → stands_in (get_or names i d).now (texts (take i names)) ≡ false → duplicates (texts names) ≡ repeats_after (texts (take i names)) DuplicateName (texts (drop i names)) → duplicates (texts names) ≡ repeats_after (texts (take (i + 1) names)) DuplicateName (texts (drop (i + 1) names))
+goes_on : (names : List (Bor (List ℕ))) (i : ℕ) (d : Bor (List ℕ)) → i < length names
+    → stands_in (get_or names i d).now (texts (take i names)) ≡ false
+    → duplicates (texts names)
+    ≡ repeats_after (texts (take i names)) DuplicateName (texts (drop i names))
+    → duplicates (texts names)
+    ≡ repeats_after (texts (take (i + 1) names)) DuplicateName (texts (drop (i + 1) names))
 goes_on names i d lt e inv =
-    inv ∙ ap (λ r. repeats_after (texts (take i names)) DuplicateName r) (rest_is names i d lt) ∙ new_name (texts (take i names)) (texts (drop (i + 1) names)) (get_or names i d).now e ∙ ap (λ s. repeats_after s DuplicateName (texts (drop (i + 1) names))) (sym (map_more (λ (s : Bor (List ℕ)). s.now) names i d lt))
+    inv ∙ ap (λ r. repeats_after (texts (take i names)) DuplicateName r) (rest_is names i d lt)
+    ∙ new_name (texts (take i names)) (texts (drop (i + 1) names)) (get_or names i d).now e
+    ∙ ap (λ s. repeats_after s DuplicateName (texts (drop (i + 1) names)))
+    (sym (map_more (λ (s : Bor (List ℕ)). s.now) names i d lt))
 
 was_in : (b r : Bool) → r ≡ not b → r ≡ false → b ≡ true
 was_in true r e h = refl
@@ -41,15 +61,27 @@ was_out false r e h = refl
 
 pub returns-then-not-is_new : goal.returns-then-not-is_new
 returns-then-not-is_new c =
-    let d = get_or c.args.names.now c.loop-name.name-index (record { ref_ptr = (0, 0); now = [] }) in
-    let is_in = sym (c.loop-name.invariant.seen d) ∙ was_in _ _ c.in_ok-is_new.ensures.added c.if-not-is_new.true in
-    found_again c.args.names.now c.loop-name.name-index _ _ c.loop-name-test.true is_in (sym c.in_ok-from_str.ensures.ok) c.loop-name.invariant.none_yet
+    let d = get_or c.args.names.now c.loop-name.name-index
+    (record { ref_ptr = (0, 0); now = [] }) in
+    let is_in = sym (c.loop-name.invariant.seen d)
+    ∙ was_in _ _ c.in_ok-is_new.ensures.added c.if-not-is_new.true in
+    found_again c.args.names.now c.loop-name.name-index _ _ c.loop-name-test.true is_in
+    (sym c.in_ok-from_str.ensures.ok) c.loop-name.invariant.none_yet
 
 pub loop-name-preserved : goal.loop-name-preserved
 loop-name-preserved c =
-    let d = get_or c.args.names.now c.loop-name.name-index (record { ref_ptr = (0, 0); now = [] }) in
-    let is_out = sym (c.loop-name.invariant.seen d) ∙ was_out _ _ c.in_ok-is_new.ensures.added c.if-not-is_new.false in
+    let d = get_or c.args.names.now c.loop-name.name-index
+    (record { ref_ptr = (0, 0); now = [] }) in
+    let is_out = sym (c.loop-name.invariant.seen d)
+    ∙ was_out _ _ c.in_ok-is_new.ensures.added c.if-not-is_new.false in
     record {
-      none_yet = goes_on c.args.names.now c.loop-name.name-index _ c.loop-name-test.true is_out c.loop-name.invariant.none_yet;
-      seen = λ q. c.in_ok-is_new.ensures.updates.0 q ∙ ap (λ b. cond (bytes_eq d.now q.now) true b) (c.loop-name.invariant.seen q) ∙ cond-true_or (bytes_eq d.now q.now) _ ∙ sym (ap (stands_in q.now) (map_more (λ (s : Bor (List ℕ)). s.now) c.args.names.now c.loop-name.name-index _ c.loop-name-test.true) ∙ stands_in-push q.now d.now _);
+      none_yet =
+          goes_on c.args.names.now c.loop-name.name-index _ c.loop-name-test.true is_out
+          c.loop-name.invariant.none_yet;
+      seen = λ q. c.in_ok-is_new.ensures.updates.0 q
+          ∙ ap (λ b. cond (bytes_eq d.now q.now) true b) (c.loop-name.invariant.seen q)
+          ∙ cond-true_or (bytes_eq d.now q.now) _
+          ∙ sym (ap (stands_in q.now)
+          (map_more (λ (s : Bor (List ℕ)). s.now) c.args.names.now c.loop-name.name-index _
+          c.loop-name-test.true) ∙ stands_in-push q.now d.now _);
     }

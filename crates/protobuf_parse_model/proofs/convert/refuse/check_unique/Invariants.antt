@@ -9,6 +9,10 @@ abbrev pub invariant-loop-name : goal.invariant-loop-name
 invariant-loop-name l =
     let texts = map (λ (s : Bor (List ℕ)). s.now) in
     record {
-      none_yet : duplicates (texts l.names) ≡ repeats_after (texts (take l.name-index l.names)) DuplicateName (texts (drop l.name-index l.names));
-      seen : (q : Bor (List ℕ)) → contains (λ (a b : Bor (List ℕ)). bytes_eq a.now b.now) l.seen q ≡ stands_in q.now (texts (take l.name-index l.names));
+      none_yet : duplicates (texts l.names)
+          ≡ repeats_after (texts (take l.name-index l.names)) DuplicateName
+          (texts (drop l.name-index l.names));
+      seen : (q : Bor (List ℕ))
+          → contains (λ (a b : Bor (List ℕ)). bytes_eq a.now b.now) l.seen q
+          ≡ stands_in q.now (texts (take l.name-index l.names));
     }

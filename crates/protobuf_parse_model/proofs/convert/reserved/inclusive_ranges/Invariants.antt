@@ -5,4 +5,5 @@ use Rattle.protobuf_parse_model.specs.Enums.{inclusive}
 use Rattle.protobuf_parse_model.proofs.convert.reserved.inclusive_ranges.Given as goal
 
 abbrev pub invariant-loop-range : goal.invariant-loop-range
-invariant-loop-range l = map enum_range_view l.found.items ≡ map inclusive (map range_view (take l.range-index l.ranges))
+invariant-loop-range l = map enum_range_view l.found.items
+    ≡ map inclusive (map range_view (take l.range-index l.ranges))

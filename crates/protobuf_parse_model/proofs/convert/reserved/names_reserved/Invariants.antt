@@ -4,4 +4,5 @@ use Rattle.protobuf_parse_model.specs.Enums.{names_reserved}
 use Rattle.protobuf_parse_model.proofs.convert.reserved.names_reserved.Given as goal
 
 abbrev pub invariant-loop-statement : goal.invariant-loop-statement
-invariant-loop-statement l = map string_bytes l.names.items ≡ flat_map names_reserved (reserves_seen (take l.statement-index l.statements))
+invariant-loop-statement l = map string_bytes l.names.items
+    ≡ flat_map names_reserved (reserves_seen (take l.statement-index l.statements))

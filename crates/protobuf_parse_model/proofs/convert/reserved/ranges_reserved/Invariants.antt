@@ -5,4 +5,5 @@ use Rattle.protobuf_parse_model.specs.Enums.{ranges_reserved}
 use Rattle.protobuf_parse_model.proofs.convert.reserved.ranges_reserved.Given as goal
 
 abbrev pub invariant-loop-statement : goal.invariant-loop-statement
-invariant-loop-statement l = map range_view l.ranges.items ≡ flat_map ranges_reserved (reserves_seen (take l.statement-index l.statements))
+invariant-loop-statement l = map range_view l.ranges.items
+    ≡ flat_map ranges_reserved (reserves_seen (take l.statement-index l.statements))

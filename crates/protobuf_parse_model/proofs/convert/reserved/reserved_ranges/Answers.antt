@@ -13,4 +13,8 @@ returns-in_err-reserved_range c =
     let i = c.loop-range.range-index in
     let s = get_or ranges i (record { from = pos 0; to = pos 0 }) in
     let lt = c.loop-range-test.true in
-    rw (p.1, p.2) (blames_at (range_faults c.args.name.now) range_view ranges i s c.in_err-reserved_range.field-0.0 lt (get_or_default ranges i (record { from = pos 0; to = pos 0 }) s lt) c.in_err-reserved_range.ensures)
+    rw (p.1, p.2)
+    (blames_at (range_faults c.args.name.now) range_view ranges i s
+    c.in_err-reserved_range.field-0.0 lt
+    (get_or_default ranges i (record { from = pos 0; to = pos 0 }) s lt)
+    c.in_err-reserved_range.ensures)

@@ -8,4 +8,8 @@ use Rattle.protobuf_parse_model.specs.declared.descriptor.ExtensionRange.{Extens
 use Rattle.protobuf_parse_model.proofs.convert.rest.extensions.Goals as goal
 
 pub returns : goal.returns
-returns c = subst (λ (rs : List RangeSyntax). Elaborates {X = Vec ExtensionRange} (λ v. map extension_range_view v.items) c.extension_ranges.result (flat_map (range_faults c.args.name.now) rs) (map exclusive rs)) (ap (map range_view) c.deref.ensures.value ∙ c.in_ok-ranges.ensures) c.extension_ranges.ensures
+returns c =
+    subst (λ (rs : List RangeSyntax). Elaborates {X = Vec ExtensionRange}
+    (λ v. map extension_range_view v.items) c.extension_ranges.result
+    (flat_map (range_faults c.args.name.now) rs) (map exclusive rs)) (ap
+    (map range_view) c.deref.ensures.value ∙ c.in_ok-ranges.ensures) c.extension_ranges.ensures

@@ -4,4 +4,5 @@ use Rattle.protobuf_parse_model.specs.Messages.{extension_ranges}
 use Rattle.protobuf_parse_model.proofs.convert.rest.ranges_of_extensions.Given as goal
 
 abbrev pub invariant-loop-statement : goal.invariant-loop-statement
-invariant-loop-statement l = map range_view l.ranges.items ≡ flat_map extension_ranges (map message_statement_view (take l.statement-index l.body))
+invariant-loop-statement l = map range_view l.ranges.items
+    ≡ flat_map extension_ranges (map message_statement_view (take l.statement-index l.body))

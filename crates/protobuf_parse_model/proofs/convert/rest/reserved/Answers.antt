@@ -7,4 +7,8 @@ use Rattle.protobuf_parse_model.specs.Messages.{exclusive, range_faults}
 use Rattle.protobuf_parse_model.proofs.convert.rest.reserved.Goals as goal
 
 pub returns : goal.returns
-returns c = subst (λ (rs : List ReservedSyntax). Elaborates reserved_parts c.reserved_by.result (flat_map (range_faults c.args.name.now) (flat_map ranges_reserved rs)) (map exclusive (flat_map ranges_reserved rs), flat_map names_reserved rs)) (ap reserves_seen c.deref.ensures.value ∙ c.in_ok-reserves.ensures) c.reserved_by.ensures
+returns c =
+    subst (λ (rs : List ReservedSyntax). Elaborates reserved_parts c.reserved_by.result
+    (flat_map (range_faults c.args.name.now) (flat_map ranges_reserved rs))
+    (map exclusive (flat_map ranges_reserved rs), flat_map names_reserved rs)) (ap reserves_seen
+    c.deref.ensures.value ∙ c.in_ok-reserves.ensures) c.reserved_by.ensures

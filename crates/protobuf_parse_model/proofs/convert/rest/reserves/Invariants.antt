@@ -5,4 +5,5 @@ use Rattle.protobuf_parse_model.specs.Messages.{reserves}
 use Rattle.protobuf_parse_model.proofs.convert.rest.reserves.Given as goal
 
 abbrev pub invariant-loop-statement : goal.invariant-loop-statement
-invariant-loop-statement l = reserves_seen l.reserves.items ≡ flat_map reserves (map message_statement_view (take l.statement-index l.body))
+invariant-loop-statement l = reserves_seen l.reserves.items
+    ≡ flat_map reserves (map message_statement_view (take l.statement-index l.body))

@@ -8,6 +8,8 @@ abbrev pub invariant-loop-method : goal.invariant-loop-method
 invariant-loop-method g l =
     let seen = methods_seen (take l.method-index l.methods) in
     record {
-      no_fault : flat_map (method_faults (environment_in (g.C.CustomOptions.customs l.custom) l.context)) seen ≡ [];
-      all : map method_view l.descriptors.items ≡ map (method_of (environment_in (g.C.CustomOptions.customs l.custom) l.context)) seen;
+      no_fault : flat_map
+          (method_faults (environment_in (g.C.CustomOptions.customs l.custom) l.context)) seen ≡ [];
+      all : map method_view l.descriptors.items
+          ≡ map (method_of (environment_in (g.C.CustomOptions.customs l.custom) l.context)) seen;
     }

@@ -5,4 +5,5 @@ use Rattle.protobuf_parse_model.specs.Services.{methods_in}
 use Rattle.protobuf_parse_model.proofs.convert.service.methods.Given as goal
 
 abbrev pub invariant-loop-statement : goal.invariant-loop-statement
-invariant-loop-statement l = methods_seen l.methods.items ≡ flat_map methods_in (map service_statement_view (take l.statement-index l.body))
+invariant-loop-statement l = methods_seen l.methods.items
+    ≡ flat_map methods_in (map service_statement_view (take l.statement-index l.body))

@@ -4,4 +4,5 @@ use Rattle.protobuf_parse_model.specs.Contexts.{methods_seen, texts}
 use Rattle.protobuf_parse_model.proofs.convert.service.names.Given as goal
 
 abbrev pub invariant-loop-method : goal.invariant-loop-method
-invariant-loop-method l = texts l.names.items ≡ map (λ (m : MethodSyntax). m.name) (methods_seen (take l.method-index l.methods))
+invariant-loop-method l = texts l.names.items
+    ≡ map (λ (m : MethodSyntax). m.name) (methods_seen (take l.method-index l.methods))

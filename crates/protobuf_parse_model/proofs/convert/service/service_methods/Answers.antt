@@ -9,4 +9,10 @@ use Rattle.protobuf_parse_model.specs.declared.descriptor.MethodDescriptorProto.
 use Rattle.protobuf_parse_model.proofs.convert.service.service_methods.Goals as goal
 
 pub returns : goal.returns
-returns g c = subst (λ (ms : List MethodSyntax). Elaborates {X = Vec MethodDescriptorProto} (λ v. map method_view v.items) c.unlike_methods.result (methods_faults (environment_in (g.C.CustomOptions.customs c.args.custom.now) c.args.context.now) ms) (map (method_of (environment_in (g.C.CustomOptions.customs c.args.custom.now) c.args.context.now)) ms)) (ap methods_seen c.deref.ensures.value ∙ c.in_ok-methods.ensures) c.unlike_methods.ensures
+returns g c =
+    subst (λ (ms : List MethodSyntax). Elaborates {X = Vec MethodDescriptorProto}
+    (λ v. map method_view v.items) c.unlike_methods.result
+    (methods_faults
+    (environment_in (g.C.CustomOptions.customs c.args.custom.now) c.args.context.now) ms) (map
+    (method_of (environment_in (g.C.CustomOptions.customs c.args.custom.now) c.args.context.now))
+    ms)) (ap methods_seen c.deref.ensures.value ∙ c.in_ok-methods.ensures) c.unlike_methods.ensures

@@ -5,5 +5,10 @@ use Rattle.protobuf_parse_model.proofs.convert.statement.declared_plain.Goals as
 pub returns : goal.returns
 returns g c =
     let customs = g.C.CustomOptions.customs c.args.custom.now in
-    let field = c.in_ok-field.ensures in
-    (field.0, both_are field.1 (entries_are customs c.args.context.now (field_view c.args.field.now) c.deref.result.now c.deref.ensures _ c.in_ok-behind.ensures.1))
+    let field = c.in_ok-field.ensures in (
+      field.0,
+      both_are field.1
+          (entries_are customs c.args.context.now
+          (field_view c.args.field.now) c.deref.result.now c.deref.ensures _
+          c.in_ok-behind.ensures.1),
+    )

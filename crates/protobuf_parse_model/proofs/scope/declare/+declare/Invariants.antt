@@ -11,5 +11,8 @@ invariant-add_message-loop-statement l =
     let name = string_bytes l.message.name in
     record {
       within : texts l.scope.items ≡ inside scope name;
-      adds : Adds type_entry l.fn.table l.table l.file (declare scope name a_message ∷ flat_map (types_of (inside scope name)) (map message_statement_view (take l.statement-index l.statement-items)));
+      adds : Adds type_entry l.fn.table l.table l.file
+          (declare scope name a_message
+          ∷ flat_map (types_of (inside scope name))
+          (map message_statement_view (take l.statement-index l.statement-items)));
     }

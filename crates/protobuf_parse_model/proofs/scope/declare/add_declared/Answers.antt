@@ -9,5 +9,9 @@ use Rattle.protobuf_parse_model.proofs.scope.declare.add_declared.Goals as goal
 pub returns-in-Enumeration-clause-adds : goal.returns-in-Enumeration-clause-adds
 returns-in-Enumeration-clause-adds c =
     let outer = texts c.args.scope.now.items in
-    let is : declare (texts c.deref.result.now) c.deref-in-Enumeration.result.now an_enum ∷ [] ≡ statement_types outer (statement_view c.args.statement.now) = rw (c.deref.ensures.value, c.deref-in-Enumeration.ensures, c.in-Enumeration.is) refl in
-    on_ok_weaker c.add_type.result (subst (λ (ds : List DeclaredType). Adds type_entry c.args.table.now c.add_type.new.table c.args.file ds) is) c.add_type.ensures
+    let is : declare (texts c.deref.result.now) c.deref-in-Enumeration.result.now an_enum ∷ []
+    ≡ statement_types outer (statement_view c.args.statement.now) =
+    rw (c.deref.ensures.value, c.deref-in-Enumeration.ensures, c.in-Enumeration.is) refl in
+    on_ok_weaker c.add_type.result
+    (subst (λ (ds : List DeclaredType). Adds type_entry c.args.table.now c.add_type.new.table
+    c.args.file ds) is) c.add_type.ensures

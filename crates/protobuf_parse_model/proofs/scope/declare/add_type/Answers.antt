@@ -16,4 +16,8 @@ returns c =
       | in-Message w ↦ w.kind-is ∙ ap (λ k. kind_of (kind_view k)) (sym w.in-Message.is)
       | in-Enum w ↦ w.kind-is ∙ ap (λ k. kind_of (kind_view k)) (sym w.in-Enum.is)
     ] in
-    on_ok_weaker c.add_name.result (λ one. adds_single type_entry c.args.table.now c.add_name.new.table full c.args.file (declare scope c.args.name.now (kind_view c.args.kind)) (subst (λ (k : DeclarationKind). AddsOne c.args.table.now c.add_name.new.table full (record { file = c.args.file; kind = k })) same one) refl) c.add_name.ensures
+    on_ok_weaker c.add_name.result
+    (λ one. adds_single type_entry c.args.table.now c.add_name.new.table full c.args.file
+    (declare scope c.args.name.now (kind_view c.args.kind))
+    (subst (λ (k : DeclarationKind). AddsOne c.args.table.now c.add_name.new.table full
+    (record { file = c.args.file; kind = k })) same one) refl) c.add_name.ensures

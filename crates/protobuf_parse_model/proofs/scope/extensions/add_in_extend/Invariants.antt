@@ -6,4 +6,12 @@ use Rattle.protobuf_parse_model.specs.Tables.{Adds, extension_entry}
 use Rattle.protobuf_parse_model.proofs.scope.extensions.add_in_extend.Given as goal
 
 abbrev pub invariant-loop-statement : goal.invariant-loop-statement
-invariant-loop-statement l = Adds extension_entry l.fn.table l.table l.file (extend_extensions (texts l.scope) (record { place = l.extend.place; extendee = (extend_view l.extend).extendee; fields = map field_statement_view (take l.statement-index l.statement-items) }))
+invariant-loop-statement l =
+    Adds extension_entry l.fn.table l.table l.file
+    (extend_extensions (texts l.scope)
+    (record {
+      place = l.extend.place;
+      extendee = (extend_view l.extend).extendee;
+      fields =
+          map field_statement_view (take l.statement-index l.statement-items);
+    }))

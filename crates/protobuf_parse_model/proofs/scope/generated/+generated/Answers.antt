@@ -14,21 +14,36 @@ pub add_in_message-loop-statement-preserved : goal.add_in_message-loop-statement
 add_in_message-loop-statement-preserved t c =
     let scope = inside (texts c.args.scope.now.items) (string_bytes c.args.message.now.name) in
     let within = c.loop-statement.invariant.within in
-    let more = subst (λ (s : Scope). Adds generated_entry c.loop-statement.table c.add_in_body.new.table c.args.file (generated_of s (message_statement_view c.statement-item.result))) within c.in_ok-add_in_body.ensures.adds in
+    let more = subst
+    (λ (s : Scope). Adds generated_entry c.loop-statement.table c.add_in_body.new.table
+    c.args.file (generated_of s (message_statement_view c.statement-item.result))) within
+    c.in_ok-add_in_body.ensures.adds in
     record {
       within = c.in_ok-add_in_body.ensures.scope ∙ within;
-      adds = adds_next generated_entry c.args.table.now c.loop-statement.table c.add_in_body.new.table c.args.file (generated_of scope) message_statement_view [] c.deref-statement-items.result.now c.loop-statement.statement-index c.statement-item.result c.loop-statement-test.true c.statement-item.is c.loop-statement.invariant.adds more;
+      adds = adds_next generated_entry c.args.table.now c.loop-statement.table
+          c.add_in_body.new.table c.args.file (generated_of scope) message_statement_view
+          [] c.deref-statement-items.result.now c.loop-statement.statement-index
+          c.statement-item.result c.loop-statement-test.true c.statement-item.is
+          c.loop-statement.invariant.adds more;
     }
 
 pub add_in_message-returns-clause-adds : goal.add_in_message-returns-clause-adds
 add_in_message-returns-clause-adds t c =
     let outer = texts c.args.scope.now.items in
-    let items = take_all c.loop-statement.statement-index c.deref-statement-items.result.now c.loop-statement-test.false ∙ c.deref-statement-items.ensures.value in
-    let is = ap (λ (xs : List MessageStatement). flat_map (generated_of (inside outer (string_bytes c.args.message.now.name))) (map message_statement_view xs)) items ∙ sym (generated-view outer c.args.message.now) in
-    subst (λ (ds : List Text). Adds generated_entry c.args.table.now c.loop-statement.table c.args.file ds) is c.loop-statement.invariant.adds
+    let items = take_all c.loop-statement.statement-index c.deref-statement-items.result.now
+    c.loop-statement-test.false ∙ c.deref-statement-items.ensures.value in
+    let is =
+    ap (λ (xs : List MessageStatement). flat_map
+    (generated_of (inside outer (string_bytes c.args.message.now.name)))
+    (map message_statement_view xs)) items ∙ sym (generated-view outer c.args.message.now) in
+    subst (λ (ds : List Text). Adds generated_entry c.args.table.now c.loop-statement.table
+    c.args.file ds) is c.loop-statement.invariant.adds
 
 pub add_in_body-returns-in-Message-clause-adds : goal.add_in_body-returns-in-Message-clause-adds
 add_in_body-returns-in-Message-clause-adds t c =
     let scope = texts c.args.scope.now.items in
-    let is = sym (generated_of-view scope c.in-Message.message) ∙ ap (λ s. generated_of scope (message_statement_view s)) (sym c.in-Message.is) in
-    on_ok_weaker c.add_in_message.result (subst (λ (ds : List Text). Adds generated_entry c.args.table.now c.add_in_message.new.table c.args.file ds) is) c.add_in_message.ensures.adds
+    let is = sym (generated_of-view scope c.in-Message.message)
+    ∙ ap (λ s. generated_of scope (message_statement_view s)) (sym c.in-Message.is) in
+    on_ok_weaker c.add_in_message.result
+    (subst (λ (ds : List Text). Adds generated_entry c.args.table.now c.add_in_message.new.table
+    c.args.file ds) is) c.add_in_message.ensures.adds

@@ -10,5 +10,7 @@ invariant-add_in_message-loop-statement l =
     let scope = inside (texts l.fn.scope.items) (string_bytes l.message.name) in
     record {
       within : texts l.scope.items ≡ scope;
-      adds : Adds generated_entry l.fn.table l.table l.file (flat_map (generated_of scope) (map message_statement_view (take l.statement-index l.statement-items)));
+      adds : Adds generated_entry l.fn.table l.table l.file
+          (flat_map (generated_of scope)
+          (map message_statement_view (take l.statement-index l.statement-items)));
     }

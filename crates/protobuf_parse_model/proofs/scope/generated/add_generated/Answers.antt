@@ -9,8 +9,15 @@ use Rattle.protobuf_parse_model.proofs.scope.generated.add_generated.Goals as go
 pub loop-statement-preserved : goal.loop-statement-preserved
 loop-statement-preserved c =
     let within = c.loop-statement.invariant.within in
-    let more = subst (λ (s : Scope). Adds generated_entry c.loop-statement.table c.add_in_file.new.table c.args.file (statement_generated s (statement_view c.statement-item.result))) within c.in_ok-add_in_file.ensures.adds in
+    let more = subst
+    (λ (s : Scope). Adds generated_entry c.loop-statement.table c.add_in_file.new.table
+    c.args.file (statement_generated s (statement_view c.statement-item.result))) within
+    c.in_ok-add_in_file.ensures.adds in
     record {
       within = c.in_ok-add_in_file.ensures.scope ∙ within;
-      adds = adds_next generated_entry c.args.table.now c.loop-statement.table c.add_in_file.new.table c.args.file (statement_generated (texts c.args.scope.now.items)) statement_view [] c.args.statements.now c.loop-statement.statement-index c.statement-item.result c.loop-statement-test.true c.statement-item.is c.loop-statement.invariant.adds more;
+      adds = adds_next generated_entry c.args.table.now c.loop-statement.table
+          c.add_in_file.new.table c.args.file
+          (statement_generated (texts c.args.scope.now.items)) statement_view
+          [] c.args.statements.now c.loop-statement.statement-index c.statement-item.result
+          c.loop-statement-test.true c.statement-item.is c.loop-statement.invariant.adds more;
     }

@@ -10,5 +10,7 @@ invariant-loop-statement l =
     let scope = texts l.fn.scope.items in
     record {
       within : texts l.scope.items ≡ scope;
-      adds : Adds generated_entry l.fn.table l.table l.file (flat_map (statement_generated scope) (map statement_view (take l.statement-index l.statements)));
+      adds : Adds generated_entry l.fn.table l.table l.file
+          (flat_map (statement_generated scope)
+          (map statement_view (take l.statement-index l.statements)));
     }

@@ -6,4 +6,7 @@ use Rattle.protobuf_parse_model.specs.Tables.{Adds, generated_entry}
 use Rattle.protobuf_parse_model.proofs.scope.generated.add_in_extend.Given as goal
 
 abbrev pub invariant-loop-statement : goal.invariant-loop-statement
-invariant-loop-statement l = Adds generated_entry l.fn.table l.table l.file (flat_map (generated_by (texts l.scope)) (map field_statement_view (take l.statement-index l.statement-items)))
+invariant-loop-statement l =
+    Adds generated_entry l.fn.table l.table l.file
+    (flat_map (generated_by (texts l.scope))
+    (map field_statement_view (take l.statement-index l.statement-items)))

@@ -9,5 +9,10 @@ use Rattle.protobuf_parse_model.proofs.scope.generated.add_in_file.Goals as goal
 
 pub returns-in-Extend-clause-adds : goal.returns-in-Extend-clause-adds
 returns-in-Extend-clause-adds c =
-    let is : flat_map (generated_by (texts c.deref.result.now)) (extend_view c.in-Extend.extend).fields ≡ statement_generated (texts c.args.scope.now.items) (statement_view c.args.statement.now) = rw (c.deref.ensures.value, c.in-Extend.is) refl in
-    on_ok_weaker c.add_in_extend.result (subst (λ (ds : List Text). Adds generated_entry c.args.table.now c.add_in_extend.new.table c.args.file ds) is) c.add_in_extend.ensures
+    let is : flat_map (generated_by (texts c.deref.result.now))
+    (extend_view c.in-Extend.extend).fields
+    ≡ statement_generated (texts c.args.scope.now.items) (statement_view c.args.statement.now) =
+    rw (c.deref.ensures.value, c.in-Extend.is) refl in
+    on_ok_weaker c.add_in_extend.result
+    (subst (λ (ds : List Text). Adds generated_entry c.args.table.now c.add_in_extend.new.table
+    c.args.file ds) is) c.add_in_extend.ensures

@@ -11,11 +11,23 @@ use Rattle.protobuf_parse_model.proofs.Tables.{adds_next, flat_map-inside}
 use Rattle.protobuf_parse_model.proofs.scope.generated.add_in_oneof.Goals as goal
 
 pub loop-statement-preserved : goal.loop-statement-preserved
-loop-statement-preserved c = adds_next generated_entry c.args.table.now c.loop-statement.table c.add_of_choice.new.table c.args.file (λ (s : OneofStatementSyntax). flat_map (generated_by (texts c.args.scope.now)) (oneof_fields s)) oneof_statement_view [] c.deref-statement-items.result.now c.loop-statement.statement-index c.statement-item.result c.loop-statement-test.true c.statement-item.is c.loop-statement.invariant c.in_ok-add_of_choice.ensures
+loop-statement-preserved c =
+    adds_next generated_entry c.args.table.now c.loop-statement.table c.add_of_choice.new.table
+    c.args.file
+    (λ (s : OneofStatementSyntax). flat_map (generated_by (texts c.args.scope.now))
+    (oneof_fields s)) oneof_statement_view [] c.deref-statement-items.result.now
+    c.loop-statement.statement-index c.statement-item.result c.loop-statement-test.true
+    c.statement-item.is c.loop-statement.invariant c.in_ok-add_of_choice.ensures
 
 pub returns : goal.returns
 returns c =
     let by = generated_by (texts c.args.scope.now) in
-    let items = take_all c.loop-statement.statement-index c.deref-statement-items.result.now c.loop-statement-test.false ∙ c.deref-statement-items.ensures.value in
-    let is = ap (λ (xs : List OneOfStatement). flat_map (λ (s : OneofStatementSyntax). flat_map by (oneof_fields s)) (map oneof_statement_view xs)) items ∙ flat_map-inside by oneof_fields (map oneof_statement_view c.args.oneof.now.body.items) in
-    subst (λ (ds : List Text). Adds generated_entry c.args.table.now c.loop-statement.table c.args.file ds) is c.loop-statement.invariant
+    let items = take_all c.loop-statement.statement-index c.deref-statement-items.result.now
+    c.loop-statement-test.false ∙ c.deref-statement-items.ensures.value in
+    let is =
+    ap (λ (xs : List OneOfStatement). flat_map
+    (λ (s : OneofStatementSyntax). flat_map by (oneof_fields s)) (map oneof_statement_view xs))
+    items ∙ flat_map-inside by oneof_fields
+    (map oneof_statement_view c.args.oneof.now.body.items) in
+    subst (λ (ds : List Text). Adds generated_entry c.args.table.now c.loop-statement.table
+    c.args.file ds) is c.loop-statement.invariant

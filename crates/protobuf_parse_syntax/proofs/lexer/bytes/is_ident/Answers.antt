@@ -7,4 +7,5 @@ use Rattle.protobuf_parse_syntax.specs.Text.{is_in}
 use Rattle.protobuf_parse_syntax.proofs.lexer.bytes.is_ident.Goals as goal
 
 pub returns : goal.returns
-returns c = agree_below_at (λ k. not (nat_eq (get_or IDENT_MAP k 0) 44)) (is_in class.Ident) 256 c.args.byte refl (omega arith)
+returns c = agree_below_at (λ k. not (nat_eq (get_or IDENT_MAP k 0) 44))
+    (is_in class.Ident) 256 c.args.byte refl (omega arith)

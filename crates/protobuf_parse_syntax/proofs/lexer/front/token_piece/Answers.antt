@@ -4,5 +4,8 @@ use Rattle.protobuf_parse_syntax.proofs.lexer.front.token_piece.Goals as goal
 
 pub returns-then-is_in-3 : goal.returns-then-is_in-3
 returns-then-is_in-3 c =
-    let ident = c.ident_end.ensures in
-    (ident.0, long_ident c.args.text.now c.ident_end.result (sym c.if-is_in-3.ensures) (sym c.if-is_in.ensures) ident)
+    let ident = c.ident_end.ensures in (
+      ident.0,
+      long_ident c.args.text.now c.ident_end.result (sym c.if-is_in-3.ensures)
+          (sym c.if-is_in.ensures) ident,
+    )

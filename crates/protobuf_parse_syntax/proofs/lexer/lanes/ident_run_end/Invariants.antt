@@ -4,7 +4,8 @@ use Rattle.protobuf_parse_syntax.specs.declared.lexer.bytes.ByteClass.TheVariant
 use Rattle.protobuf_parse_syntax.proofs.lexer.lanes.ident_run_end.Given as goal
 
 abbrev pub invariant-by_block : goal.invariant-by_block
-invariant-by_block l = (l.at ≤ l.end) × (l.end ≤ length l.bytes) × AllIn class.Ident l.bytes l.at l.end
+invariant-by_block l = (l.at ≤ l.end) × (l.end ≤ length l.bytes)
+    × AllIn class.Ident l.bytes l.at l.end
 
 abbrev pub decreases-by_block : goal.decreases-by_block
 decreases-by_block l = length l.bytes - l.end

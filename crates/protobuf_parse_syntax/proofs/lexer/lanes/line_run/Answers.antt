@@ -10,6 +10,7 @@ pub returns : goal.returns
 returns c =
     let v = chunk c.args.at 16 c.args.bytes.now in
     let long = length-chunk c.args.at 16 c.args.bytes.now c.requires in
-    run_in (is_in class.Line) c.args.bytes.now c.args.at 16 _ _ c.requires (omega arith) c.type_inv.bytes c.first_set.ensures _
+    run_in (is_in class.Line) c.args.bytes.now c.args.at 16 _ _ c.requires
+    (omega arith) c.type_inv.bytes c.first_set.ensures _
     (zip2_splat {Y = ℕ} _ v 16 10 long)
     refl

@@ -9,6 +9,9 @@ pub returns : goal.returns
 returns c =
     let v = chunk c.args.at 16 c.args.bytes.now in
     let long = length-chunk c.args.at 16 c.args.bytes.now c.requires in
-    run_in is_plain c.args.bytes.now c.args.at 16 _ _ c.requires (omega arith) c.type_inv.bytes c.first_set.ensures _
-    (joined bit_or _ _ v (joined (λ a b. cond (leb a b) 255 0) _ _ v (splat_is v 16 128 long) (itself v)) (zip2_splat {Y = ℕ} _ v 16 10 long))
+    run_in is_plain c.args.bytes.now c.args.at 16 _ _ c.requires
+    (omega arith) c.type_inv.bytes c.first_set.ensures _
+    (joined bit_or _ _ v
+    (joined (λ a b. cond (leb a b) 255 0) _ _ v (splat_is v 16 128 long) (itself v))
+    (zip2_splat {Y = ℕ} _ v 16 10 long))
     refl

@@ -8,8 +8,11 @@ pub loop-at-preserved-then-at-bytes : goal.loop-at-preserved-then-at-bytes
 loop-at-preserved-then-at-bytes c =
     let z = c.args.bytes.now in
     let end = c.plain_run_end-end.result in
-    let run = run_place c.args.place c.loop-at.now z c.loop-at.at end c.loop-at.invariant.0 c.plain_run_end-end.ensures.after c.plain_run_end-end.ensures.within c.plain_run_end-end.ensures.passes in (
-      c.step-now.ensures.value ∙ ap (λ (q : Place). step q (get_or z end 0)) run ∙ sym (after_next c.args.place z end (omega arith)),
+    let run = run_place c.args.place c.loop-at.now z c.loop-at.at end c.loop-at.invariant.0
+    c.plain_run_end-end.ensures.after c.plain_run_end-end.ensures.within
+    c.plain_run_end-end.ensures.passes in (
+      c.step-now.ensures.value ∙ ap (λ (q : Place). step q (get_or z end 0)) run
+          ∙ sym (after_next c.args.place z end (omega arith)),
       omega arith,
       omega arith,
       omega arith,
@@ -17,7 +20,9 @@ loop-at-preserved-then-at-bytes c =
 
 pub loop-at-preserved : goal.loop-at-preserved
 loop-at-preserved c = (
-  run_place c.args.place c.loop-at.now c.args.bytes.now c.loop-at.at c.plain_run_end-end.result c.loop-at.invariant.0 c.plain_run_end-end.ensures.after c.plain_run_end-end.ensures.within c.plain_run_end-end.ensures.passes,
+  run_place c.args.place c.loop-at.now c.args.bytes.now c.loop-at.at c.plain_run_end-end.result
+      c.loop-at.invariant.0 c.plain_run_end-end.ensures.after c.plain_run_end-end.ensures.within
+      c.plain_run_end-end.ensures.passes,
   omega arith,
   omega arith,
   omega arith,

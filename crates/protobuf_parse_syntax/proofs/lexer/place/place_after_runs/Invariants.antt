@@ -4,7 +4,8 @@ use Rattle.protobuf_parse_syntax.proofs.lexer.place.place_after_runs.Given as go
 
 abbrev pub invariant-loop-at : goal.invariant-loop-at
 invariant-loop-at l =
-    (l.now ≡ after l.fn.place (take l.at l.bytes)) × (l.at ≤ length l.bytes) × (l.now.line ≤ l.fn.place.line + l.at) × (l.now.col ≤ l.fn.place.col + l.at)
+    (l.now ≡ after l.fn.place (take l.at l.bytes)) × (l.at ≤ length l.bytes)
+    × (l.now.line ≤ l.fn.place.line + l.at) × (l.now.col ≤ l.fn.place.col + l.at)
 
 abbrev pub decreases-loop-at : goal.decreases-loop-at
 decreases-loop-at l = length l.bytes - l.at

@@ -8,7 +8,9 @@ use Rattle.protobuf_parse_syntax.proofs.lexer.str_lit.char_escape.Goals as goal
 
 pub digits_value-requires-clause-each : goal.digits_value-requires-clause-each
 digits_value-requires-clause-each c =
-    in_range c.args.text.now 2 c.args.end (digits_of_front class.Hex c.args.text.now 2 c.args.end c.run_end.result (omega arith) c.run_end.ensures.passes) (omega arith) (omega arith)
+    in_range c.args.text.now 2 c.args.end
+    (digits_of_front class.Hex c.args.text.now 2 c.args.end c.run_end.result
+    (omega arith) c.run_end.ensures.passes) (omega arith) (omega arith)
 
 pub returns : goal.returns
 returns c =
@@ -16,7 +18,8 @@ returns c =
     let made = c.in_ok-character.ensures.value in
     record {
       within = omega arith;
-      each = digits_of_front class.Hex c.args.text.now 2 c.args.end c.run_end.result (omega arith) c.run_end.ensures.passes;
+      each = digits_of_front class.Hex c.args.text.now 2 c.args.end c.run_end.result
+          (omega arith) c.run_end.ensures.passes;
       scalar = subst IsScalar value made.0;
       is = ap (λ x. record { len = c.args.end; meaning = meaning.Char x }) (made.1 ∙ value);
     }

@@ -4,4 +4,5 @@ use Rattle.protobuf_parse_syntax.proofs.lexer.str_lit.unquoted.Goals as goal
 
 pub range-requires-clause-start_boundary : goal.range-requires-clause-start_boundary
 range-requires-clause-start_boundary c =
-    λ _. after_quote c.args.text.now c.as_bytes-bytes.result.now c.utf8.text c.as_bytes-bytes.ensures.value (sym c.if-is_quote.ensures) (omega arith)
+    λ _. after_quote c.args.text.now c.as_bytes-bytes.result.now c.utf8.text
+    c.as_bytes-bytes.ensures.value (sym c.if-is_quote.ensures) (omega arith)

@@ -2,7 +2,8 @@ use Rattle.std.proofs.Common.{◌≡◌, List, map, ◌+◌, ◌*◌}
 use Rattle.protobuf_parse_base.specs.Pairs.{both}
 use Rattle.protobuf_parse_base.specs.Readers.{size, run_many}
 use Rattle.protobuf_parse_base.specs.Loops.{with_rest}
-use Rattle.protobuf_parse_syntax.specs.Trees.{ConstantFieldSyntax, constant_view, constant_field_view}
+use Rattle.protobuf_parse_syntax.specs.Trees.{ConstantFieldSyntax, constant_view}
+use Rattle.protobuf_parse_syntax.specs.Trees.{constant_field_view}
 use Rattle.protobuf_parse_syntax.specs.Nested as nest
 use Rattle.protobuf_parse_syntax.specs.Code.{left}
 use Rattle.protobuf_parse_syntax.proofs.Loops.{listed}
@@ -33,13 +34,19 @@ abbrev pub decreases-field_value : goal.decreases-field_value
 decreases-field_value l = 6 * l.levels + 1
 
 abbrev pub invariant-constants-others : goal.invariant-constants-others
-invariant-constants-others l = (nest.constants_of (both (nest.constant l.levels))).low.run (left l.fn.tokens) ≡ listed (nest.constant l.levels) (map constant_view l.items.items) (left l.tokens)
+invariant-constants-others l = (nest.constants_of (both (nest.constant l.levels))).low.run
+    (left l.fn.tokens) ≡ listed (nest.constant l.levels) (map constant_view l.items.items)
+    (left l.tokens)
 
 abbrev pub decreases-constants-others : goal.decreases-constants-others
 decreases-constants-others l = size (left l.tokens)
 
 abbrev pub invariant-constant_fields-fields : goal.invariant-constant_fields-fields
-invariant-constant_fields-fields l = (nest.constant_fields_of (both (nest.constant l.levels))).low.run (left l.fn.tokens) ≡ with_rest (λ (v : List ConstantFieldSyntax). v) (λ (v : List ConstantFieldSyntax). v) (map constant_field_view l.fields.items) (run_many (nest.constant_field_of (both (nest.constant l.levels))).low (left l.tokens))
+invariant-constant_fields-fields l =
+    (nest.constant_fields_of (both (nest.constant l.levels))).low.run (left l.fn.tokens)
+    ≡ with_rest (λ (v : List ConstantFieldSyntax). v) (λ (v : List ConstantFieldSyntax). v)
+    (map constant_field_view l.fields.items)
+    (run_many (nest.constant_field_of (both (nest.constant l.levels))).low (left l.tokens))
 
 abbrev pub decreases-constant_fields-fields : goal.decreases-constant_fields-fields
 decreases-constant_fields-fields l = size (left l.tokens)

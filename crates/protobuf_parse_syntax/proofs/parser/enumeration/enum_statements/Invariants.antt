@@ -8,7 +8,9 @@ use Rattle.protobuf_parse_syntax.specs.Code.{left}
 use Rattle.protobuf_parse_syntax.proofs.parser.enumeration.enum_statements.Given as goal
 
 abbrev pub invariant-items : goal.invariant-items
-invariant-items l = (nest.enum_items l.levels).low.run (left l.fn.tokens) ≡ with_rest somes (λ (v : List EnumStatementSyntax). v) (map enum_statement_view l.body.items) (run_many (nest.enum_item l.levels).low (left l.tokens))
+invariant-items l = (nest.enum_items l.levels).low.run (left l.fn.tokens)
+    ≡ with_rest somes (λ (v : List EnumStatementSyntax). v) (map enum_statement_view l.body.items)
+    (run_many (nest.enum_item l.levels).low (left l.tokens))
 
 abbrev pub decreases-items : goal.decreases-items
 decreases-items l = size (left l.tokens)

@@ -7,7 +7,9 @@ use Rattle.protobuf_parse_syntax.specs.Code.{left}
 use Rattle.protobuf_parse_syntax.proofs.parser.enumeration.names.Given as goal
 
 abbrev pub invariant-others : goal.invariant-others
-invariant-others l = read.names.run (left l.fn.tokens) ≡ with_rest (λ (v : List Bytes). v) (λ (v : List Bytes). v) (map string_bytes l.names.items) (run_many read.comma_name (left l.tokens))
+invariant-others l = read.names.run (left l.fn.tokens)
+    ≡ with_rest (λ (v : List Bytes). v) (λ (v : List Bytes). v) (map string_bytes l.names.items)
+    (run_many read.comma_name (left l.tokens))
 
 abbrev pub decreases-others : goal.decreases-others
 decreases-others l = size (left l.tokens)

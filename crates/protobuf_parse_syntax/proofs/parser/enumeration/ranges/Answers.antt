@@ -12,21 +12,42 @@ use Rattle.protobuf_parse_syntax.proofs.parser.enumeration.ranges.Goals as goal
 
 pub returns-in_err-range-2 : goal.returns-in_err-range-2
 returns-in_err-range-2 c =
-    let p = err_from_is_err_and c.from_residual-in_err-range-2.result c.from_residual-in_err-range-2.ensures.1 in
-    rw (p.1, p.2) (fails read.comma_range refl (λ (v : List RangeSyntax). v) shows_themselves (λ (v : List RangeSyntax). v) (map range_view c.others.ranges.items) (left c.others.tokens) (left c.comma_range.new.tokens) c.in_err-range-2.field-0.0 _ (sym c.sees_symbol.ensures ∙ c.others-test.true) c.in_err-range-2.ensures c.others.invariant)
+    let p = err_from_is_err_and c.from_residual-in_err-range-2.result
+    c.from_residual-in_err-range-2.ensures.1 in
+    rw (p.1, p.2)
+    (fails read.comma_range refl (λ (v : List RangeSyntax). v) shows_themselves
+    (λ (v : List RangeSyntax). v) (map range_view c.others.ranges.items) (left c.others.tokens)
+    (left c.comma_range.new.tokens) c.in_err-range-2.field-0.0 _
+    (sym c.sees_symbol.ensures ∙ c.others-test.true) c.in_err-range-2.ensures
+    c.others.invariant)
 
 pub others-preserved : goal.others-preserved
 others-preserved c =
-    let e : map range_view c.push-in-others.new.self.items ≡ map range_view c.others.ranges.items ++ range_view c.in_ok-range-2.range ∷ [] = ap (map range_view) c.in_ok-push-2.ensures.items ∙ map_push range_view c.others.ranges.items c.in_ok-range-2.range in
-    goes_on read.comma_range refl (λ (v : List RangeSyntax). v) shows_themselves (λ (v : List RangeSyntax). v) (map range_view c.others.ranges.items) _ (left c.others.tokens) (range_view c.in_ok-range-2.range) (left c.comma_range.new.tokens) _ (sym c.sees_symbol.ensures ∙ c.others-test.true) c.in_ok-range-2.ensures e c.others.invariant
+    let e : map range_view c.push-in-others.new.self.items ≡ map range_view c.others.ranges.items
+    ++ range_view c.in_ok-range-2.range ∷ [] = ap (map range_view) c.in_ok-push-2.ensures.items
+    ∙ map_push range_view c.others.ranges.items c.in_ok-range-2.range in
+    goes_on read.comma_range refl (λ (v : List RangeSyntax). v) shows_themselves
+    (λ (v : List RangeSyntax). v) (map range_view c.others.ranges.items) _
+    (left c.others.tokens) (range_view c.in_ok-range-2.range) (left c.comma_range.new.tokens) _
+    (sym c.sees_symbol.ensures ∙ c.others-test.true) c.in_ok-range-2.ensures e
+    c.others.invariant
 
 pub returns : goal.returns
-returns c = stops_here read.comma_range refl (λ (v : List RangeSyntax). v) shows_themselves (λ (v : List RangeSyntax). v) (map range_view c.others.ranges.items) (left c.others.tokens) _ (sym c.sees_symbol.ensures ∙ c.others-test.false) c.others.invariant
+returns c = stops_here read.comma_range refl (λ (v : List RangeSyntax). v) shows_themselves
+    (λ (v : List RangeSyntax). v) (map range_view c.others.ranges.items) (left c.others.tokens) _
+    (sym c.sees_symbol.ensures ∙ c.others-test.false) c.others.invariant
 
 pub others-init : goal.others-init
 others-init c =
-    let e : map range_view c.push.new.self.items ≡ [] ++ range_view c.in_ok-range.field-0 ∷ [] = ap (map range_view) (c.in_ok-push.ensures.items ∙ ap (λ (v : List _). v ++ c.in_ok-range.field-0 ∷ []) c.new-ranges.ensures.items) in
-    ranges_first (left c.args.tokens.now) (left c.range.new.tokens) (range_view c.in_ok-range.field-0) c.in_ok-range.ensures ∙ ap (λ (v : List RangeSyntax). with_rest (λ (x : List RangeSyntax). x) (λ (x : List RangeSyntax). x) v (run_many read.comma_range (left c.range.new.tokens))) (sym e)
+    let e : map range_view c.push.new.self.items ≡ [] ++ range_view c.in_ok-range.field-0
+    ∷ [] = ap (map range_view) (c.in_ok-push.ensures.items
+    ∙ ap (λ (v : List _). v ++ c.in_ok-range.field-0 ∷ []) c.new-ranges.ensures.items) in
+    ranges_first (left c.args.tokens.now) (left c.range.new.tokens)
+    (range_view c.in_ok-range.field-0) c.in_ok-range.ensures
+    ∙ ap (λ (v : List RangeSyntax). with_rest (λ (x : List RangeSyntax). x)
+    (λ (x : List RangeSyntax). x) v
+    (run_many read.comma_range (left c.range.new.tokens))) (sym e)
 
 pub others-smaller : goal.others-smaller
-others-smaller c = shorter read.comma_range refl (left c.others.tokens) (range_view c.in_ok-range-2.range) (left c.comma_range.new.tokens) c.in_ok-range-2.ensures
+others-smaller c = shorter read.comma_range refl (left c.others.tokens)
+    (range_view c.in_ok-range-2.range) (left c.comma_range.new.tokens) c.in_ok-range-2.ensures

@@ -7,7 +7,9 @@ use Rattle.protobuf_parse_syntax.specs.Code.{left}
 use Rattle.protobuf_parse_syntax.proofs.parser.enumeration.ranges.Given as goal
 
 abbrev pub invariant-others : goal.invariant-others
-invariant-others l = read.ranges.run (left l.fn.tokens) ≡ with_rest (λ (v : List RangeSyntax). v) (λ (v : List RangeSyntax). v) (map range_view l.ranges.items) (run_many read.comma_range (left l.tokens))
+invariant-others l = read.ranges.run (left l.fn.tokens)
+    ≡ with_rest (λ (v : List RangeSyntax). v) (λ (v : List RangeSyntax). v)
+    (map range_view l.ranges.items) (run_many read.comma_range (left l.tokens))
 
 abbrev pub decreases-others : goal.decreases-others
 decreases-others l = size (left l.tokens)

@@ -7,40 +7,81 @@ use Rattle.protobuf_parse_syntax.specs.Trees.{FieldStatementSyntax, field_statem
 use Rattle.protobuf_parse_syntax.specs.Nested as nest
 use Rattle.protobuf_parse_syntax.specs.Code.{left, seen_by, Gives, fails_first}
 use Rattle.protobuf_parse_syntax.proofs.Loops.{pushed, fails}
-use Rattle.protobuf_parse_syntax.proofs.Fields.{field_absent, field_labelled, field_mapped, field_unlabelled, field_items_law, field_block_law}
+use Rattle.protobuf_parse_syntax.proofs.Fields.{field_absent, field_labelled, field_mapped}
+use Rattle.protobuf_parse_syntax.proofs.Fields.{field_unlabelled, field_items_law, field_block_law}
 use Rattle.protobuf_parse_syntax.proofs.parser.field.+field.Goals as goal
 
 pub field_of-returns-then-not-begins_field : goal.field_of-returns-then-not-begins_field
-field_of-returns-then-not-begins_field t c = field_absent c.args.syntax c.args.inner (left c.args.tokens.now) c.field_fault.result (sym c.begins_field.ensures ∙ c.if-not-begins_field.true) c.field_fault.ensures
+field_of-returns-then-not-begins_field t c =
+    field_absent c.args.syntax c.args.inner (left c.args.tokens.now) c.field_fault.result
+    (sym c.begins_field.ensures ∙ c.if-not-begins_field.true) c.field_fault.ensures
 
 pub field_of-returns-in-Some : goal.field_of-returns-in-Some
-field_of-returns-in-Some t c = subst (λ r. Gives field_statement_view c.after_label.result (left c.after_label.new.tokens) r) (sym (field_labelled c.args.syntax c.args.levels c.args.inner (left c.args.tokens.now) (left c.label.new.tokens) c.place-place.result c.in-Some.label c.requires c.place-place.ensures c.in-Some.ensures)) c.after_label.ensures
+field_of-returns-in-Some t c =
+    subst (λ r. Gives field_statement_view c.after_label.result (left c.after_label.new.tokens) r)
+    (sym (field_labelled c.args.syntax c.args.levels c.args.inner (left c.args.tokens.now)
+    (left c.label.new.tokens) c.place-place.result c.in-Some.label c.requires c.place-place.ensures
+    c.in-Some.ensures)) c.after_label.ensures
 
 pub field_of-returns-in-Proto2 : goal.field_of-returns-in-Proto2
-field_of-returns-in-Proto2 t c = subst (λ r. Gives field_statement_view c.map_field.result (left c.map_field.new.tokens) r) (sym (field_mapped c.args.syntax c.args.levels c.args.inner (left c.args.tokens.now) (left c.label.new.tokens) c.place-place.result c.in-Proto2.is c.requires c.place-place.ensures c.in-None.ensures)) c.map_field.ensures
+field_of-returns-in-Proto2 t c =
+    subst (λ r. Gives field_statement_view c.map_field.result (left c.map_field.new.tokens) r)
+    (sym (field_mapped c.args.syntax c.args.levels c.args.inner (left c.args.tokens.now)
+    (left c.label.new.tokens) c.place-place.result c.in-Proto2.is c.requires c.place-place.ensures
+    c.in-None.ensures)) c.map_field.ensures
 
 pub field_of-returns-in-Proto3 : goal.field_of-returns-in-Proto3
-field_of-returns-in-Proto3 t c = subst (λ r. Gives field_statement_view c.after_label-in-Proto3.result (left c.after_label-in-Proto3.new.tokens) r) (sym (field_unlabelled c.args.syntax c.args.levels c.args.inner (left c.args.tokens.now) (left c.label.new.tokens) c.place-place.result c.in-Proto3.is c.requires c.place-place.ensures (sym c.begins_field.ensures ∙ c.if-not-begins_field.false) c.in-None.ensures)) c.after_label-in-Proto3.ensures
+field_of-returns-in-Proto3 t c =
+    subst (λ r. Gives field_statement_view c.after_label-in-Proto3.result
+    (left c.after_label-in-Proto3.new.tokens) r) (sym
+    (field_unlabelled c.args.syntax c.args.levels c.args.inner (left c.args.tokens.now)
+    (left c.label.new.tokens) c.place-place.result c.in-Proto3.is c.requires c.place-place.ensures
+    (sym c.begins_field.ensures ∙ c.if-not-begins_field.false) c.in-None.ensures))
+    c.after_label-in-Proto3.ensures
 
 pub field_statements-items-init : goal.field_statements-items-init
 field_statements-items-init t c =
-    let e : map field_statement_view c.new-fields.result.items ≡ [] = ap (map field_statement_view) c.new-fields.ensures.items in
-    field_items_law c.args.syntax c.args.levels (left c.args.tokens.now) ∙ ap (λ (v : List FieldStatementSyntax). with_rest somes (λ (x : List FieldStatementSyntax). x) v (run_many (nest.field_item_of c.args.syntax (nest.fields c.args.syntax c.args.levels)).low (left c.args.tokens.now))) (sym e)
+    let e : map field_statement_view c.new-fields.result.items
+    ≡ [] = ap (map field_statement_view) c.new-fields.ensures.items in
+    field_items_law c.args.syntax c.args.levels (left c.args.tokens.now)
+    ∙ ap (λ (v : List FieldStatementSyntax). with_rest somes
+    (λ (x : List FieldStatementSyntax). x) v
+    (run_many (nest.field_item_of c.args.syntax (nest.fields c.args.syntax c.args.levels)).low
+    (left c.args.tokens.now))) (sym e)
 
 pub field_statements-returns-in_err-item : goal.field_statements-returns-in_err-item
 field_statements-returns-in_err-item t c =
     let p = err_from_is_err_and c.from_residual.result c.from_residual.ensures.1 in
-    rw (p.1, p.2) (fails (nest.field_item_of c.args.syntax (nest.fields c.args.syntax c.args.levels)).low refl somes shows_somes (λ (v : List FieldStatementSyntax). v) (map field_statement_view c.items.fields.items) (left c.items.tokens) (left c.field_item.new.tokens) c.in_err-item.field-0.0 _ (sym c.begins_field_item.ensures ∙ c.items-test.true) c.in_err-item.ensures c.items.invariant)
+    rw (p.1, p.2)
+    (fails (nest.field_item_of c.args.syntax (nest.fields c.args.syntax c.args.levels)).low refl
+    somes shows_somes (λ (v : List FieldStatementSyntax). v)
+    (map field_statement_view c.items.fields.items) (left c.items.tokens)
+    (left c.field_item.new.tokens) c.in_err-item.field-0.0 _
+    (sym c.begins_field_item.ensures ∙ c.items-test.true) c.in_err-item.ensures
+    c.items.invariant)
 
 pub field_statements-items-smaller : goal.field_statements-items-smaller
-field_statements-items-smaller t c = shorter (nest.field_item_of c.args.syntax (nest.fields c.args.syntax c.args.levels)).low refl (left c.items.tokens) (seen_by field_statement_view c.in_ok-item.item) (left c.field_item.new.tokens) c.in_ok-item.ensures
+field_statements-items-smaller t c =
+    shorter (nest.field_item_of c.args.syntax (nest.fields c.args.syntax c.args.levels)).low refl
+    (left c.items.tokens) (seen_by field_statement_view c.in_ok-item.item)
+    (left c.field_item.new.tokens) c.in_ok-item.ensures
 
 pub field_statements-items-preserved : goal.field_statements-items-preserved
 field_statements-items-preserved t c =
-    goes_on (nest.field_item_of c.args.syntax (nest.fields c.args.syntax c.args.levels)).low refl somes shows_somes (λ (v : List FieldStatementSyntax). v) (map field_statement_view c.items.fields.items) _ (left c.items.tokens) (seen_by field_statement_view c.in_ok-item.item) (left c.field_item.new.tokens) _ (sym c.begins_field_item.ensures ∙ c.items-test.true) c.in_ok-item.ensures (pushed field_statement_view c.items.fields.items c.push_some.new.list.items c.in_ok-item.item c.in_ok-push_some.ensures) c.items.invariant
+    goes_on (nest.field_item_of c.args.syntax (nest.fields c.args.syntax c.args.levels)).low refl
+    somes shows_somes (λ (v : List FieldStatementSyntax). v)
+    (map field_statement_view c.items.fields.items) _ (left c.items.tokens)
+    (seen_by field_statement_view c.in_ok-item.item) (left c.field_item.new.tokens) _
+    (sym c.begins_field_item.ensures ∙ c.items-test.true) c.in_ok-item.ensures
+    (pushed field_statement_view c.items.fields.items c.push_some.new.list.items
+    c.in_ok-item.item c.in_ok-push_some.ensures) c.items.invariant
 
 pub field_statements-returns : goal.field_statements-returns
-field_statements-returns t c = stops_here (nest.field_item_of c.args.syntax (nest.fields c.args.syntax c.args.levels)).low refl somes shows_somes (λ (v : List FieldStatementSyntax). v) (map field_statement_view c.items.fields.items) (left c.items.tokens) _ (sym c.begins_field_item.ensures ∙ c.items-test.false) c.items.invariant
+field_statements-returns t c =
+    stops_here (nest.field_item_of c.args.syntax (nest.fields c.args.syntax c.args.levels)).low refl
+    somes shows_somes (λ (v : List FieldStatementSyntax). v)
+    (map field_statement_view c.items.fields.items) (left c.items.tokens) _
+    (sym c.begins_field_item.ensures ∙ c.items-test.false) c.items.invariant
 
 pub group-returns-in_err-word : goal.group-returns-in_err-word
 unfolding nest.group_of
@@ -51,26 +92,41 @@ group-returns-in_err-word t c =
 pub group-returns-in_err-name : goal.group-returns-in_err-name
 unfolding nest.group_of
 group-returns-in_err-name t c =
-    let p = err_from_is_err_and c.from_residual-in_err-name.result c.from_residual-in_err-name.ensures.1 in
-    rw (p.1, p.2, c.in_ok-word.ensures) (fails_first c.in_err-name.field-0.0 _ _ _ c.in_err-name.ensures)
+    let p = err_from_is_err_and c.from_residual-in_err-name.result
+    c.from_residual-in_err-name.ensures.1 in
+    rw (p.1, p.2, c.in_ok-word.ensures)
+    (fails_first c.in_err-name.field-0.0 _ _ _ c.in_err-name.ensures)
 
 pub group-returns-in_err-symbol : goal.group-returns-in_err-symbol
 unfolding nest.group_of
 group-returns-in_err-symbol t c =
-    let p = err_from_is_err_and c.from_residual-in_err-symbol.result c.from_residual-in_err-symbol.ensures.1 in
-    rw (p.1, p.2, c.in_ok-word.ensures, c.in_ok-name.ensures) (fails_first c.in_err-symbol.field-0.0 _ _ _ c.in_err-symbol.ensures)
+    let p = err_from_is_err_and c.from_residual-in_err-symbol.result
+    c.from_residual-in_err-symbol.ensures.1 in
+    rw (p.1, p.2, c.in_ok-word.ensures, c.in_ok-name.ensures)
+    (fails_first c.in_err-symbol.field-0.0 _ _ _ c.in_err-symbol.ensures)
 
 pub group-returns-in_err-number : goal.group-returns-in_err-number
 unfolding nest.group_of
 group-returns-in_err-number t c =
-    let p = err_from_is_err_and c.from_residual-in_err-number.result c.from_residual-in_err-number.ensures.1 in
-    rw (p.1, p.2, c.in_ok-word.ensures, c.in_ok-name.ensures, c.in_ok-symbol.ensures) (fails_first c.in_err-number.field-0.0 _ _ _ c.in_err-number.ensures)
+    let p = err_from_is_err_and c.from_residual-in_err-number.result
+    c.from_residual-in_err-number.ensures.1 in
+    rw (p.1, p.2, c.in_ok-word.ensures, c.in_ok-name.ensures, c.in_ok-symbol.ensures)
+    (fails_first c.in_err-number.field-0.0 _ _ _ c.in_err-number.ensures)
 
 pub group-returns-in_err-fields : goal.group-returns-in_err-fields
 unfolding nest.group_of
 group-returns-in_err-fields t c =
-    let p = err_from_is_err_and c.from_residual-in_err-fields.result c.from_residual-in_err-fields.ensures.1 in
-    rw (p.1, p.2, c.in_ok-word.ensures, c.in_ok-name.ensures, c.in_ok-symbol.ensures, c.in_ok-number.ensures) (fails_first c.in_err-fields.field-0.0 _ _ _ c.in_err-fields.ensures)
+    let p = err_from_is_err_and c.from_residual-in_err-fields.result
+    c.from_residual-in_err-fields.ensures.1 in
+    rw (
+      p.1,
+      p.2,
+      c.in_ok-word.ensures,
+      c.in_ok-name.ensures,
+      c.in_ok-symbol.ensures,
+      c.in_ok-number.ensures,
+    ) (fails_first c.in_err-fields.field-0.0 _ _ _
+    c.in_err-fields.ensures)
 
 pub after_label-returns-in_err-group : goal.after_label-returns-in_err-group
 unfolding nest.after_label
@@ -81,20 +137,37 @@ after_label-returns-in_err-group t c =
 pub after_label-returns-in_err-field : goal.after_label-returns-in_err-field
 unfolding nest.after_label
 after_label-returns-in_err-field t c =
-    let p = err_from_is_err_and c.from_residual-in_err-field.result c.from_residual-in_err-field.ensures.1 in
+    let p = err_from_is_err_and c.from_residual-in_err-field.result
+    c.from_residual-in_err-field.ensures.1 in
     rw (p.1, p.2, sym c.sees_word.ensures ∙ c.if-sees_word.false) c.in_err-field.ensures
 
 pub group_body-returns-in_err-symbol : goal.group_body-returns-in_err-symbol
 group_body-returns-in_err-symbol t c =
     let p = err_from_is_err_and c.from_residual.result c.from_residual.ensures.1 in
-    rw (p.1, p.2, field_block_law c.args.syntax c.args.levels (left c.args.tokens.now)) (fails_first c.in_err-symbol.field-0.0 _ _ _ c.in_err-symbol.ensures)
+    rw (p.1, p.2, field_block_law c.args.syntax c.args.levels (left c.args.tokens.now))
+    (fails_first c.in_err-symbol.field-0.0 _ _ _ c.in_err-symbol.ensures)
 
 pub group_body-returns-in_err-fields : goal.group_body-returns-in_err-fields
 group_body-returns-in_err-fields t c =
-    let p = err_from_is_err_and c.from_residual-in_err-fields.result c.from_residual-in_err-fields.ensures.1 in
-    rw (p.1, p.2, field_block_law c.args.syntax c.args.levels (left c.args.tokens.now), c.in_ok-symbol.ensures) (fails_first c.in_err-fields.field-0.0 _ _ _ c.in_err-fields.ensures)
+    let p = err_from_is_err_and c.from_residual-in_err-fields.result
+    c.from_residual-in_err-fields.ensures.1 in
+    rw (
+      p.1,
+      p.2,
+      field_block_law c.args.syntax c.args.levels (left c.args.tokens.now),
+      c.in_ok-symbol.ensures,
+    ) (fails_first c.in_err-fields.field-0.0 _ _ _
+    c.in_err-fields.ensures)
 
 pub group_body-returns-in_err-symbol_or : goal.group_body-returns-in_err-symbol_or
 group_body-returns-in_err-symbol_or t c =
-    let p = err_from_is_err_and c.from_residual-in_err-symbol_or.result c.from_residual-in_err-symbol_or.ensures.1 in
-    rw (p.1, p.2, field_block_law c.args.syntax c.args.levels (left c.args.tokens.now), c.in_ok-symbol.ensures, c.in_ok-fields.ensures) (fails_first c.in_err-symbol_or.field-0.0 _ _ _ c.in_err-symbol_or.ensures)
+    let p = err_from_is_err_and c.from_residual-in_err-symbol_or.result
+    c.from_residual-in_err-symbol_or.ensures.1 in
+    rw (
+      p.1,
+      p.2,
+      field_block_law c.args.syntax c.args.levels (left c.args.tokens.now),
+      c.in_ok-symbol.ensures,
+      c.in_ok-fields.ensures,
+    ) (fails_first c.in_err-symbol_or.field-0.0 _ _ _
+    c.in_err-symbol_or.ensures)

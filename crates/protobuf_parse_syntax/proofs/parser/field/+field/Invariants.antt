@@ -29,7 +29,11 @@ abbrev pub decreases-field_of : goal.decreases-field_of
 decreases-field_of l = 8 * l.inner + 6
 
 abbrev pub invariant-field_statements-items : goal.invariant-field_statements-items
-invariant-field_statements-items l = (nest.field_items_of l.syntax (nest.fields l.syntax l.levels)).low.run (left l.fn.tokens) ≡ with_rest somes (λ (v : List FieldStatementSyntax). v) (map field_statement_view l.fields.items) (run_many (nest.field_item_of l.syntax (nest.fields l.syntax l.levels)).low (left l.tokens))
+invariant-field_statements-items l =
+    (nest.field_items_of l.syntax (nest.fields l.syntax l.levels)).low.run (left l.fn.tokens)
+    ≡ with_rest somes (λ (v : List FieldStatementSyntax). v)
+    (map field_statement_view l.fields.items)
+    (run_many (nest.field_item_of l.syntax (nest.fields l.syntax l.levels)).low (left l.tokens))
 
 abbrev pub decreases-field_statements-items : goal.decreases-field_statements-items
 decreases-field_statements-items l = size (left l.tokens)

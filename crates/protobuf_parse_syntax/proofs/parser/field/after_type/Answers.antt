@@ -12,23 +12,38 @@ returns-in_err-name c =
 pub returns-in_err-symbol : goal.returns-in_err-symbol
 unfolding nest.after_type
 returns-in_err-symbol c =
-    let p = err_from_is_err_and c.from_residual-in_err-symbol.result c.from_residual-in_err-symbol.ensures.1 in
-    rw (p.1, p.2, c.in_ok-name.ensures) (fails_first c.in_err-symbol.field-0.0 _ _ _ c.in_err-symbol.ensures)
+    let p = err_from_is_err_and c.from_residual-in_err-symbol.result
+    c.from_residual-in_err-symbol.ensures.1 in
+    rw (p.1, p.2, c.in_ok-name.ensures)
+    (fails_first c.in_err-symbol.field-0.0 _ _ _ c.in_err-symbol.ensures)
 
 pub returns-in_err-number : goal.returns-in_err-number
 unfolding nest.after_type
 returns-in_err-number c =
-    let p = err_from_is_err_and c.from_residual-in_err-number.result c.from_residual-in_err-number.ensures.1 in
-    rw (p.1, p.2, c.in_ok-name.ensures, c.in_ok-symbol.ensures) (fails_first c.in_err-number.field-0.0 _ _ _ c.in_err-number.ensures)
+    let p = err_from_is_err_and c.from_residual-in_err-number.result
+    c.from_residual-in_err-number.ensures.1 in
+    rw (p.1, p.2, c.in_ok-name.ensures, c.in_ok-symbol.ensures)
+    (fails_first c.in_err-number.field-0.0 _ _ _ c.in_err-number.ensures)
 
 pub returns-in_err-options : goal.returns-in_err-options
 unfolding nest.after_type
 returns-in_err-options c =
-    let p = err_from_is_err_and c.from_residual-in_err-options.result c.from_residual-in_err-options.ensures.1 in
-    rw (p.1, p.2, c.in_ok-name.ensures, c.in_ok-symbol.ensures, c.in_ok-number.ensures) (fails_first c.in_err-options.field-0.0 _ _ _ c.in_err-options.ensures)
+    let p = err_from_is_err_and c.from_residual-in_err-options.result
+    c.from_residual-in_err-options.ensures.1 in
+    rw (p.1, p.2, c.in_ok-name.ensures, c.in_ok-symbol.ensures, c.in_ok-number.ensures)
+    (fails_first c.in_err-options.field-0.0 _ _ _ c.in_err-options.ensures)
 
 pub returns-in_err-symbol-2 : goal.returns-in_err-symbol-2
 unfolding nest.after_type
 returns-in_err-symbol-2 c =
-    let p = err_from_is_err_and c.from_residual-in_err-symbol-2.result c.from_residual-in_err-symbol-2.ensures.1 in
-    rw (p.1, p.2, c.in_ok-name.ensures, c.in_ok-symbol.ensures, c.in_ok-number.ensures, c.in_ok-options.ensures) (fails_first c.in_err-symbol-2.field-0.0 _ _ _ c.in_err-symbol-2.ensures)
+    let p = err_from_is_err_and c.from_residual-in_err-symbol-2.result
+    c.from_residual-in_err-symbol-2.ensures.1 in
+    rw (
+      p.1,
+      p.2,
+      c.in_ok-name.ensures,
+      c.in_ok-symbol.ensures,
+      c.in_ok-number.ensures,
+      c.in_ok-options.ensures,
+    ) (fails_first c.in_err-symbol-2.field-0.0 _ _ _
+    c.in_err-symbol-2.ensures)

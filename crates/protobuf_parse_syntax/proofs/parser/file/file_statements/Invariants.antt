@@ -8,7 +8,9 @@ use Rattle.protobuf_parse_syntax.specs.Code.{left}
 use Rattle.protobuf_parse_syntax.proofs.parser.file.file_statements.Given as goal
 
 abbrev pub invariant-items : goal.invariant-items
-invariant-items l = (nest.file_items l.syntax l.levels).low.run (left l.fn.tokens) ≡ with_rest somes (λ (v : List StatementSyntax). v) (map statement_view l.statements.items) (run_many (nest.file_item l.syntax l.levels).low (left l.tokens))
+invariant-items l = (nest.file_items l.syntax l.levels).low.run (left l.fn.tokens)
+    ≡ with_rest somes (λ (v : List StatementSyntax). v) (map statement_view l.statements.items)
+    (run_many (nest.file_item l.syntax l.levels).low (left l.tokens))
 
 abbrev pub decreases-items : goal.decreases-items
 decreases-items l = size (left l.tokens)

@@ -23,7 +23,10 @@ abbrev pub decreases-message_statement : goal.decreases-message_statement
 decreases-message_statement l = 5 * l.levels + 1
 
 abbrev pub invariant-message_statements-items : goal.invariant-message_statements-items
-invariant-message_statements-items l = (nest.message_items l.syntax l.levels).low.run (left l.fn.tokens) ≡ with_rest somes (λ (v : List MessageStatementSyntax). v) (map message_statement_view l.body.items) (run_many (nest.message_item l.syntax l.levels).low (left l.tokens))
+invariant-message_statements-items l = (nest.message_items l.syntax l.levels).low.run
+    (left l.fn.tokens) ≡ with_rest somes (λ (v : List MessageStatementSyntax). v)
+    (map message_statement_view l.body.items)
+    (run_many (nest.message_item l.syntax l.levels).low (left l.tokens))
 
 abbrev pub decreases-message_statements-items : goal.decreases-message_statements-items
 decreases-message_statements-items l = size (left l.tokens)

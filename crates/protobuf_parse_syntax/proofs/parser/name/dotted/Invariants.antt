@@ -7,7 +7,9 @@ use Rattle.protobuf_parse_syntax.specs.Code.{left}
 use Rattle.protobuf_parse_syntax.proofs.parser.name.dotted.Given as goal
 
 abbrev pub invariant-parts : goal.invariant-parts
-invariant-parts l = read.dotted.run (left l.fn.tokens) ≡ with_rest dots (λ (v : List ℕ). v) (string_bytes l.name) (run_many read.dot_ident (left l.tokens))
+invariant-parts l = read.dotted.run (left l.fn.tokens)
+    ≡ with_rest dots (λ (v : List ℕ). v) (string_bytes l.name)
+    (run_many read.dot_ident (left l.tokens))
 
 abbrev pub decreases-parts : goal.decreases-parts
 decreases-parts l = size (left l.tokens)

@@ -11,7 +11,13 @@ use Rattle.protobuf_parse_syntax.proofs.parser.name.text.Goals as goal
 pub returns-in-Ok : goal.returns-in-Ok
 unfolding reserved_name
 returns-in-Ok c =
-    says StandsFor text_of text-to text-from (left c.args.tokens.now) (left c.string.new.tokens) (pieces_of c.in_ok-string.string) c.in_ok-string.ensures (string_bytes c.in-Ok.text) (c.in-Ok.ensures.text, IsUtf8-string_bytes c.in-Ok.text)
+    says StandsFor text_of text-to text-from (left c.args.tokens.now) (left c.string.new.tokens)
+    (pieces_of c.in_ok-string.string) c.in_ok-string.ensures (string_bytes c.in-Ok.text)
+    (c.in-Ok.ensures.text, IsUtf8-string_bytes c.in-Ok.text)
 
 pub returns : goal.returns
-returns c = rw c.no_text.ensures (fails_text (left c.args.tokens.now) (left c.string.new.tokens) (pieces_of c.in_ok-string.string) c.in-Err.error c.in_ok-string.ensures c.in-Err.ensures.refused)
+returns c =
+    rw c.no_text.ensures
+    (fails_text (left c.args.tokens.now) (left c.string.new.tokens)
+    (pieces_of c.in_ok-string.string) c.in-Err.error c.in_ok-string.ensures
+    c.in-Err.ensures.refused)

@@ -7,7 +7,8 @@ use Rattle.protobuf_parse_syntax.proofs.Loops.{listed}
 use Rattle.protobuf_parse_syntax.proofs.parser.option.assignments.Given as goal
 
 abbrev pub invariant-others : goal.invariant-others
-invariant-others l = (nest.assignments l.levels).low.run (left l.fn.tokens) ≡ listed (nest.assignment l.levels).low (map option_view l.options.items) (left l.tokens)
+invariant-others l = (nest.assignments l.levels).low.run (left l.fn.tokens)
+    ≡ listed (nest.assignment l.levels).low (map option_view l.options.items) (left l.tokens)
 
 abbrev pub decreases-others : goal.decreases-others
 decreases-others l = size (left l.tokens)

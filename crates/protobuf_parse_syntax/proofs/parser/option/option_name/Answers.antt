@@ -9,17 +9,30 @@ use Rattle.protobuf_parse_syntax.proofs.parser.option.option_name.Goals as goal
 
 pub returns-then-sees_symbol : goal.returns-then-sees_symbol
 returns-then-sees_symbol c =
-    name_of_parts (left c.args.tokens.now) (left c.option_part.new.tokens) (option_part_view c.in_ok-first.first) c.in_ok-first.ensures (left c.parts.new.tokens) (map option_part_view c.in_ok-parts.field-0.items) (sym c.sees_symbol.ensures ∙ c.if-sees_symbol.true) c.in_ok-parts.ensures
+    name_of_parts (left c.args.tokens.now) (left c.option_part.new.tokens)
+    (option_part_view c.in_ok-first.first) c.in_ok-first.ensures (left c.parts.new.tokens)
+    (map option_part_view c.in_ok-parts.field-0.items)
+    (sym c.sees_symbol.ensures ∙ c.if-sees_symbol.true) c.in_ok-parts.ensures
 
 pub returns-in-Direct : goal.returns-in-Direct
 returns-in-Direct c =
-    name_of_one (left c.args.tokens.now) (left c.option_part.new.tokens) (option_part_view c.in_ok-first.first) c.in_ok-first.ensures (sym c.sees_symbol.ensures ∙ c.if-sees_symbol.false)
-    ∙ ap (λ (p : OptionPartSyntax). read (option_name p []) (left c.option_part.new.tokens)) (ap option_part_view c.in-Direct.is)
+    name_of_one (left c.args.tokens.now) (left c.option_part.new.tokens)
+    (option_part_view c.in_ok-first.first) c.in_ok-first.ensures
+    (sym c.sees_symbol.ensures ∙ c.if-sees_symbol.false)
+    ∙ ap (λ (p : OptionPartSyntax). read (option_name p []) (left c.option_part.new.tokens))
+    (ap option_part_view c.in-Direct.is)
 
 pub returns-in_ok-push-in-Ext : goal.returns-in_ok-push-in-Ext
 returns-in_ok-push-in-Ext c =
-    let is : option_part_view c.in_ok-first.first ≡ tree.extension (string_bytes c.in-Ext.field-0) = ap option_part_view c.in-Ext.is in
-    let e : map option_part_view c.push.new.self.items ≡ option_part_view c.in_ok-first.first ∷ [] = ap (map option_part_view) (c.in_ok-push-in-Ext.ensures.items ∙ ap (λ (v : List _). v ++ c.in_ok-first.first ∷ []) c.new-parts.ensures.items) in
-    name_of_one (left c.args.tokens.now) (left c.option_part.new.tokens) (option_part_view c.in_ok-first.first) c.in_ok-first.ensures (sym c.sees_symbol.ensures ∙ c.if-sees_symbol.false)
+    let is : option_part_view c.in_ok-first.first
+    ≡ tree.extension (string_bytes c.in-Ext.field-0) = ap option_part_view c.in-Ext.is in
+    let e : map option_part_view c.push.new.self.items ≡ option_part_view c.in_ok-first.first
+    ∷ [] = ap (map option_part_view)
+    (c.in_ok-push-in-Ext.ensures.items
+    ∙ ap (λ (v : List _). v ++ c.in_ok-first.first ∷ []) c.new-parts.ensures.items) in
+    name_of_one (left c.args.tokens.now) (left c.option_part.new.tokens)
+    (option_part_view c.in_ok-first.first) c.in_ok-first.ensures
+    (sym c.sees_symbol.ensures ∙ c.if-sees_symbol.false)
     ∙ ap (λ (p : OptionPartSyntax). read (option_name p []) (left c.option_part.new.tokens)) is
-    ∙ ap (λ (v : List OptionPartSyntax). read (tree.custom v) (left c.option_part.new.tokens)) (ap (λ (p : OptionPartSyntax). p ∷ []) (sym is) ∙ sym e)
+    ∙ ap (λ (v : List OptionPartSyntax). read (tree.custom v) (left c.option_part.new.tokens))
+    (ap (λ (p : OptionPartSyntax). p ∷ []) (sym is) ∙ sym e)

@@ -8,7 +8,10 @@ use Rattle.protobuf_parse_syntax.specs.Code.{left}
 use Rattle.protobuf_parse_syntax.proofs.parser.option.option_statements.Given as goal
 
 abbrev pub invariant-items : goal.invariant-items
-invariant-items l = (nest.option_items l.levels).low.run (left l.fn.tokens) ≡ with_rest somes (λ (v : List OptionStatementSyntax). v) (map option_statement_view l.options.items) (run_many (nest.option_item l.levels).low (left l.tokens))
+invariant-items l = (nest.option_items l.levels).low.run (left l.fn.tokens)
+    ≡ with_rest somes (λ (v : List OptionStatementSyntax). v)
+    (map option_statement_view l.options.items)
+    (run_many (nest.option_item l.levels).low (left l.tokens))
 
 abbrev pub decreases-items : goal.decreases-items
 decreases-items l = size (left l.tokens)

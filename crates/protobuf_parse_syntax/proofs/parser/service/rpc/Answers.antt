@@ -12,5 +12,7 @@ returns-in_err-word c =
 pub returns-in_err-name : goal.returns-in_err-name
 unfolding nest.rpc
 returns-in_err-name c =
-    let p = err_from_is_err_and c.from_residual-in_err-name.result c.from_residual-in_err-name.ensures.1 in
-    rw (p.1, p.2, c.in_ok-word.ensures) (fails_first c.in_err-name.field-0.0 _ _ _ c.in_err-name.ensures)
+    let p = err_from_is_err_and c.from_residual-in_err-name.result
+    c.from_residual-in_err-name.ensures.1 in
+    rw (p.1, p.2, c.in_ok-word.ensures)
+    (fails_first c.in_err-name.field-0.0 _ _ _ c.in_err-name.ensures)

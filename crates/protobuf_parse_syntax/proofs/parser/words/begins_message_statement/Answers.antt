@@ -6,4 +6,6 @@ use Rattle.protobuf_parse_syntax.proofs.Words.{word_starts}
 use Rattle.protobuf_parse_syntax.proofs.parser.words.begins_message_statement.Goals as goal
 
 pub returns-in-Some : goal.returns-in-Some
-returns-in-Some c = c.word_begins_message_statement.ensures ∙ sym (word_starts (symbol 59 ∷ nest.statement_firsts c.args.syntax) (left c.args.tokens.now) c.in-Some.word.now c.in-Some.ensures)
+returns-in-Some c = c.word_begins_message_statement.ensures
+    ∙ sym (word_starts (symbol 59 ∷ nest.statement_firsts c.args.syntax)
+    (left c.args.tokens.now) c.in-Some.word.now c.in-Some.ensures)

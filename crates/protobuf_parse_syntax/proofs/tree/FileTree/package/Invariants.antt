@@ -4,4 +4,5 @@ use Rattle.protobuf_parse_syntax.specs.Code.{seen_by}
 use Rattle.protobuf_parse_syntax.proofs.tree.FileTree.package.Given as goal
 
 abbrev pub invariant-statements : goal.invariant-statements
-invariant-statements l = seen_by (λ z. z.now) l.name ≡ fold package_behind None (map statement_view (take l.statement-index l.self.statements.items))
+invariant-statements l = seen_by (λ z. z.now) l.name
+    ≡ fold package_behind None (map statement_view (take l.statement-index l.self.statements.items))

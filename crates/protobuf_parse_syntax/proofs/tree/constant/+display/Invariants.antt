@@ -8,8 +8,12 @@ use Rattle.protobuf_parse_syntax.proofs.tree.constant.+display.Given as goal
 
 abbrev pub invariant-write_items-loop-i : goal.invariant-write_items-loop-i
 invariant-write_items-loop-i g l =
-    IsPlainFormatter l.fn.f → HasWritten g.W.Write.write_str_gives l.fn.f (items_text (map constant_view (take l.i l.items))) l.f
+    IsPlainFormatter l.fn.f
+    → HasWritten g.W.Write.write_str_gives l.fn.f
+    (items_text (map constant_view (take l.i l.items))) l.f
 
 abbrev pub invariant-write_fields-loop-field : goal.invariant-write_fields-loop-field
 invariant-write_fields-loop-field g l =
-    IsPlainFormatter l.fn.f → HasWritten g.W.Write.write_str_gives l.fn.f (flat_map constant_field_text (map constant_field_view (take l.field-index l.fields))) l.f
+    IsPlainFormatter l.fn.f
+    → HasWritten g.W.Write.write_str_gives l.fn.f
+    (flat_map constant_field_text (map constant_field_view (take l.field-index l.fields))) l.f

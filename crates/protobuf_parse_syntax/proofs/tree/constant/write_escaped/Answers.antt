@@ -13,13 +13,24 @@ loop-character-preserved g c =
     let so_far = encode_utf8_all c.loop-character.yielded in
     let character = c.in-Some.character in
     record {
-      taken = c.takes_next-taken.ensures ∙ (ap (λ t. character == 92 && not t) c.loop-character.invariant.taken ∙ sym (takes_next-more c.loop-character.yielded character));
+      taken = c.takes_next-taken.ensures
+          ∙ (ap (λ t. character == 92 && not t) c.loop-character.invariant.taken
+          ∙ sym (takes_next-more c.loop-character.yielded character));
       written = λ plain. has_written_of_eq _ _ _ _ _
-          (ap (λ t. quotes_escaped false so_far ++ (escape_before t character ++ encode_utf8 character)) c.loop-character.invariant.taken ∙ quotes_escaped-more c.loop-character.yielded character)
-          (has_written_append _ _ _ _ _ _ (c.loop-character.invariant.written plain) (search rules));
+          (ap (λ t. quotes_escaped false so_far
+          ++ (escape_before t character ++ encode_utf8 character))
+          c.loop-character.invariant.taken
+          ∙ quotes_escaped-more c.loop-character.yielded character)
+          (has_written_append _ _ _ _ _ _ (c.loop-character.invariant.written plain)
+          (search rules));
     }
 
 pub returns : goal.returns
 returns g c = λ plain ok.
-    let end = YieldsList-end (YieldsList-from_chars c.args.piece.now c.utf8.piece (cc)) c.loop-character.yielded _ c.loop-character.yielded_by _ _ c.in-None.is c.next.ensures.steps in
-    has_written_of_eq _ _ _ _ _ (ap (quotes_escaped false) (encodes-all c.loop-character.yielded c.args.piece.now c.utf8.piece end.0)) (c.loop-character.invariant.written plain)
+    let end = YieldsList-end (YieldsList-from_chars c.args.piece.now c.utf8.piece (cc))
+    c.loop-character.yielded _ c.loop-character.yielded_by _ _ c.in-None.is c.next.ensures.steps
+    in
+    has_written_of_eq _ _ _ _ _
+    (ap (quotes_escaped false)
+    (encodes-all c.loop-character.yielded c.args.piece.now c.utf8.piece
+    end.0)) (c.loop-character.invariant.written plain)

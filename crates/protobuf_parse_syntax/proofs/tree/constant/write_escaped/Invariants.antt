@@ -9,5 +9,7 @@ use Rattle.protobuf_parse_syntax.proofs.tree.constant.write_escaped.Given as goa
 abbrev pub invariant-loop-character : goal.invariant-loop-character
 invariant-loop-character g l = record {
   taken : l.taken ≡ takes_next false (encode_utf8_all l.yielded);
-  written : IsPlainFormatter l.fn.f → HasWritten g.W.Write.write_str_gives l.fn.f (quotes_escaped false (encode_utf8_all l.yielded)) l.f;
+  written : IsPlainFormatter l.fn.f
+      → HasWritten g.W.Write.write_str_gives l.fn.f
+      (quotes_escaped false (encode_utf8_all l.yielded)) l.f;
 }

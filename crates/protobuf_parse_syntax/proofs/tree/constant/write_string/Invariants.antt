@@ -7,4 +7,6 @@ use Rattle.protobuf_parse_syntax.proofs.tree.constant.write_string.Given as goal
 
 abbrev pub invariant-loop-i : goal.invariant-loop-i
 invariant-loop-i g l =
-    IsPlainFormatter l.fn.f → HasWritten g.W.Write.write_str_gives l.fn.f (string_text (map string_bytes (take l.i l.string.pieces.items))) l.f
+    IsPlainFormatter l.fn.f
+    → HasWritten g.W.Write.write_str_gives l.fn.f
+    (string_text (map string_bytes (take l.i l.string.pieces.items))) l.f

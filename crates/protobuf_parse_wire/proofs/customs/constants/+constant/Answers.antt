@@ -10,10 +10,13 @@ push_value-returns-in-List t c =
     list_given (λ u. map entry_view c.push_list.new.entries.items) c.push_list.result
     (place_view c.args.at.now) c.args.option.now
     (field_view c.args.field.now) c.args.value.now c.in-List.items c.deref-in-List.result.now
-    (map entry_view c.args.entries.now.items) c.in-List.is c.deref-in-List.ensures.value c.push_list.ensures
+    (map entry_view c.args.entries.now.items) c.in-List.is c.deref-in-List.ensures.value
+    c.push_list.ensures
 
 pub push_value-returns-in-Message : goal.push_value-returns-in-Message
 push_value-returns-in-Message t c =
     message_given (λ u. map entry_view c.push_message.new.entries.items) c.push_message.result
     (place_view c.args.at.now) c.args.option.now
-    (field_view c.args.field.now) c.args.value.now c.in-Message.fields c.deref-in-Message.result.now (map entry_view c.args.entries.now.items) c.in-Message.is c.deref-in-Message.ensures.value c.push_message.ensures
+    (field_view c.args.field.now) c.args.value.now c.in-Message.fields c.deref-in-Message.result.now
+    (map entry_view c.args.entries.now.items) c.in-Message.is c.deref-in-Message.ensures.value
+    c.push_message.ensures

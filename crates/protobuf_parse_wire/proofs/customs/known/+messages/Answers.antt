@@ -11,7 +11,8 @@ use Rattle.protobuf_parse_wire.proofs.Placing.{message_listed}
 use Rattle.protobuf_parse_wire.proofs.customs.known.+messages.Goals as goal
 
 abbrev head : Text → List ℕ → ℕ → DescriptorProto → List (Placed MessageDescriptor)
-head name path index m = record { name = name; path = path; index = index; what = message_view m } ∷ []
+head name path index m = record { name = name; path = path; index = index; what = message_view m }
+    ∷ []
 
 pub add_message-returns : goal.add_message-returns
 add_message-returns t c =
@@ -30,7 +31,8 @@ add_message-returns t c =
     let named = c.in_ok-name.ensures ∙ ap (within scope) c.deref.ensures in
     let inner = c.deref-3.ensures.value ∙ c.in_ok-inner.ensures in
     on_ok_weaker c.add_messages.result
-    (λ nested. message_listed scope name path index m old (messages_placed c.add_messages.new.list.items) named
+    (λ nested. message_listed scope name path index m old
+    (messages_placed c.add_messages.new.list.items) named
     (nested ∙ ap (λ (ds : List (Placed MessageDescriptor)). ds ++ placed_list c.deref-2.result.now
     c.deref-3.result.now 0 (map message_view c.deref-4.result.now)) pushed
     ∙ ap (λ (s : Text). (old ++ head name path index m) ++ placed_list s c.deref-3.result.now 0

@@ -6,6 +6,7 @@ use Rattle.protobuf_parse_wire.proofs.customs.known.add_extensions.Given as goal
 
 abbrev pub invariant-loop-index : goal.invariant-loop-index
 invariant-loop-index l =
-    extensions_placed l.fn.list.items ++ placed_each field_name l.scope l.path 0 (map field_view l.extensions)
+    extensions_placed l.fn.list.items
+    ++ placed_each field_name l.scope l.path 0 (map field_view l.extensions)
     ≡ extensions_placed l.list.items ++ placed_each field_name l.scope l.path l.index
     (map field_view (drop l.index l.extensions))

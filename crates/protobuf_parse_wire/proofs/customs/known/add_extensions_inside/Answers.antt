@@ -17,11 +17,14 @@ returns c =
     ∙ ap (λ (p : List ℕ). p ++ k.index ∷ []) c.deref.ensures.value in
     let members = sym (ap extensions_inside (inside_is k.what.now)) in
     on_ok_weaker c.add_extensions.result
-    (λ e. e ∙ ap (λ (ps : List (Placed FieldDescriptor)). extensions_placed c.args.list.now.items ++ ps)
+    (λ e. e ∙ ap (λ (ps : List (Placed FieldDescriptor)). extensions_placed c.args.list.now.items
+    ++ ps)
     (ap (λ (s : Text). placed_each field_name s c.deref-3.result.now 0
     (map field_view c.deref-4.result.now)) c.deref-2.ensures
-    ∙ ap (λ (p : List ℕ). placed_each field_name name p 0 (map field_view c.deref-4.result.now)) paths
-    ∙ ap (λ (xs : List FieldDescriptorProto). placed_each field_name name path 0 (map field_view xs))
+    ∙ ap (λ (p : List ℕ). placed_each field_name name p 0 (map field_view c.deref-4.result.now))
+    paths
+    ∙ ap (λ (xs : List FieldDescriptorProto). placed_each field_name name path 0
+    (map field_view xs))
     c.deref-4.ensures.value
     ∙ ap (λ (xs : List FieldDescriptor). placed_each field_name name path 0 xs) members
     ∙ sym (append-nil _)))

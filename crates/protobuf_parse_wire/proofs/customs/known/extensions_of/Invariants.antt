@@ -5,5 +5,7 @@ use Rattle.protobuf_parse_wire.proofs.customs.known.extensions_of.Given as goal
 
 abbrev pub invariant-messages : goal.invariant-messages
 invariant-messages l =
-    placed_inside field_name extensions_inside (messages_placed l.messages) ≡ extensions_placed l.list.items
-    ++ placed_inside field_name extensions_inside (messages_placed (drop l.message-index l.messages))
+    placed_inside field_name extensions_inside (messages_placed l.messages)
+    ≡ extensions_placed l.list.items
+    ++ placed_inside field_name extensions_inside
+    (messages_placed (drop l.message-index l.messages))

@@ -1,5 +1,6 @@
 use Rattle.std.specs.Borrow.{Bor}
-use Rattle.std.proofs.Common.{◌≡◌, ℕ, ◌+◌, List, ◌∙◌, ◌++◌, [], ◌∷◌, sym, ap, append_assoc, append-nil, take, get_or}
+use Rattle.std.proofs.Common.{◌≡◌, ℕ, ◌+◌, List, ◌∙◌, ◌++◌, [], ◌∷◌, sym, ap, append_assoc}
+use Rattle.std.proofs.Common.{append-nil, take, get_or}
 use Rattle.std.proofs.lemmas.List.{map_more}
 use Rattle.protobuf_parse_base.specs.Names.{absolute_text}
 use Rattle.protobuf_parse_base.proofs.NameTexts.{absolute_text-append}

@@ -16,5 +16,6 @@ returns g c =
       file = c.args.file;
       path = c.in_ok-copied.field-0;
       index = k.index;
-    }) c.args.file (string_bytes c.in_ok-clone.field-0) name (ap spot path) c.in_ok-clone.ensures.cases (h name))
+    }) c.args.file (string_bytes c.in_ok-clone.field-0) name (ap spot path)
+    c.in_ok-clone.ensures.cases (h name))
     c.put.ensures

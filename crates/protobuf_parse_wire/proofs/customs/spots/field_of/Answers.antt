@@ -19,7 +19,9 @@ returns-then-is_some c =
     let later = at_spots messages_inside picked (map spot_view (drop (i + 1) xs)) in
     let rest = field_among (fields_of later) name in
     let step = ap (λ ms. field_among (fields_of ms) name) (opened messages_inside picked xs i
-    c.place-item.result c.places-test.true c.place-item.is) ∙ fields_more name (option_to_list (at_spot messages_inside picked (spot_view c.place-item.result))) later in
+    c.place-item.result c.places-test.true c.place-item.is)
+    ∙ fields_more name
+    (option_to_list (at_spot messages_inside picked (spot_view c.place-item.result))) later in
     first_some o rest (is_some_mapped field_seen c.field_at-field.result ∙ sym c.is_some.ensures
     ∙ c.if-is_some.true)
     ∙ ap (λ q. option_or q rest) c.field_at-field.ensures
@@ -35,7 +37,9 @@ places-preserved c =
     let later = at_spots messages_inside picked (map spot_view (drop (i + 1) xs)) in
     let rest = field_among (fields_of later) name in
     let step = ap (λ ms. field_among (fields_of ms) name) (opened messages_inside picked xs i
-    c.place-item.result c.places-test.true c.place-item.is) ∙ fields_more name (option_to_list (at_spot messages_inside picked (spot_view c.place-item.result))) later in
+    c.place-item.result c.places-test.true c.place-item.is)
+    ∙ fields_more name
+    (option_to_list (at_spot messages_inside picked (spot_view c.place-item.result))) later in
     c.places.invariant ∙ step ∙ ap (λ q. option_or q rest) (sym c.field_at-field.ensures)
     ∙ first_none o rest (is_some_mapped field_seen c.field_at-field.result ∙ sym c.is_some.ensures
     ∙ c.if-is_some.false)

@@ -18,7 +18,8 @@ returns-then-is_some c =
     let later = at_spots extensions_inside picked (map spot_view (drop (i + 1) xs)) in
     let step = ap first (opened extensions_inside picked xs i c.place-item.result c.places-test.true
     c.place-item.is) ∙ first_more _ later in
-    first_some o (first later) (is_some_mapped field_seen c.extension_at-extension.result ∙ sym c.is_some.ensures
+    first_some o (first later) (is_some_mapped field_seen c.extension_at-extension.result
+    ∙ sym c.is_some.ensures
     ∙ c.if-is_some.true)
     ∙ ap (λ q. option_or q (first later)) c.extension_at-extension.ensures
     ∙ sym (c.places.invariant ∙ step)
@@ -32,6 +33,8 @@ places-preserved c =
     let later = at_spots extensions_inside picked (map spot_view (drop (i + 1) xs)) in
     let step = ap first (opened extensions_inside picked xs i c.place-item.result c.places-test.true
     c.place-item.is) ∙ first_more _ later in
-    c.places.invariant ∙ step ∙ ap (λ q. option_or q (first later)) (sym c.extension_at-extension.ensures)
-    ∙ first_none o (first later) (is_some_mapped field_seen c.extension_at-extension.result ∙ sym c.is_some.ensures
+    c.places.invariant ∙ step
+    ∙ ap (λ q. option_or q (first later)) (sym c.extension_at-extension.ensures)
+    ∙ first_none o (first later) (is_some_mapped field_seen c.extension_at-extension.result
+    ∙ sym c.is_some.ensures
     ∙ c.if-is_some.false)

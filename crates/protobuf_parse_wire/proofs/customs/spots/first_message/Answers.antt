@@ -18,7 +18,8 @@ returns-then-is_some c =
     let later = at_spots messages_inside picked (map spot_view (drop (i + 1) xs)) in
     let step = ap first (opened messages_inside picked xs i c.place-item.result c.places-test.true
     c.place-item.is) ∙ first_more _ later in
-    first_some o (first later) (is_some_mapped message_seen c.message_at-message.result ∙ sym c.is_some.ensures
+    first_some o (first later) (is_some_mapped message_seen c.message_at-message.result
+    ∙ sym c.is_some.ensures
     ∙ c.if-is_some.true)
     ∙ ap (λ q. option_or q (first later)) c.message_at-message.ensures
     ∙ sym (c.places.invariant ∙ step)
@@ -32,6 +33,8 @@ places-preserved c =
     let later = at_spots messages_inside picked (map spot_view (drop (i + 1) xs)) in
     let step = ap first (opened messages_inside picked xs i c.place-item.result c.places-test.true
     c.place-item.is) ∙ first_more _ later in
-    c.places.invariant ∙ step ∙ ap (λ q. option_or q (first later)) (sym c.message_at-message.ensures)
-    ∙ first_none o (first later) (is_some_mapped message_seen c.message_at-message.result ∙ sym c.is_some.ensures
+    c.places.invariant ∙ step
+    ∙ ap (λ q. option_or q (first later)) (sym c.message_at-message.ensures)
+    ∙ first_none o (first later) (is_some_mapped message_seen c.message_at-message.result
+    ∙ sym c.is_some.ensures
     ∙ c.if-is_some.false)

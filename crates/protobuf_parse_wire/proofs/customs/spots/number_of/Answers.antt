@@ -20,7 +20,9 @@ returns-then-is_some c =
     let later = at_spots enums_inside picked (map spot_view (drop (i + 1) xs)) in
     let rest = number_among (values_in later) name in
     let step = ap (λ es. number_among (values_in es) name) (opened enums_inside picked xs i
-    c.place-item.result c.places-test.true c.place-item.is) ∙ values_more name (option_to_list (at_spot enums_inside picked (spot_view c.place-item.result))) later in
+    c.place-item.result c.places-test.true c.place-item.is)
+    ∙ values_more name
+    (option_to_list (at_spot enums_inside picked (spot_view c.place-item.result))) later in
     first_some o rest (sym c.is_some.ensures ∙ c.if-is_some.true)
     ∙ ap (λ q. option_or q rest) c.number_at-number.ensures
     ∙ sym (c.places.invariant ∙ step)
@@ -35,6 +37,8 @@ places-preserved c =
     let later = at_spots enums_inside picked (map spot_view (drop (i + 1) xs)) in
     let rest = number_among (values_in later) name in
     let step = ap (λ es. number_among (values_in es) name) (opened enums_inside picked xs i
-    c.place-item.result c.places-test.true c.place-item.is) ∙ values_more name (option_to_list (at_spot enums_inside picked (spot_view c.place-item.result))) later in
+    c.place-item.result c.places-test.true c.place-item.is)
+    ∙ values_more name
+    (option_to_list (at_spot enums_inside picked (spot_view c.place-item.result))) later in
     c.places.invariant ∙ step ∙ ap (λ q. option_or q rest) (sym c.number_at-number.ensures)
     ∙ first_none o rest (sym c.is_some.ensures ∙ c.if-is_some.false)

@@ -15,7 +15,8 @@ encode-requires c =
     c.push_options.new.entries.items c.deref.result.now c.new-entries.ensures.items
     c.deref.ensures.value c.in_ok-push_options.ensures.1 in
     subst AreWritable (sym is)
-    (denotes_writable s c.args.at.now.known.now.small c.args.construct os c.in_ok-push_options.ensures.0)
+    (denotes_writable s c.args.at.now.known.now.small c.args.construct os
+    c.in_ok-push_options.ensures.0)
 
 pub returns : goal.returns
 returns c =

@@ -13,4 +13,5 @@ pub returns-in_ok-check_memory-in-Err : goal.returns-in_ok-check_memory-in-Err
 returns-in_ok-check_memory-in-Err c =
     let zs = pieces_of c.args.string.now in
     bytes_missing c.args.option.now zs _
-    (no_bytes_said zs c.in-Err.error c.in-Err.ensures.refused c.in_ok-check_memory-in-Err.ensures) c.fault.ensures
+    (no_bytes_said zs c.in-Err.error c.in-Err.ensures.refused c.in_ok-check_memory-in-Err.ensures)
+    c.fault.ensures

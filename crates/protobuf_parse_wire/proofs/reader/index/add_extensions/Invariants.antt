@@ -4,4 +4,5 @@ use Rattle.protobuf_parse_wire.specs.Indexed.{Adds}
 use Rattle.protobuf_parse_wire.proofs.reader.index.add_extensions.Given as goal
 
 abbrev pub invariant-extensions : goal.invariant-extensions
-invariant-extensions l = Adds l.fn.index l.index [] (map field_view (take l.extension-index l.extensions))
+invariant-extensions l =
+    Adds l.fn.index l.index [] (map field_view (take l.extension-index l.extensions))

@@ -6,4 +6,6 @@ use Rattle.protobuf_parse_wire.specs.Indexed.{Adds}
 use Rattle.protobuf_parse_wire.proofs.reader.index.index_of.Given as goal
 
 abbrev pub invariant-files : goal.invariant-files
-invariant-files l = Adds l.initial.index l.index (flat_map declared_in (map file_view (take l.file-index l.files))) (flat_map extensions_in (map file_view (take l.file-index l.files)))
+invariant-files l = Adds l.initial.index l.index
+    (flat_map declared_in (map file_view (take l.file-index l.files)))
+    (flat_map extensions_in (map file_view (take l.file-index l.files)))

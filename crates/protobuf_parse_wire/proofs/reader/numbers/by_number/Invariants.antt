@@ -9,4 +9,7 @@ abbrev pub invariant-fields : goal.invariant-fields
 invariant-fields l = IsByNumber l.numbers (map field_view (take l.field-index l.fields))
 
 abbrev pub invariant-extensions : goal.invariant-extensions
-invariant-extensions l = IsByNumber l.numbers (map field_view l.fields ++ map (λ (f : Bor FieldDescriptorProto). field_view f.now) (take l.extension-index l.extensions))
+invariant-extensions l =
+    IsByNumber l.numbers
+    (map field_view l.fields ++ map (λ (f : Bor FieldDescriptorProto). field_view f.now)
+    (take l.extension-index l.extensions))

@@ -21,7 +21,11 @@ abbrev pub decreases-records_of : goal.decreases-records_of
 decreases-records_of l = 5 * l.levels + 4
 
 abbrev pub invariant-records_of-records : goal.invariant-records_of-records
-invariant-records_of-records l = Left (message_at (entered_by l.index) l.levels) (numbered l.numbers) (map read_field_view l.fields.items) l.rest (records (message_at (entered_by l.index) l.levels) (numbered l.numbers) (length l.bytes) l.bytes) × Remembers l.index l.visited
+invariant-records_of-records l =
+    Left (message_at (entered_by l.index) l.levels) (numbered l.numbers)
+    (map read_field_view l.fields.items) l.rest
+    (records (message_at (entered_by l.index) l.levels) (numbered l.numbers)
+    (length l.bytes) l.bytes) × Remembers l.index l.visited
 
 abbrev pub decreases-records_of-records : goal.decreases-records_of-records
 decreases-records_of-records l = length l.rest

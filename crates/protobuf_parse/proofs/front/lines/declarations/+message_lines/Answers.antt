@@ -10,7 +10,11 @@ put_message-returns t c =
     let name = rw c.deref.ensures at c.in_ok-put_line.ensures in
     let inside = rw c.deref-2.ensures.value at c.in_ok-put_messages.ensures in
     on_ok_then c.put_message_back.result
-    (λ back. back ∙ appended_five _ _ _ _ _ _ _ _ _ _ name c.in_ok-put_message_front.ensures inside c.in_ok-put_message_middle.ensures ∙ ap (λ (x : List ℕ). string_bytes c.args.text.now ++ x) (sym (message_lines_is c.args.level c.args.message.now)))
+    (λ back. back
+    ∙ appended_five _ _ _ _ _ _ _ _ _ _ name c.in_ok-put_message_front.ensures inside
+    c.in_ok-put_message_middle.ensures
+    ∙ ap (λ (x : List ℕ). string_bytes c.args.text.now ++ x)
+    (sym (message_lines_is c.args.level c.args.message.now)))
     c.put_message_back.ensures
 
 pub put_messages-loop-message-init : goal.put_messages-loop-message-init
@@ -18,7 +22,10 @@ put_messages-loop-message-init t c = sym (append-nil _)
 
 pub put_messages-loop-message-preserved : goal.put_messages-loop-message-preserved
 put_messages-loop-message-preserved t c =
-    appended_next (message_lines c.args.level) message_view _ _ _ _ _ _ c.loop-message-test.true c.message-item.is c.loop-message.invariant c.in_ok-put_message.ensures
+    appended_next (message_lines c.args.level) message_view _ _ _ _ _ _ c.loop-message-test.true
+    c.message-item.is c.loop-message.invariant c.in_ok-put_message.ensures
 
 pub put_messages-returns : goal.put_messages-returns
-put_messages-returns t c = appended_all (message_lines c.args.level) message_view _ _ _ _ c.loop-message-test.false c.loop-message.invariant
+put_messages-returns t c =
+    appended_all (message_lines c.args.level) message_view _ _ _ _ c.loop-message-test.false
+    c.loop-message.invariant

@@ -6,4 +6,5 @@ use Rattle.protobuf_parse.proofs.front.lines.declarations.+message_lines.Given a
 
 abbrev pub invariant-put_messages-loop-message : goal.invariant-put_messages-loop-message
 invariant-put_messages-loop-message l =
-    string_bytes l.text ≡ string_bytes l.fn.text ++ flat_map (message_lines l.level) (map message_view (take l.message-index l.messages))
+    string_bytes l.text ≡ string_bytes l.fn.text
+    ++ flat_map (message_lines l.level) (map message_view (take l.message-index l.messages))

@@ -4,4 +4,6 @@ use Rattle.protobuf_parse.proofs.front.lines.declarations.method_words.Goals as 
 
 pub returns : goal.returns
 unfolding method_words
-returns c = appended_spaced _ _ _ _ _ _ _ _ c.in_ok-words.ensures.ok c.in_ok-put_words_if.ensures c.in_ok-put_words_if-2.ensures
+returns c =
+    appended_spaced _ _ _ _ _ _ _ _ c.in_ok-words.ensures.ok c.in_ok-put_words_if.ensures
+    c.in_ok-put_words_if-2.ensures

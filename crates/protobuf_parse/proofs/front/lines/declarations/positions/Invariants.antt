@@ -4,4 +4,5 @@ use Rattle.protobuf_parse.specs.Listing.{is_position}
 use Rattle.protobuf_parse.proofs.front.lines.declarations.positions.Given as goal
 
 abbrev pub invariant-loop-position : goal.invariant-loop-position
-invariant-loop-position l = (i : ℕ) → contains nat_eq l.positions i ≡ is_position i (take l.position-index l.listed)
+invariant-loop-position l = (i : ℕ)
+    → contains nat_eq l.positions i ≡ is_position i (take l.position-index l.listed)

@@ -9,7 +9,10 @@ loop-value-init c = sym (append-nil _)
 
 pub loop-value-preserved : goal.loop-value-preserved
 loop-value-preserved c =
-    appended_next (enum_value_lines c.args.level) enum_value_view _ _ _ _ _ _ c.loop-value-test.true c.value-item.is c.loop-value.invariant c.in_ok-put_enum_value.ensures
+    appended_next (enum_value_lines c.args.level) enum_value_view _ _ _ _ _ _ c.loop-value-test.true
+    c.value-item.is c.loop-value.invariant c.in_ok-put_enum_value.ensures
 
 pub returns : goal.returns
-returns c = appended_all (enum_value_lines c.args.level) enum_value_view _ _ _ _ c.loop-value-test.false c.loop-value.invariant
+returns c =
+    appended_all (enum_value_lines c.args.level) enum_value_view _ _ _ _ c.loop-value-test.false
+    c.loop-value.invariant

@@ -6,4 +6,5 @@ use Rattle.protobuf_parse.proofs.front.lines.declarations.put_enum_values.Given 
 
 abbrev pub invariant-loop-value : goal.invariant-loop-value
 invariant-loop-value l =
-    string_bytes l.text ≡ string_bytes l.fn.text ++ flat_map (enum_value_lines l.level) (map enum_value_view (take l.value-index l.values))
+    string_bytes l.text ≡ string_bytes l.fn.text
+    ++ flat_map (enum_value_lines l.level) (map enum_value_view (take l.value-index l.values))

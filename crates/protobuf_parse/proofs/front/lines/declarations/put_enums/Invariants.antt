@@ -6,4 +6,5 @@ use Rattle.protobuf_parse.proofs.front.lines.declarations.put_enums.Given as goa
 
 abbrev pub invariant-loop-each : goal.invariant-loop-each
 invariant-loop-each l =
-    string_bytes l.text ≡ string_bytes l.fn.text ++ flat_map (enum_lines l.level) (map enum_view (take l.each-index l.enums))
+    string_bytes l.text ≡ string_bytes l.fn.text
+    ++ flat_map (enum_lines l.level) (map enum_view (take l.each-index l.enums))

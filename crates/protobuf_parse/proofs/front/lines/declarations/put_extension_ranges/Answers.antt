@@ -9,4 +9,6 @@ pub loop-range-init : goal.loop-range-init
 loop-range-init c = sym (append-nil _)
 
 pub returns : goal.returns
-returns c = appended_all (range_line c.args.level (codes "extension_range ")) extension_range_view _ _ _ _ c.loop-range-test.false c.loop-range.invariant
+returns c =
+    appended_all (range_line c.args.level (codes "extension_range ")) extension_range_view _ _ _ _
+    c.loop-range-test.false c.loop-range.invariant

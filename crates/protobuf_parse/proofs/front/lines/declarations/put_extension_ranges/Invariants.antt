@@ -6,4 +6,6 @@ use Rattle.protobuf_parse.proofs.front.lines.declarations.put_extension_ranges.G
 
 abbrev pub invariant-loop-range : goal.invariant-loop-range
 invariant-loop-range l =
-    string_bytes l.text ≡ string_bytes l.fn.text ++ flat_map (range_line l.level (codes "extension_range ")) (map extension_range_view (take l.range-index l.ranges))
+    string_bytes l.text ≡ string_bytes l.fn.text
+    ++ flat_map (range_line l.level (codes "extension_range "))
+    (map extension_range_view (take l.range-index l.ranges))

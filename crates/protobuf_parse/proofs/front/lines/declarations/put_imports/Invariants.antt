@@ -6,4 +6,6 @@ use Rattle.protobuf_parse.proofs.front.lines.declarations.put_imports.Given as g
 -- what is written, and the lines of the imports that are left, are all of it
 abbrev pub invariant-loop-i : goal.invariant-loop-i
 invariant-loop-i l =
-    string_bytes l.fn.text ++ import_lines l.fn.public l.fn.weak 0 (map string_bytes l.paths) ≡ string_bytes l.text ++ import_lines l.fn.public l.fn.weak l.i-counter (map string_bytes (drop l.i-counter l.paths))
+    string_bytes l.fn.text ++ import_lines l.fn.public l.fn.weak 0 (map string_bytes l.paths)
+    ≡ string_bytes l.text ++ import_lines l.fn.public l.fn.weak l.i-counter
+    (map string_bytes (drop l.i-counter l.paths))

@@ -9,7 +9,10 @@ loop-method-init c = sym (append-nil _)
 
 pub loop-method-preserved : goal.loop-method-preserved
 loop-method-preserved c =
-    appended_next (method_lines c.args.level) method_view _ _ _ _ _ _ c.loop-method-test.true c.method-item.is c.loop-method.invariant c.in_ok-put_method.ensures
+    appended_next (method_lines c.args.level) method_view _ _ _ _ _ _ c.loop-method-test.true
+    c.method-item.is c.loop-method.invariant c.in_ok-put_method.ensures
 
 pub returns : goal.returns
-returns c = appended_all (method_lines c.args.level) method_view _ _ _ _ c.loop-method-test.false c.loop-method.invariant
+returns c =
+    appended_all (method_lines c.args.level) method_view _ _ _ _ c.loop-method-test.false
+    c.loop-method.invariant

@@ -6,4 +6,5 @@ use Rattle.protobuf_parse.proofs.front.lines.declarations.put_methods.Given as g
 
 abbrev pub invariant-loop-method : goal.invariant-loop-method
 invariant-loop-method l =
-    string_bytes l.text ≡ string_bytes l.fn.text ++ flat_map (method_lines l.level) (map method_view (take l.method-index l.methods))
+    string_bytes l.text ≡ string_bytes l.fn.text
+    ++ flat_map (method_lines l.level) (map method_view (take l.method-index l.methods))

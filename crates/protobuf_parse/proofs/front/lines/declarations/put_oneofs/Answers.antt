@@ -9,7 +9,12 @@ loop-oneof-init c = sym (append-nil _)
 
 pub loop-oneof-preserved : goal.loop-oneof-preserved
 loop-oneof-preserved c =
-    appended_next (oneof_lines c.args.level) oneof_view _ _ _ _ _ _ c.loop-oneof-test.true c.oneof-item.is c.loop-oneof.invariant (appended_two _ _ _ _ _ (rw c.deref.ensures at c.in_ok-put_line.ensures) c.in_ok-put_oneof_options.ensures)
+    appended_next (oneof_lines c.args.level) oneof_view _ _ _ _ _ _ c.loop-oneof-test.true
+    c.oneof-item.is c.loop-oneof.invariant
+    (appended_two _ _ _ _ _ (rw c.deref.ensures at c.in_ok-put_line.ensures)
+    c.in_ok-put_oneof_options.ensures)
 
 pub returns : goal.returns
-returns c = appended_all (oneof_lines c.args.level) oneof_view _ _ _ _ c.loop-oneof-test.false c.loop-oneof.invariant
+returns c =
+    appended_all (oneof_lines c.args.level) oneof_view _ _ _ _ c.loop-oneof-test.false
+    c.loop-oneof.invariant

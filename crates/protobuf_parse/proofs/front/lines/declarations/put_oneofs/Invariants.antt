@@ -6,4 +6,5 @@ use Rattle.protobuf_parse.proofs.front.lines.declarations.put_oneofs.Given as go
 
 abbrev pub invariant-loop-oneof : goal.invariant-loop-oneof
 invariant-loop-oneof l =
-    string_bytes l.text ≡ string_bytes l.fn.text ++ flat_map (oneof_lines l.level) (map oneof_view (take l.oneof-index l.oneofs))
+    string_bytes l.text ≡ string_bytes l.fn.text
+    ++ flat_map (oneof_lines l.level) (map oneof_view (take l.oneof-index l.oneofs))

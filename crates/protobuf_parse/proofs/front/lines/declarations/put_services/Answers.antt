@@ -9,7 +9,10 @@ loop-service-init c = sym (append-nil _)
 
 pub loop-service-preserved : goal.loop-service-preserved
 loop-service-preserved c =
-    appended_next (service_lines c.args.level) service_view _ _ _ _ _ _ c.loop-service-test.true c.service-item.is c.loop-service.invariant c.in_ok-put_service.ensures
+    appended_next (service_lines c.args.level) service_view _ _ _ _ _ _ c.loop-service-test.true
+    c.service-item.is c.loop-service.invariant c.in_ok-put_service.ensures
 
 pub returns : goal.returns
-returns c = appended_all (service_lines c.args.level) service_view _ _ _ _ c.loop-service-test.false c.loop-service.invariant
+returns c =
+    appended_all (service_lines c.args.level) service_view _ _ _ _ c.loop-service-test.false
+    c.loop-service.invariant

@@ -6,4 +6,5 @@ use Rattle.protobuf_parse.proofs.front.lines.declarations.put_services.Given as 
 
 abbrev pub invariant-loop-service : goal.invariant-loop-service
 invariant-loop-service l =
-    string_bytes l.text ≡ string_bytes l.fn.text ++ flat_map (service_lines l.level) (map service_view (take l.service-index l.services))
+    string_bytes l.text ≡ string_bytes l.fn.text
+    ++ flat_map (service_lines l.level) (map service_view (take l.service-index l.services))

@@ -9,7 +9,10 @@ loop-field-init c = sym (append-nil _)
 
 pub loop-field-preserved : goal.loop-field-preserved
 loop-field-preserved c =
-    appended_next (field_lines c.args.level) field_view _ _ _ _ _ _ c.loop-field-test.true c.field-item.is c.loop-field.invariant c.in_ok-put_field.ensures
+    appended_next (field_lines c.args.level) field_view _ _ _ _ _ _ c.loop-field-test.true
+    c.field-item.is c.loop-field.invariant c.in_ok-put_field.ensures
 
 pub returns : goal.returns
-returns c = appended_all (field_lines c.args.level) field_view _ _ _ _ c.loop-field-test.false c.loop-field.invariant
+returns c =
+    appended_all (field_lines c.args.level) field_view _ _ _ _ c.loop-field-test.false
+    c.loop-field.invariant

@@ -6,4 +6,5 @@ use Rattle.protobuf_parse.proofs.front.lines.fields.put_fields.Given as goal
 
 abbrev pub invariant-loop-field : goal.invariant-loop-field
 invariant-loop-field l =
-    string_bytes l.text ≡ string_bytes l.fn.text ++ flat_map (field_lines l.level) (map field_view (take l.field-index l.fields))
+    string_bytes l.text ≡ string_bytes l.fn.text
+    ++ flat_map (field_lines l.level) (map field_view (take l.field-index l.fields))

@@ -5,4 +5,5 @@ use Rattle.protobuf_parse.proofs.front.lines.pieces.put_reserved_names.Given as 
 
 abbrev pub invariant-loop-name : goal.invariant-loop-name
 invariant-loop-name l =
-    string_bytes l.text ≡ string_bytes l.fn.text ++ flat_map (reserved_name_line l.level) (map string_bytes (take l.name-index l.names))
+    string_bytes l.text ≡ string_bytes l.fn.text
+    ++ flat_map (reserved_name_line l.level) (map string_bytes (take l.name-index l.names))

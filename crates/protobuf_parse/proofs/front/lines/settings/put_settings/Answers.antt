@@ -8,4 +8,6 @@ pub loop-setting-init : goal.loop-setting-init
 loop-setting-init c = sym (append-nil _)
 
 pub returns : goal.returns
-returns c = appended_all (setting_line c.args.level) setting_view _ _ _ _ c.loop-setting-test.false c.loop-setting.invariant
+returns c =
+    appended_all (setting_line c.args.level) setting_view _ _ _ _ c.loop-setting-test.false
+    c.loop-setting.invariant

@@ -6,4 +6,5 @@ use Rattle.protobuf_parse.proofs.front.lines.settings.put_settings.Given as goal
 
 abbrev pub invariant-loop-setting : goal.invariant-loop-setting
 invariant-loop-setting l =
-    string_bytes l.text ≡ string_bytes l.fn.text ++ flat_map (setting_line l.level) (map setting_view (take l.setting-index l.settings))
+    string_bytes l.text ≡ string_bytes l.fn.text
+    ++ flat_map (setting_line l.level) (map setting_view (take l.setting-index l.settings))

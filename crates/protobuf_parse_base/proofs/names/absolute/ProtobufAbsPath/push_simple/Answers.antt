@@ -12,5 +12,9 @@ new-requires c = (ident-relative c.as_str.result.now c.as_str.ensures.ident).0
 pub returns-clause-ok : goal.returns-clause-ok
 returns-clause-ok c =
     let one : rel_ref_idents c.new.result ≡ ident_ref_text c.args.simple ∷ [] =
-    ap relative_idents c.new.ensures ∙ ((ident-relative c.as_str.result.now c.as_str.ensures.ident).1 ∙ ap (λ text. text ∷ []) c.as_str.ensures.text) in
-    on_ok_weaker c.push_relative.result (λ gives. gives ∙ ap (λ ids. abs_idents c.args.self.now ++ ids) one) c.push_relative.ensures.ok
+    ap relative_idents c.new.ensures
+    ∙ ((ident-relative c.as_str.result.now c.as_str.ensures.ident).1
+    ∙ ap (λ text. text ∷ []) c.as_str.ensures.text) in
+    on_ok_weaker c.push_relative.result
+    (λ gives. gives ∙ ap (λ ids. abs_idents c.args.self.now ++ ids) one)
+    c.push_relative.ensures.ok

@@ -8,6 +8,9 @@ use Rattle.protobuf_parse_base.proofs.names.absolute.ProtobufAbsPathRef.is_root.
 
 pub returns : goal.returns
 returns c = (
-  λ empty. ap absolute_idents (nil_from_length c.args.self.text.now (eqb-true _ 0 (sym c.is_empty.ensures ∙ empty))),
-  λ none. c.is_empty.ensures ∙ ap (λ text. length text == 0) (absolute-empty c.args.self.text.now none),
+  λ empty.
+      ap absolute_idents
+      (nil_from_length c.args.self.text.now (eqb-true _ 0 (sym c.is_empty.ensures ∙ empty))),
+  λ none. c.is_empty.ensures
+      ∙ ap (λ text. length text == 0) (absolute-empty c.args.self.text.now none),
 )

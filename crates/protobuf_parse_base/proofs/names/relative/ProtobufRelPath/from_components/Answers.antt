@@ -10,17 +10,32 @@ use Rattle.protobuf_parse_base.proofs.names.relative.ProtobufRelPath.from_compon
 
 pub loop-component-preserved : goal.loop-component-preserved
 loop-component-preserved c =
-    relative_text-more c.args.components.now c.loop-component.component-index c.component-item.result (string_bytes c.loop-component.text)
-    (string_bytes c.push_part.new.text) c.as_str.result.now (omega arith) c.component-item.is c.as_str.ensures.text c.loop-component.invariant c.in_ok-push_part.ensures
+    relative_text-more c.args.components.now c.loop-component.component-index
+    c.component-item.result (string_bytes c.loop-component.text)
+    (string_bytes c.push_part.new.text) c.as_str.result.now
+    (omega arith) c.component-item.is c.as_str.ensures.text c.loop-component.invariant
+    c.in_ok-push_part.ensures
 
 pub invariant_of-result : goal.invariant_of-result
 invariant_of-result c =
-    let whole : string_bytes c.loop-component.text ≡ relative_text (map ident_ref_text c.args.components.now) =
-    c.loop-component.invariant ∙ ap (λ xs. relative_text (map ident_ref_text xs)) (take_all c.loop-component.component-index c.args.components.now (omega arith)) in
-    record { well_formed = ap is_relative whole ∙ is_relative-text (map ident_ref_text c.args.components.now) (are_idents-map c.args.components.now) }
+    let whole : string_bytes c.loop-component.text
+    ≡ relative_text (map ident_ref_text c.args.components.now) =
+    c.loop-component.invariant
+    ∙ ap (λ xs. relative_text (map ident_ref_text xs))
+    (take_all c.loop-component.component-index c.args.components.now (omega arith)) in
+    record {
+      well_formed = ap is_relative whole
+          ∙ is_relative-text (map ident_ref_text c.args.components.now)
+          (are_idents-map c.args.components.now);
+    }
 
 pub returns : goal.returns
 returns c =
-    let whole : string_bytes c.loop-component.text ≡ relative_text (map ident_ref_text c.args.components.now) =
-    c.loop-component.invariant ∙ ap (λ xs. relative_text (map ident_ref_text xs)) (take_all c.loop-component.component-index c.args.components.now (omega arith)) in
-    ap relative_idents whole ∙ relative_idents-text (map ident_ref_text c.args.components.now) (are_idents-map c.args.components.now)
+    let whole : string_bytes c.loop-component.text
+    ≡ relative_text (map ident_ref_text c.args.components.now) =
+    c.loop-component.invariant
+    ∙ ap (λ xs. relative_text (map ident_ref_text xs))
+    (take_all c.loop-component.component-index c.args.components.now (omega arith)) in
+    ap relative_idents whole
+    ∙ relative_idents-text (map ident_ref_text c.args.components.now)
+    (are_idents-map c.args.components.now)

@@ -6,4 +6,5 @@ use Rattle.protobuf_parse_base.specs.NameViews.{ident_ref_text}
 use Rattle.protobuf_parse_base.proofs.names.relative.ProtobufRelPath.from_components.Given as goal
 
 abbrev pub invariant-loop-component : goal.invariant-loop-component
-invariant-loop-component l = string_bytes l.text ≡ relative_text (map ident_ref_text (take l.component-index l.components))
+invariant-loop-component l = string_bytes l.text
+    ≡ relative_text (map ident_ref_text (take l.component-index l.components))

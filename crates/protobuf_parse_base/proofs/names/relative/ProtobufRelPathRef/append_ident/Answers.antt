@@ -12,5 +12,8 @@ new-requires c = (ident-relative c.as_str.result.now c.as_str.ensures.ident).0
 pub returns : goal.returns
 returns c =
     let one : rel_ref_idents c.new.result ≡ ident_ref_text c.args.ident ∷ [] =
-    ap relative_idents c.new.ensures ∙ ((ident-relative c.as_str.result.now c.as_str.ensures.ident).1 ∙ ap (λ text. text ∷ []) c.as_str.ensures.text) in
-    IfOk-weaker c.append.result _ _ (λ path gives. gives ∙ ap (λ ids. rel_ref_idents c.args.self ++ ids) one) c.append.ensures
+    ap relative_idents c.new.ensures
+    ∙ ((ident-relative c.as_str.result.now c.as_str.ensures.ident).1
+    ∙ ap (λ text. text ∷ []) c.as_str.ensures.text) in
+    IfOk-weaker c.append.result _ _
+    (λ path gives. gives ∙ ap (λ ids. rel_ref_idents c.args.self ++ ids) one) c.append.ensures

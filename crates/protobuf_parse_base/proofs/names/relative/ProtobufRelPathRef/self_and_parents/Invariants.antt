@@ -6,7 +6,8 @@ use Rattle.protobuf_parse_base.proofs.Fronts.{fronts_of, count_of}
 use Rattle.protobuf_parse_base.proofs.names.relative.ProtobufRelPathRef.self_and_parents.Given as goal
 
 abbrev pub invariant-loop-next : goal.invariant-loop-next
-invariant-loop-next l = map rel_ref_idents l.paths.items ++ fronts_of rel_ref_idents l.next ≡ fronts (rel_ref_idents l.initial.self)
+invariant-loop-next l = map rel_ref_idents l.paths.items ++ fronts_of rel_ref_idents l.next
+    ≡ fronts (rel_ref_idents l.initial.self)
 
 abbrev pub decreases-loop-next : goal.decreases-loop-next
 decreases-loop-next l = count_of rel_ref_idents l.next

@@ -2,7 +2,8 @@
 use Rattle.std.proofs.Common.{◌∷◌, ◌++◌, [], sym, ap, ◌∙◌}
 use Rattle.protobuf_parse_base.specs.Names.{relative_idents}
 use Rattle.protobuf_parse_base.specs.NameViews.{ident_ref_text}
-use Rattle.protobuf_parse_base.proofs.NameTexts.{IsCutRelative-from_dot, relative-one, nonempty-from_test}
+use Rattle.protobuf_parse_base.proofs.NameTexts.{IsCutRelative-from_dot, relative-one}
+use Rattle.protobuf_parse_base.proofs.NameTexts.{nonempty-from_test}
 use Rattle.protobuf_parse_base.proofs.names.relative.ProtobufRelPathRef.split_first_rem.Goals as goal
 
 pub new-requires : goal.new-requires
@@ -11,10 +12,13 @@ new-requires c =
     (relative-one _ cut.front_is cut.front_nonempty c.in-Some.ensures.1).0
 
 pub new-requires-in-Some : goal.new-requires-in-Some
-new-requires-in-Some c = (IsCutRelative-from_dot _ _ _ c.in-Some.ensures.0 c.args.self.well_formed).rest_is
+new-requires-in-Some c =
+    (IsCutRelative-from_dot _ _ _ c.in-Some.ensures.0 c.args.self.well_formed).rest_is
 
 pub new-requires-in-None : goal.new-requires-in-None
-new-requires-in-None c = (relative-one _ c.args.self.well_formed (nonempty-from_test _ c.if-is_empty.ensures) c.in-None.ensures).0
+new-requires-in-None c =
+    (relative-one _ c.args.self.well_formed
+    (nonempty-from_test _ c.if-is_empty.ensures) c.in-None.ensures).0
 
 pub returns-in-Some : goal.returns-in-Some
 returns-in-Some c =
@@ -26,5 +30,7 @@ returns-in-Some c =
 
 pub returns-in-None : goal.returns-in-None
 returns-in-None c =
-    let one = relative-one _ c.args.self.well_formed (nonempty-from_test _ c.if-is_empty.ensures) c.in-None.ensures in
-    one.1 ∙ (ap (λ text. text ∷ []) (sym c.new-in-None.ensures) ∙ ap (λ ids. ident_ref_text c.new-in-None.result ∷ ids) (sym c.empty.ensures.idents))
+    let one = relative-one _ c.args.self.well_formed
+    (nonempty-from_test _ c.if-is_empty.ensures) c.in-None.ensures in
+    one.1 ∙ (ap (λ text. text ∷ []) (sym c.new-in-None.ensures)
+    ∙ ap (λ ids. ident_ref_text c.new-in-None.result ∷ ids) (sym c.empty.ensures.idents))

@@ -7,8 +7,11 @@ use Rattle.protobuf_parse_base.proofs.proto_path.path.ProtoPathBuf.new.Goals as 
 
 pub returns-in-Some-clause-accepted : goal.returns-in-Some-clause-accepted
 returns-in-Some-clause-accepted c =
-    let found : path_fault (string_bytes c.args.text) ≡ Some c.in-Some.fault = search rules in
-    (λ ok. cc ok, λ fact. let none = path_fault-proto_path (string_bytes c.args.text) fact in cc (found, none))
+    let found : path_fault (string_bytes c.args.text) ≡ Some c.in-Some.fault = search rules in (
+      λ ok. cc ok,
+      λ fact. let none = path_fault-proto_path (string_bytes c.args.text) fact in
+          cc (found, none),
+    )
 
 pub returns-in-None-clause-accepted : goal.returns-in-None-clause-accepted
 returns-in-None-clause-accepted c =

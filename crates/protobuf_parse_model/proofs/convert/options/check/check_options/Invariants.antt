@@ -4,4 +4,5 @@ use Rattle.protobuf_parse_model.specs.OptionViews.{options_seen, table_seen}
 use Rattle.protobuf_parse_model.proofs.convert.options.check.check_options.Given as goal
 
 abbrev pub invariant-loop-option : goal.invariant-loop-option
-invariant-loop-option l = options_faults (table_seen l.table) (options_seen (take l.option-index l.options)) ≡ []
+invariant-loop-option l =
+    options_faults (table_seen l.table) (options_seen (take l.option-index l.options)) ≡ []

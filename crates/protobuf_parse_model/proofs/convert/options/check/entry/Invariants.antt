@@ -4,4 +4,5 @@ use Rattle.protobuf_parse_model.specs.OptionViews.{table_seen}
 use Rattle.protobuf_parse_model.proofs.convert.options.check.entry.Given as goal
 
 abbrev pub invariant-loop-entry : goal.invariant-loop-entry
-invariant-loop-entry l = find (λ e. bytes_eq e.0 l.name) (table_seen l.table) ≡ find (λ e. bytes_eq e.0 l.name) (table_seen (drop l.entry-index l.table))
+invariant-loop-entry l = find (λ e. bytes_eq e.0 l.name) (table_seen l.table)
+    ≡ find (λ e. bytes_eq e.0 l.name) (table_seen (drop l.entry-index l.table))

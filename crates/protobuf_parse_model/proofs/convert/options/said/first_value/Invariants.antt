@@ -4,4 +4,5 @@ use Rattle.protobuf_parse_model.specs.OptionViews.{options_seen}
 use Rattle.protobuf_parse_model.proofs.convert.options.said.first_value.Given as goal
 
 abbrev pub invariant-loop-option : goal.invariant-loop-option
-invariant-loop-option l = first_value l.name (options_seen l.options) ≡ first_value l.name (options_seen (drop l.option-index l.options))
+invariant-loop-option l = first_value l.name (options_seen l.options)
+    ≡ first_value l.name (options_seen (drop l.option-index l.options))

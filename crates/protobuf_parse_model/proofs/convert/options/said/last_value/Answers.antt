@@ -7,6 +7,13 @@ use Rattle.protobuf_parse_model.proofs.convert.options.said.last_value.Goals.{in
 pub loop-option-preserved : goal.loop-option-preserved
 loop-option-preserved c =
     elim c.match-value_if_named.branch [
-      | in-Some w ↦ ap (option_map constant_seen) w.last-is ∙ last_value_more c.args.name.now c.args.options.now c.loop-option.option-index c.option-item.result (option_map constant_seen c.loop-option.last) (constant_seen w.in-Some.value ∷ []) c.loop-option-test.true c.option-item.is c.loop-option.invariant w.in-Some.ensures
-      | in_default w ↦ ap (option_map constant_seen) w.last-is ∙ last_value_more c.args.name.now c.args.options.now c.loop-option.option-index c.option-item.result (option_map constant_seen c.loop-option.last) [] c.loop-option-test.true c.option-item.is c.loop-option.invariant w.in_default.ensures
+      | in-Some w ↦ ap (option_map constant_seen) w.last-is
+          ∙ last_value_more c.args.name.now c.args.options.now c.loop-option.option-index
+          c.option-item.result (option_map constant_seen c.loop-option.last)
+          (constant_seen w.in-Some.value ∷ []) c.loop-option-test.true c.option-item.is
+          c.loop-option.invariant w.in-Some.ensures
+      | in_default w ↦ ap (option_map constant_seen) w.last-is
+          ∙ last_value_more c.args.name.now c.args.options.now c.loop-option.option-index
+          c.option-item.result (option_map constant_seen c.loop-option.last)
+          [] c.loop-option-test.true c.option-item.is c.loop-option.invariant w.in_default.ensures
     ]

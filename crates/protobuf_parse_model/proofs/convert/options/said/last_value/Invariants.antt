@@ -4,4 +4,5 @@ use Rattle.protobuf_parse_model.specs.OptionViews.{constant_seen, options_seen}
 use Rattle.protobuf_parse_model.proofs.convert.options.said.last_value.Given as goal
 
 abbrev pub invariant-loop-option : goal.invariant-loop-option
-invariant-loop-option l = option_map constant_seen l.last ≡ last_value l.name (options_seen (take l.option-index l.options))
+invariant-loop-option l = option_map constant_seen l.last
+    ≡ last_value l.name (options_seen (take l.option-index l.options))

@@ -4,7 +4,8 @@ use Rattle.protobuf_parse_model.proofs.convert.options.sets.file_options.Goals a
 
 pub returns : goal.returns
 returns c =
-    set_where_any c.args.options.now _ _ (sym c.is_empty.ensures ∙ c.if-is_empty.false) (λ i. record {
+    set_where_any c.args.options.now _ _ (sym c.is_empty.ensures ∙ c.if-is_empty.false)
+    (λ i. record {
       java_package = c.in_ok-early.ensures.java_package i;
       java_outer_classname = c.in_ok-early.ensures.java_outer_classname i;
       optimize_for = c.word_option.ensures i;

@@ -7,4 +7,6 @@ pub returns-in-Ok : goal.returns-in-Ok
 returns-in-Ok c = sym (text_said (pieces_of c.args.string.now) c.in-Ok.text c.in-Ok.ensures.text)
 
 pub returns-in_ok-check_memory-in-Err : goal.returns-in_ok-check_memory-in-Err
-returns-in_ok-check_memory-in-Err c = sym (no_text_said (pieces_of c.args.string.now) c.in-Err.error c.in-Err.ensures.refused c.in_ok-check_memory-in-Err.ensures)
+returns-in_ok-check_memory-in-Err c =
+    sym (no_text_said (pieces_of c.args.string.now) c.in-Err.error c.in-Err.ensures.refused
+    c.in_ok-check_memory-in-Err.ensures)

@@ -10,7 +10,9 @@ loop-piece-init c = subst (DecodesAll []) (sym c.new-bytes.ensures.items) none
 pub loop-piece-preserved : goal.loop-piece-preserved
 loop-piece-preserved c =
     let made = c.in_ok-push_piece.ensures in
-    next_piece string_bytes c.deref-piece-items.result.now c.loop-piece.piece-index c.piece-item.result c.as_bytes.result.now c.loop-piece.bytes.items c.push_piece.new.bytes.items made.0
+    next_piece string_bytes c.deref-piece-items.result.now c.loop-piece.piece-index
+    c.piece-item.result c.as_bytes.result.now c.loop-piece.bytes.items
+    c.push_piece.new.bytes.items made.0
     (omega arith) c.piece-item.is c.as_bytes.ensures.value c.loop-piece.invariant made.1 made.2
 
 pub returns-in_err-push_piece-clause-refused : goal.returns-in_err-push_piece-clause-refused
@@ -24,7 +26,9 @@ returns-in_err-push_piece-clause-refused c =
       | inr b ↦ inr (
         b.0,
         λ v d.
-            wrong_piece string_bytes items c.loop-piece.piece-index c.piece-item.result c.as_bytes.result.now (omega arith) c.piece-item.is c.as_bytes.ensures.value b.1 v
-            (subst (λ xs. DecodesAll (map string_bytes xs) v) (sym c.deref-piece-items.ensures.value) d),
+            wrong_piece string_bytes items c.loop-piece.piece-index c.piece-item.result
+            c.as_bytes.result.now (omega arith) c.piece-item.is c.as_bytes.ensures.value b.1 v
+            (subst (λ xs. DecodesAll (map string_bytes xs) v)
+            (sym c.deref-piece-items.ensures.value) d),
       )
     ])

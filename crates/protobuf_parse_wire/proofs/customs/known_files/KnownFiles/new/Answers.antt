@@ -5,9 +5,12 @@ use Rattle.protobuf_parse_wire.specs.Holding.{at_spots, files_seen}
 use Rattle.protobuf_parse_wire.specs.Indexed.{parts_seen}
 use Rattle.protobuf_parse_wire.specs.OptionFields.{declared_enums}
 use Rattle.protobuf_parse_wire.specs.OptionLaw.{HasSmallValues}
-use Rattle.protobuf_parse_wire.specs.Places.{enum_name, enums_inside, extensions_inside, field_name, messages_inside, placed_enums, placed_extensions, placed_messages}
+use Rattle.protobuf_parse_wire.specs.Places.{enum_name, enums_inside, extensions_inside, field_name}
+use Rattle.protobuf_parse_wire.specs.Places.{messages_inside, placed_enums, placed_extensions}
+use Rattle.protobuf_parse_wire.specs.Places.{placed_messages}
 use Rattle.protobuf_parse_wire.proofs.Holding.{all_named, parts_named, seen_is, stands_there}
-use Rattle.protobuf_parse_wire.proofs.Placing.{enums_without, extensions_without, messages_stand, placed_stand}
+use Rattle.protobuf_parse_wire.proofs.Placing.{enums_without, extensions_without, messages_stand}
+use Rattle.protobuf_parse_wire.proofs.Placing.{placed_stand}
 use Rattle.protobuf_parse_wire.proofs.SmallValues.{picked_small}
 use Rattle.protobuf_parse_wire.proofs.customs.known_files.KnownFiles.new.Goals as goal
 

@@ -6,7 +6,8 @@ use Rattle.protobuf_parse_model.specs.declared.descriptor.EnumDescriptorProto.{E
 use Rattle.protobuf_parse_model.specs.declared.descriptor.FieldDescriptorProto.{FieldDescriptorProto}
 use Rattle.protobuf_parse_model.specs.Descriptors.{Text, file_view}
 use Rattle.protobuf_parse_wire.specs.declared.customs.known.Known.{Known}
-use Rattle.protobuf_parse_wire.specs.Holding.{AddsSpots, enum_seen, message_seen, messages_placed, spots_known}
+use Rattle.protobuf_parse_wire.specs.Holding.{AddsSpots, enum_seen, message_seen, messages_placed}
+use Rattle.protobuf_parse_wire.specs.Holding.{spots_known}
 use Rattle.protobuf_parse_wire.specs.Known.{enum_known, field_seen}
 use Rattle.protobuf_parse_wire.specs.Places.{placed_enums, placed_extensions, placed_messages}
 use Rattle.protobuf_parse_wire.specs.SmallValues.{HaveSmall}
@@ -33,7 +34,8 @@ returns c =
     let second = subst (λ (ks : List (Known (Bor EnumDescriptorProto))). AddsSpots old.enums
     c.put_all-2.new.places (λ (name : Text). spots_known n name ks)) c.deref-5.ensures.value
     c.in_ok-put_all-2.ensures in
-    let small = subst (λ (ks : List (Known (Bor EnumDescriptorProto))). HaveSmall (map enum_known ks))
+    let small = subst
+    (λ (ks : List (Known (Bor EnumDescriptorProto))). HaveSmall (map enum_known ks))
     c.deref-3.ensures.value c.read_enums.ensures in
     on_ok_weaker c.put_all-3.result
     (λ added files len holds. record {
