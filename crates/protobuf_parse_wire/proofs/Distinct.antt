@@ -8,9 +8,9 @@ use Rattle.std.specs.List.{list_any}
 use Rattle.std.specs.Int.{w32}
 use Rattle.std.specs.Int.RustNames.{FitsSigned}
 use Rattle.std.specs.Map.{update}
-use Rattle.std.specs.HashMap.{HashMap, get}
+use Rattle.std.specs.BTreeMap.{BTreeMap, get}
 use Rattle.std.specs.Option.{option_or}
-use Rattle.std.specs.Ordering.{int_eq}
+use Rattle.std.specs.Ordering.{int_cmp, int_eq}
 use Rattle.std.proofs.Math.Path.{fun_ext}
 use Rattle.std.proofs.lemmas.Bool.{false_from_ne_true}
 use Rattle.std.proofs.lemmas.Bool.Decides.{Decides-int_eq}
@@ -118,16 +118,16 @@ large z n fits le = false_from_ne_true (int_eq (pos n) z)
 abbrev pub seen : Bor FieldDescriptorProto → FieldDescriptor
 seen r = field_view r.now
 
-module _ {S : Type 0} (m : HashMap ℤ (Bor FieldDescriptorProto) S) (fs : List FieldDescriptor)
+module _ (m : BTreeMap ℤ (Bor FieldDescriptorProto)) (fs : List FieldDescriptor)
     (r : Bor FieldDescriptorProto) where
-  pub added : (n : HashMap ℤ (Bor FieldDescriptorProto) S) → IsByNumber m fs
-      → FitsSigned w32 r.now.number → get int_eq m r.now.number ≡ None
-      → ((q : ℤ) → get int_eq n q ≡ update int_eq (get int_eq m) r.now.number (Some r) q)
+  pub added : (n : BTreeMap ℤ (Bor FieldDescriptorProto)) → IsByNumber m fs
+      → FitsSigned w32 r.now.number → get int_cmp m r.now.number ≡ None
+      → ((q : ℤ) → get int_cmp n q ≡ update int_eq (get int_cmp m) r.now.number (Some r) q)
       → IsByNumber n (fs ++ field_view r.now ∷ [])
   added n known fits none updates = record {
     found = λ q. ap (option_map seen) (updates q) ∙ mapped q (int_eq r.now.number q)
         ∙ found_more (seen r) fs q (int_eq r.now.number q) refl absent
-        (option_map seen (get int_eq m q)) (known.found q);
+        (option_map seen (get int_cmp m q)) (known.found q);
     small = λ q le. find-append (has (pos q)) fs (seen r ∷ [])
         ∙ ap (λ o. option_or o (find (has (pos q)) (seen r ∷ []))) (known.small q le)
         ∙ ap (λ (b : Bool). cond b (Some (seen r)) None) (large r.now.number q fits le);
@@ -138,20 +138,20 @@ module _ {S : Type 0} (m : HashMap ℤ (Bor FieldDescriptorProto) S) (fs : List 
       absent = sym (known.found r.now.number) ∙ ap (option_map seen) none
 
       mapped : (q : ℤ) (b : Bool)
-          → option_map seen (cond b (Some r) (get int_eq m q))
-          ≡ cond b (Some (seen r)) (option_map seen (get int_eq m q))
+          → option_map seen (cond b (Some r) (get int_cmp m q))
+          ≡ cond b (Some (seen r)) (option_map seen (get int_cmp m q))
       mapped q true = refl
       mapped q false = refl
 
   pub repeated : (old : Bor FieldDescriptorProto) (more : List FieldDescriptor) → IsByNumber m fs
-      → get int_eq m r.now.number ≡ Some old
+      → get int_cmp m r.now.number ≡ Some old
       → by_number (fs ++ field_view r.now ∷ more) ≡ Err AmbiguousNumber
   repeated old more known some =
       let there : find (has r.now.number) fs ≡ Some (seen old) = sym (known.found r.now.number)
       ∙ ap (option_map seen) some in
       rw (repeated_at fs (seen r) (seen old) more there) refl
 
-module _ {S : Type 0} (m : HashMap ℤ (Bor FieldDescriptorProto) S) (fs : List FieldDescriptor) where
+module _ (m : BTreeMap ℤ (Bor FieldDescriptorProto)) (fs : List FieldDescriptor) where
   -- the map says which field each number names
   pub numbers_are : IsByNumber m fs → by_number fs ≡ Ok (numbered m)
   numbers_are known =
@@ -159,7 +159,7 @@ module _ {S : Type 0} (m : HashMap ℤ (Bor FieldDescriptorProto) S) (fs : List 
       ∙ ap (λ (f : Numbers). Ok f) (fun_ext (λ n. named n (nat_lt n (2 ^ 31)) refl))
     where
       named : (n : ℕ) (b : Bool) → nat_lt n (2 ^ 31) ≡ b
-          → field_numbered fs n ≡ cond b (option_map seen (get int_eq m (pos n))) None
+          → field_numbered fs n ≡ cond b (option_map seen (get int_cmp m (pos n))) None
       named n true lt = sym (known.found (pos n))
       named n false ge = known.small n (ltb-false n (2 ^ 31) ge)
 

@@ -45,3 +45,4 @@ pub mod ByName
 pub mod Placing
 pub mod Picks
 pub mod Holding
+pub mod Visiting

@@ -1,11 +1,11 @@
 -- What the reader's indexes say: by name the messages and the extensions of files, by number the
 -- fields of a message.
 use Rattle.std.specs.Prelude.{◌≡◌, ℕ, ◌^◌, ◌≤◌, nat_lt, if◌then◌else◌, ℤ, pos, true, List, ◌++◌}
-use Rattle.std.specs.Prelude.{map, filter, find, Option, Some, None, Err, option_map}
-use Rattle.std.specs.Ordering.{int_eq}
+use Rattle.std.specs.Prelude.{map, filter, find, Option, Some, None, Ok, Err, option_map, IfSome}
+use Rattle.std.specs.Ordering.{int_cmp, int_eq}
 use Rattle.std.specs.List.{flat_map}
 use Rattle.std.specs.Borrow.{Bor}
-use Rattle.std.specs.HashMap.{HashMap, get}
+use Rattle.std.specs.BTreeMap.{BTreeMap, get, get_by_text}
 use Rattle.protobuf_parse_model.specs.declared.descriptor.DescriptorProto.{DescriptorProto}
 use Rattle.protobuf_parse_model.specs.declared.descriptor.FieldDescriptorProto.{FieldDescriptorProto}
 use Rattle.protobuf_parse_model.specs.Descriptors.{Text, FileDescriptor, FieldDescriptor}
@@ -13,6 +13,7 @@ use Rattle.protobuf_parse_model.specs.Descriptors.{MessageParts, MessageDescript
 use Rattle.protobuf_parse_model.specs.Descriptors.{message_view, field_view}
 use Rattle.protobuf_parse_wire.specs.declared.fault.ReadFault.TheVariants.{UnknownMessage}
 use Rattle.protobuf_parse_wire.specs.declared.reader.index.Index.{Index}
+use Rattle.protobuf_parse_wire.specs.declared.reader.visited.Visited.{Visited}
 use Rattle.protobuf_parse_wire.specs.Groups.{group}
 use Rattle.protobuf_parse_wire.specs.Declarations.{Declaration, messages_named, messages_of}
 use Rattle.protobuf_parse_wire.specs.Declarations.{extends, extensions_of, have_distinct_numbers}
@@ -53,17 +54,22 @@ pub record Indexes (files : List FileDescriptor) (index : Index) : Type 0 where
   pub extensions : (name : Text) → extensions_in index name ≡ extensions_of files name
 
 -- which field each number names by a map, whose keys are numbers of 31 bits and a sign
-abbrev pub numbered : {S : Type 0} → HashMap ℤ (Bor FieldDescriptorProto) S → Numbers
+abbrev pub numbered : BTreeMap ℤ (Bor FieldDescriptorProto) → Numbers
 numbered fields n = if nat_lt n (2 ^ 31)
-    then option_map (λ (f : Bor FieldDescriptorProto). field_view f.now) (get int_eq fields (pos n))
-    else None
+    then option_map (λ (f : Bor FieldDescriptorProto). field_view f.now)
+    (get int_cmp fields (pos n)) else None
 
 -- The map has the fields by their numbers, which are distinct, and none has a number of more than
 -- 31 bits.
-pub record IsByNumber {S : Type 0} (by_numbers : HashMap ℤ (Bor FieldDescriptorProto) S)
+pub record IsByNumber (by_numbers : BTreeMap ℤ (Bor FieldDescriptorProto))
     (fields : List FieldDescriptor) : Type 0 where
   pub found : (n : ℤ)
-      → option_map (λ (f : Bor FieldDescriptorProto). field_view f.now) (get int_eq by_numbers n)
+      → option_map (λ (f : Bor FieldDescriptorProto). field_view f.now) (get int_cmp by_numbers n)
       ≡ find (λ f. int_eq n f.number) fields
   pub small : (n : ℕ) → 2 ^ 31 ≤ n → find (λ f. int_eq (pos n) f.number) fields ≡ None
   pub distinct : have_distinct_numbers fields ≡ true
+
+-- Under a name stands what entering the message of that name gives.
+abbrev pub Remembers : Index → Visited → Type 0
+Remembers index visited = (name : Text) → IfSome (get_by_text visited.by_name name)
+    (λ numbers. entered_by index (Some name) ≡ Ok (numbered numbers.value))

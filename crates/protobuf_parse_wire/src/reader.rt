@@ -4,6 +4,7 @@ pub mod groups;
 mod index;
 mod numbers;
 mod records;
+mod visited;
 mod words;
 
 ghost use Rattle.std.specs.Prelude.{map};
@@ -49,5 +50,6 @@ fn read_named(
         (reader (map file_view files.now) name.now bytes.now) }
 {
     let index = index::index_of(alloc, files)?;
-    records::message_of(alloc, &index, LEVELS, Some(name), bytes)
+    let mut visited = visited::none(alloc);
+    records::message_of(alloc, &index, &mut visited, LEVELS, Some(name), bytes)
 }

@@ -2,7 +2,6 @@
 
 ghost use Rattle.std.specs.Prelude.{◌≡◌, ◌≢◌, ◌<◌, ◌^◌, List, [], ◌∷◌, ◌++◌, map, option_map};
 ghost use Rattle.std.specs.Prelude.{IsSome, MatchResult};
-ghost use Rattle.std.specs.Option.{option_copied};
 ghost use Rattle.std.specs.Borrow.{Bor};
 ghost use Rattle.protobuf_parse_model.specs.Descriptors.{FieldDescriptor, field_view};
 ghost use Rattle.protobuf_parse_model.specs.declared.descriptor.FieldDescriptorProto.{FieldDescriptorProto};
@@ -14,19 +13,19 @@ use super::index::Index;
 use crate::fault::ReadFault;
 use protobuf_parse_model::FieldDescriptorProto;
 use std::alloc::Global;
-use std::collections::HashMap;
+use std::collections::BTreeMap;
+
+/// Fields under their numbers.
+pub type ByNumber<'a> = BTreeMap<i32, &'a FieldDescriptorProto>;
 
 /// The fields and the extensions of the one message that has the name, by their numbers.
-pub fn enter<'a>(
+pub fn numbers_of<'a>(
     alloc: Global,
     index: &Index<'a>,
-    name: Option<&str>,
-) -> Result<HashMap<i32, &'a FieldDescriptorProto>, ReadFault>
-    ensures { Gives numbered result (entered_by index.now (option_copied name.entry)) }
+    name: &str,
+) -> Result<ByNumber<'a>, ReadFault>
+    ensures { Gives numbered result (entered_by index.now (Some name.now)) }
 {
-    let Some(name) = name else {
-        return Err(ReadFault::UnknownMessage);
-    };
     match groups::group(&index.messages, name) {
         [message] => by_number(
             alloc,
@@ -41,12 +40,12 @@ fn by_number<'a>(
     alloc: Global,
     fields: &'a [FieldDescriptorProto],
     extensions: &[&'a FieldDescriptorProto],
-) -> Result<HashMap<i32, &'a FieldDescriptorProto>, ReadFault>
+) -> Result<ByNumber<'a>, ReadFault>
     ensures { Gives numbered result
         (by_number (map field_view fields.now
         ++ map (λ (f : Bor FieldDescriptorProto). field_view f.now) extensions.now)) }
 {
-    let mut numbers = HashMap::new(alloc);
+    let mut numbers = BTreeMap::new(alloc);
     'fields: for field in fields {
         add_field(&mut numbers, field)?;
     }
@@ -59,7 +58,7 @@ fn by_number<'a>(
 /// Puts the field behind those whose numbers differ from its number, or says that one has it
 /// already.
 fn add_field<'a>(
-    numbers: &mut HashMap<i32, &'a FieldDescriptorProto>,
+    numbers: &mut ByNumber<'a>,
     field: &'a FieldDescriptorProto,
 ) -> Result<(), ReadFault>
     ensures { (fs : List FieldDescriptor) → IsByNumber numbers.old fs
@@ -74,10 +73,7 @@ fn add_field<'a>(
 }
 
 /// The field that the number names.
-pub fn field_numbered<'a>(
-    numbers: &HashMap<i32, &'a FieldDescriptorProto>,
-    number: u64,
-) -> Option<&'a FieldDescriptorProto>
+pub fn field_numbered<'a>(numbers: &ByNumber<'a>, number: u64) -> Option<&'a FieldDescriptorProto>
     ensures found { option_map (λ (f : Bor FieldDescriptorProto). field_view f.now) result
         ≡ numbered numbers.now number }
     ensures small { IsSome result → number < 2 ^ 31 }

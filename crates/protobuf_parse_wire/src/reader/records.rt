@@ -1,60 +1,67 @@
 //! Records of messages, from left to right.
 
-ghost use Rattle.std.specs.Prelude.{◌≡◌, Option, ◌<◌, ◌≤◌, ◌/◌, ◌%◌, ◌^◌, length, map, IfOk};
+ghost use Rattle.std.specs.Prelude.{◌≡◌, Option, ◌<◌, ◌≤◌, ◌/◌, ◌%◌, ◌^◌, length, map, IfOk, OnOk};
 ghost use Rattle.std.specs.Option.{option_copied};
 ghost use Rattle.protobuf_parse_model.specs.Descriptors.{Text, field_view};
 ghost use Rattle.protobuf_parse_wire.specs.Kinds.{shape, wire_type};
 ghost use Rattle.protobuf_parse_wire.specs.Reading.{Gives, Inner, message_at, payload_at};
 ghost use Rattle.protobuf_parse_wire.specs.Reading.{record_at, records, value_at};
-ghost use Rattle.protobuf_parse_wire.specs.Indexed.{entered_by, numbered};
+ghost use Rattle.protobuf_parse_wire.specs.Indexed.{Remembers, entered_by, numbered};
 ghost use Rattle.protobuf_parse_wire.specs.Views.{HasNumber, number_said, read_field_view};
 ghost use Rattle.protobuf_parse_wire.specs.Views.{read_value_view};
 
 use super::index::Index;
-use super::{numbers, words};
+use super::numbers::{self, ByNumber};
+use super::visited::{self, Visited};
+use super::words;
 use crate::fault::ReadFault;
 use crate::field::{ReadField, ReadValue};
 use crate::kind::Kind;
 use protobuf_parse_model::FieldDescriptorProto;
 use std::alloc::Global;
-use std::collections::HashMap;
 
 /// The fields of the message of that name, if at most so many levels of messages are in it, itself
 /// one.
 #[cycle(message)]
-pub fn message_of(
+pub fn message_of<'a>(
     alloc: Global,
-    index: &Index<'_>,
+    index: &Index<'a>,
+    visited: &mut Visited<'a>,
     levels: u32,
     name: Option<&str>,
     bytes: &[u8],
 ) -> Result<Vec<ReadField>, ReadFault>
-    ensures { Gives (λ v. map read_field_view v.items) result
+    requires { Remembers index.now visited.old }
+    ensures gives { Gives (λ v. map read_field_view v.items) result
         (message_at (entered_by index.now) levels (option_copied name.entry) bytes.now) }
+    ensures kept { OnOk result (Remembers index.now visited.new) }
 {
     if levels == 0 {
         return Err(ReadFault::TooDeep);
     }
-    let numbers = numbers::enter(alloc, index, name)?;
-    records_of(alloc, index, levels - 1, &numbers, bytes)
+    let numbers = visited::enter(alloc, index, visited, name)?;
+    records_of(alloc, index, visited, levels - 1, &numbers, bytes)
 }
 
 #[cycle(message)]
-fn records_of(
+fn records_of<'a>(
     alloc: Global,
-    index: &Index<'_>,
+    index: &Index<'a>,
+    visited: &mut Visited<'a>,
     levels: u32,
-    numbers: &HashMap<i32, &FieldDescriptorProto>,
+    numbers: &ByNumber<'_>,
     bytes: &[u8],
 ) -> Result<Vec<ReadField>, ReadFault>
-    ensures { Gives (λ v. map read_field_view v.items) result
+    requires { Remembers index.now visited.old }
+    ensures gives { Gives (λ v. map read_field_view v.items) result
         (records (message_at (entered_by index.now) levels) (numbered numbers.now)
         (length bytes.now) bytes.now) }
+    ensures kept { OnOk result (Remembers index.now visited.new) }
 {
     let mut fields = Vec::new(alloc);
     let mut rest = bytes;
     'records: while !rest.is_empty() {
-        let (field, after) = record_of(alloc, index, levels, numbers, rest)?;
+        let (field, after) = record_of(alloc, index, visited, levels, numbers, rest)?;
         fields.push(field)?;
         rest = after;
     }
@@ -63,39 +70,54 @@ fn records_of(
 
 #[cycle(message)]
 #[tactic(auto, unfolding(crate::specs::Reading::record_at))]
-fn record_of<'b>(
+fn record_of<'a, 'b>(
     alloc: Global,
-    index: &Index<'_>,
+    index: &Index<'a>,
+    visited: &mut Visited<'a>,
     levels: u32,
-    numbers: &HashMap<i32, &FieldDescriptorProto>,
+    numbers: &ByNumber<'_>,
     bytes: &'b [u8],
 ) -> Result<(ReadField, &'b [u8]), ReadFault>
+    requires { Remembers index.now visited.old }
     ensures gives { Gives (λ x. (read_field_view x.0, x.1.now)) result
         (record_at (message_at (entered_by index.now) levels) (numbered numbers.now) bytes.now) }
     ensures shorter { IfOk result (λ x. length x.1.now < length bytes.now) }
+    ensures kept { OnOk result (Remembers index.now visited.new) }
 {
     let (tag, rest) = words::varint_of(bytes, 10)?;
-    let (value, rest) = value_of(alloc, index, levels, numbers, tag / 8, tag % 8, rest)?;
+    let (value, rest) = value_of(
+        alloc,
+        index,
+        visited,
+        levels,
+        numbers,
+        tag / 8,
+        tag % 8,
+        rest,
+    )?;
     let number = (tag / 8) as u32;
     Ok((ReadField { number, value }, rest))
 }
 
 #[cycle(message)]
 #[tactic(auto, unfolding(crate::specs::Reading::value_at, crate::specs::Reading::typed_at))]
-fn value_of<'b>(
+fn value_of<'a, 'b>(
     alloc: Global,
-    index: &Index<'_>,
+    index: &Index<'a>,
+    visited: &mut Visited<'a>,
     levels: u32,
-    numbers: &HashMap<i32, &FieldDescriptorProto>,
+    numbers: &ByNumber<'_>,
     number: u64,
     wire_type: u64,
     bytes: &'b [u8],
 ) -> Result<(ReadValue, &'b [u8]), ReadFault>
+    requires { Remembers index.now visited.old }
     ensures gives { Gives (λ x. (read_value_view x.0, x.1.now)) result
         (value_at (message_at (entered_by index.now) levels)
         (numbered numbers.now number) wire_type bytes.now) }
     ensures small { IfOk result (λ x. number < 2 ^ 31) }
     ensures shorter { IfOk result (λ x. length x.1.now ≤ length bytes.now) }
+    ensures kept { OnOk result (Remembers index.now visited.new) }
 {
     let Some(field) = numbers::field_numbered(numbers, number) else {
         return Err(ReadFault::UnknownNumber);
@@ -106,7 +128,15 @@ fn value_of<'b>(
     if wire_type_of(kind) != wire_type {
         return Err(ReadFault::WrongWireType);
     }
-    payload_of(alloc, index, levels, type_name_of(field), kind, bytes)
+    payload_of(
+        alloc,
+        index,
+        visited,
+        levels,
+        type_name_of(field),
+        kind,
+        bytes,
+    )
 }
 
 /// The wire type that the payload of the kind has.
@@ -172,18 +202,21 @@ fn number_payload_of(kind: Kind, bytes: &[u8]) -> Result<(ReadValue, &[u8]), Rea
 /// The value of the kind, and the bytes after it; a message's by its name.
 #[cycle(message)]
 #[tactic(auto, unfolding(crate::specs::Reading::payload_at))]
-fn payload_of<'b>(
+fn payload_of<'a, 'b>(
     alloc: Global,
-    index: &Index<'_>,
+    index: &Index<'a>,
+    visited: &mut Visited<'a>,
     levels: u32,
     name: Option<&str>,
     kind: Kind,
     bytes: &'b [u8],
 ) -> Result<(ReadValue, &'b [u8]), ReadFault>
+    requires { Remembers index.now visited.old }
     ensures gives { Gives (λ x. (read_value_view x.0, x.1.now)) result
         (payload_at (message_at (entered_by index.now) levels) (option_copied name.entry)
         (shape kind) bytes.now) }
     ensures shorter { IfOk result (λ x. length x.1.now ≤ length bytes.now) }
+    ensures kept { OnOk result (Remembers index.now visited.new) }
 {
     match kind {
         Kind::Bool => {
@@ -203,7 +236,7 @@ fn payload_of<'b>(
         }
         Kind::Message => {
             let (inside, rest) = words::delimited_of(bytes)?;
-            let fields = message_of(alloc, index, levels, name, inside)?;
+            let fields = message_of(alloc, index, visited, levels, name, inside)?;
             Ok((ReadValue::Message(fields), rest))
         }
         _ => number_payload_of(kind, bytes),

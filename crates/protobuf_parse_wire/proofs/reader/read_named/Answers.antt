@@ -11,4 +11,5 @@ returns c =
     in
     subst (λ (enter : Option Text → Read Numbers). Gives
     (λ v. map read_field_view v.items) c.message_of.result
-    (message_at enter 256 (Some c.args.name.now) c.args.bytes.now)) same c.message_of.ensures
+    (message_at enter 256 (Some c.args.name.now) c.args.bytes.now)) same
+    c.message_of.ensures.gives

@@ -1,7 +1,7 @@
 use Rattle.std.proofs.Common.{◌+◌, ◌*◌, length, map}
 use Rattle.protobuf_parse_wire.specs.Views.{read_field_view}
 use Rattle.protobuf_parse_wire.specs.Reading.{records, message_at}
-use Rattle.protobuf_parse_wire.specs.Indexed.{entered_by, numbered}
+use Rattle.protobuf_parse_wire.specs.Indexed.{Remembers, entered_by, numbered}
 use Rattle.protobuf_parse_wire.proofs.Loop.{Left}
 use Rattle.protobuf_parse_wire.proofs.reader.records.+message.Given as goal
 
@@ -25,7 +25,7 @@ invariant-records_of-records l =
     Left (message_at (entered_by l.index) l.levels) (numbered l.numbers)
     (map read_field_view l.fields.items) l.rest
     (records (message_at (entered_by l.index) l.levels) (numbered l.numbers)
-    (length l.bytes) l.bytes)
+    (length l.bytes) l.bytes) × Remembers l.index l.visited
 
 abbrev pub decreases-records_of-records : goal.decreases-records_of-records
 decreases-records_of-records l = length l.rest
