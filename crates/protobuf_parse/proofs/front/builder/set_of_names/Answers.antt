@@ -14,7 +14,7 @@ loop-name-preserved c = λ q.
     let item = c.name-item.result in
     let is_q = λ (n : Text). bytes_eq n q in
     let text : string_bytes key ≡ path_buf_text item =
-        c.in_ok-from_str.ensures.ok ∙ c.to_str.ensures.text ∙ c.as_path.ensures in
+    c.in_ok-from_str.ensures.ok ∙ c.to_str.ensures.text ∙ c.as_path.ensures in
     btree_set_updates_text (string_bytes key) c.loop-name.set c.insert.new.self true
     c.in_ok-insert.ensures.updates q
     ∙ ap (λ t. cond (bytes_eq t q) true (contains_text c.loop-name.set q)) text

@@ -32,7 +32,7 @@ returns g c =
     let r = c.declared_extensions.result in
     let known = c.in_ok-extendee.ensures in
     let is : extending_it (Some c.deref.result.now) ≡ extending env extendee =
-        ap (λ (t : Text). extending_it (Some t)) c.deref.ensures ∙ ap extending_it known.1 in
+    ap (λ (t : Text). extending_it (Some t)) c.deref.ensures ∙ ap extending_it known.1 in
     subst (λ (p : FieldPlace). Elaborates fields_view r
     (flat_map (extension_faults_of env extendee) ss) (fields_declared env p ss)) is
     (subst (λ (faults : List Fault). Elaborates fields_view r faults
