@@ -7,9 +7,11 @@ use Rattle.protobuf_parse_base.specs.Readers.{Rest, end, token, onto, next, Read
 use Rattle.protobuf_parse_base.specs.Readers.{wrong, deep, bind, bind_read, bind_deep, read_parts}
 use Rattle.protobuf_parse_base.specs.Readers.{stuck_not_read, Lexicon, Shape, shape, LocalAt}
 use Rattle.protobuf_parse_base.specs.Readers.{LocalRead, Sound, seen_by, starts, starts-next}
-use Rattle.protobuf_parse_base.specs.Readers.{starts-onto, Begins, Reader, local-same, give, ◌>>=◌}
-use Rattle.protobuf_parse_base.specs.Readers.{◌>>◌, then_shape, either_shape, choose, many}
-use Rattle.protobuf_parse_base.specs.Readers.{many_shape, pick, pick-local-at, seen_by-append}
+use Rattle.protobuf_parse_base.specs.Readers.{starts-onto, Begins, Reader, local-same}
+use Rattle.protobuf_parse_base.specs.Combinators.{give, ◌>>=◌}
+use Rattle.protobuf_parse_base.specs.Combinators.{◌>>◌, then_shape, either_shape, choose, many}
+use Rattle.protobuf_parse_base.specs.Readers.{seen_by-append}
+use Rattle.protobuf_parse_base.specs.Combinators.{many_shape, pick, pick-local-at}
 use Rattle.protobuf_parse_base.specs.Readers.{or_true}
 
 stuck-local : {Tok Mark A : Type 0} (ts : Rest Tok Mark) → LocalAt {A = A} stuck ts (stuck ts)

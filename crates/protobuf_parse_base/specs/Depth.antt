@@ -4,9 +4,11 @@ use Rattle.std.proofs.Common.{◌≡◌, ℕ, zero, suc, ◌<◌, ◌≤◌, Lis
 use Rattle.std.proofs.Common.{true, false, cond, refl, inl, inr, ◌⊎◌, arith}
 use Rattle.protobuf_parse_base.specs.Relations.{Never}
 use Rattle.protobuf_parse_base.specs.Readers.{Rest, onto, size, Read, read, stuck, wrong, deep}
-use Rattle.protobuf_parse_base.specs.Readers.{bind, Lexicon, Shape, Reader, Sound, starts, run_then}
-use Rattle.protobuf_parse_base.specs.Readers.{run_choose, run_many, many-law, many-sound, shorter}
-use Rattle.protobuf_parse_base.specs.Readers.{with_first, give-shallow}
+use Rattle.protobuf_parse_base.specs.Readers.{bind, Lexicon, Shape, Reader, Sound, starts}
+use Rattle.protobuf_parse_base.specs.Combinators.{run_then}
+use Rattle.protobuf_parse_base.specs.Combinators.{run_choose, run_many, many-law, many-sound}
+use Rattle.protobuf_parse_base.specs.Combinators.{shorter}
+use Rattle.protobuf_parse_base.specs.Combinators.{with_first, give-shallow}
 use Rattle.protobuf_parse_base.specs.Conditions.{run_at, run_meant, meaning, meaning-shallow}
 use Rattle.protobuf_parse_base.specs.Conditions.{mark_of, run_unless, run_only}
 

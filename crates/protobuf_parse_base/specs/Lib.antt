@@ -7,6 +7,7 @@ pub mod Cases
 pub mod Escapes
 pub mod Relations
 pub mod Readers
+pub mod Combinators
 pub mod Conditions
 pub mod Depth
 pub mod Pairs

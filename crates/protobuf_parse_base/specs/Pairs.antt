@@ -4,9 +4,11 @@ use Rattle.std.proofs.Common.{◌≡◌, ℕ, zero, suc, ◌≤◌, List, [], �
 use Rattle.std.proofs.Common.{false, refl, inl, inr, arith}
 use Rattle.protobuf_parse_base.specs.Relations.{Rel, Nothing, Then, Either, Many, Optional}
 use Rattle.protobuf_parse_base.specs.Relations.{Separated, Unless, Only, Meant, At, Level}
+use Rattle.protobuf_parse_base.specs.Combinators as reader
 use Rattle.protobuf_parse_base.specs.Readers as read
 use Rattle.protobuf_parse_base.specs.Readers.{Rest, Read, deep, Lexicon, Shape, shape, Reader, size}
-use Rattle.protobuf_parse_base.specs.Readers.{seen_by, then_shape, either_shape, many_shape, covers}
+use Rattle.protobuf_parse_base.specs.Readers.{seen_by}
+use Rattle.protobuf_parse_base.specs.Combinators.{then_shape, either_shape, many_shape, covers}
 use Rattle.protobuf_parse_base.specs.Conditions as part
 use Rattle.protobuf_parse_base.specs.Conditions.{optional_shape, separated_shape, unless_shape}
 use Rattle.protobuf_parse_base.specs.Conditions.{both_empty, first_empty}
@@ -49,7 +51,7 @@ less n k h p = record { low = p.low; high = p.high; near = near_less n k h p.nea
 
 abbrev pub give : {Tok Mark Class A : Type 0} {L : Lexicon Tok Mark Class} {k : ℕ} (value : A)
     → Pair L (Nothing value) (Nothing value) (shape [] true []) k
-give value = same (read.give value) refl
+give value = same (reader.give value) refl
 
 infixl 10 ◌>>=◌
 abbrev pub ◌>>=◌ : {Tok Mark Class A B : Type 0} {L : Lexicon Tok Mark Class}
@@ -58,8 +60,8 @@ abbrev pub ◌>>=◌ : {Tok Mark Class A B : Type 0} {L : Lexicon Tok Mark Class
     → Pair L (Then R S) (Then R' S') (then_shape L s t) k
 ◌>>=◌ {k = k} p f =
     record {
-      low = read.◌>>=◌ p.low (λ a. (f a).low);
-      high = read.◌>>=◌ p.high (λ a. (f a).high);
+      low = reader.◌>>=◌ p.low (λ a. (f a).low);
+      high = reader.◌>>=◌ p.high (λ a. (f a).high);
       near = near-then p.low p.high (λ a. (f a).low) (λ a. (f a).high) k p.near (λ a. (f a).near);
     }
 
@@ -77,8 +79,8 @@ abbrev pub behind : {Tok Mark Class A B : Type 0} {L : Lexicon Tok Mark Class}
     → Pair L (Then R (λ a. S)) (Then R (λ a. S')) (then_shape L s t) (suc k)
 behind {k = k} p flat some q =
     record {
-      low = read.◌>>◌ p q.low;
-      high = read.◌>>◌ p q.high;
+      low = reader.◌>>◌ p q.low;
+      high = reader.◌>>◌ p q.high;
       near =
           near-deeper p p (λ a. q.low) (λ a. q.high) k some (near_same p flat) (λ a. q.near);
     }
@@ -89,8 +91,8 @@ abbrev pub choose : {Tok Mark Class A : Type 0} {L : Lexicon Tok Mark Class}
     → Pair L (Either R S) (Either R' S') (either_shape L s t) k
 choose {k = k} p some q =
     record {
-      low = read.choose p.low some q.low;
-      high = read.choose p.high some q.high;
+      low = reader.choose p.low some q.low;
+      high = reader.choose p.high some q.high;
       near =
           near-choose p.low p.high q.low q.high k p.near q.near;
     }
@@ -100,8 +102,8 @@ abbrev pub many : {Tok Mark Class A : Type 0} {L : Lexicon Tok Mark Class}
     → Pair L (Many R) (Many R') (many_shape L s) k
 many {k = k} p some =
     record {
-      low = read.many p.low some;
-      high = read.many p.high some;
+      low = reader.many p.low some;
+      high = reader.many p.high some;
       near =
           near-many p.low p.high k some p.near;
     }
@@ -110,7 +112,7 @@ abbrev pub shaped : {Tok Mark Class A : Type 0} {L : Lexicon Tok Mark Class}
     {R R' : List Tok → A → Type 0} {s : Shape Class} {k : ℕ} (t : Shape Class) (p : Pair L R R' s k)
     → covers L s t ≡ true → Pair L R R' t k
 shaped t p fits =
-    record { low = read.shaped t p.low fits; high = read.shaped t p.high fits; near = p.near }
+    record { low = reader.shaped t p.low fits; high = reader.shaped t p.high fits; near = p.near }
 
 abbrev pub unless : {Tok Mark Class A : Type 0} {L : Lexicon Tok Mark Class}
     {R R' : List Tok → A → Type 0} {s : Shape Class} {k : ℕ} (ds : List Class) (p : Pair L R R' s k)

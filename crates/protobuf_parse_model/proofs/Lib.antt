@@ -18,6 +18,7 @@ pub mod Files
 pub mod Extending
 pub mod Orders
 pub mod Closing
+pub mod EachOne
 pub mod NamedTypes
 pub mod SameNames
 pub mod AddedFaults

@@ -4,7 +4,8 @@ use Rattle.std.proofs.Common.{◌||◌, map, length, get_or, ◌<◌, ◌≤◌,
 use Rattle.std.proofs.Common.{arith}
 use Rattle.std.proofs.lemmas.Slice.Eq.{bytes_eq-Decides}
 use Rattle.protobuf_parse_base.specs.Readers.{Rest, end, token, Read, read, stuck, wrong, bind}
-use Rattle.protobuf_parse_base.specs.Readers.{seen, starts, run_one, taken, or_true, or_left}
+use Rattle.protobuf_parse_base.specs.Readers.{seen, starts, or_true, or_left}
+use Rattle.protobuf_parse_base.specs.Combinators.{run_one, taken}
 use Rattle.protobuf_parse_base.specs.Readers.{false_by, all_apart-law}
 use Rattle.protobuf_parse_base.specs.Whole.{whole}
 use Rattle.protobuf_parse_base.specs.Conditions.{meaning}

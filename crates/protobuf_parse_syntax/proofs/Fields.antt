@@ -2,8 +2,10 @@
 use Rattle.std.proofs.Common.{◌≡◌, ◌≤◌, ◌-◌, ℕ, suc, List, [], ◌∷◌, ◌++◌, Option, Some, None, Bool}
 use Rattle.std.proofs.Common.{true, false, not, ◌||◌, cond, bytes_eq, refl, ◌∙◌, codes, arith}
 use Rattle.protobuf_parse_base.specs.Relations.{somes}
-use Rattle.protobuf_parse_base.specs.Readers.{Rest, end, token, read, stuck, bind, taken, seen}
-use Rattle.protobuf_parse_base.specs.Readers.{starts, starts-within, first-of, last-of, run_many}
+use Rattle.protobuf_parse_base.specs.Readers.{Rest, end, token, read, stuck, bind, seen}
+use Rattle.protobuf_parse_base.specs.Combinators.{taken}
+use Rattle.protobuf_parse_base.specs.Readers.{starts, starts-within, first-of, last-of}
+use Rattle.protobuf_parse_base.specs.Combinators.{run_many}
 use Rattle.protobuf_parse_base.specs.Conditions.{mark_of}
 use Rattle.protobuf_parse_syntax.specs.Text.{Bytes}
 use Rattle.protobuf_parse_syntax.specs.Tokens.{Lexeme}

@@ -5,8 +5,9 @@ use Rattle.std.specs.Option.{option_to_list}
 use Rattle.std.proofs.lemmas.List.{map_push, append-nil}
 use Rattle.protobuf_parse_base.specs.Relations.{Then, somes}
 use Rattle.protobuf_parse_base.specs.Readers.{Rest, Read, read, stuck, wrong, deep, size, Shape}
-use Rattle.protobuf_parse_base.specs.Readers.{shape, then_shape, Reader, starts, run_many, many-law}
-use Rattle.protobuf_parse_base.specs.Readers.{shorter, ◌>>◌}
+use Rattle.protobuf_parse_base.specs.Readers.{shape, Reader, starts}
+use Rattle.protobuf_parse_base.specs.Combinators.{then_shape, run_many, many-law}
+use Rattle.protobuf_parse_base.specs.Combinators.{shorter, ◌>>◌}
 use Rattle.protobuf_parse_base.specs.Loops.{Shows, shows_themselves, with_rest, goes_on, stops_here}
 use Rattle.protobuf_parse_base.specs.Loops.{ends_stuck, ends_wrong}
 use Rattle.protobuf_parse_syntax.specs.Text.{Bytes}

@@ -2,8 +2,10 @@
 use Rattle.std.proofs.Common.{◌≡◌, ◌<◌, ℕ, zero, suc, List, [], ◌∷◌, ◌⊎◌, Option, Some, None, Bool}
 use Rattle.std.proofs.Common.{true, false, cond, refl, sym, ◌∙◌, inl, inr, arith}
 use Rattle.protobuf_parse_base.specs.Readers.{Rest, end, token, size, Read, read, stuck, wrong}
-use Rattle.protobuf_parse_base.specs.Readers.{deep, bind, bind_wrong, taken, run_one, Shape, Reader}
-use Rattle.protobuf_parse_base.specs.Readers.{starts, run_many, many-law, shorter, with_first}
+use Rattle.protobuf_parse_base.specs.Readers.{deep, bind, bind_wrong, Shape, Reader}
+use Rattle.protobuf_parse_base.specs.Combinators.{taken, run_one}
+use Rattle.protobuf_parse_base.specs.Readers.{starts}
+use Rattle.protobuf_parse_base.specs.Combinators.{run_many, many-law, shorter, with_first}
 use Rattle.protobuf_parse_syntax.specs.Tokens.{Lexeme}
 use Rattle.protobuf_parse_syntax.specs.Classes.{Class, lexicon}
 use Rattle.protobuf_parse_syntax.specs.Grammar.{any_ident}

@@ -5,7 +5,8 @@ use Rattle.std.proofs.lemmas.List.{append-nil}
 use Rattle.protobuf_parse_base.specs.Relations.{Many, none, more}
 use Rattle.protobuf_parse_base.specs.Readers.{Rest, end, token, onto, onto-append, Read, read}
 use Rattle.protobuf_parse_base.specs.Readers.{stuck, wrong, deep, bind, bind_read, bind_wrong}
-use Rattle.protobuf_parse_base.specs.Readers.{read_parts, starts, with_first}
+use Rattle.protobuf_parse_base.specs.Readers.{read_parts, starts}
+use Rattle.protobuf_parse_base.specs.Combinators.{with_first}
 use Rattle.protobuf_parse_base.specs.Loops.{with_rest}
 use Rattle.protobuf_parse_syntax.specs.Tokens.{Lexeme}
 use Rattle.protobuf_parse_syntax.specs.Trees as tree

@@ -5,8 +5,9 @@ use Rattle.std.specs.Str.{IsUtf8}
 use Rattle.std.proofs.lemmas.Str.{IsUtf8-from_ascii}
 use Rattle.protobuf_parse_base.specs.Paths.{IsProtoPath, path_fault}
 use Rattle.protobuf_parse_base.specs.Readers.{Rest, Read, read, stuck, wrong, deep, bind, bind_read}
-use Rattle.protobuf_parse_base.specs.Readers.{read_parts, size, starts, run_many, many-law, shorter}
-use Rattle.protobuf_parse_base.specs.Readers.{with_first}
+use Rattle.protobuf_parse_base.specs.Readers.{read_parts, size, starts}
+use Rattle.protobuf_parse_base.specs.Combinators.{run_many, many-law, shorter}
+use Rattle.protobuf_parse_base.specs.Combinators.{with_first}
 use Rattle.protobuf_parse_base.specs.Conditions.{meaning}
 use Rattle.protobuf_parse_base.specs.declared.proto_path.error.PathError.{PathError}
 use Rattle.protobuf_parse_syntax.specs.Text.{Bytes}

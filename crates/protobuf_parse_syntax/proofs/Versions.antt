@@ -2,7 +2,8 @@
 -- apart: in a form that is the same for both.
 use Rattle.std.proofs.Common.{◌≡◌, ℕ, [], ◌∷◌, Bool, true, false, cond, codes, refl, ◌∙◌}
 use Rattle.protobuf_parse_base.specs.Relations.{somes}
-use Rattle.protobuf_parse_base.specs.Readers.{Rest, end, token, Read, read, bind, starts, run_many}
+use Rattle.protobuf_parse_base.specs.Readers.{Rest, end, token, Read, read, bind, starts}
+use Rattle.protobuf_parse_base.specs.Combinators.{run_many}
 use Rattle.protobuf_parse_base.specs.Conditions.{mark_of}
 use Rattle.protobuf_parse_syntax.specs.Text.{Bytes}
 use Rattle.protobuf_parse_syntax.specs.Tokens.{Lexeme}

@@ -2,7 +2,8 @@
 -- none.
 use Rattle.std.proofs.Common.{◌≡◌, List, [], ◌∷◌, Option, Some, None, Bool, true, false, ◌||◌, cond}
 use Rattle.std.proofs.Common.{is_some, bytes_eq, refl, sym, ap, ◌∙◌}
-use Rattle.protobuf_parse_base.specs.Readers.{Rest, end, token, read, taken, seen, starts}
+use Rattle.protobuf_parse_base.specs.Readers.{Rest, end, token, read, seen, starts}
+use Rattle.protobuf_parse_base.specs.Combinators.{taken}
 use Rattle.protobuf_parse_base.specs.Readers.{starts-append}
 use Rattle.protobuf_parse_syntax.specs.Text.{Bytes}
 use Rattle.protobuf_parse_syntax.specs.Tokens.{Lexeme}

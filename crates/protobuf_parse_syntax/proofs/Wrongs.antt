@@ -4,8 +4,10 @@ use Rattle.std.proofs.Common.{Result, Ok, Err, String, Global, string_bytes, ref
 use Rattle.std.proofs.Common.{inl, inr, append_assoc}
 use Rattle.std.proofs.lemmas.List.{append-nil}
 use Rattle.protobuf_parse_base.specs.Readers.{Rest, end, token, onto, onto-append, Read, read}
-use Rattle.protobuf_parse_base.specs.Readers.{stuck, wrong, deep, bind, Shape, shape, then_shape}
-use Rattle.protobuf_parse_base.specs.Readers.{Sound, Reader, starts, all_apart-law, ◌>>◌}
+use Rattle.protobuf_parse_base.specs.Readers.{stuck, wrong, deep, bind, Shape, shape}
+use Rattle.protobuf_parse_base.specs.Combinators.{then_shape}
+use Rattle.protobuf_parse_base.specs.Readers.{Sound, Reader, starts, all_apart-law}
+use Rattle.protobuf_parse_base.specs.Combinators.{◌>>◌}
 use Rattle.protobuf_parse_base.specs.Whole.{local_wrong}
 use Rattle.protobuf_parse_base.specs.declared.proto_path.error.PathError.{PathError}
 use Rattle.protobuf_parse_syntax.specs.Text.{Bytes}

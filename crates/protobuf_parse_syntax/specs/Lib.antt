@@ -18,6 +18,7 @@ pub mod Parsing
 pub mod Readings
 pub mod Decoder
 pub mod Productions
+pub mod NestedFields
 pub mod Nested
 pub mod Words
 pub mod Fields

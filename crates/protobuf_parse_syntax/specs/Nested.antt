@@ -1,456 +1,59 @@
 -- A pair of readers for each production in which parts nest.
-use Rattle.std.proofs.Common.{◌≡◌, ℕ, suc, ◌≤◌, List, [], ◌∷◌, ◌++◌, Option, Some, None, true}
+use Rattle.std.proofs.Common.{◌≡◌, ℕ, suc, ◌≤◌, List, [], ◌∷◌, ◌++◌, None, true}
 use Rattle.std.proofs.Common.{false, codes, refl, ap, ◌∙◌, ◌-◌, arith}
-use Rattle.protobuf_parse_base.specs.Relations.{Rel, Level, Then, Either, Many, Unless, Separated}
-use Rattle.protobuf_parse_base.specs.Relations.{somes, Nothing}
-use Rattle.protobuf_parse_base.specs.Readers.{Rest, deep, Shape, nested, shape, then_shape}
-use Rattle.protobuf_parse_base.specs.Readers.{either_shape, many_shape}
-use Rattle.protobuf_parse_base.specs.Relations as relation
+use Rattle.protobuf_parse_base.specs.Readers.{Rest, deep, Shape, nested}
 use Rattle.protobuf_parse_base.specs.Depth.{Near}
-use Rattle.protobuf_parse_base.specs.Pairs.{Pair, same, less, give, behind, choose, many, shaped}
-use Rattle.protobuf_parse_base.specs.Pairs.{unless, separated, at, both, none-le, level, level-zero}
-use Rattle.protobuf_parse_base.specs.Pairs.{level-suc, levels, ◌>>=◌, ◌>>◌}
+use Rattle.protobuf_parse_base.specs.Pairs.{same, less, give, behind, choose, shaped}
+use Rattle.protobuf_parse_base.specs.Pairs.{unless, at, both, none-le, level, level-zero}
+use Rattle.protobuf_parse_base.specs.Pairs.{level-suc, levels}
 use Rattle.protobuf_parse_syntax.specs.Text.{Bytes}
 use Rattle.protobuf_parse_syntax.specs.Tokens.{Lexeme}
 use Rattle.protobuf_parse_syntax.specs.Trees as tree
-use Rattle.protobuf_parse_syntax.specs.Trees.{ConstantSyntax, ConstantFieldSyntax, OptionSyntax}
-use Rattle.protobuf_parse_syntax.specs.Trees.{OptionStatementSyntax, TypeSyntax}
-use Rattle.protobuf_parse_syntax.specs.Trees.{FieldStatementSyntax, MessageSyntax}
-use Rattle.protobuf_parse_syntax.specs.Trees.{MessageStatementSyntax, OneofStatementSyntax}
-use Rattle.protobuf_parse_syntax.specs.Trees.{OneofSyntax, ExtendSyntax, EnumValueSyntax}
-use Rattle.protobuf_parse_syntax.specs.Trees.{EnumStatementSyntax, EnumSyntax, MethodSyntax}
-use Rattle.protobuf_parse_syntax.specs.Trees.{ServiceStatementSyntax, ServiceSyntax}
-use Rattle.protobuf_parse_syntax.specs.Trees.{StatementSyntax, FileSyntax}
+use Rattle.protobuf_parse_syntax.specs.Trees.{MessageSyntax}
 use Rattle.protobuf_parse_syntax.specs.Classes.{Class, symbol as symbol_class, word as word_class}
-use Rattle.protobuf_parse_syntax.specs.Classes.{ident as ident_class, integer, text, lexicon, words}
-use Rattle.protobuf_parse_syntax.specs.Classes.{is_one_of}
-use Rattle.protobuf_parse_syntax.specs.Productions.{Parses, symbol, word, ident, capital, one_of}
-use Rattle.protobuf_parse_syntax.specs.Productions.{str, name, signed, constant_name, field_end}
-use Rattle.protobuf_parse_syntax.specs.Productions.{word_constant, field_number, option_name}
+use Rattle.protobuf_parse_syntax.specs.Classes.{ident as ident_class, words}
+use Rattle.protobuf_parse_syntax.specs.Productions.{Parses, symbol, word, ident}
+use Rattle.protobuf_parse_syntax.specs.Productions.{name}
 use Rattle.protobuf_parse_syntax.specs.Productions.{reserved, extensions, enum_number, streamed}
 use Rattle.protobuf_parse_syntax.specs.Productions.{imported, package_name, version_statement}
 use Rattle.protobuf_parse_syntax.specs.Productions.{value_name}
-use Rattle.protobuf_parse_syntax.specs.Readings.{never, steady, begun}
-use Rattle.protobuf_parse_syntax.specs.Grammar.{IsSymbol, table_words, other_constants, labels}
-use Rattle.protobuf_parse_syntax.specs.Grammar.{labels3, scalars, statement_words, Item, Statements}
-use Rattle.protobuf_parse_syntax.specs.Grammar.{Braced, ConstantFieldOf, MessageConstantOf, ListOf}
-use Rattle.protobuf_parse_syntax.specs.Grammar.{ConstantOf, IsConstant, MapOf, TypeOf, IsType}
-use Rattle.protobuf_parse_syntax.specs.Grammar.{IsComma, IsAssignment, IsOption, AreOptions}
-use Rattle.protobuf_parse_syntax.specs.Grammar.{PlainFieldOf, GroupOf, AfterLabel, FieldOf, IsField}
+use Rattle.protobuf_parse_syntax.specs.Readings.{never, steady}
+use Rattle.protobuf_parse_syntax.specs.Grammar.{table_words, labels}
+use Rattle.protobuf_parse_syntax.specs.Grammar.{statement_words, Item, Statements}
+use Rattle.protobuf_parse_syntax.specs.Grammar.{Braced}
+use Rattle.protobuf_parse_syntax.specs.Grammar.{IsOption}
+use Rattle.protobuf_parse_syntax.specs.Grammar.{IsField}
 use Rattle.protobuf_parse_syntax.specs.Grammar.{IsOneofField, IsOneofStatement, IsOneof, IsExtend}
 use Rattle.protobuf_parse_syntax.specs.Grammar.{IsEnumValue, IsEnumStatement, IsEnum}
 use Rattle.protobuf_parse_syntax.specs.Grammar.{IsExtensionsIn, MessageStatementOf, MessageOf}
 use Rattle.protobuf_parse_syntax.specs.Grammar.{IsMessage, IsMethodEnd, IsRpc, IsStream, IsStreamIn}
 use Rattle.protobuf_parse_syntax.specs.Grammar.{IsServiceStatement, IsService, IsFileStatement}
-use Rattle.protobuf_parse_syntax.specs.Grammar.{IsFileOf, IsIdent, IsFieldNumber}
+use Rattle.protobuf_parse_syntax.specs.Grammar.{IsFileOf}
 use Rattle.protobuf_parse_syntax.specs.declared.lexer.token.Place.{Place}
 use Rattle.protobuf_parse_syntax.specs.declared.tree.Syntax.{Syntax}
 use Rattle.protobuf_parse_syntax.specs.declared.tree.Syntax.TheVariants.{Proto2, Proto3}
-use Rattle.protobuf_parse_syntax.specs.declared.tree.field.Label.{Label}
-use Rattle.protobuf_parse_base.specs.Relations as relation
-use Rattle.protobuf_parse_syntax.specs.Grammar as grammar
+pub use Rattle.protobuf_parse_syntax.specs.NestedFields.{Parts, item, statements, option, options}
+pub use Rattle.protobuf_parse_syntax.specs.NestedFields.{option_item, option_items, field_shape}
+pub use Rattle.protobuf_parse_syntax.specs.NestedFields.{after_type, plain_field, field_item_of}
+pub use Rattle.protobuf_parse_syntax.specs.NestedFields.{field_items_of, field_block_of, group_of}
+pub use Rattle.protobuf_parse_syntax.specs.NestedFields.{after_label, self, step-le, field, near_field}
+pub use Rattle.protobuf_parse_syntax.specs.NestedFields.{fields, constant_firsts, constant_shape}
+pub use Rattle.protobuf_parse_syntax.specs.NestedFields.{constant_field_shape, ValueOf, value_of}
+pub use Rattle.protobuf_parse_syntax.specs.NestedFields.{constant_field_of, constant_fields_shape}
+pub use Rattle.protobuf_parse_syntax.specs.NestedFields.{constant_fields_of, message_constant_of}
+pub use Rattle.protobuf_parse_syntax.specs.NestedFields.{constants_of, list_of, constant_of, constant}
+pub use Rattle.protobuf_parse_syntax.specs.NestedFields.{constant_in, constant_zero, constant_more}
+pub use Rattle.protobuf_parse_syntax.specs.NestedFields.{near_constant, constants, type_shape, map_of}
+pub use Rattle.protobuf_parse_syntax.specs.NestedFields.{type_of, type_, near_type, types, item_shape}
+pub use Rattle.protobuf_parse_syntax.specs.NestedFields.{items_shape, assignment_shape, assignment}
+pub use Rattle.protobuf_parse_syntax.specs.NestedFields.{option_shape, option_pair, option-same}
+pub use Rattle.protobuf_parse_syntax.specs.NestedFields.{assignments, options_shape, options_pair}
+pub use Rattle.protobuf_parse_syntax.specs.NestedFields.{options-same, option_items_shape}
+pub use Rattle.protobuf_parse_syntax.specs.NestedFields.{option_item_shape, AfterType, map_field}
+pub use Rattle.protobuf_parse_syntax.specs.NestedFields.{field_firsts, field_items_shape}
+pub use Rattle.protobuf_parse_syntax.specs.NestedFields.{field_item_shape, after_label_shape, up}
+pub use Rattle.protobuf_parse_syntax.specs.NestedFields.{field_of}
 
-abbrev pub Parts : {A : Type 0} → (List Lexeme → A → Type 0) → (List Lexeme → A → Type 0)
-    → Shape Class → ℕ → Type 0
-Parts = Pair lexicon
-
--- ---- constants
-
-abbrev pub constant_firsts : List Class
-constant_firsts = symbol_class 123 ∷ symbol_class 91 ∷ ident_class [] ∷ integer ∷ symbol_class 43
-    ∷ symbol_class 45 ∷ text ∷ []
-
-abbrev pub constant_shape : Shape Class
-constant_shape = nested constant_firsts false (symbol_class 46 ∷ text ∷ [])
-
-abbrev pub constant_field_shape : Shape Class
-constant_field_shape =
-    nested (ident_class [] ∷ symbol_class 91 ∷ []) false
-    (symbol_class 46 ∷ text ∷ symbol_class 44 ∷ symbol_class 59 ∷ [])
-
--- the value of a field: ":" constant | msgconst, with the constants inside by C
-abbrev pub ValueOf : Rel Lexeme ConstantSyntax → Rel Lexeme ConstantSyntax
-ValueOf C = Either (Then (IsSymbol 58) (λ u. C)) (Unless (is_one_of other_constants) C)
-
-unfoldable pub value_of : {R R' : List Lexeme → ConstantSyntax → Type 0} {k : ℕ}
-    → Parts R R' constant_shape k
-    → Parts (ValueOf R) (ValueOf R')
-    (nested (symbol_class 58 ∷ symbol_class 123 ∷ []) false (symbol_class 46 ∷ text ∷ [])) k
-value_of p = shaped (nested (symbol_class 58 ∷ symbol_class 123 ∷ []) false (symbol_class 46 ∷ text ∷ [])) (choose (do same (symbol 58) refl; p) refl (begun (unless other_constants p refl) refl)) refl
-
-unfoldable pub constant_field_of : {R R' : List Lexeme → ConstantSyntax → Type 0} {k : ℕ}
-    → Parts R R' constant_shape k
-    → Parts (ConstantFieldOf R) (ConstantFieldOf R') constant_field_shape k
-unfolding ConstantFieldOf
-constant_field_of p = shaped constant_field_shape (do
-  name ← same constant_name refl
-  value ← value_of p
-  same field_end refl
-  give (record { name = name; value = value })) refl
-
-abbrev pub constant_fields_shape : Shape Class
-constant_fields_shape =
-    nested (ident_class [] ∷ symbol_class 91 ∷ []) true
-    (ident_class [] ∷ symbol_class 91 ∷ symbol_class 46 ∷ text ∷ symbol_class 44 ∷ symbol_class 59
-    ∷ [])
-
-unfoldable pub constant_fields_of : {R R' : List Lexeme → ConstantSyntax → Type 0} {k : ℕ}
-    → Parts R R' constant_shape k
-    → Parts (Many (ConstantFieldOf R)) (Many (ConstantFieldOf R')) constant_fields_shape k
-constant_fields_of p = shaped constant_fields_shape (many (constant_field_of p) refl) refl
-
-unfoldable pub message_constant_of : {R R' : List Lexeme → ConstantSyntax → Type 0} {k : ℕ}
-    → Parts R R' constant_shape k
-    → Parts (MessageConstantOf R) (MessageConstantOf R') (nested (symbol_class 123 ∷ []) false [])
-    (suc k)
-unfolding MessageConstantOf
-message_constant_of p = shaped (nested (symbol_class 123 ∷ []) false []) (behind (symbol 123) refl refl (do
-  fields ← constant_fields_of p
-  same (symbol 125) refl
-  give (tree.fields (tree.constant_fields fields)))) refl
-
-unfoldable pub constants_of : {R R' : List Lexeme → ConstantSyntax → Type 0} {k : ℕ}
-    → Parts R R' constant_shape k
-    → Parts (Separated IsComma R) (Separated IsComma R')
-    (nested constant_firsts false (symbol_class 46 ∷ text ∷ symbol_class 44 ∷ [])) k
-constants_of p =
-    shaped (nested constant_firsts false (symbol_class 46 ∷ text ∷ symbol_class 44 ∷ []))
-    (separated (symbol 44) refl refl p) refl
-
-unfoldable pub list_of : {R R' : List Lexeme → ConstantSyntax → Type 0} {k : ℕ}
-    → Parts R R' constant_shape k
-    → Parts (ListOf R) (ListOf R') (nested (symbol_class 91 ∷ []) false []) (suc k)
-unfolding ListOf
-list_of p = shaped (nested (symbol_class 91 ∷ []) false []) (behind (symbol 91) refl refl (do
-  items ← choose (constants_of p) refl (give [])
-  same (symbol 93) refl
-  give (tree.list (tree.constants items)))) refl
-
-unfoldable pub constant_of : (n k : ℕ) → k ≤ n → (R R' : List Lexeme → ConstantSyntax → Type 0)
-    → Parts R R' constant_shape k → Parts (ConstantOf R) (ConstantOf R') constant_shape (suc k)
-unfolding ConstantOf
-constant_of n k h R R' p = shaped constant_shape
-    (choose (message_constant_of p) refl
-    (choose (list_of p) refl
-    (choose (same word_constant refl) refl
-    (choose (do n ← same signed refl; give (tree.integer n)) refl
-    (do s ← same str refl; give (tree.string s)))))) refl
-
-abbrev pub constant : (n : ℕ) → Parses (IsConstant n) constant_shape
-constant = level refl constant_of
-
--- a constant of which the parts have at most n levels
-abbrev pub constant_in : (n : ℕ) → Parses (ConstantOf (IsConstant n)) constant_shape
-constant_in n =
-    (constant_of n 0 (none-le refl constant_of n) (IsConstant n) (IsConstant n)
-    (both (constant n))).low
-
-pub constant_zero : (n : ℕ) (ts : Rest Lexeme Place) → n ≡ 0 → (constant n).run ts ≡ deep
-constant_zero n ts e = ap (λ m. (constant m).run ts) e ∙ level-zero refl constant_of ts
-
-pub constant_more : (n : ℕ) (ts : Rest Lexeme Place) → 1 ≤ n
-    → (constant n).run ts ≡ (constant_in (n - 1)).run ts
-constant_more n ts h =
-    let e : n ≡ suc (n - 1) = omega arith in
-    ap (λ m. (constant m).run ts) e ∙ level-suc refl constant_of (n - 1) ts
-
-pub near_constant : (n : ℕ) → Near n (constant n).run (constant (suc n)).run
-unfolding constant_of message_constant_of constant_fields_of constant_field_of value_of list_of
-    constants_of
-near_constant = levels refl constant_of (λ n k h R R' t ts. refl) (λ n k h R R' t ts. refl)
-
--- constants of so many levels and of one more
-abbrev pub constants : (n : ℕ) → Parts (IsConstant n) (IsConstant (suc n)) constant_shape n
-constants n = record { low = constant n; high = constant (suc n); near = near_constant n }
-
--- ---- types
-
-abbrev pub type_shape : Shape Class
-type_shape = nested (symbol_class 46 ∷ ident_class [] ∷ []) false (symbol_class 46 ∷ [])
-
-unfoldable pub map_of : {R R' : List Lexeme → TypeSyntax → Type 0} {k : ℕ} → Parts R R' type_shape k
-    → Parts (MapOf R) (MapOf R') (nested (word_class (codes "map") ∷ []) false []) (suc k)
-unfolding MapOf
-map_of p = shaped (nested (word_class (codes "map") ∷ []) false []) (behind (word (codes "map")) refl refl (do
-  same (symbol 60) refl
-  key ← p
-  same (symbol 44) refl
-  value ← p
-  same (symbol 62) refl
-  give (tree.map_of key value))) refl
-
-unfoldable pub type_of : (n k : ℕ) → k ≤ n → (R R' : List Lexeme → TypeSyntax → Type 0)
-    → Parts R R' type_shape k → Parts (TypeOf R) (TypeOf R') type_shape (suc k)
-unfolding TypeOf
-type_of n k h R R' p = shaped type_shape
-    (choose (do s ← same (one_of scalars) refl; give (tree.scalar s)) refl
-    (choose (map_of p) refl
-    (do name ← unless (words (codes "map" ∷ table_words scalars)) (same name refl) refl; give (tree.named name)))) refl
-
-abbrev pub type_ : (n : ℕ) → Parses (IsType n) type_shape
-type_ = level refl type_of
-
-pub near_type : (n : ℕ) → Near n (type_ n).run (type_ (suc n)).run
-unfolding type_of map_of
-near_type = levels refl type_of (λ n k h R R' t ts. refl) (λ n k h R R' t ts. refl)
-
-abbrev pub types : (n : ℕ) → Parts (IsType n) (IsType (suc n)) type_shape n
-types n = record { low = type_ n; high = type_ (suc n); near = near_type n }
-
--- ---- parts of bodies
-
-abbrev pub item_shape : Shape Class → Shape Class
-item_shape s =
-    either_shape lexicon
-    (then_shape lexicon (shape (symbol_class 59 ∷ []) false []) (shape [] true []))
-    (then_shape lexicon s (shape [] true []))
-
--- such a statement, or nothing at a semicolon
-abbrev pub item : {A : Type 0} {R R' : List Lexeme → A → Type 0} {s : Shape Class} {k : ℕ}
-    → Parts R R' s k → Parts (Item R) (Item R') (item_shape s) k
-item p = choose (do same (symbol 59) refl; give None) refl (do statement ← p; give (Some statement))
-
-abbrev pub items_shape : Shape Class → Shape Class
-items_shape s = then_shape lexicon (many_shape lexicon s) (shape [] true [])
-
--- such items, one after the other
-abbrev pub statements : {A : Type 0} {R R' : List Lexeme → A → Type 0} {s : Shape Class} {k : ℕ}
-    → (p : Parts (Item R) (Item R') s k) → s.empty ≡ false
-    → Parts (Statements R) (Statements R') (items_shape s) k
-statements p some = do items ← many p some; give (somes items)
-
--- ---- options
-
-abbrev pub assignment_shape : Shape Class
-assignment_shape = nested (ident_class [] ∷ symbol_class 40 ∷ []) false
-    (symbol_class 46 ∷ text ∷ [])
-
-unfoldable pub assignment : (n : ℕ)
-    → Parts (IsAssignment n) (IsAssignment (suc n)) assignment_shape n
-unfolding IsAssignment
-assignment n = shaped assignment_shape (do
-  name ← same option_name refl
-  same (symbol 61) refl
-  value ← constants n
-  give (record { name = name; value = value })) refl
-
-abbrev pub option_shape : Shape Class
-option_shape = nested (word_class (codes "option") ∷ []) false []
-
-unfoldable pub option_pair : (n : ℕ) → Parts (IsOption n) (IsOption (suc n)) option_shape n
-unfolding IsOption
-option_pair n = shaped option_shape (at (λ place. do
-  same (word (codes "option")) refl
-  option ← assignment n
-  same (symbol 59) refl
-  give (record { place = place; option = option })) refl) refl
-
-pub option-same : (n : ℕ) (ts : Rest Lexeme Place)
-    → (option_pair n).high.run ts ≡ (option_pair (suc n)).low.run ts
-unfolding option_pair assignment
-option-same n ts = refl
-
-abbrev pub option : (n : ℕ) → Parts (IsOption n) (IsOption (suc n)) option_shape n
-option = steady option_pair option-same
-
-unfoldable pub assignments : (n : ℕ)
-    → Parts (Separated (IsComma) (IsAssignment n)) (Separated (IsComma) (IsAssignment (suc n)))
-    (nested (ident_class [] ∷ symbol_class 40 ∷ []) false
-    (symbol_class 46 ∷ text ∷ symbol_class 44 ∷ [])) n
-assignments n =
-    shaped (nested (ident_class [] ∷ symbol_class 40 ∷ []) false
-    (symbol_class 46 ∷ text ∷ symbol_class 44 ∷ [])) (separated (symbol 44) refl refl
-    (assignment n)) refl
-
-abbrev pub options_shape : Shape Class
-options_shape = nested (symbol_class 91 ∷ []) true (symbol_class 91 ∷ [])
-
-unfoldable pub options_pair : (n : ℕ) → Parts (AreOptions n) (AreOptions (suc n)) options_shape n
-unfolding AreOptions
-options_pair n = shaped options_shape (choose (do same (symbol 91) refl; options ← assignments n; same (symbol 93) refl; give options) refl (give [])) refl
-
-pub options-same : (n : ℕ) (ts : Rest Lexeme Place)
-    → (options_pair n).high.run ts ≡ (options_pair (suc n)).low.run ts
-unfolding options_pair assignments assignment
-options-same n ts = refl
-
-abbrev pub options : (n : ℕ) → Parts (AreOptions n) (AreOptions (suc n)) options_shape n
-options = steady options_pair options-same
-
-abbrev pub option_items_shape : Shape Class
-option_items_shape = nested (symbol_class 59 ∷ word_class (codes "option") ∷ []) true
-    (symbol_class 59 ∷ word_class (codes "option") ∷ [])
-
-abbrev pub option_item_shape : Shape Class
-option_item_shape = nested (symbol_class 59 ∷ word_class (codes "option") ∷ []) false []
-
-unfoldable pub option_item : (n : ℕ)
-    → Parts (Item (IsOption n)) (Item (IsOption (suc n))) option_item_shape n
-option_item n = shaped option_item_shape (item (option n)) refl
-
-unfoldable pub option_items : (n : ℕ)
-    → Parts (Statements (IsOption n)) (Statements (IsOption (suc n))) option_items_shape n
-option_items n = shaped option_items_shape (statements (option_item n) refl) refl
-
--- ---- fields
-
--- a field that begins with a type of such a shape
-abbrev pub field_shape : List Class → Shape Class
-field_shape firsts = nested firsts false []
-
--- what follows the type of a field
-abbrev pub AfterType : ℕ → Place → Option Label → TypeSyntax → Rel Lexeme FieldStatementSyntax
-AfterType n place label type_ =
-    relation.◌>>=◌ grammar.IsIdent
-    (λ name. relation.◌>>◌ (grammar.IsSymbol 61)
-    (relation.◌>>=◌ grammar.IsFieldNumber
-    (λ number. relation.◌>>=◌ (AreOptions n) (λ options. relation.◌>>◌ (grammar.IsSymbol 59)
-    (relation.Nothing
-    (tree.field
-    (record {
-      place = place;
-      label = label;
-      type_ = type_;
-      name = name;
-      number = number;
-      options = options;
-    })))))))
-
-unfoldable pub after_type : (n : ℕ) (place : Place) (label : Option Label) (type_ : TypeSyntax)
-    → Parts (AfterType n place label type_) (AfterType (suc n) place label type_)
-    (field_shape (ident_class [] ∷ [])) n
-after_type n place label type_ = shaped (field_shape (ident_class [] ∷ [])) (do
-  name ← same ident refl
-  same (symbol 61) refl
-  number ← same field_number refl
-  options ← options n
-  same (symbol 59) refl
-  give (tree.field
-      (record {
-        place = place;
-        label = label;
-        type_ = type_;
-        name = name;
-        number = number;
-        options =
-            options;
-      }))) refl
-
-unfoldable pub plain_field : (n : ℕ) (place : Place) (label : Option Label)
-    → Parts (PlainFieldOf n (Unless (is_one_of (words (codes "group" ∷ []))) (IsType n)) place
-    label) (PlainFieldOf (suc n) (Unless (is_one_of (words (codes "group" ∷ []))) (IsType (suc n)))
-    place label) (field_shape (symbol_class 46 ∷ ident_class (codes "group" ∷ []) ∷ [])) n
-unfolding PlainFieldOf
-plain_field n place label = shaped (field_shape (symbol_class 46 ∷ ident_class (codes "group" ∷ []) ∷ [])) (do
-  type_ ← unless (words (codes "group" ∷ [])) (types n) refl
-  after_type n place label type_) refl
-
-unfoldable pub map_field : (n : ℕ) (place : Place)
-    → Parts (PlainFieldOf (suc n) (MapOf (IsType n)) place None)
-    (PlainFieldOf (suc (suc n)) (MapOf (IsType (suc n))) place None)
-    (field_shape (word_class (codes "map") ∷ [])) (suc n)
-unfolding PlainFieldOf
-map_field n place = shaped (field_shape (word_class (codes "map") ∷ [])) (do
-  type_ ← map_of (types n)
-  after_type (suc n) place None type_) refl
-
-abbrev pub field_firsts : Syntax → List Class
-field_firsts Proto2 = words (table_words labels ++ codes "map" ∷ [])
-field_firsts Proto3 = symbol_class 46 ∷ ident_class (codes "required" ∷ statement_words) ∷ []
-
-abbrev pub field_items_shape : Syntax → Shape Class
-field_items_shape s =
-    nested (symbol_class 59 ∷ field_firsts s) true (symbol_class 59 ∷ field_firsts s)
-
-abbrev pub field_item_shape : Syntax → Shape Class
-field_item_shape s = nested (symbol_class 59 ∷ field_firsts s) false []
-
-unfoldable pub field_item_of : (s : Syntax) {R R' : List Lexeme → FieldStatementSyntax → Type 0}
-    {k : ℕ} → Parts R R' (field_shape (field_firsts s)) k
-    → Parts (Item R) (Item R') (field_item_shape s) k
-field_item_of Proto2 p = shaped (field_item_shape Proto2) (item p) refl
-field_item_of Proto3 p = shaped (field_item_shape Proto3) (item p) refl
-
--- the fields of a group or an `extend`
-unfoldable pub field_items_of : (s : Syntax) {R R' : List Lexeme → FieldStatementSyntax → Type 0}
-    {k : ℕ} → Parts R R' (field_shape (field_firsts s)) k
-    → Parts (Statements R) (Statements R') (field_items_shape s) k
-field_items_of Proto2 p =
-    shaped (field_items_shape Proto2) (statements (field_item_of Proto2 p) refl) refl
-field_items_of Proto3 p =
-    shaped (field_items_shape Proto3) (statements (field_item_of Proto3 p) refl) refl
-
--- "{" { ";" | field } "}"
-unfoldable pub field_block_of : (s : Syntax) {R R' : List Lexeme → FieldStatementSyntax → Type 0}
-    {k : ℕ} → Parts R R' (field_shape (field_firsts s)) k
-    → Parts (Braced R) (Braced R') (nested (symbol_class 123 ∷ []) false []) k
-field_block_of Proto2 p = shaped (nested (symbol_class 123 ∷ []) false []) (do same (symbol 123) refl; fields ← field_items_of Proto2 p; same (symbol 125) refl; give fields) refl
-field_block_of Proto3 p = shaped (nested (symbol_class 123 ∷ []) false []) (do same (symbol 123) refl; fields ← field_items_of Proto3 p; same (symbol 125) refl; give fields) refl
-
-unfoldable pub group_of : (s : Syntax) {R R' : List Lexeme → FieldStatementSyntax → Type 0} {k : ℕ}
-    (place : Place) (label : Option Label) → Parts R R' (field_shape (field_firsts s)) k
-    → Parts (GroupOf R place label) (GroupOf R' place label)
-    (field_shape (word_class (codes "group") ∷ [])) (suc k)
-unfolding GroupOf
-group_of s place label p = shaped (field_shape (word_class (codes "group") ∷ [])) (behind (word (codes "group")) refl refl (do
-  name ← same capital refl
-  same (symbol 61) refl
-  number ← same field_number refl
-  fields ← field_block_of s p
-  give (tree.group_of
-      (record { place = place; label = label; name = name; number = number; fields = fields }))))
-    refl
-
-abbrev pub after_label_shape : Shape Class
-after_label_shape = field_shape (symbol_class 46 ∷ ident_class [] ∷ [])
-
--- a plain field of n levels, or a group with fields of j levels
-unfoldable pub after_label : (s : Syntax) {R R' : List Lexeme → FieldStatementSyntax → Type 0}
-    (n j k : ℕ) → k ≤ n → k ≤ suc j → (place : Place) (label : Option Label)
-    → Parts R R' (field_shape (field_firsts s)) j
-    → Parts (AfterLabel n R place label) (AfterLabel (suc n) R' place label) after_label_shape k
-unfolding AfterLabel
-after_label s n j k h i place label p =
-    shaped after_label_shape
-    (choose (less (suc j) k i (group_of s place label p)) refl
-    (less n k h (plain_field n place label))) refl
-
-pub up : (k n : ℕ) → k ≤ n → suc k ≤ suc n
-up k n h = omega (arith, h)
-
-pub self : (k : ℕ) → k ≤ k
-self k = omega arith
-
-pub step-le : (k : ℕ) → k ≤ suc k
-step-le k = omega arith
-
-unfoldable pub field_of : (s : Syntax) (n k : ℕ) → k ≤ n
-    → (R R' : List Lexeme → FieldStatementSyntax → Type 0)
-    → Parts R R' (field_shape (field_firsts s)) k
-    → Parts (FieldOf s n R) (FieldOf s (suc n) R') (field_shape (field_firsts s)) (suc k)
-unfolding FieldOf
-field_of Proto2 n k h R R' p = shaped (field_shape (field_firsts Proto2)) (at (λ place.
-    choose (do l ← same (one_of labels) refl; after_label Proto2 (suc n) k (suc k) (up k n h) (self (suc k)) place (Some l) p) refl
-    (less (suc n) (suc k) (up k n h) (map_field n place))) refl) refl
-field_of Proto3 n k h R R' p = shaped (field_shape (field_firsts Proto3)) (at (λ place.
-    choose (do l ← same (one_of labels3) refl; after_label Proto3 (suc n) k (suc k) (up k n h) (self (suc k)) place (Some l) p) refl
-    (unless (words (table_words labels ++ statement_words))
-    (after_label Proto3 (suc n) k (suc k) (up k n h) (self (suc k)) place None p) refl)) refl)
-    refl
-
-abbrev pub field : (s : Syntax) (n : ℕ) → Parses (IsField s n) (field_shape (field_firsts s))
-field s = level refl (field_of s)
-
-pub near_field : (s : Syntax) (n : ℕ) → Near n (field s n).run (field s (suc n)).run
-unfolding field_of after_label group_of field_block_of field_items_of field_item_of plain_field
-    map_field after_type map_of
-near_field Proto2 = levels refl (field_of Proto2) (λ n k h R R' t ts. refl)
-    (λ n k h R R' t ts. refl)
-near_field Proto3 = levels refl (field_of Proto3) (λ n k h R R' t ts. refl)
-    (λ n k h R R' t ts. refl)
-
-abbrev pub fields : (s : Syntax) (n : ℕ)
-    → Parts (IsField s n) (IsField s (suc n)) (field_shape (field_firsts s)) n
 fields s n = record { low = field s n; high = field s (suc n); near = near_field s n }
 
 -- ---- oneofs and extensions

@@ -5,9 +5,12 @@ use Rattle.std.proofs.Common.{sym, ap, ◌∙◌}
 use Rattle.std.proofs.lemmas.List.{append-nil}
 use Rattle.protobuf_parse_base.specs.Relations.{Rel, Then, Nothing, Either, One, Separated, Meant}
 use Rattle.protobuf_parse_base.specs.Relations.{Unless}
-use Rattle.protobuf_parse_base.specs.Readers.{Rest, end, token, read, bind, run_many, starts}
-use Rattle.protobuf_parse_base.specs.Readers.{Reader, Shape, shape, seen, then_shape, give, one}
-use Rattle.protobuf_parse_base.specs.Readers.{choose, many, shaped, ◌>>=◌, ◌>>◌, or_true}
+use Rattle.protobuf_parse_base.specs.Readers.{Rest, end, token, read, bind, starts}
+use Rattle.protobuf_parse_base.specs.Combinators.{run_many}
+use Rattle.protobuf_parse_base.specs.Readers.{Reader, Shape, shape, seen}
+use Rattle.protobuf_parse_base.specs.Combinators.{then_shape, give, one}
+use Rattle.protobuf_parse_base.specs.Readers.{or_true}
+use Rattle.protobuf_parse_base.specs.Combinators.{choose, many, shaped, ◌>>=◌, ◌>>◌}
 use Rattle.protobuf_parse_base.specs.Readers.{all_apart-law}
 use Rattle.protobuf_parse_base.specs.Conditions.{at, one_or_more, separated, unless, meant}
 use Rattle.protobuf_parse_base.specs.Loops.{with_rest}

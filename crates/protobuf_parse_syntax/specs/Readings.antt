@@ -8,7 +8,8 @@ use Rattle.protobuf_parse_base.specs.Relations.{Rel, Nothing, Such, Never, Eithe
 use Rattle.protobuf_parse_base.specs.Relations.{Meant, ◌>>=◌}
 use Rattle.protobuf_parse_base.specs.Readers.{Rest, end, token, onto, Read, read, stuck, wrong}
 use Rattle.protobuf_parse_base.specs.Readers.{Lexicon, Shape, shape, Sound, Reader, LocalAt}
-use Rattle.protobuf_parse_base.specs.Readers.{LocalStuck, starts, deep, run_choose, choose-local}
+use Rattle.protobuf_parse_base.specs.Readers.{LocalStuck, starts, deep}
+use Rattle.protobuf_parse_base.specs.Combinators.{run_choose, choose-local}
 use Rattle.protobuf_parse_base.specs.Readers.{begins-starts, stuck_not_read}
 use Rattle.protobuf_parse_base.specs.Conditions.{meant}
 use Rattle.protobuf_parse_base.specs.Depth.{Near, NearAt, near-choose, near_same}

@@ -1,7 +1,8 @@
 //! Options.
 
 ghost use Rattle.std.specs.Prelude.{◌≡◌, ◌≤◌, ◌∷◌, [], map, string_bytes, codes, OnOk};
-ghost use Rattle.protobuf_parse_base.specs.Readers.{starts, with_first};
+ghost use Rattle.protobuf_parse_base.specs.Readers.{starts};
+ghost use Rattle.protobuf_parse_base.specs.Combinators.{with_first};
 ghost use Rattle.protobuf_parse_syntax.specs.Classes as class;
 ghost use Rattle.protobuf_parse_syntax.specs.Classes.{lexicon};
 ghost use Rattle.protobuf_parse_syntax.specs.Grammar as grammar;

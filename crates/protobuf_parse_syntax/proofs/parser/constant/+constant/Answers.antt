@@ -1,6 +1,6 @@
 use Rattle.std.proofs.Common.{List, map, refl, sym, ◌∙◌}
 use Rattle.std.proofs.lemmas.Result.{err_from_is_err_and}
-use Rattle.protobuf_parse_base.specs.Readers.{shorter}
+use Rattle.protobuf_parse_base.specs.Combinators.{shorter}
 use Rattle.protobuf_parse_base.specs.Pairs.{both}
 use Rattle.protobuf_parse_base.specs.Loops.{shows_themselves, goes_on, stops_here}
 use Rattle.protobuf_parse_syntax.specs.Trees.{ConstantFieldSyntax, constant_view}

@@ -1,7 +1,7 @@
 use Rattle.std.proofs.Common.{◌≡◌, List, ◌++◌, ◌∷◌, [], map, refl, sym, ap, ◌∙◌}
 use Rattle.std.proofs.lemmas.List.{map_push}
 use Rattle.std.proofs.lemmas.Result.{err_from_is_err_and}
-use Rattle.protobuf_parse_base.specs.Readers.{run_many, shorter}
+use Rattle.protobuf_parse_base.specs.Combinators.{run_many, shorter}
 use Rattle.protobuf_parse_base.specs.Loops.{with_rest, shows_themselves, goes_on, stops_here}
 use Rattle.protobuf_parse_syntax.specs.Trees.{RangeSyntax, range_view}
 use Rattle.protobuf_parse_syntax.specs.Productions as read

@@ -1,7 +1,7 @@
 use Rattle.std.proofs.Common.{◌≡◌, List, [], map, refl, sym, ap, ◌∙◌, subst}
 use Rattle.std.proofs.lemmas.Result.{err_from_is_err_and}
 use Rattle.protobuf_parse_base.specs.Relations.{somes}
-use Rattle.protobuf_parse_base.specs.Readers.{shorter, run_many}
+use Rattle.protobuf_parse_base.specs.Combinators.{shorter, run_many}
 use Rattle.protobuf_parse_base.specs.Loops.{with_rest, shows_somes, goes_on, stops_here}
 use Rattle.protobuf_parse_syntax.specs.Trees.{FieldStatementSyntax, field_statement_view}
 use Rattle.protobuf_parse_syntax.specs.Nested as nest

@@ -1,6 +1,7 @@
 use Rattle.std.proofs.Common.{◌≡◌, ◌+◌, ◌*◌, List, map}
 use Rattle.protobuf_parse_base.specs.Relations.{somes}
-use Rattle.protobuf_parse_base.specs.Readers.{size, run_many}
+use Rattle.protobuf_parse_base.specs.Readers.{size}
+use Rattle.protobuf_parse_base.specs.Combinators.{run_many}
 use Rattle.protobuf_parse_base.specs.Loops.{with_rest}
 use Rattle.protobuf_parse_syntax.specs.Trees.{message_statement_view, MessageStatementSyntax}
 use Rattle.protobuf_parse_syntax.specs.Nested as nest

@@ -1,5 +1,6 @@
 use Rattle.std.proofs.Common.{◌≡◌, ℕ, List, string_bytes}
-use Rattle.protobuf_parse_base.specs.Readers.{size, run_many}
+use Rattle.protobuf_parse_base.specs.Readers.{size}
+use Rattle.protobuf_parse_base.specs.Combinators.{run_many}
 use Rattle.protobuf_parse_base.specs.Loops.{with_rest}
 use Rattle.protobuf_parse_syntax.specs.Grammar.{dots}
 use Rattle.protobuf_parse_syntax.specs.Productions as read
