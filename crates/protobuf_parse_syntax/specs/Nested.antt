@@ -6,6 +6,7 @@ use Rattle.protobuf_parse_base.specs.Depth.{Near}
 use Rattle.protobuf_parse_base.specs.Pairs.{same, less, give, behind, choose, shaped}
 use Rattle.protobuf_parse_base.specs.Pairs.{unless, at, both, none-le, level, level-zero}
 use Rattle.protobuf_parse_base.specs.Pairs.{level-suc, levels}
+use Rattle.protobuf_parse_base.specs.Pairs.{◌>>=◌, ◌>>◌}
 use Rattle.protobuf_parse_syntax.specs.Text.{Bytes}
 use Rattle.protobuf_parse_syntax.specs.Tokens.{Lexeme}
 use Rattle.protobuf_parse_syntax.specs.Trees as tree
@@ -32,29 +33,33 @@ use Rattle.protobuf_parse_syntax.specs.Grammar.{IsFileOf}
 use Rattle.protobuf_parse_syntax.specs.declared.lexer.token.Place.{Place}
 use Rattle.protobuf_parse_syntax.specs.declared.tree.Syntax.{Syntax}
 use Rattle.protobuf_parse_syntax.specs.declared.tree.Syntax.TheVariants.{Proto2, Proto3}
+unfoldable pub use Rattle.protobuf_parse_syntax.specs.NestedFields.{option_item, option_items}
+unfoldable pub use Rattle.protobuf_parse_syntax.specs.NestedFields.{after_type, plain_field}
+unfoldable pub use Rattle.protobuf_parse_syntax.specs.NestedFields.{field_item_of, field_items_of}
+unfoldable pub use Rattle.protobuf_parse_syntax.specs.NestedFields.{field_block_of, group_of}
+unfoldable pub use Rattle.protobuf_parse_syntax.specs.NestedFields.{after_label, value_of}
+unfoldable pub use Rattle.protobuf_parse_syntax.specs.NestedFields.{constant_field_of}
+unfoldable pub use Rattle.protobuf_parse_syntax.specs.NestedFields.{constant_fields_of}
+unfoldable pub use Rattle.protobuf_parse_syntax.specs.NestedFields.{message_constant_of}
+unfoldable pub use Rattle.protobuf_parse_syntax.specs.NestedFields.{constants_of, list_of}
+unfoldable pub use Rattle.protobuf_parse_syntax.specs.NestedFields.{constant_of, map_of, type_of}
+unfoldable pub use Rattle.protobuf_parse_syntax.specs.NestedFields.{assignment, option_pair}
+unfoldable pub use Rattle.protobuf_parse_syntax.specs.NestedFields.{assignments, options_pair}
+unfoldable pub use Rattle.protobuf_parse_syntax.specs.NestedFields.{map_field, field_of}
 pub use Rattle.protobuf_parse_syntax.specs.NestedFields.{Parts, item, statements, option, options}
-pub use Rattle.protobuf_parse_syntax.specs.NestedFields.{option_item, option_items, field_shape}
-pub use Rattle.protobuf_parse_syntax.specs.NestedFields.{after_type, plain_field, field_item_of}
-pub use Rattle.protobuf_parse_syntax.specs.NestedFields.{field_items_of, field_block_of, group_of}
-pub use Rattle.protobuf_parse_syntax.specs.NestedFields.{after_label, self, step-le, field, near_field}
-pub use Rattle.protobuf_parse_syntax.specs.NestedFields.{fields, constant_firsts, constant_shape}
-pub use Rattle.protobuf_parse_syntax.specs.NestedFields.{constant_field_shape, ValueOf, value_of}
-pub use Rattle.protobuf_parse_syntax.specs.NestedFields.{constant_field_of, constant_fields_shape}
-pub use Rattle.protobuf_parse_syntax.specs.NestedFields.{constant_fields_of, message_constant_of}
-pub use Rattle.protobuf_parse_syntax.specs.NestedFields.{constants_of, list_of, constant_of, constant}
+pub use Rattle.protobuf_parse_syntax.specs.NestedFields.{field_shape, self, step-le, field}
+pub use Rattle.protobuf_parse_syntax.specs.NestedFields.{near_field, fields, constant_firsts}
+pub use Rattle.protobuf_parse_syntax.specs.NestedFields.{constant_shape, constant_field_shape}
+pub use Rattle.protobuf_parse_syntax.specs.NestedFields.{ValueOf, constant_fields_shape, constant}
 pub use Rattle.protobuf_parse_syntax.specs.NestedFields.{constant_in, constant_zero, constant_more}
-pub use Rattle.protobuf_parse_syntax.specs.NestedFields.{near_constant, constants, type_shape, map_of}
-pub use Rattle.protobuf_parse_syntax.specs.NestedFields.{type_of, type_, near_type, types, item_shape}
-pub use Rattle.protobuf_parse_syntax.specs.NestedFields.{items_shape, assignment_shape, assignment}
-pub use Rattle.protobuf_parse_syntax.specs.NestedFields.{option_shape, option_pair, option-same}
-pub use Rattle.protobuf_parse_syntax.specs.NestedFields.{assignments, options_shape, options_pair}
+pub use Rattle.protobuf_parse_syntax.specs.NestedFields.{near_constant, constants, type_shape}
+pub use Rattle.protobuf_parse_syntax.specs.NestedFields.{type_, near_type, types, item_shape}
+pub use Rattle.protobuf_parse_syntax.specs.NestedFields.{items_shape, assignment_shape}
+pub use Rattle.protobuf_parse_syntax.specs.NestedFields.{option_shape, option-same, options_shape}
 pub use Rattle.protobuf_parse_syntax.specs.NestedFields.{options-same, option_items_shape}
-pub use Rattle.protobuf_parse_syntax.specs.NestedFields.{option_item_shape, AfterType, map_field}
-pub use Rattle.protobuf_parse_syntax.specs.NestedFields.{field_firsts, field_items_shape}
-pub use Rattle.protobuf_parse_syntax.specs.NestedFields.{field_item_shape, after_label_shape, up}
-pub use Rattle.protobuf_parse_syntax.specs.NestedFields.{field_of}
-
-fields s n = record { low = field s n; high = field s (suc n); near = near_field s n }
+pub use Rattle.protobuf_parse_syntax.specs.NestedFields.{option_item_shape, AfterType, field_firsts}
+pub use Rattle.protobuf_parse_syntax.specs.NestedFields.{field_items_shape, field_item_shape}
+pub use Rattle.protobuf_parse_syntax.specs.NestedFields.{after_label_shape, up}
 
 -- ---- oneofs and extensions
 

@@ -437,3 +437,4 @@ near_field Proto3 = levels refl (field_of Proto3) (λ n k h R R' t ts. refl)
 
 abbrev pub fields : (s : Syntax) (n : ℕ)
     → Parts (IsField s n) (IsField s (suc n)) (field_shape (field_firsts s)) n
+fields s n = record { low = field s n; high = field s (suc n); near = near_field s n }
