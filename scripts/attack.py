@@ -5,96 +5,116 @@ docs/PERFORMANCE.md has what each of them costs. With no argument it lists the n
 
 import sys
 
+PROTO2 = 'syntax = "proto2";\n'
+PROTO3 = 'syntax = "proto3";\n'
+OPTIONS = PROTO2 + 'import "google/protobuf/descriptor.proto";\n'
+
+
+# ---- what the texts are made of
+
+
+def block(head, n, item, end="}\n"):
+    """A block in braces with an item for each number below n."""
+    yield head + " {\n"
+    for i in range(n):
+        yield f"  {item(i)}\n"
+    yield end
+
+
+def field_number(i):
+    """The number of field i, from 0 on, where those from 19000 to 19999 may not be used."""
+    return i + 1 if i < 18999 else i + 1001
+
+
+def custom_option(kind, field):
+    """The extension that makes a field an option of files or of messages."""
+    return f"extend google.protobuf.{kind}Options {{ {field} = 50000; }}\n"
+
+
+def wide_option(n):
+    """A file's option, wide, of a message of n fields."""
+    yield OPTIONS
+    yield from block("message D", n, lambda i: f"optional int32 a{i} = {20000 + i};")
+    yield custom_option("File", "optional D wide")
+
+
+# ---- the texts
+
 
 def fields(n):
     """One message with n fields of all kinds that have 35 bytes each on the mean."""
-    kinds = "int32 string bytes bool double sint64".split()
-    yield 'syntax = "proto3";\nmessage Wide {\n'
-    for i in range(1, n + 1):
-        number = i if i < 19000 else i + 1000
-        yield f"  {kinds[i % 6]} name_of_the_field_{i} = {number};\n"
-    yield "}\n"
+    kinds = "string bytes bool double sint64 int32".split()
+    yield PROTO3
+    yield from block(
+        "message Wide",
+        n,
+        lambda i: f"{kinds[i % 6]} name_of_the_field_{i + 1} = {field_number(i)};",
+    )
 
 
 def prefixes(n):
     """n messages whose names begin with the same 60 characters, each with one field."""
     long = "Prefix" * 10
-    yield 'syntax = "proto3";\n'
+    yield PROTO3
     for i in range(n):
         yield f"message {long}{i} {{ {long}{max(0, i - 1)} before = 1; }}\n"
 
 
 def values(n):
     """An enum of n values."""
-    yield 'syntax = "proto3";\nenum Wide {\n'
-    for i in range(n):
-        yield f"  VALUE_{i} = {i};\n"
-    yield "}\n"
+    yield PROTO3
+    yield from block("enum Wide", n, lambda i: f"VALUE_{i} = {i};")
 
 
 def defaults(n):
     """n fields whose default is the last of an enum's n values."""
-    yield 'syntax = "proto2";\nenum Wide {\n'
-    for i in range(n):
-        yield f"  V{i} = {i};\n"
-    yield "}\nmessage M {\n"
-    for i in range(n):
-        yield f"  optional Wide f{i} = {20000 + i} [default = V{n - 1}];\n"
-    yield "}\n"
+    yield PROTO2
+    yield from block("enum Wide", n, lambda i: f"V{i} = {i};")
+    yield from block(
+        "message M", n, lambda i: f"optional Wide f{i} = {20000 + i} [default = V{n - 1}];"
+    )
 
 
 def json_names(n):
     """n fields, each two of which have one name in JSON's spelling in all but its last part."""
-    yield 'syntax = "proto2";\nmessage M {\n'
-    for i in range(n):
+
+    def field(i):
         words = format(i, "017b").replace("0", "a").replace("1", "_a")
-        yield f"  optional int32 f{words}_{i} = {20000 + i};\n"
-    yield "}\n"
+        return f"optional int32 f{words}_{i} = {20000 + i};"
+
+    yield PROTO2
+    yield from block("message M", n, field)
 
 
 def parts(n):
     """A field's type with a name of 100 parts, n times, in a package of 99 parts."""
     package = ".".join(["a"] * 99)
-    yield f'syntax = "proto3";\npackage {package};\nmessage M {{}}\nmessage User {{\n'
-    for i in range(n):
-        yield f"  {package}.M f{i} = {i + 1 if i < 18999 else i + 1001};\n"
-    yield "}\n"
-
-
-def missed_parts(n):
-    """The same with a name that is short, and found in the outermost scope alone."""
-    package = ".".join(["b"] * 99)
-    yield f'syntax = "proto3";\npackage {package};\nmessage M {{}}\nmessage User {{\n'
-    for i in range(n):
-        yield f"  {package}.M f{i} = {i + 1 if i < 18999 else i + 1001};\n"
-    yield "}\n"
-
-
-OPTIONS = 'syntax = "proto2";\nimport "google/protobuf/descriptor.proto";\n'
+    yield PROTO3 + f"package {package};\nmessage M {{}}\n"
+    yield from block("message User", n, lambda i: f"{package}.M f{i} = {field_number(i)};")
 
 
 def constants(n):
     """n options, each with a constant that nests 100 deep."""
     yield OPTIONS + "message D { optional D d = 1; optional int32 a = 2; }\n"
-    yield "extend google.protobuf.FileOptions { repeated D deep = 50000; }\n"
+    yield custom_option("File", "repeated D deep")
     constant = "{ d " * 99 + "{ a: 1 }" + " }" * 99
-    for i in range(n):
+    for _ in range(n):
         yield f"option (deep) = {constant};\n"
 
 
 def lists(n):
     """100 options whose constant nests 49 deep in lists of one, with n / 100 numbers inside."""
     yield OPTIONS + "message D { repeated D d = 1; repeated int32 a = 2; }\n"
-    yield "extend google.protobuf.MessageOptions { optional D deep = 50000; }\n"
-    numbers = ", ".join(str(i) for i in range(n // 100))
-    constant = "{ d: [" * 48 + f"{{ a: [{numbers}] }}" + "] }" * 48
+    yield custom_option("Message", "optional D deep")
+    inside = ", ".join(str(i) for i in range(n // 100))
+    constant = "{ d: [" * 48 + f"{{ a: [{inside}] }}" + "] }" * 48
     for i in range(100):
         yield f"message M{i} {{ option (deep) = {constant}; }}\n"
 
 
 def pieces(n):
     """A string of n bytes in pieces of one byte."""
-    yield 'syntax = "proto2";\nmessage M { optional string s = 1 [default ='
+    yield PROTO2 + "message M { optional string s = 1 [default ="
     for i in range(n):
         yield ' "a"' if i % 20 else '\n"a"'
     yield "]; }\n"
@@ -102,80 +122,75 @@ def pieces(n):
 
 def extensions(n):
     """n extensions of an options message, and n messages, each of which sets another one."""
-    yield OPTIONS + "extend google.protobuf.MessageOptions {\n"
-    for i in range(n):
-        yield f"  optional int32 x{i} = {50000 + i};\n"
-    yield "}\n"
+    yield OPTIONS
+    yield from block(
+        "extend google.protobuf.MessageOptions", n, lambda i: f"optional int32 x{i} = {50000 + i};"
+    )
     for i in range(n):
         yield f"message M{i} {{ option (x{i}) = 1; }}\n"
 
 
 def set_fields(n):
     """An option of a message of n fields, which sets all of them."""
-    yield OPTIONS + "message D {\n"
-    for i in range(n):
-        yield f"  optional int32 a{i} = {20000 + i};\n"
-    yield "}\nextend google.protobuf.FileOptions { optional D wide = 50000; }\n"
-    yield "option (wide) = {\n" + "".join(f"  a{i}: 1\n" for i in range(n)) + "};\n"
+    yield from wide_option(n)
+    yield from block("option (wide) =", n, lambda i: f"a{i}: 1", "};\n")
 
 
 def set_paths(n):
     """The same by a statement for each field."""
-    yield OPTIONS + "message D {\n"
-    for i in range(n):
-        yield f"  optional int32 a{i} = {20000 + i};\n"
-    yield "}\nextend google.protobuf.FileOptions { optional D wide = 50000; }\n"
+    yield from wide_option(n)
     for i in range(n):
         yield f"option (wide).a{i} = 1;\n"
 
 
 def set_values(n):
     """A list of n numbers of an enum's n values, each by its name."""
-    yield OPTIONS + "enum E {\n" + "".join(f"  V{i} = {i};\n" for i in range(n)) + "}\n"
-    yield "extend google.protobuf.FileOptions { repeated E all = 50000; }\n"
+    yield OPTIONS
+    yield from block("enum E", n, lambda i: f"V{i} = {i};")
+    yield custom_option("File", "repeated E all")
     for i in range(n):
         yield f"option (all) = V{n - 1 - i};\n"
 
 
 def extends(n):
     """n extensions of a message with n ranges of extensions."""
-    yield 'syntax = "proto2";\nmessage M {\n'
-    for i in range(n):
-        yield f"  extensions {20000 + 2 * i};\n"
-    yield "}\n"
+    yield PROTO2
+    yield from block("message M", n, lambda i: f"extensions {20000 + 2 * i};")
     for i in range(n):
         yield f"extend M {{ optional int32 x{i} = {20000 + 2 * i}; }}\n"
 
 
 def reserved(n):
     """A message with n fields, n reserved numbers and n reserved names."""
-    yield 'syntax = "proto2";\nmessage M {\n'
-    for i in range(n):
-        yield f'  reserved {20000 + 2 * i}; reserved "r{i}";'
-        yield f"  optional int32 f{i} = {20001 + 2 * i};\n"
-    yield "}\n"
+    yield PROTO2
+    yield from block(
+        "message M",
+        n,
+        lambda i: f'reserved {20000 + 2 * i}; reserved "r{i}";'
+        f"  optional int32 f{i} = {20001 + 2 * i};",
+    )
 
 
 def oneofs(n):
     """A message with n oneofs of one field, and n fields with oneofs of their own."""
-    yield 'syntax = "proto3";\nmessage M {\n'
-    for i in range(n):
-        yield f"  oneof o{i} {{ int32 f{i} = {20000 + 2 * i}; }}\n"
-        yield f"  optional int32 g{i} = {20001 + 2 * i};\n"
-    yield "}\n"
+    yield PROTO3
+    yield from block(
+        "message M",
+        n,
+        lambda i: f"oneof o{i} {{ int32 f{i} = {20000 + 2 * i}; }}\n"
+        f"  optional int32 g{i} = {20001 + 2 * i};",
+    )
 
 
 def maps(n):
     """A message with n maps."""
-    yield 'syntax = "proto3";\nmessage M {\n'
-    for i in range(n):
-        yield f"  map<string, int32> m{i} = {20000 + i};\n"
-    yield "}\n"
+    yield PROTO3
+    yield from block("message M", n, lambda i: f"map<string, int32> m{i} = {20000 + i};")
 
 
 def deep(n):
     """n times messages that nest 100 deep, each of which uses the outermost one."""
-    yield 'syntax = "proto2";\n'
+    yield PROTO2
     for i in range(n):
         for level in range(99):
             yield f"message D{i}L{level} {{ optional D{i}L0 up = 1; "
@@ -184,20 +199,20 @@ def deep(n):
 
 def options(n):
     """A message with n statements of one custom option."""
-    yield OPTIONS + "extend google.protobuf.MessageOptions { repeated int32 xs = 50000; }\n"
-    yield "message M {\n" + "".join(f"  option (xs) = {i};\n" for i in range(n)) + "}\n"
+    yield OPTIONS + custom_option("Message", "repeated int32 xs")
+    yield from block("message M", n, lambda i: f"option (xs) = {i};")
 
 
 def imports(n):
     """n public imports of one file that the library brings (refused: a file is imported twice)."""
-    yield 'syntax = "proto3";\n'
+    yield PROTO3
     yield 'import "google/protobuf/any.proto";\n' * n
 
 
 def methods(n):
     """A service with n methods."""
-    yield 'syntax = "proto3";\nmessage M {}\nservice S {\n'
-    yield "".join(f"  rpc Call{i}(M) returns (stream M);\n" for i in range(n)) + "}\n"
+    yield PROTO3 + "message M {}\n"
+    yield from block("service S", n, lambda i: f"rpc Call{i}(M) returns (stream M);")
 
 
 def braces(n):
@@ -212,9 +227,9 @@ def comment(n):
 
 # ---- names that collide
 
-# The hash maps have keys that are known: each step multiplies the state, mixed with eight bytes of the
-# name, by the eight bytes behind them. Where the state is just these bytes the product is 0, whatever
-# stands behind them.
+# The hash maps have keys that are known: each step multiplies the state, mixed with eight bytes of
+# the name, by the eight bytes behind them. Where the state is just these bytes the product is 0,
+# whatever stands behind them.
 WORD = (1 << 64) - 1
 FACTOR = 0x9E3779B97F4A7C15
 START = 0x243F6A8885A308D3
@@ -249,10 +264,9 @@ def colliding(n):
 
 def collisions(n):
     """One message with n fields whose names have one hash."""
-    yield 'syntax = "proto2";\nmessage M {\n'
-    for i, name in enumerate(colliding(n)):
-        yield f"  optional int32 {name} = {20000 + i};\n"
-    yield "}\n"
+    alike = list(colliding(n))
+    yield PROTO2
+    yield from block("message M", n, lambda i: f"optional int32 {alike[i]} = {20000 + i};")
 
 
 def paths(n):
@@ -271,14 +285,25 @@ def names(n):
 
 
 def wide(n):
-    """A message with n fields, the first for messages of its own type: for the benchmark's --read."""
-    yield 'syntax = "proto2";\nmessage Wide {\n  repeated Wide more = 1;\n'
-    for i in range(2, n + 1):
-        yield f"  optional int32 f{i} = {i};\n"
-    yield "}\n"
+    """A message with n fields, the first of its own type: for the benchmark's --read."""
+    yield PROTO2
+    yield from block(
+        "message Wide",
+        max(n, 1),
+        lambda i: f"optional int32 f{i + 1} = {i + 1};" if i else "repeated Wide more = 1;",
+    )
 
 
-HELPERS = (folded, word, colliding_front, colliding)
+HELPERS = (
+    block,
+    field_number,
+    custom_option,
+    wide_option,
+    folded,
+    word,
+    colliding_front,
+    colliding,
+)
 ATTACKS = {
     name: it for name, it in list(globals().items()) if callable(it) and it not in HELPERS
 }

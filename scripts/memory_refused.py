@@ -3,11 +3,11 @@
 
     scripts/memory_refused.py [--most N] [--jobs J] [--cases PROGRAM] [--program PROGRAM] [NAME..]
 
-For each row of the files of cases (or of those that are named), and for the program on some files (where
-nothing is named, or the word program), it runs
-the built program with its first request for memory refused, then with its second one, and so on until a run
-meets no refusal. Each run must say that it is out of memory, or give the row's answer; the last one gives
-the answer. Rows that make more than N requests (5000) have only each seventh, or each 70th, refused."""
+For each row of the files of cases (or of those that are named), and for the program on some files
+(where nothing is named, or the word program), it runs the built program with its first request for
+memory refused, then with its second one, and so on until a run meets no refusal. Each run must say
+that it is out of memory, or give the row's answer; the last one gives the answer. Rows that make
+more than N requests (5000) have only each seventh, or each 70th, refused."""
 
 import argparse
 import concurrent.futures
@@ -24,9 +24,12 @@ WELL = "one.cases: 1 of 1\n"
 MEMORY = "out of memory"
 # What stands for it where the program that runs the cases lacks memory itself.
 OWN = re.compile(
-    r"(Error: (.*: )?|one.cases can't be read: (line \d+: )?)(memory allocation failed|[Oo]ut of memory)\n"
+    r"(Error: (.*: )?|one.cases can't be read: (line \d+: )?)"
+    r"(memory allocation failed|[Oo]ut of memory)\n"
 )
-SHORT = re.compile(r"(no answer: (.*: )?)?(memory allocation failed|[Oo]ut of memory)|at 0:0: out of memory")
+SHORT = re.compile(
+    r"(no answer: (.*: )?)?(memory allocation failed|[Oo]ut of memory)|at 0:0: out of memory"
+)
 
 
 def rows_of(name):
@@ -51,7 +54,8 @@ class Refuser:
         self.library = library
 
     def records(self, words, folder, **setting):
-        """For each run N, whether it met a refusal, or how many requests there were; and what it wrote."""
+        """For each run N, whether it met a refusal, or how many requests there were;
+        and what it wrote."""
         reading, writing = os.pipe()
         env = {"LD_PRELOAD": self.library, "REFUSE_TO": str(writing)}
         env.update({f"REFUSE_{name}": str(value) for name, value in setting.items()})
@@ -65,7 +69,7 @@ class Refuser:
             raise RuntimeError(f"{words} could not be run")
 
     def runs(self, words, folder, most):
-        """Those runs that are wanted of a program that makes many requests, and how many it makes."""
+        """The runs that are wanted of a program that makes many requests, and how many it makes."""
         count = next(self.records(words, folder, COUNT=1))[2]
         step = 1 if count <= most else 7 if count <= 7 * most else 70
         return count, step, self.records(words, folder, STEP=step)
@@ -85,7 +89,7 @@ def is_begun(found, wanted):
 
 
 def is_read(found, wanted):
-    """Whether the lines are those that are wanted, but for what is read back where memory is short."""
+    """Whether the lines are the wanted ones, but for what is read back where memory is short."""
     found, wanted = found.split("\n"), wanted.split("\n")
     return len(found) == len(wanted) and all(
         it == other or it == " ".join([*other.split(" ")[:2], MEMORY])
@@ -94,12 +98,15 @@ def is_read(found, wanted):
 
 
 def is_right(status, text, verb):
-    """Whether a run has the answer, or is out of memory. One that shows its reads alone has a beginning."""
+    """Whether a run has the answer, or is out of memory. One that shows its reads alone has a
+    beginning."""
     if text == WELL:
         return status == 0
     if OWN.fullmatch(text):
         return status != 0
-    told = re.fullmatch(r"one.cases:\d+: .*\nwanted: (.*)\nfound: (.*)\none.cases: 0 of 1\n", text, re.S)
+    told = re.fullmatch(
+        r"one.cases:\d+: .*\nwanted: (.*)\nfound: (.*)\none.cases: 0 of 1\n", text, re.S
+    )
     if not told or status == 0:
         return False
     wanted, found = told.groups()
@@ -165,7 +172,13 @@ def tasks(refuser, options):
         for line, content in rows_of(f"{DATA}/{name}"):
             yield try_row, (refuser, options, name, line, content)
     if not options.names or "program" in options.names:
-        for words in (["d/x.proto", "d"], ["d/b.proto", "d"], ["top.proto", "."], ["a", "b"], ["a"]):
+        for words in (
+            ["d/x.proto", "d"],
+            ["d/b.proto", "d"],
+            ["top.proto", "."],
+            ["a", "b"],
+            ["a"],
+        ):
             yield try_program, (refuser, options, DATA, words)
 
 
@@ -174,7 +187,9 @@ def main():
     crates = f"{TOP}/crates"
     parser.add_argument("--most", type=int, default=5000)
     parser.add_argument("--jobs", type=int, default=2)
-    parser.add_argument("--cases", default=f"{crates}/protobuf_parse_cases/out/protobuf_parse_cases")
+    parser.add_argument(
+        "--cases", default=f"{crates}/protobuf_parse_cases/out/protobuf_parse_cases"
+    )
     parser.add_argument(
         "--program", default=f"{crates}/protobuf_parse_program/out/protobuf_parse_program"
     )
@@ -186,14 +201,19 @@ def main():
         source = f"{TOP}/scripts/refuse.c"
         subprocess.run(["cc", "-O1", "-shared", "-fPIC", "-o", library, source], check=True)
         with concurrent.futures.ThreadPoolExecutor(options.jobs) as pool:
-            started = [pool.submit(what, *given) for what, given in tasks(Refuser(library), options)]
+            started = [
+                pool.submit(what, *given) for what, given in tasks(Refuser(library), options)
+            ]
             for it in concurrent.futures.as_completed(started):
                 _, step, met, lines = it.result()
                 rows, whole, refusals = rows + 1, whole + (step == 1), refusals + met
                 faults += bool(lines)
                 for line in lines:
                     print(line, flush=True)
-    print(f"{rows} rows, {whole} of them with each request; {refusals} refusals; {faults} rows not as wanted")
+    print(
+        f"{rows} rows, {whole} of them with each request; "
+        f"{refusals} refusals; {faults} rows not as wanted"
+    )
     return 1 if faults else 0
 
 
