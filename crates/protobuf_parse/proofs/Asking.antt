@@ -16,10 +16,12 @@ use Rattle.protobuf_parse.specs.declared.run.log.ReadEntry.{ReadEntry}
 use Rattle.protobuf_parse.specs.declared.run.log.ReadOutcome.{ReadOutcome}
 use Rattle.protobuf_parse.specs.Walks.{Asked, the_resolver, the_reader, Input, named, at, Event}
 use Rattle.protobuf_parse.specs.Walks.{cycle, long, load, check, elab, has, keep, among, Trees}
-use Rattle.protobuf_parse.specs.Walks.{import_paths, joined, inside, walk, Read, reads_in, checks}
+use Rattle.protobuf_parse.specs.Walks.{import_paths, walks_joined, events_inside, walk, FileRead}
+use Rattle.protobuf_parse.specs.Walks.{reads_in, checks}
 use Rattle.protobuf_parse.specs.Walks.{input_walk, events_after, events, until}
-use Rattle.protobuf_parse.specs.Run.{Answers, AreAskedOnce, Ends, Files, IsAskedOnce, RunsAsTold}
-use Rattle.protobuf_parse.specs.Run.{fails, if_placed, if_reader, placed, placed_in, resolved_in}
+use Rattle.protobuf_parse.specs.Run.{AreAnswered, AreAskedOnce, RunEnds, Files, IsAskedOnce}
+use Rattle.protobuf_parse.specs.Run.{RunsAsTold}
+use Rattle.protobuf_parse.specs.Run.{fails, if_placed, if_reader, placed, placed_reads, resolved_in}
 use Rattle.protobuf_parse.specs.Loading.{Legal}
 use Rattle.protobuf_parse.proofs.Following.{AllFollow, all-follow, follows-front}
 use Rattle.protobuf_parse.proofs.Keeping.{bool_cases, has-last, keep-fresh, has-left, never_both}
@@ -89,15 +91,15 @@ none-front [] ys h = tt
 none-front (x ∷ xs) ys h = (h.0, none-front xs ys h.1)
 
 none-joined : (f : Text → List Event) (ps : List Text) → ((p : Text) → AskNoReader (f p))
-    → AskNoReader (joined f ps)
+    → AskNoReader (walks_joined f ps)
 none-joined f [] each = tt
 none-joined f (p ∷ ps) each =
-    none-append (f p) (joined f ps) (each p) (none-joined f ps each)
+    none-append (f p) (walks_joined f ps) (each p) (none-joined f ps each)
 
 none-inside : (o : Option FileSyntax) (f : Text → List Event) (p : Text)
-    → ((q : Text) → AskNoReader (f q)) → AskNoReader (inside o f p)
+    → ((q : Text) → AskNoReader (f q)) → AskNoReader (events_inside o f p)
 none-inside None f p each = tt
-none-inside (Some t) f p each = none-append (joined f (import_paths t)) (elab p ∷ [])
+none-inside (Some t) f p each = none-append (walks_joined f (import_paths t)) (elab p ∷ [])
     (none-joined f (import_paths t) each) (tt, tt)
 
 -- the walks of imports
@@ -172,10 +174,10 @@ pub record HasReads (legal : Legal) (all : List Event) (log : List ReadEntry) : 
   pub done : List Event
   pub rest : List Event
   pub beginning : all ≡ done ++ rest
-  pub answers : Answers legal (reads_in done) log
+  pub answers : AreAnswered legal (reads_in done) log
 
 has-reads : (legal : Legal) (files : Files) (all : List Event)
-    (r : Result (Vec FileDescriptorProto) RunFault) → Ends legal files all r
+    (r : Result (Vec FileDescriptorProto) RunFault) → RunEnds legal files all r
     → HasReads legal all files.reads
 has-reads legal files all (Ok ds) h = record {
   done = all;
@@ -201,11 +203,11 @@ has-reads legal files all (Err f) (inr h) =
 -- ** what the reader is asked
 
 abbrev owned : List Event → List Input
-owned es = placed_in (reads_in es)
+owned es = placed_reads (reads_in es)
 
 owned-append : (xs ys : List Event) → owned (xs ++ ys) ≡ owned xs ++ owned ys
-owned-append xs ys = ap placed_in (reads_in-append xs ys)
-    ∙ flat_map-append (λ (r : Read). if_reader r.asked r.path) (reads_in xs) (reads_in ys)
+owned-append xs ys = ap placed_reads (reads_in-append xs ys)
+    ∙ flat_map-append (λ (r : FileRead). if_reader r.asked r.path) (reads_in xs) (reads_in ys)
 
 owned-none : (x : Event) → AsksNoReader x → owned (x ∷ []) ≡ []
 owned-none (load the_resolver p) h = refl
@@ -247,7 +249,7 @@ owned-at kept inner p own false h none =
 
 walk-input : (trees : Trees) (i : Text) (a : Asked) (p : Text)
     → walk trees i a 100 [] p
-    ≡ load a p ∷ inside (trees p) (walk trees i the_resolver 99 (p ∷ [])) p
+    ≡ load a p ∷ events_inside (trees p) (walk trees i the_resolver 99 (p ∷ [])) p
 walk-input trees i a p = walk-load trees i a 99 [] p refl
 
 owned-input : (trees : Trees) (kept : List Event) (i : Input)
@@ -258,7 +260,7 @@ owned-input trees kept (named p) = owned-keep (kept ++ []) (input_walk trees (na
 owned-input trees kept (at p own) =
     ap (λ z. owned (keep (kept ++ checks kept (at p own)) z))
     (walk-input trees p (the_reader own) p)
-    ∙ owned-at kept (inside (trees p) (walk trees p the_resolver 99 (p ∷ [])) p) p own
+    ∙ owned-at kept (events_inside (trees p) (walk trees p the_resolver 99 (p ∷ [])) p) p own
     (has (load the_resolver p) kept) refl
     (none-inside (trees p) (walk trees p the_resolver 99 (p ∷ [])) p
     (none-walk trees p 99 (p ∷ [])))
@@ -301,7 +303,7 @@ all-asked-once legal inputs bundled log result told trees has =
 module _ (old new : Legal)
     (same : (p : Text) (o : ReadOutcome) → old the_resolver p o → new the_resolver p o) where
   answers-of : (es : List Event) (log : List ReadEntry) → AskNoReader es
-      → Answers old (reads_in es) log → Answers new (reads_in es) log
+      → AreAnswered old (reads_in es) log → AreAnswered new (reads_in es) log
   answers-of [] [] h a = tt
   answers-of [] (e ∷ log) h a = absurd a
   answers-of (load the_resolver p ∷ es) [] h a = absurd a
@@ -314,7 +316,7 @@ module _ (old new : Legal)
   answers-of (elab p ∷ es) log h a = answers-of es log h.1 a
 
   ends-of : (files : Files) (es : List Event) (r : Result (Vec FileDescriptorProto) RunFault)
-      → AskNoReader es → Ends old files es r → Ends new files es r
+      → AskNoReader es → RunEnds old files es r → RunEnds new files es r
   ends-of files es (Ok ds) none h = record {
     none_fails = h.none_fails;
     reads = answers-of es files.reads none h.reads;

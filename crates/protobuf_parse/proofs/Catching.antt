@@ -6,12 +6,12 @@ use Rattle.std.specs.Prelude.{option_to_list}
 use Rattle.std.proofs.lemmas.List.{length-map, map-append}
 use Rattle.protobuf_parse_model.specs.Descriptors.{FileDescriptor}
 use Rattle.protobuf_parse_wire.specs.Holding.{Holds}
-use Rattle.protobuf_parse.specs.Loading.{Begins, Entry, IsWhole, picked_plains, plain_in}
+use Rattle.protobuf_parse.specs.Loading.{IndexBegins, LoadedEntry, IsWhole, picked_plains, plain_in}
 use Rattle.protobuf_parse.specs.Loading.{plains_with}
 use Rattle.protobuf_parse.specs.declared.run.tables.RunPlaces.{RunPlaces}
 
 pub whole-begins : (places : RunPlaces) (plains : List FileDescriptor) → IsWhole places plains
-    → Begins places plains
+    → IndexBegins places plains
 whole-begins places plains whole = record {
   front = plains;
   rest = [];
@@ -21,7 +21,7 @@ whole-begins places plains whole = record {
 
 -- a file more that isn't in it
 pub begins-more : (places : RunPlaces) (plains : List FileDescriptor) (d : FileDescriptor)
-    → Begins places plains → Begins places (plains ++ d ∷ [])
+    → IndexBegins places plains → IndexBegins places (plains ++ d ∷ [])
 begins-more places plains d b = record {
   front = b.front;
   rest = b.rest ++ d ∷ [];
@@ -41,10 +41,10 @@ first-of (y ∷ rest) x e = let same : y ≡ x = cc in (rest, ap (λ z. z ∷ re
 
 -- the next of the files
 pub begins-next : (old new : RunPlaces) (plains : List FileDescriptor) (d : FileDescriptor)
-    (b : Begins old plains) → slice_get plains old.files ≡ Some d
+    (b : IndexBegins old plains) → slice_get plains old.files ≡ Some d
     → ((files : List FileDescriptor) → length files ≡ old.files → Holds old.declared files
     → Holds new.declared (files ++ d ∷ []))
-    → new.files ≡ old.files + 1 → Begins new plains
+    → new.files ≡ old.files + 1 → IndexBegins new plains
 begins-next old new plains d b at adds count =
     let whole = b.whole in
     let here : slice_get b.rest 0 ≡ Some d = sym (at-end b.front b.rest)
@@ -66,7 +66,7 @@ none-left [] e = refl
 none-left (x ∷ rest) e = absurd (omega (arith, e))
 
 -- an index that counts as many files as there are has them all
-pub whole-at : (places : RunPlaces) (plains : List FileDescriptor) → Begins places plains
+pub whole-at : (places : RunPlaces) (plains : List FileDescriptor) → IndexBegins places plains
     → length plains ≤ places.files → IsWhole places plains
 whole-at places plains b le =
     let whole = b.whole in
@@ -78,7 +78,7 @@ whole-at places plains b le =
     subst (λ (ps : List FileDescriptor). IsWhole places ps) same whole
 
 pub next-whole : (old new : RunPlaces) (plains : List FileDescriptor) (d : FileDescriptor) (n : ℕ)
-    → Begins old plains → length plains ≤ old.files → length plains ≡ n
+    → IndexBegins old plains → length plains ≤ old.files → length plains ≡ n
     → ((files : List FileDescriptor) → length files ≡ n → Holds old.declared files
     → Holds new.declared (files ++ d ∷ []))
     → new.files ≡ n + 1 → IsWhole new (plains ++ d ∷ [])
@@ -90,7 +90,7 @@ next-whole old new plains d n b le len adds count =
     }
 
 -- the descriptors of the loaded files, with one more
-pub plains-push : (loaded : List Entry) (x : Entry)
+pub plains-push : (loaded : List LoadedEntry) (x : LoadedEntry)
     → plains_with loaded (plain_in x) ≡ map plain_in (loaded ++ x ∷ [])
 plains-push loaded x = sym (map-append plain_in loaded (x ∷ []))
 

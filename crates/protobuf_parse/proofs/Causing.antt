@@ -12,9 +12,11 @@ use Rattle.protobuf_parse.specs.declared.run.fault.ReadInputFault.{ReadInputFaul
 use Rattle.protobuf_parse.specs.declared.run.log.ReadOutcome.{ReadOutcome}
 use Rattle.protobuf_parse.specs.declared.run.log.ReadOutcome.TheVariants as outcome
 use Rattle.protobuf_parse.specs.Walks.{Asked, the_resolver, the_reader, Event, cycle, long, load}
-use Rattle.protobuf_parse.specs.Walks.{check, elab, Read, reads_in}
-use Rattle.protobuf_parse.specs.Run.{Answers, Ends, Files, IsCaused, IsRefused, MayAnswer, MayRead}
-use Rattle.protobuf_parse.specs.Run.{MayResolve, Resolved, StandsAt, WasRead, answer_at, answer_for}
+use Rattle.protobuf_parse.specs.Walks.{check, elab, FileRead, reads_in}
+use Rattle.protobuf_parse.specs.Run.{AreAnswered, RunEnds, Files, IsCaused, RunIsRefused, MayAnswer}
+use Rattle.protobuf_parse.specs.Run.{MayRead}
+use Rattle.protobuf_parse.specs.Run.{MayResolve, Resolved, StandsAtEvent, WasRead, answer_at}
+use Rattle.protobuf_parse.specs.Run.{answer_for}
 use Rattle.protobuf_parse.specs.Run.{fails}
 use Rattle.protobuf_parse.proofs.Keeping.{reads_in-append}
 use Rattle.protobuf_parse.proofs.Following.{AllFollow, Follows, at-is-last, first-is-last}
@@ -35,27 +37,27 @@ module _ (resolve : MayResolve) (read : MayRead) where
   -- the event fails behind these, and its read is the last
   module _ (files : Files) (before : List Event) (each : AllFollow [] before) where
     loaded-by : (asked : Asked) (p : Text) (o : ReadOutcome) → Follows before (load asked p)
-        → Answers (MayAnswer resolve read) (reads_in (before ++ load asked p ∷ [])) files.reads
+        → AreAnswered (MayAnswer resolve read) (reads_in (before ++ load asked p ∷ [])) files.reads
         → answer_for files p ≡ Some o → MayAnswer resolve read asked p o
     loaded-by asked p o next a h =
         first-is-last (MayAnswer resolve read) (reads_in before)
         (record { asked = asked; path = p }) files.reads o (unread p [] before each next)
-        (subst (λ (rs : List Read). Answers (MayAnswer resolve read) rs files.reads)
+        (subst (λ (rs : List FileRead). AreAnswered (MayAnswer resolve read) rs files.reads)
         (reads_in-append before (load asked p ∷ [])) a) h
 
     checked-by : (own p : Text) (n : ℕ) (o : ReadOutcome) → Follows before (check n own p)
-        → Answers (MayAnswer resolve read) (reads_in (before ++ check n own p ∷ [])) files.reads
+        → AreAnswered (MayAnswer resolve read) (reads_in (before ++ check n own p ∷ [])) files.reads
         → answer_at files n ≡ Some o → MayAnswer resolve read (the_reader own) p o
     checked-by own p n o next a h =
         at-is-last (MayAnswer resolve read) (reads_in before)
         (record { asked = the_reader own; path = p }) files.reads o
-        (subst (λ (rs : List Read). Answers (MayAnswer resolve read) rs files.reads)
+        (subst (λ (rs : List FileRead). AreAnswered (MayAnswer resolve read) rs files.reads)
         (reads_in-append before (check n own p ∷ [])) a)
         (ap (answer_at files) (sym next.1) ∙ h)
 
     caused-at : (event : Event) (f : RunFault) → Follows before event
-        → Answers (MayAnswer resolve read) (reads_in (before ++ event ∷ [])) files.reads
-        → StandsAt files event f → IsCaused resolve read f
+        → AreAnswered (MayAnswer resolve read) (reads_in (before ++ event ∷ [])) files.reads
+        → StandsAtEvent files event f → IsCaused resolve read f
     caused-at (load asked p) (fault.Resolver path why) next a s =
         let r = loaded-by asked p (outcome.ResolverFault s.1) next a s.2 in (
           s.1,
@@ -87,19 +89,20 @@ module _ (resolve : MayResolve) (read : MayRead) where
     caused-at event (fault.Elaborate x y) next a s = tt
     caused-at event (fault.InputPath x y) next a s = tt
 
-  refused : (files : Files) (events : List Event) (f : RunFault) → AllFollow [] events → IsRefused
+  refused : (files : Files) (events : List Event) (f : RunFault) → AllFollow [] events
+      → RunIsRefused
       (MayAnswer resolve read) files events f → IsCaused resolve read f
   refused files events f all h =
       let at = found (fails files) events h.event h.first in
       let next = follows-at [] at.before at.after h.event
       (subst (λ (es : List Event). AllFollow [] es) at.split all) in
       caused-at files at.before next.0 h.event f next.1
-      (subst (λ (es : List Event). Answers (MayAnswer resolve read) (reads_in es) files.reads)
+      (subst (λ (es : List Event). AreAnswered (MayAnswer resolve read) (reads_in es) files.reads)
       at.to h.reads) h.stands
 
   pub caused : (files : Files) (events : List Event)
       (r : Result (Vec FileDescriptorProto) RunFault) → AllFollow [] events
-      → Ends (MayAnswer resolve read) files events r → IfErr r (λ f. IsCaused resolve read f)
+      → RunEnds (MayAnswer resolve read) files events r → IfErr r (λ f. IsCaused resolve read f)
   caused files events (Ok ds) all h = tt
   caused files events (Err f) all (inl h) = refused files events f all h
   caused files events (Err f) all (inr h) = rw h.memory tt

@@ -11,10 +11,11 @@ use Rattle.protobuf_parse.specs.declared.run.loader.LoadedFile.{LoadedFile}
 use Rattle.protobuf_parse.specs.declared.run.log.ReadEntry.{ReadEntry}
 use Rattle.protobuf_parse.specs.declared.run.log.ReadOutcome.{ReadOutcome}
 use Rattle.protobuf_parse.specs.Walks.{the_resolver, the_reader, Event, load, check, elab, has}
-use Rattle.protobuf_parse.specs.Walks.{among, at, checks, Read, reads_in}
-use Rattle.protobuf_parse.specs.Run.{Files, Answers, StandsInCheck, answer_at, are_same_bytes}
+use Rattle.protobuf_parse.specs.Walks.{among, at, checks, FileRead, reads_in}
+use Rattle.protobuf_parse.specs.Run.{Files, AreAnswered, StandsInCheck, answer_at, are_same_bytes}
 use Rattle.protobuf_parse.specs.Run.{fails, first_read, text_for, text_given}
-use Rattle.protobuf_parse.specs.Loading.{Legal, Entry, file_at, read_paths, Goes, GoesOn, Good}
+use Rattle.protobuf_parse.specs.Loading.{Legal, LoadedEntry, file_at, read_paths, Goes, GoesOn}
+use Rattle.protobuf_parse.specs.Loading.{Good}
 use Rattle.protobuf_parse.specs.Loading.{OrMemory, Stops}
 use Rattle.protobuf_parse.proofs.Keeping.{text-same, or_left, has-in, has-left, has-one}
 use Rattle.protobuf_parse.proofs.Keeping.{reads_in-append, elab_paths-append, among-in, find-none}
@@ -23,7 +24,8 @@ use Rattle.protobuf_parse.proofs.Steps.{loaded-more, loaded-at, all-into}
 use Rattle.protobuf_parse.proofs.Walking.{settled-more}
 use Rattle.protobuf_parse.proofs.Reading.{Noted, but_memory}
 
-answers-length : (legal : Legal) (rs : List Read) (log : List ReadEntry) → Answers legal rs log
+answers-length : (legal : Legal) (rs : List FileRead) (log : List ReadEntry)
+    → AreAnswered legal rs log
     → length rs ≡ length log
 answers-length legal [] [] a = refl
 answers-length legal (r ∷ rs) (e ∷ log) a = let h = answers-length legal rs log a.2 in omega arith
@@ -47,7 +49,8 @@ Told table log n text = (e : ReadEntry) → slice_get log n ≡ Some e
     → text ≡ text_given table (path_buf_text e.path) (Some e.outcome)
 
 module _ (legal : Legal) (files : Files) (table : List (Text × Text)) (kept : List Event)
-    (loaded : List Entry) (log : List ReadEntry) (p q own : Text) (x : LoadedFile) (is : q ≡ p)
+    (loaded : List LoadedEntry) (log : List ReadEntry) (p q own : Text) (x : LoadedFile)
+    (is : q ≡ p)
     (g : Good legal files kept loaded log []) (found : file_at q loaded ≡ Some x) where
   at_p : file_at p loaded ≡ Some x
   at_p = subst (λ (z : Text). file_at z loaded ≡ Some x) is found
@@ -100,8 +103,8 @@ module _ (legal : Legal) (files : Files) (table : List (Text × Text)) (kept : L
         → fails files event ≡ not b
     fails-so b h = rw (answered, texts-are, h) refl
 
-    checked : Answers legal (reads_in (kept ++ event ∷ [])) new
-    checked = subst (λ (z : List ReadEntry). Answers legal (reads_in (kept ++ event ∷ [])) z)
+    checked : AreAnswered legal (reads_in (kept ++ event ∷ [])) new
+    checked = subst (λ (z : List ReadEntry). AreAnswered legal (reads_in (kept ++ event ∷ [])) z)
         (sym n.1)
         (rw (reads_in-append kept (event ∷ []))
         (answers-more legal (reads_in kept) log

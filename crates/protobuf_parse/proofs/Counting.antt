@@ -7,14 +7,15 @@ use Rattle.protobuf_parse_model.specs.Descriptors.{Text}
 use Rattle.protobuf_parse.specs.declared.run.fault.RunFault.{RunFault}
 use Rattle.protobuf_parse.specs.Walks.{Asked, the_resolver, Event, Input, cycle, long, load, check}
 use Rattle.protobuf_parse.specs.Walks.{elab, has, keep, at, named, Trees, checks, import_paths}
-use Rattle.protobuf_parse.specs.Walks.{input_walk, events, events_after, reads_in, statements}
+use Rattle.protobuf_parse.specs.Walks.{input_walk, events, events_after, reads_in}
+use Rattle.protobuf_parse.specs.Walks.{import_statements}
 use Rattle.protobuf_parse.specs.Run.{Files, IsCounted}
 use Rattle.protobuf_parse.specs.Loading.{Legal}
 use Rattle.protobuf_parse.proofs.Keeping.{keep-extends}
 use Rattle.protobuf_parse.proofs.Inputs.{events-append, events-one}
 
 pub statements-append : (trees : Trees) (xs ys : List Event)
-    → statements trees (xs ++ ys) ≡ statements trees xs + statements trees ys
+    → import_statements trees (xs ++ ys) ≡ import_statements trees xs + import_statements trees ys
 statements-append trees [] ys = omega arith
 statements-append trees (load a p ∷ xs) ys = let h = statements-append trees xs ys in omega arith
 statements-append trees (cycle p ∷ xs) ys = statements-append trees xs ys
@@ -23,35 +24,35 @@ statements-append trees (check n f p ∷ xs) ys = statements-append trees xs ys
 statements-append trees (elab p ∷ xs) ys = statements-append trees xs ys
 
 pub count-grows : (trees : Trees) (kept more : List Event)
-    → statements trees kept ≤ statements trees (keep kept more)
+    → import_statements trees kept ≤ import_statements trees (keep kept more)
 count-grows trees kept more =
     let e = keep-extends kept more in
     let h = statements-append trees kept e.0 in
-    let y = ap (statements trees) e.1 in
+    let y = ap (import_statements trees) e.1 in
     omega (arith, h, y)
 
 pub after-load : (trees : Trees) (kept : List Event) (a : Asked) (p : Text) (t : FileSyntax)
-    → trees p ≡ Some t → statements trees (kept ++ load a p ∷ [])
-    ≡ statements trees kept + length (import_paths t)
+    → trees p ≡ Some t → import_statements trees (kept ++ load a p ∷ [])
+    ≡ import_statements trees kept + length (import_paths t)
 after-load trees kept a p t is = statements-append trees kept (load a p ∷ [])
     ∙ (rw is (omega arith))
 
 after-checks : (trees : Trees) (kept : List Event) (i : Input)
-    → statements trees (kept ++ checks kept i) ≡ statements trees kept
-after-checks trees kept (named p) = ap (statements trees) (append-nil kept)
+    → import_statements trees (kept ++ checks kept i) ≡ import_statements trees kept
+after-checks trees kept (named p) = ap (import_statements trees) (append-nil kept)
 after-checks trees kept (at p own) =
     elim (has (load the_resolver p) kept) as
-    (λ b. statements trees (kept ++ cond b (check (length (reads_in kept)) own p ∷ []) [])
-    ≡ statements trees kept) [
+    (λ b. import_statements trees (kept ++ cond b (check (length (reads_in kept)) own p ∷ []) [])
+    ≡ import_statements trees kept) [
       | true ↦ let h = statements-append trees kept (check (length (reads_in kept)) own p ∷ []) in
           omega arith
-      | false ↦ ap (statements trees) (append-nil kept)
+      | false ↦ ap (import_statements trees) (append-nil kept)
     ]
 
 -- an input's check stops
 pub count-check : (trees : Trees) (kept : List Event) (v : Input) (old new : ℕ) → new ≡ old
-    → new + statements trees kept
-    ≤ old + 1 + statements trees (keep (kept ++ checks kept v) (input_walk trees v))
+    → new + import_statements trees kept
+    ≤ old + 1 + import_statements trees (keep (kept ++ checks kept v) (input_walk trees v))
 count-check trees kept v old new same =
     let h = count-grows trees (kept ++ checks kept v) (input_walk trees v) in
     let e = after-checks trees kept v in
@@ -59,7 +60,7 @@ count-check trees kept v old new same =
 
 module _ (legal : Legal) (files : Files) where
   abbrev count : List Event → ℕ
-  count events = statements files.trees events
+  count events = import_statements files.trees events
 
   pub count-input : (r : Result (Unit {0}) RunFault) (kept base : List Event) (i v : Input)
       (start old new : ℕ) → v ≡ i → base ≡ kept ++ checks kept i → old ≡ start

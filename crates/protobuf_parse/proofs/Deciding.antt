@@ -12,9 +12,10 @@ use Rattle.protobuf_parse.specs.declared.run.loader.LoadedFile.{LoadedFile}
 use Rattle.protobuf_parse.specs.declared.run.log.ReadEntry.{ReadEntry}
 use Rattle.protobuf_parse.specs.declared.run.log.ReadOutcome.{ReadOutcome}
 use Rattle.protobuf_parse.specs.Walks.{Asked, among, Trees}
-use Rattle.protobuf_parse.specs.Run.{AreListed, Files, HaveTrees, IsTree, IsTheTree, first_read}
+use Rattle.protobuf_parse.specs.Run.{FilesAreListed, Files, HaveTrees, IsTree, IsTheTree}
+use Rattle.protobuf_parse.specs.Run.{first_read}
 use Rattle.protobuf_parse.specs.Run.{text_given, text_read, HasTrees}
-use Rattle.protobuf_parse.specs.Loading.{AreKnown, Legal, Entry, GoesOn, IsDecided, ReadsTree}
+use Rattle.protobuf_parse.specs.Loading.{AreKnown, Legal, LoadedEntry, GoesOn, IsDecided, ReadsTree}
 use Rattle.protobuf_parse.specs.Loading.{file_at, read_paths}
 use Rattle.protobuf_parse.proofs.Keeping.{bool_cases, text-true}
 use Rattle.protobuf_parse.proofs.Reading.{Noted}
@@ -124,7 +125,7 @@ decided-file legal table a p old new (Err f) (inl r) d =
 decided-file legal table a p old new (Err f) (inr r) d = decided-same table old new r.1 d
 
 -- the file of an input that was loaded is read again
-pub decided-check : (table : List (Text × Text)) (loaded : List Entry) (tables : Tables)
+pub decided-check : (table : List (Text × Text)) (loaded : List LoadedEntry) (tables : Tables)
     (old new : List ReadEntry) (p q : Text) (x : LoadedFile) (o : ReadOutcome) → q ≡ p
     → AreKnown loaded tables old → file_at q loaded ≡ Some x → Noted p o old new
     → IsDecided table old → IsDecided table new
@@ -148,7 +149,7 @@ run-files table log trees reached seen =
     record { bundled = table; reads = log; trees = trees; reached = reached; seen = seen }
 
 pub goes-on : (table : List (Text × Text)) (log : List ReadEntry) (trees : Trees)
-    (reached seen : Text → List Text) → HasTrees table log trees → AreListed trees reached seen
+    (reached seen : Text → List Text) → HasTrees table log trees → FilesAreListed trees reached seen
     → GoesOn (run-files table log trees reached seen) table log
 goes-on table log trees reached seen h listed =
     record { bundled = refl; reads = ([], sym (append-nil log)); trees = h; listed = listed }

@@ -10,9 +10,10 @@ use Rattle.protobuf_parse.specs.declared.run.log.ReadEntry.{ReadEntry}
 use Rattle.protobuf_parse.specs.declared.run.log.ReadOutcome.{ReadOutcome}
 use Rattle.protobuf_parse.specs.Walks.{Asked, the_resolver, Input, named, at, Event, cycle, long}
 use Rattle.protobuf_parse.specs.Walks.{load, check, elab, has, keep, among, Trees, import_paths}
-use Rattle.protobuf_parse.specs.Walks.{joined, inside, walk, Read, reads_in, checks, name_of}
+use Rattle.protobuf_parse.specs.Walks.{walks_joined, events_inside, walk, FileRead, reads_in}
+use Rattle.protobuf_parse.specs.Walks.{checks, input_name}
 use Rattle.protobuf_parse.specs.Walks.{asked_of, input_walk, events_after, events, until}
-use Rattle.protobuf_parse.specs.Run.{Answers, first_read}
+use Rattle.protobuf_parse.specs.Run.{AreAnswered, first_read}
 use Rattle.protobuf_parse.specs.Loading.{Legal}
 use Rattle.protobuf_parse.proofs.Keeping.{bool_cases, has-left, has-right, never_both, or_left}
 use Rattle.protobuf_parse.proofs.Keeping.{some_same, text-same, text-true}
@@ -34,14 +35,14 @@ no-append [] ys h k = k
 no-append (x ∷ xs) ys h k = (h.0, no-append xs ys h.1 k)
 
 no-joined : (f : Text → List Event) (ps : List Text) → ((p : Text) → NoChecks (f p)) → NoChecks
-    (joined f ps)
+    (walks_joined f ps)
 no-joined f [] each = tt
-no-joined f (p ∷ ps) each = no-append (f p) (joined f ps) (each p) (no-joined f ps each)
+no-joined f (p ∷ ps) each = no-append (f p) (walks_joined f ps) (each p) (no-joined f ps each)
 
 no-inside : (o : Option FileSyntax) (f : Text → List Event) (p : Text)
-    → ((q : Text) → NoChecks (f q)) → NoChecks (inside o f p)
+    → ((q : Text) → NoChecks (f q)) → NoChecks (events_inside o f p)
 no-inside None f p each = tt
-no-inside (Some t) f p each = no-append (joined f (import_paths t)) (elab p ∷ [])
+no-inside (Some t) f p each = no-append (walks_joined f (import_paths t)) (elab p ∷ [])
     (no-joined f (import_paths t) each) (tt, tt)
 
 no-checks : (trees : Trees) (i : Text) (a : Asked) (room : ℕ) (chain : List Text) (p : Text)
@@ -122,7 +123,7 @@ events-follow trees kept [] k = k
 events-follow trees kept (i ∷ is) k = events-follow trees
     (keep (kept ++ checks kept i) (input_walk trees i)) is
     (follow-keep (kept ++ checks kept i) (input_walk trees i)
-    (no-checks trees (name_of i) (asked_of i) 100 [] (name_of i)) (follow-checks kept i k))
+    (no-checks trees (input_name i) (asked_of i) 100 [] (input_name i)) (follow-checks kept i k))
 
 pub all-follow : (trees : Trees) (is : List Input) → AllFollow [] (events trees is)
 all-follow trees is = events-follow trees [] is tt
@@ -177,8 +178,8 @@ follows-at acc (x ∷ before) after e h =
 
 -- ** paths that are not loaded are not read
 
-abbrev pub paths_read : List Read → List Text
-paths_read rs = map (λ (r : Read). r.path) rs
+abbrev pub paths_read : List FileRead → List Text
+paths_read rs = map (λ (r : FileRead). r.path) rs
 
 next-none : (acc es : List Event) (e l : Event) → has l (acc ++ e ∷ es) ≡ false
     → has l ((acc ++ e ∷ []) ++ es) ≡ false
@@ -214,8 +215,8 @@ unread p acc (elab q ∷ es) h none = unread p (acc ++ elab q ∷ []) es h.1
 -- ** the answer to the last read
 
 -- the first read of its path
-pub first-is-last : (legal : Legal) (rs : List Read) (r : Read) (log : List ReadEntry)
-    (o : ReadOutcome) → among r.path (paths_read rs) ≡ false → Answers legal (rs ++ r ∷ []) log
+pub first-is-last : (legal : Legal) (rs : List FileRead) (r : FileRead) (log : List ReadEntry)
+    (o : ReadOutcome) → among r.path (paths_read rs) ≡ false → AreAnswered legal (rs ++ r ∷ []) log
     → first_read r.path log ≡ Some o → legal r.asked r.path o
 first-is-last legal [] r [] o none a h = absurd a
 first-is-last legal [] r (e ∷ log) o none a h =
@@ -235,8 +236,8 @@ first-is-last legal (x ∷ rs) r (e ∷ log) o none a h =
     ]
 
 -- the read of that number
-pub at-is-last : (legal : Legal) (rs : List Read) (r : Read) (log : List ReadEntry)
-    (o : ReadOutcome) → Answers legal (rs ++ r ∷ []) log → option_map
+pub at-is-last : (legal : Legal) (rs : List FileRead) (r : FileRead) (log : List ReadEntry)
+    (o : ReadOutcome) → AreAnswered legal (rs ++ r ∷ []) log → option_map
     (λ (e : ReadEntry). e.outcome) (slice_get log (length rs)) ≡ Some o → legal r.asked r.path o
 at-is-last legal [] r [] o a h = absurd a
 at-is-last legal [] r (e ∷ log) o a h = subst (λ (x : ReadOutcome). legal r.asked r.path x)

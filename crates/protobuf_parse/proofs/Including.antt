@@ -16,27 +16,27 @@ use Rattle.protobuf_parse.specs.Loading.{OrMemory}
 use Rattle.protobuf_parse.proofs.Keeping.{bool_cases}
 use Rattle.protobuf_parse.specs.Includes.{AreNamed, outside, unnamed, named_as, IsMisnamed}
 use Rattle.protobuf_parse.specs.Includes.{IsOutside, StandsAtFirst, StandsAtInput, is_unnamed}
-use Rattle.protobuf_parse.specs.Includes.{naming_of, next_part, part_views, parts_after}
+use Rattle.protobuf_parse.specs.Includes.{naming_of, part_behind, part_views, parts_after}
 
 -- the parts behind the first, each after a slash
 pub joined-spread : (first : Text) (parts : List Text)
-    → joined (first ∷ parts) ≡ first ++ flat_map next_part parts
+    → joined (first ∷ parts) ≡ first ++ flat_map part_behind parts
 joined-spread first [] = sym (append-nil first)
 joined-spread first (next ∷ parts) =
     ap (λ (r : List ℕ). first ++ (47 ∷ r)) (joined-spread next parts)
 
 -- one more part, after a slash
 pub appended-part : (xs : List (Bor (List ℕ))) (k : ℕ) (d : Bor (List ℕ)) (start old new : List ℕ)
-    → k < length xs → old ≡ start ++ flat_map next_part (part_views (take k xs))
-    → new ≡ old ++ next_part (get_or xs k d).now
-    → new ≡ start ++ flat_map next_part (part_views (take (k + 1) xs))
+    → k < length xs → old ≡ start ++ flat_map part_behind (part_views (take k xs))
+    → new ≡ old ++ part_behind (get_or xs k d).now
+    → new ≡ start ++ flat_map part_behind (part_views (take (k + 1) xs))
 appended-part xs k d start old new lt before one =
     let next : part_views (take (k + 1) xs) ≡ part_views (take k xs) ++ (get_or xs k d).now ∷ [] =
     ap part_views (take_more xs k d lt)
     ∙ map-append (λ (p : Bor (List ℕ)). p.now) (take k xs) (get_or xs k d ∷ []) in
-    one ∙ (ap (λ (z : List ℕ). z ++ next_part (get_or xs k d).now) before
-    ∙ (flat_map_more next_part start (part_views (take k xs)) (get_or xs k d).now
-    ∙ ap (λ (z : List Text). start ++ flat_map next_part z) (sym next)))
+    one ∙ (ap (λ (z : List ℕ). z ++ part_behind (get_or xs k d).now) before
+    ∙ (flat_map_more part_behind start (part_views (take k xs)) (get_or xs k d).now
+    ∙ ap (λ (z : List Text). start ++ flat_map part_behind z) (sym next)))
 
 -- no part is left to compare
 none-after : (front : List Text) → 0 < length front → parts_after front [] ≡ None
@@ -112,10 +112,10 @@ parts_after-all front parts i le ge same =
 
 pub joined-of : (all : List (Bor (List ℕ))) (first : Bor (List ℕ)) (others : List (Bor (List ℕ)))
     (text new : List ℕ) → all ≡ first ∷ others
-    → text ≡ first.now → new ≡ text ++ flat_map next_part (part_views others)
+    → text ≡ first.now → new ≡ text ++ flat_map part_behind (part_views others)
     → new ≡ joined (part_views all)
 joined-of all first others text new split one rest =
-    rest ∙ (ap (λ (t : List ℕ). t ++ flat_map next_part (part_views others)) one
+    rest ∙ (ap (λ (t : List ℕ). t ++ flat_map part_behind (part_views others)) one
     ∙ (sym (joined-spread first.now (part_views others))
     ∙ ap (λ (z : List (Bor (List ℕ))). joined (part_views z)) (sym split)))
 

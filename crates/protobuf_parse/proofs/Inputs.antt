@@ -7,7 +7,7 @@ use Rattle.protobuf_parse.specs.declared.run.log.ReadEntry.{ReadEntry}
 use Rattle.protobuf_parse.specs.Walks.{the_resolver, load, elab, has, Input, at, Event, keep}
 use Rattle.protobuf_parse.specs.Walks.{checks, input_walk, events_after, events, Trees}
 use Rattle.protobuf_parse.specs.Run.{Files}
-use Rattle.protobuf_parse.specs.Loading.{Legal, Entry, file_at, Goes, Good, Stops}
+use Rattle.protobuf_parse.specs.Loading.{Legal, LoadedEntry, file_at, Goes, Good, Stops}
 use Rattle.protobuf_parse.proofs.Keeping.{has-elab, not_true}
 use Rattle.protobuf_parse.proofs.Steps.{stops-more, file-none}
 
@@ -58,7 +58,7 @@ module _ (legal : Legal) (files : Files) where
       (stops-more legal files _ (input_walk files.trees i) log f
       (stops-append kept (checks kept i) log f h))
 
-  pub inputs-step : (done next : List Input) (i : Input) (loaded : List Entry)
+  pub inputs-step : (done next : List Input) (i : Input) (loaded : List LoadedEntry)
       (log : List ReadEntry) → next ≡ done ++ i ∷ []
       → Good legal files
       (keep (events files.trees done ++ checks (events files.trees done) i)
@@ -108,7 +108,8 @@ module _ (legal : Legal) (files : Files) where
       rw is (subst (λ (z : List Event). Stops legal files (keep z (input_walk files.trees i)) log f)
       b stops)
 
-  input-goes : (kept base : List Event) (i v : Input) (loaded : List Entry) (log : List ReadEntry)
+  input-goes : (kept base : List Event) (i v : Input) (loaded : List LoadedEntry)
+      (log : List ReadEntry)
       → v ≡ i → base ≡ kept ++ checks kept i
       → Good legal files (keep base (input_walk files.trees i)) loaded log []
       → Good legal files (keep (kept ++ checks kept v) (input_walk files.trees v)) loaded log []
@@ -118,7 +119,7 @@ module _ (legal : Legal) (files : Files) where
       good)
 
   pub input-ends : (r : Result (Unit {0}) RunFault) (kept base : List Event) (i v : Input)
-      (loaded : List Entry) (log : List ReadEntry) → v ≡ i → base ≡ kept ++ checks kept i
+      (loaded : List LoadedEntry) (log : List ReadEntry) → v ≡ i → base ≡ kept ++ checks kept i
       → Goes legal files (keep base (input_walk files.trees i)) loaded log r
       → Goes legal files (keep (kept ++ checks kept v) (input_walk files.trees v)) loaded log r
   input-ends (Ok done) kept base i v loaded log is b h = input-goes kept base i v loaded log is b h
@@ -131,7 +132,8 @@ module _ (legal : Legal) (files : Files) where
       rw is (stops-more legal files (kept ++ checks kept i) (input_walk files.trees i) log f h)
 
   -- an input whose path isn't loaded is not checked
-  pub no-check : (kept : List Event) (loaded : List Entry) (log : List ReadEntry) (p q own : Text)
+  pub no-check : (kept : List Event) (loaded : List LoadedEntry) (log : List ReadEntry)
+      (p q own : Text)
       → q ≡ p → Good legal files kept loaded log [] → file_at q loaded ≡ None
       → Good legal files (kept ++ checks kept (at p own)) loaded log []
   no-check kept loaded log p q own e g none =

@@ -7,7 +7,8 @@ use Rattle.std.proofs.lemmas.List.Folds.{list_any-append}
 use Rattle.std.proofs.lemmas.Slice.Eq.{bytes_eq-Decides}
 use Rattle.std.specs.Prelude.{bytes_eq}
 use Rattle.protobuf_parse_model.specs.Descriptors.{Text}
-use Rattle.protobuf_parse.specs.Walks.{the_reader, Event, cycle, long, load, check, elab, same, has}
+use Rattle.protobuf_parse.specs.Walks.{the_reader, Event, cycle, long, load, check, elab}
+use Rattle.protobuf_parse.specs.Walks.{same_event, has}
 use Rattle.protobuf_parse.specs.Walks.{keep, among, reads_in, elab_paths}
 use Rattle.protobuf_parse.specs.Loading.{Within, Apart}
 
@@ -30,15 +31,15 @@ some_same a b h = cc
 pub none_some : {A : Type 0} (a : A) → ◌≡◌ {A = Option A} None (Some a) → ⊥
 none_some a h = cc
 
-pub same-refl : (x : Event) → same x x ≡ true
+pub same-refl : (x : Event) → same_event x x ≡ true
 same-refl (cycle p) = text-same p
 same-refl (long p) = text-same p
 same-refl (load a p) = text-same p
 same-refl (check n f p) = eq-eqb n n refl
 same-refl (elab p) = text-same p
 
--- equal events are equal to the same ones
-pub same-like : (x e y : Event) → same x e ≡ true → same e y ≡ same x y
+-- equal events are equal to the same_event ones
+pub same-like : (x e y : Event) → same_event x e ≡ true → same_event e y ≡ same_event x y
 same-like (cycle p) (cycle q) y h = let z : cycle p ≡ cycle q = ap cycle (text-true p q h) in
     rw z refl
 same-like (long p) (long q) y h = let z : long p ≡ long q = ap long (text-true p q h) in rw z refl
@@ -55,15 +56,15 @@ same-like (check n f p) (check m g q) (load a r) h = refl
 same-like (check n f p) (check m g q) (elab r) h = refl
 same-like _ _ y h = cc
 
-pub same-long : (i : Text) (x : Event) → same x (long i) ≡ true → x ≡ long i
+pub same-long : (i : Text) (x : Event) → same_event x (long i) ≡ true → x ≡ long i
 same-long i (long p) h = ap long (text-true p i h)
 same-long i _ h = cc
 
-pub long-same : (i : Text) (x : Event) → same (long i) x ≡ true → x ≡ long i
+pub long-same : (i : Text) (x : Event) → same_event (long i) x ≡ true → x ≡ long i
 long-same i (long p) h = sym (ap long (text-true i p h))
 long-same i _ h = cc
 
-pub cycle-same : (i : Text) (x : Event) → same (cycle i) x ≡ true → x ≡ cycle i
+pub cycle-same : (i : Text) (x : Event) → same_event (cycle i) x ≡ true → x ≡ cycle i
 cycle-same i (cycle p) h = sym (ap cycle (text-true i p h))
 cycle-same i _ h = cc
 
@@ -88,7 +89,7 @@ not_true true h = absurd (h refl)
 not_true false h = refl
 
 pub has-append : (e : Event) (xs ys : List Event) → has e (xs ++ ys) ≡ (has e xs || has e ys)
-has-append e xs ys = list_any-append (λ x. same e x) xs ys
+has-append e xs ys = list_any-append (λ x. same_event e x) xs ys
 
 pub has-in : (e : Event) (xs ys : List Event) → has e (xs ++ ys) ≡ true
     → (has e xs ≡ true) ⊎ (has e ys ≡ true)
@@ -100,8 +101,8 @@ has-left e xs ys h = has-append e xs ys ∙ or_left _ _ h
 pub has-right : (e : Event) (xs ys : List Event) → has e ys ≡ true → has e (xs ++ ys) ≡ true
 has-right e xs ys h = has-append e xs ys ∙ or_right _ _ h
 
-pub has-one : (e x : Event) → has e (x ∷ []) ≡ true → same e x ≡ true
-has-one e x h = elim (or_cases (same e x) false h) [ inl w ↦ w | inr w ↦ cc ]
+pub has-one : (e x : Event) → has e (x ∷ []) ≡ true → same_event e x ≡ true
+has-one e x h = elim (or_cases (same_event e x) false h) [ inl w ↦ w | inr w ↦ cc ]
 
 pub has-one-long : (e : Event) (i : Text) → has e (long i ∷ []) ≡ true → e ≡ long i
 has-one-long e i h = same-long i e (has-one e (long i) h)
@@ -112,7 +113,7 @@ has-here e xs = or_left _ _ (same-refl e)
 pub has-last : (e : Event) (xs : List Event) → has e (xs ++ e ∷ []) ≡ true
 has-last e xs = has-right e xs (e ∷ []) (has-here e [])
 
-pub has-like : (x e : Event) (xs : List Event) → same x e ≡ true → has e xs ≡ has x xs
+pub has-like : (x e : Event) (xs : List Event) → same_event x e ≡ true → has e xs ≡ has x xs
 has-like x e [] h = refl
 has-like x e (y ∷ ys) h = rw (same-like x e y h, has-like x e ys h) refl
 
@@ -146,7 +147,7 @@ keep-but_long kept (x ∷ xs) i n h each =
     elim (each x (has-here x xs)) [
       | inl w ↦
           rw w (keep-but_long kept xs i n
-          (elim (or_cases (same (long i) x) (has (long i) xs) h) [
+          (elim (or_cases (same_event (long i) x) (has (long i) xs) h) [
             | inl v ↦ absurd (let q = long-same i x v in
                 let z : has (long i) kept ≡ true = rw (← q) w in cc)
             | inr v ↦ v
@@ -216,7 +217,7 @@ find-none test (x ∷ xs) ys h k =
 
 -- what fails is not among what doesn't, where it equals no other event
 pub clean-has : (test : Event → Bool) (xs : List Event) (e : Event)
-    → ((x : Event) → same e x ≡ true → x ≡ e) → find test xs ≡ None → test e ≡ true
+    → ((x : Event) → same_event e x ≡ true → x ≡ e) → find test xs ≡ None → test e ≡ true
     → has e xs ≡ false
 clean-has test [] e alone h t = refl
 clean-has test (x ∷ xs) e alone h t =
@@ -224,7 +225,7 @@ clean-has test (x ∷ xs) e alone h t =
       | inl w ↦ absurd (let z : Some x ≡ None = (rw w at h) in cc)
       | inr w ↦
           let z : find test xs ≡ None = (rw w at h) in
-          let n : same e x ≡ false = not_true _ (λ v. let q = alone x v in
+          let n : same_event e x ≡ false = not_true _ (λ v. let q = alone x v in
           let r : test x ≡ true = rw q t in cc) in
           rw n (clean-has test xs e alone z t)
     ]

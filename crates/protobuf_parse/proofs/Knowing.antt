@@ -11,12 +11,13 @@ use Rattle.protobuf_parse_syntax.specs.Dependencies.{imported, imports}
 use Rattle.protobuf_parse_syntax.specs.Trees.{FileSyntax, ImportSyntax, StatementSyntax, file_view}
 use Rattle.protobuf_parse_model.specs.Descriptors.{Text}
 use Rattle.protobuf_parse_model.specs.FilesByPath.{AreDistinct, Leads, leads, stays}
-use Rattle.protobuf_parse_model.specs.Tables.{Tells}
+use Rattle.protobuf_parse_model.specs.Tables.{TableTells}
 use Rattle.protobuf_parse.specs.declared.run.tables.Tables.{Tables}
 use Rattle.protobuf_parse.specs.Walks.{Trees, Reaches, HandsOn, Sees, sees_itself, by_import, among}
 use Rattle.protobuf_parse.specs.Walks.{import_paths, public_path, public_paths, public_paths_of}
-use Rattle.protobuf_parse.specs.Loading.{Agrees, AllHold, AreKnown, AreNumbered, AreNumbersOf}
-use Rattle.protobuf_parse.specs.Loading.{AreUnloaded, Begins, Entry, Grows, IsAddedOver, IsMetAt}
+use Rattle.protobuf_parse.specs.Loading.{Agrees, AllHold, AreKnown, FilesAreNumbered, AreNumbersOf}
+use Rattle.protobuf_parse.specs.Loading.{AreUnloaded, IndexBegins, LoadedEntry, Grows, IsAddedOver}
+use Rattle.protobuf_parse.specs.Loading.{IsMetAt}
 use Rattle.protobuf_parse.specs.Loading.{Named, file_at, held, named_trees, paths_in, plain_in}
 use Rattle.protobuf_parse.specs.Loading.{read_paths, trees_of, with_next}
 use Rattle.protobuf_parse.specs.declared.run.loader.Placed.{Placed}
@@ -30,7 +31,7 @@ use Rattle.protobuf_parse.proofs.Numbers.{numbers-more}
 use Rattle.protobuf_parse.proofs.Steps.{entry-in, get-more, get-seam}
 
 -- a key that was found is the one that was looked for
-pub key-found : (p : Text) (es : List Entry) (k : String Global)
+pub key-found : (p : Text) (es : List LoadedEntry) (k : String Global)
     → Some k ≡ lookup_key (λ (s : String Global). bytes_eq p (string_bytes s)) es
     → string_bytes k ≡ p
 key-found p [] k h = cc
@@ -145,7 +146,8 @@ agrees-last : (trees : Trees) (files : List Named) (p : Text) (t : FileSyntax)
     → Agrees trees (files ++ (p, t) ∷ []) → trees p ≡ Some t
 agrees-last trees files p t agrees = agrees (length files) p t (get-seam files [] (p, t))
 
-all-hold-push : (R : Trees → Text → Text → Type 0) (which : Held) (loaded : List Entry) (x : Entry)
+all-hold-push : (R : Trees → Text → Text → Type 0) (which : Held) (loaded : List LoadedEntry)
+    (x : LoadedEntry)
     → AllHold R which loaded
     → ((trees : Trees) → Agrees trees (named_trees loaded ++ name_of x ∷ [])
     → AreNumbersOf (R trees (string_bytes x.0)) (named_trees loaded ++ name_of x ∷ [])
@@ -161,7 +163,7 @@ all-hold-push R which loaded x all new trees agrees n e h =
           (held which e.1)
           (all trees (agrees-less trees (named_trees loaded) (name_of x ∷ []) more) n e w)
       | inr w ↦ subst
-          (λ (z : Entry). AreNumbersOf (R trees (string_bytes z.0))
+          (λ (z : LoadedEntry). AreNumbersOf (R trees (string_bytes z.0))
           (named_trees loaded ++ name_of x ∷ []) (held which z.1)) w (new trees more)
     ])
 
@@ -193,7 +195,7 @@ distinct-push p (q ∷ ps) d h = (apart, distinct-push p ps d.1 (right (bytes_eq
         ∙ none (among q ps) (bytes_eq q p || false) d.0
         (none (bytes_eq q p) false (other (bytes_eq q p) refl) refl)
 
-pub not-loaded : (p : Text) (loaded : List Entry) → file_at p loaded ≡ None
+pub not-loaded : (p : Text) (loaded : List LoadedEntry) → file_at p loaded ≡ None
     → among p (paths_in (named_trees loaded)) ≡ false
 not-loaded p [] h = refl
 not-loaded p (e ∷ loaded) h =
@@ -202,25 +204,25 @@ not-loaded p (e ∷ loaded) h =
       | inr w ↦ rw w (not-loaded p loaded (rw w at h))
     ]
 
-pub once-push : (loaded : List Entry) (p : Text) (t : FileSyntax)
+pub once-push : (loaded : List LoadedEntry) (p : Text) (t : FileSyntax)
     → AreDistinct (paths_in (named_trees loaded)) → file_at p loaded ≡ None
     → AreDistinct (paths_in (named_trees loaded ++ (p, t) ∷ []))
 once-push loaded p t once none =
     subst AreDistinct (sym (map-append (λ (f : Named). f.0) (named_trees loaded) ((p, t) ∷ [])))
     (distinct-push p (paths_in (named_trees loaded)) once (not-loaded p loaded none))
 
-pub next-trees : (loaded : List Entry) (p : Text) (t : FileSyntax)
+pub next-trees : (loaded : List LoadedEntry) (p : Text) (t : FileSyntax)
     → with_next loaded t ≡ trees_of (named_trees loaded ++ (p, t) ∷ [])
 next-trees loaded p t = sym (map-append (λ (f : Named). f.1) (named_trees loaded) ((p, t) ∷ []))
 
 module _ (path : Text) (tree : FileSyntax) (height read : ℕ) (imports public : List ℕ)
-    (old new : List Entry) (before after : Tables) (log : List ReadEntry) (placed : Placed)
+    (old new : List LoadedEntry) (before after : Tables) (log : List ReadEntry) (placed : Placed)
     (known : AreKnown old before log) (was_read : among path (read_paths log) ≡ true)
-    (numbered : AreNumbered (named_trees old) imports (import_paths tree))
-    (publicly : AreNumbered (named_trees old) public (public_paths tree))
+    (numbered : FilesAreNumbered (named_trees old) imports (import_paths tree))
+    (publicly : FilesAreNumbered (named_trees old) public (public_paths tree))
     (none : file_at path old ≡ None)
     (a : IsAddedOver path tree height read imports public old new after placed) where
-  abbrev x : Entry
+  abbrev x : LoadedEntry
   x = (a.key, a.file)
 
   name-is : name_of x ≡ (path, tree)
@@ -274,8 +276,9 @@ module _ (path : Text) (tree : FileSyntax) (height read : ℕ) (imports public :
 
   pub known-push : AreKnown new after log
   known-push = rw a.entries (record {
-    tells = subst (Tells after.names) (sym trees-are) a.tells;
-    begins = subst (λ (es : List Entry). Begins after.places (map plain_in es)) a.entries a.begins;
+    tells = subst (TableTells after.names) (sym trees-are) a.tells;
+    begins = subst (λ (es : List LoadedEntry). IndexBegins after.places (map plain_in es)) a.entries
+        a.begins;
     once = subst AreDistinct (sym paths-are) (once-push old path tree known.once none);
     reach = all-hold-push Reaches held_as.Reach old x known.reach
         (of-entry Reaches held_as.Reach reach-is);
@@ -301,7 +304,8 @@ module _ (path : Text) (tree : FileSyntax) (height read : ℕ) (imports public :
   })
 
 -- a log that grew has all that was read
-pub known-grows : (loaded : List Entry) (tables : Tables) (old new : List ReadEntry) → Grows old new
+pub known-grows : (loaded : List LoadedEntry) (tables : Tables) (old new : List ReadEntry)
+    → Grows old new
     → AreKnown loaded tables old → AreKnown loaded tables new
 known-grows loaded tables old new grows known = record {
   tells = known.tells;
@@ -319,7 +323,7 @@ known-grows loaded tables old new grows known = record {
 
 -- ** files that aren't loaded
 
-still-none : (p : Text) (loaded : List Entry) (x : Entry) → file_at p loaded ≡ None
+still-none : (p : Text) (loaded : List LoadedEntry) (x : LoadedEntry) → file_at p loaded ≡ None
     → bytes_eq p (string_bytes x.0) ≡ false → file_at p (loaded ++ x ∷ []) ≡ None
 still-none p [] x h other = rw other refl
 still-none p (e ∷ loaded) x h other =
@@ -328,7 +332,7 @@ still-none p (e ∷ loaded) x h other =
       | inr w ↦ rw w (still-none p loaded x (rw w at h) other)
     ]
 
-pub unloaded-push : (chain : List Text) (loaded : List Entry) (x : Entry) (q : Text)
+pub unloaded-push : (chain : List Text) (loaded : List LoadedEntry) (x : LoadedEntry) (q : Text)
     → AreUnloaded chain loaded → string_bytes x.0 ≡ q → among q chain ≡ false
     → AreUnloaded chain (loaded ++ x ∷ [])
 unloaded-push chain loaded x q u is off p on =
@@ -341,8 +345,8 @@ unloaded-push chain loaded x q u is off p on =
 
 -- ** no file
 
-pub known-none : (loaded : List Entry) (tables : Tables) (log : List ReadEntry) → loaded ≡ []
-    → Tells tables.names [] → Begins tables.places [] → AreKnown loaded tables log
+pub known-none : (loaded : List LoadedEntry) (tables : Tables) (log : List ReadEntry) → loaded ≡ []
+    → TableTells tables.names [] → IndexBegins tables.places [] → AreKnown loaded tables log
 known-none loaded tables log none tells begins = rw none (record {
   tells = tells;
   begins = begins;

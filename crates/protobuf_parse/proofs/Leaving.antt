@@ -17,24 +17,26 @@ use Rattle.protobuf_parse.specs.declared.run.loader.Placed.{Placed}
 use Rattle.protobuf_parse.specs.declared.run.log.ReadEntry.{ReadEntry}
 use Rattle.protobuf_parse.specs.declared.run.log.ReadOutcome.{ReadOutcome}
 use Rattle.protobuf_parse.specs.Walks.{Asked, Event, load, keep, among, walk}
-use Rattle.protobuf_parse.specs.Run.{Files, IsTheTree, StandsAt, StandsInCycle, StandsInLong}
+use Rattle.protobuf_parse.specs.Run.{Files, IsTheTree, StandsAtEvent, StandsInCycle, StandsInLong}
 use Rattle.protobuf_parse.specs.Run.{StandsInLoad, StandsInElab, text_given, is_nothing}
-use Rattle.protobuf_parse.specs.Loading.{Legal, Entry, IsElabFault, file_at, Grows, Good, Stops}
-use Rattle.protobuf_parse.specs.Loading.{OrMemory, GoesOn, ReadsTree, IsPlaced, texts}
+use Rattle.protobuf_parse.specs.Loading.{Legal, LoadedEntry, IsElabFault, file_at, Grows, Good}
+use Rattle.protobuf_parse.specs.Loading.{Stops}
+use Rattle.protobuf_parse.specs.Loading.{OrMemory, GoesOn, ReadsTree, IsPlaced, chain_texts}
 use Rattle.protobuf_parse.proofs.Steps.{Grows-trans, room-is, breaks-now, stops-cycle}
 use Rattle.protobuf_parse.proofs.Steps.{stops-no_room, stops-tall, halts-load, unread-first}
 use Rattle.protobuf_parse.proofs.Steps.{tree-read}
 
-pub texts-length : (chain : List (String Global)) → length (texts chain) ≡ length chain
+pub texts-length : (chain : List (String Global)) → length (chain_texts chain) ≡ length chain
 texts-length chain = length-map chain string_bytes
 
 pub texts-push : (chain : List (String Global)) (s : String Global) (p : Text) → string_bytes s ≡ p
-    → texts (chain ++ s ∷ []) ≡ texts chain ++ p ∷ []
-texts-push chain s p h = map-append string_bytes chain (s ∷ []) ∙ ap (λ z. texts chain ++ z ∷ []) h
+    → chain_texts (chain ++ s ∷ []) ≡ chain_texts chain ++ p ∷ []
+texts-push chain s p h = map-append string_bytes chain (s ∷ [])
+    ∙ ap (λ z. chain_texts chain ++ z ∷ []) h
 
 -- what a look at the chain told
 pub chain-told : (p q : Text) (chain held : List (String Global)) (r b : Bool) → q ≡ p
-    → held ≡ chain → r ≡ among q (texts held) → r ≡ b → among p (texts chain) ≡ b
+    → held ≡ chain → r ≡ among q (chain_texts held) → r ≡ b → among p (chain_texts chain) ≡ b
 chain-told p q chain held r b e same is at = rw (← e, ← same) (sym is ∙ at)
 
 -- the elements before one, it, and those after it
@@ -90,7 +92,7 @@ stands-failing origin [] (fault.Elaborate file error) h = elim h.1 [ ]
 stands-failing origin [] _ h = absurd h
 
 module _ (legal : Legal) (files : Files) where
-  pub leaves-cycle : (kept : List Event) (loaded : List Entry) (log : List ReadEntry)
+  pub leaves-cycle : (kept : List Event) (loaded : List LoadedEntry) (log : List ReadEntry)
       (chain : List Text) (i : Text) (a : Asked) (room : ℕ) (p q : Text) (f : RunFault) → q ≡ p
       → Good legal files kept loaded log chain → among q chain ≡ true
       → OrMemory f (StandsInCycle q f)
@@ -100,7 +102,7 @@ module _ (legal : Legal) (files : Files) where
       (subst (λ (z : Text). among z chain ≡ true) e on)
       (subst (λ (z : Text). OrMemory f (StandsInCycle z f)) e s)
 
-  pub leaves-tall : (kept : List Event) (loaded : List Entry) (log : List ReadEntry)
+  pub leaves-tall : (kept : List Event) (loaded : List LoadedEntry) (log : List ReadEntry)
       (chain : List Text) (i : Text) (a : Asked) (room : ℕ) (p q : Text) (placed : Placed)
       (f : RunFault) → q ≡ p → Good legal files kept loaded log chain
       → IsPlaced q loaded (Some placed) → room < placed.height → OrMemory f (StandsInLong i f)
@@ -109,7 +111,7 @@ module _ (legal : Legal) (files : Files) where
       stops-tall legal files kept loaded log chain i a room p at.0 f g
       (subst (λ (z : Text). file_at z loaded ≡ Some at.0) e at.1) (rw at.2 at lt) s
 
-  pub leaves-full : (kept : List Event) (loaded : List Entry) (log : List ReadEntry)
+  pub leaves-full : (kept : List Event) (loaded : List LoadedEntry) (log : List ReadEntry)
       (chain : List Text) (i : Text) (a : Asked) (room : ℕ) (p q : Text) (f : RunFault) → q ≡ p
       → room ≡ 0 → Good legal files kept loaded log chain → among q chain ≡ false
       → OrMemory f (StandsInLong i f)
@@ -118,7 +120,7 @@ module _ (legal : Legal) (files : Files) where
       rw none (stops-no_room legal files kept loaded log chain i a p f g
       (subst (λ (z : Text). among z chain ≡ false) e off) s)
 
-  pub leaves-read : (table : List (Text × Text)) (kept : List Event) (loaded : List Entry)
+  pub leaves-read : (table : List (Text × Text)) (kept : List Event) (loaded : List LoadedEntry)
       (log new : List ReadEntry) (chain : List Text) (i : Text) (a : Asked) (p : Text)
       (f : RunFault) → GoesOn files table new → Good legal files kept loaded log chain
       → among p chain ≡ false → file_at p loaded ≡ None → length chain < 100
@@ -139,7 +141,7 @@ module _ (legal : Legal) (files : Files) where
       let stands = subst
       (λ (z : List (Text × Text)). StandsInLoad a p (Some r.0.outcome)
       (text_given z p (Some r.0.outcome)) f) (sym go.bundled) r.5 in
-      let stands_at : StandsAt files (load a p) f =
+      let stands_at : StandsAtEvent files (load a p) f =
       subst (λ (o : Option ReadOutcome). StandsInLoad a p o (text_given files.bundled p o) f)
       (sym first) stands in
       rw (r.1, room-is chain p lt)
@@ -147,7 +149,7 @@ module _ (legal : Legal) (files : Files) where
       (100 - length (chain ++ p ∷ [])) p r.0 f g off none r.2 r.3 is stands_at))
 
   -- the tree that was read
-  pub tree-known : (table : List (Text × Text)) (kept : List Event) (loaded : List Entry)
+  pub tree-known : (table : List (Text × Text)) (kept : List Event) (loaded : List LoadedEntry)
       (log new later : List ReadEntry) (chain : List Text) (a : Asked) (p : Text) (tree : FileTree)
       → GoesOn files table later → Grows new later → Good legal files kept loaded log chain
       → among p chain ≡ false → file_at p loaded ≡ None

@@ -12,9 +12,10 @@ use Rattle.protobuf_parse.specs.declared.run.loader.Placed.{Placed}
 use Rattle.protobuf_parse.specs.declared.run.log.ReadEntry.{ReadEntry}
 use Rattle.protobuf_parse.specs.Walks.{Asked, Event, load, keep, among, import_paths, walk}
 use Rattle.protobuf_parse.specs.Run.{Files}
-use Rattle.protobuf_parse.specs.Loading.{Legal, Entry, GoesOn, Good, Grows, IsPlaced, ReadsTree}
+use Rattle.protobuf_parse.specs.Loading.{Legal, LoadedEntry, GoesOn, Good, Grows, IsPlaced}
+use Rattle.protobuf_parse.specs.Loading.{ReadsTree}
 use Rattle.protobuf_parse.specs.Loading.{Stops, file_at}
-use Rattle.protobuf_parse.specs.Frames.{IsNew, IsSame, Meets, StandsMet, done_in, owed, path_of}
+use Rattle.protobuf_parse.specs.Frames.{IsNew, IsSame, Meets, StandsMet, done_in, owed, frame_path}
 use Rattle.protobuf_parse.proofs.Keeping.{has-last, keep-fresh}
 use Rattle.protobuf_parse.proofs.Walking.{settled-nil}
 use Rattle.protobuf_parse.proofs.Steps.{breaks-now, fresh-load, get-seam, good-load, has-asked}
@@ -24,7 +25,7 @@ use Rattle.protobuf_parse.proofs.Stepping.{walk-read}
 
 module _ (legal : Legal) (files : Files) where
   -- it is loaded already
-  pub met-known : (kept : List Event) (loaded : List Entry) (log : List ReadEntry)
+  pub met-known : (kept : List Event) (loaded : List LoadedEntry) (log : List ReadEntry)
       (chain : List Text) (i : Text) (a : Asked) (p q : Text) (placed : Placed) → q ≡ p
       → Good legal files kept loaded log chain → IsPlaced q loaded (Some placed)
       → placed.height ≤ 100 - length chain
@@ -40,7 +41,7 @@ module _ (legal : Legal) (files : Files) where
         },
       )
 
-  module _ (table : List (Text × Text)) (kept : List Event) (loaded : List Entry)
+  module _ (table : List (Text × Text)) (kept : List Event) (loaded : List LoadedEntry)
       (log new : List ReadEntry) (chain : List Text) (a : Asked) (p : Text) (tree : FileTree)
       (go : GoesOn files table new) (g : Good legal files kept loaded log chain)
       (off : among p chain ≡ false) (none : file_at p loaded ≡ None)
@@ -55,7 +56,8 @@ module _ (legal : Legal) (files : Files) where
         (file_view tree) g off none r.2 r.3 tree-is)
 
     -- it was read
-    pub met-new : (f : LoadFrame) → path_of f ≡ p → f.tree ≡ tree → f.read ≡ length log → f.next ≡ 0
+    pub met-new : (f : LoadFrame) → frame_path f ≡ p → f.tree ≡ tree → f.read ≡ length log
+        → f.next ≡ 0
         → f.height ≡ 0 → IsNew legal files kept a chain p loaded new f
     met-new f path_is tree_is read_is next height =
         let now : List Event = kept ++ load a p ∷ [] in
@@ -93,7 +95,8 @@ module _ (legal : Legal) (files : Files) where
 -- ** the input is met on the empty chain
 
 pub first-meets : (legal : Legal) (files : Files) (kept : List Event) (i : Text) (a : Asked)
-    (chain : List Text) (loaded : List Entry) (log new : List ReadEntry) (r : Result Met RunFault)
+    (chain : List Text) (loaded : List LoadedEntry) (log new : List ReadEntry)
+    (r : Result Met RunFault)
     → chain ≡ [] → Good legal files kept loaded log []
     → (Good legal files kept loaded log chain → Meets legal files kept i a chain i loaded new r)
     → Meets legal files kept i a [] i loaded new r
@@ -101,7 +104,7 @@ first-meets legal files kept i a chain loaded log new r none g gives =
     subst (λ (z : List Text). Good legal files kept loaded log z
     → Meets legal files kept i a z i loaded new r) none gives g
 
-pub first-stands : (chain : List Text) (p : Text) (loaded : List Entry) (log : List ReadEntry)
+pub first-stands : (chain : List Text) (p : Text) (loaded : List LoadedEntry) (log : List ReadEntry)
     (after : List Text) (new : List ReadEntry) (r : Result Met RunFault) → chain ≡ []
     → StandsMet chain p loaded log after new r → StandsMet [] p loaded log after new r
 first-stands chain p loaded log after new r none s =

@@ -10,7 +10,8 @@ use Rattle.std.proofs.lemmas.Option.{slice_get-map}
 use Rattle.protobuf_parse_syntax.specs.Trees.{FileSyntax, file_view}
 use Rattle.protobuf_parse_model.specs.Descriptors.{Text}
 use Rattle.protobuf_parse.specs.Walks.{among}
-use Rattle.protobuf_parse.specs.Loading.{AreJoined, AreNumbered, AreNumbersOf, Entry, IsNumbered}
+use Rattle.protobuf_parse.specs.Loading.{AreJoined, FilesAreNumbered, AreNumbersOf, LoadedEntry}
+use Rattle.protobuf_parse.specs.Loading.{IsNumbered}
 use Rattle.protobuf_parse.specs.Loading.{Named, held, held_at, named_trees}
 use Rattle.protobuf_parse.specs.declared.run.reach.Held.{Held}
 use Rattle.protobuf_parse.proofs.Keeping.{bool_cases, or_left, text-same, text-true}
@@ -18,18 +19,18 @@ use Rattle.protobuf_parse.proofs.Steps.{get-more, get-seam}
 
 -- ** names and trees of loaded files
 
-abbrev pub name_of : Entry → Named
+abbrev pub name_of : LoadedEntry → Named
 name_of e = (string_bytes e.0, file_view e.1.tree)
 
-pub named-push : (loaded : List Entry) (x : Entry)
+pub named-push : (loaded : List LoadedEntry) (x : LoadedEntry)
     → named_trees (loaded ++ x ∷ []) ≡ named_trees loaded ++ name_of x ∷ []
 named-push loaded x = map-append name_of loaded (x ∷ [])
 
-pub named-length : (loaded : List Entry) → length (named_trees loaded) ≡ length loaded
+pub named-length : (loaded : List LoadedEntry) → length (named_trees loaded) ≡ length loaded
 named-length loaded = length-map loaded name_of
 
-entry-of : (o : Option Entry) (f : Named) → option_map name_of o ≡ Some f
-    → (e : Entry) × (o ≡ Some e) × (name_of e ≡ f)
+entry-of : (o : Option LoadedEntry) (f : Named) → option_map name_of o ≡ Some f
+    → (e : LoadedEntry) × (o ≡ Some e) × (name_of e ≡ f)
 entry-of None f h = cc
 entry-of (Some e) f h = (e, refl, some_is (name_of e) f h)
   where
@@ -37,19 +38,20 @@ entry-of (Some e) f h = (e, refl, some_is (name_of e) f h)
     some_is a b h = cc
 
 -- the loaded file that a number names
-pub entry-at : (loaded : List Entry) (n : ℕ) (p : Text) (t : FileSyntax)
+pub entry-at : (loaded : List LoadedEntry) (n : ℕ) (p : Text) (t : FileSyntax)
     → slice_get (named_trees loaded) n ≡ Some (p, t)
-    → (e : Entry) × (slice_get loaded n ≡ Some e) × (name_of e ≡ (p, t))
+    → (e : LoadedEntry) × (slice_get loaded n ≡ Some e) × (name_of e ≡ (p, t))
 entry-at loaded n p t h =
     entry-of (slice_get loaded n) (p, t) (sym (slice_get-map name_of loaded n) ∙ h)
 
-pub name-at : (loaded : List Entry) (n : ℕ) (e : Entry) → slice_get loaded n ≡ Some e
+pub name-at : (loaded : List LoadedEntry) (n : ℕ) (e : LoadedEntry) → slice_get loaded n ≡ Some e
     → slice_get (named_trees loaded) n ≡ Some (name_of e)
 name-at loaded n e h = slice_get-map name_of loaded n ∙ ap (option_map name_of) h
 
 -- ** numbers
 
-pub numbered-at : (loaded : List Entry) (n : ℕ) (e : Entry) (p : Text) → slice_get loaded n ≡ Some e
+pub numbered-at : (loaded : List LoadedEntry) (n : ℕ) (e : LoadedEntry) (p : Text)
+    → slice_get loaded n ≡ Some e
     → string_bytes e.0 ≡ p → IsNumbered (named_trees loaded) n p
 numbered-at loaded n e p there is = (
   file_view e.1.tree,
@@ -61,16 +63,18 @@ pub numbered-more : (files more : List Named) (n : ℕ) (q : Text) → IsNumbere
     → IsNumbered (files ++ more) n q
 numbered-more files more n q h = (h.0, get-more files more n (q, h.0) h.1)
 
-pub are-more : (files more : List Named) (ns : List ℕ) (ps : List Text) → AreNumbered files ns ps
-    → AreNumbered (files ++ more) ns ps
+pub are-more : (files more : List Named) (ns : List ℕ) (ps : List Text)
+    → FilesAreNumbered files ns ps
+    → FilesAreNumbered (files ++ more) ns ps
 are-more files more [] [] h = tt
 are-more files more (n ∷ ns) (p ∷ ps) h =
     (numbered-more files more n p h.0, are-more files more ns ps h.1)
 are-more files more [] (p ∷ ps) h = absurd h
 are-more files more (n ∷ ns) [] h = absurd h
 
-pub are-append : (files : List Named) (ns ms : List ℕ) (ps qs : List Text) → AreNumbered files ns ps
-    → AreNumbered files ms qs → AreNumbered files (ns ++ ms) (ps ++ qs)
+pub are-append : (files : List Named) (ns ms : List ℕ) (ps qs : List Text)
+    → FilesAreNumbered files ns ps
+    → FilesAreNumbered files ms qs → FilesAreNumbered files (ns ++ ms) (ps ++ qs)
 are-append files [] ms [] qs h g = g
 are-append files (n ∷ ns) ms (p ∷ ps) qs h g = (h.0, are-append files ns ms ps qs h.1 g)
 are-append files [] ms (p ∷ ps) qs h g = absurd h
@@ -92,7 +96,7 @@ or_true false = refl
 
 -- each of these numbers is that of one of the paths
 pub numbered-in : (files : List Named) (ns : List ℕ) (ps : List Text) (b : ℕ)
-    → AreNumbered files ns ps → Contains ns b
+    → FilesAreNumbered files ns ps → Contains ns b
     → (q : Text) × (among q ps ≡ true) × IsNumbered files b q
 numbered-in files [] [] b h c = absurd (none-in b c)
 numbered-in files (n ∷ ns) (p ∷ ps) b h c =
@@ -111,7 +115,8 @@ numbered-in files (n ∷ ns) [] b h c = absurd h
 
 -- each of these paths has one of the numbers
 pub path-in : (files : List Named) (ns : List ℕ) (ps : List Text) (q : Text)
-    → AreNumbered files ns ps → among q ps ≡ true → (b : ℕ) × Contains ns b × IsNumbered files b q
+    → FilesAreNumbered files ns ps → among q ps ≡ true → (b : ℕ) × Contains ns b
+    × IsNumbered files b q
 path-in files [] [] q h a = cc
 path-in files (n ∷ ns) (p ∷ ps) q h a =
     elim (bool_cases (bytes_eq q p)) [
@@ -168,13 +173,14 @@ numbers-more Has files more ns r = record {
 -- A file p is put behind the others; it has the property itself, and besides it those have it that
 -- have another property of one of the paths. The files with these paths hold the numbers of those
 -- with that other property.
-module _ (which : Held) (loaded : List Entry) (p : Text) (t : FileSyntax) (Has : Text → Type 0)
+module _ (which : Held) (loaded : List LoadedEntry) (p : Text) (t : FileSyntax)
+    (Has : Text → Type 0)
     (Of : Text → Text → Type 0) (paths : List Text) (below ns : List ℕ)
-    (holds : (n : ℕ) (e : Entry) → slice_get loaded n ≡ Some e
+    (holds : (n : ℕ) (e : LoadedEntry) → slice_get loaded n ≡ Some e
     → AreNumbersOf (Of (string_bytes e.0)) (named_trees loaded)
     (held which e.1)) (self : Has p) (via : (r q : Text) → among r paths ≡ true → Of r q
     → Has q) (out : (q : Text) → Has q → (p ≡ q)
-    ⊎ ((r : Text) × (among r paths ≡ true) × Of r q)) (numbered : AreNumbered
+    ⊎ ((r : Text) × (among r paths ≡ true) × Of r q)) (numbered : FilesAreNumbered
     (named_trees loaded) below paths) (joined : AreJoined which loaded below ns) where
   abbrev at : ℕ → List ℕ
   at n = held_at which (slice_get loaded n)
@@ -195,7 +201,7 @@ module _ (which : Held) (loaded : List Entry) (p : Text) (t : FileSyntax) (Has :
   holds-at b r i =
       let e = entry-at loaded b r i.0 i.1 in
       let path : string_bytes e.0.0 ≡ r = ap (λ (f : Named). f.0) e.2 in
-      subst (λ (o : Option Entry). AreNumbersOf (Of r) (named_trees loaded) (held_at which o))
+      subst (λ (o : Option LoadedEntry). AreNumbersOf (Of r) (named_trees loaded) (held_at which o))
       (sym e.1)
       (subst (λ (z : Text). AreNumbersOf (Of z) (named_trees loaded) (held which e.0.1)) path
       (holds b e.0 e.1))

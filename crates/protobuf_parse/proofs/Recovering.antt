@@ -13,7 +13,7 @@ use Rattle.protobuf_parse_model.specs.FilesByPath.{among, leads, stays, trees_at
 use Rattle.protobuf_parse_model.specs.Linking.{before_others, link_faults}
 use Rattle.protobuf_parse_model.specs.OptionSets.{OptionSet, option_sets}
 use Rattle.protobuf_parse_model.specs.declared.descriptor.FileDescriptorProto.{FileDescriptorProto}
-use Rattle.protobuf_parse_wire.specs.CustomFaults.{option_faults}
+use Rattle.protobuf_parse_wire.specs.CustomFaults.{custom_option_faults}
 use Rattle.protobuf_parse_wire.specs.CustomOptions.{denotes, scope_of}
 use Rattle.protobuf_parse_wire.specs.Law.{said}
 use Rattle.protobuf_parse_wire.specs.OptionFields.{options_message}
@@ -32,12 +32,12 @@ use Rattle.protobuf_parse_wire.proofs.WithoutOptions.{customs_are_options}
 use Rattle.protobuf_parse_wire.proofs.WithoutOptions.{customs_make_no_difference}
 use Rattle.protobuf_parse_wire.proofs.WithoutOptions.{meaning_ignores_options}
 use Rattle.protobuf_parse.specs.Walks.{Asked, Input, Reaches, elab_paths, events}
-use Rattle.protobuf_parse.specs.Run.{Files, AreListed, Ends, HasTrees, IsTree, RunsAsTold}
+use Rattle.protobuf_parse.specs.Run.{Files, FilesAreListed, RunEnds, HasTrees, IsTree, RunsAsTold}
 use Rattle.protobuf_parse.specs.Run.{environment_of, faults_in, plain_environments, plains_at}
 use Rattle.protobuf_parse.specs.Run.{text_read}
 use Rattle.protobuf_parse.specs.Recovered.{HoldsOptions, IsReadBack, OptionsAreHeld, bytes_in}
 use Rattle.protobuf_parse.specs.Recovered.{denoted_in, handed_out}
-use Rattle.protobuf_parse.specs.Stability.{IsClean, IsFileOf, WereRead, order}
+use Rattle.protobuf_parse.specs.Stability.{IsClean, IsFileOfRun, WereRead, order}
 use Rattle.protobuf_parse.specs.declared.run.fault.RunFault.{RunFault}
 use Rattle.protobuf_parse.specs.declared.run.log.ReadEntry.{ReadEntry}
 use Rattle.protobuf_parse.specs.declared.run.log.ReadOutcome.{ReadOutcome}
@@ -54,26 +54,28 @@ small-bytes bytes = omega (arith, bytes.ok.0, bytes.ok.1, bytes.small)
 module _ (files : Files) (inputs : List Input) (clean : IsClean files inputs)
     (read : WereRead files) where
   -- a file that a file of the run reaches is one of the run
-  reached-file : (p q : Text) → IsFileOf files.trees inputs p → among q (files.reached p) ≡ true
-      → IsFileOf files.trees inputs q
+  reached-file : (p q : Text) → IsFileOfRun files.trees inputs p → among q (files.reached p) ≡ true
+      → IsFileOfRun files.trees inputs q
   reached-file p q m h = reached-is files inputs clean p q ((read.listed.reaches p).only q h) m
 
   -- in which no fault stands
-  no-others : (q : Text) (u : FileSyntax) → files.trees q ≡ Some u → IsFileOf files.trees inputs q
+  no-others : (q : Text) (u : FileSyntax) → files.trees q ≡ Some u
+      → IsFileOfRun files.trees inputs q
       → others files q u ≡ []
   no-others q u at h = none-after (link_faults (trees_at files.trees (files.reached q)))
       (others files q u) (faultless-file files inputs clean q u at h)
 
   own-faultless : (q : Text) (u : FileSyntax) → files.trees q ≡ Some u
-      → IsFileOf files.trees inputs q
+      → IsFileOfRun files.trees inputs q
       → file_faults (environment (trees_at files.trees (files.seen q)) no_customs u) u ≡ []
   own-faultless q u at h = none-before
       (file_faults (environment (trees_at files.trees (files.seen q)) no_customs u) u) _
       (no-others q u at h)
 
   options-faultless : (q : Text) (u : FileSyntax) → files.trees q ≡ Some u
-      → IsFileOf files.trees inputs q
-      → option_faults (plains_at files (files.reached q)) (plains_at files (files.seen q)) u ≡ []
+      → IsFileOfRun files.trees inputs q
+      → custom_option_faults (plains_at files (files.reached q)) (plains_at files (files.seen q)) u
+      ≡ []
   options-faultless q u at h = none-after
       (file_faults (environment (trees_at files.trees (files.seen q)) no_customs u) u) _
       (no-others q u at h)
@@ -88,7 +90,8 @@ module _ (files : Files) (inputs : List Input) (clean : IsClean files inputs)
       of None h = absurd h
 
   -- a file of the run, and all that it reaches
-  are-reached : (q : Text) (u : FileSyntax) → files.trees q ≡ Some u → IsFileOf files.trees inputs q
+  are-reached : (q : Text) (u : FileSyntax) → files.trees q ≡ Some u
+      → IsFileOfRun files.trees inputs q
       → HaveDistinctNumbers (plains_at files (files.reached q))
       → AreReachedFiles files.trees files.seen (files.reached q)
   are-reached q u is m numbers = record {
@@ -111,7 +114,8 @@ module _ (files : Files) (inputs : List Input) (clean : IsClean files inputs)
       (text_sound text.0 d.tree text.1)))
 
   module _ (p : Text) (t : FileSyntax) (is : files.trees p ≡ Some t)
-      (m : IsFileOf files.trees inputs p) (s : OptionSet) (stands : Among (option_sets t) s) where
+      (m : IsFileOfRun files.trees inputs p) (s : OptionSet)
+      (stands : Among (option_sets t) s) where
     abbrev reached : List Text
     reached = files.reached p
 

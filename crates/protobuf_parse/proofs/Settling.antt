@@ -27,10 +27,13 @@ use Rattle.protobuf_parse_model.proofs.Orders.{types-same}
 use Rattle.protobuf_parse_wire.specs.OptionBytes.{known_customs}
 use Rattle.protobuf_parse.specs.Walks.{Trees, Reaches, HandsOn, Sees, sees_itself, by_import, among}
 use Rattle.protobuf_parse.specs.Walks.{import_paths}
-use Rattle.protobuf_parse.specs.Run.{Files, AreListed, StandsInElab, customs_of, environment_of}
+use Rattle.protobuf_parse.specs.Run.{Files, FilesAreListed, StandsInElab, customs_of}
+use Rattle.protobuf_parse.specs.Run.{environment_of}
 use Rattle.protobuf_parse.specs.Run.{faults_in, origin_given, plain_of, plains_at}
-use Rattle.protobuf_parse.specs.Loading.{Agrees, AreJoined, AreKnown, AreNumbered, AreNumbersOf}
-use Rattle.protobuf_parse.specs.Loading.{Entry, IsAddedOver, IsLoaded, IsNumbered, Named, Settles}
+use Rattle.protobuf_parse.specs.Loading.{Agrees, AreJoined, AreKnown, FilesAreNumbered}
+use Rattle.protobuf_parse.specs.Loading.{AreNumbersOf}
+use Rattle.protobuf_parse.specs.Loading.{LoadedEntry, IsAddedOver, IsLoaded, IsNumbered, Named}
+use Rattle.protobuf_parse.specs.Loading.{Settles}
 use Rattle.protobuf_parse.specs.Loading.{SettlesOver, customs_over, faults_over, file_at, file_over}
 use Rattle.protobuf_parse.specs.Loading.{named_trees, paths_in, picked_plains, plain_in, plain_over}
 use Rattle.protobuf_parse.specs.Loading.{plains_next, trees_of, with_next}
@@ -118,8 +121,8 @@ plains-are files named (n ∷ ns) agrees =
     ∙ sym (plains_at-append files at (paths_by named ns))
 
 -- the loaded files have the descriptors of their trees
-pub plains-made : (files : Files) (log : List ReadEntry) (loaded : List Entry)
-    → AllByRecursion (λ (e : Entry). IsLoaded files log (string_bytes e.0) e.1) loaded
+pub plains-made : (files : Files) (log : List ReadEntry) (loaded : List LoadedEntry)
+    → AllByRecursion (λ (e : LoadedEntry). IsLoaded files log (string_bytes e.0) e.1) loaded
     → map plain_in loaded ≡ map (described_by files) (named_trees loaded)
 plains-made files log [] made = refl
 plains-made files log (e ∷ loaded) made =
@@ -320,18 +323,20 @@ which-told (a ∷ firsts) others f m = inl m
 -- ** the next file
 
 -- What is known where a file is elaborated whose imports are loaded.
-pub record IsNext (files : Files) (loaded : List Entry) (tables : Tables) (log : List ReadEntry)
+pub record IsNext (files : Files) (loaded : List LoadedEntry) (tables : Tables)
+    (log : List ReadEntry)
     (p : Text) (t : FileSyntax) (below : List ℕ) : Type 0 where
-  pub listed : AreListed files.trees files.reached files.seen
+  pub listed : FilesAreListed files.trees files.reached files.seen
   pub packages : HavePackages files.trees
   pub known : AreKnown loaded tables log
   pub agrees : Agrees files.trees (named_trees loaded)
   pub plain : map plain_in loaded ≡ map (described_by files) (named_trees loaded)
   pub is : files.trees p ≡ Some t
   pub none : file_at p loaded ≡ None
-  pub numbered : AreNumbered (named_trees loaded) below (import_paths t)
+  pub numbered : FilesAreNumbered (named_trees loaded) below (import_paths t)
 
-module _ (files : Files) (loaded : List Entry) (tables : Tables) (log : List ReadEntry) (p : Text)
+module _ (files : Files) (loaded : List LoadedEntry) (tables : Tables) (log : List ReadEntry)
+    (p : Text)
     (t : FileSyntax) (below : List ℕ) (n : IsNext files loaded tables log p t below)
     (reach sight : List ℕ) (reaches : AreJoined held_as.Reach loaded below reach)
     (sees : AreJoined held_as.HandedOn loaded below sight) where
@@ -492,7 +497,7 @@ stands-more origin firsts others (fault.Memory) more s = absurd s
 stands-more origin firsts others _ more s = absurd s
 
 -- what an elaboration over numbered files leaves
-pub settled-in : (files : Files) (loaded new : List Entry) (tables after : Tables) (p : Text)
+pub settled-in : (files : Files) (loaded new : List LoadedEntry) (tables after : Tables) (p : Text)
     (t : FileSyntax) (height read : ℕ) (below public : List ℕ) (log : List ReadEntry)
     (r : Result Placed RunFault)
     → IsNext files loaded tables log p t below
@@ -533,8 +538,8 @@ settled-in files loaded new tables after p t height read below public log (Err f
     ]
 
 -- the loaded files have the trees of their paths
-pub agrees-made : (files : Files) (log : List ReadEntry) (loaded : List Entry)
-    → AllByRecursion (λ (e : Entry). IsLoaded files log (string_bytes e.0) e.1) loaded
+pub agrees-made : (files : Files) (log : List ReadEntry) (loaded : List LoadedEntry)
+    → AllByRecursion (λ (e : LoadedEntry). IsLoaded files log (string_bytes e.0) e.1) loaded
     → Agrees files.trees (named_trees loaded)
 agrees-made files log [] made n q u h = cc
 agrees-made files log (e ∷ loaded) made zero q u h =

@@ -18,11 +18,13 @@ use Rattle.protobuf_parse_model.specs.declared.error.ElabFailure.TheVariants as 
 use Rattle.protobuf_parse_model.proofs.CustomSets.{faults_are_of_sets, none_is_none_in_sets}
 use Rattle.protobuf_parse_model.proofs.CustomSets.{none_of_sets, options_are_builtin}
 use Rattle.protobuf_parse_model.proofs.SameBytes.{bytes_are_of_sets}
-use Rattle.protobuf_parse_wire.specs.CustomFaults.{named_faults, option_faults, statement_faults}
-use Rattle.protobuf_parse_wire.specs.CustomOptions.{option_items, scope_of}
+use Rattle.protobuf_parse_wire.specs.CustomFaults.{custom_name_faults, custom_option_faults}
+use Rattle.protobuf_parse_wire.specs.CustomFaults.{custom_statement_faults}
+use Rattle.protobuf_parse_wire.specs.CustomOptions.{items_of_option, scope_of}
 use Rattle.protobuf_parse_wire.specs.OptionFields.{OptionScope}
 use Rattle.protobuf_parse_wire.specs.OptionBytes.{known_customs, option_bytes}
-use Rattle.protobuf_parse.specs.Loading.{Describes, Entry, customs_over, picked_plains, plain_over}
+use Rattle.protobuf_parse.specs.Loading.{Describes, LoadedEntry, customs_over, picked_plains}
+use Rattle.protobuf_parse.specs.Loading.{plain_over}
 use Rattle.protobuf_parse.specs.Loading.{plains_over}
 use Rattle.protobuf_parse.specs.Run.{Files, customs_of}
 use Rattle.protobuf_parse.specs.declared.run.describe.Described.{Described}
@@ -66,20 +68,21 @@ module _ (seen : List FileSyntax) (files visible : List FileDescriptor) (t : Fil
     abbrev at : OptionScope
     at = scope_of files visible s
 
-    set-faultless : statement_faults at s.construct s.statements ≡ []
+    set-faultless : custom_statement_faults at s.construct s.statements ≡ []
     set-faultless =
-        all-nothing (λ (o : OptionSyntax). named_faults at s.construct o.value o.name) s.statements
+        all-nothing (λ (o : OptionSyntax). custom_name_faults at s.construct o.value o.name)
+        s.statements
         (λ o h. let b = options_are_builtin seen t s o none m h in rw b.1 refl)
 
-    set-empty : flat_map (option_items at s.construct) s.statements ≡ []
-    set-empty = all-nothing (option_items at s.construct) s.statements
+    set-empty : flat_map (items_of_option at s.construct) s.statements ≡ []
+    set-empty = all-nothing (items_of_option at s.construct) s.statements
         (λ o h. let b = options_are_builtin seen t s o none m h in rw b.1 refl)
 
     set-unspelled : [] ≡ option_bytes files visible s.construct s.scope s.statements
     set-unspelled = rw set-empty refl
 
   pub nothing-wrong : file_faults (environment seen no_extensions t) t ≡ []
-      → option_faults files visible t ≡ []
+      → custom_option_faults files visible t ≡ []
   nothing-wrong none = all-nothing (faults_of_set known) (option_sets t) (set-faultless none)
 
   pub nothing-spelled : (path : Text) → file_faults (environment seen no_extensions t) t ≡ []
@@ -95,12 +98,12 @@ module _ (seen : List FileSyntax) (files visible : List FileDescriptor) (t : Fil
   -- ** what is wrong with extensions known
 
   pub options-faultless : file_faults (environment seen known t) t ≡ []
-      → option_faults files visible t ≡ []
+      → custom_option_faults files visible t ≡ []
   options-faultless none = none_of_sets seen known t none
 
   pub option-told : (f : Fault) → file_faults (environment seen no_customs t) t ≡ []
       → Among (file_faults (environment seen known t) t) f
-      → Among (option_faults files visible t) f
+      → Among (custom_option_faults files visible t) f
   option-told f none told =
       elim ((faults_are_of_sets seen known t f).0 told) [
         | inl w ↦ absurd (nothing-in (subst (λ (fs : List Fault). Among fs f) none w))
@@ -109,7 +112,7 @@ module _ (seen : List FileSyntax) (files visible : List FileDescriptor) (t : Fil
 
 -- ** what a file becomes by numbers
 
-module _ (loaded : List Entry) (files : List FileSyntax) (reach sight : List ℕ) (path : Text)
+module _ (loaded : List LoadedEntry) (files : List FileSyntax) (reach sight : List ℕ) (path : Text)
     (t : FileSyntax) (linked : link_faults (picked files reach) ≡ []) where
   abbrev plains : List FileDescriptor
   plains = plains_over loaded files sight path t
@@ -124,10 +127,10 @@ module _ (loaded : List Entry) (files : List FileSyntax) (reach sight : List ℕ
   seen_plains = picked_plains plains sight
 
   all-faultless : file_faults (environment seen no_customs t) t ≡ []
-      → option_faults reached_plains seen_plains t ≡ []
+      → custom_option_faults reached_plains seen_plains t ≡ []
       → before_others (link_faults (picked files reach))
       (before_others (file_faults (environment seen no_customs t) t)
-      (option_faults reached_plains seen_plains t)) ≡ []
+      (custom_option_faults reached_plains seen_plains t)) ≡ []
   all-faultless own options = rw (linked, own) options
 
   -- no custom option is set
@@ -166,7 +169,7 @@ module _ (loaded : List Entry) (files : List FileSyntax) (reach sight : List ℕ
   own-told (failure.Memory) h = tt
   own-told (failure.Fault error) h =
       rw linked (told-first (file_faults (environment seen no_customs t) t)
-      (option_faults reached_plains seen_plains t) (fault_view error) h)
+      (custom_option_faults reached_plains seen_plains t) (fault_view error) h)
     where
       told-first : (firsts others : List Fault) (f : Fault) → Among firsts f
           → Among (before_others firsts others) f

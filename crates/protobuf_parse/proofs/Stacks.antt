@@ -21,38 +21,38 @@ use Rattle.protobuf_parse_model.specs.Descriptors.{Text}
 use Rattle.protobuf_parse.specs.declared.run.frame.LoadFrame.{LoadFrame}
 use Rattle.protobuf_parse.specs.declared.run.loader.Placed.{Placed}
 use Rattle.protobuf_parse.specs.Walks.{Event, Trees, public_path, public_paths_of}
-use Rattle.protobuf_parse.specs.Loading.{texts}
+use Rattle.protobuf_parse.specs.Loading.{chain_texts}
 use Rattle.protobuf_parse.specs.Frames.{AreWaiting, IsWaiting, Joined, chain_of, first_path}
-use Rattle.protobuf_parse.specs.Frames.{imports_in, later_in, left_in, left_over, owed, path_of}
+use Rattle.protobuf_parse.specs.Frames.{imports_in, later_in, left_in, left_over, owed, frame_path}
 use Rattle.protobuf_parse.specs.Frames.{public_in, to_meet, todo, weight}
 
 -- ** one frame more
 
 pub chain_of-push : (c : List Text) (fs : List LoadFrame) (g : LoadFrame)
-    → chain_of c (fs ++ g ∷ []) ≡ chain_of c fs ++ path_of g ∷ []
+    → chain_of c (fs ++ g ∷ []) ≡ chain_of c fs ++ frame_path g ∷ []
 chain_of-push c [] g = refl
-chain_of-push c (f ∷ fs) g = chain_of-push (c ++ path_of f ∷ []) fs g
+chain_of-push c (f ∷ fs) g = chain_of-push (c ++ frame_path f ∷ []) fs g
 
 pub length-chain_of : (c : List Text) (fs : List LoadFrame)
     → length (chain_of c fs) ≡ length c + length fs
 length-chain_of c [] = omega arith
 length-chain_of c (f ∷ fs) =
-    omega (arith, length-chain_of (c ++ path_of f ∷ []) fs, length_push c (path_of f))
+    omega (arith, length-chain_of (c ++ frame_path f ∷ []) fs, length_push c (frame_path f))
 
 pub first_path-push : (fs : List LoadFrame) (g : LoadFrame) (path : Text)
-    → first_path (fs ++ g ∷ []) path ≡ first_path fs (path_of g)
+    → first_path (fs ++ g ∷ []) path ≡ first_path fs (frame_path g)
 first_path-push [] g path = refl
 first_path-push (f ∷ fs) g path = refl
 
 pub todo-push : (trees : Trees) (i : Text) (c : List Text) (fs : List LoadFrame) (g : LoadFrame)
-    → todo trees i c (fs ++ g ∷ []) ≡ owed trees i (chain_of c fs) (path_of g) (later_in g)
+    → todo trees i c (fs ++ g ∷ []) ≡ owed trees i (chain_of c fs) (frame_path g) (later_in g)
     ++ todo trees i c fs
 todo-push trees i c [] g = sym (append-nil _)
 todo-push trees i c (f ∷ fs) g =
-    let later : List Event = owed trees i c (path_of f) (later_in f) in
-    ap (λ z. z ++ later) (todo-push trees i (c ++ path_of f ∷ []) fs g)
-    ∙ append_assoc (owed trees i (chain_of (c ++ path_of f ∷ []) fs) (path_of g) (later_in g))
-    (todo trees i (c ++ path_of f ∷ []) fs) later
+    let later : List Event = owed trees i c (frame_path f) (later_in f) in
+    ap (λ z. z ++ later) (todo-push trees i (c ++ frame_path f ∷ []) fs g)
+    ∙ append_assoc (owed trees i (chain_of (c ++ frame_path f ∷ []) fs) (frame_path g) (later_in g))
+    (todo trees i (c ++ frame_path f ∷ []) fs) later
 
 pub to_meet-push : (fs : List LoadFrame) (g : LoadFrame)
     → to_meet (fs ++ g ∷ []) ≡ length (later_in g) + to_meet fs
@@ -75,25 +75,25 @@ frames-into P Q into [] a = tt
 frames-into P Q into (f ∷ fs) a = (into f a.0, frames-into P Q into fs a.1)
 
 pub waiting-push : (c : List Text) (fs : List LoadFrame) (g : LoadFrame) (path : Text)
-    → AreWaiting c fs (path_of g) → IsWaiting (chain_of c fs) g path
+    → AreWaiting c fs (frame_path g) → IsWaiting (chain_of c fs) g path
     → AreWaiting c (fs ++ g ∷ []) path
 waiting-push c [] g path a w = (w, tt)
 waiting-push c (f ∷ fs) g path a w =
-    (rw (first_path-push fs g path) a.0, waiting-push (c ++ path_of f ∷ []) fs g path a.1 w)
+    (rw (first_path-push fs g path) a.0, waiting-push (c ++ frame_path f ∷ []) fs g path a.1 w)
 
 pub waiting-pop : (c : List Text) (fs : List LoadFrame) (g : LoadFrame) (path : Text)
-    → AreWaiting c (fs ++ g ∷ []) path → AreWaiting c fs (path_of g)
+    → AreWaiting c (fs ++ g ∷ []) path → AreWaiting c fs (frame_path g)
     × IsWaiting (chain_of c fs) g path
 waiting-pop c [] g path a = (tt, a.0)
 waiting-pop c (f ∷ fs) g path a =
-    let r = waiting-pop (c ++ path_of f ∷ []) fs g path a.1 in
+    let r = waiting-pop (c ++ frame_path f ∷ []) fs g path a.1 in
     (((rw (first_path-push fs g path) at a.0), r.0), r.1)
 
 pub none_of : (fs : List LoadFrame) → length fs ≡ 0 → fs ≡ []
 none_of [] h = refl
 none_of (f ∷ fs) h = absurd (omega arith)
 
-pub none-texts : (chain : List (String Global)) → texts chain ≡ [] → chain ≡ []
+pub none-texts : (chain : List (String Global)) → chain_texts chain ≡ [] → chain ≡ []
 none-texts [] h = refl
 none-texts (x ∷ chain) h = cc
 

@@ -19,16 +19,17 @@ use Rattle.protobuf_parse.specs.declared.run.loader.Placed.{Placed}
 use Rattle.protobuf_parse.specs.declared.run.log.ReadEntry.{ReadEntry}
 use Rattle.protobuf_parse.specs.declared.run.log.ReadOutcome.{ReadOutcome}
 use Rattle.protobuf_parse.specs.Walks.{Asked, the_resolver, Event, load, elab, keep, among, Trees}
-use Rattle.protobuf_parse.specs.Walks.{import_paths, joined, statements, walk}
+use Rattle.protobuf_parse.specs.Walks.{import_paths, walks_joined, import_statements, walk}
 use Rattle.protobuf_parse.specs.Run.{Files, StandsInElab, environment_of, faults_in, first_read}
 use Rattle.protobuf_parse.specs.Run.{origin_given, plain_of}
-use Rattle.protobuf_parse.specs.Loading.{Legal, AreKnown, AreNumbered, Entry, GoesOn, Good, Grows}
+use Rattle.protobuf_parse.specs.Loading.{Legal, AreKnown, FilesAreNumbered, LoadedEntry, GoesOn}
+use Rattle.protobuf_parse.specs.Loading.{Good, Grows}
 use Rattle.protobuf_parse.specs.Loading.{IsAdded, IsLoaded, Leaves, Settled, Settles, SettlesOver}
-use Rattle.protobuf_parse.specs.Loading.{Stops, Within, file_at, file_shape, imports_shape}
+use Rattle.protobuf_parse.specs.Loading.{Stops, Within, file_at, path_shape, imports_shape}
 use Rattle.protobuf_parse.specs.Loading.{named_trees}
 use Rattle.protobuf_parse.specs.Frames.{IsHeld, IsNew, IsOpened, IsRunning, IsSame, IsTaken, Joined}
 use Rattle.protobuf_parse.specs.Frames.{chain_of, done_in, imports_in, later_in, left_in, owed}
-use Rattle.protobuf_parse.specs.Frames.{path_of, to_meet, todo}
+use Rattle.protobuf_parse.specs.Frames.{frame_path, to_meet, todo}
 use Rattle.protobuf_parse.proofs.Keeping.{among-last, has-left, keep-append, keep-fresh}
 use Rattle.protobuf_parse.proofs.Walking.{joined-append, settled-join, settled-more, settled-same}
 use Rattle.protobuf_parse.proofs.Walking.{walk-load}
@@ -53,17 +54,17 @@ owed-next : (trees : Trees) (i : Text) (c inner : List Text) (p q : Text) (left 
 owed-next trees i c inner p q left later rest same e =
     let w : Text
     → List Event = walk trees i the_resolver (100 - length (c ++ p ∷ [])) (c ++ p ∷ []) in
-    rw (same, e) (ap (λ z. z ++ rest) (append_assoc (w q) (joined w later) (elab p ∷ []))
-    ∙ append_assoc (w q) (joined w later ++ elab p ∷ []) rest)
+    rw (same, e) (ap (λ z. z ++ rest) (append_assoc (w q) (walks_joined w later) (elab p ∷ []))
+    ∙ append_assoc (w q) (walks_joined w later ++ elab p ∷ []) rest)
 
 owed-none : (trees : Trees) (i : Text) (c : List Text) (f : LoadFrame)
     → length f.tree.statements.items ≤ f.next
-    → owed trees i c (path_of f) (left_in f) ≡ elab (path_of f) ∷ []
-owed-none trees i c f le = ap (owed trees i c (path_of f)) (none-left f le)
+    → owed trees i c (frame_path f) (left_in f) ≡ elab (frame_path f) ∷ []
+owed-none trees i c f le = ap (owed trees i c (frame_path f)) (none-left f le)
 
 owed-joined : (trees : Trees) (i : Text) (c : List Text) (old new : LoadFrame) (placed : Placed)
-    → Joined old placed new → owed trees i c (path_of new) (left_in new)
-    ≡ owed trees i c (path_of old) (later_in old)
+    → Joined old placed new → owed trees i c (frame_path new) (left_in new)
+    ≡ owed trees i c (frame_path old) (later_in old)
 owed-joined trees i c old new placed j = rw (j.path_is, j.tree_is, j.next) refl
 
 -- a file's walk, where it is read now
@@ -78,7 +79,7 @@ walk-read trees i a c q t lt off is =
 held-more : (files : Files) (now more : List Event) (log new : List ReadEntry) (f : LoadFrame)
     → Within now more → Grows log new → IsHeld files now log f → IsHeld files more new f
 held-more files now more log new f w grows h = record {
-  load = w (load the_resolver (path_of f)) h.load;
+  load = w (load the_resolver (frame_path f)) h.load;
   is = h.is;
   settled = settled-more now more f.height (imports_shape files.trees (done_in f)) h.settled w;
   entry = h.entry;
@@ -95,7 +96,7 @@ all_held-more files now more log new fs w grows a =
     (λ f h. held-more files now more log new f w grows h) fs a
 
 by_resolver : (trees : Trees) (kept : List Event) (k : ℕ) (q : Text)
-    → Settled kept k (file_shape trees q)
+    → Settled kept k (path_shape trees q)
     → Settled kept k (λ b c room z. walk trees b the_resolver room z q)
 by_resolver trees kept k q s = record {
   before = s.before;
@@ -105,14 +106,14 @@ by_resolver trees kept k q s = record {
 }
 
 settled-next : (trees : Trees) (now : List Event) (h k : ℕ) (done : List Text) (q : Text)
-    → Settled now h (imports_shape trees done) → Settled now k (file_shape trees q)
+    → Settled now h (imports_shape trees done) → Settled now k (path_shape trees q)
     → Settled now (max h k) (imports_shape trees (done ++ q ∷ []))
 settled-next trees now h k done q s t =
     settled-same now (max h k)
-    (λ b c room z. joined (walk trees b the_resolver room z) done
+    (λ b c room z. walks_joined (walk trees b the_resolver room z) done
     ++ walk trees b the_resolver room z q) _
     (λ b c room z. joined-append (walk trees b the_resolver room z) done (q ∷ [])
-    ∙ ap (λ y. joined (walk trees b the_resolver room z) done ++ y)
+    ∙ ap (λ y. walks_joined (walk trees b the_resolver room z) done ++ y)
     (append-nil (walk trees b the_resolver room z q)))
     (settled-join now now h k (imports_shape trees done)
     (λ b c room z. walk trees b the_resolver room z q) s (by_resolver trees now k q t)
@@ -122,7 +123,7 @@ settled-next trees now h k done q s t =
 held-joined : (files : Files) (now : List Event) (log : List ReadEntry) (old new : LoadFrame)
     (placed : Placed) (i : Import) (q : Text) → IsHeld files now log old
     → slice_get old.tree.statements.items old.next ≡ Some (file_statement.Import i)
-    → path_buf_text i.path ≡ q → Settled now placed.height (file_shape files.trees q)
+    → path_buf_text i.path ≡ q → Settled now placed.height (path_shape files.trees q)
     → Joined old placed new → IsHeld files now log new
 held-joined files now log old new placed i q h at named s j =
     let next : done_in new ≡ imports_in (take (suc old.next) old.tree.statements.items) =
@@ -143,13 +144,13 @@ held-joined files now log old new placed i q h at named s j =
     }
 
 module _ (legal : Legal) (files : Files) (kept events : List Event) (i : Text) (start : ℕ) where
-  abbrev pub Running : ℕ → List LoadFrame → LoadFrame → List Entry → List ReadEntry → Type 0
+  abbrev pub Running : ℕ → List LoadFrame → LoadFrame → List LoadedEntry → List ReadEntry → Type 0
   Running meets stack top loaded log =
       IsRunning legal files kept events i start meets stack top loaded log
 
   -- a statement that is no import
   pub running-other : (stack : List LoadFrame) (old new : LoadFrame) (x : FileStatement) (meets : ℕ)
-      (loaded : List Entry) (log : List ReadEntry) → Running meets stack old loaded log
+      (loaded : List LoadedEntry) (log : List ReadEntry) → Running meets stack old loaded log
       → slice_get old.tree.statements.items old.next ≡ Some x
       → ((im : Import) → x ≡ file_statement.Import im → ⊥)
       → new ≡ record old { next = suc old.next } → Running meets stack new loaded log
@@ -161,7 +162,7 @@ module _ (legal : Legal) (files : Files) (kept events : List Event) (i : Text) (
         now = r.now;
         is = r.is
             ∙ ap (λ z.
-            keep r.now (owed files.trees i (chain_of [] stack) (path_of old) z
+            keep r.now (owed files.trees i (chain_of [] stack) (frame_path old) z
             ++ todo files.trees i [] stack)) l;
         good = r.good;
         held = record {
@@ -179,8 +180,8 @@ module _ (legal : Legal) (files : Files) (kept events : List Event) (i : Text) (
 
   -- an import that is loaded already
   pub running-known : (stack : List LoadFrame) (old new : LoadFrame) (placed : Placed) (im : Import)
-      (meets more : ℕ) (inner : List Text) (loaded : List Entry) (log after : List ReadEntry)
-      (r : Running meets stack old loaded log) → inner ≡ chain_of [] stack ++ path_of old ∷ []
+      (meets more : ℕ) (inner : List Text) (loaded : List LoadedEntry) (log after : List ReadEntry)
+      (r : Running meets stack old loaded log) → inner ≡ chain_of [] stack ++ frame_path old ∷ []
       → slice_get old.tree.statements.items old.next ≡ Some (file_statement.Import im)
       → more ≡ meets + 1 → Grows log after
       → (Good legal files r.now loaded log inner
@@ -193,13 +194,13 @@ module _ (legal : Legal) (files : Files) (kept events : List Event) (i : Text) (
       let k = gives (rw same r.good) in
       let c : List Text = chain_of [] stack in
       let l = left-import old.tree.statements.items old.next im at in
-      let rest : List Event = owed files.trees i c (path_of old) (later_in old)
+      let rest : List Event = owed files.trees i c (frame_path old) (later_in old)
       ++ todo files.trees i [] stack in
       record {
         now = r.now;
         is = r.is
             ∙ (ap (keep r.now)
-            (owed-next files.trees i c inner (path_of old) q (left_in old) (later_in old)
+            (owed-next files.trees i c inner (frame_path old) q (left_in old) (later_in old)
             (todo files.trees i [] stack) same l)
             ∙ (keep-append r.now (walk files.trees i the_resolver (100 - length inner) inner q) rest
             ∙ (ap (λ z. keep z rest) k.1.again
@@ -216,8 +217,8 @@ module _ (legal : Legal) (files : Files) (kept events : List Event) (i : Text) (
 
   -- an import that is read now: a frame for it
   pub running-new : (stack : List LoadFrame) (old frame : LoadFrame) (im : Import) (meets more : ℕ)
-      (inner outer : List Text) (loaded : List Entry) (log after : List ReadEntry)
-      (r : Running meets stack old loaded log) → inner ≡ chain_of [] stack ++ path_of old ∷ []
+      (inner outer : List Text) (loaded : List LoadedEntry) (log after : List ReadEntry)
+      (r : Running meets stack old loaded log) → inner ≡ chain_of [] stack ++ frame_path old ∷ []
       → slice_get old.tree.statements.items old.next ≡ Some (file_statement.Import im)
       → more ≡ meets + 1 → Grows log after
       → (Good legal files r.now loaded log inner
@@ -232,7 +233,7 @@ module _ (legal : Legal) (files : Files) (kept events : List Event) (i : Text) (
       let now : List Event = r.now ++ load the_resolver q ∷ [] in
       let w : Within r.now now = λ e v. has-left e r.now (load the_resolver q ∷ []) v in
       let l = left-import old.tree.statements.items old.next im at in
-      let rest : List Event = owed files.trees i c (path_of old) (later_in old)
+      let rest : List Event = owed files.trees i c (frame_path old) (later_in old)
       ++ todo files.trees i [] stack in
       let chain : chain_of [] (stack ++ old ∷ []) ≡ inner = chain_of-push [] stack old ∙ sym same in
       let is : files.trees q ≡ Some (file_view frame.tree) =
@@ -246,7 +247,7 @@ module _ (legal : Legal) (files : Files) (kept events : List Event) (i : Text) (
         now = now;
         is = r.is
             ∙ (ap (keep r.now)
-            (owed-next files.trees i c inner (path_of old) q (left_in old) (later_in old)
+            (owed-next files.trees i c inner (frame_path old) q (left_in old) (later_in old)
             (todo files.trees i [] stack) same l ∙ ap (λ z. z ++ rest) opens)
             ∙ (keep-fresh r.now
             (owed files.trees i inner q (import_paths (file_view frame.tree)) ++ rest)
@@ -265,8 +266,8 @@ module _ (legal : Legal) (files : Files) (kept events : List Event) (i : Text) (
 
   -- an import's walk stops
   pub running-stops : (stack : List LoadFrame) (old : LoadFrame) (im : Import) (meets : ℕ)
-      (inner : List Text) (loaded : List Entry) (log after : List ReadEntry) (f : RunFault)
-      (r : Running meets stack old loaded log) → inner ≡ chain_of [] stack ++ path_of old ∷ []
+      (inner : List Text) (loaded : List LoadedEntry) (log after : List ReadEntry) (f : RunFault)
+      (r : Running meets stack old loaded log) → inner ≡ chain_of [] stack ++ frame_path old ∷ []
       → slice_get old.tree.statements.items old.next ≡ Some (file_statement.Import im)
       → (Good legal files r.now loaded log inner
       → Stops legal files
@@ -276,13 +277,13 @@ module _ (legal : Legal) (files : Files) (kept events : List Event) (i : Text) (
   running-stops stack old im meets inner loaded log after f r same at stops =
       let c : List Text = chain_of [] stack in
       let q : Text = path_buf_text im.path in
-      let rest : List Event = owed files.trees i c (path_of old) (later_in old)
+      let rest : List Event = owed files.trees i c (frame_path old) (later_in old)
       ++ todo files.trees i [] stack in
       let l = left-import old.tree.statements.items old.next im at in
       let e : events
       ≡ keep (keep r.now (walk files.trees i the_resolver (100 - length inner) inner q)) rest =
       r.is ∙ (ap (keep r.now)
-      (owed-next files.trees i c inner (path_of old) q (left_in old) (later_in old)
+      (owed-next files.trees i c inner (frame_path old) q (left_in old) (later_in old)
       (todo files.trees i [] stack) same l)
       ∙ keep-append r.now (walk files.trees i the_resolver (100 - length inner) inner q) rest)
       in
@@ -291,86 +292,90 @@ module _ (legal : Legal) (files : Files) (kept events : List Event) (i : Text) (
       (stops (rw same r.good)))
 
   -- memory runs out between two steps
-  pub running-breaks : (stack : List LoadFrame) (top : LoadFrame) (meets : ℕ) (loaded : List Entry)
+  pub running-breaks : (stack : List LoadFrame) (top : LoadFrame) (meets : ℕ)
+      (loaded : List LoadedEntry)
       (log : List ReadEntry) (f : RunFault) → Running meets stack top loaded log → f ≡ fault.Memory
       → Stops legal files events log f
   running-breaks stack top meets loaded log f r m =
-      let rest : List Event = owed files.trees i (chain_of [] stack) (path_of top) (left_in top)
+      let rest : List Event = owed files.trees i (chain_of [] stack) (frame_path top) (left_in top)
       ++ todo files.trees i [] stack in
       rw r.is (breaks-now legal files r.now rest loaded log
-      (chain_of [] stack ++ path_of top ∷ []) f r.good m)
+      (chain_of [] stack ++ frame_path top ∷ []) f r.good m)
 
   -- or after an import that is loaded already
   pub known-breaks : (stack : List LoadFrame) (old : LoadFrame) (placed : Placed) (q : Text)
-      (meets : ℕ) (inner : List Text) (loaded : List Entry) (log after : List ReadEntry)
+      (meets : ℕ) (inner : List Text) (loaded : List LoadedEntry) (log after : List ReadEntry)
       (f : RunFault) (r : Running meets stack old loaded log)
-      → inner ≡ chain_of [] stack ++ path_of old ∷ []
+      → inner ≡ chain_of [] stack ++ frame_path old ∷ []
       → (Good legal files r.now loaded log inner
       → Good legal files r.now loaded after inner
       × IsSame files r.now i the_resolver inner q placed) → f ≡ fault.Memory
       → Stops legal files events after f
   known-breaks stack old placed q meets inner loaded log after f r same gives m =
       let k = gives (rw same r.good) in
-      let rest : List Event = owed files.trees i (chain_of [] stack) (path_of old) (left_in old)
+      let rest : List Event = owed files.trees i (chain_of [] stack) (frame_path old) (left_in old)
       ++ todo files.trees i [] stack in
       rw r.is (breaks-now legal files r.now rest loaded after inner f k.0 m)
 
   -- no more was met than there is to meet
-  pub counted-now : (stack : List LoadFrame) (top : LoadFrame) (meets : ℕ) (loaded : List Entry)
+  pub counted-now : (stack : List LoadFrame) (top : LoadFrame) (meets : ℕ)
+      (loaded : List LoadedEntry)
       (log : List ReadEntry) → Running meets stack top loaded log
-      → meets + statements files.trees kept ≤ start + 1 + statements files.trees events
+      → meets + import_statements files.trees kept
+      ≤ start + 1 + import_statements files.trees events
   counted-now stack top meets loaded log r =
-      let rest : List Event = owed files.trees i (chain_of [] stack) (path_of top) (left_in top)
+      let rest : List Event = owed files.trees i (chain_of [] stack) (frame_path top) (left_in top)
       ++ todo files.trees i [] stack in
       let m = count-grows files.trees r.now rest in
-      let e = ap (statements files.trees) r.is in
+      let e = ap (import_statements files.trees) r.is in
       omega (arith, m, e, r.count)
 
   pub counted-next : (stack : List LoadFrame) (top : LoadFrame) (im : Import) (meets more : ℕ)
-      (loaded : List Entry) (log : List ReadEntry) → Running meets stack top loaded log
+      (loaded : List LoadedEntry) (log : List ReadEntry) → Running meets stack top loaded log
       → slice_get top.tree.statements.items top.next ≡ Some (file_statement.Import im)
-      → more ≡ meets + 1 → more + statements files.trees kept
-      ≤ start + 1 + statements files.trees events
+      → more ≡ meets + 1 → more + import_statements files.trees kept
+      ≤ start + 1 + import_statements files.trees events
   counted-next stack top im meets more loaded log r at met =
-      let rest : List Event = owed files.trees i (chain_of [] stack) (path_of top) (left_in top)
+      let rest : List Event = owed files.trees i (chain_of [] stack) (frame_path top) (left_in top)
       ++ todo files.trees i [] stack in
       let m = count-grows files.trees r.now rest in
-      let e = ap (statements files.trees) r.is in
+      let e = ap (import_statements files.trees) r.is in
       let l = ap length (left-import top.tree.statements.items top.next im at) in
       omega (arith, m, e, l, met, r.count)
 
   -- ** a file whose imports are loaded
 
-  elab-next : (stack : List LoadFrame) (top : LoadFrame) (meets : ℕ) (loaded : List Entry)
+  elab-next : (stack : List LoadFrame) (top : LoadFrame) (meets : ℕ) (loaded : List LoadedEntry)
       (log : List ReadEntry) (r : Running meets stack top loaded log)
       → length top.tree.statements.items ≤ top.next
-      → events ≡ keep (r.now ++ elab (path_of top) ∷ []) (todo files.trees i [] stack)
+      → events ≡ keep (r.now ++ elab (frame_path top) ∷ []) (todo files.trees i [] stack)
   elab-next stack top meets loaded log r le =
       r.is ∙ (ap (λ z. keep r.now (z ++ todo files.trees i [] stack))
       (owed-none files.trees i (chain_of [] stack) top le)
-      ∙ keep-fresh r.now (todo files.trees i [] stack) (elab (path_of top))
-      (r.good.apart (path_of top) (among-last (path_of top) (chain_of [] stack))))
+      ∙ keep-fresh r.now (todo files.trees i [] stack) (elab (frame_path top))
+      (r.good.apart (frame_path top) (among-last (frame_path top) (chain_of [] stack))))
 
   -- what its elaboration leaves
   pub running-closes : (stack : List LoadFrame) (top : LoadFrame) (meets : ℕ)
-      (loaded later : List Entry) (tables after : Tables) (log : List ReadEntry)
+      (loaded later : List LoadedEntry) (tables after : Tables) (log : List ReadEntry)
       (res : Result Placed RunFault) (r : Running meets stack top loaded log)
       (table : List (Text × Text)) (full : List ReadEntry) → GoesOn files table full
-      → AreKnown loaded tables log → IsTaken loaded log top → file_at (path_of top) loaded ≡ None
-      → among (path_of top) (chain_of [] stack) ≡ false
+      → AreKnown loaded tables log → IsTaken loaded log top → file_at (frame_path top) loaded ≡ None
+      → among (frame_path top) (chain_of [] stack) ≡ false
       → length top.tree.statements.items ≤ top.next → top.height < 100
-      → SettlesOver (path_of top) (file_view top.tree)
+      → SettlesOver (frame_path top) (file_view top.tree)
       (top.height + 1) top.read top.below.items top.public.items log loaded later after res
-      → Leaves legal files (r.now ++ elab (path_of top) ∷ [])
-      (file_shape files.trees (path_of top)) later log (chain_of [] stack) res
+      → Leaves legal files (r.now ++ elab (frame_path top) ∷ [])
+      (path_shape files.trees (frame_path top)) later log (chain_of [] stack) res
   running-closes stack top meets loaded later tables after log res r table full go known taken none
       off le low over =
-      let numbered : AreNumbered (named_trees loaded) top.below.items
+      let numbered : FilesAreNumbered (named_trees loaded) top.below.items
       (import_paths (file_view top.tree)) =
-      subst (λ (z : List Text). AreNumbered (named_trees loaded) top.below.items z)
+      subst (λ (z : List Text). FilesAreNumbered (named_trees loaded) top.below.items z)
       (done-all top le) taken.numbered in
       let agrees = agrees-made files log loaded r.good.made in
-      let next : IsNext files loaded tables log (path_of top) (file_view top.tree) top.below.items =
+      let next : IsNext files loaded tables log (frame_path top)
+      (file_view top.tree) top.below.items =
       record {
         listed = go.listed;
         packages = packages-read files table full go;
@@ -381,19 +386,19 @@ module _ (legal : Legal) (files : Files) (kept events : List Event) (i : Text) (
         none = none;
         numbered = numbered;
       } in
-      let settles = settled-in files loaded later tables after (path_of top) (file_view top.tree)
+      let settles = settled-in files loaded later tables after (frame_path top) (file_view top.tree)
       (top.height + 1) top.read top.below.items top.public.items log res next over in
       ends res settles
     where
       p : Text
-      p = path_of top
+      p = frame_path top
 
       t : FileSyntax
       t = file_view top.tree
 
       ends : (res : Result Placed RunFault)
           → Settles files p t (top.height + 1) top.read log loaded later res
-          → Leaves legal files (r.now ++ elab p ∷ []) (file_shape files.trees p) later log
+          → Leaves legal files (r.now ++ elab p ∷ []) (path_shape files.trees p) later log
           (chain_of [] stack) res
       ends (Ok placed) settles =
           let d = subst (λ (k : ℕ). IsAdded files p t k top.read loaded later placed)
@@ -441,24 +446,24 @@ module _ (legal : Legal) (files : Files) (kept events : List Event) (i : Text) (
 
   -- the frame below takes it
   pub running-close : (stack full : List LoadFrame) (top old new : LoadFrame) (placed : Placed)
-      (im : Import) (meets : ℕ) (loaded later : List Entry) (log : List ReadEntry)
+      (im : Import) (meets : ℕ) (loaded later : List LoadedEntry) (log : List ReadEntry)
       (r : Running meets full top loaded log) → full ≡ stack ++ old ∷ []
       → length top.tree.statements.items ≤ top.next
-      → Leaves legal files (r.now ++ elab (path_of top) ∷ [])
-      (file_shape files.trees (path_of top)) later log (chain_of [] full) (Ok placed)
+      → Leaves legal files (r.now ++ elab (frame_path top) ∷ [])
+      (path_shape files.trees (frame_path top)) later log (chain_of [] full) (Ok placed)
       → slice_get old.tree.statements.items old.next ≡ Some (file_statement.Import im)
-      → path_buf_text im.path ≡ path_of top → Joined old placed new
+      → path_buf_text im.path ≡ frame_path top → Joined old placed new
       → Running meets stack new later log
   running-close stack full top old new placed im meets loaded later log r whole le k at named j =
       let c : List Text = chain_of [] stack in
-      let p : Text = path_of top in
+      let p : Text = frame_path top in
       let now : List Event = r.now ++ elab p ∷ [] in
       let grows : Grows log log = ([], sym (append-nil log)) in
       let more : AllByRecursion (IsHeld files now log) full =
       all_held-more files r.now now log log full
       (λ e v. has-left e r.now (elab p ∷ []) v) grows r.below in
       let h = frames-pop (IsHeld files now log) stack old (rw whole at more) in
-      let chain : chain_of [] full ≡ c ++ path_of old ∷ [] = ap (chain_of []) whole
+      let chain : chain_of [] full ≡ c ++ frame_path old ∷ [] = ap (chain_of []) whole
       ∙ chain_of-push [] stack old in
       record {
         now = now;
@@ -479,35 +484,38 @@ module _ (legal : Legal) (files : Files) (kept events : List Event) (i : Text) (
 
   -- memory runs out before it does
   pub closed-breaks : (stack : List LoadFrame) (top : LoadFrame) (placed : Placed) (meets : ℕ)
-      (loaded later : List Entry) (log : List ReadEntry) (f : RunFault)
+      (loaded later : List LoadedEntry) (log : List ReadEntry) (f : RunFault)
       (r : Running meets stack top loaded log) → length top.tree.statements.items ≤ top.next
-      → Leaves legal files (r.now ++ elab (path_of top) ∷ [])
-      (file_shape files.trees (path_of top)) later log (chain_of [] stack) (Ok placed)
+      → Leaves legal files (r.now ++ elab (frame_path top) ∷ [])
+      (path_shape files.trees (frame_path top)) later log (chain_of [] stack) (Ok placed)
       → f ≡ fault.Memory → Stops legal files events log f
   closed-breaks stack top placed meets loaded later log f r le k m =
       rw (elab-next stack top meets loaded log r le)
-      (breaks-now legal files (r.now ++ elab (path_of top) ∷ [])
+      (breaks-now legal files (r.now ++ elab (frame_path top) ∷ [])
       (todo files.trees i [] stack) later log (chain_of [] stack) f k.0 m)
 
   -- it is refused
-  pub running-refused : (stack : List LoadFrame) (top : LoadFrame) (meets : ℕ) (loaded : List Entry)
+  pub running-refused : (stack : List LoadFrame) (top : LoadFrame) (meets : ℕ)
+      (loaded : List LoadedEntry)
       (log : List ReadEntry) (f : RunFault) (r : Running meets stack top loaded log)
       → length top.tree.statements.items ≤ top.next
-      → Stops legal files (r.now ++ elab (path_of top) ∷ []) log f → Stops legal files events log f
+      → Stops legal files (r.now ++ elab (frame_path top) ∷ []) log f
+      → Stops legal files events log f
   running-refused stack top meets loaded log f r le h =
       rw (elab-next stack top meets loaded log r le)
-      (stops-more legal files (r.now ++ elab (path_of top) ∷ [])
+      (stops-more legal files (r.now ++ elab (frame_path top) ∷ [])
       (todo files.trees i [] stack) log f h)
 
   -- the lowest file is the input
   pub running-end : (stack : List LoadFrame) (top : LoadFrame) (placed : Placed) (meets : ℕ)
-      (loaded later : List Entry) (log : List ReadEntry) (r : Running meets stack top loaded log)
+      (loaded later : List LoadedEntry) (log : List ReadEntry)
+      (r : Running meets stack top loaded log)
       → stack ≡ [] → length top.tree.statements.items ≤ top.next
-      → Leaves legal files (r.now ++ elab (path_of top) ∷ [])
-      (file_shape files.trees (path_of top)) later log (chain_of [] stack) (Ok placed)
+      → Leaves legal files (r.now ++ elab (frame_path top) ∷ [])
+      (path_shape files.trees (frame_path top)) later log (chain_of [] stack) (Ok placed)
       → Good legal files events later log []
   running-end stack top placed meets loaded later log r empty le k =
-      let now : List Event = r.now ++ elab (path_of top) ∷ [] in
+      let now : List Event = r.now ++ elab (frame_path top) ∷ [] in
       let e : events ≡ now = elab-next stack top meets loaded log r le
       ∙ ap (λ z. keep now (todo files.trees i [] z)) empty in
       let g : Good legal files now later log [] =
@@ -515,18 +523,19 @@ module _ (legal : Legal) (files : Files) (kept events : List Event) (i : Text) (
       (ap (chain_of []) empty) k.0 in
       rw e g
 
-  pub counted-end : (top : LoadFrame) (meets : ℕ) (loaded : List Entry) (log : List ReadEntry)
+  pub counted-end : (top : LoadFrame) (meets : ℕ) (loaded : List LoadedEntry) (log : List ReadEntry)
       (r : Running meets [] top loaded log) → length top.tree.statements.items ≤ top.next
-      → meets + statements files.trees kept ≡ start + 1 + statements files.trees events
+      → meets + import_statements files.trees kept
+      ≡ start + 1 + import_statements files.trees events
   counted-end top meets loaded log r le =
-      let a = statements-append files.trees r.now (elab (path_of top) ∷ []) in
+      let a = statements-append files.trees r.now (elab (frame_path top) ∷ []) in
       let b = ap length (none-left top le) in
-      let e = ap (statements files.trees) (elab-next [] top meets loaded log r le) in
+      let e = ap (import_statements files.trees) (elab-next [] top meets loaded log r le) in
       omega (arith, a, b, e, r.count)
 
 -- the first file
 pub running-start : (legal : Legal) (files : Files) (kept : List Event) (i : Text) (a : Asked)
-    (p : Text) (start meets : ℕ) (outer : List Text) (frame : LoadFrame) (loaded : List Entry)
+    (p : Text) (start meets : ℕ) (outer : List Text) (frame : LoadFrame) (loaded : List LoadedEntry)
     (log after : List ReadEntry) → meets ≡ start + 1
     → IsNew legal files kept a [] p loaded after frame → IsOpened [] p loaded log outer after frame
     → IsRunning legal files kept (keep kept (walk files.trees i a 100 [] p)) i start meets

@@ -17,11 +17,11 @@ use Rattle.protobuf_parse.specs.declared.run.loader.LoadedFile.{LoadedFile}
 use Rattle.protobuf_parse.specs.declared.run.log.ReadEntry.{ReadEntry}
 use Rattle.protobuf_parse.specs.declared.run.log.ReadOutcome.{ReadOutcome}
 use Rattle.protobuf_parse.specs.Walks.{Asked, the_resolver, Event, cycle, long, load, elab, has}
-use Rattle.protobuf_parse.specs.Walks.{keep, among, import_paths, walk, Read, reads_in}
+use Rattle.protobuf_parse.specs.Walks.{keep, among, import_paths, walk, FileRead, reads_in}
 use Rattle.protobuf_parse.specs.Run.{Files, HasTrees, faults_in, IsTree, IsTheTree, text_given}
-use Rattle.protobuf_parse.specs.Run.{first_read, fails, Answers, StandsAt}
-use Rattle.protobuf_parse.specs.Loading.{Legal, Entry, paths_of, file_at, read_paths, Grows}
-use Rattle.protobuf_parse.specs.Loading.{Settled, file_shape, imports_shape, IsLoaded, Good, Halts}
+use Rattle.protobuf_parse.specs.Run.{first_read, fails, AreAnswered, StandsAtEvent}
+use Rattle.protobuf_parse.specs.Loading.{Legal, LoadedEntry, paths_of, file_at, read_paths, Grows}
+use Rattle.protobuf_parse.specs.Loading.{Settled, path_shape, imports_shape, IsLoaded, Good, Halts}
 use Rattle.protobuf_parse.specs.Loading.{Stops, OrMemory}
 use Rattle.protobuf_parse.proofs.Keeping.{never_both, false_true, some_same, none_some, text-true}
 use Rattle.protobuf_parse.proofs.Keeping.{text-same, cycle-same, long-same, or_left, bool_cases}
@@ -39,8 +39,8 @@ pub read_paths-append : (xs ys : List ReadEntry)
     → read_paths (xs ++ ys) ≡ read_paths xs ++ read_paths ys
 read_paths-append xs ys = map-append (λ (e : ReadEntry). path_buf_text e.path) xs ys
 
-pub paths_of-append : (xs ys : List Entry) → paths_of (xs ++ ys) ≡ paths_of xs ++ paths_of ys
-paths_of-append xs ys = map-append (λ (e : Entry). string_bytes e.0) xs ys
+pub paths_of-append : (xs ys : List LoadedEntry) → paths_of (xs ++ ys) ≡ paths_of xs ++ paths_of ys
+paths_of-append xs ys = map-append (λ (e : LoadedEntry). string_bytes e.0) xs ys
 
 first_read-new : (p : Text) (log more : List ReadEntry) (e : ReadEntry)
     → among p (read_paths log) ≡ false → path_buf_text e.path ≡ p
@@ -72,7 +72,7 @@ get-seam {A = A} xs ys x =
     longer [] = omega arith
     longer (z ∷ zs) = let h = longer zs in omega arith
 
-pub file-none : (p : Text) (loaded : List Entry) → file_at p loaded ≡ None
+pub file-none : (p : Text) (loaded : List LoadedEntry) → file_at p loaded ≡ None
     → among p (paths_of loaded) ≡ false
 file-none p [] h = refl
 file-none p (x ∷ loaded) h =
@@ -81,7 +81,7 @@ file-none p (x ∷ loaded) h =
       | inr w ↦ let z : file_at p loaded ≡ None = (rw w at h) in rw w (file-none p loaded z)
     ]
 
-pub none-file : (p : Text) (loaded : List Entry) → among p (paths_of loaded) ≡ false
+pub none-file : (p : Text) (loaded : List LoadedEntry) → among p (paths_of loaded) ≡ false
     → file_at p loaded ≡ None
 none-file p [] h = refl
 none-file p (x ∷ loaded) h =
@@ -91,7 +91,7 @@ none-file p (x ∷ loaded) h =
           rw w (none-file p loaded z)
     ]
 
-pub entry-in : (q : Text) (n : Entry) (e : LoadedFile) (loaded : List Entry)
+pub entry-in : (q : Text) (n : LoadedEntry) (e : LoadedFile) (loaded : List LoadedEntry)
     → file_at q (loaded ++ n ∷ []) ≡ Some e
     → (file_at q loaded ≡ Some e) ⊎ ((q ≡ string_bytes n.0) × (n.1 ≡ e))
 entry-in q n e [] h =
@@ -108,19 +108,21 @@ entry-in q n e (x ∷ loaded) h =
           rw w (entry-in q n e loaded z)
     ]
 
-all-push : (P : Entry → Type 0) (xs : List Entry) (y : Entry) → AllByRecursion P xs → P y
+all-push : (P : LoadedEntry → Type 0) (xs : List LoadedEntry) (y : LoadedEntry)
+    → AllByRecursion P xs → P y
     → AllByRecursion P (xs ++ y ∷ [])
 all-push P [] y a p = (p, tt)
 all-push P (x ∷ xs) y a p = (a.0, all-push P xs y a.1 p)
 
-pub all-into : (P Q : Entry → Type 0) → ((x : Entry) → P x → Q x) → (xs : List Entry)
+pub all-into : (P Q : LoadedEntry → Type 0) → ((x : LoadedEntry) → P x → Q x)
+    → (xs : List LoadedEntry)
     → AllByRecursion P xs → AllByRecursion Q xs
 all-into P Q f [] a = tt
 all-into P Q f (x ∷ xs) a = (f x a.0, all-into P Q f xs a.1)
 
-pub answers-more : (legal : Legal) (rs : List Read) (log : List ReadEntry) (r : Read)
-    (e : ReadEntry) → Answers legal rs log → path_buf_text e.path ≡ r.path
-    → legal r.asked r.path e.outcome → Answers legal (rs ++ r ∷ []) (log ++ e ∷ [])
+pub answers-more : (legal : Legal) (rs : List FileRead) (log : List ReadEntry) (r : FileRead)
+    (e : ReadEntry) → AreAnswered legal rs log → path_buf_text e.path ≡ r.path
+    → legal r.asked r.path e.outcome → AreAnswered legal (rs ++ r ∷ []) (log ++ e ∷ [])
 answers-more legal [] [] r e a is ok = (is, ok, tt)
 answers-more legal (x ∷ xs) (y ∷ ys) r e a is ok =
     (a.0, a.1, answers-more legal xs ys r e a.2 is ok)
@@ -139,7 +141,7 @@ pub has-asked : (a : Asked) (p : Text) (xs : List Event)
 has-asked a p xs = has-like (load the_resolver p) (load a p) xs (text-same p)
 
 module _ (legal : Legal) (files : Files) where
-  pub loaded-more : (log : List ReadEntry) (e : ReadEntry) (x : Entry)
+  pub loaded-more : (log : List ReadEntry) (e : ReadEntry) (x : LoadedEntry)
       → IsLoaded files log (string_bytes x.0) x.1
       → IsLoaded files (log ++ e ∷ []) (string_bytes x.0) x.1
   loaded-more log e x l = record {
@@ -153,9 +155,9 @@ module _ (legal : Legal) (files : Files) where
     first = l.first;
   }
 
-  pub loaded-at : (p : Text) (e : LoadedFile) (log : List ReadEntry) (loaded : List Entry)
+  pub loaded-at : (p : Text) (e : LoadedFile) (log : List ReadEntry) (loaded : List LoadedEntry)
       → file_at p loaded ≡ Some e
-      → AllByRecursion (λ (x : Entry). IsLoaded files log (string_bytes x.0) x.1) loaded
+      → AllByRecursion (λ (x : LoadedEntry). IsLoaded files log (string_bytes x.0) x.1) loaded
       → IsLoaded files log p e
   loaded-at p e log [] h a = absurd (none_some e h)
   loaded-at p e log (x ∷ loaded) h a =
@@ -166,7 +168,8 @@ module _ (legal : Legal) (files : Files) where
       ]
 
   -- a file that is neither on the chain nor loaded was not read
-  unread : (kept : List Event) (loaded : List Entry) (log : List ReadEntry) (chain : List Text)
+  unread : (kept : List Event) (loaded : List LoadedEntry) (log : List ReadEntry)
+      (chain : List Text)
       (p : Text) → Good legal files kept loaded log chain → among p chain ≡ false
       → file_at p loaded ≡ None → (has (load the_resolver p) kept ≡ false)
       × (has (elab p) kept ≡ false) × (among p (read_paths log) ≡ false)
@@ -186,13 +189,13 @@ module _ (legal : Legal) (files : Files) where
       rw (g.1, append_assoc log (e ∷ []) g.0) (first_read-new p log g.0 e n is)
 
   -- a file that is neither on the chain nor loaded is read
-  pub fresh-load : (kept : List Event) (loaded : List Entry) (log : List ReadEntry)
+  pub fresh-load : (kept : List Event) (loaded : List LoadedEntry) (log : List ReadEntry)
       (chain : List Text) (a : Asked) (p : Text) → Good legal files kept loaded log chain
       → among p chain ≡ false → file_at p loaded ≡ None → has (load a p) kept ≡ false
   fresh-load kept loaded log chain a p g off none = has-asked a p kept
       ∙ (unread kept loaded log chain p g off none).0
 
-  pub good-load : (kept : List Event) (loaded : List Entry) (log : List ReadEntry)
+  pub good-load : (kept : List Event) (loaded : List LoadedEntry) (log : List ReadEntry)
       (chain : List Text) (a : Asked) (p : Text) (e : ReadEntry) (t : FileSyntax)
       → Good legal files kept loaded log chain → among p chain ≡ false → file_at p loaded ≡ None
       → path_buf_text e.path ≡ p → legal a p e.outcome → files.trees p ≡ Some t
@@ -232,18 +235,18 @@ module _ (legal : Legal) (files : Files) where
       }
 
   -- a file whose imports are loaded is elaborated
-  pub good-elab : (kept : List Event) (loaded : List Entry) (log : List ReadEntry)
-      (chain : List Text) (p : Text) (t : FileSyntax) (h : ℕ) (n : Entry)
+  pub good-elab : (kept : List Event) (loaded : List LoadedEntry) (log : List ReadEntry)
+      (chain : List Text) (p : Text) (t : FileSyntax) (h : ℕ) (n : LoadedEntry)
       → Good legal files kept loaded log (chain ++ p ∷ []) → among p chain ≡ false
       → has (load the_resolver p) kept ≡ true → files.trees p ≡ Some t
       → faults_in files p (Some t) ≡ []
       → Settled kept h (imports_shape files.trees (import_paths t)) → string_bytes n.0 ≡ p
       → n.1.height ≡ suc h → IsLoaded files log p n.1
       → Good legal files (kept ++ elab p ∷ []) (loaded ++ n ∷ []) log chain
-      × Settled (kept ++ elab p ∷ []) (suc h) (file_shape files.trees p)
+      × Settled (kept ++ elab p ∷ []) (suc h) (path_shape files.trees p)
   good-elab kept loaded log chain p t h n g off read is faultless s named tall m =
       let e : has (elab p) kept ≡ false = g.apart p (among-last p chain) in
-      let set : Settled (kept ++ elab p ∷ []) (suc h) (file_shape files.trees p) =
+      let set : Settled (kept ++ elab p ∷ []) (suc h) (path_shape files.trees p) =
       settled-file files.trees kept p t h is s e read in (
         record {
           answers = rw (reads_in-append kept (elab p ∷ []), append-nil) g.answers;
@@ -280,7 +283,7 @@ module _ (legal : Legal) (files : Files) where
   -- ** where a run stops
 
   -- memory runs out
-  pub breaks-now : (kept more : List Event) (loaded : List Entry) (log : List ReadEntry)
+  pub breaks-now : (kept more : List Event) (loaded : List LoadedEntry) (log : List ReadEntry)
       (chain : List Text) (f : RunFault) → Good legal files kept loaded log chain → f ≡ fault.Memory
       → Stops legal files (keep kept more) log f
   breaks-now kept more loaded log chain f g m =
@@ -295,10 +298,10 @@ module _ (legal : Legal) (files : Files) where
             g.answers;
       })
 
-  pub halts-at : (kept : List Event) (loaded : List Entry) (log : List ReadEntry)
+  pub halts-at : (kept : List Event) (loaded : List LoadedEntry) (log : List ReadEntry)
       (chain : List Text) (events : List Event) (e : Event) (f : RunFault)
       → Good legal files kept loaded log chain → fails files e ≡ true → reads_in (e ∷ []) ≡ []
-      → events ≡ kept ++ e ∷ [] → StandsAt files e f → Halts legal files events log f
+      → events ≡ kept ++ e ∷ [] → StandsAtEvent files e f → Halts legal files events log f
   halts-at kept loaded log chain events e f g bad n is s = record {
     before = kept;
     event = e;
@@ -310,10 +313,10 @@ module _ (legal : Legal) (files : Files) where
     stands = s;
   }
 
-  pub stops-cycle : (kept : List Event) (loaded : List Entry) (log : List ReadEntry)
+  pub stops-cycle : (kept : List Event) (loaded : List LoadedEntry) (log : List ReadEntry)
       (chain : List Text) (i : Text) (a : Asked) (room : ℕ) (p : Text) (f : RunFault)
       → Good legal files kept loaded log chain → among p chain ≡ true
-      → OrMemory f (StandsAt files (cycle p) f)
+      → OrMemory f (StandsAtEvent files (cycle p) f)
       → Stops legal files (keep kept (walk files.trees i a room chain p)) log f
   stops-cycle kept loaded log chain i a room p f g on (inl s) =
       inl (halts-at kept loaded log chain _ (cycle p) f g refl refl
@@ -323,10 +326,10 @@ module _ (legal : Legal) (files : Files) where
   stops-cycle kept loaded log chain i a room p f g on (inr m) =
       breaks-now kept (walk files.trees i a room chain p) loaded log chain f g m
 
-  pub stops-no_room : (kept : List Event) (loaded : List Entry) (log : List ReadEntry)
+  pub stops-no_room : (kept : List Event) (loaded : List LoadedEntry) (log : List ReadEntry)
       (chain : List Text) (i : Text) (a : Asked) (p : Text) (f : RunFault)
       → Good legal files kept loaded log chain → among p chain ≡ false
-      → OrMemory f (StandsAt files (long i) f)
+      → OrMemory f (StandsAtEvent files (long i) f)
       → Stops legal files (keep kept (walk files.trees i a 0 chain p)) log f
   stops-no_room kept loaded log chain i a p f g off (inl s) =
       inl (halts-at kept loaded log chain _ (long i) f g refl refl
@@ -337,10 +340,10 @@ module _ (legal : Legal) (files : Files) where
       breaks-now kept (walk files.trees i a 0 chain p) loaded log chain f g m
 
   -- a loaded file that is too tall for the chain
-  pub stops-tall : (kept : List Event) (loaded : List Entry) (log : List ReadEntry)
+  pub stops-tall : (kept : List Event) (loaded : List LoadedEntry) (log : List ReadEntry)
       (chain : List Text) (i : Text) (a : Asked) (room : ℕ) (p : Text) (e : LoadedFile)
       (f : RunFault) → Good legal files kept loaded log chain → file_at p loaded ≡ Some e
-      → room < e.height → OrMemory f (StandsAt files (long i) f)
+      → room < e.height → OrMemory f (StandsAtEvent files (long i) f)
       → Stops legal files (keep kept (walk files.trees i a room chain p)) log f
   stops-tall kept loaded log chain i a room p e f g w lt (inl stands) =
       let s = g.settled p e w in
@@ -355,7 +358,7 @@ module _ (legal : Legal) (files : Files) where
       breaks-now kept (walk files.trees i a room chain p) loaded log chain f g m
 
   -- a loaded file that is not adds nothing
-  pub loaded-again : (kept : List Event) (loaded : List Entry) (log : List ReadEntry)
+  pub loaded-again : (kept : List Event) (loaded : List LoadedEntry) (log : List ReadEntry)
       (chain : List Text) (i : Text) (a : Asked) (room : ℕ) (p : Text) (e : LoadedFile)
       → Good legal files kept loaded log chain → file_at p loaded ≡ Some e → e.height ≤ room
       → keep kept (walk files.trees i a room chain p) ≡ kept
@@ -372,11 +375,11 @@ module _ (legal : Legal) (files : Files) where
             (subst (λ (d : Event). has d (walk files.trees i a room chain p) ≡ true) y v) t)
       ])
 
-  pub halts-load : (kept : List Event) (loaded : List Entry) (log : List ReadEntry)
+  pub halts-load : (kept : List Event) (loaded : List LoadedEntry) (log : List ReadEntry)
       (chain : List Text) (i : Text) (a : Asked) (room : ℕ) (p : Text) (e : ReadEntry)
       (f : RunFault) → Good legal files kept loaded log chain → among p chain ≡ false
       → file_at p loaded ≡ None → path_buf_text e.path ≡ p → legal a p e.outcome
-      → files.trees p ≡ None → StandsAt files (load a p) f
+      → files.trees p ≡ None → StandsAtEvent files (load a p) f
       → Halts legal files (keep kept (walk files.trees i a (suc room) chain p)) (log ++ e ∷ []) f
   halts-load kept loaded log chain i a room p e f g off none named ok is s =
       let u = unread kept loaded log chain p g off none in
@@ -395,7 +398,7 @@ module _ (legal : Legal) (files : Files) where
         stands = s;
       }
 
-  pub unread-first : (kept : List Event) (loaded : List Entry) (log : List ReadEntry)
+  pub unread-first : (kept : List Event) (loaded : List LoadedEntry) (log : List ReadEntry)
       (chain : List Text) (p : Text) (e : ReadEntry) → Good legal files kept loaded log chain
       → among p chain ≡ false → file_at p loaded ≡ None → path_buf_text e.path ≡ p
       → Grows (log ++ e ∷ []) files.reads → first_read p files.reads ≡ Some e.outcome
@@ -428,7 +431,7 @@ module _ (legal : Legal) (files : Files) where
       })
 
   -- the tree that was read is that of the path
-  pub tree-read : (kept : List Event) (loaded : List Entry) (log : List ReadEntry)
+  pub tree-read : (kept : List Event) (loaded : List LoadedEntry) (log : List ReadEntry)
       (chain : List Text) (p : Text) (e : ReadEntry) (t : Option FileSyntax)
       → Good legal files kept loaded log chain → among p chain ≡ false → file_at p loaded ≡ None
       → HasTrees files.bundled files.reads files.trees → Grows (log ++ e ∷ []) files.reads

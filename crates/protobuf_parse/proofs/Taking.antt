@@ -17,11 +17,12 @@ use Rattle.protobuf_parse.specs.declared.run.frame.LoadFrame.{LoadFrame}
 use Rattle.protobuf_parse.specs.declared.run.loader.Placed.{Placed}
 use Rattle.protobuf_parse.specs.declared.run.log.ReadEntry.{ReadEntry}
 use Rattle.protobuf_parse.specs.Walks.{among, import_paths, public_path, public_paths}
-use Rattle.protobuf_parse.specs.Loading.{AreKnown, AreNumbered, AreUnloaded, Entry, Grows}
+use Rattle.protobuf_parse.specs.Loading.{AreKnown, FilesAreNumbered, AreUnloaded, LoadedEntry}
+use Rattle.protobuf_parse.specs.Loading.{Grows}
 use Rattle.protobuf_parse.specs.Loading.{IsNumbered, MoreLoaded, Named, SettlesOver, file_at}
 use Rattle.protobuf_parse.specs.Loading.{named_trees, read_paths}
 use Rattle.protobuf_parse.specs.Frames.{IsOpened, IsTaken, Joined, done_in, imports_in}
-use Rattle.protobuf_parse.specs.Frames.{is_public_at, number_if, path_of, public_done, public_in}
+use Rattle.protobuf_parse.specs.Frames.{is_public_at, number_if, frame_path, public_done, public_in}
 use Rattle.protobuf_parse.proofs.Keeping.{among-in, among-left, among-last}
 use Rattle.protobuf_parse.proofs.Knowing.{known-push, met-push, read-since, unloaded-push}
 use Rattle.protobuf_parse.proofs.Numbers.{are-append, are-more, name_of}
@@ -39,30 +40,33 @@ public-all f le = ap public_in (take_all f.next f.tree.statements.items le)
 
 -- the number of an import, if it is public
 public-one : (files : List Named) (b : Bool) (n : ℕ) (p : Text) → IsNumbered files n p
-    → AreNumbered files (number_if b n) (if b then p ∷ [] else [])
+    → FilesAreNumbered files (number_if b n) (if b then p ∷ [] else [])
 public-one files true n p h = (h, tt)
 public-one files false n p h = tt
 
 -- more was loaded and read
-pub taken-more : (loaded new : List Entry) (log after : List ReadEntry) (f : LoadFrame)
+pub taken-more : (loaded new : List LoadedEntry) (log after : List ReadEntry) (f : LoadFrame)
     → MoreLoaded loaded new → Grows log after → IsTaken loaded log f → IsTaken new after f
 taken-more loaded new log after f more grows t =
     let longer : named_trees new ≡ named_trees loaded ++ named_trees more.0 = ap named_trees more.1
     ∙ map-append name_of loaded more.0 in
     record {
-      numbered = subst (λ (z : List Named). AreNumbered z f.below.items (done_in f)) (sym longer)
+      numbered = subst (λ (z : List Named). FilesAreNumbered z f.below.items (done_in f))
+          (sym longer)
           (are-more (named_trees loaded) (named_trees more.0) f.below.items (done_in f) t.numbered);
-      public = subst (λ (z : List Named). AreNumbered z f.public.items (public_done f)) (sym longer)
+      public = subst (λ (z : List Named). FilesAreNumbered z f.public.items (public_done f))
+          (sym longer)
           (are-more (named_trees loaded) (named_trees more.0) f.public.items
           (public_done f) t.public);
-      read = ap (λ z. among (path_of f) (read_paths z)) grows.1
-          ∙ (ap (among (path_of f))
+      read = ap (λ z. among (frame_path f) (read_paths z)) grows.1
+          ∙ (ap (among (frame_path f))
           (map-append (λ (e : ReadEntry). path_buf_text e.path) log grows.0)
-          ∙ among-left (path_of f) (read_paths log) (read_paths grows.0) t.read);
+          ∙ among-left (frame_path f) (read_paths log) (read_paths grows.0) t.read);
       few = t.few;
     }
 
-pub all_taken-more : (loaded new : List Entry) (log after : List ReadEntry) (fs : List LoadFrame)
+pub all_taken-more : (loaded new : List LoadedEntry) (log after : List ReadEntry)
+    (fs : List LoadFrame)
     → MoreLoaded loaded new → Grows log after → AllByRecursion (IsTaken loaded log) fs
     → AllByRecursion (IsTaken new after) fs
 all_taken-more loaded new log after fs more grows a =
@@ -70,7 +74,7 @@ all_taken-more loaded new log after fs more grows a =
     (λ f t. taken-more loaded new log after f more grows t) fs a
 
 -- the next import is loaded
-pub taken-joined : (loaded : List Entry) (log : List ReadEntry) (old new : LoadFrame)
+pub taken-joined : (loaded : List LoadedEntry) (log : List ReadEntry) (old new : LoadFrame)
     (placed : Placed) (i : Import) (q : Text) → IsTaken loaded log old
     → slice_get old.tree.statements.items old.next ≡ Some (file_statement.Import i)
     → path_buf_text i.path ≡ q → IsNumbered (named_trees loaded) placed.number q
@@ -108,7 +112,7 @@ taken-joined loaded log old new placed i q t at named number j =
     }
 
 -- the next statement is no import
-pub taken-other : (loaded : List Entry) (log : List ReadEntry) (old new : LoadFrame)
+pub taken-other : (loaded : List LoadedEntry) (log : List ReadEntry) (old new : LoadFrame)
     (x : FileStatement) → IsTaken loaded log old
     → slice_get old.tree.statements.items old.next ≡ Some x
     → ((i : Import) → x ≡ file_statement.Import i → ⊥) → new ≡ record old { next = suc old.next }
@@ -128,7 +132,8 @@ taken-other loaded log old new x t at other is =
 
 -- ** files that aren't loaded
 
-pub unloaded-enter : (chain : List Text) (loaded : List Entry) (q : Text) → AreUnloaded chain loaded
+pub unloaded-enter : (chain : List Text) (loaded : List LoadedEntry) (q : Text)
+    → AreUnloaded chain loaded
     → file_at q loaded ≡ None → AreUnloaded (chain ++ q ∷ []) loaded
 unloaded-enter chain loaded q u none p on =
     elim (among-in p q chain on) [
@@ -136,12 +141,12 @@ unloaded-enter chain loaded q u none p on =
       | inr w ↦ subst (λ (z : Text). file_at z loaded ≡ None) (sym w) none
     ]
 
-pub unloaded-first : (loaded : List Entry) (q : Text) → file_at q loaded ≡ None
+pub unloaded-first : (loaded : List LoadedEntry) (q : Text) → file_at q loaded ≡ None
     → AreUnloaded (q ∷ []) loaded
 unloaded-first loaded q none = unloaded-enter [] loaded q (λ p on. cc) none
 
 -- a file that was opened
-pub taken-new : (chain after : List Text) (path : Text) (loaded : List Entry)
+pub taken-new : (chain after : List Text) (path : Text) (loaded : List LoadedEntry)
     (old new : List ReadEntry) (f : LoadFrame) → IsOpened chain path loaded old after new f
     → IsTaken loaded new f
 taken-new chain after path loaded old new f o = record {
@@ -153,40 +158,42 @@ taken-new chain after path loaded old new f o = record {
 }
 
 -- what there is when a file was closed
-pub record IsClosed (old new : List Entry) (tables : Tables) (log : List ReadEntry)
+pub record IsClosed (old new : List LoadedEntry) (tables : Tables) (log : List ReadEntry)
     (chain : List Text) (path : Text) (placed : Placed) : Type 0 where
   pub known : AreKnown new tables log
   pub more : MoreLoaded old new
   pub number : IsNumbered (named_trees new) placed.number path
   pub unloaded : AreUnloaded chain new
 
-pub closed-is : (f : LoadFrame) (old new : List Entry) (before after : Tables)
+pub closed-is : (f : LoadFrame) (old new : List LoadedEntry) (before after : Tables)
     (log : List ReadEntry) (chain : List Text) (placed : Placed) → AreKnown old before log
-    → IsTaken old log f → AreUnloaded (chain ++ path_of f ∷ []) old
-    → among (path_of f) chain ≡ false → length f.tree.statements.items ≤ f.next
-    → SettlesOver (path_of f) (file_view f.tree)
+    → IsTaken old log f → AreUnloaded (chain ++ frame_path f ∷ []) old
+    → among (frame_path f) chain ≡ false → length f.tree.statements.items ≤ f.next
+    → SettlesOver (frame_path f) (file_view f.tree)
     (f.height + 1) f.read f.below.items f.public.items log old new after (Ok placed)
-    → IsClosed old new after log chain (path_of f) placed
+    → IsClosed old new after log chain (frame_path f) placed
 closed-is f old new before after log chain placed known taken unloaded off le settles =
-    let none = unloaded (path_of f) (among-last (path_of f) chain) in
+    let none = unloaded (frame_path f) (among-last (frame_path f) chain) in
     let a = settles none in
-    let numbered : AreNumbered (named_trees old) f.below.items (import_paths (file_view f.tree)) =
-    subst (λ (z : List Text). AreNumbered (named_trees old) f.below.items z)
+    let numbered : FilesAreNumbered (named_trees old) f.below.items
+    (import_paths (file_view f.tree)) =
+    subst (λ (z : List Text). FilesAreNumbered (named_trees old) f.below.items z)
     (done-all f le) taken.numbered in
-    let publicly : AreNumbered (named_trees old) f.public.items (public_paths (file_view f.tree)) =
-    subst (λ (z : List Text). AreNumbered (named_trees old) f.public.items z)
+    let publicly : FilesAreNumbered (named_trees old) f.public.items
+    (public_paths (file_view f.tree)) =
+    subst (λ (z : List Text). FilesAreNumbered (named_trees old) f.public.items z)
     (public-all f le) taken.public in
     let front : AreUnloaded chain old = λ p on. unloaded p
-    (among-left p chain (path_of f ∷ []) on) in
+    (among-left p chain (frame_path f ∷ []) on) in
     record {
-      known = known-push (path_of f) (file_view f.tree)
+      known = known-push (frame_path f) (file_view f.tree)
           (f.height + 1) f.read f.below.items f.public.items old new before after log placed known
           taken.read numbered publicly none a;
       more = ((a.key, a.file) ∷ [], a.entries);
       number =
-          (met-push (path_of f) (file_view f.tree)
+          (met-push (frame_path f) (file_view f.tree)
           (f.height + 1) f.read f.below.items f.public.items old new before after log placed known
           taken.read numbered publicly none a).number;
       unloaded =
-          rw a.entries (unloaded-push chain old (a.key, a.file) (path_of f) front a.named off);
+          rw a.entries (unloaded-push chain old (a.key, a.file) (frame_path f) front a.named off);
     }

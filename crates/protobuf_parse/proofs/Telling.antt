@@ -14,10 +14,10 @@ use Rattle.protobuf_parse.specs.declared.run.log.ReadEntry.{ReadEntry}
 use Rattle.protobuf_parse.specs.declared.run.log.ReadOutcome.{ReadOutcome}
 use Rattle.protobuf_parse.specs.Walks.{the_resolver, Event, Input, named, events, until}
 use Rattle.protobuf_parse.specs.Run.{Files, AreDescriptors, HasTrees, IsAccepted, IsCaused}
-use Rattle.protobuf_parse.specs.Run.{IsRefused, IsBroken, MayRead, MayResolve, fails, shipped}
+use Rattle.protobuf_parse.specs.Run.{RunIsRefused, IsBroken, MayRead, MayResolve, fails, shipped}
 use Rattle.protobuf_parse.specs.Run.{HaveTrees, RunsAsTold, MayAnswer}
 use Rattle.protobuf_parse.specs.Shipped.{IsNeverAsked, RunsByResolver, RunsWithShipped}
-use Rattle.protobuf_parse.specs.Loading.{Legal, Entry, Good, Stops, IsLoaded, paths_of}
+use Rattle.protobuf_parse.specs.Loading.{Legal, LoadedEntry, Good, Stops, IsLoaded, paths_of}
 use Rattle.protobuf_parse_base.specs.PathViews.{path_buf_text}
 use Rattle.protobuf_parse_base.specs.declared.proto_path.path.ProtoPathBuf.{ProtoPathBuf}
 use Rattle.protobuf_parse.proofs.Asking.{all-asked-once, paths-named, told-of}
@@ -47,23 +47,23 @@ until-after test (x ∷ xs) ys h =
           rw w (ap (λ r. x ∷ r) (until-after test xs ys z))
     ]
 
-pub values-descriptors : (es : List Entry)
-    → map (λ (f : LoadedFile). f.descriptor) (map (λ (e : Entry). e.1) es)
-    ≡ map (λ (e : Entry). e.1.descriptor) es
+pub values-descriptors : (es : List LoadedEntry)
+    → map (λ (f : LoadedFile). f.descriptor) (map (λ (e : LoadedEntry). e.1) es)
+    ≡ map (λ (e : LoadedEntry). e.1.descriptor) es
 values-descriptors [] = refl
 values-descriptors (e ∷ es) = ap (λ z. e.1.descriptor ∷ z) (values-descriptors es)
 
 module _ (legal : Legal) (files : Files) (told : List Event) where
-  are-descriptors : (log : List ReadEntry) (loaded : List Entry)
-      → AllByRecursion (λ (e : Entry). IsLoaded files log (string_bytes e.0) e.1) loaded
-      → AreDescriptors files (paths_of loaded) (map (λ (e : Entry). e.1.descriptor) loaded)
+  are-descriptors : (log : List ReadEntry) (loaded : List LoadedEntry)
+      → AllByRecursion (λ (e : LoadedEntry). IsLoaded files log (string_bytes e.0) e.1) loaded
+      → AreDescriptors files (paths_of loaded) (map (λ (e : LoadedEntry). e.1.descriptor) loaded)
   are-descriptors log [] h = tt
   are-descriptors log (e ∷ loaded) h =
       ((file_view e.1.tree, h.0.is, h.0.descriptor), are-descriptors log loaded h.1)
 
-  pub accepted : (loaded : List Entry) (ds : List FileDescriptorProto)
+  pub accepted : (loaded : List LoadedEntry) (ds : List FileDescriptorProto)
       → Good legal files told loaded files.reads []
-      → ds ≡ map (λ (e : Entry). e.1.descriptor) loaded → IsAccepted legal files told ds
+      → ds ≡ map (λ (e : LoadedEntry). e.1.descriptor) loaded → IsAccepted legal files told ds
   accepted loaded ds g is = record {
     none_fails = g.clean;
     reads = g.answers;
@@ -71,7 +71,8 @@ module _ (legal : Legal) (files : Files) (told : List Event) where
   }
 
   -- memory runs out once all is loaded
-  pub broken : (loaded : List Entry) (f : RunFault) → Good legal files told loaded files.reads []
+  pub broken : (loaded : List LoadedEntry) (f : RunFault)
+      → Good legal files told loaded files.reads []
       → f ≡ fault.Memory → IsBroken legal files told f
   broken loaded f g m = record {
     memory = m;
@@ -83,7 +84,7 @@ module _ (legal : Legal) (files : Files) (told : List Event) where
   }
 
   pub stopped : (f : RunFault) → Stops legal files told files.reads f
-      → IsRefused legal files told f ⊎ IsBroken legal files told f
+      → RunIsRefused legal files told f ⊎ IsBroken legal files told f
   stopped f (inl h) = inl (record {
     event = h.event;
     first = rw h.split (find-after (fails files) h.before h.after h.event h.clean h.failing);

@@ -5,9 +5,12 @@ use Rattle.std.proofs.Common.{nat_lt}
 use Rattle.std.proofs.lemmas.Bool.Decides.{nat_tests}
 use Rattle.protobuf_parse_syntax.specs.Trees.{FileSyntax}
 use Rattle.protobuf_parse_model.specs.Descriptors.{Text}
-use Rattle.protobuf_parse.specs.Walks.{Asked, the_resolver, Event, cycle, long, load, elab, same}
-use Rattle.protobuf_parse.specs.Walks.{has, among, Trees, import_paths, joined, inside, walk}
-use Rattle.protobuf_parse.specs.Loading.{Within, Apart, Settled, Shape, file_shape, imports_shape}
+use Rattle.protobuf_parse.specs.Walks.{Asked, the_resolver, Event, cycle, long, load, elab}
+use Rattle.protobuf_parse.specs.Walks.{same_event}
+use Rattle.protobuf_parse.specs.Walks.{has, among, Trees, import_paths, walks_joined, events_inside}
+use Rattle.protobuf_parse.specs.Walks.{walk}
+use Rattle.protobuf_parse.specs.Loading.{Within, Apart, Settled, WalkShape, path_shape}
+use Rattle.protobuf_parse.specs.Loading.{imports_shape}
 use Rattle.protobuf_parse.proofs.Keeping.{text-same, or_cases, not_true, has-append, has-in}
 use Rattle.protobuf_parse.proofs.Keeping.{has-left, has-right, has-one-long, has-last, has-like}
 use Rattle.protobuf_parse.proofs.Keeping.{among-in, Apart-within}
@@ -26,15 +29,15 @@ walk-no_room trees i a chain p h = rw h refl
 
 pub walk-load : (trees : Trees) (i : Text) (a : Asked) (room : ℕ) (chain : List Text) (p : Text)
     → among p chain ≡ false → walk trees i a (suc room) chain p ≡ load a p
-    ∷ inside (trees p) (walk trees i the_resolver room (chain ++ p ∷ [])) p
+    ∷ events_inside (trees p) (walk trees i the_resolver room (chain ++ p ∷ [])) p
 unfolding walk
 walk-load trees i a room chain p h = rw h refl
 
 pub joined-append : (f : Text → List Event) (xs ys : List Text)
-    → joined f (xs ++ ys) ≡ joined f xs ++ joined f ys
+    → walks_joined f (xs ++ ys) ≡ walks_joined f xs ++ walks_joined f ys
 joined-append f [] ys = refl
 joined-append f (x ∷ xs) ys = ap (λ z. f x ++ z) (joined-append f xs ys)
-    ∙ sym (append_assoc (f x) (joined f xs) (joined f ys))
+    ∙ sym (append_assoc (f x) (walks_joined f xs) (walks_joined f ys))
 
 -- ** settled walks
 
@@ -56,7 +59,7 @@ lt_no r h le = grind (arith, nat_tests)
 lt_max : (r m h : ℕ) → (nat_lt r m || nat_lt r h) ≡ nat_lt r (max m h)
 lt_max r m h = grind (arith, nat_tests)
 
-pub settled-join : (kept more : List Event) (m h : ℕ) (f g : Shape) → Settled kept m f
+pub settled-join : (kept more : List Event) (m h : ℕ) (f g : WalkShape) → Settled kept m f
     → Settled more h g → Within kept more
     → Settled more (max m h) (λ i a room c. f i a room c ++ g i a room c)
 settled-join kept more m h f g s t w = record {
@@ -82,7 +85,7 @@ settled-join kept more m h f g s t w = record {
       has-append (long i) (f i b room c) (g i b room c) ∙ (rw (x, y) (lt_max room m h));
 }
 
-pub settled-more : (kept more : List Event) (h : ℕ) (f : Shape) → Settled kept h f
+pub settled-more : (kept more : List Event) (h : ℕ) (f : WalkShape) → Settled kept h f
     → Within kept more → Settled more h f
 settled-more kept more h f s w = record {
   before = s.before;
@@ -91,7 +94,7 @@ settled-more kept more h f s w = record {
   tall = s.tall;
 }
 
-pub settled-same : (kept : List Event) (h : ℕ) (f g : Shape)
+pub settled-same : (kept : List Event) (h : ℕ) (f g : WalkShape)
     → ((i : Text) (a : Asked) (room : ℕ) (c : List Text) → g i a room c ≡ f i a room c)
     → Settled kept h f → Settled kept h g
 settled-same kept h f g alike s = record {
@@ -118,7 +121,8 @@ module _ (trees : Trees) (kept : List Event) (p : Text) (t : FileSyntax) (h : �
   walk-opened : (i : Text) (b : Asked) (room : ℕ) (c : List Text)
       → Apart (s.before ++ elab p ∷ []) c
       → walk trees i b (suc room) c p ≡ load b p
-      ∷ (joined (walk trees i the_resolver room (c ++ p ∷ [])) (import_paths t) ++ elab p ∷ [])
+      ∷ (walks_joined (walk trees i the_resolver room (c ++ p ∷ [])) (import_paths t)
+      ++ elab p ∷ [])
   walk-opened i b room c a = walk-load trees i b room c p (off_chain c a) ∙ (rw is refl)
 
   file_only : (i : Text) (b : Asked) (room : ℕ) (c : List Text) → Apart (s.before ++ elab p ∷ []) c
@@ -128,12 +132,12 @@ module _ (trees : Trees) (kept : List Event) (p : Text) (t : FileSyntax) (h : �
       inr (has-one-long e i (rw (walk-no_room trees i b c p (off_chain c a)) at v))
   file_only i b (suc room) c a e v =
       let u = (rw (walk-opened i b room c a) at v) in
-      elim (or_cases (same e (load b p)) _ u) [
+      elim (or_cases (same_event e (load b p)) _ u) [
         | inl x ↦ inl
             (has-left e kept (elab p ∷ [])
             (sym (has-like e (load the_resolver p) kept (same-asked e b x)) ∙ loaded))
         | inr x ↦ elim
-            (has-in e (joined (walk trees i the_resolver room (c ++ p ∷ [])) (import_paths t))
+            (has-in e (walks_joined (walk trees i the_resolver room (c ++ p ∷ [])) (import_paths t))
             (elab p ∷ []) x) [
               | inl y ↦ elim (s.only i b room (c ++ p ∷ []) (below_apart c a) e y)
                   [ inl z ↦ inl (has-left e kept (elab p ∷ []) z) | inr z ↦ inr z ]
@@ -141,8 +145,8 @@ module _ (trees : Trees) (kept : List Event) (p : Text) (t : FileSyntax) (h : �
             ]
       ]
     where
-      same-asked : (e : Event) (b : Asked) → same e (load b p) ≡ true
-          → same e (load the_resolver p) ≡ true
+      same-asked : (e : Event) (b : Asked) → same_event e (load b p) ≡ true
+          → same_event e (load the_resolver p) ≡ true
       same-asked (load c q) b h = h
       same-asked _ b h = cc
 
@@ -155,11 +159,12 @@ module _ (trees : Trees) (kept : List Event) (p : Text) (t : FileSyntax) (h : �
       rw (walk-opened i b room c a)
       (rw (
         has-append (long i)
-            (joined (walk trees i the_resolver room (c ++ p ∷ [])) (import_paths t)) (elab p ∷ []),
+            (walks_joined (walk trees i the_resolver room (c ++ p ∷ [])) (import_paths t))
+            (elab p ∷ []),
         x,
       ) (grind (arith, nat_tests)))
 
-  pub settled-file : Settled (kept ++ elab p ∷ []) (suc h) (file_shape trees p)
+  pub settled-file : Settled (kept ++ elab p ∷ []) (suc h) (path_shape trees p)
   settled-file = record {
     before = s.before ++ elab p ∷ [];
     within = λ e v. elim (has-in e s.before (elab p ∷ []) v) [

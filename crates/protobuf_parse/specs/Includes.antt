@@ -63,12 +63,12 @@ naming_of includes input = naming_of_rest (left_of includes input)
 abbrev pub part_views : List (Bor (List ℕ)) → List Text
 part_views parts = map (λ (p : Bor (List ℕ)). p.now) parts
 
-abbrev pub rest_view : Option (Bor (List (Bor (List ℕ)))) → Option (List Text)
-rest_view rest = option_map (λ (r : Bor (List (Bor (List ℕ)))). part_views r.now) rest
+abbrev pub rest_parts_view : Option (Bor (List (Bor (List ℕ)))) → Option (List Text)
+rest_parts_view rest = option_map (λ (r : Bor (List (Bor (List ℕ)))). part_views r.now) rest
 
 -- a part behind another
-abbrev pub next_part : Text → Text
-next_part part = 47 ∷ part
+abbrev pub part_behind : Text → Text
+part_behind part = 47 ∷ part
 
 -- ---- as faults list includes: `["a", "b"]`, each as it was given
 

@@ -11,8 +11,8 @@ use Rattle.protobuf_parse_model.specs.Descriptors.{Text}
 use Rattle.protobuf_parse_model.specs.OptionNumbers.{Numbers, AreNumbered, in_order}
 use Rattle.protobuf_parse_model.specs.OptionNumbers.{optimize_mode_numbers, c_type_numbers}
 use Rattle.protobuf_parse_model.specs.OptionNumbers.{js_type_numbers, idempotency_level_numbers}
-use Rattle.protobuf_parse_model.specs.OptionTables.{names_in}
-use Rattle.protobuf_parse.specs.Listing.{Setting, quoted, truth_word, setting_lines, custom_line}
+use Rattle.protobuf_parse_model.specs.OptionTables.{option_names_in}
+use Rattle.protobuf_parse.specs.Listing.{Setting, quoted, listed_truth, setting_lines, custom_line}
 
 -- the name that a constant is, where it is one of these
 abbrev pub word_among : List Text → ConstantSyntax → Option Text
@@ -22,7 +22,7 @@ word_among words _ = None
 -- the words of what a constant says to an option of the kind
 abbrev pub words_said : BuiltinKind → Option ConstantSyntax → Option Text
 words_said a_text value = option_map quoted (set_by text_said value)
-words_said a_truth value = option_map truth_word (set_by truth_said value)
+words_said a_truth value = option_map listed_truth (set_by truth_said value)
 words_said (a_word words) value = set_by (word_among words) value
 
 -- an option of the table, and what the last statement with its name says
@@ -43,7 +43,7 @@ lines_said table numbers level custom (o ∷ os) =
 -- statement with its name says.
 pub record AreListed {A : Type 0} (table : Table) (numbers : Numbers)
     (options : Text → List OptionSyntax → Option A) (lines : ℕ → Option A → Text) : Type 0 where
-  pub numbered : AreNumbered (names_in table) numbers
+  pub numbered : AreNumbered (option_names_in table) numbers
   pub listed : (level : ℕ) (custom : Text) (os : List OptionSyntax)
       → lines level (options custom os) ≡ lines_said table numbers level custom os
 

@@ -65,9 +65,9 @@ reserved_name_line level name = line level (codes "reserved_name " ++ quoted nam
 -- ---- options: those that are set, in the order of their numbers, and then the bytes of the custom
 -- ones
 
-abbrev pub truth_word : Bool → Text
-truth_word true = codes "true"
-truth_word false = codes "false"
+abbrev pub listed_truth : Bool → Text
+listed_truth true = codes "true"
+listed_truth false = codes "false"
 
 abbrev pub optimize_for_word : OptimizeMode → Text
 optimize_for_word Speed = codes "SPEED"
@@ -97,7 +97,7 @@ abbrev pub text_setting : Text → Option Text → Setting
 text_setting name value = (name, option_map quoted value)
 
 abbrev pub truth_setting : Text → Option Bool → Setting
-truth_setting name value = (name, option_map truth_word value)
+truth_setting name value = (name, option_map listed_truth value)
 
 abbrev pub optimize_for_setting : Option OptimizeMode → Setting
 optimize_for_setting value = (codes "optimize_for", option_map optimize_for_word value)

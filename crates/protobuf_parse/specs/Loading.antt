@@ -15,7 +15,7 @@ use Rattle.protobuf_parse_model.specs.Descriptors.{Text, FileDescriptor}
 use Rattle.protobuf_parse_model.specs.Environment.{Customs, no_customs}
 use Rattle.protobuf_parse_model.specs.FileDescriptor.{environment, file_of}
 use Rattle.protobuf_parse_model.specs.FilesByPath.{AreDistinct}
-use Rattle.protobuf_parse_model.specs.Tables.{Tells, picked}
+use Rattle.protobuf_parse_model.specs.Tables.{TableTells, picked}
 use Rattle.protobuf_parse_model.specs.declared.descriptor.FileDescriptorProto.{FileDescriptorProto}
 use Rattle.protobuf_parse_model.specs.Faults as elaborating
 use Rattle.protobuf_parse_model.specs.Faults.{Blames, fault_view}
@@ -35,7 +35,8 @@ use Rattle.protobuf_parse.specs.declared.run.reach.Held.TheVariants as held_as
 use Rattle.protobuf_parse.specs.declared.run.log.ReadEntry.{ReadEntry}
 use Rattle.protobuf_parse.specs.declared.run.log.ReadOutcome.{ReadOutcome}
 use Rattle.protobuf_parse.specs.Walks.{Asked, the_resolver, the_reader, Event, long, load, elab}
-use Rattle.protobuf_parse.specs.Walks.{has, among, Trees, Reaches, HandsOn, joined, walk, reads_in}
+use Rattle.protobuf_parse.specs.Walks.{has, among, Trees, Reaches, HandsOn, walks_joined, walk}
+use Rattle.protobuf_parse.specs.Walks.{reads_in}
 use Rattle.protobuf_parse.specs.Walks.{elab_paths}
 use Rattle.std.specs.Borrow.{Bor}
 use Rattle.std.specs.Str.{IsUtf8}
@@ -43,10 +44,11 @@ use Rattle.protobuf_parse.specs.declared.run.fault.ResolveFault.{ResolveFault}
 use Rattle.protobuf_parse.specs.declared.run.fault.ReadInputFault.{ReadInputFault}
 use Rattle.protobuf_parse.specs.declared.run.log.ReadOutcome.TheVariants as outcome
 use Rattle.protobuf_parse.specs.declared.run.source.Sources.{Sources}
-use Rattle.protobuf_parse.specs.Run.{Files, MayAnswer, MayRead, MayResolve, AreListed, HasTrees}
+use Rattle.protobuf_parse.specs.Run.{Files, MayAnswer, MayRead, MayResolve, FilesAreListed}
+use Rattle.protobuf_parse.specs.Run.{HasTrees}
 use Rattle.protobuf_parse.specs.Run.{faults_in, IsTheTree, text_read, environment_of, plain_of}
-use Rattle.protobuf_parse.specs.Run.{first_read, fails, said, text_given, origin_given, Answers}
-use Rattle.protobuf_parse.specs.Run.{StandsAt, StandsInLoad, StandsInElab, IsUnparsed}
+use Rattle.protobuf_parse.specs.Run.{first_read, fails, said, text_given, origin_given, AreAnswered}
+use Rattle.protobuf_parse.specs.Run.{StandsAtEvent, StandsInLoad, StandsInElab, IsUnparsed}
 
 -- the answers that who is asked for a path may give
 abbrev pub Legal : Type 1
@@ -59,17 +61,17 @@ legal_by may_answer may_read sources =
     MayAnswer (may_answer sources.resolver.now) (may_read sources.reader.now)
 
 -- the events of a walk, by its input, who is asked, the room and the chain
-abbrev pub Shape : Type 0
-Shape = Text → Asked → ℕ → List Text → List Event
+abbrev pub WalkShape : Type 0
+WalkShape = Text → Asked → ℕ → List Text → List Event
 
-abbrev pub Entry : Type 0
-Entry = String Global × LoadedFile
+abbrev pub LoadedEntry : Type 0
+LoadedEntry = String Global × LoadedFile
 
-abbrev pub paths_of : List Entry → List Text
-paths_of loaded = map (λ (e : Entry). string_bytes e.0) loaded
+abbrev pub paths_of : List LoadedEntry → List Text
+paths_of loaded = map (λ (e : LoadedEntry). string_bytes e.0) loaded
 
 -- the loaded file of a path
-abbrev pub file_at : Text → List Entry → Option LoadedFile
+abbrev pub file_at : Text → List LoadedEntry → Option LoadedFile
 file_at path loaded = lookup (λ (k : String Global). bytes_eq path (string_bytes k)) loaded
 
 abbrev pub read_paths : List ReadEntry → List Text
@@ -82,11 +84,11 @@ abbrev pub plain_or : Option FileDescriptorProto → FileDescriptorProto → Fil
 plain_or (Some plain) d = described.file_view plain
 plain_or None d = described.file_view d
 
-abbrev pub plain_in : Entry → FileDescriptor
+abbrev pub plain_in : LoadedEntry → FileDescriptor
 plain_in e = plain_or e.1.plain e.1.descriptor
 
 -- those of the loaded files, and behind them that of the next
-abbrev pub plains_with : List Entry → FileDescriptor → List FileDescriptor
+abbrev pub plains_with : List LoadedEntry → FileDescriptor → List FileDescriptor
 plains_with loaded d = map plain_in loaded ++ d ∷ []
 
 -- The index has just the files, as many as it counts.
@@ -95,7 +97,7 @@ pub record IsWhole (places : RunPlaces) (plains : List FileDescriptor) : Type 0 
   pub count : length plains ≡ places.files
 
 -- The index has the first of the files.
-pub record Begins (places : RunPlaces) (plains : List FileDescriptor) : Type 0 where
+pub record IndexBegins (places : RunPlaces) (plains : List FileDescriptor) : Type 0 where
   pub front : List FileDescriptor
   pub rest : List FileDescriptor
   pub split : plains ≡ front ++ rest
@@ -107,8 +109,8 @@ pub record Begins (places : RunPlaces) (plains : List FileDescriptor) : Type 0 w
 abbrev pub Named : Type 0
 Named = Text × FileSyntax
 
-abbrev pub named_trees : List Entry → List Named
-named_trees loaded = map (λ (e : Entry). (string_bytes e.0, file_view e.1.tree)) loaded
+abbrev pub named_trees : List LoadedEntry → List Named
+named_trees loaded = map (λ (e : LoadedEntry). (string_bytes e.0, file_view e.1.tree)) loaded
 
 abbrev pub trees_of : List Named → List FileSyntax
 trees_of files = map (λ (f : Named). f.1) files
@@ -121,10 +123,11 @@ abbrev pub IsNumbered : List Named → ℕ → Text → Type 0
 IsNumbered files n path = (t : FileSyntax) × (slice_get files n ≡ Some (path, t))
 
 -- so have those with these numbers
-abbrev pub AreNumbered : List Named → List ℕ → List Text → Type 0
-AreNumbered files [] [] = Unit {0}
-AreNumbered files (n ∷ ns) (path ∷ paths) = IsNumbered files n path × AreNumbered files ns paths
-AreNumbered files _ _ = ⊥
+abbrev pub FilesAreNumbered : List Named → List ℕ → List Text → Type 0
+FilesAreNumbered files [] [] = Unit {0}
+FilesAreNumbered files (n ∷ ns) (path ∷ paths) = IsNumbered files n path
+    × FilesAreNumbered files ns paths
+FilesAreNumbered files _ _ = ⊥
 
 -- these are the numbers of just the files that have the property
 pub record AreNumbersOf (Has : Text → Type 0) (files : List Named) (numbers : List ℕ) : Type 0 where
@@ -144,35 +147,37 @@ held held_as.HandedOn file = file.handed_on.items
 
 -- whatever the trees of other files are, each loaded file holds the numbers of just the files to
 -- which it stands so
-abbrev pub AllHold : (Trees → Text → Text → Type 0) → Held → List Entry → Type 0
+abbrev pub AllHold : (Trees → Text → Text → Type 0) → Held → List LoadedEntry → Type 0
 AllHold R which loaded =
-    (trees : Trees) → Agrees trees (named_trees loaded) → (n : ℕ) (e : Entry)
+    (trees : Trees) → Agrees trees (named_trees loaded) → (n : ℕ) (e : LoadedEntry)
     → slice_get loaded n ≡ Some e
     → AreNumbersOf (R trees (string_bytes e.0)) (named_trees loaded) (held which e.1)
 
 -- what is known of loaded files: the table has their names, each path stands once and was read, and
 -- each file knows what it reaches and hands on
-pub record AreKnown (loaded : List Entry) (tables : Tables) (log : List ReadEntry) : Type 0 where
-  pub tells : Tells tables.names (trees_of (named_trees loaded))
-  pub begins : Begins tables.places (map plain_in loaded)
+pub record AreKnown (loaded : List LoadedEntry) (tables : Tables)
+    (log : List ReadEntry) : Type 0 where
+  pub tells : TableTells tables.names (trees_of (named_trees loaded))
+  pub begins : IndexBegins tables.places (map plain_in loaded)
   pub once : AreDistinct (paths_in (named_trees loaded))
   pub reach : AllHold Reaches held_as.Reach loaded
   pub handed_on : AllHold HandsOn held_as.HandedOn loaded
   pub read : (p : Text) (file : LoadedFile) → file_at p loaded ≡ Some file
       → among p (read_paths log) ≡ true
 
-abbrev pub held_at : Held → Option Entry → List ℕ
+abbrev pub held_at : Held → Option LoadedEntry → List ℕ
 held_at which None = []
 held_at which (Some e) = held which e.1
 
 -- the numbers that each of these files holds, one file after another, and then that of the next
 -- file
-abbrev pub held_by : Held → List Entry → List ℕ → List ℕ
+abbrev pub held_by : Held → List LoadedEntry → List ℕ → List ℕ
 held_by which loaded files = flat_map (λ n. held_at which (slice_get loaded n)) files
     ++ length loaded ∷ []
 
 -- these numbers are ascending, and just those
-pub record AreJoined (which : Held) (loaded : List Entry) (files numbers : List ℕ) : Type 0 where
+pub record AreJoined (which : Held) (loaded : List LoadedEntry)
+    (files numbers : List ℕ) : Type 0 where
   pub ascending : IsStrictlyIncreasing numbers
   pub all : (n : ℕ) → Contains (held_by which loaded files) n → Contains numbers n
   pub only : (n : ℕ) → Contains numbers n → Contains (held_by which loaded files) n
@@ -186,7 +191,7 @@ abbrev pub plain_over : List FileSyntax → List ℕ → Text → FileSyntax →
 plain_over files sight path t = file_of (environment (picked files sight) no_customs t) path t
 
 -- the descriptors by which its custom options are looked up
-abbrev pub plains_over : List Entry → List FileSyntax → List ℕ → Text → FileSyntax
+abbrev pub plains_over : List LoadedEntry → List FileSyntax → List ℕ → Text → FileSyntax
     → List FileDescriptor
 plains_over loaded files sight path t = plains_with loaded (plain_over files sight path t)
 
@@ -211,7 +216,8 @@ abbrev pub plain_seen : Bor FileDescriptorProto → FileDescriptor
 plain_seen d = described.file_view d.now
 
 -- What a file becomes by these numbers, and without its custom options; or a fault that stands.
-abbrev pub Describes : List Entry → List FileSyntax → (reach sight : List ℕ) → Text → FileSyntax
+abbrev pub Describes : List LoadedEntry → List FileSyntax → (reach sight : List ℕ) → Text
+    → FileSyntax
     → Result Described ElabFailure → Type 0
 Describes loaded files reach sight path t (Ok d) =
     let plains = plains_over loaded files sight path t in
@@ -222,8 +228,8 @@ Describes loaded files reach sight path t (Err e) =
     Blames e (faults_over files (plains_over loaded files sight path t) reach sight t)
 
 -- these are more files than were loaded
-abbrev pub MoreLoaded : List Entry → List Entry → Type 0
-MoreLoaded old new = (more : List Entry) × (new ≡ old ++ more)
+abbrev pub MoreLoaded : List LoadedEntry → List LoadedEntry → Type 0
+MoreLoaded old new = (more : List LoadedEntry) × (new ≡ old ++ more)
 
 -- these are more of what was there
 abbrev pub Grows : List ReadEntry → List ReadEntry → Type 0
@@ -238,7 +244,7 @@ Within small large = (e : Event) → has e small ≡ true → has e large ≡ tr
 
 -- The events of this shape are all kept, wherever it is met, but for a chain that is too long,
 -- which there is exactly where the room is below the height.
-pub record Settled (kept : List Event) (height : ℕ) (events : Shape) : Type 0 where
+pub record Settled (kept : List Event) (height : ℕ) (events : WalkShape) : Type 0 where
   pub before : List Event
   pub within : Within before kept
   pub only : (i : Text) (a : Asked) (room : ℕ) (chain : List Text) → Apart before chain
@@ -247,12 +253,13 @@ pub record Settled (kept : List Event) (height : ℕ) (events : Shape) : Type 0 
       → has (long i) (events i a room chain) ≡ nat_lt room height
 
 -- the walks of a path
-abbrev pub file_shape : Trees → Text → Shape
-file_shape trees path = λ i a room chain. walk trees i a room chain path
+abbrev pub path_shape : Trees → Text → WalkShape
+path_shape trees path = λ i a room chain. walk trees i a room chain path
 
 -- the walks of these paths, one after another
-abbrev pub imports_shape : Trees → List Text → Shape
-imports_shape trees paths = λ i a room chain. joined (walk trees i the_resolver room chain) paths
+abbrev pub imports_shape : Trees → List Text → WalkShape
+imports_shape trees paths =
+    λ i a room chain. walks_joined (walk trees i the_resolver room chain) paths
 
 -- a loaded file has the tree of its path, and is what that becomes
 pub record IsLoaded (files : Files) (log : List ReadEntry) (path : Text)
@@ -267,14 +274,14 @@ pub record IsLoaded (files : Files) (log : List ReadEntry) (path : Text)
   pub named : path_buf_text entry.path ≡ path
   pub first : first_read path files.reads ≡ Some entry.outcome
 
-pub record Good (legal : Legal) (files : Files) (kept : List Event) (loaded : List Entry)
+pub record Good (legal : Legal) (files : Files) (kept : List Event) (loaded : List LoadedEntry)
     (log : List ReadEntry) (chain : List Text) : Type 0 where
-  pub answers : Answers legal (reads_in kept) log
+  pub answers : AreAnswered legal (reads_in kept) log
   pub elabs : elab_paths kept ≡ paths_of loaded
   pub clean : find (fails files) kept ≡ None
   pub settled : (p : Text) (e : LoadedFile) → file_at p loaded ≡ Some e
-      → Settled kept e.height (file_shape files.trees p)
-  pub made : AllByRecursion (λ (e : Entry). IsLoaded files log (string_bytes e.0) e.1) loaded
+      → Settled kept e.height (path_shape files.trees p)
+  pub made : AllByRecursion (λ (e : LoadedEntry). IsLoaded files log (string_bytes e.0) e.1) loaded
   pub known : (p : Text) → has (load the_resolver p) kept ≡ true
       → (among p chain ≡ true) ⊎ (has (elab p) kept ≡ true)
   pub read : (p : Text) → among p (read_paths log) ≡ true → has (load the_resolver p) kept ≡ true
@@ -290,8 +297,8 @@ pub record Halts (legal : Legal) (files : Files) (events : List Event) (log : Li
   pub split : events ≡ before ++ event ∷ after
   pub clean : find (fails files) before ≡ None
   pub failing : fails files event ≡ true
-  pub answers : Answers legal (reads_in (before ++ event ∷ [])) log
-  pub stands : StandsAt files event f
+  pub answers : AreAnswered legal (reads_in (before ++ event ∷ [])) log
+  pub stands : StandsAtEvent files event f
 
 -- memory ran out, and the log has the reads of a beginning in which nothing fails
 pub record Breaks (legal : Legal) (files : Files) (events : List Event) (log : List ReadEntry)
@@ -301,7 +308,7 @@ pub record Breaks (legal : Legal) (files : Files) (events : List Event) (log : L
   pub after : List Event
   pub split : events ≡ before ++ after
   pub clean : find (fails files) before ≡ None
-  pub answers : Answers legal (reads_in before) log
+  pub answers : AreAnswered legal (reads_in before) log
 
 abbrev pub Stops : Legal → Files → List Event → List ReadEntry → RunFault → Type 0
 Stops legal files events log f = Halts legal files events log f ⊎ Breaks legal files events log f
@@ -365,13 +372,14 @@ IsContentFault p origin text (fault.Parse file error) = (string_bytes file ≡ o
 IsContentFault p origin text _ = ⊥
 
 -- what a call leaves, where the events are those kept with its own
-abbrev pub Leaves : Legal → Files → List Event → Shape → List Entry → List ReadEntry → List Text
+abbrev pub Leaves : Legal → Files → List Event → WalkShape → List LoadedEntry → List ReadEntry
+    → List Text
     → Result Placed RunFault → Type 0
 Leaves legal files events shape loaded log chain (Ok placed) =
     Good legal files events loaded log chain × Settled events placed.height shape
 Leaves legal files events shape loaded log chain (Err f) = Stops legal files events log f
 
-abbrev pub Goes : Legal → Files → List Event → List Entry → List ReadEntry
+abbrev pub Goes : Legal → Files → List Event → List LoadedEntry → List ReadEntry
     → Result (Unit {0}) RunFault → Type 0
 Goes legal files events loaded log (Ok _) = Good legal files events loaded log []
 Goes legal files events loaded log (Err f) = Stops legal files events log f
@@ -379,7 +387,7 @@ Goes legal files events loaded log (Err f) = Stops legal files events log f
 -- A file was added for this path: it has this tree, in which no fault stands, and is what that
 -- becomes.
 pub record IsAdded (files : Files) (path : Text) (tree : FileSyntax) (height read : ℕ)
-    (old new : List Entry) (placed : Placed) : Type 0 where
+    (old new : List LoadedEntry) (placed : Placed) : Type 0 where
   pub key : String Global
   pub file : LoadedFile
   pub entries : new ≡ old ++ (key, file) ∷ []
@@ -393,9 +401,9 @@ pub record IsAdded (files : Files) (path : Text) (tree : FileSyntax) (height rea
   pub plain : plain_or file.plain file.descriptor ≡ plain_of files path tree
   pub placed_is : placed.height ≡ height
 
--- the texts of a chain
-abbrev pub texts : List (String Global) → List Text
-texts chain = map string_bytes chain
+-- the chain_texts of a chain
+abbrev pub chain_texts : List (String Global) → List Text
+chain_texts chain = map string_bytes chain
 
 -- A read of a file that isn't loaded, between these two logs, that gave its tree or a fault.
 abbrev pub ReadsTree : Legal → List (Text × Text) → Asked → Text → List ReadEntry → List ReadEntry
@@ -419,16 +427,17 @@ pub record GoesOn (files : Files) (table : List (Text × Text)) (log : List Read
   pub bundled : files.bundled ≡ table
   pub reads : Grows log files.reads
   pub trees : HasTrees files.bundled files.reads files.trees
-  pub listed : AreListed files.trees files.reached files.seen
+  pub listed : FilesAreListed files.trees files.reached files.seen
 
 -- the loaded file of a path, as a look-up told it
-abbrev pub IsPlaced : Text → List Entry → Option Placed → Type 0
+abbrev pub IsPlaced : Text → List LoadedEntry → Option Placed → Type 0
 IsPlaced path loaded None = file_at path loaded ≡ None
 IsPlaced path loaded (Some placed) = (file : LoadedFile) × (file_at path loaded ≡ Some file)
     × (placed.height ≡ file.height) × IsNumbered (named_trees loaded) placed.number path
 
 -- what an elaboration leaves
-abbrev pub Settles : Files → Text → FileSyntax → ℕ → ℕ → List ReadEntry → List Entry → List Entry
+abbrev pub Settles : Files → Text → FileSyntax → ℕ → ℕ → List ReadEntry → List LoadedEntry
+    → List LoadedEntry
     → Result Placed RunFault → Type 0
 Settles files path tree height read log old new (Ok placed) = file_at path old ≡ None
     → IsAdded files path tree height read old new placed
@@ -438,18 +447,18 @@ Settles files path tree height read log old new (Err f) = (e : ReadEntry)
     (StandsInElab (origin_given path (Some e.outcome)) (faults_in files path (Some tree)) f)
 
 -- the trees of the loaded files, and behind them that of the next
-abbrev pub with_next : List Entry → FileSyntax → List FileSyntax
+abbrev pub with_next : List LoadedEntry → FileSyntax → List FileSyntax
 with_next loaded tree = trees_of (named_trees loaded) ++ tree ∷ []
 
 -- the descriptors of the loaded files without custom options, and behind them that of the next
-abbrev pub plains_next : List Entry → List ℕ → Text → FileSyntax → List FileDescriptor
+abbrev pub plains_next : List LoadedEntry → List ℕ → Text → FileSyntax → List FileDescriptor
 plains_next loaded sight path tree = plains_over loaded (with_next loaded tree) sight path tree
 
 -- A file was added behind those that were loaded, whose imports have these numbers, and its public
 -- ones those. By the numbers of the files that it reaches and sees, no fault stands in it, and it
 -- has become its descriptor.
 pub record IsAddedOver (path : Text) (tree : FileSyntax) (height read : ℕ) (imports public : List ℕ)
-    (old new : List Entry) (tables : Tables) (placed : Placed) : Type 0 where
+    (old new : List LoadedEntry) (tables : Tables) (placed : Placed) : Type 0 where
   pub key : String Global
   pub file : LoadedFile
   pub sight : List ℕ
@@ -467,22 +476,23 @@ pub record IsAddedOver (path : Text) (tree : FileSyntax) (height read : ℕ) (im
       ≡ file_over (with_next old tree)
       (plains_next old sight path tree) file.reach.items sight path tree
   pub plain : plain_or file.plain file.descriptor ≡ plain_over (with_next old tree) sight path tree
-  pub tells : Tells tables.names (with_next old tree)
-  pub begins : Begins tables.places (map plain_in new)
+  pub tells : TableTells tables.names (with_next old tree)
+  pub begins : IndexBegins tables.places (map plain_in new)
   pub height_placed : placed.height ≡ height
   pub number_placed : placed.number ≡ length old
 
 -- By the numbers of the files that a file reaches and sees, this fault stands in it, or memory ran
 -- out.
-abbrev pub IsRefusedOver : Text → Text → FileSyntax → List ℕ → List Entry → RunFault → Type 0
+abbrev pub IsRefusedOver : Text → Text → FileSyntax → List ℕ → List LoadedEntry → RunFault → Type 0
 IsRefusedOver origin path tree imports old f =
     OrMemory f ((reach : List ℕ) × (sight : List ℕ) × AreJoined held_as.Reach old imports reach
     × AreJoined held_as.HandedOn old imports sight
     × StandsInElab origin
     (faults_over (with_next old tree) (plains_next old sight path tree) reach sight tree) f)
 
-abbrev pub SettlesOver : Text → FileSyntax → ℕ → ℕ → List ℕ → List ℕ → List ReadEntry → List Entry
-    → List Entry → Tables → Result Placed RunFault → Type 0
+abbrev pub SettlesOver : Text → FileSyntax → ℕ → ℕ → List ℕ → List ℕ → List ReadEntry
+    → List LoadedEntry
+    → List LoadedEntry → Tables → Result Placed RunFault → Type 0
 SettlesOver path tree height read imports public log old new tables (Ok placed) =
     file_at path old ≡ None → IsAddedOver path tree height read imports public old new tables placed
 SettlesOver path tree height read imports public log old new tables (Err f) = (e : ReadEntry)
@@ -490,10 +500,10 @@ SettlesOver path tree height read imports public log old new tables (Err f) = (e
     → IsRefusedOver (origin_given path (Some e.outcome)) path tree imports old f
 
 -- no file on the chain is loaded
-abbrev pub AreUnloaded : List Text → List Entry → Type 0
+abbrev pub AreUnloaded : List Text → List LoadedEntry → Type 0
 AreUnloaded chain loaded = (p : Text) → among p chain ≡ true → file_at p loaded ≡ None
 
 -- A file of this path is loaded with that number, among these files and no fewer than before.
-pub record IsMetAt (path : Text) (old new : List Entry) (placed : Placed) : Type 0 where
+pub record IsMetAt (path : Text) (old new : List LoadedEntry) (placed : Placed) : Type 0 where
   pub number : IsNumbered (named_trees new) placed.number path
   pub more : MoreLoaded old new

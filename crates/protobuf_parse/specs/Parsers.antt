@@ -70,12 +70,12 @@ pub record IsParsed (includes inputs : List Text) (parsed : ParsedAndTypechecked
 
 -- ---- the descriptors of the inputs alone
 
-abbrev pub is_among : List Text → Option Text → Bool
-is_among names None = false
-is_among names (Some name) = list_any (λ (n : Text). bytes_eq n name) names
+abbrev pub is_name_among : List Text → Option Text → Bool
+is_name_among names None = false
+is_name_among names (Some name) = list_any (λ (n : Text). bytes_eq n name) names
 
 abbrev pub is_of_input : List Text → FileDescriptorProto → Bool
-is_of_input names file = is_among names (option_map string_bytes file.name)
+is_of_input names file = is_name_among names (option_map string_bytes file.name)
 
 -- just the descriptors whose name is an input's proto path, in order
 abbrev pub IsSetOfInputs : List Text → List Text → FileDescriptorSet → Type 0

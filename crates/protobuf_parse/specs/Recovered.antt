@@ -22,7 +22,7 @@ use Rattle.protobuf_parse_wire.specs.Recovery.{HasCustom, HaveDistinctNumbers}
 use Rattle.protobuf_parse_wire.specs.Trees.{Entries}
 use Rattle.protobuf_parse_wire.specs.Wire.{Spells}
 use Rattle.protobuf_parse.specs.Walks.{Input}
-use Rattle.protobuf_parse.specs.Run.{Files, AreListed, HasTrees, customs_of, environment_of}
+use Rattle.protobuf_parse.specs.Run.{Files, FilesAreListed, HasTrees, customs_of, environment_of}
 use Rattle.protobuf_parse.specs.Run.{plains_at}
 use Rattle.protobuf_parse.specs.Stability.{order}
 use Rattle.protobuf_parse.specs.declared.run.fault.RunFault.{RunFault}
@@ -70,7 +70,7 @@ abbrev pub OptionsAreHeld : List Input → List (Text × Text) → List ReadEntr
     → Result (Vec FileDescriptorProto) RunFault → Type 0
 OptionsAreHeld inputs bundled log (Ok _) =
     (trees : Text → Option FileSyntax) (reached seen : Text → List Text)
-    → HasTrees bundled log trees → AreListed trees reached seen
+    → HasTrees bundled log trees → FilesAreListed trees reached seen
     → (p : Text) (t : FileSyntax) (s : OptionSet)
     → among p (order trees inputs) ≡ true → trees p ≡ Some t → Among (option_sets t) s
     → HoldsOptions

@@ -36,8 +36,9 @@ use Rattle.protobuf_parse.specs.declared.run.log.ReadEntry.{ReadEntry}
 use Rattle.protobuf_parse.specs.declared.run.log.ReadOutcome.{ReadOutcome}
 use Rattle.protobuf_parse.specs.declared.run.log.ReadOutcome.TheVariants as outcome
 use Rattle.protobuf_parse.specs.Walks.{Input, named, at, Asked, the_resolver, the_reader, Event}
-use Rattle.protobuf_parse.specs.Walks.{cycle, long, load, check, elab, Trees, Reaches, Sees, Read}
-use Rattle.protobuf_parse.specs.Walks.{reads_in, elab_paths, events, statements, until}
+use Rattle.protobuf_parse.specs.Walks.{cycle, long, load, check, elab, Trees, Reaches, Sees}
+use Rattle.protobuf_parse.specs.Walks.{FileRead}
+use Rattle.protobuf_parse.specs.Walks.{reads_in, elab_paths, events, import_statements, until}
 
 abbrev pub input_view : RunInput → Input
 input_view (given.Named name) = named (path_buf_text name)
@@ -90,7 +91,7 @@ pub record Files : Type 0 where
   pub seen : Text → List Text
 
 -- these are just the files that each file reaches and sees, each once, in any order
-pub record AreListed (trees : Trees) (reached seen : Text → List Text) : Type 0 where
+pub record FilesAreListed (trees : Trees) (reached seen : Text → List Text) : Type 0 where
   pub reaches : (p : Text) → AreJust (Reaches trees p) (reached p)
   pub sees : (p : Text) → AreJust (Sees trees p) (seen p)
 
@@ -129,7 +130,7 @@ HaveTrees bundled log = (trees : Trees)
 -- read have trees.
 abbrev pub HaveLists : List (Text × Text) → List ReadEntry → Type 0
 HaveLists bundled log = (trees : Trees) → HasTrees bundled log trees
-    → (reached : Text → List Text) × (seen : Text → List Text) × AreListed trees reached seen
+    → (reached : Text → List Text) × (seen : Text → List Text) × FilesAreListed trees reached seen
 
 -- ---- which event fails
 
@@ -240,12 +241,12 @@ StandsInElab origin faults (fault.Elaborate file error) = (string_bytes file ≡
     × Among faults (fault_view error)
 StandsInElab origin faults _ = ⊥
 
-abbrev pub StandsAt : Files → Event → RunFault → Type 0
-StandsAt files (cycle p) = StandsInCycle p
-StandsAt files (long i) = StandsInLong i
-StandsAt files (load asked p) = StandsInLoad asked p (answer_for files p) (text_for files p)
-StandsAt files (check n own p) = StandsInCheck own p (answer_at files n)
-StandsAt files (elab p) =
+abbrev pub StandsAtEvent : Files → Event → RunFault → Type 0
+StandsAtEvent files (cycle p) = StandsInCycle p
+StandsAtEvent files (long i) = StandsInLong i
+StandsAtEvent files (load asked p) = StandsInLoad asked p (answer_for files p) (text_for files p)
+StandsAtEvent files (check n own p) = StandsInCheck own p (answer_at files n)
+StandsAtEvent files (elab p) =
     StandsInElab (origin_given p (answer_for files p)) (faults_in files p (files.trees p))
 
 -- ---- which answers are legal
@@ -277,12 +278,13 @@ MayAnswer resolve read the_resolver p answer = Resolved resolve p answer
 MayAnswer resolve read (the_reader own) p answer = WasRead read own answer
 
 -- the entries are these reads in order, each with a legal answer
-abbrev pub Answers : (Asked → Text → ReadOutcome → Type 0) → List Read → List ReadEntry → Type 0
-Answers legal [] [] = Unit {0}
-Answers legal (read ∷ reads) (entry ∷ log) =
+abbrev pub AreAnswered : (Asked → Text → ReadOutcome → Type 0) → List FileRead → List ReadEntry
+    → Type 0
+AreAnswered legal [] [] = Unit {0}
+AreAnswered legal (read ∷ reads) (entry ∷ log) =
     (path_buf_text entry.path ≡ read.path) × legal read.asked read.path entry.outcome
-    × Answers legal reads log
-Answers legal _ _ = ⊥
+    × AreAnswered legal reads log
+AreAnswered legal _ _ = ⊥
 
 -- ---- what a run promises
 
@@ -299,16 +301,16 @@ AreDescriptors files _ _ = ⊥
 pub record IsAccepted (legal : Asked → Text → ReadOutcome → Type 0) (files : Files)
     (events : List Event) (ds : List FileDescriptorProto) : Type 0 where
   pub none_fails : find (fails files) events ≡ None
-  pub reads : Answers legal (reads_in events) files.reads
+  pub reads : AreAnswered legal (reads_in events) files.reads
   pub descriptors : AreDescriptors files (elab_paths events) ds
 
 -- the fault stands at the first event that fails, and the reads are those up to and with it
-pub record IsRefused (legal : Asked → Text → ReadOutcome → Type 0) (files : Files)
+pub record RunIsRefused (legal : Asked → Text → ReadOutcome → Type 0) (files : Files)
     (events : List Event) (f : RunFault) : Type 0 where
   pub event : Event
   pub first : find (fails files) events ≡ Some event
-  pub reads : Answers legal (reads_in (until (fails files) events)) files.reads
-  pub stands : StandsAt files event f
+  pub reads : AreAnswered legal (reads_in (until (fails files) events)) files.reads
+  pub stands : StandsAtEvent files event f
 
 -- memory ran out: the reads are those of a beginning of the events up to and with the first that
 -- fails
@@ -318,12 +320,13 @@ pub record IsBroken (legal : Asked → Text → ReadOutcome → Type 0) (files :
   pub done : List Event
   pub rest : List Event
   pub beginning : until (fails files) events ≡ done ++ rest
-  pub reads : Answers legal (reads_in done) files.reads
+  pub reads : AreAnswered legal (reads_in done) files.reads
 
-abbrev pub Ends : (Asked → Text → ReadOutcome → Type 0) → Files → List Event
+abbrev pub RunEnds : (Asked → Text → ReadOutcome → Type 0) → Files → List Event
     → Result (Vec FileDescriptorProto) RunFault → Type 0
-Ends legal files events (Ok ds) = IsAccepted legal files events ds.items
-Ends legal files events (Err f) = IsRefused legal files events f ⊎ IsBroken legal files events f
+RunEnds legal files events (Ok ds) = IsAccepted legal files events ds.items
+RunEnds legal files events (Err f) = RunIsRefused legal files events f
+    ⊎ IsBroken legal files events f
 
 -- L5 comes only where the resolver may give such a fault for that path, and L4 only where the
 -- reader may give that fault for that path. Neither is want of memory.
@@ -346,7 +349,7 @@ abbrev pub IsMet : List Input → List (Text × Text) → List ReadEntry → ℕ
     → Result (Vec FileDescriptorProto) RunFault → Type 0
 IsMet inputs bundled log meets result =
     (trees : Trees) → HasTrees bundled log trees
-    → IsCounted meets (length inputs + statements trees (events trees inputs)) result
+    → IsCounted meets (length inputs + import_statements trees (events trees inputs)) result
 
 -- A run over these inputs and bundled files read this log and ended so, whichever trees the texts
 -- have; each file is elaborated over the trees of just the files that it sees, in whatever order
@@ -355,8 +358,8 @@ abbrev pub RunsAsTold : (Asked → Text → ReadOutcome → Type 0) → List Inp
     → List ReadEntry → Result (Vec FileDescriptorProto) RunFault → Type 0
 RunsAsTold legal inputs bundled log result =
     (trees : Trees) (reached seen : Text → List Text) → HasTrees bundled log trees
-    → AreListed trees reached seen
-    → Ends legal
+    → FilesAreListed trees reached seen
+    → RunEnds legal
     (record { bundled = bundled; reads = log; trees = trees; reached = reached; seen = seen })
     (events trees inputs) result
 
@@ -367,16 +370,16 @@ abbrev pub if_resolver : Asked → Text → List Text
 if_resolver the_resolver p = p ∷ []
 if_resolver (the_reader own) p = []
 
-abbrev pub resolved_in : List Read → List Text
-resolved_in reads = flat_map (λ (r : Read). if_resolver r.asked r.path) reads
+abbrev pub resolved_in : List FileRead → List Text
+resolved_in reads = flat_map (λ (r : FileRead). if_resolver r.asked r.path) reads
 
 -- the inputs for which the reader is asked, in order
 abbrev pub if_reader : Asked → Text → List Input
 if_reader the_resolver p = []
 if_reader (the_reader own) p = at p own ∷ []
 
-abbrev pub placed_in : List Read → List Input
-placed_in reads = flat_map (λ (r : Read). if_reader r.asked r.path) reads
+abbrev pub placed_reads : List FileRead → List Input
+placed_reads reads = flat_map (λ (r : FileRead). if_reader r.asked r.path) reads
 
 -- the inputs at paths of their own
 abbrev pub if_placed : Input → List Input
@@ -390,13 +393,13 @@ placed inputs = flat_map if_placed inputs
 -- and the reader for the first inputs at paths of their own, each once.
 pub record IsAskedOnce (legal : Asked → Text → ReadOutcome → Type 0) (trees : Trees)
     (inputs : List Input) (log : List ReadEntry) : Type 0 where
-  pub reads : List Read
-  pub later : List Read
+  pub reads : List FileRead
+  pub later : List FileRead
   pub first : reads_in (events trees inputs) ≡ reads ++ later
-  pub answers : Answers legal reads log
+  pub answers : AreAnswered legal reads log
   pub resolver : AreDistinct (resolved_in reads)
   pub unasked : List Input
-  pub reader : placed inputs ≡ placed_in reads ++ unasked
+  pub reader : placed inputs ≡ placed_reads reads ++ unasked
 
 -- So it is whichever trees the texts have that were read.
 abbrev pub AreAskedOnce : (Asked → Text → ReadOutcome → Type 0) → List Input → List (Text × Text)

@@ -9,7 +9,7 @@ use Rattle.protobuf_parse_model.specs.FilesByPath.{trees_at}
 use Rattle.protobuf_parse_model.specs.Linking.{link_faults}
 use Rattle.protobuf_parse_model.specs.declared.descriptor.FileDescriptorProto.{FileDescriptorProto}
 use Rattle.protobuf_parse.specs.Walks.{Input, Trees, Reaches, among, elab_paths, events}
-use Rattle.protobuf_parse.specs.Run.{Files, AreDescriptors, AreListed, HasTrees, HaveTrees}
+use Rattle.protobuf_parse.specs.Run.{Files, AreDescriptors, FilesAreListed, HasTrees, HaveTrees}
 use Rattle.protobuf_parse.specs.Run.{environment_of, fails, faults_in, text_for}
 
 -- these paths have the same trees, or none, in both
@@ -27,7 +27,7 @@ TreesAreOfTexts =
 -- each file reaches and sees.
 pub record WereRead (files : Files) : Type 0 where
   pub trees : HasTrees files.bundled files.reads files.trees
-  pub listed : AreListed files.trees files.reached files.seen
+  pub listed : FilesAreListed files.trees files.reached files.seen
 
 -- the files that it reaches declare no full name twice
 abbrev pub DeclaresOnce : Files → Text → Type 0
@@ -59,14 +59,14 @@ abbrev pub IsClean : Files → List Input → Type 0
 IsClean files inputs = find (fails files) (events files.trees inputs) ≡ None
 
 -- a file of the run over these inputs
-abbrev pub IsFileOf : Trees → List Input → Text → Type 0
-IsFileOf trees inputs q = among q (order trees inputs) ≡ true
+abbrev pub IsFileOfRun : Trees → List Input → Text → Type 0
+IsFileOfRun trees inputs q = among q (order trees inputs) ≡ true
 
 -- Where other trees agree on all files of an accepted run, further inputs append to its order.
 abbrev pub OrderStays : Type 0
 OrderStays =
     (old : Files) (new : Trees) (inputs more : List Input) → IsClean old inputs
-    → AgreeOn (IsFileOf old.trees inputs) old.trees new
+    → AgreeOn (IsFileOfRun old.trees inputs) old.trees new
     → (rest : List Text) × (order new (inputs ++ more) ≡ order old.trees inputs ++ rest)
 
 -- And where the longer run is accepted too, its descriptors begin with those of the first.
@@ -74,7 +74,7 @@ abbrev pub DescriptorsStay : Type 0
 DescriptorsStay =
     (old new : Files) (inputs more : List Input) (first both : List FileDescriptorProto)
     → WereRead old → WereRead new
-    → IsClean old inputs → AgreeOn (IsFileOf old.trees inputs) old.trees new.trees
+    → IsClean old inputs → AgreeOn (IsFileOfRun old.trees inputs) old.trees new.trees
     → AreDescriptors old (order old.trees inputs) first
     → AreDescriptors new (order new.trees (inputs ++ more)) both
     → (rest : List FileDescriptor)

@@ -19,9 +19,9 @@ pub data Asked : Type 0 where
   the_resolver : Asked
   the_reader : Text → Asked
 
-abbrev pub name_of : Input → Text
-name_of (named p) = p
-name_of (at p own) = p
+abbrev pub input_name : Input → Text
+input_name (named p) = p
+input_name (at p own) = p
 
 abbrev pub asked_of : Input → Asked
 asked_of (named p) = the_resolver
@@ -38,16 +38,16 @@ pub data Event : Type 0 where
   elab : Text → Event
 
 -- equal events; a file is loaded once, whoever is asked for it
-abbrev pub same : Event → Event → Bool
-same (cycle p) (cycle q) = bytes_eq p q
-same (long p) (long q) = bytes_eq p q
-same (load a p) (load b q) = bytes_eq p q
-same (check n f p) (check m g q) = nat_eq n m
-same (elab p) (elab q) = bytes_eq p q
-same _ _ = false
+abbrev pub same_event : Event → Event → Bool
+same_event (cycle p) (cycle q) = bytes_eq p q
+same_event (long p) (long q) = bytes_eq p q
+same_event (load a p) (load b q) = bytes_eq p q
+same_event (check n f p) (check m g q) = nat_eq n m
+same_event (elab p) (elab q) = bytes_eq p q
+same_event _ _ = false
 
 abbrev pub has : Event → List Event → Bool
-has event events = list_any (λ x. same event x) events
+has event events = list_any (λ x. same_event event x) events
 
 -- each of these that is not there yet is added
 abbrev pub keep : List Event → List Event → List Event
@@ -84,14 +84,14 @@ pub data Sees (trees : Trees) : Text → Text → Type 0 where
   by_import : (p q r : Text) (t : FileSyntax) → trees p ≡ Some t → among q (import_paths t) ≡ true
       → HandsOn trees q r → Sees trees p r
 
-abbrev pub joined : (Text → List Event) → List Text → List Event
-joined walk_of [] = []
-joined walk_of (path ∷ paths) = walk_of path ++ joined walk_of paths
+abbrev pub walks_joined : (Text → List Event) → List Text → List Event
+walks_joined walk_of [] = []
+walks_joined walk_of (path ∷ paths) = walk_of path ++ walks_joined walk_of paths
 
 -- after a file with a tree is loaded: the walks of its imports in order, and then its elaboration
-abbrev pub inside : Option FileSyntax → (Text → List Event) → Text → List Event
-inside None walk_of path = []
-inside (Some t) walk_of path = joined walk_of (import_paths t) ++ elab path ∷ []
+abbrev pub events_inside : Option FileSyntax → (Text → List Event) → Text → List Event
+events_inside None walk_of path = []
+events_inside (Some t) walk_of path = walks_joined walk_of (import_paths t) ++ elab path ∷ []
 
 -- the walk of a path, met at the end of a chain of imports that has room for this many more files
 unfoldable pub walk : Trees → Text → Asked → ℕ → List Text → Text → List Event
@@ -99,15 +99,15 @@ walk trees input asked zero chain path =
     if among path chain then cycle path ∷ [] else long input ∷ []
 walk trees input asked (suc room) chain path =
     if among path chain then cycle path ∷ []
-    else load asked path ∷ inside (trees path)
+    else load asked path ∷ events_inside (trees path)
     (walk trees input the_resolver room (chain ++ path ∷ [])) path
 
-pub record Read : Type 0 where
+pub record FileRead : Type 0 where
   pub asked : Asked
   pub path : Text
 
 -- the reads of events
-abbrev pub reads_in : List Event → List Read
+abbrev pub reads_in : List Event → List FileRead
 reads_in [] = []
 reads_in (load a p ∷ events) = record { asked = a; path = p } ∷ reads_in events
 reads_in (check n f p ∷ events) = record { asked = the_reader f; path = p } ∷ reads_in events
@@ -123,11 +123,12 @@ abbrev pub statements_of : Option FileSyntax → ℕ
 statements_of None = 0
 statements_of (Some t) = length (import_paths t)
 
--- how many import statements the files have that are loaded
-abbrev pub statements : Trees → List Event → ℕ
-statements trees [] = 0
-statements trees (load a p ∷ events) = statements_of (trees p) + statements trees events
-statements trees (_ ∷ events) = statements trees events
+-- how many import import_statements the files have that are loaded
+abbrev pub import_statements : Trees → List Event → ℕ
+import_statements trees [] = 0
+import_statements trees (load a p ∷ events) =
+    statements_of (trees p) + import_statements trees events
+import_statements trees (_ ∷ events) = import_statements trees events
 
 -- an input at a path of its own is checked first, if an earlier input's events load its name
 abbrev pub checks : List Event → Input → List Event
@@ -136,7 +137,7 @@ checks kept (at p own) = if has (load the_resolver p) kept then check (length (r
     ∷ [] else []
 
 abbrev pub input_walk : Trees → Input → List Event
-input_walk trees i = walk trees (name_of i) (asked_of i) 100 [] (name_of i)
+input_walk trees i = walk trees (input_name i) (asked_of i) 100 [] (input_name i)
 
 -- what is kept after the walks of these inputs in turn, each from the empty chain
 unfoldable pub events_after : Trees → List Event → List Input → List Event

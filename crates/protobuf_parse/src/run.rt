@@ -6,7 +6,7 @@ ghost use Rattle.protobuf_parse.specs.Run.{MayAnswer, RunsAsTold, input_view, ro
 ghost use Rattle.protobuf_parse.specs.Recovered.{OptionsAreHeld};
 ghost use Rattle.protobuf_parse.specs.Shipped.{IsNeverAsked, RunsByResolver};
 ghost use Rattle.protobuf_parse.specs.Walks.{named};
-ghost use Rattle.protobuf_parse.specs.Loading.{Entry};
+ghost use Rattle.protobuf_parse.specs.Loading.{LoadedEntry};
 ghost use Rattle.protobuf_parse_base.specs.PathViews.{path_buf_text};
 ghost use Rattle.protobuf_parse_base.specs.declared.proto_path.path.ProtoPathBuf.{ProtoPathBuf};
 
@@ -93,7 +93,7 @@ pub fn run_inputs<'a, R: ProtoPathResolver, I: InputReader>(
 
 /// The descriptors of the loaded files, in their order.
 fn descriptors(alloc: Global, loaded: LoadedFiles) -> Result<Vec<FileDescriptorProto>, AllocError>
-    ensures { IfOk result (λ v. v.items ≡ map (λ (e : Entry). e.1.descriptor) loaded.entries) }
+    ensures { IfOk result (λ v. v.items ≡ map (λ (e : LoadedEntry). e.1.descriptor) loaded.entries) }
 {
     let mut descriptors = Vec::new(alloc);
     for file in loaded.into_values() {

@@ -11,8 +11,9 @@ use Rattle.protobuf_parse_syntax.specs.Trees.{message_message, message_enum, mes
 use Rattle.protobuf_parse_syntax.specs.Trees.{message_option, message_field, MessageSyntax}
 use Rattle.protobuf_parse_syntax.specs.Trees.{nested_message}
 use Rattle.protobuf_parse_model.specs.Contexts.{BodyParts, FieldAndMessage, FieldsAndMessages}
-use Rattle.protobuf_parse_model.specs.Contexts.{body_of, body_view, declared_by, fields_declared}
-use Rattle.protobuf_parse_model.specs.Contexts.{with_message, with_statement}
+use Rattle.protobuf_parse_model.specs.Contexts.{body_of, body_view, field_declared_by}
+use Rattle.protobuf_parse_model.specs.Contexts.{fields_declared}
+use Rattle.protobuf_parse_model.specs.Contexts.{with_message, with_body_statement}
 use Rattle.protobuf_parse_model.specs.Descriptors.{OneofDescriptor, enum_view, field_view}
 use Rattle.protobuf_parse_model.specs.Descriptors.{message_view, oneof_view, service_view}
 use Rattle.protobuf_parse_model.specs.Environment.{Environment}
@@ -45,7 +46,7 @@ module _ (env : Environment) (old new : Body) (index : ℕ) (one : OneofDescript
       → d ≡ fields_declared env (in_oneof index) (flat_map oneof_fields o.body)
       → one ≡ oneof_of env o → map field_view new.field.items ≡ map field_view old.field.items
       ++ d.fields → map message_view new.nested_type.items ≡ map message_view old.nested_type.items
-      ++ d.behind → body_view new ≡ with_statement env (body_view old) (message_oneof o)
+      ++ d.behind → body_view new ≡ with_body_statement env (body_view old) (message_oneof o)
   with_oneof o d is one_is fields nested =
       rw (
         fields,
@@ -61,10 +62,10 @@ module _ (env : Environment) (old new : Body) (index : ℕ) (one : OneofDescript
       ) refl
 
   pub with_own : (s : FieldStatementSyntax) (d : FieldAndMessage) → has_own_oneof env s ≡ true
-      → d ≡ declared_by env (in_oneof index) s → one ≡ own_oneof_of d.field.name
+      → d ≡ field_declared_by env (in_oneof index) s → one ≡ own_oneof_of d.field.name
       → map field_view new.field.items ≡ map field_view old.field.items ++ d.field ∷ []
       → map message_view new.nested_type.items ≡ map message_view old.nested_type.items ++ d.behind
-      → body_view new ≡ with_statement env (body_view old) (message_field s)
+      → body_view new ≡ with_body_statement env (body_view old) (message_field s)
   with_own s d own is one_is fields nested =
       rw (
         fields,
@@ -88,7 +89,7 @@ pub with_extend : (env : Environment) (old new : Body) (e : ExtendSyntax) (d : F
     → map field_view new.field.items ≡ map field_view old.field.items
     → map oneof_view new.oneof_decl.items ≡ map oneof_view old.oneof_decl.items
     → map enum_view new.enum_type.items ≡ map enum_view old.enum_type.items
-    → body_view new ≡ with_statement env (body_view old) (message_extend e)
+    → body_view new ≡ with_body_statement env (body_view old) (message_extend e)
 with_extend env old new e d is extensions nested fields oneofs enums =
     rw (
       extensions,
@@ -124,7 +125,7 @@ file_with_extend env old new e d is extensions messages enums services =
 -- ---- a body, statement by statement
 
 pub body_more : (env : Environment) (ss : List MessageStatementSyntax) (s : MessageStatementSyntax)
-    → with_statement env (body_of env ss) s ≡ body_of env (ss ++ s ∷ [])
+    → with_body_statement env (body_of env ss) s ≡ body_of env (ss ++ s ∷ [])
 body_more env ss s =
     let n = length (flat_map (oneofs_of env) ss) in
     let same : 0 + n ≡ n = omega arith in
@@ -144,7 +145,7 @@ body_more env ss s =
 
 -- no statement has more than one oneof
 pub few_more : (env : Environment) (old new : Body) (s : MessageStatementSyntax) (n : ℕ)
-    → body_view new ≡ with_statement env (body_view old) s → length old.oneof_decl.items ≤ n
+    → body_view new ≡ with_body_statement env (body_view old) s → length old.oneof_decl.items ≤ n
     → length new.oneof_decl.items ≤ n + 1
 few_more env old new s n is few =
     let a = length-map new.oneof_decl.items oneof_view in
@@ -170,7 +171,7 @@ few_more env old new s n is few =
 
 -- a message inside is a statement
 pub with_nested : (env : Environment) (b : BodyParts) (m : MessageSyntax)
-    → with_message b (message_of env m) ≡ with_statement env b (nested_message m)
+    → with_message b (message_of env m) ≡ with_body_statement env b (nested_message m)
 with_nested env b m =
     rw (
       nested_of_message env m,

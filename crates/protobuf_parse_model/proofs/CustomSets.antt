@@ -13,7 +13,8 @@ use Rattle.protobuf_parse_model.specs.BuiltinOptions.{file_table}
 use Rattle.protobuf_parse_model.specs.Messages.{message_name}
 use Rattle.protobuf_parse_model.specs.FileDescriptor as files
 use Rattle.protobuf_parse_model.specs.FileDescriptor.{options_of_statements, environment}
-use Rattle.protobuf_parse_model.specs.FileDescriptor.{messages_of, services_of, statement_faults}
+use Rattle.protobuf_parse_model.specs.FileDescriptor.{file_messages_of, services_of}
+use Rattle.protobuf_parse_model.specs.FileDescriptor.{statement_faults}
 use Rattle.protobuf_parse_model.specs.FileDescriptor.{file_duplicates, file_faults}
 use Rattle.protobuf_parse_model.specs.OptionSets.{OptionSet, statement_sets, option_sets}
 use Rattle.protobuf_parse_model.specs.CustomSets.{faults_of_set, faults_of_sets, FaultsAreOfSets}
@@ -50,16 +51,16 @@ module _ (customs : Customs) where
       (adds-both customs
       (adds-none customs
       (ap duplicates
-      (flat-named message_name (messages_of (with_customs customs env))
-      (messages_of (bare env)) t.statements (messages-names customs no_customs env))))
+      (flat-named message_name (file_messages_of (with_customs customs env))
+      (file_messages_of (bare env)) t.statements (messages-names customs no_customs env))))
       (adds-none customs
       (ap duplicates
-      (flat-named (λ e. e.name) (files.enums_of (with_customs customs env))
-      (files.enums_of (bare env)) t.statements (file-enums-names customs no_customs env)))))
+      (flat-named (λ e. e.name) (files.file_enums_of (with_customs customs env))
+      (files.file_enums_of (bare env)) t.statements (file-enums-names customs no_customs env)))))
       (adds-none customs
       (ap duplicates
-      (flat-named (λ f. f.name) (files.extensions_of (with_customs customs env))
-      (files.extensions_of (bare env)) t.statements
+      (flat-named (λ f. f.name) (files.file_extensions_of (with_customs customs env))
+      (files.file_extensions_of (bare env)) t.statements
       (file-extensions-names customs no_customs env)))))
       (adds-none customs
       (ap duplicates

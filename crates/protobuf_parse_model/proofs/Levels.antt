@@ -58,7 +58,7 @@ nested_in_is env (s ∷ ss) = rw (nested_in_is env ss) refl
 pub nested_of_message : (env : Environment) (m : MessageSyntax)
     → nested_of env (nested_message m) ≡ message_of env m ∷ []
 nested_of_message env m =
-    rw (message_body_is m.body, nested_in_is (environment.inside env m.name) m.body) refl
+    rw (message_body_is m.body, nested_in_is (environment.env_inside env m.name) m.body) refl
 
 pub faults_in_is : (env : Environment) (ss : List MessageStatementSyntax)
     → faults_in env (message_statements ss) ≡ flat_map (statement_faults env) ss
@@ -70,8 +70,8 @@ pub faults_of_message : (env : Environment) (m : MessageSyntax)
 faults_of_message env m =
     rw (
       message_body_is m.body,
-      nested_in_is (environment.inside env m.name) m.body,
-      faults_in_is (environment.inside env m.name) m.body,
+      nested_in_is (environment.env_inside env m.name) m.body,
+      faults_in_is (environment.env_inside env m.name) m.body,
     ) refl
 
 -- ---- places among oneofs

@@ -26,9 +26,10 @@ use Rattle.protobuf_parse_model.specs.Duplicates.{fault, fault_when}
 use Rattle.protobuf_parse_model.specs.Faults.{Among, here, there, Elaborates, Fault}
 use Rattle.protobuf_parse_model.specs.Linking.{extension_names, link_faults, occurrences, repeated}
 use Rattle.protobuf_parse_model.specs.Linking.{type_names}
-use Rattle.protobuf_parse_model.specs.Tables.{Entry, Tells, declared_by, declared_in}
+use Rattle.protobuf_parse_model.specs.Tables.{Entry, TableTells, declared_by, declared_in}
 use Rattle.protobuf_parse_model.specs.Tables.{declared_in_file, extension_entry, generated_entry}
-use Rattle.protobuf_parse_model.specs.Tables.{is_of, kind_of, listed_names, name_faults, picked}
+use Rattle.protobuf_parse_model.specs.Tables.{is_of, declaration_kind, listed_names, name_faults}
+use Rattle.protobuf_parse_model.specs.Tables.{picked}
 use Rattle.protobuf_parse_model.specs.Tables.{times, times_declared, type_entry}
 use Rattle.protobuf_parse_model.proofs.Blaming.{among_left, among_right}
 use Rattle.protobuf_parse_model.proofs.Picks.{among, picked_among}
@@ -115,7 +116,7 @@ type_is : (extension : Bool) (d : DeclaredType)
     → is_of extension (type_entry d).what ≡ not extension
 type_is extension d = at d.what
   where
-    at : (k : _) → is_of extension (kind_of k) ≡ not extension
+    at : (k : _) → is_of extension (declaration_kind k) ≡ not extension
     at a_message = refl
     at an_enum = refl
 
@@ -283,7 +284,8 @@ when_none : (b : Bool) (kind : ElabErrorKind) (name : Text) → fault_when b kin
 when_none false kind name e = refl
 when_none true kind name e = absurd cc
 
-module _ (seen : Seen) (files : List FileSyntax) (tells : Tells seen.declarations.now files) where
+module _ (seen : Seen) (files : List FileSyntax)
+    (tells : TableTells seen.declarations.now files) where
   abbrev reached : List FileSyntax
   reached = picked files seen.reach.now
 

@@ -8,7 +8,7 @@ use Rattle.protobuf_parse_model.specs.declared.customs.Construct.TheVariants as 
 use Rattle.protobuf_parse_model.specs.Descriptors.{Text, MessageDescriptor}
 use Rattle.protobuf_parse_model.specs.Duplicates.{duplicates}
 use Rattle.protobuf_parse_model.specs.Statements.{message_body}
-use Rattle.protobuf_parse_model.specs.Environment.{Environment, Customs, no_customs, inside}
+use Rattle.protobuf_parse_model.specs.Environment.{Environment, Customs, no_customs, env_inside}
 use Rattle.protobuf_parse_model.specs.BuiltinOptions.{message_table}
 use Rattle.protobuf_parse_model.specs.Enums.{ranges_reserved}
 use Rattle.protobuf_parse_model.specs.Messages.{message_name, oneofs_of, extension_ranges, reserves}
@@ -59,7 +59,7 @@ module _ (customs : Customs) where
       (whole_faults (bare env) name body ns)
       (a_set of.Message env.scope (options_of_body body) ∷ [])
   whole-adds env name body ms ns same =
-      adds-both customs (duplicates-add (inside env name) body ms ns same)
+      adds-both customs (duplicates-add (env_inside env name) body ms ns same)
       (adds-both customs
       (adds-nothing customs
       (flat_map (range_faults name) (flat_map extension_ranges body)
@@ -74,10 +74,10 @@ module _ (customs : Customs) where
     statement-adds env (message_message at name body) =
         adds-both customs
         (whole-adds env name (message_body body)
-        (nested_in (with_customs customs (inside env name)) body)
-        (nested_in (bare (inside env name)) body)
-        (nested-in-names customs no_customs (inside env name) body))
-        (statements-add (inside env name) body)
+        (nested_in (with_customs customs (env_inside env name)) body)
+        (nested_in (bare (env_inside env name)) body)
+        (nested-in-names customs no_customs (env_inside env name) body))
+        (statements-add (env_inside env name) body)
     statement-adds env (message_field f) = field-statement-adds customs env f
     statement-adds env (message_oneof o) = oneof-adds customs env o
     statement-adds env (message_extend e) = extend-adds customs env e
@@ -97,13 +97,14 @@ module _ (customs : Customs) where
       → Adds customs (message_faults (with_customs customs env) m) (message_faults (bare env) m)
       (message_sets env.scope m)
   message-adds env m =
-      let ms = flat_map (nested_of (with_customs customs (inside env m.name))) m.body in
-      let ns = flat_map (nested_of (bare (inside env m.name))) m.body in
+      let ms = flat_map (nested_of (with_customs customs (env_inside env m.name))) m.body in
+      let ns = flat_map (nested_of (bare (env_inside env m.name))) m.body in
       adds-both customs
       (whole-adds env m.name m.body ms ns
-      (flat-named message_name (nested_of (with_customs customs (inside env m.name)))
-      (nested_of (bare (inside env m.name))) m.body
-      (nested-names customs no_customs (inside env m.name))))
-      (adds-flat customs (statement_faults (with_customs customs (inside env m.name)))
-      (statement_faults (bare (inside env m.name))) (sets_of (inside env m.name).scope) m.body
-      (statement-adds (inside env m.name)))
+      (flat-named message_name (nested_of (with_customs customs (env_inside env m.name)))
+      (nested_of (bare (env_inside env m.name))) m.body
+      (nested-names customs no_customs (env_inside env m.name))))
+      (adds-flat customs (statement_faults (with_customs customs (env_inside env m.name)))
+      (statement_faults (bare (env_inside env m.name))) (sets_of (env_inside env m.name).scope)
+      m.body
+      (statement-adds (env_inside env m.name)))

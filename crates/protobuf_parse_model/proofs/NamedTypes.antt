@@ -31,7 +31,7 @@ use Rattle.protobuf_parse_model.specs.Declarations.{a_message, an_enum, generate
 use Rattle.protobuf_parse_model.specs.Declarations.{generated_in, statement_generated}
 use Rattle.protobuf_parse_model.specs.Declarations.{file_generated}
 use Rattle.protobuf_parse_model.specs.Lookup.{meant}
-use Rattle.protobuf_parse_model.specs.Environment.{Environment, Customs, inside, type_named}
+use Rattle.protobuf_parse_model.specs.Environment.{Environment, Customs, env_inside, type_named}
 use Rattle.protobuf_parse_model.specs.Environment.{missing, type_missing}
 use Rattle.protobuf_parse_model.specs.BuiltinOptions.{oneof_table, service_table, method_table}
 use Rattle.protobuf_parse_model.specs.BuiltinOptions.{file_table}
@@ -58,12 +58,14 @@ use Rattle.protobuf_parse_model.specs.Services.{method_of, service_of, method_fa
 use Rattle.protobuf_parse_model.specs.Services.{methods_faults, service_faults}
 use Rattle.protobuf_parse_model.specs.FileDescriptor as files
 use Rattle.protobuf_parse_model.specs.FileDescriptor.{options_of_statements, types_of_files}
-use Rattle.protobuf_parse_model.specs.FileDescriptor.{environment, messages_of, services_of}
+use Rattle.protobuf_parse_model.specs.FileDescriptor.{environment, file_messages_of, services_of}
 use Rattle.protobuf_parse_model.specs.FileDescriptor.{file_of, file_duplicates, file_faults}
 use Rattle.protobuf_parse_model.specs.NamedTypes.{in_message, in_messages, fields_in, extensions_in}
 use Rattle.protobuf_parse_model.specs.NamedTypes.{names_of_field, names_of_method, names_of_service}
-use Rattle.protobuf_parse_model.specs.NamedTypes.{names_in, has_name, names_declared, if_message}
-use Rattle.protobuf_parse_model.specs.NamedTypes.{message_name, messages_declared, NamesAreDeclared}
+use Rattle.protobuf_parse_model.specs.NamedTypes.{type_names_in, has_name, names_declared}
+use Rattle.protobuf_parse_model.specs.NamedTypes.{if_message}
+use Rattle.protobuf_parse_model.specs.NamedTypes.{declared_message_name, messages_declared}
+use Rattle.protobuf_parse_model.specs.NamedTypes.{NamesAreDeclared}
 use Rattle.protobuf_parse_model.specs.NamedTypes.{TypesAreNamed, ExtendeesAreNamed}
 use Rattle.protobuf_parse_model.specs.NamedTypes.{MessagesAreNamed}
 use Rattle.protobuf_parse_model.proofs.Blaming.{among_left, among_right}
@@ -467,7 +469,7 @@ module _ (P M : Text → Type 0) (any : (name : Text) → M name → P name) (cu
 
   -- ---- messages
 
-  -- the fields of messages inside another
+  -- the fields of messages env_inside another
   nested-fields : (ms : List MessageDescriptor) → AllByRecursion MessageIsNamed ms
       → AllByRecursion FieldIsNamed
       (in_messages (λ (p : MessageParts). p.field) (messages_of_list ms))
@@ -487,24 +489,25 @@ module _ (P M : Text → Type 0) (any : (name : Text) → M name → P name) (cu
       (in_messages (λ (p : MessageParts). p.extension) (messages_of_list ms)) h.0.extensions
       (nested-extensions ms h.1)
 
-  -- a message, by its statements and the messages inside it
+  -- a message, by its statements and the messages env_inside it
   message-named : (env : Environment) → Known env
       → (name : Text) (body : List MessageStatementSyntax) (ms : List MessageDescriptor)
-      → AllByRecursion (StatementIsClean (inside env name)) body → AllByRecursion MessageIsNamed ms
+      → AllByRecursion (StatementIsClean (env_inside env name)) body
+      → AllByRecursion MessageIsNamed ms
       → MessageIsNamed (message_from (with_customs env) name body ms)
   message-named env known name body ms h k = record {
-    fields = all-both FieldIsNamed (fields_from (with_customs (inside env name)) 0 body)
+    fields = all-both FieldIsNamed (fields_from (with_customs (env_inside env name)) 0 body)
         (in_messages (λ (p : MessageParts). p.field) (messages_of_list ms))
-        (fields-from (inside env name) known 0 body h) (nested-fields ms k);
+        (fields-from (env_inside env name) known 0 body h) (nested-fields ms k);
     extensions = all-both ExtensionIsNamed
-        (flat_map (messages.extensions_of (with_customs (inside env name))) body)
+        (flat_map (messages.extensions_of (with_customs (env_inside env name))) body)
         (in_messages (λ (p : MessageParts). p.extension) (messages_of_list ms))
-        (all-flat ExtensionIsNamed (messages.extensions_of (with_customs (inside env name)))
-        (StatementIsClean (inside env name))
-        (extensions-of (inside env name) known) body h) (nested-extensions ms k);
+        (all-flat ExtensionIsNamed (messages.extensions_of (with_customs (env_inside env name)))
+        (StatementIsClean (env_inside env name))
+        (extensions-of (env_inside env name) known) body h) (nested-extensions ms k);
   }
 
-  -- the statements of a message inside another
+  -- the statements of a message env_inside another
   clean-in : (env : Environment) (ss : MessageStatementList) → faults_in env ss ≡ []
       → AllByRecursion M (generated_in env.scope ss)
       → AllByRecursion (StatementIsClean env) (message_body ss)
@@ -525,14 +528,14 @@ module _ (P M : Text → Type 0) (any : (name : Text) → M name → P name) (cu
         → messages.statement_faults env s ≡ [] → AllByRecursion M (generated_of env.scope s)
         → AllByRecursion MessageIsNamed (nested_of (with_customs env) s)
     nested-of env known (message_message at name body) h g =
-        let none : faults_in (inside env name) body
+        let none : faults_in (env_inside env name) body
         ≡ [] = no-right
-        (whole_faults env name (message_body body) (nested_in (inside env name) body))
-        (faults_in (inside env name) body) h in (
+        (whole_faults env name (message_body body) (nested_in (env_inside env name) body))
+        (faults_in (env_inside env name) body) h in (
           message-named env known name (message_body body)
-              (nested_in (with_customs (inside env name)) body)
-              (clean-in (inside env name) body none g)
-              (nested-in (inside env name) known body none g),
+              (nested_in (with_customs (env_inside env name)) body)
+              (clean-in (env_inside env name) body none g)
+              (nested-in (env_inside env name) known body none g),
           tt,
         )
     nested-of env known (message_field f) h g = behind-named env known f h
@@ -556,22 +559,22 @@ module _ (P M : Text → Type 0) (any : (name : Text) → M name → P name) (cu
   -- a message of a file
   message-of-named : (env : Environment) → Known env → (m : MessageSyntax)
       → message_faults env m ≡ []
-      → AllByRecursion M (flat_map (generated_of (inside env m.name).scope) m.body)
+      → AllByRecursion M (flat_map (generated_of (env_inside env m.name).scope) m.body)
       → MessageIsNamed (message_of (with_customs env) m)
   message-of-named env known m h g =
-      let none : flat_map (messages.statement_faults (inside env m.name)) m.body
+      let none : flat_map (messages.statement_faults (env_inside env m.name)) m.body
       ≡ [] = no-right
-      (whole_faults env m.name m.body (flat_map (nested_of (inside env m.name)) m.body))
-      (flat_map (messages.statement_faults (inside env m.name)) m.body) h in
-      let clean : AllByRecursion (StatementIsClean (inside env m.name)) m.body =
-      clean-each (messages.statement_faults (inside env m.name)) M
-      (generated_of (inside env m.name).scope) m.body none g in
+      (whole_faults env m.name m.body (flat_map (nested_of (env_inside env m.name)) m.body))
+      (flat_map (messages.statement_faults (env_inside env m.name)) m.body) h in
+      let clean : AllByRecursion (StatementIsClean (env_inside env m.name)) m.body =
+      clean-each (messages.statement_faults (env_inside env m.name)) M
+      (generated_of (env_inside env m.name).scope) m.body none g in
       message-named env known m.name m.body
-      (flat_map (nested_of (with_customs (inside env m.name))) m.body) clean
-      (all-flat MessageIsNamed (nested_of (with_customs (inside env m.name)))
-      (StatementIsClean (inside env m.name))
-      (λ (s : MessageStatementSyntax) (c : StatementIsClean (inside env m.name) s). nested-of
-      (inside env m.name) known s c.none c.each) m.body clean)
+      (flat_map (nested_of (with_customs (env_inside env m.name))) m.body) clean
+      (all-flat MessageIsNamed (nested_of (with_customs (env_inside env m.name)))
+      (StatementIsClean (env_inside env m.name))
+      (λ (s : MessageStatementSyntax) (c : StatementIsClean (env_inside env m.name) s). nested-of
+      (env_inside env m.name) known s c.none c.each) m.body clean)
 
   -- ---- services
 
@@ -616,7 +619,7 @@ module _ (P M : Text → Type 0) (any : (name : Text) → M name → P name) (cu
 
   -- the messages of a statement
   messages-of : (env : Environment) → Known env → (s : StatementSyntax) → FileStatementIsClean env s
-      → AllByRecursion MessageIsNamed (messages_of (with_customs env) s)
+      → AllByRecursion MessageIsNamed (file_messages_of (with_customs env) s)
   messages-of env known (file_message m) c = (message-of-named env known m c.none c.each, tt)
   messages-of env known (file_extend e) c = extend-behind env known e c.none
   messages-of env known _ c = tt
@@ -624,7 +627,7 @@ module _ (P M : Text → Type 0) (any : (name : Text) → M name → P name) (cu
   -- the extensions of a statement
   file-extensions-of : (env : Environment) → Known env → (s : StatementSyntax)
       → FileStatementIsClean env s
-      → AllByRecursion ExtensionIsNamed (files.extensions_of (with_customs env) s)
+      → AllByRecursion ExtensionIsNamed (files.file_extensions_of (with_customs env) s)
   file-extensions-of env known (file_extend e) c = extend-named env known e c.none c.each
   file-extensions-of env known _ c = tt
 
@@ -646,20 +649,20 @@ module _ (P M : Text → Type 0) (any : (name : Text) → M name → P name) (cu
       let clean : AllByRecursion (FileStatementIsClean env) t.statements =
       clean-each (files.statement_faults env) M
       (statement_generated env.scope) t.statements none g in
-      let ms = flat_map (messages_of (with_customs env)) t.statements in
+      let ms = flat_map (file_messages_of (with_customs env)) t.statements in
       let all : AllByRecursion MessageIsNamed ms =
-      all-flat MessageIsNamed (messages_of (with_customs env)) (FileStatementIsClean env)
+      all-flat MessageIsNamed (file_messages_of (with_customs env)) (FileStatementIsClean env)
       (messages-of env known) t.statements clean in
       record {
         fields = all-flat FieldIsNamed (in_message (λ (p : MessageParts). p.field)) MessageIsNamed
             (λ (m : MessageDescriptor) (k : MessageIsNamed m). k.fields) ms all;
         extensions = all-both ExtensionIsNamed
             (flat_map (in_message (λ (p : MessageParts). p.extension)) ms)
-            (flat_map (files.extensions_of (with_customs env)) t.statements)
+            (flat_map (files.file_extensions_of (with_customs env)) t.statements)
             (all-flat ExtensionIsNamed (in_message (λ (p : MessageParts). p.extension))
             MessageIsNamed (λ (m : MessageDescriptor) (k : MessageIsNamed m). k.extensions) ms
             all)
-            (all-flat ExtensionIsNamed (files.extensions_of (with_customs env))
+            (all-flat ExtensionIsNamed (files.file_extensions_of (with_customs env))
             (FileStatementIsClean env) (file-extensions-of env known) t.statements clean);
         services = all-flat P names_of_service ServiceIsNamed
             (λ (s : ServiceDescriptor) (k : ServiceIsNamed s). k)
@@ -669,7 +672,7 @@ module _ (P M : Text → Type 0) (any : (name : Text) → M name → P name) (cu
       }
 
   -- the names in a file
-  names-each : (f : FileDescriptor) → FileIsNamed f → AllByRecursion P (names_in f)
+  names-each : (f : FileDescriptor) → FileIsNamed f → AllByRecursion P (type_names_in f)
   names-each f h =
       let fields = flat_map names_of_field (fields_in f) in
       let extensions = flat_map names_of_field (extensions_in f) in
@@ -700,27 +703,28 @@ back (z ∷ xs) ys ys' _ f here = here
 back (z ∷ xs) ys ys' x f (there h) = there (back xs ys ys' x f h)
 
 -- the name of a message is one of a type
-message-told : (ds : List DeclaredType) (n : Text) → Among (flat_map message_name ds) n
+message-told : (ds : List DeclaredType) (n : Text) → Among (flat_map declared_message_name ds) n
     → Among (map (λ (d : DeclaredType). d.name) ds) n
 message-told [] n h = elim h [ ]
 message-told (d ∷ ds) n h = at d.what h (message-told ds n)
   where
-    at : (k : TypeKind) → Among (if_message k d.name ++ flat_map message_name ds) n
-        → (Among (flat_map message_name ds) n → Among (map (λ (x : DeclaredType). x.name) ds) n)
+    at : (k : TypeKind) → Among (if_message k d.name ++ flat_map declared_message_name ds) n
+        → (Among (flat_map declared_message_name ds) n
+        → Among (map (λ (x : DeclaredType). x.name) ds) n)
         → Among (map (λ (x : DeclaredType). x.name) (d ∷ ds)) n
     at a_message k rest =
-        back (d.name ∷ []) (flat_map message_name ds)
+        back (d.name ∷ []) (flat_map declared_message_name ds)
         (map (λ (x : DeclaredType). x.name) ds) n rest k
     at an_enum k rest = there (rest k)
 
 -- a message that is declared has its name among those of messages
 message-from : (ds : List DeclaredType) (d : DeclaredType) → Among ds d → d.what ≡ a_message
-    → Among (flat_map message_name ds) d.name
+    → Among (flat_map declared_message_name ds) d.name
 message-from [] d h e = elim h [ ]
 message-from (d ∷ ds) _ here e =
-    among_left (flat_map message_name ds)
+    among_left (flat_map declared_message_name ds)
     (subst (λ (k : TypeKind). Among (if_message k d.name) d.name) (sym e) here)
-message-from (x ∷ ds) d (there h) e = among_right (message_name x) (message-from ds d h e)
+message-from (x ∷ ds) d (there h) e = among_right (declared_message_name x) (message-from ds d h e)
 
 -- ---- the laws
 

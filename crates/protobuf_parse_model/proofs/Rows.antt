@@ -31,14 +31,14 @@ use Rattle.protobuf_parse_model.specs.declared.error.ElabErrorKind.TheVariants a
 use Rattle.protobuf_parse_model.specs.Descriptors.{FileDescriptor, ServiceDescriptor}
 use Rattle.protobuf_parse_model.specs.Descriptors.{MethodDescriptor, Text, FieldDescriptor}
 use Rattle.protobuf_parse_model.specs.Descriptors.{OneofDescriptor, MessageDescriptor, MessageParts}
-use Rattle.protobuf_parse_model.specs.Descriptors.{a_message, list_of}
+use Rattle.protobuf_parse_model.specs.Descriptors.{a_message, messages_list}
 use Rattle.protobuf_parse_model.specs.Environment.{Environment, no_customs}
 use Rattle.protobuf_parse_model.specs.OptionsSet.{entry_options}
 use Rattle.protobuf_parse_model.specs.Fields.{plain, field_of, field_faults, names_of_fields}
 use Rattle.protobuf_parse_model.specs.Enums.{enum_of}
 use Rattle.protobuf_parse_model.specs.Messages as messages
 use Rattle.protobuf_parse_model.specs.FileDescriptor.{environment, file_of, file_faults}
-use Rattle.protobuf_parse_model.specs.NamedTypes.{names_in}
+use Rattle.protobuf_parse_model.specs.NamedTypes.{type_names_in}
 use Rattle.protobuf_parse_model.specs.Linking.{link_faults}
 
 -- ---- trees; where their parts stand says nothing
@@ -77,7 +77,7 @@ abbrev parts : MessageDescriptor → MessageParts
 parts (a_message p nested) = p
 
 abbrev nested : MessageDescriptor → List MessageDescriptor
-nested (a_message p ms) = list_of ms
+nested (a_message p ms) = messages_list ms
 
 abbrev first : {A : Type 0} → List A → (A → Text) → Text
 first [] text = []
@@ -387,15 +387,16 @@ packaged_has_no_fault : file_faults (alone packaged) packaged ≡ []
 packaged_has_no_fault = refl
 
 -- of the extension its type and what it extends, of the method what it takes and returns
-all_types_are_named : names_in of_packaged ≡ codes ".p.q.M" ∷ codes ".p.q.M" ∷ codes ".p.q.M"
+all_types_are_named : type_names_in of_packaged ≡ codes ".p.q.M" ∷ codes ".p.q.M" ∷ codes ".p.q.M"
     ∷ codes ".p.q.M" ∷ []
 all_types_are_named = refl
 
-nested_types_are_named : names_in (file_of (alone scopes) (codes "x.proto") scopes) ≡ codes ".B.D"
+nested_types_are_named : type_names_in (file_of (alone scopes) (codes "x.proto") scopes)
+    ≡ codes ".B.D"
     ∷ []
 nested_types_are_named = refl
 
-maps_are_named : names_in (file_of (alone with_map) (codes "x.proto") with_map)
+maps_are_named : type_names_in (file_of (alone with_map) (codes "x.proto") with_map)
     ≡ codes ".M.FooBarEntry" ∷ []
 unfolding chars lib.Utf8.encode
 maps_are_named = refl
@@ -409,12 +410,12 @@ map_of_messages =
     (field (a_field None (map_of (scalar word.String) (named (codes "M"))) (codes "m") 1 [])) ∷ [])
     ∷ [])
 
-values_are_named : names_in (file_of (alone map_of_messages) (codes "x.proto") map_of_messages)
+values_are_named : type_names_in (file_of (alone map_of_messages) (codes "x.proto") map_of_messages)
     ≡ codes ".M.MEntry" ∷ codes ".M" ∷ []
 unfolding chars lib.Utf8.encode
 values_are_named = refl
 
-groups_are_named : names_in (file_of (alone (with_group [])) (codes "x.proto") (with_group []))
+groups_are_named : type_names_in (file_of (alone (with_group [])) (codes "x.proto") (with_group []))
     ≡ codes ".M.Item" ∷ []
 groups_are_named = refl
 

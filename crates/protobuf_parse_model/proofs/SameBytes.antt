@@ -14,7 +14,7 @@ use Rattle.protobuf_parse_model.specs.Descriptors.{Text, MessageDescriptor}
 use Rattle.protobuf_parse_model.specs.Faults.{Among, here, there}
 use Rattle.protobuf_parse_model.specs.Statements.{group_body, message_body, oneof_fields}
 use Rattle.protobuf_parse_model.specs.Declarations.{Scope}
-use Rattle.protobuf_parse_model.specs.Environment.{Environment, Customs, inside}
+use Rattle.protobuf_parse_model.specs.Environment.{Environment, Customs, env_inside}
 use Rattle.protobuf_parse_model.specs.Fields.{FieldPlace, plain, field_of, field_statement_of}
 use Rattle.protobuf_parse_model.specs.Enums.{enum_values, options_of_enum, value_of, enum_of}
 use Rattle.protobuf_parse_model.specs.Services.{methods_in, options_of_service, method_of}
@@ -27,7 +27,7 @@ use Rattle.protobuf_parse_model.specs.Messages.{options_of_body, message_from, n
 use Rattle.protobuf_parse_model.specs.Messages.{message_of}
 use Rattle.protobuf_parse_model.specs.FileDescriptor as files
 use Rattle.protobuf_parse_model.specs.FileDescriptor.{options_of_statements, environment}
-use Rattle.protobuf_parse_model.specs.FileDescriptor.{messages_of, services_of, file_of}
+use Rattle.protobuf_parse_model.specs.FileDescriptor.{file_messages_of, services_of, file_of}
 use Rattle.protobuf_parse_model.specs.OptionSets.{OptionSet, a_set, sets_in_group, field_sets}
 use Rattle.protobuf_parse_model.specs.OptionSets.{value_set, enum_sets, sets_of, sets_in}
 use Rattle.protobuf_parse_model.specs.OptionSets.{message_sets, method_set, service_sets}
@@ -219,23 +219,24 @@ module _ (one other : Customs) where
 
   -- ---- messages
 
-  -- a message, by its own set, by those of its body, and by the messages inside it
+  -- a message, by its own set, by those of its body, and by the messages env_inside it
   message-from-same : (env : Environment) (name : Text) (body : List MessageStatementSyntax)
       (ms ns : List MessageDescriptor)
       → one.bytes of.Message env.scope (options_of_body body)
       ≡ other.bytes of.Message env.scope (options_of_body body)
-      → Same (flat_map (sets_of (inside env name).scope) body) → ms ≡ ns
+      → Same (flat_map (sets_of (env_inside env name).scope) body) → ms ≡ ns
       → message_from (by_one env) name body ms ≡ message_from (by_other env) name body ns
   message-from-same env name body ms ns own h same =
-      let sets = sets_of (inside env name).scope in
-      let fields = fields-from-same (inside env name) 0 body h in
-      let oneofs = flat-same sets (oneofs_of (by_one (inside env name)))
-      (oneofs_of (by_other (inside env name))) (oneofs-same (inside env name)) body h in
-      let enums = flat-same sets (messages.enums_of (by_one (inside env name)))
-      (messages.enums_of (by_other (inside env name))) (enums-same (inside env name)) body h in
-      let extensions = flat-same sets (messages.extensions_of (by_one (inside env name)))
-      (messages.extensions_of (by_other (inside env name)))
-      (extensions-same (inside env name)) body h in
+      let sets = sets_of (env_inside env name).scope in
+      let fields = fields-from-same (env_inside env name) 0 body h in
+      let oneofs = flat-same sets (oneofs_of (by_one (env_inside env name)))
+      (oneofs_of (by_other (env_inside env name))) (oneofs-same (env_inside env name)) body h in
+      let enums = flat-same sets (messages.enums_of (by_one (env_inside env name)))
+      (messages.enums_of (by_other (env_inside env name))) (enums-same (env_inside env name)) body
+      h in
+      let extensions = flat-same sets (messages.extensions_of (by_one (env_inside env name)))
+      (messages.extensions_of (by_other (env_inside env name)))
+      (extensions-same (env_inside env name)) body h in
       rw (fields, oneofs, enums, extensions, own, same) refl
 
   -- the sets of a body, by its list
@@ -250,11 +251,12 @@ module _ (one other : Customs) where
         → nested_of (by_one env) s ≡ nested_of (by_other env) s
     nested-same env (message_message at name body) h =
         ap (λ m. m ∷ [])
-        (message-from-same env name (message_body body) (nested_in (by_one (inside env name)) body)
-        (nested_in (by_other (inside env name)) body)
+        (message-from-same env name (message_body body)
+        (nested_in (by_one (env_inside env name)) body)
+        (nested_in (by_other (env_inside env name)) body)
         (h (a_set of.Message env.scope (options_of_body (message_body body))) here)
-        (subst Same (sets-in (inside env name).scope body) (λ s k. h s (there k)))
-        (nested-in-same (inside env name) body (λ s k. h s (there k))))
+        (subst Same (sets-in (env_inside env name).scope body) (λ s k. h s (there k)))
+        (nested-in-same (env_inside env name) body (λ s k. h s (there k))))
     nested-same env (message_field f) h = behind-same env f h
     nested-same env (message_oneof o) h =
         behinds-same env (flat_map oneof_fields o.body) (λ s k. h s (there k))
@@ -273,33 +275,35 @@ module _ (one other : Customs) where
   message-same : (env : Environment) (m : MessageSyntax) → Same (message_sets env.scope m)
       → message_of (by_one env) m ≡ message_of (by_other env) m
   message-same env m h =
-      message-from-same env m.name m.body (flat_map (nested_of (by_one (inside env m.name))) m.body)
-      (flat_map (nested_of (by_other (inside env m.name))) m.body)
+      message-from-same env m.name m.body
+      (flat_map (nested_of (by_one (env_inside env m.name))) m.body)
+      (flat_map (nested_of (by_other (env_inside env m.name))) m.body)
       (h (a_set of.Message env.scope (options_of_body m.body)) here)
       (λ s k. h s (there k))
-      (flat-same (sets_of (inside env m.name).scope) (nested_of (by_one (inside env m.name)))
-      (nested_of (by_other (inside env m.name))) (nested-same (inside env m.name)) m.body
+      (flat-same (sets_of (env_inside env m.name).scope)
+      (nested_of (by_one (env_inside env m.name)))
+      (nested_of (by_other (env_inside env m.name))) (nested-same (env_inside env m.name)) m.body
       (λ s k. h s (there k)))
 
   -- ---- files
 
   -- the messages of a statement
   messages-same : (env : Environment) (s : StatementSyntax) → Same (statement_sets env.scope s)
-      → messages_of (by_one env) s ≡ messages_of (by_other env) s
+      → file_messages_of (by_one env) s ≡ file_messages_of (by_other env) s
   messages-same env (file_message m) h = ap (λ d. d ∷ []) (message-same env m h)
   messages-same env (file_extend e) h = behinds-same env e.fields h
   messages-same env _ h = refl
 
   -- its enums
   file-enums-same : (env : Environment) (s : StatementSyntax) → Same (statement_sets env.scope s)
-      → files.enums_of (by_one env) s ≡ files.enums_of (by_other env) s
+      → files.file_enums_of (by_one env) s ≡ files.file_enums_of (by_other env) s
   file-enums-same env (file_enum e) h = ap (λ d. d ∷ []) (enum-same env e h)
   file-enums-same env _ h = refl
 
   -- its extensions
   file-extensions-same : (env : Environment) (s : StatementSyntax)
       → Same (statement_sets env.scope s)
-      → files.extensions_of (by_one env) s ≡ files.extensions_of (by_other env) s
+      → files.file_extensions_of (by_one env) s ≡ files.file_extensions_of (by_other env) s
   file-extensions-same env (file_extend e) h = fields-same env (extending env e.extendee) e.fields h
   file-extensions-same env _ h = refl
 
@@ -315,12 +319,12 @@ module _ (one other : Customs) where
   file-same seen path t h =
       let env = environment seen one t in
       let after : Same (flat_map (statement_sets env.scope) t.statements) = λ s k. h s (there k) in
-      let messages = flat-same (statement_sets env.scope) (messages_of (by_one env))
-      (messages_of (by_other env)) (messages-same env) t.statements after in
-      let enums = flat-same (statement_sets env.scope) (files.enums_of (by_one env))
-      (files.enums_of (by_other env)) (file-enums-same env) t.statements after in
-      let extensions = flat-same (statement_sets env.scope) (files.extensions_of (by_one env))
-      (files.extensions_of (by_other env)) (file-extensions-same env) t.statements after in
+      let messages = flat-same (statement_sets env.scope) (file_messages_of (by_one env))
+      (file_messages_of (by_other env)) (messages-same env) t.statements after in
+      let enums = flat-same (statement_sets env.scope) (files.file_enums_of (by_one env))
+      (files.file_enums_of (by_other env)) (file-enums-same env) t.statements after in
+      let extensions = flat-same (statement_sets env.scope) (files.file_extensions_of (by_one env))
+      (files.file_extensions_of (by_other env)) (file-extensions-same env) t.statements after in
       let services = flat-same (statement_sets env.scope) (services_of (by_one env))
       (services_of (by_other env)) (services-same env) t.statements after in
       rw (

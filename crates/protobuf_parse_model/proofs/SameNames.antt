@@ -20,7 +20,8 @@ use Rattle.protobuf_parse_model.specs.Messages.{extending, message_name, names_o
 use Rattle.protobuf_parse_model.specs.Messages.{names_of_oneofs, names_of_enums, nested_of}
 use Rattle.protobuf_parse_model.specs.Messages.{nested_in}
 use Rattle.protobuf_parse_model.specs.FileDescriptor as files
-use Rattle.protobuf_parse_model.specs.FileDescriptor.{messages_of, services_of, names_of_services}
+use Rattle.protobuf_parse_model.specs.FileDescriptor.{file_messages_of, services_of}
+use Rattle.protobuf_parse_model.specs.FileDescriptor.{names_of_services}
 
 -- the environment, with these custom options
 abbrev pub with_customs : Customs → Environment → Environment
@@ -157,23 +158,23 @@ module _ (one other : Customs) where
 
   -- the messages of a statement
   pub messages-names : (env : Environment) (s : StatementSyntax)
-      → names_of_messages (messages_of (with_customs one env) s)
-      ≡ names_of_messages (messages_of (with_customs other env) s)
+      → names_of_messages (file_messages_of (with_customs one env) s)
+      ≡ names_of_messages (file_messages_of (with_customs other env) s)
   messages-names env (file_message m) = refl
   messages-names env (file_extend e) = behinds-names env e.fields
   messages-names env _ = refl
 
   -- its enums
   pub file-enums-names : (env : Environment) (s : StatementSyntax)
-      → names_of_enums (files.enums_of (with_customs one env) s)
-      ≡ names_of_enums (files.enums_of (with_customs other env) s)
+      → names_of_enums (files.file_enums_of (with_customs one env) s)
+      ≡ names_of_enums (files.file_enums_of (with_customs other env) s)
   file-enums-names env (file_enum e) = refl
   file-enums-names env _ = refl
 
   -- its extensions
   pub file-extensions-names : (env : Environment) (s : StatementSyntax)
-      → names_of_fields (files.extensions_of (with_customs one env) s)
-      ≡ names_of_fields (files.extensions_of (with_customs other env) s)
+      → names_of_fields (files.file_extensions_of (with_customs one env) s)
+      ≡ names_of_fields (files.file_extensions_of (with_customs other env) s)
   file-extensions-names env (file_extend e) =
       fields-names env (extending env e.extendee) (extending env e.extendee) e.fields
   file-extensions-names env _ = refl

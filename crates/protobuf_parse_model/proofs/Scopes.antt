@@ -18,16 +18,16 @@ use Rattle.protobuf_parse_base.specs.Names.{absolute_text, fronts}
 use Rattle.protobuf_parse_base.proofs.Fronts.{fronts-push}
 use Rattle.protobuf_parse_base.proofs.NameTexts.{absolute_text-append}
 use Rattle.protobuf_parse_model.specs.Descriptors.{Text}
-use Rattle.protobuf_parse_model.specs.Contexts.{texts}
+use Rattle.protobuf_parse_model.specs.Contexts.{name_texts}
 use Rattle.protobuf_parse_model.specs.Declarations.{Declared, full_name}
 use Rattle.protobuf_parse_model.specs.Lookup.{Meanings, declared_in_first}
 
 module _ {A : Type 0} (of : Meanings A) (name : Text) (scope : List (Bor (List ℕ))) where
   abbrev here : ℕ → Option (Declared A)
-  here n = of (full_name (texts (take n scope)) name)
+  here n = of (full_name (name_texts (take n scope)) name)
 
   abbrev outward : ℕ → Option (Declared A)
-  outward n = declared_in_first of name (fronts (texts (take n scope)))
+  outward n = declared_in_first of name (fronts (name_texts (take n scope)))
 
   next : (n : ℕ) → suc n ≡ n + 1
   next n = omega arith
@@ -35,11 +35,11 @@ module _ {A : Type 0} (of : Meanings A) (name : Text) (scope : List (Bor (List �
   longest : (n : ℕ) → n < length scope → outward (suc n) ≡ option_or (here (suc n)) (outward n)
   longest n lt =
       let d = get_or scope n (record { ref_ptr = (0, 0); now = [] }) in
-      let e : texts (take (suc n) scope) ≡ texts (take n scope) ++ d.now
-      ∷ [] = ap (λ k. texts (take k scope)) (next n)
+      let e : name_texts (take (suc n) scope) ≡ name_texts (take n scope) ++ d.now
+      ∷ [] = ap (λ k. name_texts (take k scope)) (next n)
       ∙ map_more (λ (s : Bor (List ℕ)). s.now) scope n
       (record { ref_ptr = (0, 0); now = [] }) lt in
-      rw (e, fronts-push (texts (take n scope)) d.now) refl
+      rw (e, fronts-push (name_texts (take n scope)) d.now) refl
 
   pub found-here : (k : ℕ) (whole : Option (Declared A)) (d : Declared A) → 0 < k → k ≤ length scope
       → whole ≡ outward k → Some d ≡ here k → Some d ≡ whole
@@ -67,20 +67,21 @@ full_name-last front last name =
 pub full_name-outward : (scope : List (Bor (List ℕ))) (name : Text) (n : ℕ) (last : Bor (List ℕ))
     → 0 < n → n ≤ length scope
     → last ≡ get_or scope (n - 1) (record { ref_ptr = (0, 0); now = [] })
-    → full_name (texts (take n scope)) name
-    ≡ absolute_text (texts (take (n - 1) scope)) ++ 46 ∷ (last.now ++ 46 ∷ name)
+    → full_name (name_texts (take n scope)) name
+    ≡ absolute_text (name_texts (take (n - 1) scope)) ++ 46 ∷ (last.now ++ 46 ∷ name)
 full_name-outward scope name zero last pos le is = absurd (omega (arith, pos))
 full_name-outward scope name (suc m) last pos le is =
     let none : Bor (List ℕ) = record { ref_ptr = (0, 0); now = [] } in
     let next : suc m ≡ m + 1 = omega arith in
     let before : suc m - 1 ≡ m = omega arith in
     let here : last ≡ get_or scope m none = is ∙ ap (λ k. get_or scope k none) before in
-    let whole : texts (take (suc m) scope) ≡ texts (take m scope) ++ last.now ∷ [] =
-    ap (λ k. texts (take k scope)) next
+    let whole : name_texts (take (suc m) scope) ≡ name_texts (take m scope) ++ last.now ∷ [] =
+    ap (λ k. name_texts (take k scope)) next
     ∙ map_more (λ (s : Bor (List ℕ)). s.now) scope m none (omega (arith, le))
-    ∙ ap (λ (d : Bor (List ℕ)). texts (take m scope) ++ d.now ∷ []) (sym here) in
-    ap (λ s. full_name s name) whole ∙ full_name-last (texts (take m scope)) last.now name
-    ∙ ap (λ k. absolute_text (texts (take k scope)) ++ 46 ∷ (last.now ++ 46 ∷ name)) (sym before)
+    ∙ ap (λ (d : Bor (List ℕ)). name_texts (take m scope) ++ d.now ∷ []) (sym here) in
+    ap (λ s. full_name s name) whole ∙ full_name-last (name_texts (take m scope)) last.now name
+    ∙ ap (λ k. absolute_text (name_texts (take k scope)) ++ 46 ∷ (last.now ++ 46 ∷ name))
+    (sym before)
 
 -- ** a search among ascending numbers
 

@@ -18,8 +18,9 @@ use Rattle.protobuf_parse_model.specs.Declarations.{file_extensions, file_genera
 use Rattle.protobuf_parse_model.specs.Lookup.{declared}
 use Rattle.protobuf_parse_model.specs.FileDescriptor.{types_of_files}
 use Rattle.protobuf_parse_model.specs.Contexts.{declared_type, first_type, seen_types, type_kind}
-use Rattle.protobuf_parse_model.specs.Tables.{Entry, Tells, declared_by, declared_in}
-use Rattle.protobuf_parse_model.specs.Tables.{extension_entry, generated_entry, kind_of, picked}
+use Rattle.protobuf_parse_model.specs.Tables.{Entry, TableTells, declared_by, declared_in}
+use Rattle.protobuf_parse_model.specs.Tables.{extension_entry, generated_entry, declaration_kind}
+use Rattle.protobuf_parse_model.specs.Tables.{picked}
 use Rattle.protobuf_parse_model.specs.Tables.{type_entry}
 use Rattle.protobuf_parse_model.proofs.Picks.{among, picked_among}
 
@@ -32,20 +33,22 @@ module _ (name : Text) where
 
   -- what a declaration of a type means, before others
   means : (d : DeclaredType) (rest : Option TypeKind) → d.name ≡ name
-      → meant (option_or (type_kind (kind_of d.what)) rest) ≡ Some d
+      → meant (option_or (type_kind (declaration_kind d.what)) rest) ≡ Some d
   means d rest e = at d.what refl
     where
       named : declarations.TypeKind → Text → DeclaredType
       named k text = record { name = text; what = k }
 
       at : (k : declarations.TypeKind) → d.what ≡ k
-          → meant (option_or (type_kind (kind_of d.what)) rest) ≡ Some d
+          → meant (option_or (type_kind (declaration_kind d.what)) rest) ≡ Some d
       at a_message is =
-          ap (λ (k : declarations.TypeKind). meant (option_or (type_kind (kind_of k)) rest)) is
+          ap (λ (k : declarations.TypeKind). meant
+          (option_or (type_kind (declaration_kind k)) rest)) is
           ∙ ap (λ text. Some (named a_message text)) (sym e)
           ∙ ap (λ k. Some (named k d.name)) (sym is)
       at an_enum is =
-          ap (λ (k : declarations.TypeKind). meant (option_or (type_kind (kind_of k)) rest)) is
+          ap (λ (k : declarations.TypeKind). meant
+          (option_or (type_kind (declaration_kind k)) rest)) is
           ∙ ap (λ text. Some (named an_enum text)) (sym e)
           ∙ ap (λ k. Some (named k d.name)) (sym is)
 
@@ -69,7 +72,8 @@ module _ (name : Text) where
       at false h more = more
       at true h more =
           let others = first_type sight (declared_by type_entry name n ds ++ rest) in
-          ap (λ z. meant (if z then option_or (type_kind (kind_of d.what)) others else others)) e
+          ap (λ z. meant (if z then option_or (type_kind (declaration_kind d.what)) others else
+          others)) e
           ∙ means d others ((bytes_eq-Decides d.name name).0 h)
   first_of sight n false e (d ∷ ds) rest = at (is_named d) refl (first_of sight n false e ds rest)
     where
@@ -83,7 +87,8 @@ module _ (name : Text) where
       at false h more = more
       at true h more =
           let others = first_type sight (declared_by type_entry name n ds ++ rest) in
-          ap (λ z. meant (if z then option_or (type_kind (kind_of d.what)) others else others)) e
+          ap (λ z. meant (if z then option_or (type_kind (declaration_kind d.what)) others else
+          others)) e
           ∙ more
 
   -- what is no type is passed over
@@ -160,7 +165,8 @@ module _ (name : Text) where
           (types_of_files ((if b then t ∷ [] else []) ++ among sight (suc n) ts))) (sym e)
 
 -- Where the table tells of the files, a file sees just the types of those in its sight.
-pub seen_types_are : (seen : Seen) (files : List FileSyntax) → Tells seen.declarations.now files
+pub seen_types_are : (seen : Seen) (files : List FileSyntax)
+    → TableTells seen.declarations.now files
     → seen_types seen ≡ declared (types_of_files (picked files seen.sight.now))
 seen_types_are seen files tells = fun_ext (λ (name : Text).
     let sight = seen.sight.now in

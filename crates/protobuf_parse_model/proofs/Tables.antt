@@ -33,7 +33,7 @@ use Rattle.protobuf_parse_model.specs.Declarations.{full_name, generated_of, ins
 use Rattle.protobuf_parse_model.specs.Declarations.{types_of}
 use Rattle.protobuf_parse_model.specs.Statements.{field_statement_name}
 use Rattle.protobuf_parse_model.specs.Contexts.{declared_as, listed}
-use Rattle.protobuf_parse_model.specs.Tables.{Adds, AddsOne, Entry, ListsRepeated, Tells}
+use Rattle.protobuf_parse_model.specs.Tables.{Adds, AddsOne, Entry, ListsRepeated, TableTells}
 use Rattle.protobuf_parse_model.specs.Tables.{declared_by, declared_in, declared_in_file}
 use Rattle.protobuf_parse_model.specs.Tables.{extension_entry, generated_entry, listed_names}
 use Rattle.protobuf_parse_model.specs.Tables.{type_entry}
@@ -269,7 +269,7 @@ pub tells_more : (old first second new : Declarations) (files : List FileSyntax)
     → Adds type_entry old first file (file_types t)
     → Adds generated_entry first second file (file_generated t)
     → Adds extension_entry second new file (file_extensions t)
-    → length files ≡ file → Tells old files → Tells new (files ++ t ∷ [])
+    → length files ≡ file → TableTells old files → TableTells new (files ++ t ∷ [])
 tells_more old first second new files t file types generated extensions at tells =
     record { declares = all; lists = extensions.lists (generated.lists (types.lists tells.lists)) }
   where

@@ -59,7 +59,7 @@ abbrev pub Words : Type 0 → Type 0
 Words A = List (Text × A)
 
 abbrev pub words_of : {A : Type 0} → Words A → List Text
-words_of words = map (λ w. w.0) words
+words_of word_entry = map (λ w. w.0) word_entry
 
 abbrev pub optimize_modes : Words OptimizeMode
 optimize_modes = (codes "SPEED", Speed) ∷ (codes "CODE_SIZE", CodeSize)
@@ -86,8 +86,8 @@ truth_said (truth b) = Some b
 truth_said _ = None
 
 abbrev pub word_said : {A : Type 0} → Words A → ConstantSyntax → Option A
-word_said words (dotted n) = option_map (λ w. w.1) (find (λ w. bytes_eq w.0 n) words)
-word_said words _ = None
+word_said word_entry (dotted n) = option_map (λ w. w.1) (find (λ w. bytes_eq w.0 n) word_entry)
+word_said word_entry _ = None
 
 -- what the last statement with the name says
 abbrev pub set_by : {A : Type 0} → (ConstantSyntax → Option A) → Option ConstantSyntax → Option A
@@ -101,7 +101,7 @@ abbrev pub truth_option : List OptionSyntax → Text → Option Bool
 truth_option os name = set_by truth_said (last_value name os)
 
 abbrev pub word_option : {A : Type 0} → Words A → List OptionSyntax → Text → Option A
-word_option words os name = set_by (word_said words) (last_value name os)
+word_option word_entry os name = set_by (word_said word_entry) (last_value name os)
 
 -- ---- which options there are
 
@@ -113,53 +113,53 @@ pub data BuiltinKind : Type 0 where
 abbrev pub Table : Type 0
 Table = List (Text × BuiltinKind)
 
-abbrev pub texts : List Text → Table
-texts names = map (λ (n : Text). (n, a_text)) names
+abbrev pub text_entries : List Text → Table
+text_entries names = map (λ (n : Text). (n, a_text)) names
 
-abbrev pub truths : List Text → Table
-truths names = map (λ (n : Text). (n, a_truth)) names
+abbrev pub truth_entries : List Text → Table
+truth_entries names = map (λ (n : Text). (n, a_truth)) names
 
-abbrev pub words : {A : Type 0} → Text → Words A → Table
-words name of = (name, a_word (words_of of)) ∷ []
+abbrev pub word_entry : {A : Type 0} → Text → Words A → Table
+word_entry name of = (name, a_word (words_of of)) ∷ []
 
 abbrev pub file_table : Table
 file_table =
-    texts (codes "java_package" ∷ codes "java_outer_classname" ∷ codes "go_package"
+    text_entries (codes "java_package" ∷ codes "java_outer_classname" ∷ codes "go_package"
     ∷ codes "objc_class_prefix" ∷ codes "csharp_namespace" ∷ codes "swift_prefix"
     ∷ codes "php_class_prefix" ∷ codes "php_namespace" ∷ codes "php_metadata_namespace"
     ∷ codes "ruby_package" ∷ [])
-    ++ truths (codes "java_multiple_files" ∷ codes "cc_generic_services"
+    ++ truth_entries (codes "java_multiple_files" ∷ codes "cc_generic_services"
     ∷ codes "java_generic_services" ∷ codes "py_generic_services"
     ∷ codes "java_generate_equals_and_hash" ∷ codes "deprecated" ∷ codes "java_string_check_utf8"
     ∷ codes "cc_enable_arenas" ∷ [])
-    ++ words (codes "optimize_for") optimize_modes
+    ++ word_entry (codes "optimize_for") optimize_modes
 
 abbrev pub message_table : Table
 message_table =
-    truths (codes "message_set_wire_format" ∷ codes "no_standard_descriptor_accessor"
+    truth_entries (codes "message_set_wire_format" ∷ codes "no_standard_descriptor_accessor"
     ∷ codes "deprecated" ∷ codes "map_entry" ∷ [])
 
 abbrev pub field_table : Table
 field_table =
-    truths (codes "packed" ∷ codes "deprecated" ∷ codes "lazy" ∷ codes "weak"
+    truth_entries (codes "packed" ∷ codes "deprecated" ∷ codes "lazy" ∷ codes "weak"
     ∷ codes "unverified_lazy" ∷ codes "debug_redact" ∷ [])
-    ++ words (codes "ctype") c_types ++ words (codes "jstype") js_types
+    ++ word_entry (codes "ctype") c_types ++ word_entry (codes "jstype") js_types
 
 abbrev pub oneof_table : Table
 oneof_table = []
 
 abbrev pub enum_table : Table
-enum_table = truths (codes "allow_alias" ∷ codes "deprecated" ∷ [])
+enum_table = truth_entries (codes "allow_alias" ∷ codes "deprecated" ∷ [])
 
 abbrev pub enum_value_table : Table
-enum_value_table = truths (codes "deprecated" ∷ [])
+enum_value_table = truth_entries (codes "deprecated" ∷ [])
 
 abbrev pub service_table : Table
-service_table = truths (codes "deprecated" ∷ [])
+service_table = truth_entries (codes "deprecated" ∷ [])
 
 abbrev pub method_table : Table
-method_table = truths (codes "deprecated" ∷ [])
-    ++ words (codes "idempotency_level") idempotency_levels
+method_table = truth_entries (codes "deprecated" ∷ [])
+    ++ word_entry (codes "idempotency_level") idempotency_levels
 
 -- ---- what is wrong
 
@@ -168,24 +168,24 @@ abbrev pub string_faults : Text → Option Text → List Fault
 string_faults name (Some text) = []
 string_faults name None = fault StrLitDecode name
 
-abbrev pub value_faults : Text → BuiltinKind → ConstantSyntax → List Fault
-value_faults name a_text (string pieces) = string_faults name (text_of pieces)
-value_faults name a_truth (truth b) = []
-value_faults name (a_word words) (dotted n) =
-    if stands_in n words then [] else fault InconvertibleValue name
-value_faults name _ _ = fault InconvertibleValue name
+abbrev pub builtin_value_faults : Text → BuiltinKind → ConstantSyntax → List Fault
+builtin_value_faults name a_text (string pieces) = string_faults name (text_of pieces)
+builtin_value_faults name a_truth (truth b) = []
+builtin_value_faults name (a_word word_entry) (dotted n) =
+    if stands_in n word_entry then [] else fault InconvertibleValue name
+builtin_value_faults name _ _ = fault InconvertibleValue name
 
 -- E11 for a name that the table doesn't have
-abbrev pub entry_faults : Text → ConstantSyntax → Option (Text × BuiltinKind) → List Fault
-entry_faults name value None = fault BuiltinOptionNotFound name
-entry_faults name value (Some entry) = value_faults name entry.1 value
+abbrev pub builtin_entry_faults : Text → ConstantSyntax → Option (Text × BuiltinKind) → List Fault
+builtin_entry_faults name value None = fault BuiltinOptionNotFound name
+builtin_entry_faults name value (Some entry) = builtin_value_faults name entry.1 value
 
 -- every table has `uninterpreted_option`, which can't be set
 abbrev pub builtin_faults : Table → Text → ConstantSyntax → List Fault
 builtin_faults table name value =
     if bytes_eq name (codes "uninterpreted_option")
     then fault BuiltinOptionPointsToNonSingularField name
-    else entry_faults name value (find (λ entry. bytes_eq entry.0 name) table)
+    else builtin_entry_faults name value (find (λ entry. bytes_eq entry.0 name) table)
 
 -- of one statement; a custom option has no such fault
 abbrev pub named_faults : Table → ConstantSyntax → OptionNameSyntax → List Fault

@@ -58,8 +58,8 @@ use Rattle.protobuf_parse_model.specs.Declarations.{DeclaredType, a_message, an_
 use Rattle.protobuf_parse_model.specs.declared.customs.Construct.TheVariants as of
 use Rattle.protobuf_parse_model.specs.Environment.{Environment, Customs, customs_bytes, no_customs}
 
-abbrev pub texts : List (Bor (List ℕ)) → List Text
-texts names = map (λ (s : Bor (List ℕ)). s.now) names
+abbrev pub name_texts : List (Bor (List ℕ)) → List Text
+name_texts names = map (λ (s : Bor (List ℕ)). s.now) names
 
 abbrev pub kind_view : TypeKind → declared.TypeKind
 kind_view kind.Message = a_message
@@ -93,8 +93,9 @@ abbrev pub declared_view : DeclaredField → FieldAndMessage
 declared_view d =
     record { field = field_view d.field; behind = map message_view (option_to_list d.behind) }
 
-abbrev pub declared_by : Environment → fields.FieldPlace → FieldStatementSyntax → FieldAndMessage
-declared_by env place s =
+abbrev pub field_declared_by : Environment → fields.FieldPlace → FieldStatementSyntax
+    → FieldAndMessage
+field_declared_by env place s =
     record { field = fields.field_statement_of env place s; behind = messages_behind env s }
 
 -- fields, and the messages behind them
@@ -134,8 +135,8 @@ body_view b =
     }
 
 -- with one statement more
-abbrev pub with_statement : Environment → BodyParts → MessageStatementSyntax → BodyParts
-with_statement env b s =
+abbrev pub with_body_statement : Environment → BodyParts → MessageStatementSyntax → BodyParts
+with_body_statement env b s =
     record {
       field = b.field ++ fields_of env (length b.oneof_decl) s;
       oneof_decl =
@@ -196,11 +197,11 @@ rest_view r =
       options = option_map message_options_view r.options;
     }
 
-abbrev pub reserved_parts : Vec ReservedRange × Vec (String Global) → List Range × List Text
-reserved_parts p = (map reserved_range_view p.0.items, map string_bytes p.1.items)
+abbrev pub reserved_views : Vec ReservedRange × Vec (String Global) → List Range × List Text
+reserved_views p = (map reserved_range_view p.0.items, map string_bytes p.1.items)
 
-abbrev pub message_with : Text → BodyParts → RestParts → MessageDescriptor
-message_with name b r =
+abbrev pub message_of_both : Text → BodyParts → RestParts → MessageDescriptor
+message_of_both name b r =
     message_descriptor
     (record {
       name = name;
@@ -245,12 +246,12 @@ abbrev pub said_by : Environment → FieldType → Text → List OptionSyntax �
 said_by env type_ name os =
     record {
       default_value = fields.default_of type_ os;
-      json_name = fields.json_name_of name os;
+      json_name = fields.field_json_name name os;
       options = field_options (customs_bytes env of.Field os) os;
     }
 
-abbrev pub place_view : FieldPlace → fields.FieldPlace
-place_view p =
+abbrev pub field_place_view : FieldPlace → fields.FieldPlace
+field_place_view p =
     record {
       extendee = option_map (λ (s : Bor (List ℕ)). s.now) p.extendee;
       oneof_index =
@@ -293,14 +294,14 @@ environment_in customs c =
     record {
       syntax = c.syntax;
       types = seen_types c.seen;
-      scope = texts c.scope.now;
+      scope = name_texts c.scope.now;
       customs =
           customs;
     }
 
 -- the environment that names of types are looked up in, which custom options are no part of
-abbrev pub names_in : Context → Environment
-names_in c = environment_in no_customs c
+abbrev pub names_of_context : Context → Environment
+names_of_context c = environment_in no_customs c
 
 -- the same for a whole file, by what it sees
 abbrev pub environment_of_file : Customs → Seen → FileSyntax → Environment

@@ -87,9 +87,9 @@ mutual
     messages : MessageDescriptor → MessageDescriptors → MessageDescriptors
 
 -- such messages as a list, and back
-abbrev pub list_of : MessageDescriptors → List MessageDescriptor
-list_of no_messages = []
-list_of (messages m ms) = m ∷ list_of ms
+abbrev pub messages_list : MessageDescriptors → List MessageDescriptor
+messages_list no_messages = []
+messages_list (messages m ms) = m ∷ messages_list ms
 
 abbrev pub messages_of_list : List MessageDescriptor → MessageDescriptors
 messages_of_list [] = no_messages
@@ -170,8 +170,8 @@ enum_view e = record {
 }
 
 -- all of a message but the messages inside it
-abbrev pub parts_of : {X : Type 0} → DescriptorProto-F X → MessageParts
-parts_of m = record {
+abbrev pub parts_of_message : {X : Type 0} → DescriptorProto-F X → MessageParts
+parts_of_message m = record {
   name = string_bytes m.name;
   field = map field_view m.field.items;
   oneof_decl = map oneof_view m.oneof_decl.items;
@@ -184,13 +184,13 @@ parts_of m = record {
 }
 
 abbrev pub message_step : DescriptorProto-F MessageDescriptor → MessageDescriptor
-message_step m = a_message (parts_of m) (messages_of_list m.nested_type.items)
+message_step m = a_message (parts_of_message m) (messages_of_list m.nested_type.items)
 
 abbrev pub message_view : DescriptorProto → MessageDescriptor
 message_view = fold-DescriptorProto MessageDescriptor message_step
 
 abbrev pub message_parts : DescriptorProto → MessageParts
-message_parts m = parts_of (out-DescriptorProto m)
+message_parts m = parts_of_message (out-DescriptorProto m)
 
 -- a message seen one level deep
 pub message_view_is : (m : DescriptorProto)
@@ -232,6 +232,6 @@ file_view f = record {
   options = option_map file_options_view f.options;
 }
 
-pub list_of_is : (ms : List MessageDescriptor) → list_of (messages_of_list ms) ≡ ms
+pub list_of_is : (ms : List MessageDescriptor) → messages_list (messages_of_list ms) ≡ ms
 list_of_is [] = refl
 list_of_is (m ∷ ms) = rw (list_of_is ms) refl

@@ -43,9 +43,9 @@ pub record Environment : Type 0 where
   pub scope : Scope
   pub customs : Customs
 
--- the environment of what stands inside the message of that name
-abbrev pub inside : Environment → Text → Environment
-inside env name = record env { scope = names.inside env.scope name }
+-- the environment of what stands env_inside the message of that name
+abbrev pub env_inside : Environment → Text → Environment
+env_inside env name = record env { scope = names.inside env.scope name }
 
 -- what the name of a type means there
 abbrev pub type_named : Environment → Text → Option DeclaredType
@@ -83,14 +83,15 @@ abbrev pub part_text : OptionPartSyntax → Text
 part_text (direct name) = name
 part_text (extension name) = codes "(" ++ name ++ codes ")"
 
-abbrev pub path_text : List OptionPartSyntax → Text
-path_text [] = []
-path_text (p ∷ ps) = part_text p ++ flat_map (λ (q : OptionPartSyntax). codes "." ++ part_text q) ps
+abbrev pub option_path_text : List OptionPartSyntax → Text
+option_path_text [] = []
+option_path_text (p ∷ ps) =
+    part_text p ++ flat_map (λ (q : OptionPartSyntax). codes "." ++ part_text q) ps
 
 -- E11 for a custom option, where no extension is known
 abbrev pub unknown_name : OptionNameSyntax → List Fault
 unknown_name (builtin name) = []
-unknown_name (custom parts) = fault BuiltinOptionNotFound (path_text parts)
+unknown_name (custom parts) = fault BuiltinOptionNotFound (option_path_text parts)
 
 abbrev pub unknown_option : OptionSyntax → List Fault
 unknown_option o = unknown_name o.name

@@ -145,8 +145,8 @@ json_name_said name (Some (string pieces)) = text_or_empty (text_of pieces)
 json_name_said name (Some _) = []
 json_name_said name None = json_name_text name
 
-abbrev pub json_name_of : Text → List OptionSyntax → Text
-json_name_of name os = json_name_said name (first_value (codes "json_name") os)
+abbrev pub field_json_name : Text → List OptionSyntax → Text
+field_json_name name os = json_name_said name (first_value (codes "json_name") os)
 
 -- E10 for a JSON name that is no string, E9 for a string that is no text
 abbrev pub json_value_faults : Option ConstantSyntax → List Fault
@@ -198,7 +198,7 @@ field_with env place f type_ = record {
   extendee = place.extendee;
   default_value = default_of type_.kind f.options;
   oneof_index = option_map pos place.oneof_index;
-  json_name = json_name_of f.name f.options;
+  json_name = field_json_name f.name f.options;
   proto3_optional = if is_map f.type_ then false else says_optional env.syntax f.label;
   options = field_options (customs_bytes env of.Field f.options) f.options;
 }

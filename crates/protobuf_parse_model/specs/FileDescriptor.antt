@@ -58,18 +58,18 @@ environment seen customs t = record {
 -- ---- the descriptor
 
 -- the messages of a statement: those written there, and those behind the groups of an `extend`
-abbrev pub messages_of : Environment → StatementSyntax → List MessageDescriptor
-messages_of env (file_message m) = message_of env m ∷ []
-messages_of env (file_extend e) = flat_map (messages_behind env) e.fields
-messages_of env _ = []
+abbrev pub file_messages_of : Environment → StatementSyntax → List MessageDescriptor
+file_messages_of env (file_message m) = message_of env m ∷ []
+file_messages_of env (file_extend e) = flat_map (messages_behind env) e.fields
+file_messages_of env _ = []
 
-abbrev pub extensions_of : Environment → StatementSyntax → List FieldDescriptor
-extensions_of env (file_extend e) = extend_fields env e
-extensions_of env _ = []
+abbrev pub file_extensions_of : Environment → StatementSyntax → List FieldDescriptor
+file_extensions_of env (file_extend e) = extend_fields env e
+file_extensions_of env _ = []
 
-abbrev pub enums_of : Environment → StatementSyntax → List EnumDescriptor
-enums_of env (file_enum e) = enum_of env e ∷ []
-enums_of env _ = []
+abbrev pub file_enums_of : Environment → StatementSyntax → List EnumDescriptor
+file_enums_of env (file_enum e) = enum_of env e ∷ []
+file_enums_of env _ = []
 
 abbrev pub services_of : Environment → StatementSyntax → List ServiceDescriptor
 services_of env (file_service s) = service_of env s ∷ []
@@ -88,10 +88,10 @@ file_of env path t = record {
   dependency = (imports_of (imports t.statements)).paths;
   public_dependency = (imports_of (imports t.statements)).public;
   weak_dependency = (imports_of (imports t.statements)).weak;
-  message_type = flat_map (messages_of env) t.statements;
-  enum_type = flat_map (enums_of env) t.statements;
+  message_type = flat_map (file_messages_of env) t.statements;
+  enum_type = flat_map (file_enums_of env) t.statements;
   service = flat_map (services_of env) t.statements;
-  extension = flat_map (extensions_of env) t.statements;
+  extension = flat_map (file_extensions_of env) t.statements;
   options = file_options (customs_bytes env of.File (options_of_statements t.statements))
       (options_of_statements t.statements);
 }
@@ -111,9 +111,9 @@ names_of_services services = map (λ (s : ServiceDescriptor). s.name) services
 -- E1 for two messages, enums, extensions or services of the file that have one name
 abbrev pub file_duplicates : Environment → FileSyntax → List Fault
 file_duplicates env t =
-    duplicates (names_of_messages (flat_map (messages_of env) t.statements))
-    ++ duplicates (names_of_enums (flat_map (enums_of env) t.statements))
-    ++ duplicates (names_of_fields (flat_map (extensions_of env) t.statements))
+    duplicates (names_of_messages (flat_map (file_messages_of env) t.statements))
+    ++ duplicates (names_of_enums (flat_map (file_enums_of env) t.statements))
+    ++ duplicates (names_of_fields (flat_map (file_extensions_of env) t.statements))
     ++ duplicates (names_of_services (flat_map (services_of env) t.statements))
 
 -- of the file alone

@@ -10,7 +10,8 @@ use Rattle.protobuf_parse_model.specs.Environment.{Environment}
 use Rattle.protobuf_parse_model.specs.Faults.{Fault}
 use Rattle.protobuf_parse_model.specs.Fields.{names_of_fields}
 use Rattle.protobuf_parse_model.specs.Messages.{names_of_messages, names_of_enums}
-use Rattle.protobuf_parse_model.specs.FileDescriptor.{enums_of, extensions_of, messages_of}
+use Rattle.protobuf_parse_model.specs.FileDescriptor.{file_enums_of, file_extensions_of}
+use Rattle.protobuf_parse_model.specs.FileDescriptor.{file_messages_of}
 use Rattle.protobuf_parse_model.specs.FileDescriptor.{names_of_services, services_of}
 
 pub record FileParts : Type 0 where
@@ -34,21 +35,21 @@ parts_view c =
 abbrev pub with_file_statement : Environment → FileParts → StatementSyntax → FileParts
 with_file_statement env p s =
     record {
-      message_type = p.message_type ++ messages_of env s;
+      message_type = p.message_type ++ file_messages_of env s;
       enum_type =
-          p.enum_type ++ enums_of env s;
+          p.enum_type ++ file_enums_of env s;
       service = p.service ++ services_of env s;
       extension =
-          p.extension ++ extensions_of env s;
+          p.extension ++ file_extensions_of env s;
     }
 
-abbrev pub parts_of : Environment → List StatementSyntax → FileParts
-parts_of env ss =
+abbrev pub parts_of_file : Environment → List StatementSyntax → FileParts
+parts_of_file env ss =
     record {
-      message_type = flat_map (messages_of env) ss;
-      enum_type = flat_map (enums_of env) ss;
+      message_type = flat_map (file_messages_of env) ss;
+      enum_type = flat_map (file_enums_of env) ss;
       service = flat_map (services_of env) ss;
-      extension = flat_map (extensions_of env) ss;
+      extension = flat_map (file_extensions_of env) ss;
     }
 
 -- E1 for two of a kind that have one name

@@ -32,7 +32,7 @@ use Rattle.protobuf_parse_model.specs.Statements.{field_statement_name, oneof_fi
 use Rattle.protobuf_parse_model.specs.Statements as statements
 use Rattle.protobuf_parse_model.specs.Duplicates.{fault_when, duplicates}
 use Rattle.protobuf_parse_model.specs.declared.customs.Construct.TheVariants as of
-use Rattle.protobuf_parse_model.specs.Environment.{Environment, customs_bytes, inside}
+use Rattle.protobuf_parse_model.specs.Environment.{Environment, customs_bytes, env_inside}
 use Rattle.protobuf_parse_model.specs.Environment.{type_full_name, type_missing}
 use Rattle.protobuf_parse_model.specs.BuiltinOptions.{message_table, oneof_table}
 use Rattle.protobuf_parse_model.specs.ConstructOptions.{construct_faults}
@@ -90,11 +90,11 @@ entries_of env name (scalar s) = []
 entries_of env name (named n) = []
 
 -- what is wrong in the types of that message's fields
-abbrev pub entry_faults : Environment → Text → TypeSyntax → List Fault
-entry_faults env name (map_of key value) =
+abbrev pub map_entry_faults : Environment → Text → TypeSyntax → List Fault
+map_entry_faults env name (map_of key value) =
     inner_type_faults env name key ++ inner_type_faults env name value
-entry_faults env name (scalar s) = []
-entry_faults env name (named n) = []
+map_entry_faults env name (scalar s) = []
+map_entry_faults env name (named n) = []
 
 abbrev pub group_message : Environment → Text → List FieldStatementSyntax → MessageDescriptor
 group_message env name fields = message_with name (fields_of_group env fields) None
@@ -123,7 +123,7 @@ abbrev pub own_oneof : FieldStatementSyntax → OneofDescriptor
 own_oneof f = own_oneof_of (field_statement_name f)
 
 abbrev pub options_in_oneof : OneofSyntax → List OptionSyntax
-options_in_oneof o = flat_map statements.oneof_options o.body
+options_in_oneof o = flat_map statements.oneof_statement_options o.body
 
 abbrev pub oneof_of : Environment → OneofSyntax → OneofDescriptor
 oneof_of env o =
@@ -207,16 +207,16 @@ options_of_body body = flat_map options_in_message body
 
 -- ---- messages
 
--- the message of that name with that body and those messages inside it; its own options are seen
+-- the message of that name with that body and those messages env_inside it; its own options are seen
 -- from where it stands
 abbrev pub message_from : Environment → Text → List MessageStatementSyntax → List MessageDescriptor
     → MessageDescriptor
 message_from env name body nested = a_message (record {
   name = name;
-  field = fields_from (inside env name) 0 body;
-  oneof_decl = flat_map (oneofs_of (inside env name)) body;
-  enum_type = flat_map (enums_of (inside env name)) body;
-  extension = flat_map (extensions_of (inside env name)) body;
+  field = fields_from (env_inside env name) 0 body;
+  oneof_decl = flat_map (oneofs_of (env_inside env name)) body;
+  enum_type = flat_map (enums_of (env_inside env name)) body;
+  extension = flat_map (extensions_of (env_inside env name)) body;
   extension_range = map exclusive (flat_map extension_ranges body);
   reserved_range = map exclusive (flat_map ranges_reserved (flat_map reserves body));
   reserved_name = flat_map names_reserved (flat_map reserves body);
@@ -228,7 +228,7 @@ abbrev mutual
   -- the messages of a statement: those written there, and those behind maps and groups
   pub nested_of : Environment → MessageStatementSyntax → List MessageDescriptor
   nested_of env (message_message at name body) =
-      message_from env name (message_body body) (nested_in (inside env name) body) ∷ []
+      message_from env name (message_body body) (nested_in (env_inside env name) body) ∷ []
   nested_of env (message_field f) = messages_behind env f
   nested_of env (message_oneof o) = flat_map (messages_behind env) (flat_map oneof_fields o.body)
   nested_of env (message_extend e) = flat_map (messages_behind env) e.fields
@@ -240,7 +240,7 @@ abbrev mutual
 
 abbrev pub message_of_body : Environment → Text → List MessageStatementSyntax → MessageDescriptor
 message_of_body env name body =
-    message_from env name body (flat_map (nested_of (inside env name)) body)
+    message_from env name body (flat_map (nested_of (env_inside env name)) body)
 
 abbrev pub message_of : Environment → MessageSyntax → MessageDescriptor
 message_of env m = message_of_body env m.name m.body
@@ -280,7 +280,7 @@ rest_faults env name body =
 abbrev pub whole_faults : Environment → Text → List MessageStatementSyntax → List MessageDescriptor
     → List Fault
 whole_faults env name body nested =
-    body_duplicates (inside env name) body nested ++ rest_faults env name body
+    body_duplicates (env_inside env name) body nested ++ rest_faults env name body
 
 abbrev pub oneof_faults : Environment → OneofSyntax → List Fault
 oneof_faults env o =
@@ -291,8 +291,8 @@ abbrev mutual
   -- of a statement of a body
   pub statement_faults : Environment → MessageStatementSyntax → List Fault
   statement_faults env (message_message at name body) =
-      whole_faults env name (message_body body) (nested_in (inside env name) body)
-      ++ faults_in (inside env name) body
+      whole_faults env name (message_body body) (nested_in (env_inside env name) body)
+      ++ faults_in (env_inside env name) body
   statement_faults env (message_field f) = field_statement_faults env f
   statement_faults env (message_oneof o) = oneof_faults env o
   statement_faults env (message_extend e) = extend_faults env e
@@ -305,8 +305,8 @@ abbrev mutual
 
 abbrev pub faults_of_body : Environment → Text → List MessageStatementSyntax → List Fault
 faults_of_body env name body =
-    whole_faults env name body (flat_map (nested_of (inside env name)) body)
-    ++ flat_map (statement_faults (inside env name)) body
+    whole_faults env name body (flat_map (nested_of (env_inside env name)) body)
+    ++ flat_map (statement_faults (env_inside env name)) body
 
 abbrev pub message_faults : Environment → MessageSyntax → List Fault
 message_faults env m = faults_of_body env m.name m.body

@@ -52,8 +52,8 @@ names_of_method m = m.input_type ∷ m.output_type ∷ []
 abbrev pub names_of_service : ServiceDescriptor → List Text
 names_of_service s = flat_map names_of_method s.method
 
-abbrev pub names_in : FileDescriptor → List Text
-names_in f = flat_map names_of_field (fields_in f) ++ flat_map names_of_field (extensions_in f)
+abbrev pub type_names_in : FileDescriptor → List Text
+type_names_in f = flat_map names_of_field (fields_in f) ++ flat_map names_of_field (extensions_in f)
     ++ flat_map names_of_service f.service
 
 -- the types of which a field says the name, and not the kind alone
@@ -74,12 +74,12 @@ abbrev pub if_message : TypeKind → Text → List Text
 if_message declarations.a_message name = name ∷ []
 if_message declarations.an_enum name = []
 
-abbrev pub message_name : DeclaredType → List Text
-message_name d = if_message d.what d.name
+abbrev pub declared_message_name : DeclaredType → List Text
+declared_message_name d = if_message d.what d.name
 
 -- those of the messages alone
 abbrev pub messages_declared : List FileSyntax → List Text
-messages_declared files = flat_map message_name (types_of_files files)
+messages_declared files = flat_map declared_message_name (types_of_files files)
 
 -- Each name of a type is that of a message or an enum that a file declares that it sees, or of a
 -- message behind one of its own maps and groups.
@@ -87,7 +87,7 @@ abbrev pub NamesAreDeclared : Type 0
 NamesAreDeclared = (seen : List FileSyntax) (checked customs : Customs) (path : Text)
     (t : FileSyntax) (name : Text)
     → file_faults (environment seen checked t) t ≡ []
-    → Among (names_in (file_of (environment seen customs t) path t)) name
+    → Among (type_names_in (file_of (environment seen customs t) path t)) name
     → Among (names_declared seen ++ file_generated t) name
 
 -- Just those fields and extensions say the name of their type whose type has one.

@@ -88,8 +88,8 @@ pub record AreNumbered (names : List Text) (numbers : Numbers) : Type 0 where
   pub ascending : ascend numbers ≡ true
 
 -- the entries of a table in the order of their numbers
-abbrev pub has_name : Text → Text × BuiltinKind → Bool
-has_name name entry = bytes_eq entry.0 name
+abbrev pub entry_has_name : Text → Text × BuiltinKind → Bool
+entry_has_name name entry = bytes_eq entry.0 name
 
 abbrev pub in_order : Table → Numbers → Table
-in_order table numbers = flat_map (λ (n : Text × ℕ). filter (has_name n.0) table) numbers
+in_order table numbers = flat_map (λ (n : Text × ℕ). filter (entry_has_name n.0) table) numbers

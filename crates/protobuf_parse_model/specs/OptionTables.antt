@@ -17,5 +17,5 @@ table_of of.EnumValue = enum_value_table
 table_of of.Service = service_table
 table_of of.Method = method_table
 
-abbrev pub names_in : Table → List Text
-names_in table = map (λ (entry : Text × BuiltinKind). entry.0) table
+abbrev pub option_names_in : Table → List Text
+option_names_in table = map (λ (entry : Text × BuiltinKind). entry.0) table

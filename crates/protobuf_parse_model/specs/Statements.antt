@@ -50,6 +50,6 @@ abbrev pub oneof_fields : OneofStatementSyntax → List FieldStatementSyntax
 oneof_fields (oneof_field f) = f ∷ []
 oneof_fields (oneof_option o) = []
 
-abbrev pub oneof_options : OneofStatementSyntax → List OptionSyntax
-oneof_options (oneof_option o) = o.option ∷ []
-oneof_options (oneof_field f) = []
+abbrev pub oneof_statement_options : OneofStatementSyntax → List OptionSyntax
+oneof_statement_options (oneof_option o) = o.option ∷ []
+oneof_statement_options (oneof_field f) = []

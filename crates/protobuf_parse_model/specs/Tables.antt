@@ -24,12 +24,12 @@ use Rattle.protobuf_parse_model.specs.Contexts.{declared_as}
 abbrev pub Entry : Type 0
 Entry = Declared DeclarationKind
 
-abbrev pub kind_of : declared.TypeKind → DeclarationKind
-kind_of a_message = kind.Message
-kind_of an_enum = kind.Enum
+abbrev pub declaration_kind : declared.TypeKind → DeclarationKind
+declaration_kind a_message = kind.Message
+declaration_kind an_enum = kind.Enum
 
 abbrev pub type_entry : DeclaredType → Entry
-type_entry d = record { name = d.name; what = kind_of d.what }
+type_entry d = record { name = d.name; what = declaration_kind d.what }
 
 abbrev pub generated_entry : Text → Entry
 generated_entry name = record { name = name; what = kind.Generated }
@@ -65,7 +65,7 @@ ListsRepeated table = (name : Text) → 1 < length (declared_as table name)
     → Contains (listed_names table) name
 
 -- Each name is declared in the table as the files declare it, in their order.
-pub record Tells (table : Declarations) (files : List FileSyntax) : Type 0 where
+pub record TableTells (table : Declarations) (files : List FileSyntax) : Type 0 where
   pub declares : (name : Text) → declared_as table name ≡ declared_in name 0 files
   pub lists : ListsRepeated table
 

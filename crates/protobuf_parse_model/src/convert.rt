@@ -26,7 +26,7 @@ ghost use Rattle.protobuf_parse_model.specs.Contexts.{environment_of_file};
 ghost use Rattle.protobuf_parse_model.specs.Descriptors as described;
 ghost use Rattle.protobuf_parse_model.specs.Faults.{Elaborates};
 ghost use Rattle.protobuf_parse_model.specs.FileDescriptor.{environment, file_faults, file_of};
-ghost use Rattle.protobuf_parse_model.specs.Tables.{Tells, picked};
+ghost use Rattle.protobuf_parse_model.specs.Tables.{TableTells, picked};
 
 use crate::convert::file::file_descriptor;
 use crate::customs::CustomOptions;
@@ -71,7 +71,7 @@ pub fn elaborate<C: CustomOptions>(
     ensures by_table { let t = file_view tree.now in
         let env = environment_of_file (C.customs custom.now) seen.now t in
         Elaborates described.file_view result (file_faults env t) (file_of env name.now t) }
-    ensures by_files { (files : List FileSyntax) → Tells seen.now.declarations.now files →
+    ensures by_files { (files : List FileSyntax) → TableTells seen.now.declarations.now files →
         let t = file_view tree.now in
         let env = environment (picked files seen.now.sight.now) (C.customs custom.now) t in
         Elaborates described.file_view result (file_faults env t) (file_of env name.now t) }

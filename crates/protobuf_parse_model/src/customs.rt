@@ -2,9 +2,10 @@
 
 ghost use Rattle.std.specs.Prelude.{◌≡◌, ◌++◌, [], codes, map, flat_map, string_bytes, IfOk, OnOk};
 ghost use Rattle.protobuf_parse_syntax.specs.Trees.{option_part_view, option_view};
-ghost use Rattle.protobuf_parse_model.specs.Contexts.{texts};
+ghost use Rattle.protobuf_parse_model.specs.Contexts.{name_texts};
 ghost use Rattle.protobuf_parse_model.specs.Environment.{Customs, no_customs, no_extensions};
-ghost use Rattle.protobuf_parse_model.specs.Environment.{part_text, path_text, unknown_option};
+ghost use Rattle.protobuf_parse_model.specs.Environment.{part_text, option_path_text};
+ghost use Rattle.protobuf_parse_model.specs.Environment.{unknown_option};
 ghost use Rattle.protobuf_parse_model.specs.Faults.{Elaborates};
 ghost use Rattle.protobuf_parse_model.specs.OptionViews.{options_seen};
 
@@ -46,8 +47,8 @@ pub trait CustomOptions {
         options: &[&ProtobufOption],
     ) -> Result<Vec<u8>, ElabFailure>
         ensures { let c = customs self.now in let os = options_seen options.now in
-            Elaborates (λ v. v.items) result (c.faults construct (texts scope.now) os)
-            (c.bytes construct (texts scope.now) os) };
+            Elaborates (λ v. v.items) result (c.faults construct (name_texts scope.now) os)
+            (c.bytes construct (name_texts scope.now) os) };
 }
 
 /// Knows no extension: a custom option is refused as one that isn't there, E11.
@@ -113,7 +114,7 @@ fn refuse_custom(alloc: Global, option: &ProtobufOption) -> Result<(), ElabFailu
 
 /// The name of a custom option as it is written, with extensions in parentheses.
 pub fn path_text(alloc: Global, parts: &[ProtobufOptionNamePart]) -> Result<String, AllocError>
-    ensures { IfOk result (λ s. string_bytes s ≡ path_text (map option_part_view parts.now)) }
+    ensures { IfOk result (λ s. string_bytes s ≡ option_path_text (map option_part_view parts.now)) }
 {
     let mut text = String::new(alloc);
     let [first, others @ ..] = parts else {

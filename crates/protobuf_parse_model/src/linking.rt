@@ -5,7 +5,7 @@ ghost use Rattle.std.specs.List.{list_any};
 ghost use Rattle.protobuf_parse_syntax.specs.Trees.{FileSyntax};
 ghost use Rattle.protobuf_parse_model.specs.Faults.{Elaborates};
 ghost use Rattle.protobuf_parse_model.specs.Linking.{link_faults};
-ghost use Rattle.protobuf_parse_model.specs.Tables.{Tells, is_of, name_faults, picked, times};
+ghost use Rattle.protobuf_parse_model.specs.Tables.{TableTells, is_of, name_faults, picked, times};
 
 use crate::convert::refuse::fault;
 use crate::error::{ElabErrorKind, ElabFailure};
@@ -21,7 +21,7 @@ use std::alloc::Global;
 /// - E5: messages and enums, those behind maps and groups among them, have one full name;
 /// - E6: extensions have one full name.
 pub fn link(alloc: Global, seen: &Seen<'_>) -> Result<(), ElabFailure>
-    ensures { (files : List FileSyntax) → Tells seen.now.declarations.now files →
+    ensures { (files : List FileSyntax) → TableTells seen.now.declarations.now files →
         Elaborates (λ u. u) result (link_faults (picked files seen.now.reach.now)) tt }
 {
     check_names(alloc, seen, &seen.declarations.repeated)

@@ -6,9 +6,9 @@ ghost use Rattle.std.specs.Borrow.{Bor};
 ghost use Rattle.std.specs.List.{list_any};
 ghost use Rattle.protobuf_parse_model.specs.Declarations as names;
 ghost use Rattle.protobuf_parse_model.specs.Environment.{type_named};
-ghost use Rattle.protobuf_parse_model.specs.Contexts.{declared_as, names_in, first_type};
+ghost use Rattle.protobuf_parse_model.specs.Contexts.{declared_as, names_of_context, first_type};
 ghost use Rattle.protobuf_parse_model.specs.Contexts.{declared_type, meaning_view, seen_types};
-ghost use Rattle.protobuf_parse_model.specs.Contexts.{texts, type_kind};
+ghost use Rattle.protobuf_parse_model.specs.Contexts.{name_texts, type_kind};
 
 mod declare;
 mod extensions;
@@ -62,7 +62,7 @@ impl From<TypeKind> for FieldType {
 
 /// The full name of what has the name in the scope.
 pub fn full_name(alloc: Global, scope: &[&str], name: &str) -> Result<String, AllocError>
-    ensures { IfOk result (λ s. string_bytes s ≡ names.full_name (texts scope.now) name.now) }
+    ensures { IfOk result (λ s. string_bytes s ≡ names.full_name (name_texts scope.now) name.now) }
 {
     let mut text = String::new(alloc);
     for outer in scope {
@@ -81,7 +81,7 @@ pub fn type_named(
     name: &str,
 ) -> Result<Option<Meaning>, AllocError>
     ensures { IfOk result
-        (λ m. option_map meaning_view m ≡ type_named (names_in context.now) name.now) }
+        (λ m. option_map meaning_view m ≡ type_named (names_of_context context.now) name.now) }
 {
     if name.starts_with('.') {
         let full_name = String::from_str(alloc, name)?;

@@ -1,6 +1,6 @@
 //! What the encoder writes for values that are no numbers.
 
-ghost use Rattle.protobuf_parse_wire.specs.Kinds.{shape};
+ghost use Rattle.protobuf_parse_wire.specs.Kinds.{shape_of_kind};
 ghost use Rattle.protobuf_parse_wire.specs.Views.{entry_value_view};
 ghost use Rattle.protobuf_parse_wire.specs.Writing.{IsWritable};
 
@@ -11,7 +11,7 @@ use std::test::Fail;
 
 /// The bytes of one entry, in hexadecimal digits.
 fn written(alloc: Global, number: u32, kind: Kind, value: EntryValue) -> Result<String, AllocError>
-    requires { IsWritable (shape kind) (entry_value_view value) }
+    requires { IsWritable (shape_of_kind kind) (entry_value_view value) }
 {
     let entry = Entry {
         number,

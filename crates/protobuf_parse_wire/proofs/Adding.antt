@@ -20,11 +20,14 @@ use Rattle.protobuf_parse_wire.specs.declared.reader.index.Index.{Index}
 use Rattle.protobuf_parse_wire.specs.Groups.{group}
 use Rattle.std.specs.BTreeMap.{IsEmpty}
 use Rattle.protobuf_parse_wire.specs.Declarations as declarations
-use Rattle.protobuf_parse_wire.specs.Declarations.{Declaration, within, declared_message}
-use Rattle.protobuf_parse_wire.specs.Declarations.{declared_messages, declared_in, package_scope}
-use Rattle.protobuf_parse_wire.specs.Declarations.{extensions_within, messages_named, messages_of}
-use Rattle.protobuf_parse_wire.specs.Declarations.{extends, extensions_of}
-use Rattle.protobuf_parse_wire.specs.Indexed.{parts_seen, messages_in, extensions_in, Adds}
+use Rattle.protobuf_parse_wire.specs.Declarations.{Declaration, name_within, declared_message}
+use Rattle.protobuf_parse_wire.specs.Declarations.{declared_messages, messages_declared_in}
+use Rattle.protobuf_parse_wire.specs.Declarations.{package_scope}
+use Rattle.protobuf_parse_wire.specs.Declarations.{extensions_within, messages_named}
+use Rattle.protobuf_parse_wire.specs.Declarations.{messages_with_name}
+use Rattle.protobuf_parse_wire.specs.Declarations.{extends, extensions_extending}
+use Rattle.protobuf_parse_wire.specs.Indexed.{parts_seen, indexed_messages, indexed_extensions}
+use Rattle.protobuf_parse_wire.specs.Indexed.{IndexAdds}
 use Rattle.protobuf_parse_wire.specs.Indexed.{AddsMessages, Indexes}
 
 -- one more element of a list that is mapped
@@ -51,31 +54,32 @@ pub messages_named-append : (name : Text) (ds es : List Declaration)
 messages_named-append name ds es =
     ap (map (λ d. d.parts)) (filter-append (λ d. bytes_eq name d.name) ds es) ∙ map-append _ _ _
 
-pub adds_none : (index : Index) → Adds index index [] []
+pub adds_none : (index : Index) → IndexAdds index index [] []
 adds_none index =
     record {
-      messages = λ name. sym (append-nil (messages_in index name));
+      messages = λ name. sym (append-nil (indexed_messages index name));
       extensions = λ name.
-          sym (append-nil (extensions_in index name));
+          sym (append-nil (indexed_extensions index name));
     }
 
 pub adds_more : (a b c : Index) (ds ds' : List Declaration) (es es' : List FieldDescriptor)
-    → Adds a b ds es → Adds b c ds' es' → Adds a c (ds ++ ds') (es ++ es')
+    → IndexAdds a b ds es → IndexAdds b c ds' es' → IndexAdds a c (ds ++ ds') (es ++ es')
 adds_more a b c ds ds' es es' first second = record {
   messages = λ name. second.messages name
       ∙ ap (λ ms. ms ++ messages_named name ds') (first.messages name)
-      ∙ append_assoc (messages_in a name) (messages_named name ds) (messages_named name ds')
-      ∙ ap (λ ms. messages_in a name ++ ms) (sym (messages_named-append name ds ds'));
+      ∙ append_assoc (indexed_messages a name) (messages_named name ds) (messages_named name ds')
+      ∙ ap (λ ms. indexed_messages a name ++ ms) (sym (messages_named-append name ds ds'));
   extensions = λ name. second.extensions name
       ∙ ap (λ fs. fs ++ filter (extends name) es') (first.extensions name)
-      ∙ append_assoc (extensions_in a name) (filter (extends name) es) (filter (extends name) es')
-      ∙ ap (λ fs. extensions_in a name ++ fs) (sym (filter-append (extends name) es es'));
+      ∙ append_assoc (indexed_extensions a name) (filter (extends name) es)
+      (filter (extends name) es')
+      ∙ ap (λ fs. indexed_extensions a name ++ fs) (sym (filter-append (extends name) es es'));
 }
 
 pub adds_messages_more : (a b c : Index) (ds ds' : List Declaration) → AddsMessages a b ds
     → AddsMessages b c ds' → AddsMessages a c (ds ++ ds')
 adds_messages_more a b c ds ds' first second =
-    subst (λ (es : List FieldDescriptor). Adds a c (ds ++ ds') es)
+    subst (λ (es : List FieldDescriptor). IndexAdds a c (ds ++ ds') es)
     (sym (flat_map-append (λ d. d.parts.extension) ds ds'))
     (adds_more a b c ds ds' _ _ first second)
 
@@ -86,15 +90,15 @@ declared_list scope (m ∷ ms) = ap (λ ds. declared_message scope m ++ ds) (dec
 
 -- a message put under its name
 put_one : (d : Declaration) (r : Bor DescriptorProto) (old a : Index)
-    → parts_seen (message_view r.now) ≡ d.parts → extensions_in a ≡ extensions_in old
+    → parts_seen (message_view r.now) ≡ d.parts → indexed_extensions a ≡ indexed_extensions old
     → ((name : Text) → group a.messages name
     ≡ cond (bytes_eq name d.name) (group old.messages name ++ r ∷ []) (group old.messages name))
-    → Adds old a (d ∷ []) []
+    → IndexAdds old a (d ∷ []) []
 put_one d r old a is same put = record {
   messages = λ name. ap (map (λ (m : Bor DescriptorProto). parts_seen (message_view m.now)))
       (put name) ∙ by_test (bytes_eq name d.name) (group old.messages name);
   extensions = λ name. ap (λ (f : Text → List FieldDescriptor). f name) same
-      ∙ sym (append-nil (extensions_in old name));
+      ∙ sym (append-nil (indexed_extensions old name));
 }
   where
     by_test : (b : Bool) (ms : List (Bor DescriptorProto))
@@ -113,11 +117,11 @@ put_one d r old a is same put = record {
 added_parts : (scope name : Text) (m : MessageDescriptor) (parts : MessageParts)
     (ms : List MessageDescriptor) (r : Bor DescriptorProto) (old a b new : Index)
     → message_view r.now ≡ m → m ≡ a_message parts (messages_of_list ms)
-    → name ≡ within scope parts.name
-    → extensions_in a ≡ extensions_in old
+    → name ≡ name_within scope parts.name
+    → indexed_extensions a ≡ indexed_extensions old
     → ((q : Text) → group a.messages q
     ≡ cond (bytes_eq q name) (group old.messages q ++ r ∷ []) (group old.messages q))
-    → Adds a b [] parts.extension → AddsMessages b new (flat_map (declared_message name) ms)
+    → IndexAdds a b [] parts.extension → AddsMessages b new (flat_map (declared_message name) ms)
     → AddsMessages old new (declared_message scope m)
 added_parts scope name m parts ms r old a b new is apart named same put extensions nested =
     let d : Declaration = record { name = name; parts = parts } in
@@ -140,11 +144,11 @@ added_parts scope name m parts ms r old a b new is apart named same put extensio
 
 -- a message, its extensions and the messages inside it
 pub message_added : (scope name : Text) (r : Bor DescriptorProto) (old a b new : Index)
-    → name ≡ within scope (string_bytes (out-DescriptorProto r.now).name)
-    → extensions_in a ≡ extensions_in old
+    → name ≡ name_within scope (string_bytes (out-DescriptorProto r.now).name)
+    → indexed_extensions a ≡ indexed_extensions old
     → ((q : Text) → group a.messages q
     ≡ cond (bytes_eq q name) (group old.messages q ++ r ∷ []) (group old.messages q))
-    → Adds a b [] (map field_view (out-DescriptorProto r.now).extension.items)
+    → IndexAdds a b [] (map field_view (out-DescriptorProto r.now).extension.items)
     → AddsMessages b new
     (flat_map (declared_message name)
     (map message_view (out-DescriptorProto r.now).nested_type.items))
@@ -178,59 +182,63 @@ fields_inside (d ∷ ds) =
     ∙ ap (λ (fs : List FieldDescriptor). d.parts.extension ++ fs) (fields_inside ds)
 
 extensions_are : (file : FileDescriptor)
-    → flat_map (λ (d : Declaration). d.parts.extension) (declared_in file) ++ file.extension
-    ≡ declarations.extensions_in file
+    → flat_map (λ (d : Declaration). d.parts.extension) (messages_declared_in file)
+    ++ file.extension
+    ≡ declarations.extensions_declared_in file
 extensions_are file =
     sym (map-append field_of
-    (flat_map (λ (d : Declaration). extensions_within d.name d.parts.extension) (declared_in file))
+    (flat_map (λ (d : Declaration). extensions_within d.name d.parts.extension)
+    (messages_declared_in file))
     (extensions_within (package_scope file.«package») file.extension)
     ∙ ap (λ (fs : List FieldDescriptor). fs
     ++ map field_of
     (extensions_within (package_scope file.«package») file.extension)) (fields_inside
-    (declared_in file))
+    (messages_declared_in file))
     ∙ ap (λ (fs : List FieldDescriptor). flat_map (λ (d : Declaration). d.parts.extension)
-    (declared_in file) ++ fs) (fields_within (package_scope file.«package») file.extension))
+    (messages_declared_in file) ++ fs)
+    (fields_within (package_scope file.«package») file.extension))
 
 -- a file: its messages, then the extensions outside them
 pub file_added : (file : FileDescriptor) (scope : Text) (ms : List MessageDescriptor)
     (es : List FieldDescriptor) (old mid new : Index) → scope ≡ package_scope file.«package»
     → ms ≡ file.message_type → es ≡ file.extension
-    → AddsMessages old mid (flat_map (declared_message scope) ms) → Adds mid new [] es
-    → Adds old new (declared_in file) (declarations.extensions_in file)
+    → AddsMessages old mid (flat_map (declared_message scope) ms) → IndexAdds mid new [] es
+    → IndexAdds old new (messages_declared_in file) (declarations.extensions_declared_in file)
 file_added file scope ms es old mid new scoped inside outside first second =
     let ds = flat_map (declared_message scope) ms in
-    let all : Adds old new ds (flat_map (λ d. d.parts.extension) ds ++ es) =
-    subst (λ (xs : List Declaration). Adds old new xs
+    let all : IndexAdds old new ds (flat_map (λ d. d.parts.extension) ds ++ es) =
+    subst (λ (xs : List Declaration). IndexAdds old new xs
     (flat_map (λ d. d.parts.extension) ds ++ es)) (append-nil ds) (adds_more old mid new ds
     [] _ es first second) in
-    let same : ds ≡ declared_in file = ap (λ s. flat_map (declared_message s) ms) scoped
+    let same : ds ≡ messages_declared_in file = ap (λ s. flat_map (declared_message s) ms) scoped
     ∙ ap (flat_map (declared_message (package_scope file.«package»))) inside in
-    let whole : Adds old new (declared_in file)
-    (flat_map (λ d. d.parts.extension) (declared_in file) ++ file.extension) =
-    subst (λ (fs : List FieldDescriptor). Adds old new (declared_in file)
-    (flat_map (λ d. d.parts.extension) (declared_in file) ++ fs))
+    let whole : IndexAdds old new (messages_declared_in file)
+    (flat_map (λ d. d.parts.extension) (messages_declared_in file) ++ file.extension) =
+    subst (λ (fs : List FieldDescriptor). IndexAdds old new (messages_declared_in file)
+    (flat_map (λ d. d.parts.extension) (messages_declared_in file) ++ fs))
     outside (subst
-    (λ (xs : List Declaration). Adds old new xs (flat_map (λ d. d.parts.extension) xs ++ es))
+    (λ (xs : List Declaration). IndexAdds old new xs (flat_map (λ d. d.parts.extension) xs ++ es))
     same all) in
-    subst (λ (fs : List FieldDescriptor). Adds old new (declared_in file) fs)
+    subst (λ (fs : List FieldDescriptor). IndexAdds old new (messages_declared_in file) fs)
     (extensions_are file) whole
 
 -- what an index that began empty has
 pub indexes_all : (start index : Index) (files : List FileDescriptor) → IsEmpty start.messages
     → IsEmpty start.extensions
-    → Adds start index (flat_map declared_in files) (flat_map declarations.extensions_in files)
+    → IndexAdds start index (flat_map messages_declared_in files)
+    (flat_map declarations.extensions_declared_in files)
     → Indexes files index
 indexes_all start index files no_messages no_extensions adds = record {
   messages = λ name. adds.messages name
-      ∙ ap (λ ms. ms ++ messages_of files name) (none_of_messages name);
+      ∙ ap (λ ms. ms ++ messages_with_name files name) (none_of_messages name);
   extensions = λ name. adds.extensions name
-      ∙ ap (λ es. es ++ extensions_of files name) (none_of_extensions name);
+      ∙ ap (λ es. es ++ extensions_extending files name) (none_of_extensions name);
 }
   where
-    none_of_messages : (name : Text) → messages_in start name ≡ []
+    none_of_messages : (name : Text) → indexed_messages start name ≡ []
     none_of_messages name = rw no_messages refl
 
-    none_of_extensions : (name : Text) → extensions_in start name ≡ []
+    none_of_extensions : (name : Text) → indexed_extensions start name ≡ []
     none_of_extensions name = rw no_extensions refl
 
 -- a list cut at one of its elements

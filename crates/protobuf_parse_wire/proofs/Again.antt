@@ -8,15 +8,17 @@ use Rattle.std.specs.Ordering.{int_eq}
 use Rattle.std.proofs.lemmas.Cmp.{int_eq_equiv}
 use Rattle.protobuf_parse_model.specs.Descriptors.{Text, FileDescriptor, FieldDescriptor}
 use Rattle.protobuf_parse_wire.specs.declared.kind.Kind.{Kind}
-use Rattle.protobuf_parse_wire.specs.Kinds.{varint, eight_bytes, four_bytes, Shape, whole, truth}
-use Rattle.protobuf_parse_wire.specs.Kinds.{text, octets, message, shape, wire_type, kind_of}
+use Rattle.protobuf_parse_wire.specs.Kinds.{varint, eight_bytes, four_bytes, KindShape, whole}
+use Rattle.protobuf_parse_wire.specs.Kinds.{truth}
+use Rattle.protobuf_parse_wire.specs.Kinds.{text, octets, message, shape_of_kind, wire_type}
+use Rattle.protobuf_parse_wire.specs.Kinds.{kind_of_field_type}
 use Rattle.protobuf_parse_wire.specs.Trees as trees
 use Rattle.protobuf_parse_wire.specs.Trees.{EntryTree, Entries, ValueTree, Field, fields_of_list}
 use Rattle.protobuf_parse_wire.specs.Trees.{no_entries, entry}
 use Rattle.protobuf_parse_wire.specs.Wire.{IsVarint, Spells, Says}
-use Rattle.protobuf_parse_wire.specs.Declarations.{extensions_of, field_numbered}
+use Rattle.protobuf_parse_wire.specs.Declarations.{extensions_extending, field_numbered}
 use Rattle.protobuf_parse_wire.specs.Declarations.{have_distinct_numbers}
-use Rattle.protobuf_parse_wire.specs.Reading.{Inner, Numbers, payload_at, record_at, records}
+use Rattle.protobuf_parse_wire.specs.Reading.{Inner, FieldsByNumber, payload_at, record_at, records}
 use Rattle.protobuf_parse_wire.specs.Reading.{message_at, entered}
 use Rattle.protobuf_parse_wire.specs.Law.{said, value_said, depth, value_depth, Enters, Suit}
 use Rattle.protobuf_parse_wire.specs.Law.{ValueSuits, SpelledIsRead}
@@ -67,32 +69,34 @@ field_is (g ∷ fs) f n (suc j) distinct lt is number =
 
 entered_ok : (files : List FileDescriptor) (name : Text) (P : List FieldDescriptor → Type 0)
     (e : Enters files name P)
-    → entered files (Some name) ≡ Ok (field_numbered (e.parts.field ++ extensions_of files name))
+    → entered files (Some name)
+    ≡ Ok (field_numbered (e.parts.field ++ extensions_extending files name))
 entered_ok files name P e = rw (e.once, e.distinct) refl
 
 -- ---- records
 
-record_again : (inner : Inner) (numbers : Numbers) (n : ℕ) (k : Kind) (f : FieldDescriptor)
-    (v : ValueTree) (tag payload more : List ℕ) → numbers n ≡ Some f → kind_of f.type_ ≡ Some k
-    → n < 2 ^ 31 → IsVarint tag (n * 8 + wire_type (shape k))
-    → payload_at inner f.type_name (shape k) (payload ++ more) ≡ Ok (v, more)
+record_again : (inner : Inner) (numbers : FieldsByNumber) (n : ℕ) (k : Kind) (f : FieldDescriptor)
+    (v : ValueTree) (tag payload more : List ℕ) → numbers n ≡ Some f
+    → kind_of_field_type f.type_ ≡ Some k
+    → n < 2 ^ 31 → IsVarint tag (n * 8 + wire_type (shape_of_kind k))
+    → payload_at inner f.type_name (shape_of_kind k) (payload ++ more) ≡ Ok (v, more)
     → record_at inner numbers (tag ++ (payload ++ more))
     ≡ Ok (record { number = n; value = v }, more)
 unfolding record_at
 record_again inner numbers n k f v tag payload more is kind lt spelled e =
-    let small : wire_type (shape k) < 8 = small_wire (shape k) in
-    let t = n * 8 + wire_type (shape k) in
+    let small : wire_type (shape_of_kind k) < 8 = small_wire (shape_of_kind k) in
+    let t = n * 8 + wire_type (shape_of_kind k) in
     let high : t / 8 ≡ n = omega arith in
-    let low : t % 8 ≡ wire_type (shape k) = omega arith in
+    let low : t % 8 ≡ wire_type (shape_of_kind k) = omega arith in
     rw (
       varint_again tag t (payload ++ more) (omega arith) spelled,
       high,
       low,
-      value_is inner (numbers n) f k (wire_type (shape k)) (payload ++ more) is kind refl,
+      value_is inner (numbers n) f k (wire_type (shape_of_kind k)) (payload ++ more) is kind refl,
       e,
     ) refl
   where
-    small_wire : (s : Shape) → wire_type s < 8
+    small_wire : (s : KindShape) → wire_type s < 8
     small_wire (whole varint w c) = omega arith
     small_wire (whole eight_bytes w c) = omega arith
     small_wire (whole four_bytes w c) = omega arith
@@ -101,7 +105,8 @@ record_again inner numbers n k f v tag payload more is kind lt spelled e =
     small_wire octets = omega arith
     small_wire message = omega arith
 
-records_step : (inner : Inner) (numbers : Numbers) (n : ℕ) (bs : List ℕ) (f : Field) (rest : List ℕ)
+records_step : (inner : Inner) (numbers : FieldsByNumber) (n : ℕ) (bs : List ℕ) (f : Field)
+    (rest : List ℕ)
     (others : List Field) → length bs ≤ n → 0 < length bs → length rest < length bs
     → record_at inner numbers bs ≡ Ok (f, rest)
     → ((n' : ℕ) → length rest ≤ n' → records inner numbers n' rest ≡ Ok others)
@@ -126,7 +131,8 @@ message_again : (files : List FileDescriptor) (levels : ℕ) (name : Text) (es :
     (bs : List ℕ) (e : Enters files name (λ fields. Suit files fields es)) → depth es ≤ levels
     → ((l : ℕ) → depth es ≤ suc l
     → records (message_at (entered files) l)
-    (field_numbered (e.parts.field ++ extensions_of files name)) (length bs) bs ≡ Ok (said es))
+    (field_numbered (e.parts.field ++ extensions_extending files name)) (length bs) bs
+    ≡ Ok (said es))
     → message_at (entered files) levels (Some name) bs ≡ Ok (said es)
 unfolding message_at
 message_again files zero name es bs e deep all = let some = depth_some es in absurd (omega arith)
@@ -168,18 +174,19 @@ mutual
       (omega arith) spelled.6)
 
   payload_again : (files : List FileDescriptor) (levels : ℕ) (f : FieldDescriptor) (k : Kind)
-      (v : EntryTree) (bs rest : List ℕ) → length bs < 2 ^ 64 → ValueSuits files f (shape k) v
-      → value_depth v ≤ levels → Says (shape k) v bs
-      → payload_at (message_at (entered files) levels) f.type_name (shape k) (bs ++ rest)
+      (v : EntryTree) (bs rest : List ℕ) → length bs < 2 ^ 64
+      → ValueSuits files f (shape_of_kind k) v
+      → value_depth v ≤ levels → Says (shape_of_kind k) v bs
+      → payload_at (message_at (entered files) levels) f.type_name (shape_of_kind k) (bs ++ rest)
       ≡ Ok (value_said v, rest)
   payload_again files levels f k (trees.number v) bs rest lt suits deep says =
       number_again (message_at (entered files) levels) f.type_name k v bs rest says suits
   payload_again files levels f k (trees.truth b) bs rest lt suits deep says =
-      truth_again (message_at (entered files) levels) f.type_name (shape k) b bs rest says
+      truth_again (message_at (entered files) levels) f.type_name (shape_of_kind k) b bs rest says
   payload_again files levels f k (trees.bytes inside) bs rest lt suits deep says =
       let len : length bs ≡ length says.1.front + length inside = ap length says.1.parts
       ∙ simp length-append in
-      bytes_again (message_at (entered files) levels) f.type_name (shape k) inside bs rest
+      bytes_again (message_at (entered files) levels) f.type_name (shape_of_kind k) inside bs rest
       (omega arith) says.0 suits says.1
   payload_again files levels f k (trees.message es) bs rest lt suits deep says =
       let inside = says.0 in
@@ -188,14 +195,15 @@ mutual
       let enters = suits.2 in
       let e = message_again files levels suits.0 es inside enters deep
       (λ l deep'. all_again files l
-      (enters.parts.field ++ extensions_of files suits.0) es inside (length inside)
+      (enters.parts.field ++ extensions_extending files suits.0) es inside (length inside)
       (omega arith) (omega arith) enters.distinct enters.inside deep' says.3) in
-      inside_again (message_at (entered files) levels) f.type_name (shape k) inside bs rest
+      inside_again (message_at (entered files) levels) f.type_name (shape_of_kind k) inside bs rest
       (said es) (omega arith) says.1 says.2
       (ap (λ (name : Option Text). message_at (entered files) levels name inside) suits.1 ∙ e)
 
 pub spelled_is_read : SpelledIsRead
 spelled_is_read files name es bs lt enters deep spelled =
     message_again files 256 name es bs enters deep
-    (λ l deep'. all_again files l (enters.parts.field ++ extensions_of files name) es bs (length bs)
+    (λ l deep'. all_again files l (enters.parts.field ++ extensions_extending files name) es bs
+    (length bs)
     (omega arith) lt enters.distinct enters.inside deep' spelled)

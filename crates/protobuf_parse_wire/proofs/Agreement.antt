@@ -17,12 +17,12 @@ use Rattle.protobuf_parse_model.specs.Faults.{Among, here, there}
 use Rattle.protobuf_parse_model.specs.Declarations as names
 use Rattle.protobuf_parse_model.specs.Declarations.{Scope, Declared, declare, DeclaredExtension}
 use Rattle.protobuf_parse_model.specs.Declarations.{ExtensionSyntax, file_scope}
-use Rattle.protobuf_parse_model.specs.Environment.{Environment, inside}
+use Rattle.protobuf_parse_model.specs.Environment.{Environment, env_inside}
 use Rattle.protobuf_parse_model.specs.Fields.{field_statement_of}
 use Rattle.protobuf_parse_model.specs.Messages as bodies
 use Rattle.protobuf_parse_model.specs.Messages.{extending, message_from, nested_of, nested_in}
 use Rattle.protobuf_parse_model.specs.FileDescriptor as files
-use Rattle.protobuf_parse_wire.specs.Declarations.{Declaration, within, declared_message}
+use Rattle.protobuf_parse_wire.specs.Declarations.{Declaration, name_within, declared_message}
 use Rattle.protobuf_parse_wire.specs.Declarations.{declared_messages, package_scope}
 use Rattle.protobuf_parse_wire.specs.Declarations.{extensions_within}
 use Rattle.protobuf_parse_wire.specs.Agreement.{described, ExtensionsAreDescribed}
@@ -42,7 +42,7 @@ pub data Placed (scope : Text) (own : List FieldDescriptor) (nested : List Messa
 pub within_append : (scope : Text) (xs ys : List FieldDescriptor)
     → extensions_within scope (xs ++ ys) ≡ extensions_within scope xs ++ extensions_within scope ys
 within_append scope xs ys =
-    map-append (λ (f : FieldDescriptor). record { name = within scope f.name; what = f }) xs ys
+    map-append (λ (f : FieldDescriptor). record { name = name_within scope f.name; what = f }) xs ys
 
 placed_left : (scope : Text) (xs ys : List FieldDescriptor) (ms ns : List MessageDescriptor)
     (d : Declared FieldDescriptor) → Placed scope xs ms d → Placed scope (xs ++ ys) (ms ++ ns) d
@@ -70,33 +70,34 @@ in_nested scope (n ∷ ns) m d (there a) h =
     (extensions_by (declared_message scope n)) (in_nested scope ns m d a h))
 
 pub scope_inside : (scope : Scope) (name : Text)
-    → absolute_text (names.inside scope name) ≡ within (absolute_text scope) name
+    → absolute_text (names.inside scope name) ≡ name_within (absolute_text scope) name
 scope_inside scope name = absolute_text-append scope (name ∷ [])
     ∙ ap (λ (xs : List ℕ). absolute_text scope ++ (46 ∷ xs)) (append-nil name)
 
 in_message : (env : Environment) (name : Text) (body : List MessageStatementSyntax)
     (ns : List MessageDescriptor) (d : Declared FieldDescriptor)
     → Placed (absolute_text (names.inside env.scope name))
-    (flat_map (bodies.extensions_of (inside env name)) body) ns d
+    (flat_map (bodies.extensions_of (env_inside env name)) body) ns d
     → Among (extensions_by
     (declared_message (absolute_text env.scope) (message_from env name body ns))) d
 in_message env name body ns d p =
-    at (subst (λ (s : Text). Placed s (flat_map (bodies.extensions_of (inside env name)) body) ns d)
+    at (subst (λ (s : Text). Placed s (flat_map (bodies.extensions_of (env_inside env name)) body)
+    ns d)
     (scope_inside env.scope name) p)
   where
-    at : Placed (within (absolute_text env.scope) name)
-        (flat_map (bodies.extensions_of (inside env name)) body) ns d
+    at : Placed (name_within (absolute_text env.scope) name)
+        (flat_map (bodies.extensions_of (env_inside env name)) body) ns d
         → Among (extensions_by
         (declared_message (absolute_text env.scope) (message_from env name body ns))) d
     at (its_own h) =
         among_left
         (extensions_by
-        (declared_messages (within (absolute_text env.scope) name) (messages_of_list ns))) h
+        (declared_messages (name_within (absolute_text env.scope) name) (messages_of_list ns))) h
     at (in_one m a h) =
         among_right
-        (extensions_within (within (absolute_text env.scope) name)
-        (flat_map (bodies.extensions_of (inside env name)) body)) (in_nested
-        (within (absolute_text env.scope) name) ns m d a h)
+        (extensions_within (name_within (absolute_text env.scope) name)
+        (flat_map (bodies.extensions_of (env_inside env name)) body)) (in_nested
+        (name_within (absolute_text env.scope) name) ns m d a h)
 
 in_extend : (env : Environment) (extendee : Text) (fs : List FieldStatementSyntax)
     (e : DeclaredExtension)
@@ -138,9 +139,10 @@ mutual
       → InBody env (bodies.extensions_of env s) (nested_of env s) e
   of_statement env (message_extend x) e h = its_own (in_extend env x.extendee x.fields e h)
   of_statement env (message_message place name body) e h =
-      in_one (message_from env name (message_body body) (nested_in (inside env name) body)) here
-      (in_message env name (message_body body) (nested_in (inside env name) body) (described env e)
-      (of_list (inside env name) body e h))
+      in_one (message_from env name (message_body body) (nested_in (env_inside env name) body)) here
+      (in_message env name (message_body body) (nested_in (env_inside env name) body)
+      (described env e)
+      (of_list (env_inside env name) body e h))
   of_statement env _ e h = elim h [ ]
 
   of_list : (env : Environment) (ss : MessageStatementList) (e : DeclaredExtension)
@@ -174,15 +176,15 @@ of_each env told own nested each (s ∷ ss) e h =
 
 of_file_statement : (env : Environment) (s : StatementSyntax) (e : DeclaredExtension)
     → Among (names.statement_extensions env.scope s) e
-    → InBody env (files.extensions_of env s) (files.messages_of env s) e
+    → InBody env (files.file_extensions_of env s) (files.file_messages_of env s) e
 of_file_statement env (file_extend x) e h = its_own (in_extend env x.extendee x.fields e h)
 of_file_statement env (file_message m) e h =
     in_one (bodies.message_of env m) here
-    (in_message env m.name m.body (flat_map (nested_of (inside env m.name)) m.body)
+    (in_message env m.name m.body (flat_map (nested_of (env_inside env m.name)) m.body)
     (described env e)
-    (of_each (inside env m.name) (names.extensions_of (names.inside env.scope m.name))
-    (bodies.extensions_of (inside env m.name)) (nested_of (inside env m.name))
-    (of_statement (inside env m.name)) m.body e h))
+    (of_each (env_inside env m.name) (names.extensions_of (names.inside env.scope m.name))
+    (bodies.extensions_of (env_inside env m.name)) (nested_of (env_inside env m.name))
+    (of_statement (env_inside env m.name)) m.body e h))
 of_file_statement env _ e h = elim h [ ]
 
 pub package_is : (package_name : Option Text)
@@ -194,10 +196,11 @@ package_is (Some (b ∷ bs)) some = absolute_text-parts (b ∷ bs)
 
 pub extensions_are_described : ExtensionsAreDescribed
 extensions_are_described env path t scoped named e h =
-    let ms = flat_map (files.messages_of env) t.statements in
-    let own = flat_map (files.extensions_of env) t.statements in
+    let ms = flat_map (files.file_messages_of env) t.statements in
+    let own = flat_map (files.file_extensions_of env) t.statements in
     let stands : InBody env own ms e = of_each env (names.statement_extensions env.scope)
-    (files.extensions_of env) (files.messages_of env) (of_file_statement env) t.statements e
+    (files.file_extensions_of env) (files.file_messages_of env) (of_file_statement env) t.statements
+    e
     (subst (λ (s : Scope). Among (flat_map (names.statement_extensions s) t.statements) e)
     (sym scoped) h) in
     at (package_scope (package_of t)) ms own (described env e)

@@ -16,13 +16,13 @@ use Rattle.protobuf_parse_model.specs.Faults.{Among, here, there}
 use Rattle.protobuf_parse_model.specs.Declarations as names
 use Rattle.protobuf_parse_model.specs.Declarations.{Scope, Declared, declare, DeclaredExtension}
 use Rattle.protobuf_parse_model.specs.Declarations.{ExtensionSyntax, file_scope}
-use Rattle.protobuf_parse_model.specs.Environment.{Environment, inside}
+use Rattle.protobuf_parse_model.specs.Environment.{Environment, env_inside}
 use Rattle.protobuf_parse_model.specs.Fields.{field_statement_of}
 use Rattle.protobuf_parse_model.specs.Messages as bodies
 use Rattle.protobuf_parse_model.specs.Messages.{extending, messages_behind, entries_of}
 use Rattle.protobuf_parse_model.specs.Messages.{message_from, nested_of, nested_in}
 use Rattle.protobuf_parse_model.specs.FileDescriptor as files
-use Rattle.protobuf_parse_wire.specs.Declarations.{Declaration, within, declared_message}
+use Rattle.protobuf_parse_wire.specs.Declarations.{Declaration, name_within, declared_message}
 use Rattle.protobuf_parse_wire.specs.Declarations.{declared_messages, package_scope}
 use Rattle.protobuf_parse_wire.specs.Declarations.{extensions_within}
 use Rattle.protobuf_parse_wire.specs.Agreement.{Comes, DescribedAreDeclared}
@@ -151,26 +151,26 @@ out_of_message : (env : Environment) (name : Text) (body : List MessageStatement
     → Among (extensions_by
     (declared_message (absolute_text env.scope) (message_from env name body ns))) d
     → Placed (absolute_text (names.inside env.scope name))
-    (flat_map (bodies.extensions_of (inside env name)) body) ns d
+    (flat_map (bodies.extensions_of (env_inside env name)) body) ns d
 out_of_message env name body ns d h =
-    subst (λ (s : Text). Placed s (flat_map (bodies.extensions_of (inside env name)) body) ns d)
+    subst (λ (s : Text). Placed s (flat_map (bodies.extensions_of (env_inside env name)) body) ns d)
     (sym (scope_inside env.scope name))
     (at (split_among
-    (extensions_within (within (absolute_text env.scope) name)
-    (flat_map (bodies.extensions_of (inside env name)) body)) (extensions_by
-    (declared_messages (within (absolute_text env.scope) name) (messages_of_list ns))) d h))
+    (extensions_within (name_within (absolute_text env.scope) name)
+    (flat_map (bodies.extensions_of (env_inside env name)) body)) (extensions_by
+    (declared_messages (name_within (absolute_text env.scope) name) (messages_of_list ns))) d h))
   where
     at : SplitAmong
-        (extensions_within (within (absolute_text env.scope) name)
-        (flat_map (bodies.extensions_of (inside env name)) body)) (extensions_by
-        (declared_messages (within (absolute_text env.scope) name) (messages_of_list ns))) d
-        → Placed (within (absolute_text env.scope) name)
-        (flat_map (bodies.extensions_of (inside env name)) body) ns d
+        (extensions_within (name_within (absolute_text env.scope) name)
+        (flat_map (bodies.extensions_of (env_inside env name)) body)) (extensions_by
+        (declared_messages (name_within (absolute_text env.scope) name) (messages_of_list ns))) d
+        → Placed (name_within (absolute_text env.scope) name)
+        (flat_map (bodies.extensions_of (env_inside env name)) body) ns d
     at (left k) = its_own k
     at (right k) =
-        let o = held_by (within (absolute_text env.scope) name) ns d
+        let o = held_by (name_within (absolute_text env.scope) name) ns d
         (subst (λ (ds : List Declaration). Among (extensions_by ds) d)
-        (nested_are (within (absolute_text env.scope) name) ns) k) in
+        (nested_are (name_within (absolute_text env.scope) name) ns) k) in
         in_one o.0 o.1 o.2
 
 joined : (env : Environment) (xs ys : List DeclaredExtension) (d : Declared FieldDescriptor)
@@ -192,8 +192,8 @@ mutual
       absurd (none_behind_all env x.fields (absolute_text env.scope) m d a h)
   from_statement env (message_message place name body) d (its_own h) = elim h [ ]
   from_statement env (message_message place name body) d (in_one _ here h) =
-      let c = from_list (inside env name) body d
-      (out_of_message env name (message_body body) (nested_in (inside env name) body) d h) in
+      let c = from_list (env_inside env name) body d
+      (out_of_message env name (message_body body) (nested_in (env_inside env name) body) d h) in
       record { extension = c.extension; among = c.among; is = c.is }
   from_statement env (message_message place name body) d (in_one m (there a) h) = elim a [ ]
   from_statement env (message_field f) d (its_own h) = elim h [ ]
@@ -232,17 +232,17 @@ from_each env told own nested each (s ∷ ss) d p =
     (λ k. each s d k) (λ k. from_each env told own nested each ss d k)
 
 from_file_statement : (env : Environment) (s : StatementSyntax) (d : Declared FieldDescriptor)
-    → Stands env (files.extensions_of env s) (files.messages_of env s) d
+    → Stands env (files.file_extensions_of env s) (files.file_messages_of env s) d
     → Comes env (names.statement_extensions env.scope s) d
 from_file_statement env (file_extend x) d (its_own h) = from_extend env x.extendee x.fields d h
 from_file_statement env (file_extend x) d (in_one m a h) =
     absurd (none_behind_all env x.fields (absolute_text env.scope) m d a h)
 from_file_statement env (file_message m) d (its_own h) = elim h [ ]
 from_file_statement env (file_message m) d (in_one _ here h) =
-    let c = from_each (inside env m.name) (names.extensions_of (names.inside env.scope m.name))
-    (bodies.extensions_of (inside env m.name)) (nested_of (inside env m.name))
-    (from_statement (inside env m.name)) m.body d
-    (out_of_message env m.name m.body (flat_map (nested_of (inside env m.name)) m.body) d h) in
+    let c = from_each (env_inside env m.name) (names.extensions_of (names.inside env.scope m.name))
+    (bodies.extensions_of (env_inside env m.name)) (nested_of (env_inside env m.name))
+    (from_statement (env_inside env m.name)) m.body d
+    (out_of_message env m.name m.body (flat_map (nested_of (env_inside env m.name)) m.body) d h) in
     record { extension = c.extension; among = c.among; is = c.is }
 from_file_statement env (file_message m) d (in_one n (there a) h) = elim a [ ]
 from_file_statement env _ d (its_own h) = elim h [ ]
@@ -250,16 +250,16 @@ from_file_statement env _ d (in_one m a h) = elim a [ ]
 
 pub described_are_declared : DescribedAreDeclared
 described_are_declared env path t scoped has_name d h =
-    let ms = flat_map (files.messages_of env) t.statements in
-    let own = flat_map (files.extensions_of env) t.statements in
+    let ms = flat_map (files.file_messages_of env) t.statements in
+    let own = flat_map (files.file_extensions_of env) t.statements in
     let stands : Stands env own ms d = subst (λ (s : Text). Placed s own ms d)
     (sym (ap absolute_text scoped ∙ package_is (package_of t) has_name))
     (at (package_scope (package_of t)) ms own
     (split_among (extensions_by (flat_map (declared_message (package_scope (package_of t))) ms))
     (extensions_within (package_scope (package_of t)) own) d h)) in
     subst (λ (s : Scope). Comes env (flat_map (names.statement_extensions s) t.statements) d) scoped
-    (from_each env (names.statement_extensions env.scope) (files.extensions_of env)
-    (files.messages_of env) (from_file_statement env) t.statements d stands)
+    (from_each env (names.statement_extensions env.scope) (files.file_extensions_of env)
+    (files.file_messages_of env) (from_file_statement env) t.statements d stands)
   where
     at : (scope : Text) (ms : List MessageDescriptor) (own : List FieldDescriptor)
         → SplitAmong (extensions_by (flat_map (declared_message scope) ms))

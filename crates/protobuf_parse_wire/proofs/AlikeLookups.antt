@@ -16,23 +16,26 @@ use Rattle.protobuf_parse_model.specs.Faults.{Fault}
 use Rattle.protobuf_parse_model.specs.Declarations.{Declared}
 use Rattle.protobuf_parse_model.specs.Duplicates.{fault_when}
 use Rattle.protobuf_parse_model.specs.declared.customs.Construct.{Construct}
-use Rattle.protobuf_parse_model.specs.Environment.{part_text, path_text}
+use Rattle.protobuf_parse_model.specs.Environment.{part_text, option_path_text}
 use Rattle.protobuf_parse_wire.specs.Trees as trees
 use Rattle.protobuf_parse_wire.specs.Views.{entries_of_list}
 use Rattle.protobuf_parse_wire.specs.Declarations.{extends}
 use Rattle.protobuf_parse_wire.specs.OptionFields.{OptionScope, options_message, field_named}
-use Rattle.protobuf_parse_wire.specs.OptionFields.{number_of_value, is_message, extension_meant}
+use Rattle.protobuf_parse_wire.specs.OptionFields.{number_of_value, names_message, extension_meant}
 use Rattle.protobuf_parse_wire.specs.OptionFields.{extends_message, if_extends, extension_named}
-use Rattle.protobuf_parse_wire.specs.OptionFields.{part_field, constant_field, type_name_of, takes}
-use Rattle.protobuf_parse_wire.specs.CustomOptions.{item, message_item, value_items, list_items}
+use Rattle.protobuf_parse_wire.specs.OptionFields.{part_field, constant_field, type_name_of}
+use Rattle.protobuf_parse_wire.specs.OptionFields.{type_takes}
+use Rattle.protobuf_parse_wire.specs.CustomOptions.{item_of, item_of_message, value_items}
+use Rattle.protobuf_parse_wire.specs.CustomOptions.{list_items}
 use Rattle.protobuf_parse_wire.specs.CustomOptions.{field_items, path_items, named_items}
-use Rattle.protobuf_parse_wire.specs.CustomOptions.{option_items, denotes}
+use Rattle.protobuf_parse_wire.specs.CustomOptions.{items_of_option, denotes}
 use Rattle.protobuf_parse_wire.specs.CustomFaults.{value_name_faults, message_value_faults}
 use Rattle.protobuf_parse_wire.specs.CustomFaults.{number_faults, field_name_faults}
-use Rattle.protobuf_parse_wire.specs.CustomFaults.{extension_faults, constant_name_faults}
+use Rattle.protobuf_parse_wire.specs.CustomFaults.{extension_name_faults, constant_name_faults}
 use Rattle.protobuf_parse_wire.specs.CustomFaults.{value_faults, list_faults, field_faults}
 use Rattle.protobuf_parse_wire.specs.CustomFaults.{part_faults, step_faults, path_faults}
-use Rattle.protobuf_parse_wire.specs.CustomFaults.{custom_faults, named_faults, statement_faults}
+use Rattle.protobuf_parse_wire.specs.CustomFaults.{custom_faults, custom_name_faults}
+use Rattle.protobuf_parse_wire.specs.CustomFaults.{custom_statement_faults}
 use Rattle.protobuf_parse_wire.specs.WithoutOptions.{bare_field}
 use Rattle.protobuf_parse_wire.proofs.BareDeclarations.{bare_extension}
 
@@ -43,7 +46,7 @@ pub record AlikeLookups (at at' : OptionScope) : Type 0 where
       ≡ option_map bare_field (field_named at'.files message name)
   pub values : (enum_name name : Text)
       → number_of_value at.files enum_name name ≡ number_of_value at'.files enum_name name
-  pub messages : (name : Text) → is_message at.files name ≡ is_message at'.files name
+  pub messages : (name : Text) → names_message at.files name ≡ names_message at'.files name
   pub extensions : (name : Text)
       → option_map bare_extension (extension_meant at name)
       ≡ option_map bare_extension (extension_meant at' name)
@@ -151,8 +154,8 @@ if_extends-bare files message (Some d) = at (extends_message files message d.wha
 -- what is wrong in the name of one
 meant-bare : (files : List FileDescriptor) (message name : Text)
     (o : Option (Declared FieldDescriptor))
-    → extension_faults files message name (option_map bare_extension o)
-    ≡ extension_faults files message name o
+    → extension_name_faults files message name (option_map bare_extension o)
+    ≡ extension_name_faults files message name o
 meant-bare files message name None = refl
 meant-bare files message name (Some d) = refl
 
@@ -201,18 +204,19 @@ module _ (at at' : OptionScope) (same : AlikeLookups at at') where
       (same.fields message name))
 
   meant-same : (message name : Text) (o : Option (Declared FieldDescriptor))
-      → extension_faults at.files message name o ≡ extension_faults at'.files message name o
+      → extension_name_faults at.files message name o
+      ≡ extension_name_faults at'.files message name o
   meant-same message name None = refl
   meant-same message name (Some d) =
       ap (λ (b : Bool). fault_when (not b) WrongExtensionType name) (extends-same message d.what)
 
   extension_faults-same : (message name : Text)
-      → extension_faults at.files message name (extension_meant at name)
-      ≡ extension_faults at'.files message name (extension_meant at' name)
+      → extension_name_faults at.files message name (extension_meant at name)
+      ≡ extension_name_faults at'.files message name (extension_meant at' name)
   extension_faults-same message name =
       sym (meant-bare at.files message name (extension_meant at name))
       ∙ meant-same message name (option_map bare_extension (extension_meant at name))
-      ∙ ap (extension_faults at'.files message name) (same.extensions name)
+      ∙ ap (extension_name_faults at'.files message name) (same.extensions name)
       ∙ meant-bare at'.files message name (extension_meant at' name)
 
   constant_name-same : (message : Text) (name : ConstantNameSyntax)
@@ -232,10 +236,10 @@ module _ (at at' : OptionScope) (same : AlikeLookups at at') where
     value_faults-same : (option : Text) (f : FieldDescriptor) (c : ConstantSyntax)
         → value_faults at option f c ≡ value_faults at' option f c
     value_faults-same option f (dotted name) =
-        ap (value_name_faults f.name (takes f.type_) name) (same.values (type_name_of f) name)
+        ap (value_name_faults f.name (type_takes f.type_) name) (same.values (type_name_of f) name)
     value_faults-same option f (list cs) = list_faults-same option f cs
     value_faults-same option f (fields fs) =
-        ap (message_value_faults f.name (takes f.type_))
+        ap (message_value_faults f.name (type_takes f.type_))
         (field_faults-same option (type_name_of f) fs)
     value_faults-same option f (integer z) = refl
     value_faults-same option f (truth b) = refl
@@ -279,14 +283,14 @@ module _ (at at' : OptionScope) (same : AlikeLookups at at') where
       both-same (part_faults at message p) (part_faults at' message p) _ _
       (part_faults-same message p)
       (found-alike (λ (g : FieldDescriptor). number_faults g
-      ++ step_faults (part_text p) (takes g.type_)
+      ++ step_faults (part_text p) (type_takes g.type_)
       (path_faults at option value (type_name_of g) (q ∷ ps))) (λ
       (g : FieldDescriptor). number_faults g
-      ++ step_faults (part_text p) (takes g.type_)
+      ++ step_faults (part_text p) (type_takes g.type_)
       (path_faults at' option value (type_name_of g) (q ∷ ps)))
       (λ g. refl)
       (λ g. ap (λ (xs : List Fault). number_faults g
-      ++ step_faults (part_text p) (takes g.type_) xs) (path_faults-same option value
+      ++ step_faults (part_text p) (type_takes g.type_) xs) (path_faults-same option value
       (type_name_of g) (q ∷ ps))) (part_field at message p) (part_field at' message
       p) (part-alike message p))
 
@@ -296,11 +300,11 @@ module _ (at at' : OptionScope) (same : AlikeLookups at at') where
   custom_faults-same construct value [] = refl
   custom_faults-same construct value (direct name ∷ ps) = refl
   custom_faults-same construct value (extension name ∷ ps) =
-      path_faults-same (path_text (extension name ∷ ps)) value (options_message construct)
+      path_faults-same (option_path_text (extension name ∷ ps)) value (options_message construct)
       (extension name ∷ ps)
 
   named_faults-same : (construct : Construct) (value : ConstantSyntax) (name : OptionNameSyntax)
-      → named_faults at construct value name ≡ named_faults at' construct value name
+      → custom_name_faults at construct value name ≡ custom_name_faults at' construct value name
   named_faults-same construct value (builtin name) = refl
   named_faults-same construct value (custom parts) = custom_faults-same construct value parts
 
@@ -310,10 +314,10 @@ module _ (at at' : OptionScope) (same : AlikeLookups at at') where
     value_items-same : (f : FieldDescriptor) (c : ConstantSyntax)
         → value_items at f c ≡ value_items at' f c
     value_items-same f (dotted name) =
-        ap (λ (o : Option ℤ). flat_map (λ (z : ℤ). item f (trees.number z)) (option_to_list o))
+        ap (λ (o : Option ℤ). flat_map (λ (z : ℤ). item_of f (trees.number z)) (option_to_list o))
         (same.values (type_name_of f) name)
     value_items-same f (list cs) = list_items-same f cs
-    value_items-same f (fields fs) = ap (message_item f) (field_items-same (type_name_of f) fs)
+    value_items-same f (fields fs) = ap (item_of_message f) (field_items-same (type_name_of f) fs)
     value_items-same f (integer z) = refl
     value_items-same f (truth b) = refl
     value_items-same f (string pieces) = refl
@@ -348,9 +352,9 @@ module _ (at at' : OptionScope) (same : AlikeLookups at at') where
       (part-alike message p)
   path_items-same value message (p ∷ q ∷ ps) =
       found-alike
-      (λ (g : FieldDescriptor). message_item g (path_items at value (type_name_of g) (q ∷ ps)))
-      (λ (g : FieldDescriptor). message_item g (path_items at' value (type_name_of g) (q ∷ ps)))
-      (λ g. refl) (λ g. ap (message_item g) (path_items-same value (type_name_of g) (q ∷ ps)))
+      (λ (g : FieldDescriptor). item_of_message g (path_items at value (type_name_of g) (q ∷ ps)))
+      (λ (g : FieldDescriptor). item_of_message g (path_items at' value (type_name_of g) (q ∷ ps)))
+      (λ g. refl) (λ g. ap (item_of_message g) (path_items-same value (type_name_of g) (q ∷ ps)))
       (part_field at message p) (part_field at' message p) (part-alike message p)
 
   named_items-same : (message : Text) (value : ConstantSyntax) (name : OptionNameSyntax)
@@ -361,15 +365,15 @@ module _ (at at' : OptionScope) (same : AlikeLookups at at') where
   -- ---- the statements of a construct
 
   pub faults-same : (construct : Construct) (os : List OptionSyntax)
-      → statement_faults at construct os ≡ statement_faults at' construct os
+      → custom_statement_faults at construct os ≡ custom_statement_faults at' construct os
   faults-same construct os =
-      flat-same (λ (o : OptionSyntax). named_faults at construct o.value o.name)
-      (λ (o : OptionSyntax). named_faults at' construct o.value o.name)
+      flat-same (λ (o : OptionSyntax). custom_name_faults at construct o.value o.name)
+      (λ (o : OptionSyntax). custom_name_faults at' construct o.value o.name)
       (λ o. named_faults-same construct o.value o.name) os
 
   pub meaning-same : (construct : Construct) (os : List OptionSyntax)
       → denotes at construct os ≡ denotes at' construct os
   meaning-same construct os =
       ap entries_of_list
-      (flat-same (option_items at construct) (option_items at' construct)
+      (flat-same (items_of_option at construct) (items_of_option at' construct)
       (λ o. named_items-same (options_message construct) o.value o.name) os)

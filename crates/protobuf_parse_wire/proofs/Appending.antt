@@ -5,7 +5,8 @@ use Rattle.std.proofs.lemmas.Nat.{and_mask, or_shifted, or_comm}
 use Rattle.protobuf_parse_wire.specs.Trees.{EntryTree}
 use Rattle.protobuf_parse_wire.specs.Wire.{groups, EndsAboveZero, IsVarint}
 use Rattle.protobuf_parse_wire.specs.declared.entry.Entry.{Entry, fold_out-Entry}
-use Rattle.protobuf_parse_wire.specs.Views.{Item, entry_view, entry_value_view, entry_value_step}
+use Rattle.protobuf_parse_wire.specs.Views.{WireItem, entry_view, entry_value_view}
+use Rattle.protobuf_parse_wire.specs.Views.{entry_value_step}
 use Rattle.protobuf_parse_wire.specs.Views.{entry_step}
 
 ends_above : (c : ℕ) (cs : List ℕ) (u : ℕ) → 0 < u → IsVarint (c ∷ cs) u → EndsAboveZero (c ∷ cs)
@@ -35,4 +36,4 @@ last r lt = record { chain = lt; shortest = tt; value = omega arith }
 
 pub entry_is : (e : Entry)
     → entry_view e ≡ record { number = e.number; kind = e.kind; value = entry_value_view e.value }
-entry_is e = fold_out-Entry EntryTree Item entry_value_step entry_step e
+entry_is e = fold_out-Entry EntryTree WireItem entry_value_step entry_step e

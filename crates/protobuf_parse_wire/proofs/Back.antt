@@ -11,8 +11,8 @@ use Rattle.protobuf_parse_model.specs.Descriptors.{Text}
 use Rattle.protobuf_parse_wire.specs.declared.kind.Kind.{Kind}
 use Rattle.protobuf_parse_wire.specs.declared.kind.Kind.TheVariants as kinds
 use Rattle.protobuf_parse_wire.specs.Kinds.{Word, varint, eight_bytes, four_bytes, Code, unsigned}
-use Rattle.protobuf_parse_wire.specs.Kinds.{twos_complement, zigzag, Shape, whole, truth, text}
-use Rattle.protobuf_parse_wire.specs.Kinds.{octets, message, shape, InRange}
+use Rattle.protobuf_parse_wire.specs.Kinds.{twos_complement, zigzag, KindShape, whole, truth, text}
+use Rattle.protobuf_parse_wire.specs.Kinds.{octets, message, shape_of_kind, InRange}
 use Rattle.protobuf_parse_wire.specs.Trees as trees
 use Rattle.protobuf_parse_wire.specs.Trees.{Field, fields_of_list}
 use Rattle.protobuf_parse_wire.specs.Wire.{zigzag_of, SaysWord, SaysNumber, SaysTruth}
@@ -112,8 +112,8 @@ below64 : (u : ℕ) {A : Type 0} → (u < 2 ^ 32) × A → (u < 2 ^ 64) × A
 below64 u b = let lt = b.0 in (omega arith, b.1)
 
 converted_again : (inner : Inner) (name : Option Text) (k : Kind) (v : ℤ) (bs rest : List ℕ)
-    → SaysNumber (shape k) v bs → Converts (shape k) v
-    → payload_at inner name (shape k) (bs ++ rest) ≡ Ok (trees.number v, rest)
+    → SaysNumber (shape_of_kind k) v bs → Converts (shape_of_kind k) v
+    → payload_at inner name (shape_of_kind k) (bs ++ rest) ≡ Ok (trees.number v, rest)
 converted_again inner name kinds.Int32 v bs rest says fits =
     whole_again inner name varint w32 twos_complement v says.0 bs rest says.2
     (extended_back v says.0 says.1 fits)
@@ -153,12 +153,12 @@ converted_again inner name kinds.Bytes v bs rest says fits = absurd says
 converted_again inner name kinds.Message v bs rest says fits = absurd says
 
 pub number_again : (inner : Inner) (name : Option Text) (k : Kind) (v : ℤ) (bs rest : List ℕ)
-    → SaysNumber (shape k) v bs → InRange (shape k) v
-    → payload_at inner name (shape k) (bs ++ rest) ≡ Ok (trees.number v, rest)
+    → SaysNumber (shape_of_kind k) v bs → InRange (shape_of_kind k) v
+    → payload_at inner name (shape_of_kind k) (bs ++ rest) ≡ Ok (trees.number v, rest)
 number_again inner name k v bs rest says fits =
-    converted_again inner name k v bs rest says (converts (shape k) v fits)
+    converted_again inner name k v bs rest says (converts (shape_of_kind k) v fits)
 
-pub truth_again : (inner : Inner) (name : Option Text) (s : Shape) (b : Bool) (bs rest : List ℕ)
+pub truth_again : (inner : Inner) (name : Option Text) (s : KindShape) (b : Bool) (bs rest : List ℕ)
     → SaysTruth s b bs → payload_at inner name s (bs ++ rest) ≡ Ok (trees.truth b, rest)
 unfolding payload_at
 truth_again inner name truth true bs rest says = rw (varint_again bs 1 rest (omega arith) says) refl
@@ -169,7 +169,7 @@ truth_again inner name text b bs rest says = absurd says
 truth_again inner name octets b bs rest says = absurd says
 truth_again inner name message b bs rest says = absurd says
 
-pub bytes_again : (inner : Inner) (name : Option Text) (s : Shape) (inside bs rest : List ℕ)
+pub bytes_again : (inner : Inner) (name : Option Text) (s : KindShape) (inside bs rest : List ℕ)
     → length inside < 2 ^ 64 → HasBytes s → IsText s inside → SaysDelimited inside bs
     → payload_at inner name s (bs ++ rest) ≡ Ok (trees.bytes inside, rest)
 unfolding payload_at
@@ -181,7 +181,7 @@ bytes_again inner name (whole word w code) inside bs rest lt has is says = absur
 bytes_again inner name truth inside bs rest lt has is says = absurd has
 bytes_again inner name message inside bs rest lt has is says = absurd has
 
-pub inside_again : (inner : Inner) (name : Option Text) (s : Shape) (inside bs rest : List ℕ)
+pub inside_again : (inner : Inner) (name : Option Text) (s : KindShape) (inside bs rest : List ℕ)
     (fs : List Field) → length inside < 2 ^ 64 → HasMessages s → SaysDelimited inside bs
     → inner name inside ≡ Ok fs
     → payload_at inner name s (bs ++ rest) ≡ Ok (trees.message (fields_of_list fs), rest)

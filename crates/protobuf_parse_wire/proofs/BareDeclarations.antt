@@ -7,11 +7,12 @@ use Rattle.protobuf_parse_model.specs.Descriptors.{Text, FieldDescriptor, EnumDe
 use Rattle.protobuf_parse_model.specs.Descriptors.{MessageDescriptor, MessageDescriptors, a_message}
 use Rattle.protobuf_parse_model.specs.Descriptors.{no_messages, messages, FileDescriptor}
 use Rattle.protobuf_parse_model.specs.Declarations.{Declared}
-use Rattle.protobuf_parse_wire.specs.Declarations.{Declaration, within, declared_message}
-use Rattle.protobuf_parse_wire.specs.Declarations.{declared_messages, package_scope, declared_in}
+use Rattle.protobuf_parse_wire.specs.Declarations.{Declaration, name_within, declared_message}
+use Rattle.protobuf_parse_wire.specs.Declarations.{declared_messages, package_scope}
+use Rattle.protobuf_parse_wire.specs.Declarations.{messages_declared_in}
 use Rattle.protobuf_parse_wire.specs.Declarations.{extensions_within, declared_extensions}
-use Rattle.protobuf_parse_wire.specs.Declarations.{extensions_in, messages_named, extends}
-use Rattle.protobuf_parse_wire.specs.Declarations.{messages_of, extensions_of}
+use Rattle.protobuf_parse_wire.specs.Declarations.{extensions_declared_in, messages_named, extends}
+use Rattle.protobuf_parse_wire.specs.Declarations.{messages_with_name, extensions_extending}
 use Rattle.protobuf_parse_wire.specs.OptionFields.{enum_in, declared_enums}
 use Rattle.protobuf_parse_wire.specs.WithoutOptions.{bare_field, bare_enum, bare_parts}
 use Rattle.protobuf_parse_wire.specs.WithoutOptions.{bare_message, bare_messages, bare_file}
@@ -79,8 +80,8 @@ mutual
       → declared_message scope (bare_message m) ≡ map bare_declaration (declared_message scope m)
   message-bare scope (a_message parts nested) =
       ap (λ (ds : List Declaration). record
-      { name = within scope parts.name; parts = bare_parts parts }
-      ∷ ds) (messages-bare (within scope parts.name) nested)
+      { name = name_within scope parts.name; parts = bare_parts parts }
+      ∷ ds) (messages-bare (name_within scope parts.name) nested)
 
   messages-bare : (scope : Text) (ms : MessageDescriptors)
       → declared_messages scope (bare_messages ms)
@@ -92,20 +93,22 @@ mutual
       (message-bare scope m) (messages-bare scope ms)
 
 file-bare : (file : FileDescriptor)
-    → declared_in (bare_file file) ≡ map bare_declaration (declared_in file)
+    → messages_declared_in (bare_file file) ≡ map bare_declaration (messages_declared_in file)
 file-bare file =
     let scope = package_scope file.«package» in
     all-become bare_message bare_declaration (declared_message scope) (declared_message scope)
     (message-bare scope) file.message_type
 
 pub declared-bare : (files : List FileDescriptor)
-    → flat_map declared_in (map bare_file files) ≡ map bare_declaration (flat_map declared_in files)
-declared-bare files = all-become bare_file bare_declaration declared_in declared_in file-bare files
+    → flat_map messages_declared_in (map bare_file files)
+    ≡ map bare_declaration (flat_map messages_declared_in files)
+declared-bare files =
+    all-become bare_file bare_declaration messages_declared_in messages_declared_in file-bare files
 
 pub messages-of-bare : (files : List FileDescriptor) (name : Text)
-    → messages_of (map bare_file files) name ≡ map bare_parts (messages_of files name)
+    → messages_with_name (map bare_file files) name ≡ map bare_parts (messages_with_name files name)
 messages-of-bare files name =
-    let ds = flat_map declared_in files in
+    let ds = flat_map messages_declared_in files in
     ap (messages_named name) (declared-bare files)
     ∙ ap (map (λ (d : Declaration). d.parts))
     (passing-become bare_declaration (λ d. bytes_eq name d.name) ds)
@@ -123,8 +126,9 @@ within-bare : (scope : Text) (fields : List FieldDescriptor)
     ≡ map bare_extension (extensions_within scope fields)
 within-bare scope fields =
     each-becomes bare_field bare_extension
-    (λ (f : FieldDescriptor). record { name = within scope f.name; what = f })
-    (λ (f : FieldDescriptor). record { name = within scope f.name; what = f }) (λ f. refl) fields
+    (λ (f : FieldDescriptor). record { name = name_within scope f.name; what = f })
+    (λ (f : FieldDescriptor). record { name = name_within scope f.name; what = f })
+    (λ f. refl) fields
 
 -- those of messages
 abbrev inside_message : Declaration → List (Declared FieldDescriptor)
@@ -134,14 +138,14 @@ pub extensions-bare : (file : FileDescriptor)
     → declared_extensions (bare_file file) ≡ map bare_extension (declared_extensions file)
 extensions-bare file =
     let scope = package_scope file.«package» in
-    let inside : flat_map inside_message (declared_in (bare_file file))
-    ≡ map bare_extension (flat_map inside_message (declared_in file)) =
+    let inside : flat_map inside_message (messages_declared_in (bare_file file))
+    ≡ map bare_extension (flat_map inside_message (messages_declared_in file)) =
     ap (flat_map inside_message) (file-bare file)
     ∙ all-become bare_declaration bare_extension inside_message inside_message
-    (λ (d : Declaration). within-bare d.name d.parts.extension) (declared_in file) in
-    both-become bare_extension (flat_map inside_message (declared_in file))
+    (λ (d : Declaration). within-bare d.name d.parts.extension) (messages_declared_in file) in
+    both-become bare_extension (flat_map inside_message (messages_declared_in file))
     (extensions_within scope file.extension)
-    (flat_map inside_message (declared_in (bare_file file)))
+    (flat_map inside_message (messages_declared_in (bare_file file)))
     (extensions_within scope (map bare_field file.extension)) inside
     (within-bare scope file.extension)
 
@@ -153,18 +157,20 @@ all-extensions-bare files =
     files
 
 extensions-in-bare : (file : FileDescriptor)
-    → extensions_in (bare_file file) ≡ map bare_field (extensions_in file)
+    → extensions_declared_in (bare_file file) ≡ map bare_field (extensions_declared_in file)
 extensions-in-bare file =
     ap (map (λ (e : Declared FieldDescriptor). e.what)) (extensions-bare file)
     ∙ each-becomes bare_extension bare_field (λ (e : Declared FieldDescriptor). e.what)
     (λ (e : Declared FieldDescriptor). e.what) (λ e. refl) (declared_extensions file)
 
 pub extensions-of-bare : (files : List FileDescriptor) (name : Text)
-    → extensions_of (map bare_file files) name ≡ map bare_field (extensions_of files name)
+    → extensions_extending (map bare_file files) name
+    ≡ map bare_field (extensions_extending files name)
 extensions-of-bare files name =
     ap (filter (extends name))
-    (all-become bare_file bare_field extensions_in extensions_in extensions-in-bare files)
-    ∙ passing-become bare_field (extends name) (flat_map extensions_in files)
+    (all-become bare_file bare_field extensions_declared_in extensions_declared_in
+    extensions-in-bare files)
+    ∙ passing-become bare_field (extends name) (flat_map extensions_declared_in files)
 
 -- ---- enums
 
@@ -183,13 +189,14 @@ enums-bare : (file : FileDescriptor)
     → declared_enums (bare_file file) ≡ map bare_declared_enum (declared_enums file)
 enums-bare file =
     let scope = package_scope file.«package» in
-    let inside : flat_map enums_inside (declared_in (bare_file file))
-    ≡ map bare_declared_enum (flat_map enums_inside (declared_in file)) =
+    let inside : flat_map enums_inside (messages_declared_in (bare_file file))
+    ≡ map bare_declared_enum (flat_map enums_inside (messages_declared_in file)) =
     ap (flat_map enums_inside) (file-bare file)
     ∙ all-become bare_declaration bare_declared_enum enums_inside enums_inside
-    (λ (d : Declaration). enums-within-bare d.name d.parts.enum_type) (declared_in file) in
-    both-become bare_declared_enum (flat_map enums_inside (declared_in file))
-    (map (enum_in scope) file.enum_type) (flat_map enums_inside (declared_in (bare_file file)))
+    (λ (d : Declaration). enums-within-bare d.name d.parts.enum_type) (messages_declared_in file) in
+    both-become bare_declared_enum (flat_map enums_inside (messages_declared_in file))
+    (map (enum_in scope) file.enum_type)
+    (flat_map enums_inside (messages_declared_in (bare_file file)))
     (map (enum_in scope) (map bare_enum file.enum_type)) inside
     (enums-within-bare scope file.enum_type)
 

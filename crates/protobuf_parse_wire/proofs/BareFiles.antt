@@ -14,7 +14,7 @@ use Rattle.protobuf_parse_model.specs.Descriptors.{Text, FieldDescriptor, EnumVa
 use Rattle.protobuf_parse_model.specs.Descriptors.{MessageDescriptor, messages, messages_of_list}
 use Rattle.protobuf_parse_model.specs.Descriptors.{MethodDescriptor}
 use Rattle.protobuf_parse_model.specs.Statements.{group_body, message_body, oneof_fields}
-use Rattle.protobuf_parse_model.specs.Environment.{Environment, Customs, inside}
+use Rattle.protobuf_parse_model.specs.Environment.{Environment, Customs, env_inside}
 use Rattle.protobuf_parse_model.specs.Fields.{FieldPlace, plain, field_statement_of}
 use Rattle.protobuf_parse_model.specs.Enums.{enum_values, value_of, enum_of}
 use Rattle.protobuf_parse_model.specs.Services.{methods_in, method_of, service_of}
@@ -24,7 +24,7 @@ use Rattle.protobuf_parse_model.specs.Messages.{has_own_oneof, oneofs_of, in_one
 use Rattle.protobuf_parse_model.specs.Messages.{fields_from, extending, message_from, nested_of}
 use Rattle.protobuf_parse_model.specs.Messages.{nested_in, message_of}
 use Rattle.protobuf_parse_model.specs.FileDescriptor as files
-use Rattle.protobuf_parse_model.specs.FileDescriptor.{messages_of, services_of, file_of}
+use Rattle.protobuf_parse_model.specs.FileDescriptor.{file_messages_of, services_of, file_of}
 use Rattle.protobuf_parse_model.proofs.SameNames.{with_customs}
 use Rattle.protobuf_parse_wire.specs.WithoutOptions.{bare_field, bare_oneof, bare_value, bare_enum}
 use Rattle.protobuf_parse_wire.specs.WithoutOptions.{bare_message, bare_messages, bare_method}
@@ -188,14 +188,14 @@ module _ (one other : Customs) where
       ≡ bare_message (message_from (by_other env) name body ns)
   message-from-alike env name body ms ns e =
       let nested = messages-listed ms ∙ ap messages_of_list e ∙ sym (messages-listed ns) in
-      let fields = fields-from-alike (inside env name) 0 body in
-      let oneofs = all-alike bare_oneof (oneofs_of (by_one (inside env name)))
-      (oneofs_of (by_other (inside env name))) (oneofs-alike (inside env name)) body in
-      let enums = all-alike bare_enum (bodies.enums_of (by_one (inside env name)))
-      (bodies.enums_of (by_other (inside env name))) (enums-alike (inside env name)) body in
-      let extensions = all-alike bare_field (bodies.extensions_of (by_one (inside env name)))
-      (bodies.extensions_of (by_other (inside env name)))
-      (extensions-alike (inside env name)) body in
+      let fields = fields-from-alike (env_inside env name) 0 body in
+      let oneofs = all-alike bare_oneof (oneofs_of (by_one (env_inside env name)))
+      (oneofs_of (by_other (env_inside env name))) (oneofs-alike (env_inside env name)) body in
+      let enums = all-alike bare_enum (bodies.enums_of (by_one (env_inside env name)))
+      (bodies.enums_of (by_other (env_inside env name))) (enums-alike (env_inside env name)) body in
+      let extensions = all-alike bare_field (bodies.extensions_of (by_one (env_inside env name)))
+      (bodies.extensions_of (by_other (env_inside env name)))
+      (extensions-alike (env_inside env name)) body in
       rw (fields, oneofs, enums, extensions, nested) refl
 
   mutual
@@ -206,8 +206,9 @@ module _ (one other : Customs) where
     nested-alike env (message_message at name body) =
         ap (λ m. m ∷ [])
         (message-from-alike env name (message_body body)
-        (nested_in (by_one (inside env name)) body)
-        (nested_in (by_other (inside env name)) body) (nested-in-alike (inside env name) body))
+        (nested_in (by_one (env_inside env name)) body)
+        (nested_in (by_other (env_inside env name)) body)
+        (nested-in-alike (env_inside env name) body))
     nested-alike env (message_field f) = behind-alike env f
     nested-alike env (message_oneof o) = behinds-alike env (flat_map oneof_fields o.body)
     nested-alike env (message_extend e) = behinds-alike env e.fields
@@ -227,29 +228,29 @@ module _ (one other : Customs) where
       → bare_message (message_of (by_one env) m) ≡ bare_message (message_of (by_other env) m)
   message-alike env m =
       message-from-alike env m.name m.body
-      (flat_map (nested_of (by_one (inside env m.name))) m.body)
-      (flat_map (nested_of (by_other (inside env m.name))) m.body)
-      (all-alike bare_message (nested_of (by_one (inside env m.name)))
-      (nested_of (by_other (inside env m.name))) (nested-alike (inside env m.name)) m.body)
+      (flat_map (nested_of (by_one (env_inside env m.name))) m.body)
+      (flat_map (nested_of (by_other (env_inside env m.name))) m.body)
+      (all-alike bare_message (nested_of (by_one (env_inside env m.name)))
+      (nested_of (by_other (env_inside env m.name))) (nested-alike (env_inside env m.name)) m.body)
 
   -- ---- files
 
   messages-alike : (env : Environment) (s : StatementSyntax)
-      → map bare_message (messages_of (by_one env) s)
-      ≡ map bare_message (messages_of (by_other env) s)
+      → map bare_message (file_messages_of (by_one env) s)
+      ≡ map bare_message (file_messages_of (by_other env) s)
   messages-alike env (file_message m) = ap (λ d. d ∷ []) (message-alike env m)
   messages-alike env (file_extend e) = behinds-alike env e.fields
   messages-alike env _ = refl
 
   file-enums-alike : (env : Environment) (s : StatementSyntax)
-      → map bare_enum (files.enums_of (by_one env) s)
-      ≡ map bare_enum (files.enums_of (by_other env) s)
+      → map bare_enum (files.file_enums_of (by_one env) s)
+      ≡ map bare_enum (files.file_enums_of (by_other env) s)
   file-enums-alike env (file_enum e) = ap (λ d. d ∷ []) (enum-alike env e)
   file-enums-alike env _ = refl
 
   file-extensions-alike : (env : Environment) (s : StatementSyntax)
-      → map bare_field (files.extensions_of (by_one env) s)
-      ≡ map bare_field (files.extensions_of (by_other env) s)
+      → map bare_field (files.file_extensions_of (by_one env) s)
+      ≡ map bare_field (files.file_extensions_of (by_other env) s)
   file-extensions-alike env (file_extend e) = fields-alike env (extending env e.extendee) e.fields
   file-extensions-alike env _ = refl
 
@@ -262,12 +263,14 @@ module _ (one other : Customs) where
   pub file-alike : (env : Environment) (path : Text) (t : FileSyntax)
       → bare_file (file_of (by_one env) path t) ≡ bare_file (file_of (by_other env) path t)
   file-alike env path t =
-      let messages = all-alike bare_message (messages_of (by_one env)) (messages_of (by_other env))
+      let messages = all-alike bare_message (file_messages_of (by_one env))
+      (file_messages_of (by_other env))
       (messages-alike env) t.statements in
-      let enums = all-alike bare_enum (files.enums_of (by_one env)) (files.enums_of (by_other env))
+      let enums = all-alike bare_enum (files.file_enums_of (by_one env))
+      (files.file_enums_of (by_other env))
       (file-enums-alike env) t.statements in
       let services = all-alike bare_service (services_of (by_one env)) (services_of (by_other env))
       (services-alike env) t.statements in
-      let extensions = all-alike bare_field (files.extensions_of (by_one env))
-      (files.extensions_of (by_other env)) (file-extensions-alike env) t.statements in
+      let extensions = all-alike bare_field (files.file_extensions_of (by_one env))
+      (files.file_extensions_of (by_other env)) (file-extensions-alike env) t.statements in
       rw (messages, enums, services, extensions) refl

@@ -11,11 +11,12 @@ use Rattle.protobuf_parse_model.specs.Descriptors.{FileDescriptor}
 use Rattle.protobuf_parse_model.specs.Declarations.{Scope, Declared, full_name}
 use Rattle.protobuf_parse_model.specs.Lookup.{Meanings, begins_with_dot, declared}
 use Rattle.protobuf_parse_model.specs.Lookup.{declared_in_first, meant, meaning}
-use Rattle.protobuf_parse_wire.specs.Declarations.{Declaration, declared_in, declared_extensions}
-use Rattle.protobuf_parse_wire.specs.Declarations.{messages_of}
+use Rattle.protobuf_parse_wire.specs.Declarations.{Declaration, messages_declared_in}
+use Rattle.protobuf_parse_wire.specs.Declarations.{declared_extensions}
+use Rattle.protobuf_parse_wire.specs.Declarations.{messages_with_name}
 use Rattle.protobuf_parse_wire.specs.OptionFields.{OptionScope, declared_enums, fields_of_message}
-use Rattle.protobuf_parse_wire.specs.OptionFields.{field_named, values_in, number_of_value}
-use Rattle.protobuf_parse_wire.specs.OptionFields.{is_message}
+use Rattle.protobuf_parse_wire.specs.OptionFields.{field_named, values_of_enum, number_of_value}
+use Rattle.protobuf_parse_wire.specs.OptionFields.{names_message}
 use Rattle.protobuf_parse_wire.specs.WithoutOptions.{bare_field, bare_value, bare_parts, bare_file}
 use Rattle.protobuf_parse_wire.specs.WithoutOptions.{DifferOnlyInOptions}
 use Rattle.protobuf_parse_wire.proofs.BareDeclarations.{all-become, found-becomes, any-becomes}
@@ -33,7 +34,7 @@ fields-bare : (files : List FileDescriptor) (message : Text)
 fields-bare files message =
     ap (flat_map (λ (parts : MessageParts). parts.field)) (messages-of-bare files message)
     ∙ all-become bare_parts bare_field (λ (parts : MessageParts). parts.field)
-    (λ (parts : MessageParts). parts.field) (λ parts. refl) (messages_of files message)
+    (λ (parts : MessageParts). parts.field) (λ parts. refl) (messages_with_name files message)
 
 field-bare : (files : List FileDescriptor) (message name : Text)
     → field_named (map bare_file files) message name
@@ -55,7 +56,7 @@ abbrev values_where : Text → Declared EnumDescriptor → List EnumValueDescrip
 values_where name e = cond (bytes_eq e.name name) e.what.value []
 
 values-bare : (files : List FileDescriptor) (name : Text)
-    → values_in (map bare_file files) name ≡ map bare_value (values_in files name)
+    → values_of_enum (map bare_file files) name ≡ map bare_value (values_of_enum files name)
 values-bare files name =
     ap (flat_map (values_where name)) (all-enums-bare files)
     ∙ all-become bare_declared_enum bare_value (values_where name) (values_where name)
@@ -74,18 +75,18 @@ number-bare files enum_name name =
     (find (λ (v : EnumValueDescriptor). bytes_eq v.name name) vs)) (values-bare files enum_name)
     ∙ ap (option_map (λ (v : EnumValueDescriptor). v.number))
     (found-becomes bare_value (λ (v : EnumValueDescriptor). bytes_eq v.name name)
-    (values_in files enum_name))
+    (values_of_enum files enum_name))
     ∙ numbers-bare
-    (find (λ (v : EnumValueDescriptor). bytes_eq v.name name) (values_in files enum_name))
+    (find (λ (v : EnumValueDescriptor). bytes_eq v.name name) (values_of_enum files enum_name))
 
 -- ---- messages
 
 message-bare : (files : List FileDescriptor) (name : Text)
-    → is_message (map bare_file files) name ≡ is_message files name
+    → names_message (map bare_file files) name ≡ names_message files name
 message-bare files name =
     ap (list_any (λ (d : Declaration). bytes_eq name d.name)) (declared-bare files)
     ∙ any-becomes bare_declaration (λ (d : Declaration). bytes_eq name d.name)
-    (flat_map declared_in files)
+    (flat_map messages_declared_in files)
 
 -- ---- extensions
 
@@ -140,7 +141,7 @@ lookups-alike files files' visible visible' same seen scope = record {
       ∙ ap (λ fs. field_named fs message name) same ∙ field-bare files' message name;
   values = λ enum_name name. sym (number-bare files enum_name name)
       ∙ ap (λ fs. number_of_value fs enum_name name) same ∙ number-bare files' enum_name name;
-  messages = λ name. sym (message-bare files name) ∙ ap (λ fs. is_message fs name) same
+  messages = λ name. sym (message-bare files name) ∙ ap (λ fs. names_message fs name) same
       ∙ message-bare files' name;
   extensions = λ name. sym (extension-bare visible scope name)
       ∙ ap (λ fs. meaning (flat_map declared_extensions fs) scope name) seen

@@ -11,8 +11,9 @@ use Rattle.protobuf_parse_model.specs.Descriptors.{FileDescriptor}
 use Rattle.protobuf_parse_wire.specs.declared.fault.ReadFault.TheVariants.{AmbiguousNumber}
 use Rattle.protobuf_parse_wire.specs.Trees.{ValueTree, Field}
 use Rattle.protobuf_parse_wire.specs.Declarations.{field_numbered, have_distinct_numbers}
-use Rattle.protobuf_parse_wire.specs.Declarations.{messages_of, extensions_of}
-use Rattle.protobuf_parse_wire.specs.Reading.{Read, ◌>>=◌, Numbers, Inner, varint_at, value_at}
+use Rattle.protobuf_parse_wire.specs.Declarations.{messages_with_name, extensions_extending}
+use Rattle.protobuf_parse_wire.specs.Reading.{WireRead, ◌>>=◌, FieldsByNumber, Inner, varint_at}
+use Rattle.protobuf_parse_wire.specs.Reading.{value_at}
 use Rattle.protobuf_parse_wire.specs.Reading.{record_at, records, by_number, only_one, entered}
 use Rattle.protobuf_parse_wire.specs.Reading.{message_at, reader}
 use Rattle.protobuf_parse_wire.specs.WithoutOptions.{bare_field, bare_parts, bare_file}
@@ -31,10 +32,10 @@ distinct-bare (f ∷ fs) =
     (distinct-bare fs)
 
 -- each number names the same field, without its options
-abbrev barely : Numbers → Numbers
+abbrev barely : FieldsByNumber → FieldsByNumber
 barely numbers n = option_map bare_field (numbers n)
 
-abbrev then_barely : Read Numbers → Read Numbers
+abbrev then_barely : WireRead FieldsByNumber → WireRead FieldsByNumber
 then_barely read = read >>= (λ numbers. Ok (barely numbers))
 
 numbered-bare : (fs : List FieldDescriptor)
@@ -48,7 +49,8 @@ by-number-bare : (fs : List FieldDescriptor)
 by-number-bare fs =
     ap (λ (b : Bool). cond b (Ok (field_numbered (map bare_field fs))) (Err AmbiguousNumber))
     (distinct-bare fs)
-    ∙ ap (λ (numbers : Numbers). cond (have_distinct_numbers fs) (Ok numbers) (Err AmbiguousNumber))
+    ∙ ap (λ (numbers : FieldsByNumber). cond (have_distinct_numbers fs) (Ok numbers)
+    (Err AmbiguousNumber))
     (numbered-bare fs)
     ∙ at (have_distinct_numbers fs)
   where
@@ -68,14 +70,14 @@ entered-bare : (files : List FileDescriptor) (name : Option Text)
     → entered (map bare_file files) name ≡ then_barely (entered files name)
 entered-bare files None = refl
 entered-bare files (Some name) =
-    ap (λ (ms : List MessageParts). only_one ms (extensions_of (map bare_file files) name))
+    ap (λ (ms : List MessageParts). only_one ms (extensions_extending (map bare_file files) name))
     (messages-of-bare files name)
-    ∙ ap (only_one (map bare_parts (messages_of files name))) (extensions-of-bare files name)
-    ∙ only-one-bare (messages_of files name) (extensions_of files name)
+    ∙ ap (only_one (map bare_parts (messages_with_name files name))) (extensions-of-bare files name)
+    ∙ only-one-bare (messages_with_name files name) (extensions_extending files name)
 
 -- ---- records
 
-bind-same : {A B : Type 0} (read : Read A) (f g : A → Read B) → ((x : A) → f x ≡ g x)
+bind-same : {A B : Type 0} (read : WireRead A) (f g : A → WireRead B) → ((x : A) → f x ≡ g x)
     → (read >>= f) ≡ (read >>= g)
 bind-same (Ok x) f g each = each x
 bind-same (Err e) f g each = refl
@@ -87,10 +89,10 @@ value-bare inner None wire bs = refl
 value-bare inner (Some f) wire bs = refl
 
 -- the value behind a tag, as a record
-abbrev with_value : (tag : ℕ × List ℕ) → Read (ValueTree × List ℕ) → Read (Field × List ℕ)
+abbrev with_value : (tag : ℕ × List ℕ) → WireRead (ValueTree × List ℕ) → WireRead (Field × List ℕ)
 with_value tag value = value >>= (λ v. Ok (record { number = tag.0 / 8; value = v.0 }, v.1))
 
-record-bare : (inner : Inner) (numbers : Numbers) (bs : List ℕ)
+record-bare : (inner : Inner) (numbers : FieldsByNumber) (bs : List ℕ)
     → record_at inner (barely numbers) bs ≡ record_at inner numbers bs
 unfolding record_at
 record-bare inner numbers bs =
@@ -100,10 +102,11 @@ record-bare inner numbers bs =
     (λ tag. ap (with_value tag) (value-bare inner (numbers (tag.0 / 8)) (tag.0 % 8) tag.1))
 
 -- a record, and those after it
-abbrev and_others : (List ℕ → Read (List Field)) → Read (Field × List ℕ) → Read (List Field)
+abbrev and_others : (List ℕ → WireRead (List Field)) → WireRead (Field × List ℕ)
+    → WireRead (List Field)
 and_others rest first = first >>= (λ r. rest r.1 >>= (λ others. Ok (r.0 ∷ others)))
 
-records-bare : (inner : Inner) (numbers : Numbers) (n : ℕ) (bs : List ℕ)
+records-bare : (inner : Inner) (numbers : FieldsByNumber) (n : ℕ) (bs : List ℕ)
     → records inner (barely numbers) n bs ≡ records inner numbers n bs
 unfolding records
 records-bare inner numbers zero [] = refl
@@ -111,14 +114,15 @@ records-bare inner numbers (suc n) [] = refl
 records-bare inner numbers zero (b ∷ bs) = refl
 records-bare inner numbers (suc n) (b ∷ bs) =
     ap (and_others (records inner (barely numbers) n)) (record-bare inner numbers (b ∷ bs))
-    ∙ ap (λ (rest : List ℕ → Read (List Field)). and_others rest (record_at inner numbers (b ∷ bs)))
+    ∙ ap (λ (rest : List ℕ → WireRead (List Field)). and_others rest
+    (record_at inner numbers (b ∷ bs)))
     (fun_ext (λ (rest : List ℕ). records-bare inner numbers n rest))
 
 -- ---- messages
 
 module _ (files : List FileDescriptor) where
   -- the message that is entered, and what its records say
-  within-bare : (inner : Inner) (read : Read Numbers) (bs : List ℕ)
+  within-bare : (inner : Inner) (read : WireRead FieldsByNumber) (bs : List ℕ)
       → (then_barely read >>= (λ numbers. records inner numbers (length bs) bs))
       ≡ (read >>= (λ numbers. records inner numbers (length bs) bs))
   within-bare inner (Ok numbers) bs = records-bare inner numbers (length bs) bs
@@ -133,7 +137,7 @@ module _ (files : List FileDescriptor) where
       ap (λ (inner : Inner). entered (map bare_file files) name >>=
       (λ numbers. records inner numbers (length bs) bs)) (fun_ext
       (λ (n : Option Text). fun_ext (λ (part : List ℕ). message-bare levels n part)))
-      ∙ ap (λ (read : Read Numbers). read >>=
+      ∙ ap (λ (read : WireRead FieldsByNumber). read >>=
       (λ numbers. records (message_at (entered files) levels) numbers (length bs) bs)) (entered-bare
       files name)
       ∙ within-bare (message_at (entered files) levels) (entered files name) bs

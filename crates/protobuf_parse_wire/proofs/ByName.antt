@@ -15,10 +15,11 @@ use Rattle.protobuf_parse_model.specs.Declarations.{Declared}
 use Rattle.protobuf_parse_model.specs.Descriptors.{Text, FieldDescriptor, EnumDescriptor}
 use Rattle.protobuf_parse_model.specs.Descriptors.{MessageDescriptor}
 use Rattle.protobuf_parse_model.specs.Lookup.{declared}
-use Rattle.protobuf_parse_wire.specs.ByName.{fields_in, first, named, values_in}
+use Rattle.protobuf_parse_wire.specs.ByName.{fields_of_all, first, named, values_of_all}
 use Rattle.protobuf_parse_wire.specs.Declarations.{Declaration, messages_named}
 use Rattle.protobuf_parse_wire.specs.Indexed.{parts_seen}
-use Rattle.protobuf_parse_wire.specs.Known.{extension_named, field_among, field_seen, number_among}
+use Rattle.protobuf_parse_wire.specs.Known.{extension_under_name, field_among, field_seen}
+use Rattle.protobuf_parse_wire.specs.Known.{number_among}
 use Rattle.protobuf_parse_wire.specs.Known.{undeclared, values_among}
 use Rattle.protobuf_parse_wire.proofs.Found.{number_split}
 
@@ -35,21 +36,21 @@ first_more None xs = refl
 first_more (Some x) xs = refl
 
 abbrev pub fields_of : List MessageDescriptor → List FieldDescriptor
-fields_of ms = fields_in (map parts_seen ms)
+fields_of ms = fields_of_all (map parts_seen ms)
 
 pub fields_more : (name : Text) (ms ns : List MessageDescriptor)
     → field_among (fields_of (ms ++ ns)) name
     ≡ option_or (field_among (fields_of ms) name) (field_among (fields_of ns) name)
 fields_more name ms ns =
-    ap (λ ps. field_among (fields_in ps) name) (map-append parts_seen ms ns)
+    ap (λ ps. field_among (fields_of_all ps) name) (map-append parts_seen ms ns)
     ∙ ap (λ fs. field_among fs name) (flat_map-append _ (map parts_seen ms) (map parts_seen ns))
     ∙ find-append (λ (f : FieldDescriptor). bytes_eq f.name name) (fields_of ms) (fields_of ns)
 
 pub values_more : (name : Text) (es fs : List EnumDescriptor)
-    → number_among (values_in (es ++ fs)) name
-    ≡ option_or (number_among (values_in es) name) (number_among (values_in fs) name)
+    → number_among (values_of_all (es ++ fs)) name
+    ≡ option_or (number_among (values_of_all es) name) (number_among (values_of_all fs) name)
 values_more name es fs = ap (λ vs. number_among vs name) (flat_map-append _ es fs)
-    ∙ number_split name (values_in es) (values_in fs)
+    ∙ number_split name (values_of_all es) (values_of_all fs)
 
 -- ---- what has the name
 
@@ -81,13 +82,13 @@ flipped a b =
 
 -- the values in the enums of a name
 pub values_named : (name : Text) (es : List (Declared EnumDescriptor))
-    → values_in (named name es) ≡ values_among name es
+    → values_of_all (named name es) ≡ values_among name es
 values_named name [] = refl
 values_named name (e ∷ es) = by_test (values_named name es) (bytes_eq name e.name) refl
   where
-    by_test : values_in (named name es) ≡ values_among name es
+    by_test : values_of_all (named name es) ≡ values_among name es
         → (b : Bool) → bytes_eq name e.name ≡ b
-        → values_in (named name (e ∷ es)) ≡ values_among name (e ∷ es)
+        → values_of_all (named name (e ∷ es)) ≡ values_among name (e ∷ es)
     by_test rest true h = rw (flipped e.name name, h) (ap (λ vs. e.what.value ++ vs) rest)
     by_test rest false h = rw (flipped e.name name, h) rest
 
@@ -109,11 +110,12 @@ first_named {T = T} name (d ∷ ds) = by_test (bytes_eq name d.name) refl (first
     by_test false h rest = rw (flipped d.name name, h) rest
 
 pub named_twice : (name : Text) (o : Option (Bor FieldDescriptorProto))
-    → option_map (extension_named name) o ≡ option_map (with_name name) (option_map field_seen o)
+    → option_map (extension_under_name name) o
+    ≡ option_map (with_name name) (option_map field_seen o)
 named_twice name None = refl
 named_twice name (Some f) = refl
 
 pub without_name : (name : Text) (o : Option (Bor FieldDescriptorProto))
-    → option_map field_seen o ≡ undeclared (option_map (extension_named name) o)
+    → option_map field_seen o ≡ undeclared (option_map (extension_under_name name) o)
 without_name name None = refl
 without_name name (Some f) = refl

@@ -25,12 +25,13 @@ use Rattle.protobuf_parse_model.proofs.Lookups.{found_is}
 use Rattle.protobuf_parse_model.proofs.Orders.{same-text, among-map, counted-from, count-two}
 use Rattle.protobuf_parse_model.proofs.Orders.{of_path, of_trees, finds-same, type-once}
 use Rattle.protobuf_parse_model.proofs.Orders.{extension-once}
-use Rattle.protobuf_parse_wire.specs.Declarations.{Declaration, declared_in, declared_extensions}
+use Rattle.protobuf_parse_wire.specs.Declarations.{Declaration, messages_declared_in}
+use Rattle.protobuf_parse_wire.specs.Declarations.{declared_extensions}
 use Rattle.protobuf_parse_wire.specs.Declarations.{messages_named}
 use Rattle.protobuf_parse_wire.specs.OptionFields.{OptionScope, declared_enums, fields_of_message}
-use Rattle.protobuf_parse_wire.specs.OptionFields.{field_named, values_in, number_of_value}
-use Rattle.protobuf_parse_wire.specs.OptionFields.{is_message}
-use Rattle.protobuf_parse_wire.specs.CustomFaults.{statement_faults}
+use Rattle.protobuf_parse_wire.specs.OptionFields.{field_named, values_of_enum, number_of_value}
+use Rattle.protobuf_parse_wire.specs.OptionFields.{names_message}
+use Rattle.protobuf_parse_wire.specs.CustomFaults.{custom_statement_faults}
 use Rattle.protobuf_parse_wire.specs.Encoded.{encoded}
 use Rattle.protobuf_parse_wire.specs.OptionBytes.{known_customs, option_bytes}
 use Rattle.protobuf_parse_wire.specs.SameLookups.{SameLookups}
@@ -179,7 +180,8 @@ module _ (trees : Trees) (env : Environments) where
 
     abbrev fields_in : Text → FileDescriptor → List FieldDescriptor
     fields_in message file =
-        flat_map (λ (parts : MessageParts). parts.field) (messages_named message (declared_in file))
+        flat_map (λ (parts : MessageParts). parts.field)
+        (messages_named message (messages_declared_in file))
 
     field-tells : (message name : Text)
         → Tells (named_field name) (fields_in message) type_names message
@@ -188,7 +190,7 @@ module _ (trees : Trees) (env : Environments) where
         in
         type-told p t message e
         (among_left (enum_names (described_at env p t))
-        (field-holder message (declared_in (described_at env p t)) f stands))
+        (field-holder message (messages_declared_in (described_at env p t)) f stands))
 
     -- a value, of its enum
     abbrev named_value : Text → EnumValueDescriptor → Bool
@@ -210,12 +212,12 @@ module _ (trees : Trees) (env : Environments) where
     abbrev is_so_named : Text → Declaration → Bool
     is_so_named name d = bytes_eq name d.name
 
-    message-tells : (name : Text) → Tells (is_so_named name) declared_in type_names name
+    message-tells : (name : Text) → Tells (is_so_named name) messages_declared_in type_names name
     message-tells name p t d e k =
-        let found = found_is (is_so_named name) (declared_in (described_at env p t)) d k in
+        let found = found_is (is_so_named name) (messages_declared_in (described_at env p t)) d k in
         let named : Among (message_names (described_at env p t)) d.name =
         among-map (λ (x : Declaration). x.name)
-        (declared_in (described_at env p t)) d found.0 in
+        (messages_declared_in (described_at env p t)) d found.0 in
         type-told p t name e
         (among_left (enum_names (described_at env p t))
         (subst (λ (z : Text). Among (message_names (described_at env p t)) z)
@@ -257,7 +259,7 @@ module _ (trees : Trees) (env : Environments) where
           → fields_of_message ds message ≡ flat_map (fields_in message) ds
       fields-spread message ds =
           spread (λ (d : List Declaration). flat_map (λ (parts : MessageParts). parts.field)
-          (messages_named message d)) refl both declared_in ds
+          (messages_named message d)) refl both messages_declared_in ds
         where
           both : (a b : List Declaration)
               → flat_map (λ (parts : MessageParts). parts.field) (messages_named message (a ++ b))
@@ -283,7 +285,7 @@ module _ (trees : Trees) (env : Environments) where
           ∙ ap (find (named_field name)) (sym (fields-spread message (descriptors_at trees env ys)))
 
       values-spread : (enum_name : Text) (ds : List FileDescriptor)
-          → values_in ds enum_name ≡ flat_map (enum_values_in enum_name) ds
+          → values_of_enum ds enum_name ≡ flat_map (enum_values_in enum_name) ds
       values-spread enum_name ds =
           spread (values_named enum_name) refl
           (flat_map-append
@@ -302,12 +304,13 @@ module _ (trees : Trees) (env : Environments) where
           )
 
       pub messages-same : (name : Text)
-          → is_message (descriptors_at trees env xs) name
-          ≡ is_message (descriptors_at trees env ys) name
+          → names_message (descriptors_at trees env xs) name
+          ≡ names_message (descriptors_at trees env ys) name
       messages-same name =
-          any-found (is_so_named name) (flat_map declared_in (descriptors_at trees env xs))
-          ∙ ap is_some (by-type (is_so_named name) declared_in name (message-tells name))
-          ∙ sym (any-found (is_so_named name) (flat_map declared_in (descriptors_at trees env ys)))
+          any-found (is_so_named name) (flat_map messages_declared_in (descriptors_at trees env xs))
+          ∙ ap is_some (by-type (is_so_named name) messages_declared_in name (message-tells name))
+          ∙ sym (any-found (is_so_named name)
+          (flat_map messages_declared_in (descriptors_at trees env ys)))
 
       extensions-same : declared (flat_map declared_extensions (descriptors_at trees env xs))
           ≡ declared (flat_map declared_extensions (descriptors_at trees env ys))
@@ -348,8 +351,8 @@ module _ (trees : Trees) (env : Environments) (reached reached' seen seen' : Lis
 
   -- the same is wrong
   pub options-same : (scope : Scope) (construct : Construct) (os : List OptionSyntax)
-      → statement_faults (seen_from trees env reached seen scope) construct os
-      ≡ statement_faults (seen_from trees env reached' seen' scope) construct os
+      → custom_statement_faults (seen_from trees env reached seen scope) construct os
+      ≡ custom_statement_faults (seen_from trees env reached' seen' scope) construct os
   options-same scope construct os =
       lookups_decide_faults (seen_from trees env reached seen scope)
       (seen_from trees env reached' seen' scope)

@@ -25,7 +25,7 @@ use Rattle.protobuf_parse_model.specs.declared.descriptor.DescriptorProto.{Descr
 use Rattle.protobuf_parse_model.specs.declared.descriptor.DescriptorProto.{out-DescriptorProto}
 use Rattle.protobuf_parse_wire.specs.declared.fault.ReadFault.TheVariants.{AmbiguousNumber}
 use Rattle.protobuf_parse_wire.specs.Declarations.{field_numbered, have_distinct_numbers}
-use Rattle.protobuf_parse_wire.specs.Reading.{Numbers, by_number, entered}
+use Rattle.protobuf_parse_wire.specs.Reading.{FieldsByNumber, by_number, entered}
 use Rattle.protobuf_parse_wire.specs.Groups.{group}
 use Rattle.protobuf_parse_wire.specs.declared.reader.index.Index.{Index}
 use Rattle.protobuf_parse_wire.specs.Indexed.{parts_seen, entered_by, numbered, IsByNumber, Indexes}
@@ -156,7 +156,7 @@ module _ (m : BTreeMap ℤ (Bor FieldDescriptorProto)) (fs : List FieldDescripto
   pub numbers_are : IsByNumber m fs → by_number fs ≡ Ok (numbered m)
   numbers_are known =
       ap (λ (b : Bool). cond b (Ok (field_numbered fs)) (Err AmbiguousNumber)) known.distinct
-      ∙ ap (λ (f : Numbers). Ok f) (fun_ext (λ n. named n (nat_lt n (2 ^ 31)) refl))
+      ∙ ap (λ (f : FieldsByNumber). Ok f) (fun_ext (λ n. named n (nat_lt n (2 ^ 31)) refl))
     where
       named : (n : ℕ) (b : Bool) → nat_lt n (2 ^ 31) ≡ b
           → field_numbered fs n ≡ cond b (option_map seen (get int_cmp m (pos n))) None

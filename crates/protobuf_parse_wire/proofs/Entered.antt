@@ -19,7 +19,7 @@ use Rattle.protobuf_parse_model.specs.Declarations.{file_generated}
 use Rattle.protobuf_parse_model.specs.Environment.{no_customs}
 use Rattle.protobuf_parse_model.specs.FileDescriptor.{types_of_files}
 use Rattle.protobuf_parse_model.specs.NamedTypes as model
-use Rattle.protobuf_parse_model.specs.NamedTypes.{in_message, in_messages, message_name}
+use Rattle.protobuf_parse_model.specs.NamedTypes.{in_message, in_messages, declared_message_name}
 use Rattle.protobuf_parse_model.specs.NamedTypes.{messages_declared, has_name}
 use Rattle.protobuf_parse_model.specs.FilesByPath.{Trees, among, trees_at}
 use Rattle.protobuf_parse_model.specs.Linking.{type_names, occurrences}
@@ -27,10 +27,12 @@ use Rattle.protobuf_parse_model.proofs.NamedTypes.{types_are_named, messages_are
 use Rattle.protobuf_parse_model.proofs.Orders.{same-text, first-among, counted-from, count-append}
 use Rattle.protobuf_parse_model.proofs.Orders.{type-once}
 use Rattle.protobuf_parse_wire.specs.Declarations as wire
-use Rattle.protobuf_parse_wire.specs.Declarations.{Declaration, within, package_scope}
-use Rattle.protobuf_parse_wire.specs.Declarations.{declared_message, declared_messages, declared_in}
+use Rattle.protobuf_parse_wire.specs.Declarations.{Declaration, name_within, package_scope}
+use Rattle.protobuf_parse_wire.specs.Declarations.{declared_message, declared_messages}
+use Rattle.protobuf_parse_wire.specs.Declarations.{messages_declared_in}
 use Rattle.protobuf_parse_wire.specs.Declarations.{declared_extensions, extensions_within}
-use Rattle.protobuf_parse_wire.specs.Declarations.{messages_named, messages_of, extensions_of}
+use Rattle.protobuf_parse_wire.specs.Declarations.{messages_named, messages_with_name}
+use Rattle.protobuf_parse_wire.specs.Declarations.{extensions_extending}
 use Rattle.protobuf_parse_wire.specs.Declarations.{extends}
 use Rattle.protobuf_parse_wire.specs.NamesAlike.{HasPackageName, message_names, enum_names}
 use Rattle.protobuf_parse_wire.specs.OptionFields.{fields_of_message}
@@ -155,7 +157,7 @@ mutual
   listed_in : (list : MessageParts → List FieldDescriptor) (scope : Text) (m : MessageDescriptor)
       → flat_map (λ (d : Declaration). list d.parts) (declared_message scope m) ≡ in_message list m
   listed_in list scope (a_message parts inside) =
-      ap (λ fs. list parts ++ fs) (listed_all list (within scope parts.name) inside)
+      ap (λ fs. list parts ++ fs) (listed_all list (name_within scope parts.name) inside)
 
   listed_all : (list : MessageParts → List FieldDescriptor) (scope : Text) (ms : MessageDescriptors)
       → flat_map (λ (d : Declaration). list d.parts) (declared_messages scope ms)
@@ -183,12 +185,12 @@ listed_each list scope (m ∷ ms) =
 
 -- a field of a message of the file is one of the file
 field_of_file : (file : FileDescriptor) (d : Declaration) (f : FieldDescriptor)
-    → Among (declared_in file) d → Among d.parts.field f → Among (model.fields_in file) f
+    → Among (messages_declared_in file) d → Among d.parts.field f → Among (model.fields_in file) f
 field_of_file file d f h k =
     subst (λ fs. Among fs f)
     (listed_each (λ (m : MessageParts). m.field)
     (package_scope file.«package») file.message_type)
-    (among_joined (λ (x : Declaration). x.parts.field) (declared_in file) d f h k)
+    (among_joined (λ (x : Declaration). x.parts.field) (messages_declared_in file) d f h k)
 
 -- extensions in a scope, without their names
 unnamed : (scope : Text) (fs : List FieldDescriptor)
@@ -211,16 +213,17 @@ unnamed_all (d ∷ ds) =
     ∙ ap (λ fs. d.parts.extension ++ fs) (unnamed_all ds)
 
 -- the extensions of a file are those that its descriptor has
-extensions_are : (file : FileDescriptor) → wire.extensions_in file ≡ model.extensions_in file
+extensions_are : (file : FileDescriptor) → wire.extensions_declared_in file
+    ≡ model.extensions_in file
 extensions_are file =
     let inner : List (Declared FieldDescriptor) =
     flat_map (λ (d : Declaration). extensions_within d.name d.parts.extension)
-    (declared_in file) in
+    (messages_declared_in file) in
     let scope : Text = package_scope file.«package» in
     map-append (λ (e : Declared FieldDescriptor). e.what) inner
     (extensions_within scope file.extension)
     ∙ ap (λ fs. fs ++ map (λ (e : Declared FieldDescriptor). e.what)
-    (extensions_within scope file.extension)) (unnamed_all (declared_in file)
+    (extensions_within scope file.extension)) (unnamed_all (messages_declared_in file)
     ∙ listed_each (λ (m : MessageParts). m.extension) scope file.message_type)
     ∙ ap (λ fs. flat_map (in_message (λ (m : MessageParts). m.extension)) file.message_type ++ fs)
     (unnamed scope file.extension)
@@ -321,22 +324,24 @@ module _ (trees : Trees) (env : Environments) where
   -- and those of several among theirs
   all_few : (paths : List Text) (n : Text) → AreScoped paths
       → occurrences n
-      (map (λ (d : Declaration). d.name) (flat_map declared_in (descriptors_at trees env paths)))
+      (map (λ (d : Declaration). d.name)
+      (flat_map messages_declared_in (descriptors_at trees env paths)))
       ≤ occurrences n (flat_map type_names (trees_at trees paths))
   all_few [] n scoped = omega arith
   all_few (p ∷ paths) n scoped =
       sums _ _ _ _ _ _
       (ap (occurrences n)
       (ap (map (λ (d : Declaration). d.name))
-      (flat_map-append declared_in (map (described_at env p) (option_to_list (trees p)))
+      (flat_map-append messages_declared_in (map (described_at env p) (option_to_list (trees p)))
       (descriptors_at trees env paths))
       ∙ map-append (λ (d : Declaration). d.name)
-      (flat_map declared_in (map (described_at env p) (option_to_list (trees p))))
-      (flat_map declared_in (descriptors_at trees env paths)))
+      (flat_map messages_declared_in (map (described_at env p) (option_to_list (trees p))))
+      (flat_map messages_declared_in (descriptors_at trees env paths)))
       ∙ count-append n
       (map (λ (d : Declaration). d.name)
-      (flat_map declared_in (map (described_at env p) (option_to_list (trees p))))) (map
-      (λ (d : Declaration). d.name) (flat_map declared_in (descriptors_at trees env paths))))
+      (flat_map messages_declared_in (map (described_at env p) (option_to_list (trees p))))) (map
+      (λ (d : Declaration). d.name)
+      (flat_map messages_declared_in (descriptors_at trees env paths))))
       (ap (occurrences n)
       (flat_map-append type_names (option_to_list (trees p)) (trees_at trees paths))
       ∙ count-append n (flat_map type_names (option_to_list (trees p)))
@@ -350,7 +355,7 @@ module _ (trees : Trees) (env : Environments) where
       own : (o : Option FileSyntax) → trees p ≡ o
           → occurrences n
           (map (λ (d : Declaration). d.name)
-          (flat_map declared_in (map (described_at env p) (option_to_list o))))
+          (flat_map messages_declared_in (map (described_at env p) (option_to_list o))))
           ≤ occurrences n (flat_map type_names (option_to_list o))
       own None e = omega arith
       own (Some t) e =
@@ -358,7 +363,7 @@ module _ (trees : Trees) (env : Environments) where
           let few = messages_few p t n s.0 s.1 in
           subst (λ (ns : List Text). occurrences n ns ≤ occurrences n (type_names t ++ []))
           (sym (ap (map (λ (d : Declaration). d.name))
-          (append-nil (declared_in (described_at env p t)))))
+          (append-nil (messages_declared_in (described_at env p t)))))
           (subst (λ (ns : List Text). occurrences n (message_names (described_at env p t))
           ≤ occurrences n ns) (sym (append-nil (type_names t))) few)
 
@@ -389,12 +394,12 @@ module _ (trees : Trees) (sees : Text → List Text) (reached : List Text)
   files = plain_at trees sees reached
 
   abbrev declared : List Declaration
-  declared = flat_map declared_in files
+  declared = flat_map messages_declared_in files
 
   -- ---- messages that are declared
 
   -- a name is that of one message at most
-  few_named : (n : Text) → 1 < length (messages_of files n) → ⊥
+  few_named : (n : Text) → 1 < length (messages_with_name files n) → ⊥
   few_named n more =
       type-once trees reached n r.once
       (most _ _ _ (named_length n declared)
@@ -407,7 +412,8 @@ module _ (trees : Trees) (sees : Text → List Text) (reached : List Text)
   pub declared_entered : (d : Declaration) → Among declared d → IsEntered files d.name
   declared_entered d h = record {
     parts = d.parts;
-    once = one_alone (messages_of files d.name) d.parts (named_among d.name declared d h refl)
+    once = one_alone (messages_with_name files d.name) d.parts
+        (named_among d.name declared d h refl)
         (few_named d.name);
     distinct = r.numbers d h;
   }
@@ -418,24 +424,25 @@ module _ (trees : Trees) (sees : Text → List Text) (reached : List Text)
       → IsEntered files n
   name_entered p t n h e some =
       let file : FileDescriptor = described_at (plainly trees sees) p t in
-      let m = mapped_from (λ (d : Declaration). d.name) (declared_in file) n
+      let m = mapped_from (λ (d : Declaration). d.name) (messages_declared_in file) n
       (counted_stands n (message_names file) some) in
       subst (λ (z : Text). IsEntered files z) m.is
       (declared_entered m.one
-      (among_joined declared_in files file m.one
+      (among_joined messages_declared_in files file m.one
       (describes trees (plainly trees sees) reached p t h e) m.stands))
 
   -- a message that a file declares
   told_entered : (p : Text) (t : FileSyntax) (n : Text) → among p reached ≡ true → trees p ≡ Some t
-      → (0 < occurrences n (flat_map message_name (file_types t)))
+      → (0 < occurrences n (flat_map declared_message_name (file_types t)))
       ⊎ (0 < occurrences n (file_generated t)) → IsEntered files n
   told_entered p t n h e some =
       name_entered p t n h e
       (at (messages_are_counted_alike (plainly trees sees p t) p t n refl (named p t h e)) some)
     where
-      at : occurrences n (flat_map message_name (file_types t)) + occurrences n (file_generated t)
+      at : occurrences n (flat_map declared_message_name (file_types t))
+          + occurrences n (file_generated t)
           ≡ occurrences n (message_names (described_at (plainly trees sees) p t))
-          → (0 < occurrences n (flat_map message_name (file_types t)))
+          → (0 < occurrences n (flat_map declared_message_name (file_types t)))
           ⊎ (0 < occurrences n (file_generated t))
           → 0 < occurrences n (message_names (described_at (plainly trees sees) p t))
       at same (inl i) = omega (arith, same, i)
@@ -450,12 +457,12 @@ module _ (trees : Trees) (sees : Text → List Text) (reached : List Text)
     where
       seen : Among (messages_declared (trees_at trees (sees p))) n → IsEntered files n
       seen i =
-          let d = from_one message_name (types_of_files (trees_at trees (sees p))) n i in
+          let d = from_one declared_message_name (types_of_files (trees_at trees (sees p))) n i in
           let u = from_one file_types (trees_at trees (sees p)) d.one d.stands in
           let q = tree_listed trees (sees p) u.one u.stands in
           told_entered q.0 u.one n (r.sight p h q.0 q.1) q.2
-          (inl (counted-from n (flat_map message_name (file_types u.one))
-          (among_joined message_name (file_types u.one) d.one n u.inside d.inside)))
+          (inl (counted-from n (flat_map declared_message_name (file_types u.one))
+          (among_joined declared_message_name (file_types u.one) d.one n u.inside d.inside)))
 
       at : SplitAmong (messages_declared (trees_at trees (sees p))) (file_generated t) n
           → IsEntered files n
@@ -490,10 +497,10 @@ module _ (trees : Trees) (sees : Text → List Text) (reached : List Text)
   field_of_one : (message : Text) (f : FieldDescriptor) → Among (fields_of_message files message) f
       → IsOfFile f
   field_of_one message f h =
-      let parts = from_one (λ (m : MessageParts). m.field) (messages_of files message) f h in
+      let parts = from_one (λ (m : MessageParts). m.field) (messages_with_name files message) f h in
       let d = mapped_from (λ (x : Declaration). x.parts)
       (filter (λ (x : Declaration). bytes_eq message x.name) declared) parts.one parts.stands in
-      let file = from_one declared_in files d.one
+      let file = from_one messages_declared_in files d.one
       (kept_stands (λ (x : Declaration). bytes_eq message x.name) declared d.one d.stands) in
       let inside : Among d.one.parts.field f =
       subst (λ (m : MessageParts). Among m.field f) (sym d.is) parts.inside in
@@ -501,18 +508,19 @@ module _ (trees : Trees) (sees : Text → List Text) (reached : List Text)
       (among_left (model.extensions_in file.one)
       (field_of_file file.one d.one f file.inside inside))
 
-  extension_of_one : (message : Text) (f : FieldDescriptor) → Among (extensions_of files message) f
+  extension_of_one : (message : Text) (f : FieldDescriptor)
+      → Among (extensions_extending files message) f
       → IsOfFile f
   extension_of_one message f h =
-      let file = from_one wire.extensions_in files f
-      (kept_stands (extends message) (flat_map wire.extensions_in files) f h) in
+      let file = from_one wire.extensions_declared_in files f
+      (kept_stands (extends message) (flat_map wire.extensions_declared_in files) f h) in
       of_file file.one f file.stands
       (among_right (model.fields_in file.one)
       (subst (λ fs. Among fs f) (extensions_are file.one) file.inside))
 
   of_one : (message : Text) (f : FieldDescriptor) → Among (fields_at files message) f → IsOfFile f
   of_one message f h =
-      elim (split_among (fields_of_message files message) (extensions_of files message) f h) [
+      elim (split_among (fields_of_message files message) (extensions_extending files message) f h) [
         | left k ↦ field_of_one message f k
         | right k ↦ extension_of_one message f k
       ]

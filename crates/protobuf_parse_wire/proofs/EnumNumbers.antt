@@ -16,7 +16,7 @@ use Rattle.protobuf_parse_model.specs.Descriptors.{FileDescriptor}
 use Rattle.protobuf_parse_model.specs.Faults.{Among}
 use Rattle.protobuf_parse_model.specs.Statements.{message_body, oneof_fields}
 use Rattle.protobuf_parse_model.specs.Declarations.{Declared}
-use Rattle.protobuf_parse_model.specs.Environment.{Environment, inside}
+use Rattle.protobuf_parse_model.specs.Environment.{Environment, env_inside}
 use Rattle.protobuf_parse_model.specs.Enums.{enum_values, value_of, enum_of}
 use Rattle.protobuf_parse_model.specs.Messages as bodies
 use Rattle.protobuf_parse_model.specs.Messages.{entries_of, messages_behind, message_from}
@@ -24,9 +24,10 @@ use Rattle.protobuf_parse_model.specs.Messages.{nested_of, nested_in}
 use Rattle.protobuf_parse_model.specs.FileDescriptor as files
 use Rattle.protobuf_parse_model.specs.FileDescriptor.{file_of}
 use Rattle.protobuf_parse_model.proofs.Lookups.{found_is}
-use Rattle.protobuf_parse_wire.specs.Declarations.{Declaration, within, package_scope}
-use Rattle.protobuf_parse_wire.specs.Declarations.{declared_message, declared_messages, declared_in}
-use Rattle.protobuf_parse_wire.specs.OptionFields.{enum_in, declared_enums, values_in}
+use Rattle.protobuf_parse_wire.specs.Declarations.{Declaration, name_within, package_scope}
+use Rattle.protobuf_parse_wire.specs.Declarations.{declared_message, declared_messages}
+use Rattle.protobuf_parse_wire.specs.Declarations.{messages_declared_in}
+use Rattle.protobuf_parse_wire.specs.OptionFields.{enum_in, declared_enums, values_of_enum}
 use Rattle.protobuf_parse_wire.specs.OptionLaw.{HasSmallValues}
 use Rattle.protobuf_parse_wire.proofs.Entered.{from_one, mapped_from}
 use Rattle.protobuf_parse_wire.proofs.Options.{SplitAmong, left, right, split_among}
@@ -43,7 +44,7 @@ abbrev SmallEnum : EnumDescriptor → Type 0
 SmallEnum e = AllByRecursion SmallValue e.value
 
 abbrev mutual
-  -- all enums of a message, and of those inside it
+  -- all enums of a message, and of those env_inside it
   SmallMessage : MessageDescriptor → Type 0
   SmallMessage (a_message parts ms) = AllByRecursion SmallEnum parts.enum_type × SmallMessages ms
 
@@ -62,7 +63,8 @@ SmallDeclaration d = AllByRecursion SmallEnum d.parts.enum_type
 mutual
   declared_small : (scope : Text) (m : MessageDescriptor) → SmallMessage m
       → AllByRecursion SmallDeclaration (declared_message scope m)
-  declared_small scope (a_message parts ms) h = (h.0, all_small (within scope parts.name) ms h.1)
+  declared_small scope (a_message parts ms) h =
+      (h.0, all_small (name_within scope parts.name) ms h.1)
 
   all_small : (scope : Text) (ms : MessageDescriptors) → SmallMessages ms
       → AllByRecursion SmallDeclaration (declared_messages scope ms)
@@ -119,8 +121,8 @@ mutual
       → AllByRecursion SmallMessage (nested_of env s)
   nested_small env (tree.message_message place name body) h = (
     (
-      body_enums (inside env name) body h,
-      of_list (nested_in (inside env name) body) (list_small (inside env name) body h),
+      body_enums (env_inside env name) body h,
+      of_list (nested_in (env_inside env name) body) (list_small (env_inside env name) body h),
     ),
     tt,
   )
@@ -139,21 +141,21 @@ mutual
 message_small : (env : Environment) (m : MessageSyntax) → SoundMessage m
     → SmallMessage (bodies.message_of env m)
 message_small env m h = (
-  flat (bodies.enums_of (inside env m.name)) SmallEnum SoundMessageStatement
-      (enums_small (inside env m.name)) m.body h,
-  of_list (flat_map (nested_of (inside env m.name)) m.body)
-      (flat (nested_of (inside env m.name)) SmallMessage SoundMessageStatement
-      (nested_small (inside env m.name)) m.body h),
+  flat (bodies.enums_of (env_inside env m.name)) SmallEnum SoundMessageStatement
+      (enums_small (env_inside env m.name)) m.body h,
+  of_list (flat_map (nested_of (env_inside env m.name)) m.body)
+      (flat (nested_of (env_inside env m.name)) SmallMessage SoundMessageStatement
+      (nested_small (env_inside env m.name)) m.body h),
 )
 
 messages_small : (env : Environment) (s : StatementSyntax) → SoundStatement s
-    → AllByRecursion SmallMessage (files.messages_of env s)
+    → AllByRecursion SmallMessage (files.file_messages_of env s)
 messages_small env (tree.file_message m) h = (message_small env m h, tt)
 messages_small env (tree.file_extend e) h = behinds_small env e.fields
 messages_small env _ h = tt
 
 file_enums : (env : Environment) (s : StatementSyntax) → SoundStatement s
-    → AllByRecursion SmallEnum (files.enums_of env s)
+    → AllByRecursion SmallEnum (files.file_enums_of env s)
 file_enums env (tree.file_enum e) h = (enum_small env e h, tt)
 file_enums env _ h = tt
 
@@ -167,18 +169,19 @@ SmallFile file = AllByRecursion SmallMessage file.message_type
 pub file_small : (env : Environment) (path : Text) (t : FileSyntax) → SoundFile t
     → SmallFile (file_of env path t)
 file_small env path t h = (
-  flat (files.messages_of env) SmallMessage SoundStatement (messages_small env) t.statements h,
-  flat (files.enums_of env) SmallEnum SoundStatement (file_enums env) t.statements h,
+  flat (files.file_messages_of env) SmallMessage SoundStatement (messages_small env) t.statements h,
+  flat (files.file_enums_of env) SmallEnum SoundStatement (file_enums env) t.statements h,
 )
 
 declared_enum : (file : FileDescriptor) → SmallFile file → (e : Declared EnumDescriptor)
     → Among (declared_enums file) e → SmallEnum e.what
 declared_enum file h e k =
     at (split_among
-    (flat_map (λ (d : Declaration). map (enum_in d.name) d.parts.enum_type) (declared_in file))
+    (flat_map (λ (d : Declaration). map (enum_in d.name) d.parts.enum_type)
+    (messages_declared_in file))
     (map (enum_in (package_scope file.«package»)) file.enum_type) e k)
   where
-    all : AllByRecursion SmallDeclaration (declared_in file)
+    all : AllByRecursion SmallDeclaration (messages_declared_in file)
     all = flat (declared_message (package_scope file.«package»)) SmallDeclaration SmallMessage
         (declared_small (package_scope file.«package»)) file.message_type h.0
 
@@ -190,29 +193,30 @@ declared_enum file h e k =
         (of_one SmallEnum es m.one s m.stands)
 
     at : SplitAmong
-        (flat_map (λ (d : Declaration). map (enum_in d.name) d.parts.enum_type) (declared_in file))
+        (flat_map (λ (d : Declaration). map (enum_in d.name) d.parts.enum_type)
+        (messages_declared_in file))
         (map (enum_in (package_scope file.«package»)) file.enum_type) e → SmallEnum e.what
     at (left i) =
         let d = from_one (λ (x : Declaration). map (enum_in x.name) x.parts.enum_type)
-        (declared_in file) e i in
+        (messages_declared_in file) e i in
         of_mapped d.one.name d.one.parts.enum_type
-        (of_one SmallDeclaration (declared_in file) d.one all d.stands) d.inside
+        (of_one SmallDeclaration (messages_declared_in file) d.one all d.stands) d.inside
     at (right i) = of_mapped (package_scope file.«package») file.enum_type h.1 i
 
 -- the numbers of values in files
 pub values_small : (files : List FileDescriptor)
     → ((file : FileDescriptor) → Among files file → SmallFile file) → HasSmallValues files
 values_small files small enum_name name z e =
-    at (find (λ (v : EnumValueDescriptor). bytes_eq v.name name) (values_in files enum_name))
+    at (find (λ (v : EnumValueDescriptor). bytes_eq v.name name) (values_of_enum files enum_name))
     (λ v k. found_is (λ (v : EnumValueDescriptor). bytes_eq v.name name)
-    (values_in files enum_name) v k) e
+    (values_of_enum files enum_name) v k) e
   where
     in_enum : (v : EnumValueDescriptor) (x : Declared EnumDescriptor) (b : Bool)
         → Among (cond b x.what.value []) v → Among x.what.value v
     in_enum v x true k = k
     in_enum v x false k = elim k [ ]
 
-    value : (v : EnumValueDescriptor) → Among (values_in files enum_name) v → SmallValue v
+    value : (v : EnumValueDescriptor) → Among (values_of_enum files enum_name) v → SmallValue v
     value v k =
         let x = from_one
         (λ (x : Declared EnumDescriptor). cond (bytes_eq x.name enum_name) x.what.value [])
@@ -224,7 +228,7 @@ values_small files small enum_name name z e =
 
     at : (o : Option EnumValueDescriptor)
         → ((v : EnumValueDescriptor) → o ≡ Some v
-        → Among (values_in files enum_name) v × (bytes_eq v.name name ≡ true))
+        → Among (values_of_enum files enum_name) v × (bytes_eq v.name name ≡ true))
         → option_map (λ (v : EnumValueDescriptor). v.number) o ≡ Some z → FitsSigned w32 z
     at None found k = absurd cc
     at (Some v) found k = let p : v.number ≡ z = cc in

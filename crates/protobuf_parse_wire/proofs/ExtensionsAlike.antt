@@ -16,14 +16,14 @@ use Rattle.protobuf_parse_model.specs.Declarations.{Scope, Declared, DeclaredExt
 use Rattle.protobuf_parse_model.specs.Declarations.{extend_extensions, file_extensions}
 use Rattle.protobuf_parse_model.specs.Declarations.{statement_extensions}
 use Rattle.protobuf_parse_model.specs.Linking.{occurrences}
-use Rattle.protobuf_parse_model.specs.Environment.{Environment, inside}
+use Rattle.protobuf_parse_model.specs.Environment.{Environment, env_inside}
 use Rattle.protobuf_parse_model.specs.Fields.{field_statement_of}
 use Rattle.protobuf_parse_model.specs.Messages as bodies
 use Rattle.protobuf_parse_model.specs.Messages.{messages_behind, entries_of, extending}
 use Rattle.protobuf_parse_model.specs.Messages.{extend_fields, message_from, nested_of, nested_in}
 use Rattle.protobuf_parse_model.specs.FileDescriptor as files
 use Rattle.protobuf_parse_model.proofs.Orders.{count-append}
-use Rattle.protobuf_parse_wire.specs.Declarations.{Declaration, within, declared_message}
+use Rattle.protobuf_parse_wire.specs.Declarations.{Declaration, name_within, declared_message}
 use Rattle.protobuf_parse_wire.specs.Declarations.{package_scope, extensions_within}
 use Rattle.protobuf_parse_wire.specs.NamesAlike.{ExtensionsAreCountedAlike}
 use Rattle.protobuf_parse_wire.proofs.Agreement.{scope_inside, package_is}
@@ -34,26 +34,26 @@ use Rattle.protobuf_parse_wire.proofs.NamesAlike.{told_within, told-append}
 
 -- of extensions in a scope
 abbrev fields_within : Text → List FieldDescriptor → List Text
-fields_within scope fs = map (λ (f : FieldDescriptor). within scope f.name) fs
+fields_within scope fs = map (λ (f : FieldDescriptor). name_within scope f.name) fs
 
--- of those inside a message
+-- of those env_inside a message
 abbrev names_of : Declaration → List Text
 names_of d = fields_within d.name d.parts.extension
 
--- of those inside messages in a scope
+-- of those env_inside messages in a scope
 abbrev messages_within : Text → List MessageDescriptor → List Text
 messages_within scope ms = told_within names_of scope ms
 
--- inside a message: its own, and those of the messages in its scope
+-- env_inside a message: its own, and those of the messages in its scope
 message-names : (env : Environment) (name : Text) (body : List MessageStatementSyntax)
     (ns : List MessageDescriptor)
     → messages_within (absolute_text env.scope) (message_from env name body ns ∷ [])
     ≡ fields_within (absolute_text (names.inside env.scope name))
-    (flat_map (bodies.extensions_of (inside env name)) body)
+    (flat_map (bodies.extensions_of (env_inside env name)) body)
     ++ messages_within (absolute_text (names.inside env.scope name)) ns
 message-names env name body ns =
-    let inner : Text = within (absolute_text env.scope) name in
-    let own : List FieldDescriptor = flat_map (bodies.extensions_of (inside env name)) body in
+    let inner : Text = name_within (absolute_text env.scope) name in
+    let own : List FieldDescriptor = flat_map (bodies.extensions_of (env_inside env name)) body in
     ap (flat_map names_of)
     (append-nil (declared_message (absolute_text env.scope) (message_from env name body ns)))
     ∙ ap (λ (ds : List Declaration). fields_within inner own ++ flat_map names_of ds)
@@ -102,9 +102,9 @@ extend-names env e = each e.fields
         (map (field_statement_of env (extending env e.extendee)) fs)
     each [] = refl
     each (field f ∷ fs) =
-        ap (λ (ns : List Text). within (absolute_text env.scope) f.name ∷ ns) (each fs)
+        ap (λ (ns : List Text). name_within (absolute_text env.scope) f.name ∷ ns) (each fs)
     each (group place label name number inner ∷ fs) =
-        ap (λ (ns : List Text). within (absolute_text env.scope)
+        ap (λ (ns : List Text). name_within (absolute_text env.scope)
         (field_statement_of env (extending env e.extendee)
         (group place label name number inner)).name ∷ ns) (each fs)
 
@@ -122,7 +122,7 @@ module _ (n : Text) where
       sums _ _ _ _ _ _ _ _ _
       (ap (occurrences n) (map-append (λ (e : DeclaredExtension). e.name) told told')
       ∙ count-append n (named_extensions told) (named_extensions told'))
-      (ap (occurrences n) (map-append (λ (f : FieldDescriptor). within scope f.name) own own')
+      (ap (occurrences n) (map-append (λ (f : FieldDescriptor). name_within scope f.name) own own')
       ∙ count-append n (fields_within scope own) (fields_within scope own'))
       (ap (occurrences n) (told-append names_of scope ms ms')
       ∙ count-append n (messages_within scope ms) (messages_within scope ms'))
@@ -148,15 +148,15 @@ module _ (n : Text) where
       sums : (t f m : ℕ) → t ≡ f → m ≡ 0 → t ≡ f + m
       sums t f m h k = omega arith
 
-  -- a message, by what stands inside it
+  -- a message, by what stands env_inside it
   message-alike : (env : Environment) (name : Text) (body : List MessageStatementSyntax)
       (told : List DeclaredExtension) (ns : List MessageDescriptor)
       → Alike (absolute_text (names.inside env.scope name)) told
-      (flat_map (bodies.extensions_of (inside env name)) body) ns
+      (flat_map (bodies.extensions_of (env_inside env name)) body) ns
       → Alike (absolute_text env.scope) told [] (message_from env name body ns ∷ [])
   message-alike env name body told ns h =
       let s : Text = absolute_text (names.inside env.scope name) in
-      let own : List FieldDescriptor = flat_map (bodies.extensions_of (inside env name)) body in
+      let own : List FieldDescriptor = flat_map (bodies.extensions_of (env_inside env name)) body in
       sums _ _ _ _
       (ap (occurrences n) (message-names env name body ns)
       ∙ count-append n (fields_within s own) (messages_within s ns))
@@ -171,8 +171,9 @@ module _ (n : Text) where
         (bodies.extensions_of env s) (nested_of env s)
     statement-alike env (message_message place name body) =
         message-alike env name (message_body body)
-        (names.extensions_in (names.inside env.scope name) body) (nested_in (inside env name) body)
-        (list-alike (inside env name) body)
+        (names.extensions_in (names.inside env.scope name) body)
+        (nested_in (env_inside env name) body)
+        (list-alike (env_inside env name) body)
     statement-alike env (message_extend e) = extend-alike env e
     statement-alike env (message_field f) =
         none-alike (absolute_text env.scope) (messages_behind env f) (none-behind env f)
@@ -204,15 +205,15 @@ module _ (n : Text) where
 
   file_statement-alike : (env : Environment) (s : StatementSyntax)
       → Alike (absolute_text env.scope) (statement_extensions env.scope s)
-      (files.extensions_of env s) (files.messages_of env s)
+      (files.file_extensions_of env s) (files.file_messages_of env s)
   file_statement-alike env (file_message m) =
       message-alike env m.name m.body
       (flat_map (names.extensions_of (names.inside env.scope m.name)) m.body)
-      (flat_map (nested_of (inside env m.name)) m.body)
+      (flat_map (nested_of (env_inside env m.name)) m.body)
       (each-alike (absolute_text (names.inside env.scope m.name))
       (names.extensions_of (names.inside env.scope m.name))
-      (bodies.extensions_of (inside env m.name)) (nested_of (inside env m.name))
-      (statement-alike (inside env m.name)) m.body)
+      (bodies.extensions_of (env_inside env m.name)) (nested_of (env_inside env m.name))
+      (statement-alike (env_inside env m.name)) m.body)
   file_statement-alike env (file_extend e) = extend-alike env e
   file_statement-alike env _ = refl
 
@@ -224,7 +225,7 @@ fields-named : (scope : Text) (fs : List FieldDescriptor)
     ≡ fields_within scope fs
 fields-named scope [] = refl
 fields-named scope (f ∷ fs) =
-    ap (λ (ns : List Text). within scope f.name ∷ ns) (fields-named scope fs)
+    ap (λ (ns : List Text). name_within scope f.name ∷ ns) (fields-named scope fs)
 
 inner-named : (ds : List Declaration)
     → map (λ (d : Declared FieldDescriptor). d.name)
@@ -263,12 +264,12 @@ all-named n scope own ms =
 
 pub extensions_are_counted_alike : ExtensionsAreCountedAlike
 extensions_are_counted_alike env path t n scoped has_name =
-    let ms : List MessageDescriptor = flat_map (files.messages_of env) t.statements in
-    let own : List FieldDescriptor = flat_map (files.extensions_of env) t.statements in
+    let ms : List MessageDescriptor = flat_map (files.file_messages_of env) t.statements in
+    let own : List FieldDescriptor = flat_map (files.file_extensions_of env) t.statements in
     let told : Alike n (absolute_text env.scope)
     (flat_map (statement_extensions env.scope) t.statements) own ms =
     each-alike n (absolute_text env.scope) (statement_extensions env.scope)
-    (files.extensions_of env) (files.messages_of env)
+    (files.file_extensions_of env) (files.file_messages_of env)
     (file_statement-alike n env) t.statements in
     let here : Alike n (package_scope (package_of t)) (file_extensions t) own ms =
     subst (λ (s : Text). Alike n s (file_extensions t) own ms) (package_is (package_of t) has_name)

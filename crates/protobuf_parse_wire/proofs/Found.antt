@@ -13,7 +13,7 @@ use Rattle.protobuf_parse_model.specs.Duplicates.{fault, fault_when}
 use Rattle.protobuf_parse_model.specs.Declarations.{Declared}
 use Rattle.protobuf_parse_wire.specs.Known.{number_among, undeclared}
 use Rattle.protobuf_parse_wire.specs.OptionFields.{extends_message, if_extends}
-use Rattle.protobuf_parse_wire.specs.CustomFaults.{extension_faults}
+use Rattle.protobuf_parse_wire.specs.CustomFaults.{extension_name_faults}
 
 -- the rest of a list that is mapped
 pub mapped_rest : {X Y : Type 0} (f : X → Y) (xs : List X) (i : ℕ) (x : X) → i < length xs → x
@@ -46,13 +46,13 @@ first_none (Some x) p e = absurd cc
 
 pub extension_missing : (files : List FileDescriptor) (message name : Text)
     (o : Option (Declared FieldDescriptor)) → None ≡ undeclared o
-    → extension_faults files message name o ≡ fault ExtensionNotFound name
+    → extension_name_faults files message name o ≡ fault ExtensionNotFound name
 extension_missing files message name None e = refl
 extension_missing files message name (Some d) e = absurd cc
 
 pub extension_wrong : (files : List FileDescriptor) (message name : Text)
     (o : Option (Declared FieldDescriptor)) (f : FieldDescriptor) → Some f ≡ undeclared o
-    → extends_message files message f ≡ false → extension_faults files message name o
+    → extends_message files message f ≡ false → extension_name_faults files message name o
     ≡ fault WrongExtensionType name
 extension_wrong files message name None f e no_one = absurd cc
 extension_wrong files message name (Some d) f e no_one = let p : f ≡ d.what = cc in ap
@@ -62,7 +62,7 @@ extension_wrong files message name (Some d) f e no_one = let p : f ≡ d.what = 
 pub extension_right : (files : List FileDescriptor) (message name : Text)
     (o : Option (Declared FieldDescriptor)) (f : FieldDescriptor) → Some f ≡ undeclared o
     → extends_message files message f ≡ true
-    → (extension_faults files message name o ≡ []) × (Some f ≡ if_extends files message o)
+    → (extension_name_faults files message name o ≡ []) × (Some f ≡ if_extends files message o)
 extension_right files message name None f e does = absurd cc
 extension_right files message name (Some d) f e does =
     let p : f ≡ d.what = cc in

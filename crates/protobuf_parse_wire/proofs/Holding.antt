@@ -18,14 +18,15 @@ use Rattle.protobuf_parse_wire.specs.declared.customs.known.Known.{Known}
 use Rattle.protobuf_parse_wire.specs.declared.customs.picked_files.PickedFiles.{PickedFiles}
 use Rattle.protobuf_parse_wire.specs.declared.customs.places.Place.{Place}
 use Rattle.protobuf_parse_wire.specs.ByName.{named}
-use Rattle.protobuf_parse_wire.specs.Declarations.{Declaration, declared_in, messages_named}
+use Rattle.protobuf_parse_wire.specs.Declarations.{Declaration, messages_declared_in}
+use Rattle.protobuf_parse_wire.specs.Declarations.{messages_named}
 use Rattle.protobuf_parse_wire.specs.Holding.{AddsSpots, Picks, Spot, at_spot, at_spots, beside}
 use Rattle.protobuf_parse_wire.specs.Holding.{file_numbered, files_seen, inside_of, placed_known}
 use Rattle.protobuf_parse_wire.specs.Holding.{spot_in, spot_view, spots_in, spots_known, spots_of}
 use Rattle.protobuf_parse_wire.specs.Holding.{spots_under}
 use Rattle.protobuf_parse_wire.specs.Groups.{group}
 use Rattle.protobuf_parse_wire.specs.Indexed.{parts_seen}
-use Rattle.protobuf_parse_wire.specs.Places.{Inside, Placed, one_of, placed_messages}
+use Rattle.protobuf_parse_wire.specs.Places.{Inside, Placed, one_inside, placed_messages}
 use Rattle.protobuf_parse_wire.proofs.Adding.{messages_named-append}
 use Rattle.protobuf_parse_wire.proofs.Found.{mapped_rest}
 use Rattle.protobuf_parse_wire.proofs.Placing.{StandsIn, declared_of, message_of, messages_without}
@@ -91,7 +92,7 @@ module _ {T : Type 0} (list : Inside → List T) (listed : FileDescriptor → Li
   kept n file e (p ∷ ps) h = by_test (is_named p) (kept n file e ps h.1)
     where
       here : look (spot_in n p) ≡ p.what ∷ []
-      here = ap (λ o. option_to_list (one_of list (inside_of o p.path) p.index)) e
+      here = ap (λ o. option_to_list (one_inside list (inside_of o p.path) p.index)) e
           ∙ ap option_to_list h.0
 
       by_test : (b : Bool) → flat_map look (spots_in n name ps) ≡ map what_of (filter is_named ps)
@@ -106,7 +107,7 @@ module _ {T : Type 0} (list : Inside → List T) (listed : FileDescriptor → Li
       → flat_map look (map (spot_in n) ps) ≡ []
   left_out n e [] = refl
   left_out n e (p ∷ ps) =
-      ap (λ o. option_to_list (one_of list (inside_of o p.path) p.index)
+      ap (λ o. option_to_list (one_inside list (inside_of o p.path) p.index)
       ++ flat_map look (map (spot_in n) ps)) e ∙ left_out n e ps
 
   module _ (files : List FileDescriptor) (is : Picks files picks) where
@@ -271,15 +272,15 @@ parts_without name (p ∷ ps) = by_test (bytes_eq name p.name) (parts_without na
 
 pub parts_named : (name : Text) (fs : List FileDescriptor)
     → map parts_seen (flat_map (named_in placed_messages name) fs)
-    ≡ messages_named name (flat_map declared_in fs)
+    ≡ messages_named name (flat_map messages_declared_in fs)
 parts_named name [] = refl
 parts_named name (f ∷ fs) =
     map-append parts_seen (named_in placed_messages name f)
     (flat_map (named_in placed_messages name) fs)
     ∙ ap (λ xs. xs ++ map parts_seen (flat_map (named_in placed_messages name) fs))
     (parts_without name (placed_messages f) ∙ ap (messages_named name) (messages_without f))
-    ∙ ap (λ xs. messages_named name (declared_in f) ++ xs) (parts_named name fs)
-    ∙ sym (messages_named-append name (declared_in f) (flat_map declared_in fs))
+    ∙ ap (λ xs. messages_named name (messages_declared_in f) ++ xs) (parts_named name fs)
+    ∙ sym (messages_named-append name (messages_declared_in f) (flat_map messages_declared_in fs))
 
 -- a place put under a name
 pub put_spot : {T : Type 0} (old new : BTreeMap (String Global) (Vec Place)) (k : Known T)

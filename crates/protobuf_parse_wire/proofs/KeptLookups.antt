@@ -15,31 +15,32 @@ use Rattle.protobuf_parse_model.specs.Faults.{Fault}
 use Rattle.protobuf_parse_model.specs.Declarations.{Declared}
 use Rattle.protobuf_parse_model.specs.Duplicates.{fault_when}
 use Rattle.protobuf_parse_model.specs.declared.customs.Construct.{Construct}
-use Rattle.protobuf_parse_model.specs.Environment.{part_text, path_text}
+use Rattle.protobuf_parse_model.specs.Environment.{part_text, option_path_text}
 use Rattle.protobuf_parse_wire.specs.Trees as trees
-use Rattle.protobuf_parse_wire.specs.Views.{Item, entries_of_list}
+use Rattle.protobuf_parse_wire.specs.Views.{WireItem, entries_of_list}
 use Rattle.protobuf_parse_wire.specs.Declarations.{extends}
 use Rattle.protobuf_parse_wire.specs.OptionFields.{OptionScope, options_message, field_named}
-use Rattle.protobuf_parse_wire.specs.OptionFields.{number_of_value, is_message, extension_meant}
+use Rattle.protobuf_parse_wire.specs.OptionFields.{number_of_value, names_message, extension_meant}
 use Rattle.protobuf_parse_wire.specs.OptionFields.{extends_message, if_extends, extension_named}
 use Rattle.protobuf_parse_wire.specs.OptionFields.{part_field, constant_field, type_name_of, Takes}
-use Rattle.protobuf_parse_wire.specs.OptionFields.{names_of_values, messages, takes}
-use Rattle.protobuf_parse_wire.specs.CustomOptions.{item, message_item, value_items, list_items}
+use Rattle.protobuf_parse_wire.specs.OptionFields.{names_of_values, messages, type_takes}
+use Rattle.protobuf_parse_wire.specs.CustomOptions.{item_of, item_of_message, value_items}
+use Rattle.protobuf_parse_wire.specs.CustomOptions.{list_items}
 use Rattle.protobuf_parse_wire.specs.CustomOptions.{field_items, path_items, named_items}
-use Rattle.protobuf_parse_wire.specs.CustomOptions.{option_items}
+use Rattle.protobuf_parse_wire.specs.CustomOptions.{items_of_option}
 use Rattle.protobuf_parse_wire.specs.CustomFaults.{value_name_faults, message_value_faults}
 use Rattle.protobuf_parse_wire.specs.CustomFaults.{number_faults, field_name_faults}
-use Rattle.protobuf_parse_wire.specs.CustomFaults.{extension_faults, constant_name_faults}
+use Rattle.protobuf_parse_wire.specs.CustomFaults.{extension_name_faults, constant_name_faults}
 use Rattle.protobuf_parse_wire.specs.CustomFaults.{value_faults, list_faults, field_faults}
 use Rattle.protobuf_parse_wire.specs.CustomFaults.{part_faults, step_faults, path_faults}
-use Rattle.protobuf_parse_wire.specs.CustomFaults.{named_faults}
+use Rattle.protobuf_parse_wire.specs.CustomFaults.{custom_name_faults}
 use Rattle.protobuf_parse_wire.specs.MoreFiles.{KeepsLookups, LookupsKeepMeaning}
 use Rattle.protobuf_parse_wire.proofs.Writable.{no_left, no_right, plain_step_has_fault}
 
 -- ---- faults and items together
 
 -- no fault stands, and the items are as before
-record Kept (faults : List Fault) (items' items : List Item) : Type 0 where
+record Kept (faults : List Fault) (items' items : List WireItem) : Type 0 where
   faultless : faults ≡ []
   same : items' ≡ items
 
@@ -49,7 +50,7 @@ nothing_kept = record { faultless = refl; same = refl }
 none_both : (xs ys : List Fault) → xs ≡ [] → ys ≡ [] → xs ++ ys ≡ []
 none_both xs ys e h = ap (λ zs. zs ++ ys) e ∙ h
 
-both_kept : (fs gs : List Fault) (xs' xs ys' ys : List Item) → Kept fs xs' xs → Kept gs ys' ys
+both_kept : (fs gs : List Fault) (xs' xs ys' ys : List WireItem) → Kept fs xs' xs → Kept gs ys' ys
     → Kept (fs ++ gs) (xs' ++ ys') (xs ++ ys)
 both_kept fs gs xs' xs ys' ys k l = record {
   faultless = none_both fs gs k.faultless l.faultless;
@@ -57,7 +58,7 @@ both_kept fs gs xs' xs ys' ys k l = record {
 }
 
 -- faults of the number, which are the same from both, before others
-numbered_kept : (own fs fs' : List Fault) (xs' xs : List Item) → (fs ≡ [] → Kept fs' xs' xs)
+numbered_kept : (own fs fs' : List Fault) (xs' xs : List WireItem) → (fs ≡ [] → Kept fs' xs' xs)
     → own ++ fs ≡ [] → Kept (own ++ fs') xs' xs
 numbered_kept own fs fs' xs' xs each h =
     let k = each (no_right own fs h) in
@@ -74,7 +75,7 @@ record IsMeant (faults : List Fault) (o o' : Option FieldDescriptor) : Type 0 wh
 
 -- what is given to it
 found_kept : (own own' : List Fault) (o o' : Option FieldDescriptor)
-    (faults faults' : FieldDescriptor → List Fault) (items' items : FieldDescriptor → List Item)
+    (faults faults' : FieldDescriptor → List Fault) (items' items : FieldDescriptor → List WireItem)
     → (own ≡ [] → IsMeant own' o o')
     → ((g : FieldDescriptor) → faults g ≡ [] → Kept (faults' g) (items' g) (items g))
     → own ++ flat_map faults (option_to_list o) ≡ []
@@ -96,7 +97,7 @@ found_kept own own' o o' faults faults' items' items meant each h =
           ∙ sym (ap (λ (p : Option FieldDescriptor). flat_map items (option_to_list p)) m.first);
     }
 
--- ---- what a field takes
+-- ---- what a field type_takes
 
 -- an enum's value that has no fault is known
 value_known : (name : Text) (t : Takes) (value : Text) (o : Option ℤ)
@@ -118,42 +119,44 @@ step_taken part messages inside h = (refl, h)
 step_taken part other inside h = absurd cc
 
 message_kept : (name : Text) (t : Takes) (f : FieldDescriptor) (inside inside' : List Fault)
-    (xs' xs : List Item) → (inside ≡ [] → Kept inside' xs' xs)
+    (xs' xs : List WireItem) → (inside ≡ [] → Kept inside' xs' xs)
     → message_value_faults name t inside ≡ []
-    → Kept (message_value_faults name t inside') (message_item f xs') (message_item f xs)
+    → Kept (message_value_faults name t inside') (item_of_message f xs') (item_of_message f xs)
 message_kept name t f inside inside' xs' xs each h =
     let m = message_taken name t inside h in
     let k = each m.1 in
     record {
       faultless = ap (λ (x : Takes). message_value_faults name x inside') m.0
           ∙ k.faultless;
-      same = ap (message_item f) k.same;
+      same = ap (item_of_message f) k.same;
     }
 
 step_kept : (part : Text) (t : Takes) (f : FieldDescriptor) (inside inside' : List Fault)
-    (xs' xs : List Item) → (inside ≡ [] → Kept inside' xs' xs) → step_faults part t inside ≡ []
-    → Kept (step_faults part t inside') (message_item f xs') (message_item f xs)
+    (xs' xs : List WireItem) → (inside ≡ [] → Kept inside' xs' xs) → step_faults part t inside ≡ []
+    → Kept (step_faults part t inside') (item_of_message f xs') (item_of_message f xs)
 step_kept part t f inside inside' xs' xs each h =
     let m = step_taken part t inside h in
     let k = each m.1 in
     record {
       faultless = ap (λ (x : Takes). step_faults part x inside') m.0
           ∙ k.faultless;
-      same = ap (message_item f) k.same;
+      same = ap (item_of_message f) k.same;
     }
 
 -- an enum's value
 known_kept : (f : FieldDescriptor) (name : Text) (o o' : Option ℤ)
-    → ((z : ℤ) → o ≡ Some z → o' ≡ Some z) → value_name_faults f.name (takes f.type_) name o ≡ []
-    → Kept (value_name_faults f.name (takes f.type_) name o')
-    (flat_map (λ (z : ℤ). item f (trees.number z)) (option_to_list o'))
-    (flat_map (λ (z : ℤ). item f (trees.number z)) (option_to_list o))
+    → ((z : ℤ) → o ≡ Some z → o' ≡ Some z) → value_name_faults f.name (type_takes f.type_) name o
+    ≡ []
+    → Kept (value_name_faults f.name (type_takes f.type_) name o')
+    (flat_map (λ (z : ℤ). item_of f (trees.number z)) (option_to_list o'))
+    (flat_map (λ (z : ℤ). item_of f (trees.number z)) (option_to_list o))
 known_kept f name o o' keeps h =
-    let v = value_known f.name (takes f.type_) name o h in
+    let v = value_known f.name (type_takes f.type_) name o h in
     let same : o' ≡ o = keeps v.0 v.1 ∙ sym v.1 in
     record {
-      faultless = ap (value_name_faults f.name (takes f.type_) name) same ∙ h;
-      same = ap (λ (p : Option ℤ). flat_map (λ (z : ℤ). item f (trees.number z)) (option_to_list p))
+      faultless = ap (value_name_faults f.name (type_takes f.type_) name) same ∙ h;
+      same = ap (λ (p : Option ℤ). flat_map (λ (z : ℤ). item_of f (trees.number z))
+          (option_to_list p))
           same;
     }
 
@@ -174,10 +177,10 @@ and_true false b h k = absurd cc
 extension_found : (files : List FileDescriptor) (message name : Text) (d : Declared FieldDescriptor)
     (o : Option (Declared FieldDescriptor)) → o ≡ Some d
     → extends_message files message d.what ≡ true
-    → (if_extends files message o ≡ Some d.what) × (extension_faults files message name o ≡ [])
+    → (if_extends files message o ≡ Some d.what) × (extension_name_faults files message name o ≡ [])
 extension_found files message name d o e is = (
   ap (if_extends files message) e ∙ ap (λ (b : Bool). if b then Some d.what else None) is,
-  ap (extension_faults files message name) e
+  ap (extension_name_faults files message name) e
       ∙ ap (λ (b : Bool). fault_when (not b) WrongExtensionType name) is,
 )
 
@@ -206,23 +209,23 @@ module _ (at at' : OptionScope) (keeps : KeepsLookups at at') where
           }
 
   extension_meant_still : (message name : Text)
-      → extension_faults at.files message name (extension_meant at name) ≡ []
-      → IsMeant (extension_faults at'.files message name (extension_meant at' name))
+      → extension_name_faults at.files message name (extension_meant at name) ≡ []
+      → IsMeant (extension_name_faults at'.files message name (extension_meant at' name))
       (extension_named at message name) (extension_named at' message name)
   extension_meant_still message name h = by (extension_meant at name) refl h
     where
       by : (o : Option (Declared FieldDescriptor)) → extension_meant at name ≡ o
-          → extension_faults at.files message name o ≡ []
-          → IsMeant (extension_faults at'.files message name (extension_meant at' name))
+          → extension_name_faults at.files message name o ≡ []
+          → IsMeant (extension_name_faults at'.files message name (extension_meant at' name))
           (extension_named at message name) (extension_named at' message name)
       by None e k = absurd cc
       by (Some d) e k =
-          let is = both_true name (extends message d.what) (is_message at.files message) k in
+          let is = both_true name (extends message d.what) (names_message at.files message) k in
           let was = extension_found at.files message name d (extension_meant at name) e
-          (and_true (extends message d.what) (is_message at.files message) is.0 is.1) in
+          (and_true (extends message d.what) (names_message at.files message) is.0 is.1) in
           let still = extension_found at'.files message name d (extension_meant at' name)
           (keeps.extensions name d e)
-          (and_true (extends message d.what) (is_message at'.files message) is.0
+          (and_true (extends message d.what) (names_message at'.files message) is.0
           (keeps.messages message is.1)) in
           record { field = d.what; first = was.0; still = still.0; faultless = still.1 }
 
@@ -250,7 +253,7 @@ module _ (at at' : OptionScope) (keeps : KeepsLookups at at') where
         (number_of_value at'.files (type_name_of f) name) (keeps.values (type_name_of f) name) h
     value_kept option f (list cs) h = list_kept option f cs h
     value_kept option f (fields fs) h =
-        message_kept f.name (takes f.type_) f (field_faults at option (type_name_of f) fs)
+        message_kept f.name (type_takes f.type_) f (field_faults at option (type_name_of f) fs)
         (field_faults at' option (type_name_of f) fs) (field_items at' (type_name_of f) fs)
         (field_items at (type_name_of f) fs)
         (λ k. fields_kept option (type_name_of f) fs k) h
@@ -322,19 +325,19 @@ module _ (at at' : OptionScope) (keeps : KeepsLookups at at') where
       found_kept (part_faults at message p) (part_faults at' message p) (part_field at message p)
       (part_field at' message p)
       (λ (g : FieldDescriptor). number_faults g
-      ++ step_faults (part_text p) (takes g.type_)
+      ++ step_faults (part_text p) (type_takes g.type_)
       (path_faults at option value (type_name_of g) (q ∷ ps))) (λ
       (g : FieldDescriptor). number_faults g
-      ++ step_faults (part_text p) (takes g.type_)
+      ++ step_faults (part_text p) (type_takes g.type_)
       (path_faults at' option value (type_name_of g) (q ∷ ps)))
-      (λ (g : FieldDescriptor). message_item g (path_items at' value (type_name_of g) (q ∷ ps)))
-      (λ (g : FieldDescriptor). message_item g (path_items at value (type_name_of g) (q ∷ ps)))
+      (λ (g : FieldDescriptor). item_of_message g (path_items at' value (type_name_of g) (q ∷ ps)))
+      (λ (g : FieldDescriptor). item_of_message g (path_items at value (type_name_of g) (q ∷ ps)))
       (part_meant message p)
       (λ g. numbered_kept (number_faults g)
-      (step_faults (part_text p) (takes g.type_)
+      (step_faults (part_text p) (type_takes g.type_)
       (path_faults at option value (type_name_of g) (q ∷ ps))) (step_faults (part_text p)
-      (takes g.type_) (path_faults at' option value (type_name_of g) (q ∷ ps))) _ _
-      (step_kept (part_text p) (takes g.type_) g
+      (type_takes g.type_) (path_faults at' option value (type_name_of g) (q ∷ ps))) _ _
+      (step_kept (part_text p) (type_takes g.type_) g
       (path_faults at option value (type_name_of g) (q ∷ ps))
       (path_faults at' option value (type_name_of g) (q ∷ ps))
       (path_items at' value (type_name_of g) (q ∷ ps))
@@ -344,8 +347,8 @@ module _ (at at' : OptionScope) (keeps : KeepsLookups at at') where
   -- ---- the statements of a construct
 
   named_kept : (construct : Construct) (value : ConstantSyntax) (name : OptionNameSyntax)
-      → named_faults at construct value name ≡ []
-      → Kept (named_faults at' construct value name)
+      → custom_name_faults at construct value name ≡ []
+      → Kept (custom_name_faults at' construct value name)
       (named_items at' (options_message construct) value name)
       (named_items at (options_message construct) value name)
   named_kept construct value (builtin name) h = nothing_kept
@@ -353,22 +356,22 @@ module _ (at at' : OptionScope) (keeps : KeepsLookups at at') where
   named_kept construct value (custom (direct name ∷ ps)) h =
       absurd (plain_step_has_fault construct name h)
   named_kept construct value (custom (extension name ∷ ps)) h =
-      path_kept (path_text (extension name ∷ ps)) value (options_message construct)
+      path_kept (option_path_text (extension name ∷ ps)) value (options_message construct)
       (extension name ∷ ps) h
 
   set_kept : (construct : Construct) (os : List OptionSyntax)
-      → flat_map (λ (o : OptionSyntax). named_faults at construct o.value o.name) os ≡ []
-      → Kept (flat_map (λ (o : OptionSyntax). named_faults at' construct o.value o.name) os)
-      (flat_map (option_items at' construct) os) (flat_map (option_items at construct) os)
+      → flat_map (λ (o : OptionSyntax). custom_name_faults at construct o.value o.name) os ≡ []
+      → Kept (flat_map (λ (o : OptionSyntax). custom_name_faults at' construct o.value o.name) os)
+      (flat_map (items_of_option at' construct) os) (flat_map (items_of_option at construct) os)
   set_kept construct [] h = nothing_kept
   set_kept construct (o ∷ os) h =
-      let first : List Fault = named_faults at construct o.value o.name in
+      let first : List Fault = custom_name_faults at construct o.value o.name in
       let others : List Fault = flat_map
-      (λ (x : OptionSyntax). named_faults at construct x.value x.name) os in
-      both_kept (named_faults at' construct o.value o.name)
-      (flat_map (λ (x : OptionSyntax). named_faults at' construct x.value x.name) os)
-      (option_items at' construct o) (option_items at construct o)
-      (flat_map (option_items at' construct) os) (flat_map (option_items at construct) os)
+      (λ (x : OptionSyntax). custom_name_faults at construct x.value x.name) os in
+      both_kept (custom_name_faults at' construct o.value o.name)
+      (flat_map (λ (x : OptionSyntax). custom_name_faults at' construct x.value x.name) os)
+      (items_of_option at' construct o) (items_of_option at construct o)
+      (flat_map (items_of_option at' construct) os) (flat_map (items_of_option at construct) os)
       (named_kept construct o.value o.name (no_left first others h))
       (set_kept construct os (no_right first others h))
 

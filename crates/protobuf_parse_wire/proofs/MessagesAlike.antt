@@ -19,19 +19,19 @@ use Rattle.protobuf_parse_model.specs.Declarations.{file_types, file_generated, 
 use Rattle.protobuf_parse_model.specs.Declarations.{generated_of, generated_in, types_of, types_in}
 use Rattle.protobuf_parse_model.specs.Declarations.{statement_types, statement_generated}
 use Rattle.protobuf_parse_model.specs.Linking.{occurrences}
-use Rattle.protobuf_parse_model.specs.NamedTypes.{message_name}
-use Rattle.protobuf_parse_model.specs.Environment.{Environment, inside}
+use Rattle.protobuf_parse_model.specs.NamedTypes.{declared_message_name}
+use Rattle.protobuf_parse_model.specs.Environment.{Environment, env_inside}
 use Rattle.protobuf_parse_model.specs.Messages.{messages_behind, entries_of, message_from}
 use Rattle.protobuf_parse_model.specs.Messages.{nested_of, nested_in}
 use Rattle.protobuf_parse_model.specs.FileDescriptor as files
 use Rattle.protobuf_parse_model.specs.FileDescriptor.{file_of}
 use Rattle.protobuf_parse_model.proofs.Orders.{count-append}
-use Rattle.protobuf_parse_wire.specs.Declarations.{Declaration, within, declared_message}
+use Rattle.protobuf_parse_wire.specs.Declarations.{Declaration, name_within, declared_message}
 use Rattle.protobuf_parse_wire.specs.NamesAlike.{message_names, HasPackageName}
 use Rattle.protobuf_parse_wire.proofs.Agreement.{scope_inside, package_is}
 use Rattle.protobuf_parse_wire.proofs.AgreementBack.{nested_are}
 
--- the full names of messages in a scope, with all that stands inside them
+-- the full names of messages in a scope, with all that stands env_inside them
 abbrev names_within : Text → List MessageDescriptor → List Text
 names_within scope ms = map (λ (d : Declaration). d.name) (flat_map (declared_message scope) ms)
 
@@ -48,7 +48,7 @@ own-names : (env : Environment) (name : Text) (body : List MessageStatementSynta
     → names_within (absolute_text env.scope) (message_from env name body ns ∷ [])
     ≡ full_name env.scope name ∷ names_within (absolute_text (names.inside env.scope name)) ns
 own-names env name body ns =
-    let inner : Text = within (absolute_text env.scope) name in
+    let inner : Text = name_within (absolute_text env.scope) name in
     ap (map (λ (d : Declaration). d.name))
     (append-nil (declared_message (absolute_text env.scope) (message_from env name body ns)))
     ∙ ap (λ (ds : List Declaration). inner ∷ map (λ (d : Declaration). d.name) ds)
@@ -88,7 +88,7 @@ module _ (n : Text) where
   -- that they become
   abbrev Alike : Text → List DeclaredType → List Text → List MessageDescriptor → Type 0
   Alike scope told generated ms =
-      occurrences n (flat_map message_name told) + occurrences n generated
+      occurrences n (flat_map declared_message_name told) + occurrences n generated
       ≡ occurrences n (names_within scope ms)
 
   both-alike : (scope : Text) (told told' : List DeclaredType) (generated generated' : List Text)
@@ -97,8 +97,8 @@ module _ (n : Text) where
       → Alike scope (told ++ told') (generated ++ generated') (ms ++ ms')
   both-alike scope told told' generated generated' ms ms' h k =
       sums _ _ _ _ _ _ _ _ _
-      (ap (occurrences n) (flat_map-append message_name told told')
-      ∙ count-append n (flat_map message_name told) (flat_map message_name told'))
+      (ap (occurrences n) (flat_map-append declared_message_name told told')
+      ∙ count-append n (flat_map declared_message_name told) (flat_map declared_message_name told'))
       (count-append n generated generated')
       (ap (occurrences n) (names-append scope ms ms')
       ∙ count-append n (names_within scope ms) (names_within scope ms'))
@@ -118,7 +118,7 @@ module _ (n : Text) where
       (flat_map (messages_behind env) fs)
   fields-alike env fs = none-told _ _ (sym (ap (occurrences n) (behind-all env fs)))
 
-  -- a message, by what stands inside it
+  -- a message, by what stands env_inside it
   message-alike : (env : Environment) (name : Text) (body : List MessageStatementSyntax)
       (told : List DeclaredType) (generated : List Text) (ns : List MessageDescriptor)
       → Alike (absolute_text (names.inside env.scope name)) told generated ns
@@ -128,7 +128,7 @@ module _ (n : Text) where
   message-alike env name body told generated ns h =
       let own : List Text = full_name env.scope name ∷ [] in
       sums _ _ _ _ _ _
-      (count-append n own (flat_map message_name told))
+      (count-append n own (flat_map declared_message_name told))
       (ap (occurrences n) (own-names env name body ns)
       ∙ count-append n own (names_within (absolute_text (names.inside env.scope name)) ns))
       h
@@ -142,8 +142,8 @@ module _ (n : Text) where
         (nested_of env s)
     statement-alike env (message_message place name body) =
         message-alike env name (message_body body) (types_in (names.inside env.scope name) body)
-        (generated_in (names.inside env.scope name) body) (nested_in (inside env name) body)
-        (list-alike (inside env name) body)
+        (generated_in (names.inside env.scope name) body) (nested_in (env_inside env name) body)
+        (list-alike (env_inside env name) body)
     statement-alike env (message_enum e) = refl
     statement-alike env (message_field f) =
         none-told _ _ (sym (ap (occurrences n) (behind-names env f)))
@@ -172,14 +172,14 @@ module _ (n : Text) where
 
   file_statement-alike : (env : Environment) (s : StatementSyntax)
       → Alike (absolute_text env.scope) (statement_types env.scope s)
-      (statement_generated env.scope s) (files.messages_of env s)
+      (statement_generated env.scope s) (files.file_messages_of env s)
   file_statement-alike env (file_message m) =
       message-alike env m.name m.body (flat_map (types_of (names.inside env.scope m.name)) m.body)
       (flat_map (generated_of (names.inside env.scope m.name)) m.body)
-      (flat_map (nested_of (inside env m.name)) m.body)
+      (flat_map (nested_of (env_inside env m.name)) m.body)
       (each-alike (absolute_text (names.inside env.scope m.name))
       (types_of (names.inside env.scope m.name)) (generated_of (names.inside env.scope m.name))
-      (nested_of (inside env m.name)) (statement-alike (inside env m.name)) m.body)
+      (nested_of (env_inside env m.name)) (statement-alike (env_inside env m.name)) m.body)
   file_statement-alike env (file_enum e) = refl
   file_statement-alike env (file_extend e) = fields-alike env e.fields
   file_statement-alike env _ = refl
@@ -187,14 +187,15 @@ module _ (n : Text) where
 -- the messages of a file
 pub messages_are_counted_alike : (env : Environment) (path : Text) (t : FileSyntax) (n : Text)
     → env.scope ≡ file_scope t → HasPackageName t
-    → occurrences n (flat_map message_name (file_types t)) + occurrences n (file_generated t)
+    → occurrences n (flat_map declared_message_name (file_types t))
+    + occurrences n (file_generated t)
     ≡ occurrences n (message_names (file_of env path t))
 messages_are_counted_alike env path t n scoped has_name =
-    let ms : List MessageDescriptor = flat_map (files.messages_of env) t.statements in
+    let ms : List MessageDescriptor = flat_map (files.file_messages_of env) t.statements in
     let told : Alike n (absolute_text env.scope) (flat_map (statement_types env.scope) t.statements)
     (flat_map (statement_generated env.scope) t.statements) ms =
     each-alike n (absolute_text env.scope) (statement_types env.scope)
-    (statement_generated env.scope) (files.messages_of env)
+    (statement_generated env.scope) (files.file_messages_of env)
     (file_statement-alike n env) t.statements in
     subst (λ (s : Text). Alike n s (file_types t) (file_generated t) ms)
     (package_is (package_of t) has_name)

@@ -15,10 +15,11 @@ use Rattle.protobuf_parse_model.specs.Descriptors.{EnumDescriptor, MessageParts,
 use Rattle.protobuf_parse_model.specs.Declarations.{Scope, Declared}
 use Rattle.protobuf_parse_model.specs.FilesByPath.{Trees, among, trees_at}
 use Rattle.protobuf_parse_model.specs.Linking.{link_faults}
-use Rattle.protobuf_parse_wire.specs.Declarations.{Declaration, declared_in, messages_named}
-use Rattle.protobuf_parse_wire.specs.Declarations.{messages_of}
+use Rattle.protobuf_parse_wire.specs.Declarations.{Declaration, messages_declared_in}
+use Rattle.protobuf_parse_wire.specs.Declarations.{messages_named}
+use Rattle.protobuf_parse_wire.specs.Declarations.{messages_with_name}
 use Rattle.protobuf_parse_wire.specs.OptionFields.{declared_enums, fields_of_message, field_named}
-use Rattle.protobuf_parse_wire.specs.OptionFields.{values_in, number_of_value, is_message}
+use Rattle.protobuf_parse_wire.specs.OptionFields.{values_of_enum, number_of_value, names_message}
 use Rattle.protobuf_parse_wire.specs.DescriptorsByPath.{Environments, described_at, descriptors_at}
 use Rattle.protobuf_parse_wire.specs.DescriptorsByPath.{HasFileScopes, HaveSameMembers, AreWithin}
 use Rattle.protobuf_parse_wire.specs.MoreFiles.{KeepsLookups, known_at, MoreFilesKeepMeaning}
@@ -47,11 +48,12 @@ fields_append : (files others : List FileDescriptor) (message : Text)
     ++ fields_of_message others message
 fields_append files others message =
     ap (λ (ds : List Declaration). flat_map (λ (parts : MessageParts). parts.field)
-    (messages_named message ds)) (flat_map-append declared_in files others)
+    (messages_named message ds)) (flat_map-append messages_declared_in files others)
     ∙ ap (flat_map (λ (parts : MessageParts). parts.field))
-    (named_append message (flat_map declared_in files) (flat_map declared_in others))
-    ∙ flat_map-append (λ (parts : MessageParts). parts.field) (messages_of files message)
-    (messages_of others message)
+    (named_append message (flat_map messages_declared_in files)
+    (flat_map messages_declared_in others))
+    ∙ flat_map-append (λ (parts : MessageParts). parts.field) (messages_with_name files message)
+    (messages_with_name others message)
 
 field_before : (files others : List FileDescriptor) (message name : Text) (f : FieldDescriptor)
     → field_named files message name ≡ Some f → field_named (files ++ others) message name ≡ Some f
@@ -61,8 +63,8 @@ field_before files others message name f h =
     (fields_of_message others message) f h
 
 values_append : (files others : List FileDescriptor) (enum_name : Text)
-    → values_in (files ++ others) enum_name ≡ values_in files enum_name
-    ++ values_in others enum_name
+    → values_of_enum (files ++ others) enum_name ≡ values_of_enum files enum_name
+    ++ values_of_enum others enum_name
 values_append files others enum_name =
     let values : Declared EnumDescriptor
     → List EnumValueDescriptor = λ e. cond (bytes_eq e.name enum_name) e.what.value [] in
@@ -88,17 +90,20 @@ value_before files others enum_name name z h =
     ap (λ (vs : List EnumValueDescriptor). numbered (find (has_value_name name) vs))
     (values_append files others enum_name)
     ∙ ap numbered
-    (find-append (has_value_name name) (values_in files enum_name) (values_in others enum_name))
-    ∙ numbered_first (find (has_value_name name) (values_in files enum_name))
-    (find (has_value_name name) (values_in others enum_name)) z h
+    (find-append (has_value_name name) (values_of_enum files enum_name)
+    (values_of_enum others enum_name))
+    ∙ numbered_first (find (has_value_name name) (values_of_enum files enum_name))
+    (find (has_value_name name) (values_of_enum others enum_name)) z h
 
-message_before : (files others : List FileDescriptor) (name : Text) → is_message files name ≡ true
-    → is_message (files ++ others) name ≡ true
+message_before : (files others : List FileDescriptor) (name : Text)
+    → names_message files name ≡ true
+    → names_message (files ++ others) name ≡ true
 message_before files others name h =
     let is_so_named : Declaration → Bool = λ d. bytes_eq name d.name in
-    ap (list_any is_so_named) (flat_map-append declared_in files others)
-    ∙ list_any-append is_so_named (flat_map declared_in files) (flat_map declared_in others)
-    ∙ or_left (is_message files name) (is_message others name) h
+    ap (list_any is_so_named) (flat_map-append messages_declared_in files others)
+    ∙ list_any-append is_so_named (flat_map messages_declared_in files)
+    (flat_map messages_declared_in others)
+    ∙ or_left (names_message files name) (names_message others name) h
 
 -- ---- files among others
 
@@ -159,7 +164,7 @@ module _ (trees : Trees) (env : Environments) (files : HasFileScopes trees env)
         ∙ value_before own all enum_name name z h;
     messages = λ name h.
         sym (messages-same trees env files more (reached ++ more) more none inside members name)
-        ∙ ap (λ (ds : List FileDescriptor). is_message ds name) joined
+        ∙ ap (λ (ds : List FileDescriptor). names_message ds name) joined
         ∙ message_before own all name h;
     extensions = λ name d h. h;
   }

@@ -20,14 +20,14 @@ use Rattle.protobuf_parse_model.specs.Declarations.{generated_by, generated_of, 
 use Rattle.protobuf_parse_model.specs.Declarations.{types_of, types_in, statement_types}
 use Rattle.protobuf_parse_model.specs.Declarations.{statement_generated}
 use Rattle.protobuf_parse_model.specs.Linking.{occurrences}
-use Rattle.protobuf_parse_model.specs.Environment.{Environment, inside}
+use Rattle.protobuf_parse_model.specs.Environment.{Environment, env_inside}
 use Rattle.protobuf_parse_model.specs.Messages as bodies
 use Rattle.protobuf_parse_model.specs.Messages.{messages_behind, entries_of, message_from}
 use Rattle.protobuf_parse_model.specs.Messages.{nested_of, nested_in, message_of}
 use Rattle.protobuf_parse_model.specs.FileDescriptor as files
 use Rattle.protobuf_parse_model.specs.FileDescriptor.{file_of}
 use Rattle.protobuf_parse_model.proofs.Orders.{count-append}
-use Rattle.protobuf_parse_wire.specs.Declarations.{Declaration, within, declared_message}
+use Rattle.protobuf_parse_wire.specs.Declarations.{Declaration, name_within, declared_message}
 use Rattle.protobuf_parse_wire.specs.Declarations.{package_scope}
 use Rattle.protobuf_parse_wire.specs.OptionFields.{enum_in}
 use Rattle.protobuf_parse_wire.specs.NamesAlike.{TypesAreCountedAlike}
@@ -38,13 +38,13 @@ use Rattle.protobuf_parse_wire.proofs.AgreementBack.{nested_are}
 
 -- of enums in a scope
 abbrev enums_within : Text → List EnumDescriptor → List Text
-enums_within scope es = map (λ (e : EnumDescriptor). within scope e.name) es
+enums_within scope es = map (λ (e : EnumDescriptor). name_within scope e.name) es
 
 -- of a message and its enums
 abbrev names_of : Declaration → List Text
 names_of d = d.name ∷ enums_within d.name d.parts.enum_type
 
--- what is told of messages in a scope and of all that stands inside them
+-- what is told of messages in a scope and of all that stands env_inside them
 abbrev pub told_within : (Declaration → List Text) → Text → List MessageDescriptor → List Text
 told_within tell scope ms = flat_map tell (flat_map (declared_message scope) ms)
 
@@ -64,11 +64,11 @@ message-names : (env : Environment) (name : Text) (body : List MessageStatementS
     → messages_within (absolute_text env.scope) (message_from env name body ns ∷ [])
     ≡ full_name env.scope name
     ∷ (enums_within (absolute_text (names.inside env.scope name))
-    (flat_map (bodies.enums_of (inside env name)) body)
+    (flat_map (bodies.enums_of (env_inside env name)) body)
     ++ messages_within (absolute_text (names.inside env.scope name)) ns)
 message-names env name body ns =
-    let inner : Text = within (absolute_text env.scope) name in
-    let es : List EnumDescriptor = flat_map (bodies.enums_of (inside env name)) body in
+    let inner : Text = name_within (absolute_text env.scope) name in
+    let es : List EnumDescriptor = flat_map (bodies.enums_of (env_inside env name)) body in
     ap (flat_map names_of)
     (append-nil (declared_message (absolute_text env.scope) (message_from env name body ns)))
     ∙ ap (λ (ds : List Declaration). inner ∷ (enums_within inner es ++ flat_map names_of ds))
@@ -123,7 +123,7 @@ module _ (n : Text) where
       (ap (occurrences n) (map-append (λ (d : DeclaredType). d.name) told told')
       ∙ count-append n (named_types told) (named_types told'))
       (count-append n generated generated')
-      (ap (occurrences n) (map-append (λ (e : EnumDescriptor). within scope e.name) es es')
+      (ap (occurrences n) (map-append (λ (e : EnumDescriptor). name_within scope e.name) es es')
       ∙ count-append n (enums_within scope es) (enums_within scope es'))
       (ap (occurrences n) (told-append names_of scope ms ms')
       ∙ count-append n (messages_within scope ms) (messages_within scope ms'))
@@ -139,17 +139,17 @@ module _ (n : Text) where
       (flat_map (messages_behind env) fs)
   fields-alike env fs = sym (ap (λ (ns : List Text). 0 + occurrences n ns) (behind-all env fs))
 
-  -- a message, by what stands inside it
+  -- a message, by what stands env_inside it
   message-alike : (env : Environment) (name : Text) (body : List MessageStatementSyntax)
       (told : List DeclaredType) (generated : List Text) (ns : List MessageDescriptor)
       → Alike (absolute_text (names.inside env.scope name)) told generated
-      (flat_map (bodies.enums_of (inside env name)) body) ns
+      (flat_map (bodies.enums_of (env_inside env name)) body) ns
       → Alike (absolute_text env.scope)
       (names.declare env.scope name names.a_message ∷ told) generated []
       (message_from env name body ns ∷ [])
   message-alike env name body told generated ns h =
       let s : Text = absolute_text (names.inside env.scope name) in
-      let es : List EnumDescriptor = flat_map (bodies.enums_of (inside env name)) body in
+      let es : List EnumDescriptor = flat_map (bodies.enums_of (env_inside env name)) body in
       let own : List Text = full_name env.scope name ∷ [] in
       sums _ _ _ _ _ _ _ _
       (count-append n own (named_types told))
@@ -168,8 +168,8 @@ module _ (n : Text) where
         (bodies.enums_of env s) (nested_of env s)
     statement-alike env (message_message place name body) =
         message-alike env name (message_body body) (types_in (names.inside env.scope name) body)
-        (generated_in (names.inside env.scope name) body) (nested_in (inside env name) body)
-        (list-alike (inside env name) body)
+        (generated_in (names.inside env.scope name) body) (nested_in (env_inside env name) body)
+        (list-alike (env_inside env name) body)
     statement-alike env (message_enum e) = refl
     statement-alike env (message_field f) =
         sym (ap (λ (ns : List Text). 0 + occurrences n ns) (behind-names env f))
@@ -200,15 +200,15 @@ module _ (n : Text) where
 
   file_statement-alike : (env : Environment) (s : StatementSyntax)
       → Alike (absolute_text env.scope) (statement_types env.scope s)
-      (statement_generated env.scope s) (files.enums_of env s) (files.messages_of env s)
+      (statement_generated env.scope s) (files.file_enums_of env s) (files.file_messages_of env s)
   file_statement-alike env (file_message m) =
       message-alike env m.name m.body (flat_map (types_of (names.inside env.scope m.name)) m.body)
       (flat_map (generated_of (names.inside env.scope m.name)) m.body)
-      (flat_map (nested_of (inside env m.name)) m.body)
+      (flat_map (nested_of (env_inside env m.name)) m.body)
       (each-alike (absolute_text (names.inside env.scope m.name))
       (types_of (names.inside env.scope m.name)) (generated_of (names.inside env.scope m.name))
-      (bodies.enums_of (inside env m.name)) (nested_of (inside env m.name))
-      (statement-alike (inside env m.name)) m.body)
+      (bodies.enums_of (env_inside env m.name)) (nested_of (env_inside env m.name))
+      (statement-alike (env_inside env m.name)) m.body)
   file_statement-alike env (file_enum e) = refl
   file_statement-alike env (file_extend e) = fields-alike env e.fields
   file_statement-alike env _ = refl
@@ -225,7 +225,7 @@ module _ (n : Text) where
       → named_enums (map (enum_in scope) es) ≡ enums_within scope es
   enums-named scope [] = refl
   enums-named scope (e ∷ es) =
-      ap (λ (ns : List Text). within scope e.name ∷ ns) (enums-named scope es)
+      ap (λ (ns : List Text). name_within scope e.name ∷ ns) (enums-named scope es)
 
   apart : (ds : List Declaration)
       → occurrences n (map (λ (d : Declaration). d.name) ds) + occurrences n
@@ -271,12 +271,12 @@ module _ (n : Text) where
 
 pub types_are_counted_alike : TypesAreCountedAlike
 types_are_counted_alike env path t n scoped has_name =
-    let ms : List MessageDescriptor = flat_map (files.messages_of env) t.statements in
-    let es : List EnumDescriptor = flat_map (files.enums_of env) t.statements in
+    let ms : List MessageDescriptor = flat_map (files.file_messages_of env) t.statements in
+    let es : List EnumDescriptor = flat_map (files.file_enums_of env) t.statements in
     let told : Alike n (absolute_text env.scope) (flat_map (statement_types env.scope) t.statements)
     (flat_map (statement_generated env.scope) t.statements) es ms =
     each-alike n (absolute_text env.scope) (statement_types env.scope)
-    (statement_generated env.scope) (files.enums_of env) (files.messages_of env)
+    (statement_generated env.scope) (files.file_enums_of env) (files.file_messages_of env)
     (file_statement-alike n env) t.statements in
     let here : Alike n (package_scope (package_of t)) (file_types t) (file_generated t) es ms =
     subst (λ (s : Text). Alike n s (file_types t) (file_generated t) es ms)

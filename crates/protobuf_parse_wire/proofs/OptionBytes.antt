@@ -3,7 +3,7 @@ use Rattle.std.proofs.Common.{◌≡◌, List, [], ◌∷◌, flat_map}
 use Rattle.protobuf_parse_model.specs.Faults.{Fault, Among, here, there}
 use Rattle.protobuf_parse_model.specs.OptionSets.{OptionSet, option_sets}
 use Rattle.protobuf_parse_wire.specs.CustomOptions.{denotes, scope_of}
-use Rattle.protobuf_parse_wire.specs.CustomFaults.{statement_faults}
+use Rattle.protobuf_parse_wire.specs.CustomFaults.{custom_statement_faults}
 use Rattle.protobuf_parse_wire.specs.OptionBytes.{OptionBytesSpell}
 use Rattle.protobuf_parse_wire.proofs.Encoded.{encoded_spells}
 use Rattle.protobuf_parse_wire.proofs.Writable.{no_left, no_right, denotes_writable}
@@ -21,5 +21,5 @@ option_bytes_spell files visible t small none s h =
     encoded_spells (denotes (scope_of files visible s) s.construct s.statements)
     (denotes_writable (scope_of files visible s) small s.construct s.statements
     (none_of
-    (λ (x : OptionSet). statement_faults (scope_of files visible x) x.construct x.statements)
+    (λ (x : OptionSet). custom_statement_faults (scope_of files visible x) x.construct x.statements)
     (option_sets t) s h none))

@@ -10,29 +10,31 @@ use Rattle.protobuf_parse_syntax.specs.Decoder.{decode}
 use Rattle.protobuf_parse_model.specs.Descriptors.{Text, FieldDescriptor}
 use Rattle.protobuf_parse_model.specs.Faults.{here, there}
 use Rattle.protobuf_parse_wire.specs.declared.kind.Kind.{Kind}
-use Rattle.protobuf_parse_wire.specs.Kinds.{kind_of}
+use Rattle.protobuf_parse_wire.specs.Kinds.{kind_of_field_type}
 use Rattle.protobuf_parse_wire.specs.Trees as trees
 use Rattle.protobuf_parse_wire.specs.Trees.{EntryTree}
-use Rattle.protobuf_parse_wire.specs.Views.{Item, entries_of_list}
+use Rattle.protobuf_parse_wire.specs.Views.{WireItem, entries_of_list}
 use Rattle.protobuf_parse_wire.specs.Law.{depth, value_depth}
 use Rattle.protobuf_parse_wire.specs.OptionFields.{OptionScope, options_message, number_of_value}
 use Rattle.protobuf_parse_wire.specs.OptionFields.{part_field, constant_field, type_name_of}
-use Rattle.protobuf_parse_wire.specs.CustomOptions.{item, message_item, value_items, list_items}
+use Rattle.protobuf_parse_wire.specs.CustomOptions.{item_of, item_of_message, value_items}
+use Rattle.protobuf_parse_wire.specs.CustomOptions.{list_items}
 use Rattle.protobuf_parse_wire.specs.CustomOptions.{field_items, path_items, named_items}
-use Rattle.protobuf_parse_wire.specs.CustomOptions.{option_items}
+use Rattle.protobuf_parse_wire.specs.CustomOptions.{items_of_option}
 use Rattle.protobuf_parse_wire.specs.OptionDepth.{constant_depth, list_depth, fields_depth}
-use Rattle.protobuf_parse_wire.specs.OptionDepth.{parts_of, NeverTooDeep}
+use Rattle.protobuf_parse_wire.specs.OptionDepth.{name_parts, NeverTooDeep}
 
-abbrev levels : List Item → ℕ
+abbrev levels : List WireItem → ℕ
 levels items = depth (entries_of_list items)
 
-both_within : (xs ys : List Item) (n : ℕ) → levels xs ≤ n → levels ys ≤ n → levels (xs ++ ys) ≤ n
+both_within : (xs ys : List WireItem) (n : ℕ) → levels xs ≤ n → levels ys ≤ n
+    → levels (xs ++ ys) ≤ n
 both_within [] ys n p q = q
 both_within (x ∷ xs) ys n p q =
     let rest : levels (xs ++ ys) ≤ n = both_within xs ys n (omega arith) q in
     omega arith
 
-each_within : {A : Type 0} (items : A → List Item) (xs : List A) (n : ℕ) → 1 ≤ n
+each_within : {A : Type 0} (items : A → List WireItem) (xs : List A) (n : ℕ) → 1 ≤ n
     → ((x : A) → levels (items x) ≤ n) → levels (flat_map items xs) ≤ n
 each_within items [] n some each = some
 each_within items (x ∷ xs) n some each =
@@ -45,8 +47,8 @@ one_within m v None n le = omega arith
 one_within m v (Some k) n le = omega arith
 
 item_within : (f : FieldDescriptor) (v : EntryTree) (n : ℕ) → value_depth v + 1 ≤ n
-    → levels (item f v) ≤ n
-item_within f v n le = one_within _ v (kind_of f.type_) n le
+    → levels (item_of f v) ≤ n
+item_within f v n le = one_within _ v (kind_of_field_type f.type_) n le
 
 mutual
   value_within : (at : OptionScope) (f : FieldDescriptor) (c : ConstantSyntax)
@@ -54,7 +56,7 @@ mutual
   value_within at f (integer z) = item_within f (trees.number z) 1 (omega arith)
   value_within at f (truth b) = item_within f (trees.truth b) 1 (omega arith)
   value_within at f (dotted name) =
-      each_within (λ (z : ℤ). item f (trees.number z))
+      each_within (λ (z : ℤ). item_of f (trees.number z))
       (option_to_list (number_of_value at.files (type_name_of f) name)) 1 (omega arith)
       (λ z. item_within f (trees.number z) 1 (omega arith))
   value_within at f (string pieces) =
@@ -103,7 +105,7 @@ path_within at value message p [] =
     ≤ constant_depth value + 1 = value_within at g value in omega arith)
 path_within at value message p (q ∷ ps) =
     each_within
-    (λ (g : FieldDescriptor). message_item g (path_items at value (type_name_of g) (q ∷ ps)))
+    (λ (g : FieldDescriptor). item_of_message g (path_items at value (type_name_of g) (q ∷ ps)))
     (option_to_list (part_field at message p)) (length (p ∷ q ∷ ps) + constant_depth value)
     (omega arith)
     (λ g. let inside : levels (path_items at value (type_name_of g) (q ∷ ps))
@@ -112,7 +114,7 @@ path_within at value message p (q ∷ ps) =
     (length (p ∷ q ∷ ps) + constant_depth value) (omega arith))
 
 named_within : (at : OptionScope) (message : Text) (value : ConstantSyntax)
-    (name : OptionNameSyntax) → length (parts_of name) ≤ 100 → constant_depth value ≤ 100
+    (name : OptionNameSyntax) → length (name_parts name) ≤ 100 → constant_depth value ≤ 100
     → levels (named_items at message value name) ≤ 200
 named_within at message value (builtin name) few low = omega arith
 named_within at message value (custom []) few low = omega arith
@@ -125,6 +127,6 @@ pub never_too_deep : NeverTooDeep
 never_too_deep at construct [] shallow = omega arith
 never_too_deep at construct (o ∷ os) shallow =
     let first = shallow o here in
-    both_within (option_items at construct o) (flat_map (option_items at construct) os) 200
+    both_within (items_of_option at construct o) (flat_map (items_of_option at construct) os) 200
     (named_within at (options_message construct) o.value o.name first.name first.value)
     (never_too_deep at construct os (λ x h. shallow x (there h)))

@@ -30,28 +30,30 @@ use Rattle.protobuf_parse_model.specs.Duplicates.{fault_when}
 use Rattle.protobuf_parse_model.specs.BuiltinOptions.{string_faults}
 use Rattle.protobuf_parse_wire.specs.declared.kind.Kind.{Kind}
 use Rattle.protobuf_parse_wire.specs.declared.kind.Kind.TheVariants as kinds
-use Rattle.protobuf_parse_wire.specs.Kinds.{shape, kind_of}
+use Rattle.protobuf_parse_wire.specs.Kinds.{shape_of_kind, kind_of_field_type}
 use Rattle.protobuf_parse_wire.specs.Trees as trees
 use Rattle.protobuf_parse_wire.specs.Trees.{EntryTree}
-use Rattle.protobuf_parse_wire.specs.Views.{Item, entries_of_list}
-use Rattle.protobuf_parse_wire.specs.Declarations.{messages_of, declared_extensions, extensions_in}
-use Rattle.protobuf_parse_wire.specs.Declarations.{extensions_of, extends}
+use Rattle.protobuf_parse_wire.specs.Views.{WireItem, entries_of_list}
+use Rattle.protobuf_parse_wire.specs.Declarations.{messages_with_name, declared_extensions}
+use Rattle.protobuf_parse_wire.specs.Declarations.{extensions_declared_in}
+use Rattle.protobuf_parse_wire.specs.Declarations.{extensions_extending, extends}
 use Rattle.protobuf_parse_wire.specs.Law.{Suit, ValueSuits, Enters}
 use Rattle.protobuf_parse_wire.specs.OptionFields.{OptionScope, options_message, fields_of_message}
-use Rattle.protobuf_parse_wire.specs.OptionFields.{field_named, if_extends, is_message}
+use Rattle.protobuf_parse_wire.specs.OptionFields.{field_named, if_extends, names_message}
 use Rattle.protobuf_parse_wire.specs.OptionFields.{extension_meant, extension_named}
 use Rattle.protobuf_parse_wire.specs.OptionFields.{number_of_value, part_field, constant_field}
-use Rattle.protobuf_parse_wire.specs.OptionFields.{type_name_of, takes}
-use Rattle.protobuf_parse_wire.specs.CustomOptions.{message_item, value_items, list_items}
+use Rattle.protobuf_parse_wire.specs.OptionFields.{type_name_of, type_takes}
+use Rattle.protobuf_parse_wire.specs.CustomOptions.{item_of_message, value_items, list_items}
 use Rattle.protobuf_parse_wire.specs.CustomOptions.{field_items, path_items, named_items}
-use Rattle.protobuf_parse_wire.specs.CustomOptions.{option_items, denotes}
+use Rattle.protobuf_parse_wire.specs.CustomOptions.{items_of_option, denotes}
 use Rattle.protobuf_parse_wire.specs.CustomFaults.{integer_faults, truth_faults, value_name_faults}
 use Rattle.protobuf_parse_wire.specs.CustomFaults.{string_value_faults, message_value_faults}
 use Rattle.protobuf_parse_wire.specs.CustomFaults.{number_faults, constant_name_faults}
 use Rattle.protobuf_parse_wire.specs.CustomFaults.{value_faults, list_faults, field_faults}
 use Rattle.protobuf_parse_wire.specs.CustomFaults.{part_faults, step_faults, path_faults}
-use Rattle.protobuf_parse_wire.specs.CustomFaults.{custom_faults, named_faults, statement_faults}
-use Rattle.protobuf_parse_model.specs.Environment.{part_text, path_text}
+use Rattle.protobuf_parse_wire.specs.CustomFaults.{custom_faults, custom_name_faults}
+use Rattle.protobuf_parse_wire.specs.CustomFaults.{custom_statement_faults}
+use Rattle.protobuf_parse_model.specs.Environment.{part_text, option_path_text}
 use Rattle.protobuf_parse_wire.specs.OptionLaw.{IsEntered, fields_at, IsReadable, OptionsAreRead}
 use Rattle.protobuf_parse_wire.proofs.Ranges.{in_range}
 use Rattle.protobuf_parse_wire.proofs.Again as again
@@ -90,10 +92,10 @@ among_filtered test (y ∷ xs) x (there h) e = at (test y) (among_filtered test 
 
 -- ---- one entry
 
-abbrev Suits : List FileDescriptor → List FieldDescriptor → List Item → Type 0
+abbrev Suits : List FileDescriptor → List FieldDescriptor → List WireItem → Type 0
 Suits files fs items = Suit files fs (entries_of_list items)
 
-suit_append : (files : List FileDescriptor) (fs : List FieldDescriptor) (xs ys : List Item)
+suit_append : (files : List FileDescriptor) (fs : List FieldDescriptor) (xs ys : List WireItem)
     → Suits files fs xs → Suits files fs ys → Suits files fs (xs ++ ys)
 suit_append files fs [] ys p q = q
 suit_append files fs (x ∷ xs) ys p q = (p.0, p.1, p.2, suit_append files fs xs ys p.3 q)
@@ -104,13 +106,13 @@ pub record IsUsed (fs : List FieldDescriptor) (f : FieldDescriptor) : Type 0 whe
   pub number : f.number ≡ pos (nat_abs f.number)
   pub small : nat_abs f.number < 2147483648
 
-abbrev item_at : ℕ → FieldType → EntryTree → List Item
+abbrev item_at : ℕ → FieldType → EntryTree → List WireItem
 item_at n t v = map (λ (k : Kind). record { number = n; kind = k; value = v })
-    (option_to_list (kind_of t))
+    (option_to_list (kind_of_field_type t))
 
 entry_suits : (files : List FileDescriptor) (fs : List FieldDescriptor) (f : FieldDescriptor)
-    (k : Kind) (v : EntryTree) → IsUsed fs f → kind_of f.type_ ≡ Some k
-    → ValueSuits files f (shape k) v
+    (k : Kind) (v : EntryTree) → IsUsed fs f → kind_of_field_type f.type_ ≡ Some k
+    → ValueSuits files f (shape_of_kind k) v
     → Suits files fs (record { number = nat_abs f.number; kind = k; value = v } ∷ [])
 entry_suits files fs f k v u e p = (
   f,
@@ -127,45 +129,47 @@ entry_suits files fs f k v u e p = (
 -- ---- one value of one field, by the field's type
 
 number_suits : (files : List FileDescriptor) (fs : List FieldDescriptor) (f : FieldDescriptor)
-    → IsUsed fs f → (t : FieldType) → f.type_ ≡ t → (z : ℤ) → integer_faults f.name (takes t) z ≡ []
+    → IsUsed fs f → (t : FieldType) → f.type_ ≡ t → (z : ℤ) → integer_faults f.name (type_takes t) z
+    ≡ []
     → Suits files fs (item_at (nat_abs f.number) t (trees.number z))
 number_suits files fs f u types.Int32 s z e =
-    entry_suits files fs f kinds.Int32 (trees.number z) u (ap kind_of s)
+    entry_suits files fs f kinds.Int32 (trees.number z) u (ap kind_of_field_type s)
     (number_kept kinds.Int32 f.name z e)
 number_suits files fs f u types.Int64 s z e =
-    entry_suits files fs f kinds.Int64 (trees.number z) u (ap kind_of s)
+    entry_suits files fs f kinds.Int64 (trees.number z) u (ap kind_of_field_type s)
     (number_kept kinds.Int64 f.name z e)
 number_suits files fs f u types.Uint32 s z e =
-    entry_suits files fs f kinds.Uint32 (trees.number z) u (ap kind_of s)
+    entry_suits files fs f kinds.Uint32 (trees.number z) u (ap kind_of_field_type s)
     (number_kept kinds.Uint32 f.name z e)
 number_suits files fs f u types.Uint64 s z e =
-    entry_suits files fs f kinds.Uint64 (trees.number z) u (ap kind_of s)
+    entry_suits files fs f kinds.Uint64 (trees.number z) u (ap kind_of_field_type s)
     (number_kept kinds.Uint64 f.name z e)
 number_suits files fs f u types.Sint32 s z e =
-    entry_suits files fs f kinds.Sint32 (trees.number z) u (ap kind_of s)
+    entry_suits files fs f kinds.Sint32 (trees.number z) u (ap kind_of_field_type s)
     (number_kept kinds.Sint32 f.name z e)
 number_suits files fs f u types.Sint64 s z e =
-    entry_suits files fs f kinds.Sint64 (trees.number z) u (ap kind_of s)
+    entry_suits files fs f kinds.Sint64 (trees.number z) u (ap kind_of_field_type s)
     (number_kept kinds.Sint64 f.name z e)
 number_suits files fs f u types.Fixed32 s z e =
-    entry_suits files fs f kinds.Fixed32 (trees.number z) u (ap kind_of s)
+    entry_suits files fs f kinds.Fixed32 (trees.number z) u (ap kind_of_field_type s)
     (number_kept kinds.Fixed32 f.name z e)
 number_suits files fs f u types.Sfixed32 s z e =
-    entry_suits files fs f kinds.Sfixed32 (trees.number z) u (ap kind_of s)
+    entry_suits files fs f kinds.Sfixed32 (trees.number z) u (ap kind_of_field_type s)
     (number_kept kinds.Sfixed32 f.name z e)
 number_suits files fs f u types.Fixed64 s z e =
-    entry_suits files fs f kinds.Fixed64 (trees.number z) u (ap kind_of s)
+    entry_suits files fs f kinds.Fixed64 (trees.number z) u (ap kind_of_field_type s)
     (number_kept kinds.Fixed64 f.name z e)
 number_suits files fs f u types.Sfixed64 s z e =
-    entry_suits files fs f kinds.Sfixed64 (trees.number z) u (ap kind_of s)
+    entry_suits files fs f kinds.Sfixed64 (trees.number z) u (ap kind_of_field_type s)
     (number_kept kinds.Sfixed64 f.name z e)
 number_suits files fs f u _ s z e = absurd cc
 
 truth_suits : (files : List FileDescriptor) (fs : List FieldDescriptor) (f : FieldDescriptor)
-    → IsUsed fs f → (t : FieldType) → f.type_ ≡ t → (b : Bool) → truth_faults f.name (takes t) ≡ []
+    → IsUsed fs f → (t : FieldType) → f.type_ ≡ t → (b : Bool) → truth_faults f.name (type_takes t)
+    ≡ []
     → Suits files fs (item_at (nat_abs f.number) t (trees.truth b))
 truth_suits files fs f u types.Bool s b e =
-    entry_suits files fs f kinds.Bool (trees.truth b) u (ap kind_of s) tt
+    entry_suits files fs f kinds.Bool (trees.truth b) u (ap kind_of_field_type s) tt
 truth_suits files fs f u _ s b e = absurd cc
 
 text_is_utf8 : (option : Text) (o : Option (List ℕ)) → string_faults option (text_when o) ≡ []
@@ -179,52 +183,55 @@ text_is_utf8 option (Some v) e = at (is_utf8 v) refl e
 
 string_suits : (files : List FileDescriptor) (fs : List FieldDescriptor) (f : FieldDescriptor)
     → IsUsed fs f → (t : FieldType) → f.type_ ≡ t → (option : Text) (pieces : Pieces)
-    → string_value_faults option f.name (takes t) pieces ≡ []
+    → string_value_faults option f.name (type_takes t) pieces ≡ []
     → Suits files fs (item_at (nat_abs f.number) t (trees.bytes (unwrap_or (decode pieces) [])))
 string_suits files fs f u types.String s option pieces e =
     entry_suits files fs f kinds.String (trees.bytes (unwrap_or (decode pieces) [])) u
-    (ap kind_of s) (text_is_utf8 option (decode pieces) e)
+    (ap kind_of_field_type s) (text_is_utf8 option (decode pieces) e)
 string_suits files fs f u types.Bytes s option pieces e =
     entry_suits files fs f kinds.Bytes (trees.bytes (unwrap_or (decode pieces) [])) u
-    (ap kind_of s) tt
+    (ap kind_of_field_type s) tt
 string_suits files fs f u _ s option pieces e = absurd cc
 
-abbrev numbers : ℕ → FieldType → Option ℤ → List Item
+abbrev numbers : ℕ → FieldType → Option ℤ → List WireItem
 numbers n t o = flat_map (λ (z : ℤ). item_at n t (trees.number z)) (option_to_list o)
 
 value_name_suits : (files : List FileDescriptor) (fs : List FieldDescriptor) (f : FieldDescriptor)
     → IsUsed fs f → (t : FieldType) → f.type_ ≡ t → (value : Text) (o : Option ℤ)
-    → ((z : ℤ) → o ≡ Some z → FitsSigned w32 z) → value_name_faults f.name (takes t) value o ≡ []
+    → ((z : ℤ) → o ≡ Some z → FitsSigned w32 z) → value_name_faults f.name (type_takes t) value o
+    ≡ []
     → Suits files fs (numbers (nat_abs f.number) t o)
 value_name_suits files fs f u types.Enum s value (Some z) small e =
-    entry_suits files fs f kinds.Enum (trees.number z) u (ap kind_of s)
-    (in_range (shape kinds.Enum) z (small z refl))
+    entry_suits files fs f kinds.Enum (trees.number z) u (ap kind_of_field_type s)
+    (in_range (shape_of_kind kinds.Enum) z (small z refl))
 value_name_suits files fs f u types.Enum s value None small e = tt
 value_name_suits files fs f u _ s value o small e = absurd cc
 
 -- what stands in the message that a field holds
-abbrev Inside : List FileDescriptor → FieldDescriptor → List Item → Type 0
+abbrev Inside : List FileDescriptor → FieldDescriptor → List WireItem → Type 0
 Inside files f items = (name : Text) × (f.type_name ≡ Some name)
     × Enters files name (λ fs. Suit files fs (entries_of_list items))
 
 message_suits : (files : List FileDescriptor) (fs : List FieldDescriptor) (f : FieldDescriptor)
-    → IsUsed fs f → (t : FieldType) → f.type_ ≡ t → (inside : List Fault) (items : List Item)
-    → message_value_faults f.name (takes t) inside ≡ []
+    → IsUsed fs f → (t : FieldType) → f.type_ ≡ t → (inside : List Fault) (items : List WireItem)
+    → message_value_faults f.name (type_takes t) inside ≡ []
     → (f.type_ ≡ types.Message → inside ≡ [] → Inside files f items)
     → Suits files fs (item_at (nat_abs f.number) t (trees.message (entries_of_list items)))
 message_suits files fs f u types.Message s inside items e g =
-    entry_suits files fs f kinds.Message (trees.message (entries_of_list items)) u (ap kind_of s)
+    entry_suits files fs f kinds.Message (trees.message (entries_of_list items)) u
+    (ap kind_of_field_type s)
     (g s e)
 message_suits files fs f u _ s inside items e g = absurd cc
 
 step_suits : (files : List FileDescriptor) (fs : List FieldDescriptor) (f : FieldDescriptor)
     → IsUsed fs f → (t : FieldType) → f.type_ ≡ t
-    → (part : Text) (inside : List Fault) (items : List Item)
-    → step_faults part (takes t) inside ≡ []
+    → (part : Text) (inside : List Fault) (items : List WireItem)
+    → step_faults part (type_takes t) inside ≡ []
     → (f.type_ ≡ types.Message → inside ≡ [] → Inside files f items)
     → Suits files fs (item_at (nat_abs f.number) t (trees.message (entries_of_list items)))
 step_suits files fs f u types.Message s part inside items e g =
-    entry_suits files fs f kinds.Message (trees.message (entries_of_list items)) u (ap kind_of s)
+    entry_suits files fs f kinds.Message (trees.message (entries_of_list items)) u
+    (ap kind_of_field_type s)
     (g s e)
 step_suits files fs f u _ s part inside items e g = absurd cc
 
@@ -235,12 +242,12 @@ no_more [] = refl
 no_more (x ∷ xs) = ap (λ ys. x ∷ ys) (no_more xs)
 
 fields_are : (files : List FileDescriptor) (name : Text) (parts : MessageParts)
-    → messages_of files name ≡ parts ∷ []
-    → fields_at files name ≡ parts.field ++ extensions_of files name
+    → messages_with_name files name ≡ parts ∷ []
+    → fields_at files name ≡ parts.field ++ extensions_extending files name
 fields_are files name parts once =
-    rw once (ap (λ fs. fs ++ extensions_of files name) (no_more parts.field))
+    rw once (ap (λ fs. fs ++ extensions_extending files name) (no_more parts.field))
 
-enters : (files : List FileDescriptor) (name : Text) (items : List Item) → IsEntered files name
+enters : (files : List FileDescriptor) (name : Text) (items : List WireItem) → IsEntered files name
     → Suits files (fields_at files name) items
     → Enters files name (λ fs. Suit files fs (entries_of_list items))
 enters files name items m h =
@@ -257,7 +264,7 @@ named f name e = ap (λ o. unwrap_or o []) e
 
 -- the inside of a field of the message
 held_inside : (at : OptionScope) → IsReadable at → (message : Text) (f : FieldDescriptor)
-    → Among (fields_at at.files message) f → (items : List Item) → f.type_ ≡ types.Message
+    → Among (fields_at at.files message) f → (items : List WireItem) → f.type_ ≡ types.Message
     → Suits at.files (fields_at at.files (type_name_of f)) items → Inside at.files f items
 held_inside at r message f a items s h =
     let held = r.held message f a s in (
@@ -289,7 +296,7 @@ used fs f a e =
 
 -- of the field that is found, if one is
 suit_found : (files : List FileDescriptor) (fs : List FieldDescriptor)
-    (faults : FieldDescriptor → List Fault) (items : FieldDescriptor → List Item)
+    (faults : FieldDescriptor → List Fault) (items : FieldDescriptor → List WireItem)
     (o : Option FieldDescriptor)
     → ((f : FieldDescriptor) → o ≡ Some f → faults f ≡ [] → Suits files fs (items f))
     → flat_map faults (option_to_list o) ≡ [] → Suits files fs (flat_map items (option_to_list o))
@@ -300,7 +307,7 @@ suit_found files fs faults items (Some f) each e =
 field_among : (files : List FileDescriptor) (message name : Text) (f : FieldDescriptor)
     → field_named files message name ≡ Some f → Among (fields_at files message) f
 field_among files message name f e =
-    among_left (extensions_of files message)
+    among_left (extensions_extending files message)
     (found_is (λ (g : FieldDescriptor). bytes_eq g.name name)
     (fields_of_message files message) f e).0
 
@@ -310,7 +317,7 @@ if_extends_is : (files : List FileDescriptor) (message : Text)
     → (d : Declared FieldDescriptor) × (o ≡ Some d) × (d.what ≡ f) × (extends message d.what ≡ true)
 if_extends_is files message None f e = absurd cc
 if_extends_is files message (Some d) f e =
-    at (extends message d.what) (is_message files message) refl e
+    at (extends message d.what) (names_message files message) refl e
   where
     at : (b c : Bool) → extends message d.what ≡ b → cond (b && c) (Some d.what) None ≡ Some f
         → (x : Declared FieldDescriptor) × (Some d ≡ Some x) × (x.what ≡ f)
@@ -350,7 +357,7 @@ split_among (y ∷ xs) ys x (there h) = later (split_among xs ys x h)
 seen_stand : (visible files : List FileDescriptor)
     → ((file : FileDescriptor) → Among visible file → Among files file)
     → (d : Declared FieldDescriptor) → Among (flat_map declared_extensions visible) d
-    → Among (flat_map extensions_in files) d.what
+    → Among (flat_map extensions_declared_in files) d.what
 seen_stand [] files seen d h = elim h [ ]
 seen_stand (file ∷ visible) files seen d h =
     at (split_among (declared_extensions file) (flat_map declared_extensions visible) d h)
@@ -358,9 +365,10 @@ seen_stand (file ∷ visible) files seen d h =
   where
     at : SplitAmong (declared_extensions file) (flat_map declared_extensions visible) d
         → (Among (flat_map declared_extensions visible) d
-        → Among (flat_map extensions_in files) d.what) → Among (flat_map extensions_in files) d.what
+        → Among (flat_map extensions_declared_in files) d.what)
+        → Among (flat_map extensions_declared_in files) d.what
     at (left k) others =
-        among_joined extensions_in files file d.what (seen file here)
+        among_joined extensions_declared_in files file d.what (seen file here)
         (among_mapped (λ (e : Declared FieldDescriptor). e.what) (declared_extensions file) d k)
     at (right k) others = others k
 
@@ -371,7 +379,7 @@ extension_among at r message name f e =
     let a = meaning_declared (flat_map declared_extensions at.visible) at.scope name x.0 x.1 in
     subst (λ g. Among (fields_at at.files message) g) x.2
     (among_right (fields_of_message at.files message)
-    (among_filtered (extends message) (flat_map extensions_in at.files) x.0.what
+    (among_filtered (extends message) (flat_map extensions_declared_in at.files) x.0.what
     (seen_stand at.visible at.files r.seen x.0 a) x.3))
 
 -- the field that a name in a message constant means
@@ -470,9 +478,9 @@ path_suits at r option value message (p ∷ []) e =
 path_suits at r option value message (p ∷ q ∷ ps) e =
     suit_found at.files (fields_at at.files message)
     (λ (g : FieldDescriptor). number_faults g
-    ++ step_faults (part_text p) (takes g.type_)
+    ++ step_faults (part_text p) (type_takes g.type_)
     (path_faults at option value (type_name_of g) (q ∷ ps))) (λ
-    (g : FieldDescriptor). message_item g
+    (g : FieldDescriptor). item_of_message g
     (path_items at value (type_name_of g) (q ∷ ps))) (part_field at message p)
     (λ g h k. step_suits at.files (fields_at at.files message) g
     (used (fields_at at.files message) g (part_among at r message p g h)
@@ -493,34 +501,36 @@ custom_suits at r construct value [] e = tt
 custom_suits at r construct value (direct name ∷ ps) e =
     absurd (plain_step_has_fault construct name e)
 custom_suits at r construct value (extension name ∷ ps) e =
-    path_suits at r (path_text (extension name ∷ ps)) value (options_message construct)
+    path_suits at r (option_path_text (extension name ∷ ps)) value (options_message construct)
     (extension name ∷ ps) e
 
 named_suits : (at : OptionScope) → IsReadable at
     → (construct : Construct) (value : ConstantSyntax) (name : OptionNameSyntax)
-    → named_faults at construct value name ≡ []
+    → custom_name_faults at construct value name ≡ []
     → Suits at.files (fields_at at.files (options_message construct))
     (named_items at (options_message construct) value name)
 named_suits at r construct value (builtin name) e = tt
 named_suits at r construct value (custom parts) e = custom_suits at r construct value parts e
 
 all_suit : (at : OptionScope) → IsReadable at → (construct : Construct) (os : List OptionSyntax)
-    → statement_faults at construct os ≡ []
+    → custom_statement_faults at construct os ≡ []
     → Suits at.files (fields_at at.files (options_message construct))
-    (flat_map (option_items at construct) os)
+    (flat_map (items_of_option at construct) os)
 all_suit at r construct [] e = tt
 all_suit at r construct (o ∷ os) e =
     suit_append at.files (fields_at at.files (options_message construct))
-    (option_items at construct o) (flat_map (option_items at construct) os)
+    (items_of_option at construct o) (flat_map (items_of_option at construct) os)
     (named_suits at r construct o.value o.name
-    (no_left (named_faults at construct o.value o.name) (statement_faults at construct os) e))
+    (no_left (custom_name_faults at construct o.value o.name)
+    (custom_statement_faults at construct os) e))
     (all_suit at r construct os
-    (no_right (named_faults at construct o.value o.name) (statement_faults at construct os) e))
+    (no_right (custom_name_faults at construct o.value o.name)
+    (custom_statement_faults at construct os) e))
 
 -- ---- the law
 
 pub options_are_read : OptionsAreRead
 options_are_read at construct os bs r m none shallow short spelled =
     again.spelled_is_read at.files (options_message construct) (denotes at construct os) bs short
-    (enters at.files (options_message construct) (flat_map (option_items at construct) os) m
+    (enters at.files (options_message construct) (flat_map (items_of_option at construct) os) m
     (all_suit at r construct os none)) shallow spelled

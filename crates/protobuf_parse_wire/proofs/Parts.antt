@@ -19,11 +19,12 @@ use Rattle.protobuf_parse_model.specs.Descriptors.{Text, FieldDescriptor}
 use Rattle.protobuf_parse_wire.specs.CustomFaults.{value_faults, list_faults, field_faults}
 use Rattle.protobuf_parse_wire.specs.CustomFaults.{message_value_faults, part_faults, path_faults}
 use Rattle.protobuf_parse_wire.specs.CustomOptions.{value_items, list_items, field_items}
-use Rattle.protobuf_parse_wire.specs.CustomOptions.{message_item, path_items}
-use Rattle.protobuf_parse_wire.specs.Given.{field_faults_of, field_items_of, through_faults}
+use Rattle.protobuf_parse_wire.specs.CustomOptions.{item_of_message, path_items}
+use Rattle.protobuf_parse_wire.specs.Given.{field_faults_of, given_field_items, through_faults}
 use Rattle.protobuf_parse_wire.specs.Given.{through_items}
-use Rattle.protobuf_parse_wire.specs.OptionFields.{OptionScope, part_field, takes, type_name_of}
-use Rattle.protobuf_parse_wire.specs.Views.{Item}
+use Rattle.protobuf_parse_wire.specs.OptionFields.{OptionScope, part_field, type_takes}
+use Rattle.protobuf_parse_wire.specs.OptionFields.{type_name_of}
+use Rattle.protobuf_parse_wire.specs.Views.{WireItem}
 
 pub list_faults_are : (at : OptionScope) (option : Text) (f : FieldDescriptor)
     (cs : List ConstantSyntax) → list_faults at option f (constants cs) ≡ flat_map
@@ -45,9 +46,9 @@ field_faults_are at option message (f ∷ fs) = ap
     (λ xs. field_faults_of at option message f ++ xs) (field_faults_are at option message fs)
 
 pub field_items_are : (at : OptionScope) (message : Text) (fs : List ConstantFieldSyntax)
-    → field_items at message (constant_fields fs) ≡ flat_map (field_items_of at message) fs
+    → field_items at message (constant_fields fs) ≡ flat_map (given_field_items at message) fs
 field_items_are at message [] = refl
-field_items_are at message (f ∷ fs) = ap (λ xs. field_items_of at message f ++ xs)
+field_items_are at message (f ∷ fs) = ap (λ xs. given_field_items at message f ++ xs)
     (field_items_are at message fs)
 
 -- where the field is known
@@ -58,9 +59,9 @@ of_known give (Some y) x e = let p : x ≡ y = cc in append-nil (give y) ∙ ap 
 
 -- ---- what the code holds of them
 
-pub list_given : {X : Type 0} (view : X → List Item) (r : Result X ElabFailure)
+pub list_given : {X : Type 0} (view : X → List WireItem) (r : Result X ElabFailure)
     (at : OptionScope) (option : Text) (f : FieldDescriptor) (c : ProtobufConstant)
-    (v : Vec ProtobufConstant) (xs : List ProtobufConstant) (old : List Item)
+    (v : Vec ProtobufConstant) (xs : List ProtobufConstant) (old : List WireItem)
     → c ≡ Constants v → xs ≡ v.items
     → Elaborates view r (flat_map (value_faults at option f) (map constant_view xs))
     (old ++ flat_map (value_items at f) (map constant_view xs))
@@ -77,18 +78,18 @@ list_given view r at option f c v xs old is same h =
     let all = subst (λ (ys : List ProtobufConstant). Elaborates view r
     (flat_map (value_faults at option f) (map constant_view ys))
     (old ++ flat_map (value_items at f) (map constant_view ys))) same h in
-    subst (λ (items : List Item). Elaborates view r (value_faults at option f (constant_view c))
+    subst (λ (items : List WireItem). Elaborates view r (value_faults at option f (constant_view c))
     (old ++ items)) vs
     (subst (λ (faults : List Fault). Elaborates view r faults
     (old ++ flat_map (value_items at f) cs)) fs all)
 
-pub message_given : {X : Type 0} (view : X → List Item) (r : Result X ElabFailure)
+pub message_given : {X : Type 0} (view : X → List WireItem) (r : Result X ElabFailure)
     (at : OptionScope) (option : Text) (f : FieldDescriptor) (c : ProtobufConstant)
-    (v : Vec ConstantField) (xs : List ConstantField) (old : List Item)
+    (v : Vec ConstantField) (xs : List ConstantField) (old : List WireItem)
     → c ≡ Fields v → xs ≡ v.items
-    → Elaborates view r (message_value_faults f.name (takes f.type_)
+    → Elaborates view r (message_value_faults f.name (type_takes f.type_)
     (flat_map (field_faults_of at option (type_name_of f)) (map constant_field_view xs)))
-    (old ++ message_item f (flat_map (field_items_of at (type_name_of f))
+    (old ++ item_of_message f (flat_map (given_field_items at (type_name_of f))
     (map constant_field_view xs)))
     → Elaborates view r (value_faults at option f (constant_view c))
     (old ++ value_items at f (constant_view c))
@@ -96,22 +97,22 @@ message_given view r at option f c v xs old is same h =
     let cs = map constant_field_view v.items in
     let name = type_name_of f in
     let e : constant_view c ≡ fields (constant_fields cs) = ap constant_view is ∙ views_fields v in
-    let fs : message_value_faults f.name (takes f.type_)
+    let fs : message_value_faults f.name (type_takes f.type_)
     (flat_map (field_faults_of at option name) cs) ≡ value_faults at option f
     (constant_view c) = sym (ap (value_faults at option f) e ∙ ap
-    (message_value_faults f.name (takes f.type_)) (field_faults_are at option name cs)) in
-    let vs : message_item f (flat_map (field_items_of at name) cs) ≡ value_items at f
-    (constant_view c) = sym (ap (value_items at f) e ∙ ap (message_item f)
+    (message_value_faults f.name (type_takes f.type_)) (field_faults_are at option name cs)) in
+    let vs : item_of_message f (flat_map (given_field_items at name) cs) ≡ value_items at f
+    (constant_view c) = sym (ap (value_items at f) e ∙ ap (item_of_message f)
     (field_items_are at name cs)) in
     let all = subst (λ (ys : List ConstantField). Elaborates view r
-    (message_value_faults f.name (takes f.type_)
+    (message_value_faults f.name (type_takes f.type_)
     (flat_map (field_faults_of at option name) (map constant_field_view ys)))
-    (old ++ message_item f (flat_map (field_items_of at name)
+    (old ++ item_of_message f (flat_map (given_field_items at name)
     (map constant_field_view ys)))) same h in
-    subst (λ (items : List Item). Elaborates view r (value_faults at option f (constant_view c))
+    subst (λ (items : List WireItem). Elaborates view r (value_faults at option f (constant_view c))
     (old ++ items)) vs
     (subst (λ (faults : List Fault). Elaborates view r faults
-    (old ++ message_item f (flat_map (field_items_of at name) cs))) fs all)
+    (old ++ item_of_message f (flat_map (given_field_items at name) cs))) fs all)
 
 -- whether parts follow
 abbrev pub none_follow : List ProtobufOptionNamePart → Bool
@@ -119,9 +120,10 @@ none_follow [] = true
 none_follow (y ∷ ys) = false
 
 -- a part that others follow
-pub path_long : {X : Type 0} (view : X → List Item) (r : Result X ElabFailure) (at : OptionScope)
+pub path_long : {X : Type 0} (view : X → List WireItem) (r : Result X ElabFailure)
+    (at : OptionScope)
     (option : Text) (value : ConstantSyntax) (message : Text) (xs : List ProtobufOptionNamePart)
-    (x : ProtobufOptionNamePart) (ys : List ProtobufOptionNamePart) (old : List Item)
+    (x : ProtobufOptionNamePart) (ys : List ProtobufOptionNamePart) (old : List WireItem)
     → xs ≡ x ∷ ys → none_follow ys ≡ false
     → Elaborates view r (part_faults at message (option_part_view x) ++ flat_map
     (through_faults at option value (option_part_view x) (map option_part_view ys))
@@ -140,9 +142,9 @@ follow : (ys : List ProtobufOptionNamePart) → (length ys == 0) ≡ false → n
 follow [] e = absurd cc
 follow (y ∷ ys) e = refl
 
-pub path_given : {X : Type 0} (view : X → List Item) (r : Result X ElabFailure)
+pub path_given : {X : Type 0} (view : X → List WireItem) (r : Result X ElabFailure)
     (at : OptionScope) (option : Text) (value : ConstantSyntax) (message : Text)
-    (xs : List ProtobufOptionNamePart) (x : ProtobufOptionNamePart) (old : List Item)
+    (xs : List ProtobufOptionNamePart) (x : ProtobufOptionNamePart) (old : List WireItem)
     → x ≡ get_or xs 0 x → (length (take (length xs - 1) (drop 1 xs)) == 0) ≡ false
     → Elaborates view r (part_faults at message (option_part_view x) ++ flat_map
     (through_faults at option value (option_part_view x)

@@ -8,19 +8,22 @@ use Rattle.std.proofs.lemmas.List.{map-append}
 use Rattle.protobuf_parse_model.specs.Declarations.{Declared}
 use Rattle.protobuf_parse_model.specs.Descriptors.{Text, FileDescriptor, MessageParts}
 use Rattle.protobuf_parse_model.specs.Descriptors.{MessageDescriptor, MessageDescriptors, a_message}
-use Rattle.protobuf_parse_model.specs.Descriptors.{no_messages, messages, messages_of_list, list_of}
+use Rattle.protobuf_parse_model.specs.Descriptors.{no_messages, messages, messages_of_list}
+use Rattle.protobuf_parse_model.specs.Descriptors.{messages_list}
 use Rattle.protobuf_parse_model.specs.Descriptors.{list_of_is, message_parts, message_view}
 use Rattle.protobuf_parse_model.specs.Descriptors.{message_view_is}
 use Rattle.protobuf_parse_model.specs.declared.descriptor.DescriptorProto.{DescriptorProto}
 use Rattle.protobuf_parse_model.specs.declared.descriptor.DescriptorProto.{out-DescriptorProto}
-use Rattle.protobuf_parse_wire.specs.Declarations.{Declaration, declared_extensions, declared_in}
+use Rattle.protobuf_parse_wire.specs.Declarations.{Declaration, declared_extensions}
+use Rattle.protobuf_parse_wire.specs.Declarations.{messages_declared_in}
 use Rattle.protobuf_parse_wire.specs.Declarations.{declared_message, declared_messages}
-use Rattle.protobuf_parse_wire.specs.Declarations.{package_scope, within}
+use Rattle.protobuf_parse_wire.specs.Declarations.{package_scope, name_within}
 use Rattle.protobuf_parse_wire.specs.Indexed.{parts_seen}
 use Rattle.protobuf_parse_wire.specs.OptionFields.{declared_enums}
 use Rattle.protobuf_parse_wire.specs.Places.{Inside, Placed, down, enum_name, enums_inside}
 use Rattle.protobuf_parse_wire.specs.Places.{extensions_inside, field_name, inside_file}
-use Rattle.protobuf_parse_wire.specs.Places.{inside_message, messages_inside, next_inside, one_of}
+use Rattle.protobuf_parse_wire.specs.Places.{inside_message, messages_inside, next_inside}
+use Rattle.protobuf_parse_wire.specs.Places.{one_inside}
 use Rattle.protobuf_parse_wire.specs.Places.{path_to, placed_each, placed_enums, placed_extensions}
 use Rattle.protobuf_parse_wire.specs.Places.{placed_in, placed_inside, placed_list, placed_message}
 use Rattle.protobuf_parse_wire.specs.Places.{placed_messages, placed_nested}
@@ -35,7 +38,7 @@ down-push inside (i ∷ path) index = down-push (next_inside inside i) path inde
 
 -- the message with this number is the way to what stands in it
 next_is : (inside : Option Inside) (index : ℕ) (m : MessageDescriptor)
-    → one_of messages_inside inside index ≡ Some m
+    → one_inside messages_inside inside index ≡ Some m
     → next_inside inside index ≡ Some (inside_message m)
 next_is None index m e = absurd cc
 next_is (Some inside) index m e = ap (option_map inside_message) e
@@ -74,37 +77,38 @@ all_rest all i = ap (slice_get all) (zero-add i)
 module _ (start : Option Inside) where
   -- it stands at its place
   abbrev Stands : {T : Type 0} → (Inside → List T) → Placed T → Type 0
-  Stands list p = one_of list (down start p.path) p.index ≡ Some p.what
+  Stands list p = one_inside list (down start p.path) p.index ≡ Some p.what
 
   at_rest : {T : Type 0} (list : Inside → List T) (path : List ℕ) (inside : Inside)
       → down start path ≡ Some inside → (n : ℕ) (x : T) → slice_get (list inside) n ≡ Some x
-      → one_of list (down start path) n ≡ Some x
-  at_rest list path inside e n x is = ap (λ o. one_of list o n) e ∙ is
+      → one_inside list (down start path) n ≡ Some x
+  at_rest list path inside e n x is = ap (λ o. one_inside list o n) e ∙ is
 
   mutual
     message_stands : (scope : Text) (path : List ℕ) (index : ℕ) (m : MessageDescriptor)
-        → one_of messages_inside (down start path) index ≡ Some m
+        → one_inside messages_inside (down start path) index ≡ Some m
         → AllByRecursion (Stands messages_inside) (placed_message scope path index m)
     message_stands scope path index (a_message parts nested) e =
         let inside = inside_message (a_message parts nested) in (
           e,
-          nested_stand (within scope parts.name) (path ++ index ∷ []) inside
+          nested_stand (name_within scope parts.name) (path ++ index ∷ []) inside
               (down-push start path index
               ∙ next_is (down start path) index (a_message parts nested) e)
-              0 nested (all_rest (list_of nested)),
+              0 nested (all_rest (messages_list nested)),
         )
 
     nested_stand : (scope : Text) (path : List ℕ) (inside : Inside) → down start path ≡ Some inside
-        → (n : ℕ) (ms : MessageDescriptors) → Rest inside.messages n (list_of ms)
+        → (n : ℕ) (ms : MessageDescriptors) → Rest inside.messages n (messages_list ms)
         → AllByRecursion (Stands messages_inside) (placed_nested scope path n ms)
     nested_stand scope path inside e n no_messages h = tt
     nested_stand scope path inside e n (messages m ms) h =
         both (Stands messages_inside) (placed_message scope path n m)
         (placed_nested scope path (suc n) ms)
         (message_stands scope path n m
-        (at_rest messages_inside path inside e n m (rest_first inside.messages n m (list_of ms) h)))
+        (at_rest messages_inside path inside e n m
+        (rest_first inside.messages n m (messages_list ms) h)))
         (nested_stand scope path inside e (suc n) ms
-        (rest_next inside.messages n m (list_of ms) h))
+        (rest_next inside.messages n m (messages_list ms) h))
 
   list_stands : (scope : Text) (path : List ℕ) (inside : Inside) → down start path ≡ Some inside
       → (n : ℕ) (ms : List MessageDescriptor) → Rest inside.messages n ms
@@ -174,8 +178,8 @@ mutual
   message_without : (scope : Text) (path : List ℕ) (index : ℕ) (m : MessageDescriptor)
       → map message_of (placed_message scope path index m) ≡ declared_message scope m
   message_without scope path index (a_message parts nested) =
-      ap (λ ds. record { name = within scope parts.name; parts = parts } ∷ ds)
-      (nested_without (within scope parts.name) (path ++ index ∷ []) 0 nested)
+      ap (λ ds. record { name = name_within scope parts.name; parts = parts } ∷ ds)
+      (nested_without (name_within scope parts.name) (path ++ index ∷ []) 0 nested)
 
   nested_without : (scope : Text) (path : List ℕ) (n : ℕ) (ms : MessageDescriptors)
       → map message_of (placed_nested scope path n ms) ≡ declared_messages scope ms
@@ -196,12 +200,12 @@ list_without scope path n (m ∷ ms) =
     ∙ ap (λ ds. declared_message scope m ++ ds) (list_without scope path (suc n) ms)
 
 pub messages_without : (file : FileDescriptor)
-    → map message_of (placed_messages file) ≡ declared_in file
+    → map message_of (placed_messages file) ≡ messages_declared_in file
 messages_without file = list_without (package_scope file.«package») [] 0 file.message_type
 
 module _ {T : Type 0} (name_of : T → Text) where
   abbrev whole : Text → T → Declared T
-  whole scope x = record { name = within scope (name_of x); what = x }
+  whole scope x = record { name = name_within scope (name_of x); what = x }
 
   each_without : (scope : Text) (path : List ℕ) (n : ℕ) (xs : List T)
       → map declared_of (placed_each name_of scope path n xs) ≡ map (whole scope) xs
@@ -225,7 +229,8 @@ module _ {T : Type 0} (name_of : T → Text) where
         ∙ ap (λ ds. map (whole m.name) (list_in (parts_seen m.what)) ++ ds) (inside_without ms)
 
     placed_without : (file : FileDescriptor) → map declared_of (placed_in name_of list file)
-        ≡ flat_map (λ (d : Declaration). map (whole d.name) (list_in d.parts)) (declared_in file)
+        ≡ flat_map (λ (d : Declaration). map (whole d.name) (list_in d.parts))
+        (messages_declared_in file)
         ++ map (whole (package_scope file.«package»)) (list (inside_file file))
     placed_without file =
         let scope = package_scope file.«package» in
@@ -234,7 +239,7 @@ module _ {T : Type 0} (name_of : T → Text) where
         map-append declared_of (placed_inside name_of list (placed_messages file)) own
         ∙ ap (λ ds. ds ++ map declared_of own)
         (inside_without (placed_messages file) ∙ ap (flat_map each) (messages_without file))
-        ∙ ap (λ ds. flat_map each (declared_in file) ++ ds)
+        ∙ ap (λ ds. flat_map each (messages_declared_in file) ++ ds)
         (each_without scope [] 0 (list (inside_file file)))
 
 enums_same : (m : MessageDescriptor) → enums_inside (inside_message m) ≡ (parts_seen m).enum_type
@@ -265,7 +270,7 @@ nested_is scope path n (m ∷ ms) = ap (λ ps. placed_message scope path n m ++ 
 -- a message, then those inside it
 parts_listed : (scope name : Text) (path : List ℕ) (index : ℕ) (m : MessageDescriptor)
     (parts : MessageParts) (ms : List MessageDescriptor) (old new : List (Placed MessageDescriptor))
-    → m ≡ a_message parts (messages_of_list ms) → name ≡ within scope parts.name
+    → m ≡ a_message parts (messages_of_list ms) → name ≡ name_within scope parts.name
     → new ≡ (old ++ record { name = name; path = path; index = index; what = m } ∷ [])
     ++ placed_list name (path ++ index ∷ []) 0 ms
     → new ≡ old ++ placed_message scope path index m
@@ -285,7 +290,7 @@ parts_listed scope name path index m parts ms old new apart named is =
     head n x = record { name = n; path = path; index = index; what = x }
 
 pub message_listed : (scope name : Text) (path : List ℕ) (index : ℕ) (m : DescriptorProto)
-    (old new : List (Placed MessageDescriptor)) → name ≡ within scope (message_parts m).name
+    (old new : List (Placed MessageDescriptor)) → name ≡ name_within scope (message_parts m).name
     → new ≡ (old ++ record {
       name = name;
       path = path;

@@ -13,20 +13,21 @@ use Rattle.protobuf_parse_model.specs.declared.error.ElabErrorKind.TheVariants.{
 use Rattle.protobuf_parse_model.specs.Duplicates.{fault_when}
 use Rattle.protobuf_parse_model.specs.Declarations.{Declared}
 use Rattle.protobuf_parse_model.specs.declared.customs.Construct.{Construct}
-use Rattle.protobuf_parse_model.specs.Environment.{path_text}
+use Rattle.protobuf_parse_model.specs.Environment.{option_path_text}
 use Rattle.protobuf_parse_model.specs.Faults.{Among, here, there}
 use Rattle.protobuf_parse_model.specs.FilesByPath.{Trees, among}
 use Rattle.protobuf_parse_model.specs.OptionSets.{OptionSet, option_sets}
 use Rattle.protobuf_parse_model.proofs.Orders.{same-text}
-use Rattle.protobuf_parse_wire.specs.Declarations.{Declaration, declared_in, extends}
+use Rattle.protobuf_parse_wire.specs.Declarations.{Declaration, messages_declared_in, extends}
 use Rattle.protobuf_parse_wire.specs.Law.{depth}
 use Rattle.protobuf_parse_wire.specs.OptionLaw.{IsEntered, HasSmallValues, IsReadable}
-use Rattle.protobuf_parse_wire.specs.OptionFields.{OptionScope, options_message, is_message}
+use Rattle.protobuf_parse_wire.specs.OptionFields.{OptionScope, options_message, names_message}
 use Rattle.protobuf_parse_wire.specs.OptionFields.{extension_meant, part_field}
-use Rattle.protobuf_parse_wire.specs.CustomFaults.{extension_faults, number_faults, value_faults}
-use Rattle.protobuf_parse_wire.specs.CustomFaults.{path_faults, custom_faults, named_faults}
-use Rattle.protobuf_parse_wire.specs.CustomFaults.{statement_faults}
-use Rattle.protobuf_parse_wire.specs.CustomOptions.{named_items, option_items, denotes, scope_of}
+use Rattle.protobuf_parse_wire.specs.CustomFaults.{extension_name_faults, number_faults}
+use Rattle.protobuf_parse_wire.specs.CustomFaults.{value_faults}
+use Rattle.protobuf_parse_wire.specs.CustomFaults.{path_faults, custom_faults, custom_name_faults}
+use Rattle.protobuf_parse_wire.specs.CustomFaults.{custom_statement_faults}
+use Rattle.protobuf_parse_wire.specs.CustomOptions.{named_items, items_of_option, denotes, scope_of}
 use Rattle.protobuf_parse_wire.specs.Encoded.{encoded}
 use Rattle.protobuf_parse_wire.specs.Views.{entries_of_list}
 use Rattle.protobuf_parse_wire.specs.NamesAlike.{HasPackageName}
@@ -62,10 +63,11 @@ message_stands name (x ∷ ds) h =
 
 -- an extension without faults extends a message
 extends_one : (files : List FileDescriptor) (message name : Text)
-    (o : Option (Declared FieldDescriptor)) → extension_faults files message name o ≡ []
-    → is_message files message ≡ true
+    (o : Option (Declared FieldDescriptor)) → extension_name_faults files message name o ≡ []
+    → names_message files message ≡ true
 extends_one files message name None h = absurd cc
-extends_one files message name (Some d) h = at (extends message d.what) (is_message files message) h
+extends_one files message name (Some d) h =
+    at (extends message d.what) (names_message files message) h
   where
     at : (a b : Bool) → fault_when (not (a && b)) WrongExtensionType name ≡ [] → b ≡ true
     at true true k = refl
@@ -75,37 +77,37 @@ extends_one files message name (Some d) h = at (extends message d.what) (is_mess
 -- in the first part of a name without faults
 first_extends : (at : OptionScope) (option : Text) (value : ConstantSyntax) (message name : Text)
     (ps : List OptionPartSyntax) → path_faults at option value message (extension name ∷ ps) ≡ []
-    → is_message at.files message ≡ true
+    → names_message at.files message ≡ true
 first_extends at option value message name [] h =
     extends_one at.files message name (extension_meant at name)
-    (no_left (extension_faults at.files message name (extension_meant at name))
+    (no_left (extension_name_faults at.files message name (extension_meant at name))
     (flat_map (λ (g : FieldDescriptor). number_faults g ++ value_faults at option g value)
     (option_to_list (part_field at message (extension name)))) h)
 first_extends at option value message name (q ∷ ps) h =
     extends_one at.files message name (extension_meant at name)
-    (no_left (extension_faults at.files message name (extension_meant at name)) _ h)
+    (no_left (extension_name_faults at.files message name (extension_meant at name)) _ h)
 
 -- a custom option without faults is one of a message
 custom_of_message : (at : OptionScope) (construct : Construct) (value : ConstantSyntax)
     (part : OptionPartSyntax) (parts : List OptionPartSyntax)
     → custom_faults at construct value (part ∷ parts) ≡ []
-    → is_message at.files (options_message construct) ≡ true
+    → names_message at.files (options_message construct) ≡ true
 custom_of_message at construct value (direct name) parts h =
     absurd (plain_step_has_fault construct name h)
 custom_of_message at construct value (extension name) parts h =
-    first_extends at (path_text (extension name ∷ parts)) value
+    first_extends at (option_path_text (extension name ∷ parts)) value
     (options_message construct) name parts h
 
 set_of_message : (at : OptionScope) (construct : Construct) (os : List OptionSyntax)
-    → statement_faults at construct os ≡ [] → HasCustom os
-    → is_message at.files (options_message construct) ≡ true
+    → custom_statement_faults at construct os ≡ [] → HasCustom os
+    → names_message at.files (options_message construct) ≡ true
 set_of_message at construct os none has =
     let o : OptionSyntax = has.0 in
-    let clean : named_faults at construct o.value o.name
-    ≡ [] = none_of (λ (x : OptionSyntax). named_faults at construct x.value x.name) os o has.1
+    let clean : custom_name_faults at construct o.value o.name
+    ≡ [] = none_of (λ (x : OptionSyntax). custom_name_faults at construct x.value x.name) os o has.1
     none in
     custom_of_message at construct o.value has.2 has.3
-    (subst (λ (n : OptionNameSyntax). named_faults at construct o.value n ≡ []) has.4 clean)
+    (subst (λ (n : OptionNameSyntax). custom_name_faults at construct o.value n ≡ []) has.4 clean)
 
 -- ---- the law
 
@@ -141,9 +143,9 @@ module _ (trees : Trees) (sees : Text → List Text) (reached : List Text)
   readable p listed s =
       record { small = small; seen = seen p listed; held = held_entered trees sees reached r named }
 
-  entered : (message : Text) → is_message files message ≡ true → IsEntered files message
+  entered : (message : Text) → names_message files message ≡ true → IsEntered files message
   entered message is =
-      let d = message_stands message (flat_map declared_in files) is in
+      let d = message_stands message (flat_map messages_declared_in files) is in
       subst (λ (n : Text). IsEntered files n) d.2
       (declared_entered trees sees reached r named d.0 d.1)
 
@@ -152,9 +154,9 @@ options_are_recovered trees sees reached p t s r listed has_tree none stands has
     let files : List FileDescriptor = plain_at trees sees reached in
     let visible : List FileDescriptor = plain_at trees sees (sees p) in
     let at : OptionScope = scope_of files visible s in
-    let clean : statement_faults at s.construct s.statements
+    let clean : custom_statement_faults at s.construct s.statements
     ≡ [] = none_of
-    (λ (x : OptionSet). statement_faults (scope_of files visible x) x.construct x.statements)
+    (λ (x : OptionSet). custom_statement_faults (scope_of files visible x) x.construct x.statements)
     (option_sets t) s stands none in
     let text = r.texts p t listed has_tree in
     let few : depth (denotes at s.construct s.statements)
@@ -180,10 +182,10 @@ nothing_named at message value (custom []) plain = refl
 nothing_named at message value (custom (part ∷ parts)) plain = absurd (plain part parts refl)
 
 nothing_set : (at : OptionScope) (construct : Construct) (os : List OptionSyntax)
-    → (HasCustom os → ⊥) → flat_map (option_items at construct) os ≡ []
+    → (HasCustom os → ⊥) → flat_map (items_of_option at construct) os ≡ []
 nothing_set at construct [] plain = refl
 nothing_set at construct (o ∷ os) plain =
-    ap (λ items. items ++ flat_map (option_items at construct) os)
+    ap (λ items. items ++ flat_map (items_of_option at construct) os)
     (nothing_named at (options_message construct) o.value o.name
     (λ part parts e. plain (o, here, part, parts, e)))
     ∙ nothing_set at construct os (λ has. plain (has.0, there has.1, has.2, has.3, has.4))

@@ -12,7 +12,7 @@ use Rattle.protobuf_parse_model.specs.FilesByPath.{Trees, among, trees_at}
 use Rattle.protobuf_parse_model.specs.Linking.{link_faults}
 use Rattle.protobuf_parse_model.specs.OptionSets.{OptionSet, option_sets}
 use Rattle.protobuf_parse_model.proofs.Orders.{first-among}
-use Rattle.protobuf_parse_wire.specs.CustomFaults.{statement_faults, option_faults}
+use Rattle.protobuf_parse_wire.specs.CustomFaults.{custom_statement_faults, custom_option_faults}
 use Rattle.protobuf_parse_wire.specs.CustomOptions.{scope_of}
 use Rattle.protobuf_parse_wire.specs.DescriptorsByPath.{Environments, described_at, descriptors_at}
 use Rattle.protobuf_parse_wire.specs.DescriptorsByPath.{HasFileScopes, AreWithin}
@@ -114,7 +114,8 @@ module _ (trees : Trees) (sees : Text → List Text) (reached more : List Text)
       (ap link_faults (trees_only trees more) ∙ r.once) visible scope))
 
   keeps_set : (visible : List FileDescriptor) (s : OptionSet)
-      → statement_faults (scope_of (plain_at trees sees reached) visible s) s.construct s.statements
+      → custom_statement_faults (scope_of (plain_at trees sees reached) visible s) s.construct
+      s.statements
       ≡ [] → KeepsMeaning (scope_of (plain_at trees sees reached) visible s)
       (scope_of (plain_at trees sees more) visible s) s.construct s.statements
   keeps_set visible s clean =
@@ -129,10 +130,10 @@ options_are_recovered_above trees sees reached more p t s r within listed has_tr
     let all : List FileDescriptor = plain_at trees sees more in
     let visible : List FileDescriptor = plain_at trees sees (sees p) in
     let was : OptionSet → List Fault = λ x.
-    statement_faults (scope_of files visible x) x.construct x.statements in
+    custom_statement_faults (scope_of files visible x) x.construct x.statements in
     let still : OptionSet → List Fault = λ x.
-    statement_faults (scope_of all visible x) x.construct x.statements in
-    let clean : option_faults all visible t
+    custom_statement_faults (scope_of all visible x) x.construct x.statements in
+    let clean : custom_option_faults all visible t
     ≡ [] = none_each was still
     (λ x h. (keeps_set trees sees reached more r within visible x h).faultless)
     (option_sets t) none in

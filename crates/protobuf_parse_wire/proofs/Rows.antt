@@ -30,7 +30,7 @@ use Rattle.protobuf_parse_wire.specs.Wire.{Spells}
 use Rattle.protobuf_parse_wire.specs.Encoded.{varint_within, encoded}
 use Rattle.protobuf_parse_wire.specs.OptionFields.{OptionScope}
 use Rattle.protobuf_parse_wire.specs.CustomOptions.{denotes}
-use Rattle.protobuf_parse_wire.specs.CustomFaults.{statement_faults}
+use Rattle.protobuf_parse_wire.specs.CustomFaults.{custom_statement_faults}
 
 -- ---- trees; where their parts stand says nothing
 
@@ -100,7 +100,7 @@ minus_one_denotes : denotes here of.File minus_one
     ≡ entry 50001 kinds.Sint32 (trees.number (negsuc 0)) no_entries
 minus_one_denotes = refl
 
-minus_one_has_no_fault : statement_faults here of.File minus_one ≡ []
+minus_one_has_no_fault : custom_statement_faults here of.File minus_one ≡ []
 minus_one_has_no_fault = refl
 
 -- 88 b5 18 01
@@ -140,11 +140,11 @@ least_denotes : denotes here of.File least
     ≡ entry 50001 kinds.Sint32 (trees.number (negsuc 2147483647)) no_entries
 least_denotes = refl
 
-least_has_no_fault : statement_faults here of.File least ≡ []
+least_has_no_fault : custom_statement_faults here of.File least ≡ []
 least_has_no_fault = refl
 
 -- option (o) = 2147483648;
-too_large_is_told : statement_faults here of.File
+too_large_is_told : custom_statement_faults here of.File
     (set (extension (codes "o") ∷ []) (integer (pos 2147483648)))
     ≡ record { kind = error.IntegerOutOfRange; what = codes "o" } ∷ []
 too_large_is_told = refl
@@ -166,7 +166,8 @@ constant_denotes : denotes here of.Message (set (extension (codes "m") ∷ []) c
 unfolding decode_piece front_part byte_part digits_end
 constant_denotes = refl
 
-constant_has_no_fault : statement_faults here of.Message (set (extension (codes "m") ∷ []) constant)
+constant_has_no_fault : custom_statement_faults here of.Message
+    (set (extension (codes "m") ∷ []) constant)
     ≡ []
 unfolding decode_piece front_part byte_part digits_end chars is_utf8 lib.Utf8.encode
 constant_has_no_fault = refl
@@ -188,26 +189,27 @@ empty_list_denotes = refl
 
 -- ---- names that mean nothing
 
-unknown_extension_is_told : statement_faults here of.File
+unknown_extension_is_told : custom_statement_faults here of.File
     (set (extension (codes "nope") ∷ []) (integer (pos 1)))
     ≡ record { kind = error.ExtensionNotFound; what = codes "nope" } ∷ []
 unknown_extension_is_told = refl
 
-other_message_is_told : statement_faults here of.File (set (extension (codes "m") ∷ []) constant)
+other_message_is_told : custom_statement_faults here of.File
+    (set (extension (codes "m") ∷ []) constant)
     ≡ record { kind = error.WrongExtensionType; what = codes "m" } ∷ []
 other_message_is_told = refl
 
-no_message_is_told : statement_faults here of.File
+no_message_is_told : custom_statement_faults here of.File
     (set (extension (codes "o") ∷ direct (codes "s") ∷ []) (integer (pos 1)))
     ≡ record { kind = error.ExtensionIsNotMessage; what = codes "(o)" } ∷ []
 no_message_is_told = refl
 
-builtin_is_no_message : statement_faults here of.File
+builtin_is_no_message : custom_statement_faults here of.File
     (set (direct (codes "java_package") ∷ direct (codes "s") ∷ []) (integer (pos 1)))
     ≡ record { kind = error.ExtensionIsNotMessage; what = codes "java_package" } ∷ []
 builtin_is_no_message = refl
 
-unknown_field_is_told : statement_faults here of.Message
+unknown_field_is_told : custom_statement_faults here of.Message
     (set (extension (codes "m") ∷ direct (codes "t") ∷ []) (integer (pos 1)))
     ≡ record { kind = error.UnknownFieldName; what = codes "t" } ∷ []
 unknown_field_is_told = refl
@@ -253,20 +255,20 @@ value_is_its_number : denotes in_package of.File (outer_e (codes "B"))
     ≡ entry 50005 kinds.Enum (trees.number (negsuc 0)) no_entries
 value_is_its_number = refl
 
-value_has_no_fault : statement_faults in_package of.File (outer_e (codes "B")) ≡ []
+value_has_no_fault : custom_statement_faults in_package of.File (outer_e (codes "B")) ≡ []
 value_has_no_fault = refl
 
-unknown_value_is_told : statement_faults in_package of.File (outer_e (codes "C"))
+unknown_value_is_told : custom_statement_faults in_package of.File (outer_e (codes "C"))
     ≡ record { kind = error.UnknownEnumValue; what = codes "C" } ∷ []
 unknown_value_is_told = refl
 
-number_is_no_value : statement_faults in_package of.File
+number_is_no_value : custom_statement_faults in_package of.File
     (set (extension (codes "Outer.e") ∷ []) (integer (pos 0)))
     ≡ record { kind = error.UnsupportedExtensionType; what = codes "e" } ∷ []
 number_is_no_value = refl
 
 -- an extension of a file that isn't seen
-unseen_is_not_found : statement_faults
+unseen_is_not_found : custom_statement_faults
     (record { files = descriptors; visible = descriptor options_file ∷ []; scope = [] }) of.File
     minus_one ≡ record { kind = error.ExtensionNotFound; what = codes "o" } ∷ []
 unseen_is_not_found = refl
@@ -294,7 +296,7 @@ beside_an_enum =
     ∷ [] in
     record { files = files; visible = files; scope = codes "google" ∷ codes "protobuf" ∷ [] }
 
-enum_is_not_extended : statement_faults beside_an_enum of.File
+enum_is_not_extended : custom_statement_faults beside_an_enum of.File
     (set (extension (codes "o") ∷ []) (integer (pos 1)))
     ≡ record { kind = error.WrongExtensionType; what = codes "o" } ∷ []
 enum_is_not_extended = refl
@@ -342,7 +344,7 @@ with_x_is_encoded : encoded (denotes with_extensions of.Message (set_m with_x)) 
 unfolding decode_piece front_part byte_part digits_end varint_within
 with_x_is_encoded = refl
 
-with_x_has_no_fault : statement_faults with_extensions of.Message (set_m with_x) ≡ []
+with_x_has_no_fault : custom_statement_faults with_extensions of.Message (set_m with_x) ≡ []
 unfolding decode_piece front_part byte_part digits_end chars is_utf8 lib.Utf8.encode
 with_x_has_no_fault = refl
 
@@ -357,7 +359,7 @@ with_more_is_encoded : encoded (denotes with_extensions of.Message (set_m with_m
 unfolding decode_piece front_part byte_part digits_end varint_within
 with_more_is_encoded = refl
 
-with_more_has_no_fault : statement_faults with_extensions of.Message (set_m with_more) ≡ []
+with_more_has_no_fault : custom_statement_faults with_extensions of.Message (set_m with_more) ≡ []
 unfolding decode_piece front_part byte_part digits_end chars is_utf8 lib.Utf8.encode
 with_more_has_no_fault = refl
 
@@ -373,30 +375,30 @@ with_entry_is_encoded : encoded (denotes with_extensions of.Message (set_m with_
 unfolding decode_piece front_part byte_part digits_end chars lib.Utf8.encode varint_within
 with_entry_is_encoded = refl
 
-with_entry_has_no_fault : statement_faults with_extensions of.Message (set_m with_entry) ≡ []
+with_entry_has_no_fault : custom_statement_faults with_extensions of.Message (set_m with_entry) ≡ []
 unfolding decode_piece front_part byte_part digits_end chars is_utf8 lib.Utf8.encode
 with_entry_has_no_fault = refl
 
 -- {[nope]: 1}
-unknown_name_in_constant_is_told : statement_faults with_extensions of.Message
+unknown_name_in_constant_is_told : custom_statement_faults with_extensions of.Message
     (set_m (more_fields (extension_name (codes "nope")) (integer (pos 1)) no_fields))
     ≡ record { kind = error.ExtensionNotFound; what = codes "nope" } ∷ []
 unknown_name_in_constant_is_told = refl
 
 -- {[m] {}}
-other_message_in_constant_is_told : statement_faults with_extensions of.Message
+other_message_in_constant_is_told : custom_statement_faults with_extensions of.Message
     (set_m (more_fields (extension_name (codes "m")) (fields no_fields) no_fields))
     ≡ record { kind = error.WrongExtensionType; what = codes "m" } ∷ []
 other_message_in_constant_is_told = refl
 
 -- {[x]: "a"}
-string_is_no_number : statement_faults with_extensions of.Message
+string_is_no_number : custom_statement_faults with_extensions of.Message
     (set_m (more_fields (extension_name (codes "x")) (string (codes "a" ∷ [])) no_fields))
     ≡ record { kind = error.UnsupportedExtensionType; what = codes "x" } ∷ []
 string_is_no_number = refl
 
 -- {[example.com/M] {}}
-type_url_is_told : statement_faults with_extensions of.Message
+type_url_is_told : custom_statement_faults with_extensions of.Message
     (set_m (more_fields (url_name (codes "example.com/M")) (fields no_fields) no_fields))
     ≡ record { kind = error.TypeUrlInConstant; what = codes "[example.com/M]" } ∷ []
 type_url_is_told = refl

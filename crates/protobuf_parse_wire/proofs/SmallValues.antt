@@ -14,7 +14,7 @@ use Rattle.protobuf_parse_model.specs.Descriptors.{FileDescriptor}
 use Rattle.protobuf_parse_wire.specs.declared.customs.known.Known.{Known}
 use Rattle.protobuf_parse_wire.specs.Holding.{enums_placed}
 use Rattle.protobuf_parse_wire.specs.Places.{placed_enums}
-use Rattle.protobuf_parse_wire.specs.Known.{enum_known, number_among, values_among, values_of}
+use Rattle.protobuf_parse_wire.specs.Known.{enum_known, number_among, values_among, values_if_named}
 use Rattle.protobuf_parse_wire.specs.OptionFields.{declared_enums}
 use Rattle.protobuf_parse_wire.specs.OptionLaw.{HasSmallValues}
 use Rattle.protobuf_parse_wire.specs.SmallValues.{AreSmall, HaveSmall}
@@ -54,7 +54,7 @@ if_named false vs p = tt
 among_enums : (name : Text) (es : List (Declared EnumDescriptor)) → HaveSmall es
     → AreSmall (values_among name es)
 among_enums name [] p = tt
-among_enums name (e ∷ es) p = are_both (values_of name e) (values_among name es)
+among_enums name (e ∷ es) p = are_both (values_if_named name e) (values_among name es)
     (if_named (bytes_eq e.name name) e.what.value p.0) (among_enums name es p.1)
 
 of_first : (b : Bool) (v : EnumValueDescriptor) (o : Option EnumValueDescriptor) (z : ℤ)

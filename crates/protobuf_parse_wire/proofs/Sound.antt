@@ -46,13 +46,13 @@ use Rattle.protobuf_parse_syntax.specs.Text.{IsToken}
 use Rattle.protobuf_parse_syntax.specs.Cut.{Cut, done, blank, token}
 use Rattle.protobuf_parse_syntax.specs.Parsing.{HasTree}
 use Rattle.protobuf_parse_wire.specs.NamesAlike.{HasPackageName}
-use Rattle.protobuf_parse_wire.specs.OptionDepth.{parts_of}
+use Rattle.protobuf_parse_wire.specs.OptionDepth.{name_parts}
 use Rattle.protobuf_parse_wire.proofs.Options.{among_left, among_right}
 
 -- ---- parts of trees
 
 abbrev pub SoundOption : OptionSyntax → Type 0
-SoundOption o = length (parts_of o.name) ≤ 100
+SoundOption o = length (name_parts o.name) ≤ 100
 
 abbrev pub SoundOptionStatement : OptionStatementSyntax → Type 0
 SoundOptionStatement s = SoundOption s.option
@@ -282,12 +282,12 @@ at_most : {A : Type 0} {R : List Lexeme → A → Type 0} (limit : ℕ)
 at_most limit = record { says = λ ts a full h. h.1 }
 
 few_parts : (part : OptionPartSyntax) (parts : List OptionPartSyntax) → length parts ≤ 99
-    → length (parts_of (option_name part parts)) ≤ 100
+    → length (name_parts (option_name part parts)) ≤ 100
 few_parts (tree.direct name) [] l = omega arith
 few_parts (tree.direct name) (p ∷ ps) l = omega (arith, l)
 few_parts (tree.extension name) ps l = omega (arith, l)
 
-name_of_option : Says IsOptionName (λ n. length (parts_of n) ≤ 100)
+name_of_option : Says IsOptionName (λ n. length (name_parts n) ≤ 100)
 unfolding IsOptionName
 name_of_option = do first ← any; others ← at_most 99; nothing (few_parts first.0 others.0 others.1)
 

@@ -21,7 +21,7 @@ use Rattle.protobuf_parse_syntax.specs.Nesting.{ShallowServiceStatement, Shallow
 use Rattle.protobuf_parse_syntax.specs.Nesting.{ShallowStatement, ShallowFile}
 use Rattle.protobuf_parse_model.specs.Faults.{Among, here, there}
 use Rattle.protobuf_parse_model.specs.Statements.{group_body, message_body, oneof_fields}
-use Rattle.protobuf_parse_model.specs.Statements.{oneof_options}
+use Rattle.protobuf_parse_model.specs.Statements.{oneof_statement_options}
 use Rattle.protobuf_parse_model.specs.Declarations.{Scope, inside, file_scope}
 use Rattle.protobuf_parse_model.specs.Enums.{enum_values, options_in_enum}
 use Rattle.protobuf_parse_model.specs.Services.{methods_in, statement_option, options_in_service}
@@ -33,7 +33,7 @@ use Rattle.protobuf_parse_model.specs.OptionSets.{extend_sets, value_set, enum_s
 use Rattle.protobuf_parse_model.specs.OptionSets.{sets_in, message_sets, method_set, service_sets}
 use Rattle.protobuf_parse_model.specs.OptionSets.{statement_sets, option_sets}
 use Rattle.protobuf_parse_wire.specs.OptionDepth.{constant_depth, list_depth, fields_depth}
-use Rattle.protobuf_parse_wire.specs.OptionDepth.{IsShallow}
+use Rattle.protobuf_parse_wire.specs.OptionDepth.{OptionIsShallow}
 use Rattle.protobuf_parse_wire.proofs.Sound.{SoundOption, SoundOptionStatement, SoundField}
 use Rattle.protobuf_parse_wire.proofs.Sound.{SoundFields, SoundOneofStatement, SoundOneof}
 use Rattle.protobuf_parse_wire.proofs.Sound.{SoundExtend, SoundEnumStatement, SoundEnum}
@@ -104,7 +104,7 @@ of_one P (y ∷ xs) x h (there k) = of_one P xs x h.1 k
 -- ---- options
 
 abbrev AreShallow : List OptionSyntax → Type 0
-AreShallow os = AllByRecursion IsShallow os
+AreShallow os = AllByRecursion OptionIsShallow os
 
 abbrev SetIsShallow : OptionSet → Type 0
 SetIsShallow s = AreShallow s.statements
@@ -112,7 +112,7 @@ SetIsShallow s = AreShallow s.statements
 abbrev AllShallow : List OptionSet → Type 0
 AllShallow sets = AllByRecursion SetIsShallow sets
 
-option : (o : OptionSyntax) → ShallowOption o → SoundOption o → IsShallow o
+option : (o : OptionSyntax) → ShallowOption o → SoundOption o → OptionIsShallow o
 option o h k = let l = depth_less o.value in record { name = k; value = omega (arith, l, h) }
 
 options : (os : List OptionSyntax) → All ShallowOption os → AllByRecursion SoundOption os
@@ -148,7 +148,7 @@ field scope (tree.group place label name number fields) h k = group_fields scope
 -- ---- oneofs, extends and enums
 
 oneof_option : (s : OneofStatementSyntax) → ShallowOneofStatement s → SoundOneofStatement s
-    → AreShallow (oneof_options s)
+    → AreShallow (oneof_statement_options s)
 oneof_option (tree.oneof_option o) h k = (option o.option h k, tt)
 oneof_option (tree.oneof_field f) h k = tt
 
@@ -160,7 +160,8 @@ oneof_field (tree.oneof_field f) h k = ((h, k), tt)
 oneof : (scope : Scope) (o : OneofSyntax) → ShallowOneof o → SoundOneof o
     → AllShallow (oneof_sets scope o)
 oneof scope o h k = (
-  each oneof_options IsShallow ShallowOneofStatement SoundOneofStatement oneof_option o.body h k,
+  each oneof_statement_options OptionIsShallow ShallowOneofStatement SoundOneofStatement
+      oneof_option o.body h k,
   flat (field_sets scope) SetIsShallow FieldIs (λ f w. field scope f w.0 w.1)
       (flat_map oneof_fields o.body)
       (each oneof_fields FieldIs ShallowOneofStatement SoundOneofStatement oneof_field o.body h k),
@@ -186,7 +187,8 @@ enum_value (tree.enum_value v) h k = (options v.options h k.short, tt)
 enum : (scope : Scope) (e : EnumSyntax) → ShallowEnum e → SoundEnum e
     → AllShallow (enum_sets scope e)
 enum scope e h k = (
-  each options_in_enum IsShallow ShallowEnumStatement SoundEnumStatement enum_option e.body h k,
+  each options_in_enum OptionIsShallow ShallowEnumStatement SoundEnumStatement enum_option e.body h
+      k,
   mapped (value_set scope) SetIsShallow (flat_map enum_values e.body)
       (each enum_values (λ (v : EnumValueSyntax). AreShallow v.options) ShallowEnumStatement
       SoundEnumStatement enum_value e.body h k),
@@ -203,7 +205,7 @@ body_options : (ss : MessageStatementList) → ShallowBody ss → SoundBody ss
     → AreShallow (options_of_body (message_body ss))
 body_options tree.no_statements h k = tt
 body_options (tree.more_statements s ss) h k =
-    both IsShallow (options_in_message s) (options_of_body (message_body ss))
+    both OptionIsShallow (options_in_message s) (options_of_body (message_body ss))
     (message_option s h.0 k.0) (body_options ss h.1 k.1)
 
 mutual
@@ -227,7 +229,8 @@ mutual
 message : (scope : Scope) (m : MessageSyntax) → ShallowMessage m → SoundMessage m
     → AllShallow (message_sets scope m)
 message scope m h k = (
-  each options_in_message IsShallow ShallowMessageStatement SoundMessageStatement message_option
+  each options_in_message OptionIsShallow ShallowMessageStatement SoundMessageStatement
+      message_option
       m.body h k,
   each (sets_of (inside scope m.name)) SetIsShallow ShallowMessageStatement SoundMessageStatement
       (message_statement (inside scope m.name)) m.body h k,
@@ -256,7 +259,8 @@ method (tree.service_option o) h k = tt
 service : (scope : Scope) (s : ServiceSyntax) → ShallowService s → SoundService s
     → AllShallow (service_sets scope s)
 service scope s h k = (
-  each options_in_service IsShallow ShallowServiceStatement SoundServiceStatement service_option
+  each options_in_service OptionIsShallow ShallowServiceStatement SoundServiceStatement
+      service_option
       s.body h k,
   mapped (method_set scope) SetIsShallow (flat_map methods_in s.body)
       (each methods_in (λ (m : MethodSyntax). AreShallow (options_of_method m))
@@ -280,13 +284,13 @@ statement scope _ h k = tt
 
 sets : (t : FileSyntax) → ShallowFile t → SoundFile t → AllShallow (option_sets t)
 sets t h k = (
-  each options_in_file IsShallow ShallowStatement SoundStatement file_option t.statements
+  each options_in_file OptionIsShallow ShallowStatement SoundStatement file_option t.statements
       h.constants k,
   each (statement_sets (file_scope t)) SetIsShallow ShallowStatement SoundStatement
       (statement (file_scope t)) t.statements h.constants k,
 )
 
 pub set_shallow : (t : FileSyntax) → ShallowFile t → SoundFile t → (s : OptionSet)
-    → Among (option_sets t) s → (o : OptionSyntax) → Among s.statements o → IsShallow o
+    → Among (option_sets t) s → (o : OptionSyntax) → Among s.statements o → OptionIsShallow o
 set_shallow t h k s i o j =
-    of_one IsShallow s.statements o (of_one SetIsShallow (option_sets t) s (sets t h k) i) j
+    of_one OptionIsShallow s.statements o (of_one SetIsShallow (option_sets t) s (sets t h k) i) j

@@ -10,14 +10,14 @@ use Rattle.protobuf_parse_syntax.specs.declared.tree.option.ProtobufOptionNamePa
 use Rattle.protobuf_parse_model.specs.declared.customs.Construct.{Construct}
 use Rattle.protobuf_parse_model.specs.declared.error.ElabFailure.{ElabFailure}
 use Rattle.protobuf_parse_model.specs.Descriptors.{Text}
-use Rattle.protobuf_parse_model.specs.Environment.{path_text}
+use Rattle.protobuf_parse_model.specs.Environment.{option_path_text}
 use Rattle.protobuf_parse_model.specs.Faults.{Blames, Elaborates, Fault}
 use Rattle.protobuf_parse_model.specs.OptionTables.{table_of}
 use Rattle.protobuf_parse_wire.specs.declared.entry.Entry.{Entry}
 use Rattle.protobuf_parse_wire.specs.CustomFaults.{builtin_step_faults, custom_faults, path_faults}
-use Rattle.protobuf_parse_wire.specs.CustomOptions.{denotes, option_items, path_items}
+use Rattle.protobuf_parse_wire.specs.CustomOptions.{denotes, items_of_option, path_items}
 use Rattle.protobuf_parse_wire.specs.OptionFields.{OptionScope, options_message}
-use Rattle.protobuf_parse_wire.specs.Views.{Item, entries_of_list, entries_view, entry_view}
+use Rattle.protobuf_parse_wire.specs.Views.{WireItem, entries_of_list, entries_view, entry_view}
 
 abbrev parts_of : List ProtobufOptionNamePart → List OptionPartSyntax
 parts_of xs = map option_part_view xs
@@ -39,22 +39,23 @@ plain_blamed e at construct value (y ∷ ys) x s name some is plain named h =
 extension_first : (at : OptionScope) (construct : Construct) (value : ConstantSyntax)
     (xs : List ProtobufOptionNamePart) (x : ProtobufOptionNamePart) (s : String Global)
     → 1 ≤ length xs → x ≡ get_or xs 0 x → x ≡ Ext s
-    → custom_faults at construct value (parts_of xs) ≡ path_faults at (path_text (parts_of xs))
+    → custom_faults at construct value (parts_of xs)
+    ≡ path_faults at (option_path_text (parts_of xs))
     value (options_message construct) (parts_of xs)
 extension_first at construct value [] x s some is ext = absurd (omega arith)
 extension_first at construct value (y ∷ ys) x s some is ext =
     let first : option_part_view y ≡ extension (string_bytes s) = ap option_part_view
     (sym is ∙ ext) in
     subst (λ (p : OptionPartSyntax). custom_faults at construct value (p ∷ parts_of ys)
-    ≡ path_faults at (path_text (p ∷ parts_of ys)) value (options_message construct)
+    ≡ path_faults at (option_path_text (p ∷ parts_of ys)) value (options_message construct)
     (p ∷ parts_of ys)) (sym first) refl
 
 -- an extension
-pub extension_given : {X : Type 0} (view : X → List Item) (r : Result X ElabFailure)
+pub extension_given : {X : Type 0} (view : X → List WireItem) (r : Result X ElabFailure)
     (at : OptionScope) (construct : Construct) (value : ConstantSyntax)
     (xs : List ProtobufOptionNamePart) (x : ProtobufOptionNamePart) (s : String Global)
-    (option message : Text) (old : List Item) → 1 ≤ length xs → x ≡ get_or xs 0 x → x ≡ Ext s
-    → option ≡ path_text (map option_part_view xs) → message ≡ options_message construct
+    (option message : Text) (old : List WireItem) → 1 ≤ length xs → x ≡ get_or xs 0 x → x ≡ Ext s
+    → option ≡ option_path_text (map option_part_view xs) → message ≡ options_message construct
     → Elaborates view r (path_faults at option value message (map option_part_view xs))
     (old ++ path_items at value message (map option_part_view xs))
     → Elaborates view r (custom_faults at construct value (map option_part_view xs))
@@ -72,8 +73,8 @@ extension_given view r at construct value xs x s option message old some is ext 
 -- all of them, added to nothing
 pub denoted : (at : OptionScope) (construct : Construct) (os : List OptionSyntax)
     (old new read : List Entry) → old ≡ [] → read ≡ new
-    → map entry_view new ≡ map entry_view old ++ flat_map (option_items at construct) os
+    → map entry_view new ≡ map entry_view old ++ flat_map (items_of_option at construct) os
     → entries_view read ≡ denotes at construct os
 denoted at construct os old new read none same is =
     ap entries_view same ∙ ap entries_of_list (is ∙ ap (λ (es : List Entry). map entry_view es
-    ++ flat_map (option_items at construct) os) none)
+    ++ flat_map (items_of_option at construct) os) none)

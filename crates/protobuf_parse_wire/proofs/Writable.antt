@@ -21,27 +21,28 @@ use Rattle.protobuf_parse_model.specs.Duplicates.{stands_in}
 use Rattle.protobuf_parse_model.specs.declared.customs.Construct.{Construct}
 use Rattle.protobuf_parse_wire.specs.declared.kind.Kind.{Kind}
 use Rattle.protobuf_parse_wire.specs.declared.kind.Kind.TheVariants as kinds
-use Rattle.protobuf_parse_wire.specs.Kinds.{Shape, shape, kind_of, fits, InRange}
+use Rattle.protobuf_parse_wire.specs.Kinds.{KindShape, shape_of_kind, kind_of_field_type, fits}
+use Rattle.protobuf_parse_wire.specs.Kinds.{InRange}
 use Rattle.protobuf_parse_wire.specs.Trees as trees
 use Rattle.protobuf_parse_wire.specs.Trees.{EntryTree}
-use Rattle.protobuf_parse_wire.specs.Views.{Item, entries_of_list}
+use Rattle.protobuf_parse_wire.specs.Views.{WireItem, entries_of_list}
 use Rattle.protobuf_parse_wire.proofs.Ranges.{in_range}
 use Rattle.protobuf_parse_wire.specs.Writing.{AreWritable}
 use Rattle.protobuf_parse_wire.specs.OptionFields.{OptionScope, options_message, number_of_value}
 use Rattle.protobuf_parse_wire.specs.OptionFields.{part_field, constant_field, type_name_of}
-use Rattle.protobuf_parse_wire.specs.OptionFields.{integers, takes}
+use Rattle.protobuf_parse_wire.specs.OptionFields.{integers, type_takes}
 use Rattle.protobuf_parse_wire.specs.OptionLaw.{HasSmallValues}
 use Rattle.protobuf_parse_wire.specs.CustomOptions.{value_items, list_items, field_items}
-use Rattle.protobuf_parse_wire.specs.CustomOptions.{path_items, message_item, named_items}
-use Rattle.protobuf_parse_wire.specs.CustomOptions.{option_items, denotes}
+use Rattle.protobuf_parse_wire.specs.CustomOptions.{path_items, item_of_message, named_items}
+use Rattle.protobuf_parse_wire.specs.CustomOptions.{items_of_option, denotes}
 use Rattle.protobuf_parse_wire.specs.CustomFaults.{integer_faults, truth_faults, value_name_faults}
 use Rattle.protobuf_parse_wire.specs.CustomFaults.{string_value_faults, message_value_faults}
 use Rattle.protobuf_parse_wire.specs.CustomFaults.{number_faults, constant_name_faults}
 use Rattle.protobuf_parse_wire.specs.CustomFaults.{value_faults, list_faults, field_faults}
 use Rattle.protobuf_parse_wire.specs.CustomFaults.{part_faults, step_faults, path_faults, table_of}
 use Rattle.protobuf_parse_wire.specs.CustomFaults.{names_in, builtin_step_faults, custom_faults}
-use Rattle.protobuf_parse_wire.specs.CustomFaults.{named_faults, statement_faults}
-use Rattle.protobuf_parse_model.specs.Environment.{part_text, path_text}
+use Rattle.protobuf_parse_wire.specs.CustomFaults.{custom_name_faults, custom_statement_faults}
+use Rattle.protobuf_parse_model.specs.Environment.{part_text, option_path_text}
 
 -- ---- lists
 
@@ -53,15 +54,15 @@ pub no_right : {A : Type 0} (xs ys : List A) → xs ++ ys ≡ [] → ys ≡ []
 no_right [] ys e = e
 no_right (x ∷ xs) ys e = absurd cc
 
-abbrev AreFit : List Item → Type 0
+abbrev AreFit : List WireItem → Type 0
 AreFit items = AreWritable (entries_of_list items)
 
-fit_append : (xs ys : List Item) → AreFit xs → AreFit ys → AreFit (xs ++ ys)
+fit_append : (xs ys : List WireItem) → AreFit xs → AreFit ys → AreFit (xs ++ ys)
 fit_append [] ys p q = q
 fit_append (x ∷ xs) ys p q = (p.0, fit_append xs ys p.1 q)
 
 -- where each has no fault
-fit_each : {A : Type 0} (faults : A → List Fault) (items : A → List Item)
+fit_each : {A : Type 0} (faults : A → List Fault) (items : A → List WireItem)
     → ((x : A) → faults x ≡ [] → AreFit (items x)) → (xs : List A) → flat_map faults xs ≡ []
     → AreFit (flat_map items xs)
 fit_each faults items each [] e = tt
@@ -71,21 +72,23 @@ fit_each faults items each (x ∷ xs) e =
 
 -- ---- one value of one field, by the field's type
 
-abbrev item_at : ℕ → FieldType → EntryTree → List Item
+abbrev item_at : ℕ → FieldType → EntryTree → List WireItem
 item_at n t v = map (λ (k : Kind). record { number = n; kind = k; value = v })
-    (option_to_list (kind_of t))
+    (option_to_list (kind_of_field_type t))
 
-kept : (s : Shape) (v : ℤ) (b : Bool) (x : Fault) → fits s v ≡ b → cond (not b) (x ∷ []) [] ≡ []
+kept : (s : KindShape) (v : ℤ) (b : Bool) (x : Fault) → fits s v ≡ b → cond (not b) (x ∷ []) [] ≡ []
     → InRange s v
 kept s v true x h e = h
 kept s v false x h e = absurd cc
 
 pub number_kept : (k : Kind) (name : Text) (v : ℤ) → integer_faults name (integers k) v ≡ []
-    → InRange (shape k) v
+    → InRange (shape_of_kind k) v
 number_kept k name v e =
-    kept (shape k) v (fits (shape k) v) (record { kind = IntegerOutOfRange; what = name }) refl e
+    kept (shape_of_kind k) v (fits (shape_of_kind k) v)
+    (record { kind = IntegerOutOfRange; what = name }) refl e
 
-number_fit : (name : Text) (t : FieldType) (n : ℕ) (z : ℤ) → integer_faults name (takes t) z ≡ []
+number_fit : (name : Text) (t : FieldType) (n : ℕ) (z : ℤ) → integer_faults name (type_takes t) z
+    ≡ []
     → AreFit (item_at n t (trees.number z))
 number_fit name types.Int32 n z e = (number_kept kinds.Int32 name z e, tt)
 number_fit name types.Int64 n z e = (number_kept kinds.Int64 name z e, tt)
@@ -99,37 +102,38 @@ number_fit name types.Fixed64 n z e = (number_kept kinds.Fixed64 name z e, tt)
 number_fit name types.Sfixed64 n z e = (number_kept kinds.Sfixed64 name z e, tt)
 number_fit name _ n z e = absurd cc
 
-truth_fit : (name : Text) (t : FieldType) (n : ℕ) (b : Bool) → truth_faults name (takes t) ≡ []
+truth_fit : (name : Text) (t : FieldType) (n : ℕ) (b : Bool) → truth_faults name (type_takes t) ≡ []
     → AreFit (item_at n t (trees.truth b))
 truth_fit name types.Bool n b e = (tt, tt)
 truth_fit name _ n b e = absurd cc
 
 string_fit : (option name : Text) (t : FieldType) (n : ℕ) (pieces : Pieces) (bs : List ℕ)
-    → string_value_faults option name (takes t) pieces ≡ [] → AreFit (item_at n t (trees.bytes bs))
+    → string_value_faults option name (type_takes t) pieces ≡ []
+    → AreFit (item_at n t (trees.bytes bs))
 string_fit option name types.String n pieces bs e = (tt, tt)
 string_fit option name types.Bytes n pieces bs e = (tt, tt)
 string_fit option name _ n pieces bs e = absurd cc
 
-message_fit : (name : Text) (t : FieldType) (n : ℕ) (inside : List Fault) (items : List Item)
-    → message_value_faults name (takes t) inside ≡ [] → (inside ≡ [] → AreFit items)
+message_fit : (name : Text) (t : FieldType) (n : ℕ) (inside : List Fault) (items : List WireItem)
+    → message_value_faults name (type_takes t) inside ≡ [] → (inside ≡ [] → AreFit items)
     → AreFit (item_at n t (trees.message (entries_of_list items)))
 message_fit name types.Message n inside items e f = ((tt, f e), tt)
 message_fit name _ n inside items e f = absurd cc
 
-step_fit : (part : Text) (t : FieldType) (n : ℕ) (inside : List Fault) (items : List Item)
-    → step_faults part (takes t) inside ≡ [] → (inside ≡ [] → AreFit items)
+step_fit : (part : Text) (t : FieldType) (n : ℕ) (inside : List Fault) (items : List WireItem)
+    → step_faults part (type_takes t) inside ≡ [] → (inside ≡ [] → AreFit items)
     → AreFit (item_at n t (trees.message (entries_of_list items)))
 step_fit part types.Message n inside items e f = ((tt, f e), tt)
 step_fit part _ n inside items e f = absurd cc
 
-abbrev numbers : ℕ → FieldType → Option ℤ → List Item
+abbrev numbers : ℕ → FieldType → Option ℤ → List WireItem
 numbers n t o = flat_map (λ (z : ℤ). item_at n t (trees.number z)) (option_to_list o)
 
 value_name_fit : (name value : Text) (t : FieldType) (n : ℕ) (o : Option ℤ)
-    → ((z : ℤ) → o ≡ Some z → FitsSigned w32 z) → value_name_faults name (takes t) value o ≡ []
+    → ((z : ℤ) → o ≡ Some z → FitsSigned w32 z) → value_name_faults name (type_takes t) value o ≡ []
     → AreFit (numbers n t o)
 value_name_fit name value types.Enum n (Some z) small e =
-    (in_range (shape kinds.Enum) z (small z refl), tt)
+    (in_range (shape_of_kind kinds.Enum) z (small z refl), tt)
 value_name_fit name value types.Enum n None small e = tt
 value_name_fit name value _ n o small e = absurd cc
 
@@ -199,9 +203,9 @@ path_fit at small option value message (p ∷ []) e =
     (no_right (part_faults at message p) _ e)
 path_fit at small option value message (p ∷ q ∷ ps) e =
     fit_each (λ (g : FieldDescriptor). number_faults g
-    ++ step_faults (part_text p) (takes g.type_)
+    ++ step_faults (part_text p) (type_takes g.type_)
     (path_faults at option value (type_name_of g) (q ∷ ps))) (λ
-    (g : FieldDescriptor). message_item g (path_items at value (type_name_of g) (q ∷ ps)))
+    (g : FieldDescriptor). item_of_message g (path_items at value (type_name_of g) (q ∷ ps)))
     (λ g h. step_fit (part_text p) g.type_ _ (path_faults at option value (type_name_of g) (q ∷ ps))
     (path_items at value (type_name_of g) (q ∷ ps)) (no_right (number_faults g) _ h)
     (λ k. path_fit at small option value (type_name_of g) (q ∷ ps) k)) (option_to_list
@@ -230,12 +234,12 @@ custom_fit at small construct value [] e = tt
 custom_fit at small construct value (direct name ∷ ps) e =
     absurd (plain_step_has_fault construct name e)
 custom_fit at small construct value (extension name ∷ ps) e =
-    path_fit at small (path_text (extension name ∷ ps)) value (options_message construct)
+    path_fit at small (option_path_text (extension name ∷ ps)) value (options_message construct)
     (extension name ∷ ps) e
 
 named_fit : (at : OptionScope) → HasSmallValues at.files
     → (construct : Construct) (value : ConstantSyntax) (name : OptionNameSyntax)
-    → named_faults at construct value name ≡ []
+    → custom_name_faults at construct value name ≡ []
     → AreFit (named_items at (options_message construct) value name)
 named_fit at small construct value (builtin name) e = tt
 named_fit at small construct value (custom parts) e = custom_fit at small construct value parts e
@@ -243,8 +247,9 @@ named_fit at small construct value (custom parts) e = custom_fit at small constr
 -- what the statements of one construct denote can be written, so that there are bytes which spell
 -- it
 pub denotes_writable : (at : OptionScope) → HasSmallValues at.files
-    → (construct : Construct) (os : List OptionSyntax) → statement_faults at construct os ≡ []
+    → (construct : Construct) (os : List OptionSyntax) → custom_statement_faults at construct os
+    ≡ []
     → AreWritable (denotes at construct os)
 denotes_writable at small construct os e =
-    fit_each (λ (o : OptionSyntax). named_faults at construct o.value o.name)
-    (option_items at construct) (λ o h. named_fit at small construct o.value o.name h) os e
+    fit_each (λ (o : OptionSyntax). custom_name_faults at construct o.value o.name)
+    (items_of_option at construct) (λ o h. named_fit at small construct o.value o.name h) os e

@@ -4,7 +4,7 @@ use Rattle.std.proofs.Common.{subst, ◌∙◌, append_assoc}
 use Rattle.std.proofs.lemmas.List.{append-nil}
 use Rattle.protobuf_parse_wire.specs.declared.kind.Kind.{Kind}
 use Rattle.protobuf_parse_wire.specs.Trees.{EntryTree, Entries, no_entries, entry}
-use Rattle.protobuf_parse_wire.specs.Kinds.{shape, wire_type}
+use Rattle.protobuf_parse_wire.specs.Kinds.{shape_of_kind, wire_type}
 use Rattle.protobuf_parse_wire.specs.Wire.{IsVarint}
 use Rattle.protobuf_parse_wire.specs.Writing.{AreWritable}
 use Rattle.protobuf_parse_wire.specs.Encoded.{varint_of, payload, encoded}
@@ -36,11 +36,12 @@ pub record Completes (left full : Entries) (old out : List ℕ) : Type 0 where
   pub so_far : out ++ encoded left ≡ old ++ encoded full
 
 pub goes_on : (t n : ℕ) (k : Kind) (v : EntryTree) (rest full : Entries) (old out mid new : List ℕ)
-    → Completes (entry n k v rest) full old out → t ≡ n * 8 + wire_type (shape k)
-    → mid ≡ out ++ varint_of t → new ≡ mid ++ payload (shape k) v → Completes rest full old new
+    → Completes (entry n k v rest) full old out → t ≡ n * 8 + wire_type (shape_of_kind k)
+    → mid ≡ out ++ varint_of t → new ≡ mid ++ payload (shape_of_kind k) v
+    → Completes rest full old new
 goes_on t n k v rest full old out mid new c is tag inside =
-    let first = varint_of (n * 8 + wire_type (shape k)) in
-    let second = payload (shape k) v in
+    let first = varint_of (n * 8 + wire_type (shape_of_kind k)) in
+    let second = payload (shape_of_kind k) v in
     let parts : new ≡ (out ++ first) ++ second = inside
     ∙ ap (λ (x : List ℕ). x ++ second) (tag ∙ ap (λ (u : ℕ). out ++ varint_of u) is) in
     let together : new ++ encoded rest ≡ out

@@ -9,8 +9,8 @@ first [] = None
 first (x ∷ xs) = Some x
 
 -- the fields of all of them
-abbrev pub fields_in : List MessageParts → List FieldDescriptor
-fields_in ps = flat_map (λ (parts : MessageParts). parts.field) ps
+abbrev pub fields_of_all : List MessageParts → List FieldDescriptor
+fields_of_all ps = flat_map (λ (parts : MessageParts). parts.field) ps
 
 -- what has the full name
 abbrev pub named : {T : Type 0} → Text → List (Declared T) → List T
@@ -18,5 +18,5 @@ named {T = T} name ds =
     map (λ (d : Declared T). d.what) (filter (λ (d : Declared T). bytes_eq name d.name) ds)
 
 -- the values of all of the enums
-abbrev pub values_in : List EnumDescriptor → List EnumValueDescriptor
-values_in es = flat_map (λ (e : EnumDescriptor). e.value) es
+abbrev pub values_of_all : List EnumDescriptor → List EnumValueDescriptor
+values_of_all es = flat_map (λ (e : EnumDescriptor). e.value) es

@@ -27,19 +27,19 @@ use Rattle.protobuf_parse_model.specs.Faults.{Fault}
 use Rattle.protobuf_parse_model.specs.Declarations.{Declared}
 use Rattle.protobuf_parse_model.specs.Duplicates.{fault, fault_when, stands_in}
 use Rattle.protobuf_parse_model.specs.declared.customs.Construct.{Construct}
-use Rattle.protobuf_parse_model.specs.Environment.{no_customs, part_text, path_text}
+use Rattle.protobuf_parse_model.specs.Environment.{no_customs, part_text, option_path_text}
 use Rattle.protobuf_parse_model.specs.BuiltinOptions.{Table, string_faults}
-pub use Rattle.protobuf_parse_model.specs.OptionTables.{table_of, names_in}
+pub use Rattle.protobuf_parse_model.specs.OptionTables.{table_of, option_names_in}
 use Rattle.protobuf_parse_model.specs.FileDescriptor.{environment, file_faults}
 use Rattle.protobuf_parse_model.specs.Linking.{before_others, link_faults}
 use Rattle.protobuf_parse_model.specs.OptionSets.{OptionSet, option_sets}
-use Rattle.protobuf_parse_wire.specs.Kinds.{shape, fits}
+use Rattle.protobuf_parse_wire.specs.Kinds.{shape_of_kind, fits}
 use Rattle.protobuf_parse_wire.specs.OptionFields.{OptionScope, options_message, field_named}
 use Rattle.protobuf_parse_wire.specs.OptionFields.{number_of_value, extension_meant}
 use Rattle.protobuf_parse_wire.specs.OptionFields.{extends_message, part_field, constant_field}
 use Rattle.protobuf_parse_wire.specs.OptionFields.{type_name_of, Takes, integers, truths}
 use Rattle.protobuf_parse_wire.specs.OptionFields.{names_of_values, texts, octets, messages, floats}
-use Rattle.protobuf_parse_wire.specs.OptionFields.{groups, takes}
+use Rattle.protobuf_parse_wire.specs.OptionFields.{groups, type_takes}
 use Rattle.protobuf_parse_wire.specs.CustomOptions.{scope_of}
 
 -- ---- names as they are written
@@ -56,7 +56,8 @@ not_taken name _ = fault UnsupportedExtensionType name
 
 -- E20 for an integer that is out of range
 abbrev pub integer_faults : Text → Takes → ℤ → List Fault
-integer_faults name (integers k) z = fault_when (not (fits (shape k) z)) IntegerOutOfRange name
+integer_faults name (integers k) z =
+    fault_when (not (fits (shape_of_kind k) z)) IntegerOutOfRange name
 integer_faults name other z = not_taken name other
 
 abbrev pub truth_faults : Text → Takes → List Fault
@@ -94,10 +95,11 @@ field_name_faults at message name =
     fault_when (not (is_some (field_named at.files message name))) UnknownFieldName name
 
 -- E14 for an extension that isn't found, E15 for one that extends no such message
-abbrev pub extension_faults : List FileDescriptor → Text → Text → Option (Declared FieldDescriptor)
+abbrev pub extension_name_faults : List FileDescriptor → Text → Text
+    → Option (Declared FieldDescriptor)
     → List Fault
-extension_faults files message name None = fault ExtensionNotFound name
-extension_faults files message name (Some d) =
+extension_name_faults files message name None = fault ExtensionNotFound name
+extension_name_faults files message name (Some d) =
     fault_when (not (extends_message files message d.what)) WrongExtensionType name
 
 -- ---- constants
@@ -106,21 +108,22 @@ extension_faults files message name (Some d) =
 abbrev pub constant_name_faults : OptionScope → Text → ConstantNameSyntax → List Fault
 constant_name_faults at message (regular_name name) = field_name_faults at message name
 constant_name_faults at message (extension_name name) =
-    extension_faults at.files message name (extension_meant at name)
+    extension_name_faults at.files message name (extension_meant at name)
 constant_name_faults at message (url_name name) = fault TypeUrlInConstant (bracketed name)
 
 abbrev mutual
   -- of the constant that the option of that name gives to a field
   pub value_faults : OptionScope → Text → FieldDescriptor → ConstantSyntax → List Fault
-  value_faults at option f (integer z) = integer_faults f.name (takes f.type_) z
-  value_faults at option f (truth b) = truth_faults f.name (takes f.type_)
+  value_faults at option f (integer z) = integer_faults f.name (type_takes f.type_) z
+  value_faults at option f (truth b) = truth_faults f.name (type_takes f.type_)
   value_faults at option f (dotted name) =
-      value_name_faults f.name (takes f.type_) name (number_of_value at.files (type_name_of f) name)
+      value_name_faults f.name (type_takes f.type_) name
+      (number_of_value at.files (type_name_of f) name)
   value_faults at option f (string pieces) =
-      string_value_faults option f.name (takes f.type_) pieces
+      string_value_faults option f.name (type_takes f.type_) pieces
   value_faults at option f (list cs) = list_faults at option f cs
   value_faults at option f (fields fs) =
-      message_value_faults f.name (takes f.type_) (field_faults at option (type_name_of f) fs)
+      message_value_faults f.name (type_takes f.type_) (field_faults at option (type_name_of f) fs)
 
   pub list_faults : OptionScope → Text → FieldDescriptor → ConstantList → List Fault
   list_faults at option f no_constants = []
@@ -140,7 +143,7 @@ abbrev mutual
 abbrev pub part_faults : OptionScope → Text → OptionPartSyntax → List Fault
 part_faults at message (direct name) = field_name_faults at message name
 part_faults at message (extension name) =
-    extension_faults at.files message name (extension_meant at name)
+    extension_name_faults at.files message name (extension_meant at name)
 
 -- where other parts follow: E24 for a group, E16 for any other field but a message
 abbrev pub step_faults : Text → Takes → List Fault → List Fault
@@ -159,7 +162,7 @@ path_faults at option value message (p ∷ []) =
 path_faults at option value message (p ∷ q ∷ ps) =
     part_faults at message p
     ++ flat_map (λ (g : FieldDescriptor). number_faults g
-    ++ step_faults (part_text p) (takes g.type_)
+    ++ step_faults (part_text p) (type_takes g.type_)
     (path_faults at option value (type_name_of g) (q ∷ ps))) (option_to_list
     (part_field at message p))
 
@@ -168,7 +171,7 @@ path_faults at option value message (p ∷ q ∷ ps) =
 abbrev pub builtin_step_faults : Table → Text → List Fault
 builtin_step_faults table name =
     if bytes_eq name (codes "uninterpreted_option") then fault UninterpretedOptionName name
-    else (if stands_in name (names_in table) then fault ExtensionIsNotMessage name
+    else (if stands_in name (option_names_in table) then fault ExtensionIsNotMessage name
     else fault UnknownFieldName name)
 
 abbrev pub custom_faults : OptionScope → Construct → ConstantSyntax → List OptionPartSyntax
@@ -176,23 +179,24 @@ abbrev pub custom_faults : OptionScope → Construct → ConstantSyntax → List
 custom_faults at construct value [] = []
 custom_faults at construct value (direct name ∷ ps) = builtin_step_faults (table_of construct) name
 custom_faults at construct value (extension name ∷ ps) =
-    path_faults at (path_text (extension name ∷ ps)) value (options_message construct)
+    path_faults at (option_path_text (extension name ∷ ps)) value (options_message construct)
     (extension name ∷ ps)
 
-abbrev pub named_faults : OptionScope → Construct → ConstantSyntax → OptionNameSyntax → List Fault
-named_faults at construct value (builtin name) = []
-named_faults at construct value (custom parts) = custom_faults at construct value parts
+abbrev pub custom_name_faults : OptionScope → Construct → ConstantSyntax → OptionNameSyntax
+    → List Fault
+custom_name_faults at construct value (builtin name) = []
+custom_name_faults at construct value (custom parts) = custom_faults at construct value parts
 
 -- ---- the statements of a construct, and of a file
 
-abbrev pub statement_faults : OptionScope → Construct → List OptionSyntax → List Fault
-statement_faults at construct os =
-    flat_map (λ (o : OptionSyntax). named_faults at construct o.value o.name) os
+abbrev pub custom_statement_faults : OptionScope → Construct → List OptionSyntax → List Fault
+custom_statement_faults at construct os =
+    flat_map (λ (o : OptionSyntax). custom_name_faults at construct o.value o.name) os
 
-abbrev pub option_faults : (files visible : List FileDescriptor) → FileSyntax → List Fault
-option_faults files visible t =
+abbrev pub custom_option_faults : (files visible : List FileDescriptor) → FileSyntax → List Fault
+custom_option_faults files visible t =
     flat_map
-    (λ (s : OptionSet). statement_faults (scope_of files visible s) s.construct s.statements)
+    (λ (s : OptionSet). custom_statement_faults (scope_of files visible s) s.construct s.statements)
     (option_sets t)
 
 -- All faults that stand in a file which reaches the trees `reached` and sees the trees `seen`:
@@ -203,4 +207,5 @@ abbrev pub elaboration_faults : (reached seen : List FileSyntax)
     (files visible : List FileDescriptor) → FileSyntax → List Fault
 elaboration_faults reached seen files visible t =
     before_others (link_faults reached)
-    (before_others (file_faults (environment seen no_customs t) t) (option_faults files visible t))
+    (before_others (file_faults (environment seen no_customs t) t)
+    (custom_option_faults files visible t))

@@ -22,40 +22,40 @@ use Rattle.protobuf_parse_model.specs.Environment.{CustomBytes, spelled_so}
 use Rattle.protobuf_parse_model.specs.FileDescriptor.{environment, file_of}
 use Rattle.protobuf_parse_model.specs.OptionSets.{OptionSet, option_sets}
 use Rattle.protobuf_parse_wire.specs.declared.kind.Kind.{Kind}
-use Rattle.protobuf_parse_wire.specs.Kinds.{kind_of}
+use Rattle.protobuf_parse_wire.specs.Kinds.{kind_of_field_type}
 use Rattle.protobuf_parse_wire.specs.Trees as trees
 use Rattle.protobuf_parse_wire.specs.Trees.{EntryTree, Entries}
-use Rattle.protobuf_parse_wire.specs.Views.{Item, entries_of_list}
+use Rattle.protobuf_parse_wire.specs.Views.{WireItem, entries_of_list}
 use Rattle.protobuf_parse_wire.specs.Wire.{Spells}
 use Rattle.protobuf_parse_wire.specs.OptionFields.{OptionScope, options_message, number_of_value}
 use Rattle.protobuf_parse_wire.specs.OptionFields.{part_field, constant_field, type_name_of}
 
 -- the value under the number and the kind of the field
-abbrev pub item : FieldDescriptor → EntryTree → List Item
-item f value = map (λ (k : Kind). record { number = nat_abs f.number; kind = k; value = value })
-    (option_to_list (kind_of f.type_))
+abbrev pub item_of : FieldDescriptor → EntryTree → List WireItem
+item_of f value = map (λ (k : Kind). record { number = nat_abs f.number; kind = k; value = value })
+    (option_to_list (kind_of_field_type f.type_))
 
-abbrev pub message_item : FieldDescriptor → List Item → List Item
-message_item f inside = item f (trees.message (entries_of_list inside))
+abbrev pub item_of_message : FieldDescriptor → List WireItem → List WireItem
+item_of_message f inside = item_of f (trees.message (entries_of_list inside))
 
 abbrev mutual
   -- what a constant gives to a field
-  pub value_items : OptionScope → FieldDescriptor → ConstantSyntax → List Item
-  value_items at f (integer z) = item f (trees.number z)
-  value_items at f (truth b) = item f (trees.truth b)
+  pub value_items : OptionScope → FieldDescriptor → ConstantSyntax → List WireItem
+  value_items at f (integer z) = item_of f (trees.number z)
+  value_items at f (truth b) = item_of f (trees.truth b)
   value_items at f (dotted name) =
-      flat_map (λ (z : ℤ). item f (trees.number z))
+      flat_map (λ (z : ℤ). item_of f (trees.number z))
       (option_to_list (number_of_value at.files (type_name_of f) name))
-  value_items at f (string pieces) = item f (trees.bytes (unwrap_or (decode pieces) []))
+  value_items at f (string pieces) = item_of f (trees.bytes (unwrap_or (decode pieces) []))
   value_items at f (list cs) = list_items at f cs
-  value_items at f (fields fs) = message_item f (field_items at (type_name_of f) fs)
+  value_items at f (fields fs) = item_of_message f (field_items at (type_name_of f) fs)
 
-  pub list_items : OptionScope → FieldDescriptor → ConstantList → List Item
+  pub list_items : OptionScope → FieldDescriptor → ConstantList → List WireItem
   list_items at f no_constants = []
   list_items at f (more_constants c cs) = value_items at f c ++ list_items at f cs
 
   -- what the fields of a message constant give to the message
-  pub field_items : OptionScope → Text → ConstantFieldList → List Item
+  pub field_items : OptionScope → Text → ConstantFieldList → List WireItem
   field_items at message no_fields = []
   field_items at message (more_fields name c fs) =
       flat_map (λ (g : FieldDescriptor). value_items at g c)
@@ -63,26 +63,26 @@ abbrev mutual
       ++ field_items at message fs
 
 -- what a constant gives to the field that the parts lead to, from the message on
-abbrev pub path_items : OptionScope → ConstantSyntax → Text → List OptionPartSyntax → List Item
+abbrev pub path_items : OptionScope → ConstantSyntax → Text → List OptionPartSyntax → List WireItem
 path_items at value message [] = []
 path_items at value message (p ∷ []) =
     flat_map (λ (g : FieldDescriptor). value_items at g value)
     (option_to_list (part_field at message p))
 path_items at value message (p ∷ q ∷ ps) =
     flat_map
-    (λ (g : FieldDescriptor). message_item g (path_items at value (type_name_of g) (q ∷ ps)))
+    (λ (g : FieldDescriptor). item_of_message g (path_items at value (type_name_of g) (q ∷ ps)))
     (option_to_list (part_field at message p))
 
-abbrev pub named_items : OptionScope → Text → ConstantSyntax → OptionNameSyntax → List Item
+abbrev pub named_items : OptionScope → Text → ConstantSyntax → OptionNameSyntax → List WireItem
 named_items at message value (builtin name) = []
 named_items at message value (custom parts) = path_items at value message parts
 
-abbrev pub option_items : OptionScope → Construct → OptionSyntax → List Item
-option_items at construct o = named_items at (options_message construct) o.value o.name
+abbrev pub items_of_option : OptionScope → Construct → OptionSyntax → List WireItem
+items_of_option at construct o = named_items at (options_message construct) o.value o.name
 
 -- what the statements of one construct denote
 abbrev pub denotes : OptionScope → Construct → List OptionSyntax → Entries
-denotes at construct os = entries_of_list (flat_map (option_items at construct) os)
+denotes at construct os = entries_of_list (flat_map (items_of_option at construct) os)
 
 -- ---- the descriptor with its custom options
 

@@ -19,15 +19,15 @@ pub record Declaration : Type 0 where
   pub parts : MessageParts
 
 -- the name inside the scope, after a dot
-abbrev pub within : Text → Text → Text
-within scope name = scope ++ (46 ∷ name)
+abbrev pub name_within : Text → Text → Text
+name_within scope name = scope ++ (46 ∷ name)
 
 abbrev mutual
   -- the message and those inside it
   pub declared_message : Text → MessageDescriptor → List Declaration
   declared_message scope (a_message parts nested) =
-      record { name = within scope parts.name; parts = parts }
-      ∷ declared_messages (within scope parts.name) nested
+      record { name = name_within scope parts.name; parts = parts }
+      ∷ declared_messages (name_within scope parts.name) nested
 
   pub declared_messages : Text → MessageDescriptors → List Declaration
   declared_messages scope no_messages = []
@@ -36,24 +36,27 @@ abbrev mutual
 -- the package, if any, after a dot
 abbrev pub package_scope : Option Text → Text
 package_scope None = []
-package_scope (Some name) = within [] name
+package_scope (Some name) = name_within [] name
 
-abbrev pub declared_in : FileDescriptor → List Declaration
-declared_in file = flat_map (declared_message (package_scope file.«package»)) file.message_type
+abbrev pub messages_declared_in : FileDescriptor → List Declaration
+messages_declared_in file =
+    flat_map (declared_message (package_scope file.«package»)) file.message_type
 
 -- extensions that stand in the scope, by full name
 abbrev pub extensions_within : Text → List FieldDescriptor → List (Declared FieldDescriptor)
 extensions_within scope fields =
-    map (λ (f : FieldDescriptor). record { name = within scope f.name; what = f }) fields
+    map (λ (f : FieldDescriptor). record { name = name_within scope f.name; what = f }) fields
 
 -- the extensions of a file by full name: those inside messages, and those of the file
 abbrev pub declared_extensions : FileDescriptor → List (Declared FieldDescriptor)
 declared_extensions file =
-    flat_map (λ (d : Declaration). extensions_within d.name d.parts.extension) (declared_in file)
+    flat_map (λ (d : Declaration). extensions_within d.name d.parts.extension)
+    (messages_declared_in file)
     ++ extensions_within (package_scope file.«package») file.extension
 
-abbrev pub extensions_in : FileDescriptor → List FieldDescriptor
-extensions_in file = map (λ (e : Declared FieldDescriptor). e.what) (declared_extensions file)
+abbrev pub extensions_declared_in : FileDescriptor → List FieldDescriptor
+extensions_declared_in file =
+    map (λ (e : Declared FieldDescriptor). e.what) (declared_extensions file)
 
 -- those of the declarations that have the name
 abbrev pub messages_named : Text → List Declaration → List MessageParts
@@ -64,11 +67,11 @@ abbrev pub extends : Text → FieldDescriptor → Bool
 extends name extension = option_map_or (bytes_eq name) extension.extendee false
 
 -- the messages that have the full name, and the extensions of it
-abbrev pub messages_of : List FileDescriptor → Text → List MessageParts
-messages_of files name = messages_named name (flat_map declared_in files)
+abbrev pub messages_with_name : List FileDescriptor → Text → List MessageParts
+messages_with_name files name = messages_named name (flat_map messages_declared_in files)
 
-abbrev pub extensions_of : List FileDescriptor → Text → List FieldDescriptor
-extensions_of files name = filter (extends name) (flat_map extensions_in files)
+abbrev pub extensions_extending : List FileDescriptor → Text → List FieldDescriptor
+extensions_extending files name = filter (extends name) (flat_map extensions_declared_in files)
 
 -- the first of the fields that has the number
 abbrev pub field_numbered : List FieldDescriptor → ℕ → Option FieldDescriptor

@@ -2,23 +2,24 @@
 -- options.
 use Rattle.std.specs.Prelude.{List, ◌++◌, flat_map, option_to_list}
 use Rattle.protobuf_parse_syntax.specs.Trees.{ConstantSyntax, ConstantFieldSyntax, OptionPartSyntax}
-use Rattle.protobuf_parse_model.specs.Contexts.{texts}
+use Rattle.protobuf_parse_model.specs.Contexts.{name_texts}
 use Rattle.protobuf_parse_model.specs.Descriptors.{Text, FieldDescriptor}
 use Rattle.protobuf_parse_model.specs.Environment.{part_text}
 use Rattle.protobuf_parse_model.specs.Faults.{Fault}
 use Rattle.protobuf_parse_wire.specs.declared.customs.fields.OptionPlace.{OptionPlace}
 use Rattle.protobuf_parse_wire.specs.CustomFaults.{constant_name_faults, number_faults, path_faults}
 use Rattle.protobuf_parse_wire.specs.CustomFaults.{step_faults, value_faults}
-use Rattle.protobuf_parse_wire.specs.CustomOptions.{message_item, path_items, value_items}
+use Rattle.protobuf_parse_wire.specs.CustomOptions.{item_of_message, path_items, value_items}
 use Rattle.protobuf_parse_wire.specs.Holding.{files_seen}
-use Rattle.protobuf_parse_wire.specs.OptionFields.{OptionScope, constant_field, takes, type_name_of}
-use Rattle.protobuf_parse_wire.specs.Views.{Item}
+use Rattle.protobuf_parse_wire.specs.OptionFields.{OptionScope, constant_field, type_takes}
+use Rattle.protobuf_parse_wire.specs.OptionFields.{type_name_of}
+use Rattle.protobuf_parse_wire.specs.Views.{WireItem}
 
-abbrev pub place_view : OptionPlace → OptionScope
-place_view p = record {
+abbrev pub option_place_view : OptionPlace → OptionScope
+option_place_view p = record {
   files = files_seen p.known.now.reach;
   visible = files_seen p.known.now.sight;
-  scope = texts p.scope.now;
+  scope = name_texts p.scope.now;
 }
 
 -- of a value for the field that a name means
@@ -29,19 +30,19 @@ abbrev pub field_faults_of : OptionScope → Text → Text → ConstantFieldSynt
 field_faults_of at option message f = constant_name_faults at message f.name ++ flat_map
     (given_faults at option f.value) (option_to_list (constant_field at message f.name))
 
-abbrev pub given_items : OptionScope → ConstantSyntax → FieldDescriptor → List Item
+abbrev pub given_items : OptionScope → ConstantSyntax → FieldDescriptor → List WireItem
 given_items at c g = value_items at g c
 
-abbrev pub field_items_of : OptionScope → Text → ConstantFieldSyntax → List Item
-field_items_of at message f = flat_map (given_items at f.value)
+abbrev pub given_field_items : OptionScope → Text → ConstantFieldSyntax → List WireItem
+given_field_items at message f = flat_map (given_items at f.value)
     (option_to_list (constant_field at message f.name))
 
 -- of a field that other parts follow, which the part means
 abbrev pub through_faults : OptionScope → Text → ConstantSyntax → OptionPartSyntax
     → List OptionPartSyntax → FieldDescriptor → List Fault
 through_faults at option value p ps g = number_faults g ++ step_faults (part_text p)
-    (takes g.type_) (path_faults at option value (type_name_of g) ps)
+    (type_takes g.type_) (path_faults at option value (type_name_of g) ps)
 
 abbrev pub through_items : OptionScope → ConstantSyntax → List OptionPartSyntax → FieldDescriptor
-    → List Item
-through_items at value ps g = message_item g (path_items at value (type_name_of g) ps)
+    → List WireItem
+through_items at value ps g = item_of_message g (path_items at value (type_name_of g) ps)

@@ -21,7 +21,7 @@ use Rattle.protobuf_parse_wire.specs.declared.customs.places.DeclaredPlaces.{Dec
 use Rattle.protobuf_parse_wire.specs.Groups.{group}
 use Rattle.protobuf_parse_wire.specs.Known.{field_seen}
 use Rattle.protobuf_parse_wire.specs.OptionFields.{declared_enums}
-use Rattle.protobuf_parse_wire.specs.Places.{Inside, Placed, down, inside_file, one_of}
+use Rattle.protobuf_parse_wire.specs.Places.{Inside, Placed, down, inside_file, one_inside}
 use Rattle.protobuf_parse_wire.specs.Places.{placed_enums, placed_extensions, placed_messages}
 use Rattle.protobuf_parse_wire.specs.SmallValues.{HaveSmall}
 
@@ -138,7 +138,7 @@ inside_of None path = None
 inside_of (Some file) path = down (Some (inside_file file)) path
 
 abbrev pub at_spot : {T : Type 0} → (Inside → List T) → PickedFiles → Spot → Option T
-at_spot list picked s = one_of list (inside_of (file_numbered picked s.file) s.path) s.index
+at_spot list picked s = one_inside list (inside_of (file_numbered picked s.file) s.path) s.index
 
 abbrev pub at_spots : {T : Type 0} → (Inside → List T) → PickedFiles → List Spot → List T
 at_spots list picked spots = flat_map (λ s. option_to_list (at_spot list picked s)) spots

@@ -15,46 +15,49 @@ use Rattle.protobuf_parse_wire.specs.declared.fault.ReadFault.TheVariants.{Unkno
 use Rattle.protobuf_parse_wire.specs.declared.reader.index.Index.{Index}
 use Rattle.protobuf_parse_wire.specs.declared.reader.visited.Visited.{Visited}
 use Rattle.protobuf_parse_wire.specs.Groups.{group}
-use Rattle.protobuf_parse_wire.specs.Declarations.{Declaration, messages_named, messages_of}
-use Rattle.protobuf_parse_wire.specs.Declarations.{extends, extensions_of, have_distinct_numbers}
-use Rattle.protobuf_parse_wire.specs.Reading.{Read, Numbers, only_one}
+use Rattle.protobuf_parse_wire.specs.Declarations.{Declaration, messages_named, messages_with_name}
+use Rattle.protobuf_parse_wire.specs.Declarations.{extends, extensions_extending}
+use Rattle.protobuf_parse_wire.specs.Declarations.{have_distinct_numbers}
+use Rattle.protobuf_parse_wire.specs.Reading.{WireRead, FieldsByNumber, only_one}
 
 -- a message without those inside it
 abbrev pub parts_seen : MessageDescriptor → MessageParts
 parts_seen (a_message parts nested) = parts
 
 -- what the index has under a name
-abbrev pub messages_in : Index → Text → List MessageParts
-messages_in index name =
+abbrev pub indexed_messages : Index → Text → List MessageParts
+indexed_messages index name =
     map (λ (m : Bor DescriptorProto). parts_seen (message_view m.now)) (group index.messages name)
 
-abbrev pub extensions_in : Index → Text → List FieldDescriptor
-extensions_in index name =
+abbrev pub indexed_extensions : Index → Text → List FieldDescriptor
+indexed_extensions index name =
     map (λ (f : Bor FieldDescriptorProto). field_view f.now) (group index.extensions name)
 
 -- entering a message by the index
-abbrev pub entered_by : Index → Option Text → Read Numbers
+abbrev pub entered_by : Index → Option Text → WireRead FieldsByNumber
 entered_by index None = Err UnknownMessage
-entered_by index (Some name) = only_one (messages_in index name) (extensions_in index name)
+entered_by index (Some name) =
+    only_one (indexed_messages index name) (indexed_extensions index name)
 
 -- The index has these messages and these extensions in addition, behind what it had.
-pub record Adds (old new : Index) (ds : List Declaration) (es : List FieldDescriptor) : Type 0 where
+pub record IndexAdds (old new : Index) (ds : List Declaration) (es : List FieldDescriptor) : Type
+    0 where
   pub messages : (name : Text)
-      → messages_in new name ≡ messages_in old name ++ messages_named name ds
+      → indexed_messages new name ≡ indexed_messages old name ++ messages_named name ds
   pub extensions : (name : Text)
-      → extensions_in new name ≡ extensions_in old name ++ filter (extends name) es
+      → indexed_extensions new name ≡ indexed_extensions old name ++ filter (extends name) es
 
 -- these messages, with the extensions inside them
 abbrev pub AddsMessages : Index → Index → List Declaration → Type 0
-AddsMessages old new ds = Adds old new ds (flat_map (λ d. d.parts.extension) ds)
+AddsMessages old new ds = IndexAdds old new ds (flat_map (λ d. d.parts.extension) ds)
 
 -- The index has what the files declare.
 pub record Indexes (files : List FileDescriptor) (index : Index) : Type 0 where
-  pub messages : (name : Text) → messages_in index name ≡ messages_of files name
-  pub extensions : (name : Text) → extensions_in index name ≡ extensions_of files name
+  pub messages : (name : Text) → indexed_messages index name ≡ messages_with_name files name
+  pub extensions : (name : Text) → indexed_extensions index name ≡ extensions_extending files name
 
 -- which field each number names by a map, whose keys are numbers of 31 bits and a sign
-abbrev pub numbered : BTreeMap ℤ (Bor FieldDescriptorProto) → Numbers
+abbrev pub numbered : BTreeMap ℤ (Bor FieldDescriptorProto) → FieldsByNumber
 numbered fields n = if nat_lt n (2 ^ 31)
     then option_map (λ (f : Bor FieldDescriptorProto). field_view f.now)
     (get int_cmp fields (pos n)) else None

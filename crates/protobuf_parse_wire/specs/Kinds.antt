@@ -24,32 +24,32 @@ pub data Code : Type 0 where
   zigzag : Code
 
 -- the values of a kind: whole numbers of 32 or 64 bits, truth values, texts, bytes or messages
-pub data Shape : Type 0 where
-  whole : Word → Width → Code → Shape
-  truth : Shape
-  text : Shape
-  octets : Shape
-  message : Shape
+pub data KindShape : Type 0 where
+  whole : Word → Width → Code → KindShape
+  truth : KindShape
+  text : KindShape
+  octets : KindShape
+  message : KindShape
 
-abbrev pub shape : Kind → Shape
-shape kinds.Int32 = whole varint w32 twos_complement
-shape kinds.Int64 = whole varint w64 twos_complement
-shape kinds.Uint32 = whole varint w32 unsigned
-shape kinds.Uint64 = whole varint w64 unsigned
-shape kinds.Sint32 = whole varint w32 zigzag
-shape kinds.Sint64 = whole varint w64 zigzag
-shape kinds.Fixed32 = whole four_bytes w32 unsigned
-shape kinds.Sfixed32 = whole four_bytes w32 twos_complement
-shape kinds.Fixed64 = whole eight_bytes w64 unsigned
-shape kinds.Sfixed64 = whole eight_bytes w64 twos_complement
-shape kinds.Bool = truth
-shape kinds.String = text
-shape kinds.Bytes = octets
-shape kinds.Enum = whole varint w32 twos_complement
-shape kinds.Message = message
+abbrev pub shape_of_kind : Kind → KindShape
+shape_of_kind kinds.Int32 = whole varint w32 twos_complement
+shape_of_kind kinds.Int64 = whole varint w64 twos_complement
+shape_of_kind kinds.Uint32 = whole varint w32 unsigned
+shape_of_kind kinds.Uint64 = whole varint w64 unsigned
+shape_of_kind kinds.Sint32 = whole varint w32 zigzag
+shape_of_kind kinds.Sint64 = whole varint w64 zigzag
+shape_of_kind kinds.Fixed32 = whole four_bytes w32 unsigned
+shape_of_kind kinds.Sfixed32 = whole four_bytes w32 twos_complement
+shape_of_kind kinds.Fixed64 = whole eight_bytes w64 unsigned
+shape_of_kind kinds.Sfixed64 = whole eight_bytes w64 twos_complement
+shape_of_kind kinds.Bool = truth
+shape_of_kind kinds.String = text
+shape_of_kind kinds.Bytes = octets
+shape_of_kind kinds.Enum = whole varint w32 twos_complement
+shape_of_kind kinds.Message = message
 
 -- the wire type in the tag: VARINT, I64, LEN or I32
-abbrev pub wire_type : Shape → ℕ
+abbrev pub wire_type : KindShape → ℕ
 wire_type (whole varint w c) = 0
 wire_type (whole eight_bytes w c) = 1
 wire_type (whole four_bytes w c) = 5
@@ -59,25 +59,25 @@ wire_type octets = 2
 wire_type message = 2
 
 -- the kind of a field's type; floats and groups have none
-abbrev pub kind_of : FieldType → Option Kind
-kind_of types.Int32 = Some kinds.Int32
-kind_of types.Int64 = Some kinds.Int64
-kind_of types.Uint32 = Some kinds.Uint32
-kind_of types.Uint64 = Some kinds.Uint64
-kind_of types.Sint32 = Some kinds.Sint32
-kind_of types.Sint64 = Some kinds.Sint64
-kind_of types.Fixed32 = Some kinds.Fixed32
-kind_of types.Sfixed32 = Some kinds.Sfixed32
-kind_of types.Fixed64 = Some kinds.Fixed64
-kind_of types.Sfixed64 = Some kinds.Sfixed64
-kind_of types.Bool = Some kinds.Bool
-kind_of types.String = Some kinds.String
-kind_of types.Bytes = Some kinds.Bytes
-kind_of types.Enum = Some kinds.Enum
-kind_of types.Message = Some kinds.Message
-kind_of types.Float = None
-kind_of types.Double = None
-kind_of types.Group = None
+abbrev pub kind_of_field_type : FieldType → Option Kind
+kind_of_field_type types.Int32 = Some kinds.Int32
+kind_of_field_type types.Int64 = Some kinds.Int64
+kind_of_field_type types.Uint32 = Some kinds.Uint32
+kind_of_field_type types.Uint64 = Some kinds.Uint64
+kind_of_field_type types.Sint32 = Some kinds.Sint32
+kind_of_field_type types.Sint64 = Some kinds.Sint64
+kind_of_field_type types.Fixed32 = Some kinds.Fixed32
+kind_of_field_type types.Sfixed32 = Some kinds.Sfixed32
+kind_of_field_type types.Fixed64 = Some kinds.Fixed64
+kind_of_field_type types.Sfixed64 = Some kinds.Sfixed64
+kind_of_field_type types.Bool = Some kinds.Bool
+kind_of_field_type types.String = Some kinds.String
+kind_of_field_type types.Bytes = Some kinds.Bytes
+kind_of_field_type types.Enum = Some kinds.Enum
+kind_of_field_type types.Message = Some kinds.Message
+kind_of_field_type types.Float = None
+kind_of_field_type types.Double = None
+kind_of_field_type types.Group = None
 
 -- from 0 up to before 2 ^ 32 or 2 ^ 64
 abbrev pub fits_unsigned : Width → ℤ → Bool
@@ -90,7 +90,7 @@ fits_signed w (pos n) = nat_lt n (2 ^ hbits w)
 fits_signed w (negsuc n) = nat_lt n (2 ^ hbits w)
 
 -- the range of a kind's whole numbers; no other kind has any
-abbrev pub fits : Shape → ℤ → Bool
+abbrev pub fits : KindShape → ℤ → Bool
 fits (whole word w unsigned) v = fits_unsigned w v
 fits (whole word w twos_complement) v = fits_signed w v
 fits (whole word w zigzag) v = fits_signed w v
@@ -99,5 +99,5 @@ fits text v = false
 fits octets v = false
 fits message v = false
 
-abbrev pub InRange : Shape → ℤ → Type 0
+abbrev pub InRange : KindShape → ℤ → Type 0
 InRange s v = IsTrue (fits s v)

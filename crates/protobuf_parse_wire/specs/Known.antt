@@ -28,19 +28,19 @@ fields_among message ds = flat_map (λ (parts : MessageParts). parts.field)
     (messages_named message ds)
 
 -- the values of the enums among these that have the full name
-abbrev pub values_of : Text → Declared EnumDescriptor → List EnumValueDescriptor
-values_of enum_name e = if bytes_eq e.name enum_name then e.what.value else []
+abbrev pub values_if_named : Text → Declared EnumDescriptor → List EnumValueDescriptor
+values_if_named enum_name e = if bytes_eq e.name enum_name then e.what.value else []
 
 abbrev pub values_among : Text → List (Declared EnumDescriptor) → List EnumValueDescriptor
-values_among enum_name es = flat_map (values_of enum_name) es
+values_among enum_name es = flat_map (values_if_named enum_name) es
 
 abbrev pub number_among : List EnumValueDescriptor → Text → Option ℤ
 number_among values name = option_map (λ (v : EnumValueDescriptor). v.number)
     (find (λ (v : EnumValueDescriptor). bytes_eq v.name name) values)
 
 -- the extension, by its full name
-abbrev pub extension_named : Text → Bor FieldDescriptorProto → Declared FieldDescriptor
-extension_named name f = record { name = name; what = field_view f.now }
+abbrev pub extension_under_name : Text → Bor FieldDescriptorProto → Declared FieldDescriptor
+extension_under_name name f = record { name = name; what = field_view f.now }
 
 -- what is declared, without its full name
 abbrev pub undeclared : Option (Declared FieldDescriptor) → Option FieldDescriptor

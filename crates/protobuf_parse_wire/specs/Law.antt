@@ -5,13 +5,13 @@ use Rattle.std.specs.Str.{IsUtf8}
 use Rattle.protobuf_parse_model.specs.Descriptors.{Text, FileDescriptor, FieldDescriptor}
 use Rattle.protobuf_parse_model.specs.Descriptors.{MessageParts}
 use Rattle.protobuf_parse_wire.specs.declared.kind.Kind.{Kind}
-use Rattle.protobuf_parse_wire.specs.Kinds.{Shape, InRange, whole, truth, text, octets, message}
-use Rattle.protobuf_parse_wire.specs.Kinds.{shape, kind_of}
+use Rattle.protobuf_parse_wire.specs.Kinds.{KindShape, InRange, whole, truth, text, octets, message}
+use Rattle.protobuf_parse_wire.specs.Kinds.{shape_of_kind, kind_of_field_type}
 use Rattle.protobuf_parse_wire.specs.Trees as trees
 use Rattle.protobuf_parse_wire.specs.Trees.{EntryTree, Entries, ValueTree, Field, fields_of_list}
 use Rattle.protobuf_parse_wire.specs.Trees.{no_entries, entry}
 use Rattle.protobuf_parse_wire.specs.Wire.{Spells}
-use Rattle.protobuf_parse_wire.specs.Declarations.{messages_of, extensions_of}
+use Rattle.protobuf_parse_wire.specs.Declarations.{messages_with_name, extensions_extending}
 use Rattle.protobuf_parse_wire.specs.Declarations.{have_distinct_numbers}
 use Rattle.protobuf_parse_wire.specs.Reading.{reader}
 
@@ -40,7 +40,7 @@ abbrev mutual
   value_depth (trees.message es) = depth es
 
 -- A string is UTF-8.
-abbrev pub IsText : Shape → List ℕ → Type 0
+abbrev pub IsText : KindShape → List ℕ → Type 0
 IsText text bs = IsUtf8 bs
 IsText octets bs = Unit {0}
 IsText (whole word w code) bs = Unit {0}
@@ -52,27 +52,27 @@ IsText message bs = Unit {0}
 pub record Enters (files : List FileDescriptor) (name : Text)
     (P : List FieldDescriptor → Type 0) : Type 0 where
   pub parts : MessageParts
-  pub once : messages_of files name ≡ parts ∷ []
-  pub distinct : IsTrue (have_distinct_numbers (parts.field ++ extensions_of files name))
-  pub inside : P (parts.field ++ extensions_of files name)
+  pub once : messages_with_name files name ≡ parts ∷ []
+  pub distinct : IsTrue (have_distinct_numbers (parts.field ++ extensions_extending files name))
+  pub inside : P (parts.field ++ extensions_extending files name)
 
 -- The field is one of the fields, with the number and the kind. A descriptor's number has at most
 -- 31 bits.
-pub record IsField (fields : List FieldDescriptor) (n : ℕ) (k : Kind)
+pub record IsFieldAmong (fields : List FieldDescriptor) (n : ℕ) (k : Kind)
     (f : FieldDescriptor) : Type 0 where
   pub declared : Contains fields f
   pub number : f.number ≡ pos n
   pub small : n < 2 ^ 31
-  pub kind : kind_of f.type_ ≡ Some k
+  pub kind : kind_of_field_type f.type_ ≡ Some k
 
 abbrev mutual
   -- Each entry has the number and the kind of one of the fields, and a value of that kind.
   pub Suit : List FileDescriptor → List FieldDescriptor → Entries → Type 0
   Suit files fields no_entries = Unit {0}
-  Suit files fields (entry n k v others) = (f : FieldDescriptor) × IsField fields n k f
-      × ValueSuits files f (shape k) v × Suit files fields others
+  Suit files fields (entry n k v others) = (f : FieldDescriptor) × IsFieldAmong fields n k f
+      × ValueSuits files f (shape_of_kind k) v × Suit files fields others
 
-  pub ValueSuits : List FileDescriptor → FieldDescriptor → Shape → EntryTree → Type 0
+  pub ValueSuits : List FileDescriptor → FieldDescriptor → KindShape → EntryTree → Type 0
   ValueSuits files f s (trees.number v) = InRange s v
   ValueSuits files f s (trees.truth b) = Unit {0}
   ValueSuits files f s (trees.bytes bs) = IsText s bs

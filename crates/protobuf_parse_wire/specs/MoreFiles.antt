@@ -10,9 +10,9 @@ use Rattle.protobuf_parse_model.specs.FilesByPath.{Trees, trees_at}
 use Rattle.protobuf_parse_model.specs.Linking.{link_faults}
 use Rattle.protobuf_parse_model.specs.declared.customs.Construct.{Construct}
 use Rattle.protobuf_parse_wire.specs.OptionFields.{OptionScope, field_named, number_of_value}
-use Rattle.protobuf_parse_wire.specs.OptionFields.{is_message, extension_meant}
+use Rattle.protobuf_parse_wire.specs.OptionFields.{names_message, extension_meant}
 use Rattle.protobuf_parse_wire.specs.CustomOptions.{denotes}
-use Rattle.protobuf_parse_wire.specs.CustomFaults.{statement_faults}
+use Rattle.protobuf_parse_wire.specs.CustomFaults.{custom_statement_faults}
 use Rattle.protobuf_parse_wire.specs.DescriptorsByPath.{Environments, descriptors_at, HasFileScopes}
 use Rattle.protobuf_parse_wire.specs.DescriptorsByPath.{AreWithin}
 
@@ -27,7 +27,7 @@ pub record KeepsLookups (at at' : OptionScope) : Type 0 where
       → number_of_value at.files enum_name name ≡ Some z
       → number_of_value at'.files enum_name name ≡ Some z
   pub messages :
-      (name : Text) → is_message at.files name ≡ true → is_message at'.files name ≡ true
+      (name : Text) → names_message at.files name ≡ true → names_message at'.files name ≡ true
   pub extensions :
       (name : Text) (d : Declared FieldDescriptor)
       → extension_meant at name ≡ Some d → extension_meant at' name ≡ Some d
@@ -36,7 +36,7 @@ pub record KeepsLookups (at at' : OptionScope) : Type 0 where
 -- denote what they denote from the first.
 pub record KeepsMeaning (at at' : OptionScope) (construct : Construct)
     (os : List OptionSyntax) : Type 0 where
-  pub faultless : statement_faults at' construct os ≡ []
+  pub faultless : custom_statement_faults at' construct os ≡ []
   pub same : denotes at' construct os ≡ denotes at construct os
 
 -- Where names keep their meaning, statements in which nothing is wrong keep theirs.
@@ -44,7 +44,7 @@ abbrev pub LookupsKeepMeaning : Type 0
 LookupsKeepMeaning =
     (at at' : OptionScope) → KeepsLookups at at'
     → (construct : Construct) (os : List OptionSyntax)
-    → statement_faults at construct os ≡ [] → KeepsMeaning at at' construct os
+    → custom_statement_faults at construct os ≡ [] → KeepsMeaning at at' construct os
 
 -- what is seen from a scope in a file that sees the files `visible`, by the descriptors of the
 -- paths
@@ -65,5 +65,5 @@ MoreFilesKeepMeaning =
     → (visible : List FileDescriptor) (scope : Scope) (construct : Construct)
     (os : List OptionSyntax)
     → (let at : OptionScope = known_at trees env reached visible scope in
-    statement_faults at construct os ≡ []
+    custom_statement_faults at construct os ≡ []
     → KeepsMeaning at (known_at trees env more visible scope) construct os)

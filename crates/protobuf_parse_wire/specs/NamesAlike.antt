@@ -7,13 +7,14 @@ use Rattle.protobuf_parse_model.specs.Declarations.{Declared, file_scope}
 use Rattle.protobuf_parse_model.specs.Linking.{type_names, extension_names, occurrences}
 use Rattle.protobuf_parse_model.specs.Environment.{Environment}
 use Rattle.protobuf_parse_model.specs.FileDescriptor.{file_of}
-use Rattle.protobuf_parse_wire.specs.Declarations.{Declaration, declared_in, declared_extensions}
+use Rattle.protobuf_parse_wire.specs.Declarations.{Declaration, messages_declared_in}
+use Rattle.protobuf_parse_wire.specs.Declarations.{declared_extensions}
 use Rattle.protobuf_parse_wire.specs.OptionFields.{declared_enums}
 
 -- the full names of the messages of a descriptor and of its enums, those of the messages behind
 -- maps and groups among them; and of its extensions
 abbrev pub message_names : FileDescriptor → List Text
-message_names file = map (λ (d : Declaration). d.name) (declared_in file)
+message_names file = map (λ (d : Declaration). d.name) (messages_declared_in file)
 
 abbrev pub enum_names : FileDescriptor → List Text
 enum_names file = map (λ (e : Declared EnumDescriptor). e.name) (declared_enums file)

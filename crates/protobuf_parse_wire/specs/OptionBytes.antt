@@ -6,7 +6,7 @@ use Rattle.protobuf_parse_model.specs.Environment.{CustomBytes, Customs}
 use Rattle.protobuf_parse_wire.specs.Encoded.{encoded}
 use Rattle.protobuf_parse_wire.specs.OptionLaw.{HasSmallValues}
 use Rattle.protobuf_parse_wire.specs.CustomOptions.{denotes, SpellsOptions}
-use Rattle.protobuf_parse_wire.specs.CustomFaults.{option_faults, statement_faults}
+use Rattle.protobuf_parse_wire.specs.CustomFaults.{custom_option_faults, custom_statement_faults}
 
 abbrev pub option_bytes : (files visible : List FileDescriptor) → CustomBytes
 option_bytes files visible = λ construct scope os.
@@ -15,7 +15,7 @@ option_bytes files visible = λ construct scope os.
 -- what custom options become in a file that reaches the first files and sees the second
 abbrev pub known_customs : (files visible : List FileDescriptor) → Customs
 known_customs files visible = record {
-  faults = λ construct scope os. statement_faults
+  faults = λ construct scope os. custom_statement_faults
       (record { files = files; visible = visible; scope = scope })
       construct os;
   bytes = option_bytes files visible;
@@ -25,5 +25,5 @@ known_customs files visible = record {
 abbrev pub OptionBytesSpell : Type 0
 OptionBytesSpell =
     (files visible : List FileDescriptor) (t : FileSyntax)
-    → HasSmallValues files → option_faults files visible t ≡ []
+    → HasSmallValues files → custom_option_faults files visible t ≡ []
     → SpellsOptions files visible t (option_bytes files visible)

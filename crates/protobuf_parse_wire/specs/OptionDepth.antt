@@ -25,13 +25,13 @@ abbrev mutual
   fields_depth no_fields = 0
   fields_depth (more_fields name c fs) = max (constant_depth c) (fields_depth fs)
 
-abbrev pub parts_of : OptionNameSyntax → List OptionPartSyntax
-parts_of (builtin name) = []
-parts_of (custom parts) = parts
+abbrev pub name_parts : OptionNameSyntax → List OptionPartSyntax
+name_parts (builtin name) = []
+name_parts (custom parts) = parts
 
 -- The name has at most 100 parts, and at most 100 message constants stand inside one another.
-pub record IsShallow (o : OptionSyntax) : Type 0 where
-  pub name : length (parts_of o.name) ≤ 100
+pub record OptionIsShallow (o : OptionSyntax) : Type 0 where
+  pub name : length (name_parts o.name) ≤ 100
   pub value : constant_depth o.value ≤ 100
 
 -- What such statements denote has at most 200 messages inside one another, so that the reader never
@@ -39,5 +39,5 @@ pub record IsShallow (o : OptionSyntax) : Type 0 where
 abbrev pub NeverTooDeep : Type 0
 NeverTooDeep =
     (at : OptionScope) (construct : Construct) (os : List OptionSyntax)
-    → ((o : OptionSyntax) → Among os o → IsShallow o)
+    → ((o : OptionSyntax) → Among os o → OptionIsShallow o)
     → depth (denotes at construct os) ≤ 200

@@ -1,4 +1,4 @@
--- Which field each part of an option's name means, and what values a field takes.
+-- Which field each part of an option's name means, and what values a field type_takes.
 --
 -- A name begins at the options message of its construct. A plain part means a field of the message,
 -- a part in parentheses an extension of it, looked up as a type is: from the scope outward, among
@@ -21,37 +21,38 @@ use Rattle.protobuf_parse_model.specs.declared.customs.Construct.{Construct}
 use Rattle.protobuf_parse_model.specs.declared.customs.Construct.TheVariants as of
 use Rattle.protobuf_parse_wire.specs.declared.kind.Kind.{Kind}
 use Rattle.protobuf_parse_wire.specs.declared.kind.Kind.TheVariants as kinds
-use Rattle.protobuf_parse_wire.specs.Declarations.{Declaration, within, package_scope, declared_in}
-use Rattle.protobuf_parse_wire.specs.Declarations.{declared_extensions, messages_of, extends}
+use Rattle.protobuf_parse_wire.specs.Declarations.{Declaration, name_within, package_scope}
+use Rattle.protobuf_parse_wire.specs.Declarations.{messages_declared_in}
+use Rattle.protobuf_parse_wire.specs.Declarations.{declared_extensions, messages_with_name, extends}
 
 -- ---- what files declare, by their descriptors
 
 abbrev pub enum_in : Text → EnumDescriptor → Declared EnumDescriptor
-enum_in scope e = record { name = within scope e.name; what = e }
+enum_in scope e = record { name = name_within scope e.name; what = e }
 
 abbrev pub declared_enums : FileDescriptor → List (Declared EnumDescriptor)
 declared_enums file = flat_map (λ (d : Declaration). map (enum_in d.name) d.parts.enum_type)
-    (declared_in file) ++ map (enum_in (package_scope file.«package»)) file.enum_type
+    (messages_declared_in file) ++ map (enum_in (package_scope file.«package»)) file.enum_type
 
 -- the fields of the message of that full name
 abbrev pub fields_of_message : List FileDescriptor → Text → List FieldDescriptor
 fields_of_message files message =
-    flat_map (λ (parts : MessageParts). parts.field) (messages_of files message)
+    flat_map (λ (parts : MessageParts). parts.field) (messages_with_name files message)
 
 abbrev pub field_named : List FileDescriptor → Text → Text → Option FieldDescriptor
 field_named files message name =
     find (λ (f : FieldDescriptor). bytes_eq f.name name) (fields_of_message files message)
 
 -- the number of the value that has the name, in the enum of that full name
-abbrev pub values_in : List FileDescriptor → Text → List EnumValueDescriptor
-values_in files enum_name =
+abbrev pub values_of_enum : List FileDescriptor → Text → List EnumValueDescriptor
+values_of_enum files enum_name =
     flat_map (λ (e : Declared EnumDescriptor). if bytes_eq e.name enum_name then e.what.value
     else []) (flat_map declared_enums files)
 
 abbrev pub number_of_value : List FileDescriptor → Text → Text → Option ℤ
 number_of_value files enum_name name =
     option_map (λ (v : EnumValueDescriptor). v.number)
-    (find (λ (v : EnumValueDescriptor). bytes_eq v.name name) (values_in files enum_name))
+    (find (λ (v : EnumValueDescriptor). bytes_eq v.name name) (values_of_enum files enum_name))
 
 -- ---- where options are set
 
@@ -78,13 +79,13 @@ abbrev pub extension_meant : OptionScope → Text → Option (Declared FieldDesc
 extension_meant at name = meaning (flat_map declared_extensions at.visible) at.scope name
 
 -- whether a message has the name, and not an enum
-abbrev pub is_message : List FileDescriptor → Text → Bool
-is_message files name =
-    list_any (λ (d : Declaration). bytes_eq name d.name) (flat_map declared_in files)
+abbrev pub names_message : List FileDescriptor → Text → Bool
+names_message files name =
+    list_any (λ (d : Declaration). bytes_eq name d.name) (flat_map messages_declared_in files)
 
 -- An extendee that names an enum extends no message.
 abbrev pub extends_message : List FileDescriptor → Text → FieldDescriptor → Bool
-extends_message files message f = extends message f && is_message files message
+extends_message files message f = extends message f && names_message files message
 
 -- the extension, if it extends the message
 abbrev pub if_extends : List FileDescriptor → Text → Option (Declared FieldDescriptor)
@@ -111,7 +112,7 @@ constant_field at message (url_name name) = None
 abbrev pub type_name_of : FieldDescriptor → Text
 type_name_of f = unwrap_or f.type_name []
 
--- ---- what a field takes
+-- ---- what a field type_takes
 
 pub data Takes : Type 0 where
   integers : Kind → Takes
@@ -125,25 +126,25 @@ pub data Takes : Type 0 where
 
 -- A map is a field with the messages behind it: one for each of its entries, with `key` and
 -- `value`.
-abbrev pub takes : FieldType → Takes
-takes types.Int32 = integers kinds.Int32
-takes types.Int64 = integers kinds.Int64
-takes types.Uint32 = integers kinds.Uint32
-takes types.Uint64 = integers kinds.Uint64
-takes types.Sint32 = integers kinds.Sint32
-takes types.Sint64 = integers kinds.Sint64
-takes types.Fixed32 = integers kinds.Fixed32
-takes types.Sfixed32 = integers kinds.Sfixed32
-takes types.Fixed64 = integers kinds.Fixed64
-takes types.Sfixed64 = integers kinds.Sfixed64
-takes types.Bool = truths
-takes types.String = texts
-takes types.Bytes = octets
-takes types.Enum = names_of_values
-takes types.Message = messages
-takes types.Float = floats
-takes types.Double = floats
-takes types.Group = groups
+abbrev pub type_takes : FieldType → Takes
+type_takes types.Int32 = integers kinds.Int32
+type_takes types.Int64 = integers kinds.Int64
+type_takes types.Uint32 = integers kinds.Uint32
+type_takes types.Uint64 = integers kinds.Uint64
+type_takes types.Sint32 = integers kinds.Sint32
+type_takes types.Sint64 = integers kinds.Sint64
+type_takes types.Fixed32 = integers kinds.Fixed32
+type_takes types.Sfixed32 = integers kinds.Sfixed32
+type_takes types.Fixed64 = integers kinds.Fixed64
+type_takes types.Sfixed64 = integers kinds.Sfixed64
+type_takes types.Bool = truths
+type_takes types.String = texts
+type_takes types.Bytes = octets
+type_takes types.Enum = names_of_values
+type_takes types.Message = messages
+type_takes types.Float = floats
+type_takes types.Double = floats
+type_takes types.Group = groups
 
 -- the kind of the integers that are taken, where any are
 abbrev pub integer_kind : Takes → Option Kind

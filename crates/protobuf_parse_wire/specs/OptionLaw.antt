@@ -10,24 +10,24 @@ use Rattle.protobuf_parse_model.specs.Descriptors.{MessageParts}
 use Rattle.protobuf_parse_model.specs.Faults.{Among}
 use Rattle.protobuf_parse_model.specs.declared.customs.Construct.{Construct}
 use Rattle.protobuf_parse_wire.specs.Wire.{Spells}
-use Rattle.protobuf_parse_wire.specs.Declarations.{messages_of, extensions_of}
+use Rattle.protobuf_parse_wire.specs.Declarations.{messages_with_name, extensions_extending}
 use Rattle.protobuf_parse_wire.specs.Declarations.{have_distinct_numbers}
 use Rattle.protobuf_parse_wire.specs.Reading.{reader}
 use Rattle.protobuf_parse_wire.specs.Law.{said, depth}
 use Rattle.protobuf_parse_wire.specs.OptionFields.{OptionScope, options_message, fields_of_message}
 use Rattle.protobuf_parse_wire.specs.OptionFields.{number_of_value}
 use Rattle.protobuf_parse_wire.specs.CustomOptions.{denotes}
-use Rattle.protobuf_parse_wire.specs.CustomFaults.{statement_faults}
+use Rattle.protobuf_parse_wire.specs.CustomFaults.{custom_statement_faults}
 
 -- The message is declared once, and no two of its fields and extensions have one number.
 pub record IsEntered (files : List FileDescriptor) (name : Text) : Type 0 where
   pub parts : MessageParts
-  pub once : messages_of files name ≡ parts ∷ []
-  pub distinct : IsTrue (have_distinct_numbers (parts.field ++ extensions_of files name))
+  pub once : messages_with_name files name ≡ parts ∷ []
+  pub distinct : IsTrue (have_distinct_numbers (parts.field ++ extensions_extending files name))
 
 -- the fields of the message and the extensions of it
 abbrev pub fields_at : List FileDescriptor → Text → List FieldDescriptor
-fields_at files name = fields_of_message files name ++ extensions_of files name
+fields_at files name = fields_of_message files name ++ extensions_extending files name
 
 -- The numbers of the values of enums have 32 bits, as those of every descriptor have.
 abbrev pub HasSmallValues : List FileDescriptor → Type 0
@@ -50,7 +50,7 @@ OptionsAreRead =
     (at : OptionScope) (construct : Construct) (os : List OptionSyntax) (bs : List ℕ)
     → IsReadable at
     → IsEntered at.files (options_message construct)
-    → statement_faults at construct os ≡ []
+    → custom_statement_faults at construct os ≡ []
     → depth (denotes at construct os) ≤ 256
     → length bs < 2 ^ 64
     → Spells (denotes at construct os) bs

@@ -4,8 +4,8 @@ use Rattle.std.specs.Prelude.{slice_get}
 use Rattle.protobuf_parse_model.specs.Descriptors.{Text, FileDescriptor, FieldDescriptor}
 use Rattle.protobuf_parse_model.specs.Descriptors.{EnumDescriptor, MessageDescriptor}
 use Rattle.protobuf_parse_model.specs.Descriptors.{MessageDescriptors, a_message, no_messages}
-use Rattle.protobuf_parse_model.specs.Descriptors.{messages, list_of}
-use Rattle.protobuf_parse_wire.specs.Declarations.{within, package_scope}
+use Rattle.protobuf_parse_model.specs.Descriptors.{messages, messages_list}
+use Rattle.protobuf_parse_wire.specs.Declarations.{name_within, package_scope}
 
 -- ---- the way down
 
@@ -17,7 +17,7 @@ pub record Inside : Type 0 where
 
 abbrev pub inside_message : MessageDescriptor → Inside
 inside_message (a_message parts nested) = record {
-  messages = list_of nested;
+  messages = messages_list nested;
   enums = parts.enum_type;
   extensions = parts.extension;
 }
@@ -40,9 +40,9 @@ down inside [] = inside
 down inside (index ∷ path) = down (next_inside inside index) path
 
 -- one of these with this number
-abbrev pub one_of : {T : Type 0} → (Inside → List T) → Option Inside → ℕ → Option T
-one_of list None index = None
-one_of list (Some inside) index = slice_get (list inside) index
+abbrev pub one_inside : {T : Type 0} → (Inside → List T) → Option Inside → ℕ → Option T
+one_inside list None index = None
+one_inside list (Some inside) index = slice_get (list inside) index
 
 -- ---- with their places
 
@@ -62,7 +62,7 @@ path_to m = m.path ++ m.index ∷ []
 abbrev pub placed_each : {T : Type 0} → (T → Text) → Text → List ℕ → ℕ → List T → List (Placed T)
 placed_each name_of scope path index [] = []
 placed_each name_of scope path index (x ∷ xs) =
-    record { name = within scope (name_of x); path = path; index = index; what = x }
+    record { name = name_within scope (name_of x); path = path; index = index; what = x }
     ∷ placed_each name_of scope path (suc index) xs
 
 abbrev mutual
@@ -70,12 +70,12 @@ abbrev mutual
   pub placed_message : Text → List ℕ → ℕ → MessageDescriptor → List (Placed MessageDescriptor)
   placed_message scope path index (a_message parts nested) =
       record {
-        name = within scope parts.name;
+        name = name_within scope parts.name;
         path = path;
         index = index;
         what = a_message parts nested;
       }
-      ∷ placed_nested (within scope parts.name) (path ++ index ∷ []) 0 nested
+      ∷ placed_nested (name_within scope parts.name) (path ++ index ∷ []) 0 nested
 
   pub placed_nested : Text → List ℕ → ℕ → MessageDescriptors → List (Placed MessageDescriptor)
   placed_nested scope path index no_messages = []

@@ -14,13 +14,14 @@ use Rattle.protobuf_parse_model.specs.FileDescriptor.{environment, file_faults}
 use Rattle.protobuf_parse_model.specs.FilesByPath.{Trees, among, trees_at}
 use Rattle.protobuf_parse_model.specs.Linking.{link_faults}
 use Rattle.protobuf_parse_model.specs.OptionSets.{OptionSet, option_sets}
-use Rattle.protobuf_parse_wire.specs.Declarations.{Declaration, declared_in, extensions_of}
+use Rattle.protobuf_parse_wire.specs.Declarations.{Declaration, messages_declared_in}
+use Rattle.protobuf_parse_wire.specs.Declarations.{extensions_extending}
 use Rattle.protobuf_parse_wire.specs.Declarations.{have_distinct_numbers}
 use Rattle.protobuf_parse_wire.specs.Reading.{reader}
 use Rattle.protobuf_parse_wire.specs.Law.{said}
 use Rattle.protobuf_parse_wire.specs.OptionFields.{options_message}
 use Rattle.protobuf_parse_wire.specs.CustomOptions.{denotes, scope_of}
-use Rattle.protobuf_parse_wire.specs.CustomFaults.{option_faults}
+use Rattle.protobuf_parse_wire.specs.CustomFaults.{custom_option_faults}
 use Rattle.protobuf_parse_wire.specs.OptionBytes.{option_bytes}
 use Rattle.protobuf_parse_wire.specs.DescriptorsByPath.{Environments, descriptors_at, AreWithin}
 
@@ -36,8 +37,8 @@ plain_at trees sees paths = descriptors_at trees (plainly trees sees) paths
 -- numbers.
 abbrev pub HaveDistinctNumbers : List FileDescriptor → Type 0
 HaveDistinctNumbers files =
-    (d : Declaration) → Among (flat_map declared_in files) d
-    → IsTrue (have_distinct_numbers (d.parts.field ++ extensions_of files d.name))
+    (d : Declaration) → Among (flat_map messages_declared_in files) d
+    → IsTrue (have_distinct_numbers (d.parts.field ++ extensions_extending files d.name))
 
 -- The files of the paths are without faults, their custom options left out, and see only files
 -- among them. So are a file and all that it reaches, in a run that is accepted; but no fault is
@@ -72,7 +73,7 @@ IsRecovered trees sees reached more p t s =
     let visible : List FileDescriptor = plain_at trees sees (sees p) in
     let bytes : List ℕ = option_bytes files visible s.construct s.scope s.statements in
     (trees p ≡ Some t
-    → option_faults files visible t ≡ []
+    → custom_option_faults files visible t ≡ []
     → Among (option_sets t) s → HasCustom s.statements
     → length bytes < 2 ^ 64
     → reader (plain_at trees sees more) (options_message s.construct) bytes

@@ -6,9 +6,9 @@ use Rattle.protobuf_parse_syntax.specs.Trees.{OptionSyntax}
 use Rattle.protobuf_parse_model.specs.Descriptors.{Text}
 use Rattle.protobuf_parse_model.specs.declared.customs.Construct.{Construct}
 use Rattle.protobuf_parse_wire.specs.OptionFields.{OptionScope, field_named, number_of_value}
-use Rattle.protobuf_parse_wire.specs.OptionFields.{is_message, extension_meant}
+use Rattle.protobuf_parse_wire.specs.OptionFields.{names_message, extension_meant}
 use Rattle.protobuf_parse_wire.specs.CustomOptions.{denotes}
-use Rattle.protobuf_parse_wire.specs.CustomFaults.{statement_faults}
+use Rattle.protobuf_parse_wire.specs.CustomFaults.{custom_statement_faults}
 
 -- names mean the same from both
 pub record SameLookups (at at' : OptionScope) : Type 0 where
@@ -18,7 +18,7 @@ pub record SameLookups (at at' : OptionScope) : Type 0 where
   pub values :
       (enum_name name : Text)
       → number_of_value at.files enum_name name ≡ number_of_value at'.files enum_name name
-  pub messages : (name : Text) → is_message at.files name ≡ is_message at'.files name
+  pub messages : (name : Text) → names_message at.files name ≡ names_message at'.files name
   pub extensions : (name : Text) → extension_meant at name ≡ extension_meant at' name
 
 -- Where names mean the same, the same is wrong.
@@ -26,7 +26,7 @@ abbrev pub LookupsDecideFaults : Type 0
 LookupsDecideFaults =
     (at at' : OptionScope) → SameLookups at at'
     → (construct : Construct) (os : List OptionSyntax)
-    → statement_faults at construct os ≡ statement_faults at' construct os
+    → custom_statement_faults at construct os ≡ custom_statement_faults at' construct os
 
 -- Where names mean the same, options denote the same.
 abbrev pub LookupsDecideMeaning : Type 0

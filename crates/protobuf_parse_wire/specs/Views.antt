@@ -8,36 +8,36 @@ use Rattle.protobuf_parse_wire.specs.declared.field.ReadField.{ReadField, fold-R
 use Rattle.protobuf_parse_wire.specs.declared.field.ReadValue.{ReadValue, fold-ReadValue}
 use Rattle.protobuf_parse_wire.specs.declared.field.ReadValue.TheOpen.{ReadValue-F, ReadField-F}
 use Rattle.protobuf_parse_wire.specs.Kinds as kinds
-use Rattle.protobuf_parse_wire.specs.Kinds.{Shape}
+use Rattle.protobuf_parse_wire.specs.Kinds.{KindShape}
 use Rattle.protobuf_parse_wire.specs.Reading.{decoded}
 use Rattle.protobuf_parse_wire.specs.Trees.{EntryTree, Entries, ValueTree, Field, fields_of_list}
 use Rattle.protobuf_parse_wire.specs.Trees.{number, truth, bytes, message, no_entries, entry}
 
 -- one entry
-pub record Item : Type 0 where
+pub record WireItem : Type 0 where
   pub number : ℕ
   pub kind : Kind
   pub value : EntryTree
 
-abbrev pub entries_of_list : List Item → Entries
+abbrev pub entries_of_list : List WireItem → Entries
 entries_of_list [] = no_entries
 entries_of_list (e ∷ es) = entry e.number e.kind e.value (entries_of_list es)
 
 -- one level, with each value inside already seen
-abbrev pub entry_value_step : EntryValue-F EntryTree Item → EntryTree
+abbrev pub entry_value_step : EntryValue-F EntryTree WireItem → EntryTree
 entry_value_step (EntryValue-F.Number v) = number v
 entry_value_step (EntryValue-F.Bool b) = truth b
 entry_value_step (EntryValue-F.Bytes bs) = bytes bs.items
 entry_value_step (EntryValue-F.Message es) = message (entries_of_list es.items)
 
-abbrev pub entry_step : Entry-F EntryTree Item → Item
+abbrev pub entry_step : Entry-F EntryTree WireItem → WireItem
 entry_step e = record { number = e.number; kind = e.kind; value = e.value }
 
 abbrev pub entry_value_view : EntryValue → EntryTree
-entry_value_view = fold-EntryValue EntryTree Item entry_value_step entry_step
+entry_value_view = fold-EntryValue EntryTree WireItem entry_value_step entry_step
 
-abbrev pub entry_view : Entry → Item
-entry_view = fold-Entry EntryTree Item entry_value_step entry_step
+abbrev pub entry_view : Entry → WireItem
+entry_view = fold-Entry EntryTree WireItem entry_value_step entry_step
 
 abbrev pub entries_view : List Entry → Entries
 entries_view es = entries_of_list (map entry_view es)
@@ -58,7 +58,7 @@ abbrev pub read_field_view : ReadField → Field
 read_field_view = fold-ReadField ValueTree Field value_step field_step
 
 -- Values of the kind are whole numbers.
-abbrev pub HasNumber : Shape → Type 0
+abbrev pub HasNumber : KindShape → Type 0
 HasNumber (kinds.whole word w code) = Unit {0}
 HasNumber kinds.truth = ⊥
 HasNumber kinds.text = ⊥
@@ -66,7 +66,7 @@ HasNumber kinds.octets = ⊥
 HasNumber kinds.message = ⊥
 
 -- what an unsigned number says of such a kind
-abbrev pub number_said : Shape → ℕ → ℤ
+abbrev pub number_said : KindShape → ℕ → ℤ
 number_said (kinds.whole word w code) u = decoded w code u
 number_said kinds.truth u = pos 0
 number_said kinds.text u = pos 0

@@ -6,8 +6,8 @@ use Rattle.std.specs.Prelude.{◌++◌, length, if◌then◌else◌}
 use Rattle.std.specs.Int.{w32, w64, to_le_bytes, cast_unsigned}
 use mir.Syntax.{Width}
 use Rattle.protobuf_parse_wire.specs.Kinds.{Word, varint, eight_bytes, four_bytes, Code, unsigned}
-use Rattle.protobuf_parse_wire.specs.Kinds.{twos_complement, zigzag, Shape, whole, truth, text}
-use Rattle.protobuf_parse_wire.specs.Kinds.{octets, message, shape, wire_type}
+use Rattle.protobuf_parse_wire.specs.Kinds.{twos_complement, zigzag, KindShape, whole, truth, text}
+use Rattle.protobuf_parse_wire.specs.Kinds.{octets, message, shape_of_kind, wire_type}
 use Rattle.protobuf_parse_wire.specs.Trees as trees
 use Rattle.protobuf_parse_wire.specs.Trees.{EntryTree, Entries, no_entries, entry}
 
@@ -67,14 +67,14 @@ SaysWord varint u bs = IsVarint bs u
 SaysWord eight_bytes u bs = bs ≡ to_le_bytes w64 u
 SaysWord four_bytes u bs = bs ≡ to_le_bytes w32 u
 
-abbrev pub SaysNumber : Shape → ℤ → List ℕ → Type 0
+abbrev pub SaysNumber : KindShape → ℤ → List ℕ → Type 0
 SaysNumber (whole word w code) v bs = (u : ℕ) × IsCode word code v u × SaysWord word u bs
 SaysNumber truth v bs = ⊥
 SaysNumber text v bs = ⊥
 SaysNumber octets v bs = ⊥
 SaysNumber message v bs = ⊥
 
-abbrev pub SaysTruth : Shape → Bool → List ℕ → Type 0
+abbrev pub SaysTruth : KindShape → Bool → List ℕ → Type 0
 SaysTruth truth b bs = IsVarint bs (if b then 1 else 0)
 SaysTruth (whole word w code) b bs = ⊥
 SaysTruth text b bs = ⊥
@@ -89,14 +89,14 @@ pub record SaysDelimited (inside bs : List ℕ) : Type 0 where
   pub parts : bs ≡ front ++ inside
   pub length_first : IsVarint front (length inside)
 
-abbrev pub HasBytes : Shape → Type 0
+abbrev pub HasBytes : KindShape → Type 0
 HasBytes text = Unit {0}
 HasBytes octets = Unit {0}
 HasBytes (whole word w code) = ⊥
 HasBytes truth = ⊥
 HasBytes message = ⊥
 
-abbrev pub HasMessages : Shape → Type 0
+abbrev pub HasMessages : KindShape → Type 0
 HasMessages message = Unit {0}
 HasMessages (whole word w code) = ⊥
 HasMessages truth = ⊥
@@ -111,10 +111,11 @@ abbrev mutual
   pub Spells : Entries → List ℕ → Type 0
   Spells no_entries bs = bs ≡ []
   Spells (entry n k v others) bs = (tag payload more : List ℕ) × (bs ≡ tag ++ (payload ++ more))
-      × IsVarint tag (n * 8 + wire_type (shape k)) × Says (shape k) v payload × Spells others more
+      × IsVarint tag (n * 8 + wire_type (shape_of_kind k)) × Says (shape_of_kind k) v payload
+      × Spells others more
 
   -- The payload is the value of such a kind.
-  pub Says : Shape → EntryTree → List ℕ → Type 0
+  pub Says : KindShape → EntryTree → List ℕ → Type 0
   Says s (trees.number v) bs = SaysNumber s v bs
   Says s (trees.truth b) bs = SaysTruth s b bs
   Says s (trees.bytes inside) bs = HasBytes s × SaysDelimited inside bs

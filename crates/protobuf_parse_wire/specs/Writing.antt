@@ -1,11 +1,12 @@
 -- What can be written.
-use Rattle.protobuf_parse_wire.specs.Kinds.{Shape, whole, truth, text, octets, message, shape}
+use Rattle.protobuf_parse_wire.specs.Kinds.{KindShape, whole, truth, text, octets, message}
+use Rattle.protobuf_parse_wire.specs.Kinds.{shape_of_kind}
 use Rattle.protobuf_parse_wire.specs.Kinds.{InRange}
 use Rattle.protobuf_parse_wire.specs.Trees as trees
 use Rattle.protobuf_parse_wire.specs.Trees.{EntryTree, Entries, no_entries, entry}
 use Rattle.protobuf_parse_wire.specs.Wire.{HasBytes, HasMessages}
 
-abbrev pub HasTruth : Shape → Type 0
+abbrev pub HasTruth : KindShape → Type 0
 HasTruth truth = Unit {0}
 HasTruth (whole word w code) = ⊥
 HasTruth text = ⊥
@@ -16,9 +17,9 @@ abbrev mutual
   -- Each value is one of its kind.
   pub AreWritable : Entries → Type 0
   AreWritable no_entries = Unit {0}
-  AreWritable (entry n k v others) = IsWritable (shape k) v × AreWritable others
+  AreWritable (entry n k v others) = IsWritable (shape_of_kind k) v × AreWritable others
 
-  pub IsWritable : Shape → EntryTree → Type 0
+  pub IsWritable : KindShape → EntryTree → Type 0
   IsWritable s (trees.number v) = InRange s v
   IsWritable s (trees.truth b) = HasTruth s
   IsWritable s (trees.bytes bs) = HasBytes s

@@ -1,7 +1,7 @@
 //! Writing entries at the end of bytes.
 
 ghost use Rattle.std.specs.Prelude.{◌≡◌, ◌++◌, OnOk, IfOk};
-ghost use Rattle.protobuf_parse_wire.specs.Kinds.{InRange, shape, wire_type};
+ghost use Rattle.protobuf_parse_wire.specs.Kinds.{InRange, shape_of_kind, wire_type};
 ghost use Rattle.protobuf_parse_wire.specs.Wire.{Spells, zigzag_of};
 ghost use Rattle.protobuf_parse_wire.specs.Writing.{AreWritable, IsWritable};
 ghost use Rattle.protobuf_parse_wire.specs.Views.{entries_view, entry_value_view};
@@ -45,9 +45,9 @@ fn put_value(
     kind: Kind,
     value: &EntryValue,
 ) -> Result<(), AllocError>
-    requires { IsWritable (shape kind) (entry_value_view value.now) }
+    requires { IsWritable (shape_of_kind kind) (entry_value_view value.now) }
     ensures { OnOk result
-        (out.new.items ≡ out.old.items ++ payload (shape kind) (entry_value_view value.now)) }
+        (out.new.items ≡ out.old.items ++ payload (shape_of_kind kind) (entry_value_view value.now)) }
 {
     match value {
         EntryValue::Number(number) => put_number(out, kind, *number),
@@ -63,7 +63,7 @@ fn put_value(
 
 /// The wire type of a tag: that of the payload.
 fn wire_type_of(kind: Kind) -> u64
-    ensures { result ≡ wire_type (shape kind) }
+    ensures { result ≡ wire_type (shape_of_kind kind) }
 {
     match kind {
         Kind::String | Kind::Bytes | Kind::Message => 2,
@@ -81,8 +81,9 @@ fn wire_type_of(kind: Kind) -> u64
 }
 
 fn put_number(out: &mut Vec<u8>, kind: Kind, number: i128) -> Result<(), AllocError>
-    requires { InRange (shape kind) number }
-    ensures { OnOk result (out.new.items ≡ out.old.items ++ number_bytes (shape kind) number) }
+    requires { InRange (shape_of_kind kind) number }
+    ensures { OnOk result
+        (out.new.items ≡ out.old.items ++ number_bytes (shape_of_kind kind) number) }
 {
     match kind {
         Kind::Int32 | Kind::Int64 | Kind::Enum => {

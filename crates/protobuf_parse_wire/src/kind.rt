@@ -1,7 +1,7 @@
 //! The kinds of values that are written and read.
 
 ghost use Rattle.std.specs.Prelude.{◌≡◌, ◌↔◌, IsTrue};
-ghost use Rattle.protobuf_parse_wire.specs.Kinds.{InRange, kind_of, shape};
+ghost use Rattle.protobuf_parse_wire.specs.Kinds.{InRange, kind_of_field_type, shape_of_kind};
 
 use protobuf_parse_model::FieldType;
 
@@ -28,7 +28,7 @@ pub enum Kind {
 impl Kind {
     /// The kind of a field of this type, if there is one.
     pub fn of(field_type: FieldType) -> Option<Kind>
-        ensures { result ≡ kind_of field_type }
+        ensures { result ≡ kind_of_field_type field_type }
     {
         match field_type {
             FieldType::Int32 => Some(Kind::Int32),
@@ -52,7 +52,7 @@ impl Kind {
 
     /// Whether the number is a value of the kind.
     pub fn has_number(self, number: i128) -> bool
-        ensures { IsTrue result ↔ InRange (shape self) number }
+        ensures { IsTrue result ↔ InRange (shape_of_kind self) number }
     {
         match self {
             Kind::Int32 | Kind::Sint32 | Kind::Sfixed32 | Kind::Enum => {

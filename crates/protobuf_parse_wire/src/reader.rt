@@ -10,7 +10,7 @@ mod words;
 ghost use Rattle.std.specs.Prelude.{map};
 ghost use Rattle.protobuf_parse_base.specs.NameViews.{abs_ref_text};
 ghost use Rattle.protobuf_parse_model.specs.Descriptors.{file_view};
-ghost use Rattle.protobuf_parse_wire.specs.Reading.{Gives, reader};
+ghost use Rattle.protobuf_parse_wire.specs.Reading.{ReaderGives, reader};
 ghost use Rattle.protobuf_parse_wire.specs.Views.{read_field_view};
 
 use crate::fault::ReadFault;
@@ -34,7 +34,7 @@ pub fn read_custom(
     message: ProtobufAbsPathRef<'_>,
     bytes: &[u8],
 ) -> Result<Vec<ReadField>, ReadFault>
-    ensures { Gives (λ v. map read_field_view v.items) result
+    ensures { ReaderGives (λ v. map read_field_view v.items) result
         (reader (map file_view files.now) (abs_ref_text message.entry) bytes.now) }
 {
     read_named(alloc, files, message.as_str(), bytes)
@@ -46,7 +46,7 @@ fn read_named(
     name: &str,
     bytes: &[u8],
 ) -> Result<Vec<ReadField>, ReadFault>
-    ensures { Gives (λ v. map read_field_view v.items) result
+    ensures { ReaderGives (λ v. map read_field_view v.items) result
         (reader (map file_view files.now) name.now bytes.now) }
 {
     let index = index::index_of(alloc, files)?;

@@ -10,7 +10,7 @@ ghost use Rattle.protobuf_parse.specs.NameSets.{HasNames};
 ghost use Rattle.protobuf_parse_model.specs.Descriptors.{Text};
 ghost use Rattle.protobuf_parse.specs.Parsers.{IsParsed, IsSameParser, IsSetOfInputs};
 ghost use Rattle.protobuf_parse.specs.Parsers.{MayReadAnything, RanOverFolders, TellsFault};
-ghost use Rattle.protobuf_parse.specs.Parsers.{includes_of, inputs_at, inputs_of, is_among};
+ghost use Rattle.protobuf_parse.specs.Parsers.{includes_of, inputs_at, inputs_of, is_name_among};
 ghost use Rattle.protobuf_parse.specs.Parsers.{is_of_input};
 
 use crate::bundled::bundled_files;
@@ -303,7 +303,7 @@ fn set_of_names(alloc: Global, names: &[ProtoPathBuf]) -> Result<BTreeSet<String
 /// Whether the name is one of the set.
 fn is_input(inputs: &BTreeSet<String>, name: &Option<String>) -> bool
     ensures { (names : List Text) → HasNames inputs.now names →
-        result ≡ is_among names (option_map string_bytes name.now) }
+        result ≡ is_name_among names (option_map string_bytes name.now) }
 {
     match name {
         Some(name) => inputs.contains(name.as_str()),

@@ -7,8 +7,9 @@ ghost use Rattle.protobuf_parse.specs.Loading.{OrMemory};
 ghost use Rattle.protobuf_parse.specs.Includes.{AreNamed, IsMisnamed, IsOutside, StandsAtFirst};
 ghost use Rattle.protobuf_parse.specs.Includes.{StandsAtInput, includes_text, left_by, left_of};
 ghost use Rattle.protobuf_parse.specs.Includes.{named_as, naming_of, naming_of_rest, next_include};
-ghost use Rattle.protobuf_parse.specs.Includes.{next_part, part_views, parts_after, quoted_include};
-ghost use Rattle.protobuf_parse.specs.Includes.{rest_view, unnamed};
+ghost use Rattle.protobuf_parse.specs.Includes.{part_behind, part_views, parts_after};
+ghost use Rattle.protobuf_parse.specs.Includes.{quoted_include};
+ghost use Rattle.protobuf_parse.specs.Includes.{rest_parts_view, unnamed};
 
 use crate::run::fault::RunFault;
 use protobuf_parse_base::proto_path::{PathError, ProtoPathBuf};
@@ -138,7 +139,8 @@ fn left_of_parts<'p, 'a>(
     parts: &'p [&'a str],
 ) -> Result<Option<&'p [&'a str]>, AllocError>
     requires { part_views parts.now ≡ kept_parts input.now }
-    ensures { IfOk result (λ o. rest_view o ≡ left_of (map string_bytes includes.now) input.now) }
+    ensures { IfOk result
+        (λ o. rest_parts_view o ≡ left_of (map string_bytes includes.now) input.now) }
 {
     for include in includes {
         let rest = left_by_include(alloc, include, input, parts)?;
@@ -157,7 +159,7 @@ fn left_by_include<'p, 'a>(
     parts: &'p [&'a str],
 ) -> Result<Option<&'p [&'a str]>, AllocError>
     requires { part_views parts.now ≡ kept_parts input.now }
-    ensures { IfOk result (λ o. rest_view o ≡ left_by include.now input.now) }
+    ensures { IfOk result (λ o. rest_parts_view o ≡ left_by include.now input.now) }
 {
     if include.starts_with('/') != input.starts_with('/') {
         return Ok(None);
@@ -168,7 +170,7 @@ fn left_by_include<'p, 'a>(
 
 /// The parts that follow these first ones, if they are the first.
 fn after_front<'p, 'a>(front: &[&str], parts: &'p [&'a str]) -> Option<&'p [&'a str]>
-    ensures { rest_view result ≡ parts_after (part_views front.now) (part_views parts.now) }
+    ensures { rest_parts_view result ≡ parts_after (part_views front.now) (part_views parts.now) }
 {
     for i in 0..front.len() {
         if i >= parts.len() || front[i] != parts[i] {
@@ -219,7 +221,7 @@ fn join_parts(alloc: Global, parts: &[&str]) -> Result<String, AllocError>
 /// Adds each part, after a slash.
 fn put_next_parts(text: &mut String, parts: &[&str]) -> Result<(), AllocError>
     ensures { OnOk result (string_bytes text.new
-        ≡ string_bytes text.old ++ flat_map next_part (part_views parts.now)) }
+        ≡ string_bytes text.old ++ flat_map part_behind (part_views parts.now)) }
 {
     for part in parts {
         put_next_part(text, part)?;
@@ -229,7 +231,7 @@ fn put_next_parts(text: &mut String, parts: &[&str]) -> Result<(), AllocError>
 
 /// Adds the part, after a slash.
 fn put_next_part(text: &mut String, part: &str) -> Result<(), AllocError>
-    ensures { OnOk result (string_bytes text.new ≡ string_bytes text.old ++ next_part part.now) }
+    ensures { OnOk result (string_bytes text.new ≡ string_bytes text.old ++ part_behind part.now) }
 {
     text.push_str("/")?;
     text.push_str(part)

@@ -8,9 +8,10 @@ ghost use Rattle.protobuf_parse_model.specs.Descriptors as described;
 ghost use Rattle.protobuf_parse_model.specs.Faults.{Elaborates};
 ghost use Rattle.protobuf_parse_model.specs.FileDescriptor.{environment, file_faults, file_of};
 ghost use Rattle.protobuf_parse_model.specs.Linking.{link_faults};
-ghost use Rattle.protobuf_parse_model.specs.Tables.{Tells, picked};
+ghost use Rattle.protobuf_parse_model.specs.Tables.{TableTells, picked};
 ghost use Rattle.protobuf_parse_wire.specs.Holding.{Holds};
-ghost use Rattle.protobuf_parse.specs.Loading.{Begins, Describes, customs_over, plain_in, plain_or};
+ghost use Rattle.protobuf_parse.specs.Loading.{IndexBegins, Describes, customs_over, plain_in};
+ghost use Rattle.protobuf_parse.specs.Loading.{plain_or};
 ghost use Rattle.protobuf_parse.specs.Loading.{plain_seen, plains_with};
 
 use crate::run::loader::LoadedFiles;
@@ -44,12 +45,12 @@ pub fn elaborated(
     requires few { statements_in (file_view tree.now) ≤ 2147483647 }
     requires reach { IsStrictlyIncreasing sights.now.reach.items }
     requires sight { IsStrictlyIncreasing sights.now.sight.items }
-    requires begins { Begins tables.old.places (map plain_in loaded.now.entries) }
+    requires begins { IndexBegins tables.old.places (map plain_in loaded.now.entries) }
     ensures names { tables.new.names ≡ tables.old.names }
-    ensures describes { (files : List FileSyntax) → Tells tables.old.names files
+    ensures describes { (files : List FileSyntax) → TableTells tables.old.names files
         → Describes loaded.now.entries files sights.now.reach.items sights.now.sight.items path.now
         (file_view tree.now) result }
-    ensures begins { IfOk result (λ d. Begins tables.new.places
+    ensures begins { IfOk result (λ d. IndexBegins tables.new.places
         (plains_with loaded.now.entries (plain_or d.plain d.descriptor))) }
 {
     let seen = Seen {
@@ -81,12 +82,12 @@ fn with_customs(
     tree: &FileTree,
 ) -> Result<Described, ElabFailure>
     requires few { statements_in (file_view tree.now) ≤ 2147483647 }
-    requires begins { Begins places.old (map plain_in loaded.now.entries) }
-    ensures describes { (files : List FileSyntax) → Tells seen.now.declarations.now files
+    requires begins { IndexBegins places.old (map plain_in loaded.now.entries) }
+    ensures describes { (files : List FileSyntax) → TableTells seen.now.declarations.now files
         → link_faults (picked files seen.now.reach.now) ≡ []
         → Describes loaded.now.entries files seen.now.reach.now seen.now.sight.now path.now
         (file_view tree.now) result }
-    ensures begins { IfOk result (λ d. Begins places.new
+    ensures begins { IfOk result (λ d. IndexBegins places.new
         (plains_with loaded.now.entries (plain_or d.plain d.descriptor))) }
 {
     let plain = elaborate(alloc, path, tree, seen, &WithoutCustoms)?;
@@ -111,7 +112,7 @@ fn spelled(
     requires few { statements_in (file_view tree.now) ≤ 2147483647 }
     requires holds { Holds places.now
         (plains_with loaded.now.entries (described.file_view plain.now)) }
-    ensures { (files : List FileSyntax) → Tells seen.now.declarations.now files
+    ensures { (files : List FileSyntax) → TableTells seen.now.declarations.now files
         → let plains = plains_with loaded.now.entries (described.file_view plain.now) in
         let sight = seen.now.sight.now in
         let customs = customs_over plains seen.now.reach.now sight in

@@ -12,24 +12,25 @@ ghost use Rattle.protobuf_parse_syntax.specs.Counts.{statements_in};
 ghost use Rattle.protobuf_parse_syntax.specs.Trees.{file_view};
 ghost use Rattle.protobuf_parse_syntax.specs.Trees.{FileSyntax};
 ghost use Rattle.protobuf_parse_model.specs.Faults.{fault_view};
-ghost use Rattle.protobuf_parse_model.specs.Tables.{Tells};
+ghost use Rattle.protobuf_parse_model.specs.Tables.{TableTells};
 ghost use Rattle.protobuf_parse.specs.declared.run.fault.RunFault.TheVariants.{Memory};
 ghost use Rattle.protobuf_parse.specs.declared.run.log.ReadEntry.{ReadEntry};
 ghost use Rattle.protobuf_parse_model.specs.Descriptors.{Text};
 ghost use Rattle.protobuf_parse.specs.Walks.{Event, among, at, checks, events, input_walk, keep};
-ghost use Rattle.protobuf_parse.specs.Walks.{statements, walk};
+ghost use Rattle.protobuf_parse.specs.Walks.{import_statements, walk};
 ghost use Rattle.protobuf_parse.specs.Run.{Files, IsCounted, are_same_bytes, input_view};
 ghost use Rattle.protobuf_parse.specs.Run.{StandsInCheck, StandsInCycle, StandsInElab};
 ghost use Rattle.protobuf_parse.specs.Run.{StandsInLong, origin_given, rows, text_given};
-ghost use Rattle.protobuf_parse.specs.Loading.{AreKnown, AreJoined, AreNumbered, Begins, Describes};
+ghost use Rattle.protobuf_parse.specs.Loading.{AreKnown, AreJoined, FilesAreNumbered, IndexBegins};
+ghost use Rattle.protobuf_parse.specs.Loading.{Describes};
 ghost use Rattle.protobuf_parse.specs.Loading.{Goes, GoesOn, Good, Grows, IsDecided, IsElabFault};
 ghost use Rattle.protobuf_parse.specs.Loading.{IsPlaced, IsReaders, IsShadowed, OrMemory};
 ghost use Rattle.protobuf_parse.specs.Loading.{ReadsTree, SettlesOver, asked_by, faults_over};
 ghost use Rattle.protobuf_parse.specs.Loading.{file_at, legal_by, named_trees, plain_in, plain_or};
-ghost use Rattle.protobuf_parse.specs.Loading.{plains_over, plains_with, texts, trees_of};
+ghost use Rattle.protobuf_parse.specs.Loading.{plains_over, plains_with, chain_texts, trees_of};
 ghost use Rattle.protobuf_parse.specs.Loading.{with_next};
 ghost use Rattle.protobuf_parse.specs.Frames.{Joined, Meets, is_public_at, number_if, StandsMet};
-ghost use Rattle.protobuf_parse.specs.Frames.{path_of};
+ghost use Rattle.protobuf_parse.specs.Frames.{frame_path};
 
 use crate::run::asking::{answer, content, opened, origin, unreadable};
 use crate::run::describe::{Described, elaborated};
@@ -105,8 +106,8 @@ pub fn load_inputs<R: ProtoPathResolver, I: InputReader>(
     inputs: &[RunInput],
 ) -> Result<(), RunFault>
     requires loaded { loader.old.loaded.entries ≡ [] }
-    requires names { Tells loader.old.tables.names [] }
-    requires places { Begins loader.old.tables.places [] }
+    requires names { TableTells loader.old.tables.names [] }
+    requires places { IndexBegins loader.old.tables.places [] }
     requires reads { loader.old.reads.items ≡ [] }
     requires chain { loader.old.chain.items ≡ [] }
     requires meets { loader.old.meets ≡ 0 }
@@ -118,7 +119,7 @@ pub fn load_inputs<R: ProtoPathResolver, I: InputReader>(
     ensures count { (files : Files)
         → GoesOn files (rows sources.now.bundled.now) loader.new.reads.items
         → IsCounted loader.new.meets
-        (length inputs.now + statements files.trees
+        (length inputs.now + import_statements files.trees
         (events files.trees (map input_view inputs.now))) result }
     ensures decided { IsDecided (rows sources.now.bundled.now) loader.new.reads.items }
     ensures known { OnOk result
@@ -156,8 +157,8 @@ fn load_input<R: ProtoPathResolver, I: InputReader>(
         → let legal = legal_by R.may_answer I.may_read sources.now in
         GoesOn files (rows sources.now.bundled.now) loader.new.reads.items
         → Good legal files kept loader.old.loaded.entries loader.old.reads.items []
-        → IsCounted (loader.new.meets + statements files.trees kept)
-        (loader.old.meets + 1 + statements files.trees
+        → IsCounted (loader.new.meets + import_statements files.trees kept)
+        (loader.old.meets + 1 + import_statements files.trees
         (keep (kept ++ checks kept (input_view input.now))
         (input_walk files.trees (input_view input.now)))) result }
     ensures decided { IsDecided (rows sources.now.bundled.now) loader.old.reads.items
@@ -322,8 +323,8 @@ fn load_file<R: ProtoPathResolver, I: InputReader>(
         let p = path_buf_text input.now in
         GoesOn files (rows sources.now.bundled.now) loader.new.reads.items
         → Good legal files kept loader.old.loaded.entries loader.old.reads.items []
-        → IsCounted (loader.new.meets + statements files.trees kept)
-        (loader.old.meets + 1 + statements files.trees
+        → IsCounted (loader.new.meets + import_statements files.trees kept)
+        (loader.old.meets + 1 + import_statements files.trees
         (keep kept (walk files.trees p (asked_by fs_path.entry) LIMIT [] p))) result }
     ensures decided { IsDecided (rows sources.now.bundled.now) loader.old.reads.items
         → IsDecided (rows sources.now.bundled.now) loader.new.reads.items }
@@ -379,16 +380,16 @@ fn meet<R: ProtoPathResolver, I: InputReader>(
     ensures grows { Grows loader.old.reads.items loader.new.reads.items }
     ensures decided { IsDecided (rows sources.now.bundled.now) loader.old.reads.items
         → IsDecided (rows sources.now.bundled.now) loader.new.reads.items }
-    ensures stands { StandsMet (texts loader.old.chain.items)
+    ensures stands { StandsMet (chain_texts loader.old.chain.items)
         (path_buf_text path.now) loader.old.loaded.entries loader.old.reads.items
-        (texts loader.new.chain.items) loader.new.reads.items result }
+        (chain_texts loader.new.chain.items) loader.new.reads.items result }
     ensures leaves { (files : Files) (kept : List Event)
         → let legal = legal_by R.may_answer I.may_read sources.now in
         GoesOn files (rows sources.now.bundled.now) loader.new.reads.items
         → Good legal files kept loader.old.loaded.entries loader.old.reads.items
-        (texts loader.old.chain.items)
+        (chain_texts loader.old.chain.items)
         → Meets legal files kept (path_buf_text input.now) (asked_by fs_path.entry)
-        (texts loader.old.chain.items)
+        (chain_texts loader.old.chain.items)
         (path_buf_text path.now) loader.old.loaded.entries loader.new.reads.items result }
 {
     loader.meets += 1;
@@ -437,7 +438,7 @@ fn join(frame: &mut LoadFrame, placed: Placed) -> Result<(), AllocError>
 
 /// Whether the statement with this number is a public import.
 fn is_public_next(statements: &[FileStatement], number: usize) -> bool
-    ensures { result ≡ is_public_at (slice_get statements.now number) }
+    ensures { result ≡ is_public_at (slice_get import_statements.now number) }
 {
     match statements.get(number) {
         Some(statement) => imports_publicly(statement),
@@ -472,15 +473,16 @@ fn push_if(numbers: &mut Vec<usize>, public: bool, number: usize) -> Result<(), 
 fn close(alloc: Global, loader: &mut Loader, frame: LoadFrame) -> Result<Placed, RunFault>
     requires low { frame.height < LIMIT }
     requires few { statements_in (file_view frame.tree) ≤ 2147483647 }
-    requires begins { Begins loader.old.tables.places (map plain_in loader.old.loaded.entries) }
+    requires begins { IndexBegins loader.old.tables.places (map plain_in loader.old.loaded.entries) }
     ensures reads { loader.new.reads ≡ loader.old.reads }
     ensures meets { loader.new.meets ≡ loader.old.meets }
-    ensures chain { (chain : List Text) → texts loader.old.chain.items ≡ chain ++ path_of frame ∷ []
-        → texts loader.new.chain.items ≡ chain }
+    ensures chain { (chain : List Text) → chain_texts loader.old.chain.items
+        ≡ chain ++ frame_path frame ∷ []
+        → chain_texts loader.new.chain.items ≡ chain }
     ensures height { IfOk result (λ placed. placed.height ≡ frame.height + 1) }
-    ensures settles { Tells loader.old.tables.names
+    ensures settles { TableTells loader.old.tables.names
         (trees_of (named_trees loader.old.loaded.entries))
-        → SettlesOver (path_of frame) (file_view frame.tree)
+        → SettlesOver (frame_path frame) (file_view frame.tree)
         (frame.height + 1) frame.read frame.below.items frame.public.items loader.old.reads.items
         loader.old.loaded.entries loader.new.loaded.entries loader.new.tables result }
 {
@@ -522,7 +524,7 @@ fn too_long(alloc: Global, input: &ProtoPathBuf) -> RunFault
 }
 
 fn is_on_chain(chain: &[String], path: &str) -> bool
-    ensures { result ≡ among path.now (texts chain.now) }
+    ensures { result ≡ among path.now (chain_texts chain.now) }
 {
     for above in chain {
         if path == above.as_str() {
@@ -611,12 +613,12 @@ fn settle(
     read: usize,
 ) -> Result<Placed, RunFault>
     requires few { statements_in (file_view tree) ≤ 2147483647 }
-    requires begins { Begins loader.old.tables.places (map plain_in loader.old.loaded.entries) }
+    requires begins { IndexBegins loader.old.tables.places (map plain_in loader.old.loaded.entries) }
     ensures reads { loader.new.reads ≡ loader.old.reads }
     ensures chain { loader.new.chain ≡ loader.old.chain }
     ensures meets { loader.new.meets ≡ loader.old.meets }
     ensures height { IfOk result (λ placed. placed.height ≡ height) }
-    ensures settles { Tells loader.old.tables.names
+    ensures settles { TableTells loader.old.tables.names
         (trees_of (named_trees loader.old.loaded.entries))
         → SettlesOver (string_bytes path)
         (file_view tree) height read imports.now.all.now imports.now.public.now
@@ -670,17 +672,17 @@ fn descriptor_of(
     requires few { statements_in (file_view tree.now) ≤ 2147483647 }
     requires reach { IsStrictlyIncreasing sights.now.reach.items }
     requires sight { IsStrictlyIncreasing sights.now.sight.items }
-    requires begins { Begins loader.old.tables.places (map plain_in loader.old.loaded.entries) }
+    requires begins { IndexBegins loader.old.tables.places (map plain_in loader.old.loaded.entries) }
     ensures loaded { loader.new.loaded ≡ loader.old.loaded }
     ensures names { loader.new.tables.names ≡ loader.old.tables.names }
     ensures reads { loader.new.reads ≡ loader.old.reads }
     ensures chain { loader.new.chain ≡ loader.old.chain }
     ensures meets { loader.new.meets ≡ loader.old.meets }
-    ensures ok { (files : List FileSyntax) → Tells loader.old.tables.names files →
+    ensures ok { (files : List FileSyntax) → TableTells loader.old.tables.names files →
         IfOk result
         (λ d. Describes loader.old.loaded.entries files sights.now.reach.items
         sights.now.sight.items path.now (file_view tree.now) (Ok d)) }
-    ensures err { (files : List FileSyntax) → Tells loader.old.tables.names files
+    ensures err { (files : List FileSyntax) → TableTells loader.old.tables.names files
         → let t = file_view tree.now in
         IfErr result (λ f. (e : ReadEntry) → slice_get loader.old.reads.items read ≡ Some e
         → path_buf_text e.path ≡ path.now
@@ -688,7 +690,7 @@ fn descriptor_of(
         (faults_over files
         (plains_over loader.old.loaded.entries files sights.now.sight.items path.now t)
         sights.now.reach.items sights.now.sight.items t) f)) }
-    ensures begins { IfOk result (λ d. Begins loader.new.tables.places
+    ensures begins { IfOk result (λ d. IndexBegins loader.new.tables.places
         (plains_with loader.old.loaded.entries (plain_or d.plain d.descriptor))) }
 {
     match elaborated(

@@ -2,9 +2,10 @@
 
 ghost use Rattle.std.specs.Prelude.{◌≡◌, ◌+◌, ◌^◌, ◌<◌, [], length, map, OnOk};
 ghost use Rattle.protobuf_parse_model.specs.Descriptors as described;
-ghost use Rattle.protobuf_parse_model.specs.Tables.{Tells};
+ghost use Rattle.protobuf_parse_model.specs.Tables.{TableTells};
 ghost use Rattle.protobuf_parse_wire.specs.Holding.{Holds};
-ghost use Rattle.protobuf_parse.specs.Loading.{Begins, IsWhole, plain_in, plain_or, plains_with};
+ghost use Rattle.protobuf_parse.specs.Loading.{IndexBegins, IsWhole, plain_in, plain_or};
+ghost use Rattle.protobuf_parse.specs.Loading.{plains_with};
 
 use crate::run::loader::{LoadedFile, LoadedFiles};
 use protobuf_parse_model::{Declarations, FileDescriptorProto};
@@ -31,8 +32,8 @@ pub struct RunPlaces {
 impl Tables {
     /// Of no files.
     pub fn new(alloc: Global) -> Self
-        ensures names { Tells result.names [] }
-        ensures places { Begins result.places [] }
+        ensures names { TableTells result.names [] }
+        ensures places { IndexBegins result.places [] }
     {
         Tables {
             names: Declarations::new(alloc),
@@ -52,7 +53,7 @@ pub fn add_next(
     loaded: &LoadedFiles,
     own: &FileDescriptorProto,
 ) -> Result<(), AllocError>
-    requires begins { Begins places.old (map plain_in loaded.now.entries) }
+    requires begins { IndexBegins places.old (map plain_in loaded.now.entries) }
     ensures { OnOk result (IsWhole places.new
         (plains_with loaded.now.entries (described.file_view own.now))) }
 {
@@ -67,10 +68,10 @@ pub fn add_next(
 
 /// Adds the first loaded file that isn't in it.
 fn add_loaded(places: &mut RunPlaces, alloc: Global, loaded: &LoadedFiles) -> Result<(), AllocError>
-    requires begins { Begins places.old (map plain_in loaded.now.entries) }
+    requires begins { IndexBegins places.old (map plain_in loaded.now.entries) }
     requires more { places.old.files < length loaded.now.entries }
     requires room { places.old.files < 2 ^ 63 }
-    ensures begins { OnOk result (Begins places.new (map plain_in loaded.now.entries)) }
+    ensures begins { OnOk result (IndexBegins places.new (map plain_in loaded.now.entries)) }
     ensures files { OnOk result (places.new.files ≡ places.old.files + 1) }
 {
     let number = places.files;

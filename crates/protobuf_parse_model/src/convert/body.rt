@@ -2,7 +2,8 @@
 
 ghost use Rattle.std.specs.Prelude.{◌≡◌, ◌<◌, ◌^◌, true, false, length};
 ghost use Rattle.protobuf_parse_syntax.specs.Trees as tree;
-ghost use Rattle.protobuf_parse_model.specs.Contexts.{body_view, environment_in, with_statement};
+ghost use Rattle.protobuf_parse_model.specs.Contexts.{body_view, environment_in};
+ghost use Rattle.protobuf_parse_model.specs.Contexts.{with_body_statement};
 ghost use Rattle.protobuf_parse_model.specs.Enums.{enum_faults};
 ghost use Rattle.protobuf_parse_model.specs.Faults.{Elaborates};
 ghost use Rattle.protobuf_parse_model.specs.Fields.{field_statement_faults};
@@ -44,7 +45,7 @@ pub fn add_field<C: CustomOptions>(
     ensures { let env = environment_in (C.customs custom.now) context.now in
         let s = tree.field_statement_view statement.now in
         Elaborates (λ _. body_view body.new) result (field_statement_faults env s)
-        (with_statement env (body_view body.old) (tree.message_field s)) }
+        (with_body_statement env (body_view body.old) (tree.message_field s)) }
 {
     if has_own_oneof(context, statement) {
         add_in_own_oneof(alloc, context, custom, body, statement)
@@ -66,7 +67,7 @@ fn add_plain<C: CustomOptions>(
     ensures { let env = environment_in (C.customs custom.now) context.now in
         let s = tree.field_statement_view statement.now in
         Elaborates (λ _. body_view body.new) result (field_statement_faults env s)
-        (with_statement env (body_view body.old) (tree.message_field s)) }
+        (with_body_statement env (body_view body.old) (tree.message_field s)) }
 {
     let place = FieldPlace {
         extendee: None,
@@ -92,7 +93,7 @@ fn add_in_own_oneof<C: CustomOptions>(
     ensures { let env = environment_in (C.customs custom.now) context.now in
         let s = tree.field_statement_view statement.now in
         Elaborates (λ _. body_view body.new) result (field_statement_faults env s)
-        (with_statement env (body_view body.old) (tree.message_field s)) }
+        (with_body_statement env (body_view body.old) (tree.message_field s)) }
 {
     let place = FieldPlace {
         extendee: None,
@@ -119,7 +120,7 @@ pub fn add_oneof<C: CustomOptions>(
     ensures { let env = environment_in (C.customs custom.now) context.now in
         let o = tree.oneof_view oneof.now in
         Elaborates (λ _. body_view body.new) result (oneof_faults env o)
-        (with_statement env (body_view body.old) (tree.message_oneof o)) }
+        (with_body_statement env (body_view body.old) (tree.message_oneof o)) }
 {
     let place = FieldPlace {
         extendee: None,
@@ -144,7 +145,7 @@ pub fn add_extend<C: CustomOptions>(
     ensures { let env = environment_in (C.customs custom.now) context.now in
         let e = tree.extend_view extend.now in
         Elaborates (λ _. body_view body.new) result (extend_faults env e)
-        (with_statement env (body_view body.old) (tree.message_extend e)) }
+        (with_body_statement env (body_view body.old) (tree.message_extend e)) }
 {
     let mut declared = fields_of_extend(alloc, context, custom, &extend.extendee, &extend.fields)?;
     body.extension.append(&mut declared.fields)?;
@@ -163,7 +164,7 @@ pub fn add_enum<C: CustomOptions>(
     ensures { let env = environment_in (C.customs custom.now) context.now in
         let e = tree.enum_view enumeration.now in
         Elaborates (λ _. body_view body.new) result (enum_faults env e)
-        (with_statement env (body_view body.old) (tree.message_enum e)) }
+        (with_body_statement env (body_view body.old) (tree.message_enum e)) }
 {
     let descriptor = enum_descriptor(alloc, context, custom, enumeration)?;
     body.enum_type.push(descriptor)?;

@@ -7,7 +7,7 @@ ghost use Rattle.protobuf_parse_model.specs.Contexts.{environment_in};
 ghost use Rattle.protobuf_parse_model.specs.Descriptors as described;
 ghost use Rattle.protobuf_parse_model.specs.Faults.{Elaborates};
 ghost use Rattle.protobuf_parse_model.specs.FileDescriptor.{statement_faults};
-ghost use Rattle.protobuf_parse_model.specs.FileParts.{parts_faults, parts_of, parts_view};
+ghost use Rattle.protobuf_parse_model.specs.FileParts.{parts_faults, parts_of_file, parts_view};
 ghost use Rattle.protobuf_parse_model.specs.FileParts.{with_file_statement};
 ghost use Rattle.protobuf_parse_model.specs.Messages.{extend_faults};
 
@@ -47,8 +47,8 @@ pub fn contents_of<C: CustomOptions>(
     ensures { let env = environment_in (C.customs custom.now) context.now in
         let ss = map statement_view statements.now in
         Elaborates parts_view result
-        (parts_faults (parts_of env ss) ++ flat_map (statement_faults env) ss)
-        (parts_of env ss) }
+        (parts_faults (parts_of_file env ss) ++ flat_map (statement_faults env) ss)
+        (parts_of_file env ss) }
 {
     let contents = declared(alloc, context, custom, statements)?;
     check_names(alloc, &contents)?;
@@ -77,7 +77,7 @@ fn declared<C: CustomOptions>(
     requires few { sum_by statement_count (map statement_view statements.now) ≤ 2147483647 }
     ensures { let env = environment_in (C.customs custom.now) context.now in
         let ss = map statement_view statements.now in
-        Elaborates parts_view result (flat_map (statement_faults env) ss) (parts_of env ss) }
+        Elaborates parts_view result (flat_map (statement_faults env) ss) (parts_of_file env ss) }
 {
     let mut contents = Contents {
         message_type: Vec::new(alloc),

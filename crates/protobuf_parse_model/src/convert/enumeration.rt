@@ -4,7 +4,7 @@ ghost use Rattle.std.specs.Prelude.{◌≡◌, ◌++◌, map, flat_map, option_m
 ghost use Rattle.protobuf_parse_syntax.specs.Trees as tree;
 ghost use Rattle.protobuf_parse_model.specs.BuiltinOptions.{enum_table};
 ghost use Rattle.protobuf_parse_model.specs.ConstructOptions.{construct_faults};
-ghost use Rattle.protobuf_parse_model.specs.Contexts.{environment_in, reserves_seen, texts};
+ghost use Rattle.protobuf_parse_model.specs.Contexts.{environment_in, reserves_seen, name_texts};
 ghost use Rattle.protobuf_parse_model.specs.Contexts.{values_seen};
 ghost use Rattle.protobuf_parse_model.specs.Descriptors as described;
 ghost use Rattle.protobuf_parse_model.specs.Enums as enums;
@@ -104,7 +104,8 @@ fn values(alloc: Global, body: &[EnumStatement]) -> Result<Vec<&EnumValue>, Allo
 /// Their names.
 fn names<'a>(alloc: Global, values: &[&'a EnumValue]) -> Result<Vec<&'a str>, AllocError>
     ensures { IfOk result
-        (λ v. texts v.items ≡ map (λ (v : tree.EnumValueSyntax). v.name) (values_seen values.now)) }
+        (λ v. name_texts v.items
+        ≡ map (λ (v : tree.EnumValueSyntax). v.name) (values_seen values.now)) }
 {
     let mut names = Vec::new(alloc);
     for value in values {

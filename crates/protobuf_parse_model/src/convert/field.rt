@@ -4,8 +4,9 @@ ghost use Rattle.std.specs.Prelude.{◌≡◌, ◌++◌, ◌<◌, ◌^◌, List,
 ghost use Rattle.std.specs.Prelude.{IfOk, option_map, string_bytes};
 ghost use Rattle.std.specs.Borrow.{Bor};
 ghost use Rattle.protobuf_parse_syntax.specs.Trees.{field_view, group_view, option_view, type_view};
-ghost use Rattle.protobuf_parse_model.specs.Contexts.{environment_in, place_view, resolved_view};
-ghost use Rattle.protobuf_parse_model.specs.Contexts.{said_by, said_view, names_in};
+ghost use Rattle.protobuf_parse_model.specs.Contexts.{environment_in, field_place_view};
+ghost use Rattle.protobuf_parse_model.specs.Contexts.{resolved_view};
+ghost use Rattle.protobuf_parse_model.specs.Contexts.{said_by, said_view, names_of_context};
 ghost use Rattle.protobuf_parse_model.specs.OptionViews.{options_seen};
 ghost use Rattle.protobuf_parse_model.specs.Descriptors as described;
 ghost use Rattle.protobuf_parse_model.specs.Faults.{Elaborates};
@@ -37,7 +38,7 @@ pub fn field_descriptor<C: CustomOptions>(
     ensures { let env = environment_in (C.customs custom.now) context.now in
         let f = field_view field.now in
         Elaborates described.field_view result (fields.field_faults env f)
-        (fields.field_of env (place_view place.now) f) }
+        (fields.field_of env (field_place_view place.now) f) }
 {
     let resolved = resolved_type(alloc, context, &field.name, &field.type_)?;
     field_with(alloc, context, custom, place, field, resolved)
@@ -56,7 +57,7 @@ fn field_with<C: CustomOptions>(
         let f = field_view field.now in
         Elaborates described.field_view result
         (fields.faults_of_options env resolved.kind f.name f.options)
-        (fields.field_with env (place_view place.now) f (resolved_view resolved)) }
+        (fields.field_with env (field_place_view place.now) f (resolved_view resolved)) }
 {
     let said = field_said(
         alloc,
@@ -140,8 +141,8 @@ pub fn group_field(
     group: &Group,
 ) -> Result<FieldDescriptorProto, AllocError>
     ensures { IfOk result (λ d. let g = group_view group.now in
-        described.field_view d ≡ fields.group_field (names_in context.now)
-        (place_view place.now) g.label g.name g.number) }
+        described.field_view d ≡ fields.group_field (names_of_context context.now)
+        (field_place_view place.now) g.label g.name g.number) }
 {
     let name = group_field_name(alloc, &group.name)?;
     let json_name = json_name(alloc, &name)?;

@@ -4,7 +4,8 @@ ghost use Rattle.std.specs.Prelude.{◌≡◌, ◌++◌, pos, ℤ, List, [], ◌
 ghost use Rattle.std.specs.Prelude.{option_to_list, string_bytes, IfOk};
 ghost use Rattle.protobuf_parse_syntax.specs.Trees.{field_statement_view, field_view, group_view};
 ghost use Rattle.protobuf_parse_syntax.specs.Trees.{type_view};
-ghost use Rattle.protobuf_parse_model.specs.Contexts.{environment_in, resolved_view, names_in};
+ghost use Rattle.protobuf_parse_model.specs.Contexts.{environment_in, resolved_view};
+ghost use Rattle.protobuf_parse_model.specs.Contexts.{names_of_context};
 ghost use Rattle.protobuf_parse_model.specs.Descriptors as described;
 ghost use Rattle.protobuf_parse_model.specs.Duplicates.{duplicates};
 ghost use Rattle.protobuf_parse_model.specs.Faults.{Elaborates};
@@ -31,9 +32,9 @@ pub fn map_entry(
     name: &str,
     type_: &Type,
 ) -> Result<Option<DescriptorProto>, ElabFailure>
-    ensures { let env = names_in context.now in
+    ensures { let env = names_of_context context.now in
         Elaborates (λ m. map described.message_view (option_to_list m)) result
-        (messages.entry_faults env name.now (type_view type_.now))
+        (messages.map_entry_faults env name.now (type_view type_.now))
         (messages.entries_of env name.now (type_view type_.now)) }
 {
     match type_ {
@@ -51,7 +52,7 @@ fn entry(
     key: &Type,
     value: &Type,
 ) -> Result<DescriptorProto, ElabFailure>
-    ensures { let env = names_in context.now in let k = type_view key.now in
+    ensures { let env = names_of_context context.now in let k = type_view key.now in
         let v = type_view value.now in
         Elaborates described.message_view result
         (fields.inner_type_faults env name.now k ++ fields.inner_type_faults env name.now v)

@@ -4,7 +4,7 @@ ghost use Rattle.std.specs.Prelude.{◌≡◌, ◌++◌, map, flat_map, option_t
 ghost use Rattle.protobuf_parse_syntax.specs.Trees.{field_statement_view, oneof_statement_view};
 ghost use Rattle.protobuf_parse_syntax.specs.Trees.{oneof_view};
 ghost use Rattle.protobuf_parse_model.specs.Contexts.{environment_in, fields_declared, fields_view};
-ghost use Rattle.protobuf_parse_model.specs.Contexts.{place_view, statements_seen};
+ghost use Rattle.protobuf_parse_model.specs.Contexts.{field_place_view, statements_seen};
 ghost use Rattle.protobuf_parse_model.specs.Faults.{Elaborates};
 ghost use Rattle.protobuf_parse_model.specs.Fields.{extension_faults, field_statement_faults};
 ghost use Rattle.protobuf_parse_model.specs.Messages.{extending, extension_faults_of};
@@ -38,7 +38,7 @@ pub fn fields_of_oneof<C: CustomOptions>(
     ensures { let env = environment_in (C.customs custom.now) context.now in
         let ss = flat_map oneof_fields (oneof_view oneof.now).body in
         Elaborates fields_view result (flat_map (field_statement_faults env) ss)
-        (fields_declared env (place_view place.now) ss) }
+        (fields_declared env (field_place_view place.now) ss) }
 {
     let statements = fields_in(alloc, &oneof.body)?;
     declared_fields(alloc, context, custom, place, &statements)
@@ -70,7 +70,7 @@ fn declared_fields<C: CustomOptions>(
     ensures { let env = environment_in (C.customs custom.now) context.now in
         let ss = statements_seen statements.now in
         Elaborates fields_view result (flat_map (field_statement_faults env) ss)
-        (fields_declared env (place_view place.now) ss) }
+        (fields_declared env (field_place_view place.now) ss) }
 {
     let mut fields = Vec::new(alloc);
     let mut behind = Vec::new(alloc);
@@ -122,7 +122,7 @@ fn declared_extensions<C: CustomOptions>(
     ensures { let env = environment_in (C.customs custom.now) context.now in
         let ss = map field_statement_view statements.now in
         Elaborates fields_view result (flat_map (extension_faults env) ss)
-        (fields_declared env (place_view place.now) ss) }
+        (fields_declared env (field_place_view place.now) ss) }
 {
     let mut fields = Vec::new(alloc);
     let mut behind = Vec::new(alloc);

@@ -6,10 +6,10 @@ ghost use Rattle.protobuf_parse_syntax.specs.Counts.{in_message, message_stateme
 ghost use Rattle.protobuf_parse_syntax.specs.Trees.{message_statement_view, message_view};
 ghost use Rattle.protobuf_parse_model.specs.Contexts as contexts;
 ghost use Rattle.protobuf_parse_model.specs.Contexts.{body_view, environment_in, names_faults};
-ghost use Rattle.protobuf_parse_model.specs.Contexts.{texts, with_statement};
+ghost use Rattle.protobuf_parse_model.specs.Contexts.{name_texts, with_body_statement};
 ghost use Rattle.protobuf_parse_model.specs.Declarations as names;
 ghost use Rattle.protobuf_parse_model.specs.Descriptors as described;
-ghost use Rattle.protobuf_parse_model.specs.Environment.{inside};
+ghost use Rattle.protobuf_parse_model.specs.Environment.{env_inside};
 ghost use Rattle.protobuf_parse_model.specs.Faults.{Elaborates};
 ghost use Rattle.protobuf_parse_model.specs.Messages as messages;
 
@@ -77,7 +77,7 @@ fn finished<C: CustomOptions>(
         let ss = map message_statement_view body.now in
         Elaborates described.message_view result
         (names_faults (body_view parts) ++ messages.rest_faults env name.now ss)
-        (contexts.message_with name.now (body_view parts) (contexts.rest_of env ss)) }
+        (contexts.message_of_both name.now (body_view parts) (contexts.rest_of env ss)) }
 {
     check_names(alloc, &parts)?;
     let rest = rest_of_message(alloc, context, custom, name, body)?;
@@ -88,7 +88,7 @@ fn finished<C: CustomOptions>(
 /// A message of these parts.
 fn assembled(name: String, body: Body, rest: Rest) -> DescriptorProto
     ensures { described.message_view result
-        ≡ contexts.message_with (string_bytes name) (body_view body) (contexts.rest_view rest) }
+        ≡ contexts.message_of_both (string_bytes name) (body_view body) (contexts.rest_view rest) }
 {
     DescriptorProto {
         name,
@@ -122,7 +122,7 @@ fn scope_inside<'a>(
     scope: &[&'a str],
     name: &'a str,
 ) -> Result<Vec<&'a str>, AllocError>
-    ensures { IfOk result (λ v. texts v.items ≡ names.inside (texts scope.now) name.now) }
+    ensures { IfOk result (λ v. name_texts v.items ≡ names.inside (name_texts scope.now) name.now) }
 {
     let mut inner = Vec::new(alloc);
     inner.extend_from_slice(scope)?;
@@ -141,7 +141,7 @@ fn body_inside<C: CustomOptions>(
 ) -> Result<Body, ElabFailure>
     requires few { sum_by message_statement_count (map message_statement_view body.now)
         ≤ 2147483647 }
-    ensures { let env = inside (environment_in (C.customs custom.now) context.now) name.now in
+    ensures { let env = env_inside (environment_in (C.customs custom.now) context.now) name.now in
         let ss = map message_statement_view body.now in
         Elaborates body_view result (flat_map (messages.statement_faults env) ss)
         (contexts.body_of env ss) }
@@ -198,7 +198,7 @@ fn add_statement<C: CustomOptions>(
     ensures { let env = environment_in (C.customs custom.now) context.now in
         let s = message_statement_view statement.now in
         Elaborates (λ _. body_view body.new) result (messages.statement_faults env s)
-        (with_statement env (body_view body.old) s) }
+        (with_body_statement env (body_view body.old) s) }
 {
     match statement {
         MessageStatement::Field(field) => add_field(alloc, context, custom, body, field),

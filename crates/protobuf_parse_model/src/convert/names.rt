@@ -1,7 +1,7 @@
 //! The names of what was declared.
 
 ghost use Rattle.std.specs.Prelude.{◌≡◌, map, IfOk};
-ghost use Rattle.protobuf_parse_model.specs.Contexts.{texts};
+ghost use Rattle.protobuf_parse_model.specs.Contexts.{name_texts};
 ghost use Rattle.protobuf_parse_model.specs.Descriptors as described;
 ghost use Rattle.protobuf_parse_model.specs.Duplicates.{duplicates};
 ghost use Rattle.protobuf_parse_model.specs.Faults.{Elaborates};
@@ -23,7 +23,7 @@ pub fn names_of_fields(
     fields: &[FieldDescriptorProto],
 ) -> Result<Vec<&str>, AllocError>
     ensures { IfOk result
-        (λ v. texts v.items ≡ spec.names_of_fields (map described.field_view fields.now)) }
+        (λ v. name_texts v.items ≡ spec.names_of_fields (map described.field_view fields.now)) }
 {
     let mut names = Vec::new(alloc);
     for field in fields {
@@ -38,7 +38,7 @@ pub fn names_of_oneofs(
     oneofs: &[OneofDescriptorProto],
 ) -> Result<Vec<&str>, AllocError>
     ensures { IfOk result
-        (λ v. texts v.items ≡ bodies.names_of_oneofs (map described.oneof_view oneofs.now)) }
+        (λ v. name_texts v.items ≡ bodies.names_of_oneofs (map described.oneof_view oneofs.now)) }
 {
     let mut names = Vec::new(alloc);
     for oneof in oneofs {
@@ -50,7 +50,7 @@ pub fn names_of_oneofs(
 /// The names of enums.
 pub fn names_of_enums(alloc: Global, enums: &[EnumDescriptorProto]) -> Result<Vec<&str>, AllocError>
     ensures { IfOk result
-        (λ v. texts v.items ≡ bodies.names_of_enums (map described.enum_view enums.now)) }
+        (λ v. name_texts v.items ≡ bodies.names_of_enums (map described.enum_view enums.now)) }
 {
     let mut names = Vec::new(alloc);
     for each in enums {
@@ -65,7 +65,8 @@ pub fn names_of_messages(
     messages: &[DescriptorProto],
 ) -> Result<Vec<&str>, AllocError>
     ensures { IfOk result
-        (λ v. texts v.items ≡ bodies.names_of_messages (map described.message_view messages.now)) }
+        (λ v. name_texts v.items
+        ≡ bodies.names_of_messages (map described.message_view messages.now)) }
 {
     let mut names = Vec::new(alloc);
     for message in messages {
@@ -80,7 +81,8 @@ pub fn names_of_services(
     services: &[ServiceDescriptorProto],
 ) -> Result<Vec<&str>, AllocError>
     ensures { IfOk result
-        (λ v. texts v.items ≡ files.names_of_services (map described.service_view services.now)) }
+        (λ v. name_texts v.items
+        ≡ files.names_of_services (map described.service_view services.now)) }
 {
     let mut names = Vec::new(alloc);
     for service in services {

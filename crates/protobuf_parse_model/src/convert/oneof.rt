@@ -5,7 +5,7 @@ ghost use Rattle.protobuf_parse_syntax.specs.Trees.{field_statement_view, oneof_
 ghost use Rattle.protobuf_parse_syntax.specs.Trees.{oneof_view};
 ghost use Rattle.protobuf_parse_model.specs.BuiltinOptions.{oneof_table};
 ghost use Rattle.protobuf_parse_model.specs.ConstructOptions.{construct_faults};
-ghost use Rattle.protobuf_parse_model.specs.Contexts.{environment_in, names_in};
+ghost use Rattle.protobuf_parse_model.specs.Contexts.{environment_in, names_of_context};
 ghost use Rattle.protobuf_parse_model.specs.Environment.{customs_bytes};
 ghost use Rattle.protobuf_parse_model.specs.declared.customs.Construct.TheVariants as of;
 ghost use Rattle.protobuf_parse_model.specs.Descriptors as described;
@@ -53,7 +53,7 @@ fn checked_options<C: CustomOptions>(
     body: &[OneOfStatement],
 ) -> Result<Option<OneofOptions>, ElabFailure>
     ensures { let env = environment_in (C.customs custom.now) context.now in
-        let os = flat_map statements.oneof_options (map oneof_statement_view body.now) in
+        let os = flat_map statements.oneof_statement_options (map oneof_statement_view body.now) in
         Elaborates (λ o. option_map oneof_options_view o) result
         (construct_faults env of.Oneof oneof_table os)
         (sets.oneof_options (customs_bytes env of.Oneof os) os) }
@@ -74,7 +74,7 @@ fn checked_options<C: CustomOptions>(
 fn options_in(alloc: Global, body: &[OneOfStatement]) -> Result<Vec<&ProtobufOption>, AllocError>
     ensures { IfOk result
         (λ v. options_seen v.items
-        ≡ flat_map statements.oneof_options (map oneof_statement_view body.now)) }
+        ≡ flat_map statements.oneof_statement_options (map oneof_statement_view body.now)) }
 {
     let mut options = Vec::new(alloc);
     for statement in body {
@@ -87,7 +87,7 @@ fn options_in(alloc: Global, body: &[OneOfStatement]) -> Result<Vec<&ProtobufOpt
 
 /// Whether the field is alone in a oneof of its own: in proto3 with the label `optional`.
 pub fn has_own_oneof(context: &Context<'_>, statement: &FieldStatement) -> bool
-    ensures { result ≡ messages.has_own_oneof (names_in context.now)
+    ensures { result ≡ messages.has_own_oneof (names_of_context context.now)
         (field_statement_view statement.now) }
 {
     match statement {

@@ -15,11 +15,12 @@ pub struct FieldPlace<'a> {
 }
 
 impl FieldPlace<'_> {
-    ghost use Rattle.protobuf_parse_model.specs.Contexts.{place_view};
+    ghost use Rattle.protobuf_parse_model.specs.Contexts.{field_place_view};
 
     /// The message that the field extends, in a text of its own.
     pub fn extendee(&self, alloc: Global) -> Result<Option<String>, AllocError>
-        ensures { IfOk result (λ s. option_map string_bytes s ≡ (place_view self.now).extendee) }
+        ensures { IfOk result
+            (λ s. option_map string_bytes s ≡ (field_place_view self.now).extendee) }
     {
         match self.extendee {
             Some(text) => Ok(Some(String::from_str(alloc, text)?)),
@@ -29,7 +30,7 @@ impl FieldPlace<'_> {
 
     /// The position of the oneof, as descriptors have it.
     pub fn oneof_index(&self) -> Option<i32>
-        ensures { result ≡ option_map pos (place_view self.now).oneof_index }
+        ensures { result ≡ option_map pos (field_place_view self.now).oneof_index }
     {
         match self.oneof_index {
             Some(index) => Some(index as i32),

@@ -4,7 +4,7 @@ ghost use Rattle.std.specs.Prelude.{◌≡◌, ◌++◌, map, flat_map, option_m
 ghost use Rattle.protobuf_parse_syntax.specs.Trees.{message_statement_view, range_view};
 ghost use Rattle.protobuf_parse_model.specs.BuiltinOptions.{message_table};
 ghost use Rattle.protobuf_parse_model.specs.ConstructOptions.{construct_faults};
-ghost use Rattle.protobuf_parse_model.specs.Contexts.{environment_in, reserved_parts};
+ghost use Rattle.protobuf_parse_model.specs.Contexts.{environment_in, reserved_views};
 ghost use Rattle.protobuf_parse_model.specs.Contexts.{reserves_seen, rest_of, rest_view};
 ghost use Rattle.protobuf_parse_model.specs.Descriptors as described;
 ghost use Rattle.protobuf_parse_model.specs.Enums as enums;
@@ -101,7 +101,7 @@ fn reserved(
     body: &[MessageStatement],
 ) -> Result<(Vec<ReservedRange>, Vec<String>), ElabFailure>
     ensures { let rs = flat_map messages.reserves (map message_statement_view body.now) in
-        Elaborates reserved_parts result
+        Elaborates reserved_views result
         (flat_map (messages.range_faults name.now) (flat_map enums.ranges_reserved rs)) (
           map messages.exclusive (flat_map enums.ranges_reserved rs),
           flat_map enums.names_reserved rs,
@@ -118,7 +118,7 @@ fn reserved_by(
     reserves: &[&Reserved],
 ) -> Result<(Vec<ReservedRange>, Vec<String>), ElabFailure>
     ensures { let rs = reserves_seen reserves.now in
-        Elaborates reserved_parts result
+        Elaborates reserved_views result
         (flat_map (messages.range_faults name.now) (flat_map enums.ranges_reserved rs)) (
           map messages.exclusive (flat_map enums.ranges_reserved rs),
           flat_map enums.names_reserved rs,

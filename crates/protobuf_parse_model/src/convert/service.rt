@@ -5,8 +5,8 @@ ghost use Rattle.std.specs.Prelude.{unwrap_or, IfOk};
 ghost use Rattle.protobuf_parse_syntax.specs.Trees as tree;
 ghost use Rattle.protobuf_parse_model.specs.BuiltinOptions.{method_table, service_table};
 ghost use Rattle.protobuf_parse_model.specs.ConstructOptions.{construct_faults};
-ghost use Rattle.protobuf_parse_model.specs.Contexts.{environment_in, methods_seen, texts};
-ghost use Rattle.protobuf_parse_model.specs.Contexts.{names_in};
+ghost use Rattle.protobuf_parse_model.specs.Contexts.{environment_in, methods_seen, name_texts};
+ghost use Rattle.protobuf_parse_model.specs.Contexts.{names_of_context};
 ghost use Rattle.protobuf_parse_model.specs.Descriptors as described;
 ghost use Rattle.protobuf_parse_model.specs.Environment.{customs_bytes, type_full_name};
 ghost use Rattle.protobuf_parse_model.specs.Environment.{type_missing};
@@ -107,7 +107,8 @@ fn methods(alloc: Global, body: &[ServiceStatement]) -> Result<Vec<&Method>, All
 /// Their names.
 fn names<'a>(alloc: Global, methods: &[&'a Method]) -> Result<Vec<&'a str>, AllocError>
     ensures { IfOk result
-        (λ v. texts v.items ≡ map (λ (m : tree.MethodSyntax). m.name) (methods_seen methods.now)) }
+        (λ v. name_texts v.items
+        ≡ map (λ (m : tree.MethodSyntax). m.name) (methods_seen methods.now)) }
 {
     let mut names = Vec::new(alloc);
     for method in methods {
@@ -163,7 +164,7 @@ fn method_descriptor<C: CustomOptions>(
 
 /// The full name of a method's type. E2 or E3 where the name means none.
 fn method_type(alloc: Global, context: &Context<'_>, name: &str) -> Result<String, ElabFailure>
-    ensures { let env = names_in context.now in
+    ensures { let env = names_of_context context.now in
         Elaborates string_bytes result (type_missing env name.now)
         (unwrap_or (type_full_name env name.now) []) }
 {

@@ -3,8 +3,9 @@
 ghost use Rattle.protobuf_parse_syntax.specs.Trees as tree;
 ghost use Rattle.protobuf_parse_syntax.specs.Trees.{field_view, field_statement_view, group_of};
 ghost use Rattle.protobuf_parse_syntax.specs.Trees.{group_view};
-ghost use Rattle.protobuf_parse_model.specs.Contexts.{declared_by, declared_view, environment_in};
-ghost use Rattle.protobuf_parse_model.specs.Contexts.{place_view};
+ghost use Rattle.protobuf_parse_model.specs.Contexts.{field_declared_by, declared_view};
+ghost use Rattle.protobuf_parse_model.specs.Contexts.{environment_in};
+ghost use Rattle.protobuf_parse_model.specs.Contexts.{field_place_view};
 ghost use Rattle.protobuf_parse_model.specs.Faults.{Elaborates};
 ghost use Rattle.protobuf_parse_model.specs.Fields as fields;
 
@@ -40,7 +41,7 @@ pub fn declared_field<C: CustomOptions>(
     ensures { let env = environment_in (C.customs custom.now) context.now in
         let s = field_statement_view statement.now in
         Elaborates declared_view result (fields.field_statement_faults env s)
-        (declared_by env (place_view place.now) s) }
+        (field_declared_by env (field_place_view place.now) s) }
 {
     match statement {
         FieldStatement::Field(field) => declared_plain(alloc, context, custom, place, field),
@@ -59,7 +60,7 @@ pub fn declared_extension<C: CustomOptions>(
     ensures { let env = environment_in (C.customs custom.now) context.now in
         let s = field_statement_view statement.now in
         Elaborates declared_view result (fields.extension_faults env s)
-        (declared_by env (place_view place.now) s) }
+        (field_declared_by env (field_place_view place.now) s) }
 {
     match statement {
         FieldStatement::Field(field) => declared_unless_map(alloc, context, custom, place, field),
@@ -79,7 +80,7 @@ fn declared_plain<C: CustomOptions>(
     ensures { let env = environment_in (C.customs custom.now) context.now in
         let s = tree.field (field_view field.now) in
         Elaborates declared_view result (fields.field_statement_faults env s)
-        (declared_by env (place_view place.now) s) }
+        (field_declared_by env (field_place_view place.now) s) }
 {
     let behind = map_entry(alloc, context, &field.name, &field.type_)?;
     let field = field_descriptor(alloc, context, custom, place, field)?;
@@ -98,7 +99,7 @@ fn declared_unless_map<C: CustomOptions>(
     ensures { let env = environment_in (C.customs custom.now) context.now in
         let s = tree.field (field_view field.now) in
         Elaborates declared_view result (fields.extension_faults env s)
-        (declared_by env (place_view place.now) s) }
+        (field_declared_by env (field_place_view place.now) s) }
 {
     check_no_map(alloc, field)?;
     declared_plain(alloc, context, custom, place, field)
@@ -116,7 +117,7 @@ fn declared_group<C: CustomOptions>(
     ensures { let env = environment_in (C.customs custom.now) context.now in
         let s = group_of (group_view group.now) in
         Elaborates declared_view result (fields.field_statement_faults env s)
-        (declared_by env (place_view place.now) s) }
+        (field_declared_by env (field_place_view place.now) s) }
 {
     let message = group_message(alloc, context, custom, group)?;
     let field = group_field(alloc, context, place, group)?;

@@ -2,7 +2,7 @@
 
 ghost use Rattle.std.specs.Prelude.{◌≡◌, ◌++◌, Some, string_bytes, IfOk};
 ghost use Rattle.protobuf_parse_syntax.specs.Trees.{type_view};
-ghost use Rattle.protobuf_parse_model.specs.Contexts.{names_in, resolved_view};
+ghost use Rattle.protobuf_parse_model.specs.Contexts.{names_of_context, resolved_view};
 ghost use Rattle.protobuf_parse_model.specs.Environment.{missing_name, type_full_name};
 ghost use Rattle.protobuf_parse_model.specs.Environment.{type_missing, type_named};
 ghost use Rattle.protobuf_parse_model.specs.Faults.{Blames, Elaborates};
@@ -36,7 +36,7 @@ pub fn resolved_type(
     name: &str,
     type_: &Type,
 ) -> Result<ResolvedType, ElabFailure>
-    ensures { let env = names_in context.now in
+    ensures { let env = names_of_context context.now in
         Elaborates resolved_view result (type_faults env name.now (type_view type_.now))
         (type_of env name.now (type_view type_.now)) }
 {
@@ -59,7 +59,7 @@ pub fn resolved_type(
 
 /// The type that a name means. E2 or E3 where it means none.
 fn named_type(alloc: Global, context: &Context<'_>, name: &str) -> Result<ResolvedType, ElabFailure>
-    ensures { let env = names_in context.now in
+    ensures { let env = names_of_context context.now in
         Elaborates resolved_view result (type_missing env name.now)
         (type_of_meaning (type_named env name.now)) }
 {
@@ -93,7 +93,7 @@ fn check_map(
     key: &Type,
     value: &Type,
 ) -> Result<(), ElabFailure>
-    ensures { let env = names_in context.now in
+    ensures { let env = names_of_context context.now in
         Elaborates (λ u. u) result
         (inner_type_faults env name.now (type_view key.now)
         ++ inner_type_faults env name.now (type_view value.now)) tt }
@@ -111,7 +111,7 @@ pub fn inner_type(
     name: &str,
     type_: &Type,
 ) -> Result<ResolvedType, ElabFailure>
-    ensures { let env = names_in context.now in
+    ensures { let env = names_of_context context.now in
         Elaborates resolved_view result (inner_type_faults env name.now (type_view type_.now))
         (type_of env name.now (type_view type_.now)) }
 {
@@ -131,7 +131,7 @@ pub fn type_full_name(
     context: &Context<'_>,
     name: &str,
 ) -> Result<String, ElabFailure>
-    ensures { let env = names_in context.now in
+    ensures { let env = names_of_context context.now in
         Elaborates (λ s. Some (string_bytes s)) result (type_missing env name.now)
         (type_full_name env name.now) }
 {

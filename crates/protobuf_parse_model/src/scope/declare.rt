@@ -8,8 +8,9 @@ ghost use Rattle.protobuf_parse_syntax.specs.Trees.{FileSyntax, file_view, messa
 ghost use Rattle.protobuf_parse_syntax.specs.Trees.{message_view, statement_view};
 ghost use Rattle.protobuf_parse_model.specs.Declarations as names;
 ghost use Rattle.protobuf_parse_model.specs.Descriptors.{Text};
-ghost use Rattle.protobuf_parse_model.specs.Contexts.{declared_as, kind_view, listed, texts};
-ghost use Rattle.protobuf_parse_model.specs.Tables.{Adds, AddsOne, Tells, listed_names, type_entry};
+ghost use Rattle.protobuf_parse_model.specs.Contexts.{declared_as, kind_view, listed, name_texts};
+ghost use Rattle.protobuf_parse_model.specs.Tables.{Adds, AddsOne, TableTells, listed_names};
+ghost use Rattle.protobuf_parse_model.specs.Tables.{type_entry};
 
 use super::extensions::add_extensions;
 use super::generated::add_generated;
@@ -22,7 +23,7 @@ use std::collections::BTreeMap;
 impl Declarations {
     /// No names.
     pub fn new(alloc: Global) -> Self
-        ensures { Tells result [] }
+        ensures { TableTells result [] }
     {
         Declarations {
             by_name: BTreeMap::new(alloc),
@@ -35,7 +36,7 @@ impl Declarations {
     /// The one error is that memory is short: nothing is known of the table then.
     pub fn add(&mut self, alloc: Global, file: usize, tree: &FileTree) -> Result<(), AllocError>
         ensures { OnOk result ((files : List FileSyntax) → length files ≡ file →
-            Tells self.old files → Tells self.new (files ++ file_view tree.now ∷ [])) }
+            TableTells self.old files → TableTells self.new (files ++ file_view tree.now ∷ [])) }
     {
         let mut scope = package_scope(alloc, tree)?;
         add_types(self, alloc, file, &mut scope, &tree.statements)?;
@@ -52,9 +53,9 @@ fn add_types<'a>(
     scope: &mut Vec<&'a str>,
     statements: &'a [FileStatement],
 ) -> Result<(), AllocError>
-    ensures scope { OnOk result (texts scope.new.items ≡ texts scope.old.items) }
+    ensures scope { OnOk result (name_texts scope.new.items ≡ name_texts scope.old.items) }
     ensures adds { OnOk result (Adds type_entry table.old table.new file
-        (flat_map (names.statement_types (texts scope.old.items))
+        (flat_map (names.statement_types (name_texts scope.old.items))
         (map statement_view statements.now))) }
 {
     for statement in statements {
@@ -71,9 +72,9 @@ fn add_declared<'a>(
     scope: &mut Vec<&'a str>,
     statement: &'a FileStatement,
 ) -> Result<(), AllocError>
-    ensures scope { OnOk result (texts scope.new.items ≡ texts scope.old.items) }
+    ensures scope { OnOk result (name_texts scope.new.items ≡ name_texts scope.old.items) }
     ensures adds { OnOk result (Adds type_entry table.old table.new file
-        (names.statement_types (texts scope.old.items) (statement_view statement.now))) }
+        (names.statement_types (name_texts scope.old.items) (statement_view statement.now))) }
 {
     match statement {
         FileStatement::Message(message) => add_message(table, alloc, file, scope, message),
@@ -90,7 +91,7 @@ fn add_declared<'a>(
 
 /// The identifiers of the file's package.
 pub fn package_scope<'a>(alloc: Global, tree: &'a FileTree) -> Result<Vec<&'a str>, AllocError>
-    ensures { IfOk result (λ v. texts v.items ≡ names.file_scope (file_view tree.now)) }
+    ensures { IfOk result (λ v. name_texts v.items ≡ names.file_scope (file_view tree.now)) }
 {
     match tree.package() {
         Some(package) => identifiers(alloc, package),
@@ -100,7 +101,7 @@ pub fn package_scope<'a>(alloc: Global, tree: &'a FileTree) -> Result<Vec<&'a st
 
 /// The identifiers of a package's name, which may be empty.
 fn identifiers(alloc: Global, name: &str) -> Result<Vec<&str>, AllocError>
-    ensures { IfOk result (λ v. texts v.items ≡ relative_idents name.now) }
+    ensures { IfOk result (λ v. name_texts v.items ≡ relative_idents name.now) }
 {
     if name.is_empty() {
         return Ok(Vec::new(alloc));
@@ -117,9 +118,9 @@ fn add_message<'a>(
     scope: &mut Vec<&'a str>,
     message: &'a Message,
 ) -> Result<(), AllocError>
-    ensures scope { OnOk result (texts scope.new.items ≡ texts scope.old.items) }
+    ensures scope { OnOk result (name_texts scope.new.items ≡ name_texts scope.old.items) }
     ensures adds { OnOk result (Adds type_entry table.old table.new file
-        (names.message_types (texts scope.old.items) (message_view message.now))) }
+        (names.message_types (name_texts scope.old.items) (message_view message.now))) }
 {
     add_type(table, alloc, file, scope, &message.name, TypeKind::Message)?;
     scope.push(&message.name)?;
@@ -139,9 +140,9 @@ fn add_statement<'a>(
     scope: &mut Vec<&'a str>,
     statement: &'a MessageStatement,
 ) -> Result<(), AllocError>
-    ensures scope { OnOk result (texts scope.new.items ≡ texts scope.old.items) }
+    ensures scope { OnOk result (name_texts scope.new.items ≡ name_texts scope.old.items) }
     ensures adds { OnOk result (Adds type_entry table.old table.new file
-        (names.types_of (texts scope.old.items) (message_statement_view statement.now))) }
+        (names.types_of (name_texts scope.old.items) (message_statement_view statement.now))) }
 {
     match statement {
         MessageStatement::Message(message) => add_message(table, alloc, file, scope, message),
@@ -167,7 +168,7 @@ fn add_type(
     kind: TypeKind,
 ) -> Result<(), AllocError>
     ensures { OnOk result (Adds type_entry table.old table.new file
-        (names.declare (texts scope.now) name.now (kind_view kind) ∷ [])) }
+        (names.declare (name_texts scope.now) name.now (kind_view kind) ∷ [])) }
 {
     let kind = match kind {
         TypeKind::Message => DeclarationKind::Message,
@@ -185,7 +186,7 @@ pub fn add_name(
     declaration: Declaration,
 ) -> Result<(), AllocError>
     ensures { OnOk result (AddsOne table.old table.new
-        (names.full_name (texts scope.now) name.now) declaration) }
+        (names.full_name (name_texts scope.now) name.now) declaration) }
 {
     let name = full_name(alloc, scope, name)?;
     put(table, alloc, name, declaration)

@@ -7,7 +7,7 @@ ghost use Rattle.protobuf_parse_syntax.specs.Trees.{statement_view};
 ghost use Rattle.protobuf_parse_model.specs.declared.scope.seen.DeclarationKind.TheVariants.{Extension};
 ghost use Rattle.protobuf_parse_model.specs.Declarations as names;
 ghost use Rattle.protobuf_parse_model.specs.Statements.{field_statement_name};
-ghost use Rattle.protobuf_parse_model.specs.Contexts.{texts};
+ghost use Rattle.protobuf_parse_model.specs.Contexts.{name_texts};
 ghost use Rattle.protobuf_parse_model.specs.Tables.{Adds, AddsOne, extension_entry};
 
 use super::declare::add_name;
@@ -24,9 +24,9 @@ pub fn add_extensions<'a>(
     scope: &mut Vec<&'a str>,
     statements: &'a [FileStatement],
 ) -> Result<(), AllocError>
-    ensures scope { OnOk result (texts scope.new.items ≡ texts scope.old.items) }
+    ensures scope { OnOk result (name_texts scope.new.items ≡ name_texts scope.old.items) }
     ensures adds { OnOk result (Adds extension_entry table.old table.new file
-        (flat_map (names.statement_extensions (texts scope.old.items))
+        (flat_map (names.statement_extensions (name_texts scope.old.items))
         (map statement_view statements.now))) }
 {
     for statement in statements {
@@ -43,9 +43,9 @@ fn add_in_file<'a>(
     scope: &mut Vec<&'a str>,
     statement: &'a FileStatement,
 ) -> Result<(), AllocError>
-    ensures scope { OnOk result (texts scope.new.items ≡ texts scope.old.items) }
+    ensures scope { OnOk result (name_texts scope.new.items ≡ name_texts scope.old.items) }
     ensures adds { OnOk result (Adds extension_entry table.old table.new file
-        (names.statement_extensions (texts scope.old.items) (statement_view statement.now))) }
+        (names.statement_extensions (name_texts scope.old.items) (statement_view statement.now))) }
 {
     match statement {
         FileStatement::Message(message) => add_in_message(table, alloc, file, scope, message),
@@ -67,10 +67,10 @@ fn add_in_message<'a>(
     scope: &mut Vec<&'a str>,
     message: &'a Message,
 ) -> Result<(), AllocError>
-    ensures scope { OnOk result (texts scope.new.items ≡ texts scope.old.items) }
+    ensures scope { OnOk result (name_texts scope.new.items ≡ name_texts scope.old.items) }
     ensures adds { OnOk result (let m = message_view message.now in
         Adds extension_entry table.old table.new file
-        (flat_map (names.extensions_of (names.inside (texts scope.old.items) m.name)) m.body)) }
+        (flat_map (names.extensions_of (names.inside (name_texts scope.old.items) m.name)) m.body)) }
 {
     scope.push(&message.name)?;
     for statement in &message.body {
@@ -89,9 +89,9 @@ fn add_in_body<'a>(
     scope: &mut Vec<&'a str>,
     statement: &'a MessageStatement,
 ) -> Result<(), AllocError>
-    ensures scope { OnOk result (texts scope.new.items ≡ texts scope.old.items) }
+    ensures scope { OnOk result (name_texts scope.new.items ≡ name_texts scope.old.items) }
     ensures adds { OnOk result (Adds extension_entry table.old table.new file
-        (names.extensions_of (texts scope.old.items) (message_statement_view statement.now))) }
+        (names.extensions_of (name_texts scope.old.items) (message_statement_view statement.now))) }
 {
     match statement {
         MessageStatement::Message(message) => add_in_message(table, alloc, file, scope, message),
@@ -114,7 +114,7 @@ fn add_in_extend(
     extend: &Extend,
 ) -> Result<(), AllocError>
     ensures { OnOk result (Adds extension_entry table.old table.new file
-        (names.extend_extensions (texts scope.now) (extend_view extend.now))) }
+        (names.extend_extensions (name_texts scope.now) (extend_view extend.now))) }
 {
     for statement in &extend.fields {
         add_extension(table, alloc, file, scope, statement)?;
@@ -131,7 +131,7 @@ fn add_extension(
     statement: &FieldStatement,
 ) -> Result<(), AllocError>
     ensures { OnOk result (let name = field_statement_name (field_statement_view statement.now) in
-        AddsOne table.old table.new (names.full_name (texts scope.now) name)
+        AddsOne table.old table.new (names.full_name (name_texts scope.now) name)
         (record { file = file; kind = Extension })) }
 {
     let kind = DeclarationKind::Extension;

@@ -8,7 +8,7 @@ ghost use Rattle.protobuf_parse_syntax.specs.Trees.{statement_view};
 ghost use Rattle.protobuf_parse_syntax.specs.Trees as tree;
 ghost use Rattle.protobuf_parse_model.specs.Declarations as names;
 ghost use Rattle.protobuf_parse_model.specs.Statements.{oneof_fields};
-ghost use Rattle.protobuf_parse_model.specs.Contexts.{texts};
+ghost use Rattle.protobuf_parse_model.specs.Contexts.{name_texts};
 ghost use Rattle.protobuf_parse_model.specs.Tables.{Adds, generated_entry};
 
 use super::declare::add_name;
@@ -28,9 +28,9 @@ pub fn add_generated<'a>(
     scope: &mut Vec<&'a str>,
     statements: &'a [FileStatement],
 ) -> Result<(), AllocError>
-    ensures scope { OnOk result (texts scope.new.items ≡ texts scope.old.items) }
+    ensures scope { OnOk result (name_texts scope.new.items ≡ name_texts scope.old.items) }
     ensures adds { OnOk result (Adds generated_entry table.old table.new file
-        (flat_map (names.statement_generated (texts scope.old.items))
+        (flat_map (names.statement_generated (name_texts scope.old.items))
         (map statement_view statements.now))) }
 {
     for statement in statements {
@@ -47,9 +47,9 @@ fn add_in_file<'a>(
     scope: &mut Vec<&'a str>,
     statement: &'a FileStatement,
 ) -> Result<(), AllocError>
-    ensures scope { OnOk result (texts scope.new.items ≡ texts scope.old.items) }
+    ensures scope { OnOk result (name_texts scope.new.items ≡ name_texts scope.old.items) }
     ensures adds { OnOk result (Adds generated_entry table.old table.new file
-        (names.statement_generated (texts scope.old.items) (statement_view statement.now))) }
+        (names.statement_generated (name_texts scope.old.items) (statement_view statement.now))) }
 {
     match statement {
         FileStatement::Message(message) => add_in_message(table, alloc, file, scope, message),
@@ -71,10 +71,10 @@ fn add_in_message<'a>(
     scope: &mut Vec<&'a str>,
     message: &'a Message,
 ) -> Result<(), AllocError>
-    ensures scope { OnOk result (texts scope.new.items ≡ texts scope.old.items) }
+    ensures scope { OnOk result (name_texts scope.new.items ≡ name_texts scope.old.items) }
     ensures adds { OnOk result (let m = message_view message.now in
         Adds generated_entry table.old table.new file
-        (flat_map (names.generated_of (names.inside (texts scope.old.items) m.name)) m.body)) }
+        (flat_map (names.generated_of (names.inside (name_texts scope.old.items) m.name)) m.body)) }
 {
     scope.push(&message.name)?;
     for statement in &message.body {
@@ -93,9 +93,9 @@ fn add_in_body<'a>(
     scope: &mut Vec<&'a str>,
     statement: &'a MessageStatement,
 ) -> Result<(), AllocError>
-    ensures scope { OnOk result (texts scope.new.items ≡ texts scope.old.items) }
+    ensures scope { OnOk result (name_texts scope.new.items ≡ name_texts scope.old.items) }
     ensures adds { OnOk result (Adds generated_entry table.old table.new file
-        (names.generated_of (texts scope.old.items) (message_statement_view statement.now))) }
+        (names.generated_of (name_texts scope.old.items) (message_statement_view statement.now))) }
 {
     match statement {
         MessageStatement::Message(message) => add_in_message(table, alloc, file, scope, message),
@@ -118,7 +118,7 @@ fn add_in_oneof(
     oneof: &OneOf,
 ) -> Result<(), AllocError>
     ensures { OnOk result (Adds generated_entry table.old table.new file
-        (flat_map (names.generated_by (texts scope.now))
+        (flat_map (names.generated_by (name_texts scope.now))
         (flat_map oneof_fields (oneof_view oneof.now).body))) }
 {
     for statement in &oneof.body {
@@ -136,7 +136,7 @@ fn add_of_choice(
     statement: &OneOfStatement,
 ) -> Result<(), AllocError>
     ensures { OnOk result (Adds generated_entry table.old table.new file
-        (flat_map (names.generated_by (texts scope.now))
+        (flat_map (names.generated_by (name_texts scope.now))
         (oneof_fields (oneof_statement_view statement.now)))) }
 {
     match statement {
@@ -154,7 +154,7 @@ fn add_in_extend(
     extend: &Extend,
 ) -> Result<(), AllocError>
     ensures { OnOk result (Adds generated_entry table.old table.new file
-        (flat_map (names.generated_by (texts scope.now)) (extend_view extend.now).fields)) }
+        (flat_map (names.generated_by (name_texts scope.now)) (extend_view extend.now).fields)) }
 {
     for statement in &extend.fields {
         add_behind(table, alloc, file, scope, statement)?;
@@ -171,7 +171,7 @@ fn add_behind(
     statement: &FieldStatement,
 ) -> Result<(), AllocError>
     ensures { OnOk result (Adds generated_entry table.old table.new file
-        (names.generated_by (texts scope.now) (field_statement_view statement.now))) }
+        (names.generated_by (name_texts scope.now) (field_statement_view statement.now))) }
 {
     match statement {
         FieldStatement::Field(field) => add_entry(table, alloc, file, scope, field),
@@ -188,7 +188,7 @@ fn add_entry(
     field: &Field,
 ) -> Result<(), AllocError>
     ensures { OnOk result (Adds generated_entry table.old table.new file
-        (names.generated_by (texts scope.now) (tree.field (field_view field.now)))) }
+        (names.generated_by (name_texts scope.now) (tree.field (field_view field.now)))) }
 {
     match &field.type_ {
         Type::Map(_, _) => {
@@ -208,7 +208,7 @@ fn add_message(
     name: &str,
 ) -> Result<(), AllocError>
     ensures { OnOk result (Adds generated_entry table.old table.new file
-        (names.full_name (texts scope.now) name.now ∷ [])) }
+        (names.full_name (name_texts scope.now) name.now ∷ [])) }
 {
     let kind = DeclarationKind::Generated;
     add_name(table, alloc, scope, name, Declaration { file, kind })

@@ -10,11 +10,11 @@ ghost use Rattle.protobuf_parse_wire.specs.Trees as trees;
 ghost use Rattle.protobuf_parse_wire.specs.CustomFaults.{integer_faults, message_value_faults};
 ghost use Rattle.protobuf_parse_wire.specs.CustomFaults.{string_value_faults, truth_faults};
 ghost use Rattle.protobuf_parse_wire.specs.CustomFaults.{value_faults};
-ghost use Rattle.protobuf_parse_wire.specs.CustomOptions.{item, message_item, value_items};
-ghost use Rattle.protobuf_parse_wire.specs.Given.{field_faults_of, field_items_of, given_faults};
-ghost use Rattle.protobuf_parse_wire.specs.Given.{place_view};
+ghost use Rattle.protobuf_parse_wire.specs.CustomOptions.{item_of, item_of_message, value_items};
+ghost use Rattle.protobuf_parse_wire.specs.Given.{field_faults_of, given_field_items, given_faults};
+ghost use Rattle.protobuf_parse_wire.specs.Given.{option_place_view};
 ghost use Rattle.protobuf_parse_wire.specs.Holding.{files_seen};
-ghost use Rattle.protobuf_parse_wire.specs.OptionFields.{takes, type_name_of};
+ghost use Rattle.protobuf_parse_wire.specs.OptionFields.{type_takes, type_name_of};
 ghost use Rattle.protobuf_parse_wire.specs.Views.{entry_view};
 
 use crate::customs::fields::{OptionPlace, constant_field, type_name_of};
@@ -39,7 +39,7 @@ pub fn push_value(
     field: &FieldDescriptorProto,
     entries: &mut Vec<Entry>,
 ) -> Result<(), ElabFailure>
-    ensures { let s = place_view at.now in let f = field_view field.now in
+    ensures { let s = option_place_view at.now in let f = field_view field.now in
         let c = constant_view value.now in
         Elaborates (λ u. map entry_view entries.new.items) result (value_faults s option.now f c)
         (map entry_view entries.old.items ++ value_items s f c) }
@@ -66,8 +66,8 @@ fn push_integer(
 ) -> Result<(), ElabFailure>
     ensures { let f = field_view field.now in
         Elaborates (λ u. map entry_view entries.new.items) result
-        (integer_faults f.name (takes f.type_) number)
-        (map entry_view entries.old.items ++ item f (trees.number number)) }
+        (integer_faults f.name (type_takes f.type_) number)
+        (map entry_view entries.old.items ++ item_of f (trees.number number)) }
 {
     check_integer(alloc, field, number)?;
     push_item(entries, field, EntryValue::Number(number))?;
@@ -82,8 +82,8 @@ fn push_truth(
 ) -> Result<(), ElabFailure>
     ensures { let f = field_view field.now in
         Elaborates (λ u. map entry_view entries.new.items) result
-        (truth_faults f.name (takes f.type_))
-        (map entry_view entries.old.items ++ item f (trees.truth truth)) }
+        (truth_faults f.name (type_takes f.type_))
+        (map entry_view entries.old.items ++ item_of f (trees.truth truth)) }
 {
     check_truth(alloc, field)?;
     push_item(entries, field, EntryValue::Bool(truth))?;
@@ -98,7 +98,7 @@ fn push_value_name(
     name: &str,
     entries: &mut Vec<Entry>,
 ) -> Result<(), ElabFailure>
-    ensures { let s = place_view at.now in let f = field_view field.now in
+    ensures { let s = option_place_view at.now in let f = field_view field.now in
         let c = dotted name.now in
         Elaborates (λ u. map entry_view entries.new.items) result (value_faults s option.now f c)
         (map entry_view entries.old.items ++ value_items s f c) }
@@ -120,8 +120,8 @@ fn push_string(
 ) -> Result<(), ElabFailure>
     ensures { let f = field_view field.now in let pieces = pieces_of string.now in
         Elaborates (λ u. map entry_view entries.new.items) result
-        (string_value_faults option.now f.name (takes f.type_) pieces)
-        (map entry_view entries.old.items ++ item f
+        (string_value_faults option.now f.name (type_takes f.type_) pieces)
+        (map entry_view entries.old.items ++ item_of f
         (trees.bytes (unwrap_or (decode pieces) []))) }
 {
     let bytes = bytes_given(alloc, option, field, string)?;
@@ -140,7 +140,7 @@ fn push_list(
     field: &FieldDescriptorProto,
     entries: &mut Vec<Entry>,
 ) -> Result<(), ElabFailure>
-    ensures { let s = place_view at.now in let f = field_view field.now in
+    ensures { let s = option_place_view at.now in let f = field_view field.now in
         let cs = map constant_view items.now in
         Elaborates (λ u. map entry_view entries.new.items) result
         (flat_map (value_faults s option.now f) cs)
@@ -162,13 +162,13 @@ fn push_message(
     field: &FieldDescriptorProto,
     entries: &mut Vec<Entry>,
 ) -> Result<(), ElabFailure>
-    ensures { let s = place_view at.now in let f = field_view field.now in
+    ensures { let s = option_place_view at.now in let f = field_view field.now in
         let fs = map constant_field_view fields.now in
         Elaborates (λ u. map entry_view entries.new.items) result
-        (message_value_faults f.name (takes f.type_)
+        (message_value_faults f.name (type_takes f.type_)
         (flat_map (field_faults_of s option.now (type_name_of f)) fs))
-        (map entry_view entries.old.items ++ message_item f
-        (flat_map (field_items_of s (type_name_of f)) fs)) }
+        (map entry_view entries.old.items ++ item_of_message f
+        (flat_map (given_field_items s (type_name_of f)) fs)) }
 {
     if !matches!(field.type_, FieldType::Message) {
         let kind = ElabErrorKind::MessageFieldRequiresMessageConstant;
@@ -191,10 +191,10 @@ fn push_fields(
     message: &str,
     entries: &mut Vec<Entry>,
 ) -> Result<(), ElabFailure>
-    ensures { let s = place_view at.now in let fs = map constant_field_view fields.now in
+    ensures { let s = option_place_view at.now in let fs = map constant_field_view fields.now in
         Elaborates (λ u. map entry_view entries.new.items) result
         (flat_map (field_faults_of s option.now message.now) fs)
-        (map entry_view entries.old.items ++ flat_map (field_items_of s message.now) fs) }
+        (map entry_view entries.old.items ++ flat_map (given_field_items s message.now) fs) }
 {
     'fields: for field in fields {
         push_field(field, alloc, at, option, message, entries)?;
@@ -212,10 +212,10 @@ fn push_field(
     message: &str,
     entries: &mut Vec<Entry>,
 ) -> Result<(), ElabFailure>
-    ensures { let s = place_view at.now in let f = constant_field_view field.now in
+    ensures { let s = option_place_view at.now in let f = constant_field_view field.now in
         Elaborates (λ u. map entry_view entries.new.items) result
         (field_faults_of s option.now message.now f)
-        (map entry_view entries.old.items ++ field_items_of s message.now f) }
+        (map entry_view entries.old.items ++ given_field_items s message.now f) }
 {
     let known = constant_field(alloc, at, message, &field.name)?;
     push_given(&field.value, alloc, at, option, known, entries)
@@ -232,7 +232,7 @@ pub fn push_given(
     field: &FieldDescriptorProto,
     entries: &mut Vec<Entry>,
 ) -> Result<(), ElabFailure>
-    ensures { let s = place_view at.now in let f = field_view field.now in
+    ensures { let s = option_place_view at.now in let f = field_view field.now in
         let c = constant_view value.now in
         Elaborates (λ u. map entry_view entries.new.items) result (given_faults s option.now c f)
         (map entry_view entries.old.items ++ value_items s f c) }

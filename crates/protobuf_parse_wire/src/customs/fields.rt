@@ -5,9 +5,9 @@ ghost use Rattle.protobuf_parse_syntax.specs.Trees.{constant_name_view, option_p
 ghost use Rattle.protobuf_parse_model.specs.Descriptors.{field_view};
 ghost use Rattle.protobuf_parse_model.specs.Faults.{Elaborates};
 ghost use Rattle.protobuf_parse_wire.specs.CustomFaults.{bracketed, constant_name_faults};
-ghost use Rattle.protobuf_parse_wire.specs.CustomFaults.{extension_faults, field_name_faults};
+ghost use Rattle.protobuf_parse_wire.specs.CustomFaults.{extension_name_faults, field_name_faults};
 ghost use Rattle.protobuf_parse_wire.specs.CustomFaults.{part_faults};
-ghost use Rattle.protobuf_parse_wire.specs.Given.{place_view};
+ghost use Rattle.protobuf_parse_wire.specs.Given.{option_place_view};
 ghost use Rattle.protobuf_parse_wire.specs.Holding.{files_seen};
 ghost use Rattle.protobuf_parse_wire.specs.Known.{field_seen};
 ghost use Rattle.protobuf_parse_wire.specs.OptionFields.{constant_field, extends_message};
@@ -46,7 +46,7 @@ fn named_field<'a>(
     message: &str,
     name: &str,
 ) -> Result<&'a FieldDescriptorProto, ElabFailure>
-    ensures { let s = place_view at.now in
+    ensures { let s = option_place_view at.now in
         Elaborates (λ f. Some (field_seen f)) result (field_name_faults s message.now name.now)
         (field_named s.files message.now name.now) }
 {
@@ -64,9 +64,9 @@ fn named_extension<'a>(
     message: &str,
     name: &str,
 ) -> Result<&'a FieldDescriptorProto, ElabFailure>
-    ensures { let s = place_view at.now in
+    ensures { let s = option_place_view at.now in
         Elaborates (λ f. Some (field_seen f)) result
-        (extension_faults s.files message.now name.now (extension_meant s name.now))
+        (extension_name_faults s.files message.now name.now (extension_meant s name.now))
         (extension_named s message.now name.now) }
 {
     let Some(field) = lookup::extension_meant(alloc, at.known, at.scope, name)? else {
@@ -96,7 +96,7 @@ pub fn part_field<'a>(
     message: &str,
     part: &ProtobufOptionNamePart,
 ) -> Result<&'a FieldDescriptorProto, ElabFailure>
-    ensures { let s = place_view at.now in let p = option_part_view part.now in
+    ensures { let s = option_place_view at.now in let p = option_part_view part.now in
         Elaborates (λ f. Some (field_seen f)) result (part_faults s message.now p)
         (part_field s message.now p) }
 {
@@ -113,7 +113,7 @@ pub fn constant_field<'a>(
     message: &str,
     name: &ConstantFieldName,
 ) -> Result<&'a FieldDescriptorProto, ElabFailure>
-    ensures { let s = place_view at.now in let n = constant_name_view name.now in
+    ensures { let s = option_place_view at.now in let n = constant_name_view name.now in
         Elaborates (λ f. Some (field_seen f)) result (constant_name_faults s message.now n)
         (constant_field s message.now n) }
 {

@@ -3,7 +3,7 @@
 ghost use Rattle.std.specs.Prelude.{◌≡◌, ◌++◌, ◌∷◌, [], map, string_bytes, IfOk, OnOk};
 ghost use Rattle.protobuf_parse_model.specs.Descriptors.{enum_view, field_view, file_view};
 ghost use Rattle.protobuf_parse_model.specs.Descriptors.{message_view};
-ghost use Rattle.protobuf_parse_wire.specs.Declarations.{package_scope, within};
+ghost use Rattle.protobuf_parse_wire.specs.Declarations.{package_scope, name_within};
 ghost use Rattle.protobuf_parse_wire.specs.Holding.{enums_placed, extensions_placed};
 ghost use Rattle.protobuf_parse_wire.specs.Holding.{messages_placed};
 ghost use Rattle.protobuf_parse_wire.specs.Places.{enum_name, enums_inside, extensions_inside};
@@ -31,7 +31,7 @@ pub struct Known<T> {
 
 /// The full name of what has the name in the scope, which is a full name or nothing.
 fn within(alloc: Global, scope: &str, name: &str) -> Result<String, AllocError>
-    ensures { IfOk result (λ s. string_bytes s ≡ within scope.now name.now) }
+    ensures { IfOk result (λ s. string_bytes s ≡ name_within scope.now name.now) }
 {
     format!(in alloc; "{scope}.{name}")
 }

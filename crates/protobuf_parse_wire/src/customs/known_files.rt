@@ -3,7 +3,7 @@
 ghost use Rattle.std.specs.Prelude.{◌≡◌, List, ℕ, flat_map, map};
 ghost use Rattle.std.proofs.Props.{props};
 ghost use Rattle.protobuf_parse_wire.specs.ByName.{named};
-ghost use Rattle.protobuf_parse_wire.specs.Declarations.{declared_extensions, messages_of};
+ghost use Rattle.protobuf_parse_wire.specs.Declarations.{declared_extensions, messages_with_name};
 ghost use Rattle.protobuf_parse_wire.specs.Holding.{Knows, at_spots, files_seen, spots_under};
 ghost use Rattle.protobuf_parse_wire.specs.Indexed.{parts_seen};
 ghost use Rattle.protobuf_parse_wire.specs.OptionBytes.{known_customs};
@@ -30,7 +30,7 @@ pub struct KnownFiles<'a> {
     pub(crate) reach: PickedFiles<'a>,
     pub(crate) sight: PickedFiles<'a>,
     ghost all_messages: { (name : List ℕ) → map parts_seen (at_spots messages_inside reach
-        (spots_under places.now.messages name)) ≡ messages_of (files_seen reach) name } by { Prim.hlevel props },
+        (spots_under places.now.messages name)) ≡ messages_with_name (files_seen reach) name } by { Prim.hlevel props },
     ghost all_enums: { (name : List ℕ) → at_spots enums_inside reach
         (spots_under places.now.enums name)
         ≡ named name (flat_map declared_enums (files_seen reach)) } by { Prim.hlevel props },

@@ -1,15 +1,16 @@
 //! Looking up what files declare, by name.
 
 ghost use Rattle.std.specs.Prelude.{◌≡◌, flat_map, map, option_map, string_bytes, IfOk};
-ghost use Rattle.protobuf_parse_model.specs.Contexts.{texts};
+ghost use Rattle.protobuf_parse_model.specs.Contexts.{name_texts};
 ghost use Rattle.protobuf_parse_model.specs.Declarations as names;
 ghost use Rattle.protobuf_parse_model.specs.Descriptors.{enum_value_view, field_view};
 ghost use Rattle.protobuf_parse_model.specs.Lookup.{declared, meaning};
 ghost use Rattle.protobuf_parse_wire.specs.Declarations.{declared_extensions};
 ghost use Rattle.protobuf_parse_wire.specs.Holding.{files_seen};
-ghost use Rattle.protobuf_parse_wire.specs.Known.{extension_named, field_among, field_seen};
+ghost use Rattle.protobuf_parse_wire.specs.Known.{extension_under_name, field_among, field_seen};
 ghost use Rattle.protobuf_parse_wire.specs.Known.{number_among, undeclared};
-ghost use Rattle.protobuf_parse_wire.specs.OptionFields.{field_named, is_message, number_of_value};
+ghost use Rattle.protobuf_parse_wire.specs.OptionFields.{field_named, names_message};
+ghost use Rattle.protobuf_parse_wire.specs.OptionFields.{number_of_value};
 
 use crate::customs::known_files::KnownFiles;
 use crate::customs::spots::{field_of, first_extension, first_message, number_of};
@@ -52,7 +53,7 @@ pub fn field_among<'a>(
 
 /// Whether a message has the full name.
 pub fn is_message(known: &KnownFiles<'_>, name: &str) -> bool
-    ensures { result ≡ is_message (files_seen known.now.reach) name.now }
+    ensures { result ≡ names_message (files_seen known.now.reach) name.now }
 {
     first_message(&known.reach, groups::group(&known.places.messages, name)).is_some()
 }
@@ -93,7 +94,7 @@ pub fn extension_meant<'a>(
 ) -> Result<Option<&'a FieldDescriptorProto>, AllocError>
     ensures { IfOk result (λ f. option_map field_seen f ≡ undeclared
         (meaning (flat_map declared_extensions (files_seen known.now.sight))
-        (texts scope.now) name.now)) }
+        (name_texts scope.now) name.now)) }
 {
     if name.starts_with('.') {
         return Ok(declared(known, name));
@@ -112,7 +113,7 @@ pub fn extension_meant<'a>(
 
 /// The extension of that full name.
 fn declared<'a>(known: &KnownFiles<'a>, name: &str) -> Option<&'a FieldDescriptorProto>
-    ensures { option_map (extension_named name.now) result ≡ declared
+    ensures { option_map (extension_under_name name.now) result ≡ declared
         (flat_map declared_extensions (files_seen known.now.sight)) name.now }
 {
     first_extension(&known.sight, groups::group(&known.places.extensions, name))
@@ -120,7 +121,7 @@ fn declared<'a>(known: &KnownFiles<'a>, name: &str) -> Option<&'a FieldDescripto
 
 /// The full name of what has the name in the scope.
 fn full_name(alloc: Global, scope: &[&str], name: &str) -> Result<String, AllocError>
-    ensures { IfOk result (λ s. string_bytes s ≡ names.full_name (texts scope.now) name.now) }
+    ensures { IfOk result (λ s. string_bytes s ≡ names.full_name (name_texts scope.now) name.now) }
 {
     let mut text = String::new(alloc);
     'scope: for outer in scope {

@@ -8,8 +8,8 @@ ghost use Rattle.protobuf_parse_model.specs.Environment.{part_text};
 ghost use Rattle.protobuf_parse_model.specs.Faults.{Blames, Elaborates, Fault};
 ghost use Rattle.protobuf_parse_wire.specs.CustomFaults.{part_faults, path_faults, step_faults};
 ghost use Rattle.protobuf_parse_wire.specs.CustomOptions.{path_items};
-ghost use Rattle.protobuf_parse_wire.specs.Given.{place_view, through_faults, through_items};
-ghost use Rattle.protobuf_parse_wire.specs.OptionFields.{messages, part_field, takes};
+ghost use Rattle.protobuf_parse_wire.specs.Given.{option_place_view, through_faults, through_items};
+ghost use Rattle.protobuf_parse_wire.specs.OptionFields.{messages, part_field, type_takes};
 ghost use Rattle.protobuf_parse_wire.specs.Views.{entry_view};
 
 use crate::customs::constants::push_given;
@@ -33,7 +33,7 @@ pub fn push_path(
     message: &str,
     entries: &mut Vec<Entry>,
 ) -> Result<(), ElabFailure>
-    ensures { let s = place_view at.now in let ps = map option_part_view parts.now in
+    ensures { let s = option_place_view at.now in let ps = map option_part_view parts.now in
         let c = constant_view value.now in
         Elaborates (λ u. map entry_view entries.new.items) result
         (path_faults s option.now c message.now ps)
@@ -61,7 +61,7 @@ fn push_first(
     message: &str,
     entries: &mut Vec<Entry>,
 ) -> Result<(), ElabFailure>
-    ensures { let s = place_view at.now in let p = option_part_view part.now in
+    ensures { let s = option_place_view at.now in let p = option_part_view part.now in
         let ps = map option_part_view others.now in let c = constant_view value.now in
         Elaborates (λ u. map entry_view entries.new.items) result
         (part_faults s message.now p ++ flat_map (through_faults s option.now c p ps)
@@ -86,7 +86,7 @@ fn push_through(
     field: &FieldDescriptorProto,
     entries: &mut Vec<Entry>,
 ) -> Result<(), ElabFailure>
-    ensures { let s = place_view at.now in let p = option_part_view part.now in
+    ensures { let s = option_place_view at.now in let p = option_part_view part.now in
         let ps = map option_part_view others.now in let c = constant_view value.now in
         let f = field_view field.now in
         Elaborates (λ u. map entry_view entries.new.items) result
@@ -120,7 +120,7 @@ pub fn push_last(
     message: &str,
     entries: &mut Vec<Entry>,
 ) -> Result<(), ElabFailure>
-    ensures { let s = place_view at.now in let ps = option_part_view part.now ∷ [] in
+    ensures { let s = option_place_view at.now in let ps = option_part_view part.now ∷ [] in
         let c = constant_view value.now in
         Elaborates (λ u. map entry_view entries.new.items) result
         (path_faults s option.now c message.now ps)
@@ -137,7 +137,7 @@ pub fn check_step(
     part: &ProtobufOptionNamePart,
     field: &FieldDescriptorProto,
 ) -> Result<(), ElabFailure>
-    ensures { let t = takes (field_view field.now).type_ in let p = part_text
+    ensures { let t = type_takes (field_view field.now).type_ in let p = part_text
         (option_part_view part.now) in
         MatchResult result (λ u. t ≡ messages)
         (λ e. (inside : List Fault) → Blames e (step_faults p t inside)) }

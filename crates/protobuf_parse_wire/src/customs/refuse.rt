@@ -4,7 +4,7 @@ ghost use Rattle.protobuf_parse_model.specs.Descriptors.{field_view};
 ghost use Rattle.protobuf_parse_model.specs.Duplicates.{fault};
 ghost use Rattle.protobuf_parse_model.specs.Faults.{Blames};
 ghost use Rattle.protobuf_parse_wire.specs.CustomFaults.{not_taken};
-ghost use Rattle.protobuf_parse_wire.specs.OptionFields.{takes};
+ghost use Rattle.protobuf_parse_wire.specs.OptionFields.{type_takes};
 
 use protobuf_parse_model::{
     ElabError, ElabErrorKind, ElabFailure, FieldDescriptorProto, FieldType,
@@ -25,7 +25,7 @@ pub fn fault(alloc: Global, kind: ElabErrorKind, what: &str) -> ElabFailure
 /// The failure for a value that the field doesn't take: E22 for a float, E19 for any other.
 pub fn not_taken(alloc: Global, field: &FieldDescriptorProto) -> ElabFailure
     ensures { let f = field_view field.now in
-        Blames result (not_taken f.name (takes f.type_)) }
+        Blames result (not_taken f.name (type_takes f.type_)) }
 {
     match field.type_ {
         FieldType::Float | FieldType::Double => {

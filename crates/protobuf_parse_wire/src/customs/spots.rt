@@ -6,7 +6,7 @@ ghost use Rattle.protobuf_parse_wire.specs.Holding.{at_spot, at_spots, enum_seen
 ghost use Rattle.protobuf_parse_wire.specs.Holding.{file_seen, inside_of, members_view};
 ghost use Rattle.protobuf_parse_wire.specs.Holding.{message_seen, option_join, spot_view};
 ghost use Rattle.protobuf_parse_wire.specs.Known.{field_among, field_seen, number_among};
-ghost use Rattle.protobuf_parse_wire.specs.ByName.{fields_in, first, values_in};
+ghost use Rattle.protobuf_parse_wire.specs.ByName.{fields_of_all, first, values_of_all};
 ghost use Rattle.protobuf_parse_wire.specs.Indexed.{parts_seen};
 ghost use Rattle.protobuf_parse_wire.specs.Places.{enums_inside, extensions_inside};
 ghost use Rattle.protobuf_parse_wire.specs.Places.{messages_inside};
@@ -120,7 +120,7 @@ pub fn field_of<'a>(
     places: &[Place],
     name: &str,
 ) -> Option<&'a FieldDescriptorProto>
-    ensures { option_map field_seen result ≡ field_among (fields_in (map parts_seen
+    ensures { option_map field_seen result ≡ field_among (fields_of_all (map parts_seen
         (at_spots messages_inside picked.now (map spot_view places.now)))) name.now }
 {
     'places: for place in places {
@@ -137,7 +137,7 @@ fn field_at<'a>(
     place: &Place,
     name: &str,
 ) -> Option<&'a FieldDescriptorProto>
-    ensures { option_map field_seen result ≡ field_among (fields_in (map parts_seen
+    ensures { option_map field_seen result ≡ field_among (fields_of_all (map parts_seen
         (option_to_list (at_spot messages_inside picked.now (spot_view place.now))))) name.now }
 {
     match message_at(picked, place) {
@@ -155,7 +155,7 @@ fn field_in<'a>(message: &'a DescriptorProto, name: &str) -> Option<&'a FieldDes
 
 /// The number of the first value of that name in the enums at the places.
 pub fn number_of(picked: &PickedFiles<'_>, places: &[Place], name: &str) -> Option<i32>
-    ensures { result ≡ number_among (values_in
+    ensures { result ≡ number_among (values_of_all
         (at_spots enums_inside picked.now (map spot_view places.now))) name.now }
 {
     'places: for place in places {
@@ -168,7 +168,7 @@ pub fn number_of(picked: &PickedFiles<'_>, places: &[Place], name: &str) -> Opti
 }
 
 fn number_at(picked: &PickedFiles<'_>, place: &Place, name: &str) -> Option<i32>
-    ensures { result ≡ number_among (values_in (option_to_list
+    ensures { result ≡ number_among (values_of_all (option_to_list
         (at_spot enums_inside picked.now (spot_view place.now)))) name.now }
 {
     match enum_at(picked, place) {

@@ -6,10 +6,11 @@ ghost use Rattle.protobuf_parse_model.specs.Faults.{Blames, Elaborates};
 ghost use Rattle.protobuf_parse_model.specs.OptionTables.{table_of};
 ghost use Rattle.protobuf_parse_model.specs.OptionViews.{options_seen};
 ghost use Rattle.protobuf_parse_wire.specs.CustomFaults.{builtin_step_faults, custom_faults};
-ghost use Rattle.protobuf_parse_wire.specs.CustomFaults.{named_faults, statement_faults};
-ghost use Rattle.protobuf_parse_wire.specs.CustomOptions.{denotes, option_items, path_items};
+ghost use Rattle.protobuf_parse_wire.specs.CustomFaults.{custom_name_faults};
+ghost use Rattle.protobuf_parse_wire.specs.CustomFaults.{custom_statement_faults};
+ghost use Rattle.protobuf_parse_wire.specs.CustomOptions.{denotes, items_of_option, path_items};
 ghost use Rattle.protobuf_parse_wire.specs.Encoded.{encoded};
-ghost use Rattle.protobuf_parse_wire.specs.Given.{place_view};
+ghost use Rattle.protobuf_parse_wire.specs.Given.{option_place_view};
 ghost use Rattle.protobuf_parse_wire.specs.OptionFields.{options_message};
 ghost use Rattle.protobuf_parse_wire.specs.Views.{entry_view};
 
@@ -31,8 +32,8 @@ pub fn bytes_of(
     construct: Construct,
     options: &[&ProtobufOption],
 ) -> Result<Vec<u8>, ElabFailure>
-    ensures { let s = place_view at.now in let os = options_seen options.now in
-        Elaborates (λ v. v.items) result (statement_faults s construct os)
+    ensures { let s = option_place_view at.now in let os = options_seen options.now in
+        Elaborates (λ v. v.items) result (custom_statement_faults s construct os)
         (encoded (denotes s construct os)) }
 {
     let mut entries = Vec::new(alloc);
@@ -50,9 +51,10 @@ fn push_options(
     options: &[&ProtobufOption],
     entries: &mut Vec<Entry>,
 ) -> Result<(), ElabFailure>
-    ensures { let s = place_view at.now in let os = options_seen options.now in
-        Elaborates (λ u. map entry_view entries.new.items) result (statement_faults s construct os)
-        (map entry_view entries.old.items ++ flat_map (option_items s construct) os) }
+    ensures { let s = option_place_view at.now in let os = options_seen options.now in
+        Elaborates (λ u. map entry_view entries.new.items) result
+        (custom_statement_faults s construct os)
+        (map entry_view entries.old.items ++ flat_map (items_of_option s construct) os) }
 {
     'options: for option in options {
         push_option(alloc, at, construct, option, entries)?;
@@ -67,10 +69,10 @@ fn push_option(
     option: &ProtobufOption,
     entries: &mut Vec<Entry>,
 ) -> Result<(), ElabFailure>
-    ensures { let s = place_view at.now in let o = option_view option.now in
+    ensures { let s = option_place_view at.now in let o = option_view option.now in
         Elaborates (λ u. map entry_view entries.new.items) result
-        (named_faults s construct o.value o.name)
-        (map entry_view entries.old.items ++ option_items s construct o) }
+        (custom_name_faults s construct o.value o.name)
+        (map entry_view entries.old.items ++ items_of_option s construct o) }
 {
     match &option.name {
         ProtobufOptionName::Builtin(_) => Ok(()),
@@ -88,7 +90,7 @@ fn push_custom(
     value: &ProtobufConstant,
     entries: &mut Vec<Entry>,
 ) -> Result<(), ElabFailure>
-    ensures { let s = place_view at.now in let ps = map option_part_view parts.now in
+    ensures { let s = option_place_view at.now in let ps = map option_part_view parts.now in
         let c = constant_view value.now in
         Elaborates (λ u. map entry_view entries.new.items) result (custom_faults s construct c ps)
         (map entry_view entries.old.items ++ path_items s c (options_message construct) ps) }

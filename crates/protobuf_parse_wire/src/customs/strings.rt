@@ -8,7 +8,7 @@ ghost use Rattle.protobuf_parse_model.specs.BuiltinOptions.{string_faults};
 ghost use Rattle.protobuf_parse_model.specs.Descriptors.{field_view};
 ghost use Rattle.protobuf_parse_model.specs.Faults.{Elaborates};
 ghost use Rattle.protobuf_parse_wire.specs.CustomFaults.{string_value_faults};
-ghost use Rattle.protobuf_parse_wire.specs.OptionFields.{takes};
+ghost use Rattle.protobuf_parse_wire.specs.OptionFields.{type_takes};
 
 use crate::customs::refuse::{fault, not_taken};
 use protobuf_parse_model::{ElabErrorKind, ElabFailure, FieldDescriptorProto, FieldType};
@@ -25,7 +25,7 @@ pub fn bytes_given(
 ) -> Result<Vec<u8>, ElabFailure>
     ensures { let f = field_view field.now in let pieces = pieces_of string.now in
         Elaborates (λ v. v.items) result
-        (string_value_faults option.now f.name (takes f.type_) pieces)
+        (string_value_faults option.now f.name (type_takes f.type_) pieces)
         (unwrap_or (decode pieces) []) }
 {
     match field.type_ {

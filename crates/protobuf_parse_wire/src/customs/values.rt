@@ -5,8 +5,8 @@ ghost use Rattle.protobuf_parse_model.specs.Descriptors.{field_view};
 ghost use Rattle.protobuf_parse_model.specs.Faults.{Elaborates};
 ghost use Rattle.protobuf_parse_wire.specs.CustomFaults.{integer_faults, truth_faults};
 ghost use Rattle.protobuf_parse_wire.specs.CustomFaults.{value_name_faults, number_faults};
-ghost use Rattle.protobuf_parse_wire.specs.CustomOptions.{item};
-ghost use Rattle.protobuf_parse_wire.specs.OptionFields.{integer_kind, takes};
+ghost use Rattle.protobuf_parse_wire.specs.CustomOptions.{item_of};
+ghost use Rattle.protobuf_parse_wire.specs.OptionFields.{integer_kind, type_takes};
 ghost use Rattle.protobuf_parse_wire.specs.Views.{entry_view, entry_value_view};
 
 use crate::customs::refuse::{fault, not_taken};
@@ -22,7 +22,7 @@ pub fn push_item(
     value: EntryValue,
 ) -> Result<(), AllocError>
     ensures { OnOk result (map entry_view entries.new.items ≡ map entry_view entries.old.items
-        ++ item (field_view field.now) (entry_value_view value)) }
+        ++ item_of (field_view field.now) (entry_value_view value)) }
 {
     if let Some(kind) = Kind::of(field.type_) {
         let number = field.number.unsigned_abs();
@@ -37,7 +37,7 @@ pub fn push_item(
 
 /// The kind of the integers that a field of the type takes.
 fn integer_kind(field_type: FieldType) -> Option<Kind>
-    ensures { result ≡ integer_kind (takes field_type) }
+    ensures { result ≡ integer_kind (type_takes field_type) }
 {
     match field_type {
         FieldType::Int32 => Some(Kind::Int32),
@@ -61,7 +61,7 @@ pub fn check_integer(
     number: i128,
 ) -> Result<(), ElabFailure>
     ensures { let f = field_view field.now in
-        Elaborates (λ u. u) result (integer_faults f.name (takes f.type_) number) tt }
+        Elaborates (λ u. u) result (integer_faults f.name (type_takes f.type_) number) tt }
 {
     let Some(kind) = integer_kind(field.type_) else {
         return Err(not_taken(alloc, field));
@@ -75,7 +75,7 @@ pub fn check_integer(
 /// Refuses a truth value that the field doesn't take.
 pub fn check_truth(alloc: Global, field: &FieldDescriptorProto) -> Result<(), ElabFailure>
     ensures { let f = field_view field.now in
-        Elaborates (λ u. u) result (truth_faults f.name (takes f.type_)) tt }
+        Elaborates (λ u. u) result (truth_faults f.name (type_takes f.type_)) tt }
 {
     match field.type_ {
         FieldType::Bool => Ok(()),
@@ -92,7 +92,8 @@ pub fn check_value_name(
     number: Option<i32>,
 ) -> Result<(), ElabFailure>
     ensures { let f = field_view field.now in
-        Elaborates (λ u. u) result (value_name_faults f.name (takes f.type_) name.now number) tt }
+        Elaborates (λ u. u) result
+        (value_name_faults f.name (type_takes f.type_) name.now number) tt }
 {
     match field.type_ {
         FieldType::Enum => match number {

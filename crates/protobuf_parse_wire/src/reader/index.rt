@@ -3,9 +3,9 @@
 ghost use Rattle.std.specs.Prelude.{◌≡◌, [], ◌∷◌, map, OnOk, IfOk, string_bytes};
 ghost use Rattle.std.specs.List.{flat_map};
 ghost use Rattle.protobuf_parse_model.specs.Descriptors.{field_view, file_view, message_view};
-ghost use Rattle.protobuf_parse_wire.specs.Declarations.{declared_message, declared_in};
-ghost use Rattle.protobuf_parse_wire.specs.Declarations.{extensions_in, package_scope};
-ghost use Rattle.protobuf_parse_wire.specs.Indexed.{Adds, AddsMessages, Indexes};
+ghost use Rattle.protobuf_parse_wire.specs.Declarations.{declared_message, messages_declared_in};
+ghost use Rattle.protobuf_parse_wire.specs.Declarations.{extensions_declared_in, package_scope};
+ghost use Rattle.protobuf_parse_wire.specs.Indexed.{IndexAdds, AddsMessages, Indexes};
 
 use super::groups;
 use protobuf_parse_model::{DescriptorProto, FieldDescriptorProto, FileDescriptorProto};
@@ -43,8 +43,8 @@ fn add_file<'a>(
     file: &'a FileDescriptorProto,
 ) -> Result<(), AllocError>
     ensures { OnOk result
-        (Adds index.old index.new (declared_in (file_view file.now))
-        (extensions_in (file_view file.now))) }
+        (IndexAdds index.old index.new (messages_declared_in (file_view file.now))
+        (extensions_declared_in (file_view file.now))) }
 {
     let scope = package_scope(alloc, file)?;
     add_messages(alloc, index, &scope, &file.message_type)?;
@@ -98,7 +98,7 @@ fn add_extensions<'a>(
     index: &mut Index<'a>,
     extensions: &'a [FieldDescriptorProto],
 ) -> Result<(), AllocError>
-    ensures { OnOk result (Adds index.old index.new [] (map field_view extensions.now)) }
+    ensures { OnOk result (IndexAdds index.old index.new [] (map field_view extensions.now)) }
 {
     'extensions: for extension in extensions {
         add_extension(index, extension)?;
@@ -110,7 +110,7 @@ fn add_extension<'a>(
     index: &mut Index<'a>,
     extension: &'a FieldDescriptorProto,
 ) -> Result<(), AllocError>
-    ensures { OnOk result (Adds index.old index.new [] (field_view extension.now ∷ [])) }
+    ensures { OnOk result (IndexAdds index.old index.new [] (field_view extension.now ∷ [])) }
 {
     match &extension.extendee {
         Some(extendee) => groups::put(&mut index.extensions, extendee.clone()?, extension),

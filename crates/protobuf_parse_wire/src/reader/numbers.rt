@@ -5,7 +5,7 @@ ghost use Rattle.std.specs.Prelude.{IsSome, MatchResult};
 ghost use Rattle.std.specs.Borrow.{Bor};
 ghost use Rattle.protobuf_parse_model.specs.Descriptors.{FieldDescriptor, field_view};
 ghost use Rattle.protobuf_parse_model.specs.declared.descriptor.FieldDescriptorProto.{FieldDescriptorProto};
-ghost use Rattle.protobuf_parse_wire.specs.Reading.{Gives, by_number};
+ghost use Rattle.protobuf_parse_wire.specs.Reading.{ReaderGives, by_number};
 ghost use Rattle.protobuf_parse_wire.specs.Indexed.{IsByNumber, entered_by, numbered};
 
 use super::groups;
@@ -24,7 +24,7 @@ pub fn numbers_of<'a>(
     index: &Index<'a>,
     name: &str,
 ) -> Result<ByNumber<'a>, ReadFault>
-    ensures { Gives numbered result (entered_by index.now (Some name.now)) }
+    ensures { ReaderGives numbered result (entered_by index.now (Some name.now)) }
 {
     match groups::group(&index.messages, name) {
         [message] => by_number(
@@ -41,7 +41,7 @@ fn by_number<'a>(
     fields: &'a [FieldDescriptorProto],
     extensions: &[&'a FieldDescriptorProto],
 ) -> Result<ByNumber<'a>, ReadFault>
-    ensures { Gives numbered result
+    ensures { ReaderGives numbered result
         (by_number (map field_view fields.now
         ++ map (λ (f : Bor FieldDescriptorProto). field_view f.now) extensions.now)) }
 {

@@ -3,8 +3,8 @@
 ghost use Rattle.std.specs.Prelude.{◌≡◌, Option, ◌<◌, ◌≤◌, ◌/◌, ◌%◌, ◌^◌, length, map, IfOk, OnOk};
 ghost use Rattle.std.specs.Option.{option_copied};
 ghost use Rattle.protobuf_parse_model.specs.Descriptors.{Text, field_view};
-ghost use Rattle.protobuf_parse_wire.specs.Kinds.{shape, wire_type};
-ghost use Rattle.protobuf_parse_wire.specs.Reading.{Gives, Inner, message_at, payload_at};
+ghost use Rattle.protobuf_parse_wire.specs.Kinds.{shape_of_kind, wire_type};
+ghost use Rattle.protobuf_parse_wire.specs.Reading.{ReaderGives, Inner, message_at, payload_at};
 ghost use Rattle.protobuf_parse_wire.specs.Reading.{record_at, records, value_at};
 ghost use Rattle.protobuf_parse_wire.specs.Indexed.{Remembers, entered_by, numbered};
 ghost use Rattle.protobuf_parse_wire.specs.Views.{HasNumber, number_said, read_field_view};
@@ -32,7 +32,7 @@ pub fn message_of<'a>(
     bytes: &[u8],
 ) -> Result<Vec<ReadField>, ReadFault>
     requires { Remembers index.now visited.old }
-    ensures gives { Gives (λ v. map read_field_view v.items) result
+    ensures gives { ReaderGives (λ v. map read_field_view v.items) result
         (message_at (entered_by index.now) levels (option_copied name.entry) bytes.now) }
     ensures kept { OnOk result (Remembers index.now visited.new) }
 {
@@ -53,7 +53,7 @@ fn records_of<'a>(
     bytes: &[u8],
 ) -> Result<Vec<ReadField>, ReadFault>
     requires { Remembers index.now visited.old }
-    ensures gives { Gives (λ v. map read_field_view v.items) result
+    ensures gives { ReaderGives (λ v. map read_field_view v.items) result
         (records (message_at (entered_by index.now) levels) (numbered numbers.now)
         (length bytes.now) bytes.now) }
     ensures kept { OnOk result (Remembers index.now visited.new) }
@@ -79,7 +79,7 @@ fn record_of<'a, 'b>(
     bytes: &'b [u8],
 ) -> Result<(ReadField, &'b [u8]), ReadFault>
     requires { Remembers index.now visited.old }
-    ensures gives { Gives (λ x. (read_field_view x.0, x.1.now)) result
+    ensures gives { ReaderGives (λ x. (read_field_view x.0, x.1.now)) result
         (record_at (message_at (entered_by index.now) levels) (numbered numbers.now) bytes.now) }
     ensures shorter { IfOk result (λ x. length x.1.now < length bytes.now) }
     ensures kept { OnOk result (Remembers index.now visited.new) }
@@ -112,7 +112,7 @@ fn value_of<'a, 'b>(
     bytes: &'b [u8],
 ) -> Result<(ReadValue, &'b [u8]), ReadFault>
     requires { Remembers index.now visited.old }
-    ensures gives { Gives (λ x. (read_value_view x.0, x.1.now)) result
+    ensures gives { ReaderGives (λ x. (read_value_view x.0, x.1.now)) result
         (value_at (message_at (entered_by index.now) levels)
         (numbered numbers.now number) wire_type bytes.now) }
     ensures small { IfOk result (λ x. number < 2 ^ 31) }
@@ -141,7 +141,7 @@ fn value_of<'a, 'b>(
 
 /// The wire type that the payload of the kind has.
 fn wire_type_of(kind: Kind) -> u64
-    ensures { result ≡ wire_type (shape kind) }
+    ensures { result ≡ wire_type (shape_of_kind kind) }
 {
     match kind {
         Kind::Int32
@@ -166,8 +166,8 @@ fn type_name_of(field: &FieldDescriptorProto) -> Option<&str>
 
 /// What the unsigned number of an integer kind or an enum says.
 fn number_of(kind: Kind, word: u64) -> i128
-    requires { HasNumber (shape kind) }
-    ensures { result ≡ number_said (shape kind) word }
+    requires { HasNumber (shape_of_kind kind) }
+    ensures { result ≡ number_said (shape_of_kind kind) word }
 {
     match kind {
         Kind::Int32 | Kind::Sfixed32 | Kind::Enum => {
@@ -185,10 +185,10 @@ fn number_of(kind: Kind, word: u64) -> i128
 /// The value of an integer kind or an enum, and the bytes after it.
 #[tactic(auto, unfolding(crate::specs::Reading::payload_at))]
 fn number_payload_of(kind: Kind, bytes: &[u8]) -> Result<(ReadValue, &[u8]), ReadFault>
-    requires { HasNumber (shape kind) }
+    requires { HasNumber (shape_of_kind kind) }
     ensures gives { (inner : Inner) (name : Option Text)
-        → Gives (λ x. (read_value_view x.0, x.1.now)) result
-        (payload_at inner name (shape kind) bytes.now) }
+        → ReaderGives (λ x. (read_value_view x.0, x.1.now)) result
+        (payload_at inner name (shape_of_kind kind) bytes.now) }
     ensures shorter { IfOk result (λ x. length x.1.now ≤ length bytes.now) }
 {
     let (word, rest) = match kind {
@@ -212,9 +212,9 @@ fn payload_of<'a, 'b>(
     bytes: &'b [u8],
 ) -> Result<(ReadValue, &'b [u8]), ReadFault>
     requires { Remembers index.now visited.old }
-    ensures gives { Gives (λ x. (read_value_view x.0, x.1.now)) result
+    ensures gives { ReaderGives (λ x. (read_value_view x.0, x.1.now)) result
         (payload_at (message_at (entered_by index.now) levels) (option_copied name.entry)
-        (shape kind) bytes.now) }
+        (shape_of_kind kind) bytes.now) }
     ensures shorter { IfOk result (λ x. length x.1.now ≤ length bytes.now) }
     ensures kept { OnOk result (Remembers index.now visited.new) }
 {

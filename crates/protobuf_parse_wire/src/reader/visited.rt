@@ -2,7 +2,7 @@
 
 ghost use Rattle.std.specs.Prelude.{OnOk};
 ghost use Rattle.std.specs.Option.{option_copied};
-ghost use Rattle.protobuf_parse_wire.specs.Reading.{Gives};
+ghost use Rattle.protobuf_parse_wire.specs.Reading.{ReaderGives};
 ghost use Rattle.protobuf_parse_wire.specs.Indexed.{Remembers, entered_by, numbered};
 
 use super::index::Index;
@@ -35,7 +35,7 @@ pub fn enter<'a>(
     name: Option<&str>,
 ) -> Result<Rc<ByNumber<'a>>, ReadFault>
     requires { Remembers index.now visited.old }
-    ensures gives { Gives (λ n. numbered n.value) result
+    ensures gives { ReaderGives (λ n. numbered n.value) result
         (entered_by index.now (option_copied name.entry)) }
     ensures kept { OnOk result (Remembers index.now visited.new) }
 {

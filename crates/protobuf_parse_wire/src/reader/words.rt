@@ -2,7 +2,7 @@
 
 ghost use Rattle.std.specs.Prelude.{◌≡◌, ◌<◌, ◌≤◌, ◌^◌, ◌%◌, length, IfOk};
 ghost use Rattle.std.specs.Str.{is_utf8};
-ghost use Rattle.protobuf_parse_wire.specs.Reading.{Gives, varint_at, part_at, delimited_at};
+ghost use Rattle.protobuf_parse_wire.specs.Reading.{ReaderGives, varint_at, part_at, delimited_at};
 ghost use Rattle.protobuf_parse_wire.specs.Reading.{four_at, eight_at, unzigzag};
 
 use crate::fault::ReadFault;
@@ -11,7 +11,7 @@ use std::str;
 /// The number in a varint of at most `room` bytes, and the bytes after it.
 #[tactic(auto, unfolding(crate::specs::Reading::varint_at))]
 pub fn varint_of(bytes: &[u8], room: u32) -> Result<(u64, &[u8]), ReadFault>
-    ensures gives { Gives (λ x. (x.0, x.1.now)) result (varint_at room bytes.now) }
+    ensures gives { ReaderGives (λ x. (x.0, x.1.now)) result (varint_at room bytes.now) }
     ensures shorter { IfOk result (λ x. length x.1.now < length bytes.now) }
 {
     if room == 0 {
@@ -34,7 +34,7 @@ pub fn varint_of(bytes: &[u8], room: u32) -> Result<(u64, &[u8]), ReadFault>
 
 #[tactic(auto, unfolding(crate::specs::Reading::part_at))]
 fn part_of(bytes: &[u8], count: u64) -> Result<(&[u8], &[u8]), ReadFault>
-    ensures gives { Gives (λ x. (x.0.now, x.1.now)) result (part_at count bytes.now) }
+    ensures gives { ReaderGives (λ x. (x.0.now, x.1.now)) result (part_at count bytes.now) }
     ensures shorter { IfOk result (λ x. length x.1.now ≤ length bytes.now) }
 {
     if (bytes.len() as u64) < count {
@@ -46,7 +46,7 @@ fn part_of(bytes: &[u8], count: u64) -> Result<(&[u8], &[u8]), ReadFault>
 /// The bytes behind a length, and those after them.
 #[tactic(auto, unfolding(crate::specs::Reading::delimited_at))]
 pub fn delimited_of(bytes: &[u8]) -> Result<(&[u8], &[u8]), ReadFault>
-    ensures gives { Gives (λ x. (x.0.now, x.1.now)) result (delimited_at bytes.now) }
+    ensures gives { ReaderGives (λ x. (x.0.now, x.1.now)) result (delimited_at bytes.now) }
     ensures shorter { IfOk result (λ x. length x.1.now ≤ length bytes.now) }
 {
     let (count, rest) = varint_of(bytes, 10)?;
@@ -56,7 +56,7 @@ pub fn delimited_of(bytes: &[u8]) -> Result<(&[u8], &[u8]), ReadFault>
 /// The number in four bytes, and the bytes after them.
 #[tactic(auto, unfolding(crate::specs::Reading::four_at, crate::specs::Reading::part_at))]
 pub fn four_of(bytes: &[u8]) -> Result<(u64, &[u8]), ReadFault>
-    ensures gives { Gives (λ x. (x.0, x.1.now)) result (four_at bytes.now) }
+    ensures gives { ReaderGives (λ x. (x.0, x.1.now)) result (four_at bytes.now) }
     ensures shorter { IfOk result (λ x. length x.1.now ≤ length bytes.now) }
 {
     if bytes.len() < 4 {
@@ -70,7 +70,7 @@ pub fn four_of(bytes: &[u8]) -> Result<(u64, &[u8]), ReadFault>
 /// The number in eight bytes, and the bytes after them.
 #[tactic(auto, unfolding(crate::specs::Reading::eight_at, crate::specs::Reading::part_at))]
 pub fn eight_of(bytes: &[u8]) -> Result<(u64, &[u8]), ReadFault>
-    ensures gives { Gives (λ x. (x.0, x.1.now)) result (eight_at bytes.now) }
+    ensures gives { ReaderGives (λ x. (x.0, x.1.now)) result (eight_at bytes.now) }
     ensures shorter { IfOk result (λ x. length x.1.now ≤ length bytes.now) }
 {
     if bytes.len() < 8 {

@@ -42,7 +42,7 @@ fn text_setting<'a>(name: &'static str, value: &'a Option<String>) -> Setting<'a
 }
 
 fn truth_setting(name: &'static str, value: Option<bool>) -> Setting<'static>
-    ensures { setting_view result ≡ (name.now, option_map spec.truth_word value) }
+    ensures { setting_view result ≡ (name.now, option_map spec.listed_truth value) }
 {
     let value = match value {
         Some(true) => Some(Value::Word("true")),

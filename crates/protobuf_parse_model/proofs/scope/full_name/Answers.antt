@@ -4,7 +4,7 @@ use Rattle.std.proofs.Common.{append-nil, take, get_or}
 use Rattle.std.proofs.lemmas.List.{map_more}
 use Rattle.protobuf_parse_base.specs.Names.{absolute_text}
 use Rattle.protobuf_parse_base.proofs.NameTexts.{absolute_text-append}
-use Rattle.protobuf_parse_model.specs.Contexts.{texts}
+use Rattle.protobuf_parse_model.specs.Contexts.{name_texts}
 use Rattle.protobuf_parse_model.proofs.scope.full_name.Goals as goal
 
 pub loop-outer-preserved : goal.loop-outer-preserved
@@ -12,8 +12,8 @@ unfolding lib.Utf8.encode
 loop-outer-preserved c =
     let d = get_or c.args.scope.now c.loop-outer.outer-index
     (record { ref_ptr = (0, 0); now = [] }) in
-    let before = texts (take c.loop-outer.outer-index c.args.scope.now) in
-    let more : texts (take (c.loop-outer.outer-index + 1) c.args.scope.now) ≡ before ++ d.now
+    let before = name_texts (take c.loop-outer.outer-index c.args.scope.now) in
+    let more : name_texts (take (c.loop-outer.outer-index + 1) c.args.scope.now) ≡ before ++ d.now
     ∷ [] = map_more (λ (s : Bor (List ℕ)). s.now) c.args.scope.now c.loop-outer.outer-index _
     c.loop-outer-test.true in
     let old = c.in_ok-push.ensures.bytes ∙ ap (λ z. z ++ 46 ∷ []) c.loop-outer.invariant in

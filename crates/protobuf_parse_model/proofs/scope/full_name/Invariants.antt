@@ -1,7 +1,8 @@
 use Rattle.std.proofs.Common.{◌≡◌, take}
 use Rattle.protobuf_parse_base.specs.Names.{absolute_text}
-use Rattle.protobuf_parse_model.specs.Contexts.{texts}
+use Rattle.protobuf_parse_model.specs.Contexts.{name_texts}
 use Rattle.protobuf_parse_model.proofs.scope.full_name.Given as goal
 
 abbrev pub invariant-loop-outer : goal.invariant-loop-outer
-invariant-loop-outer l = l.text.bytes.items ≡ absolute_text (texts (take l.outer-index l.scope))
+invariant-loop-outer l =
+    l.text.bytes.items ≡ absolute_text (name_texts (take l.outer-index l.scope))

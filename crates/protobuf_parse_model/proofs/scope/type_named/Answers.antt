@@ -1,14 +1,14 @@
 use Rattle.std.proofs.Common.{◌-◌, ◌∙◌, Some, None, sym, ap, arith, option_map, refl, string_bytes}
 use Rattle.std.proofs.Common.{get_or, take, []}
 use Rattle.protobuf_parse_base.specs.Names.{absolute_text}
-use Rattle.protobuf_parse_model.specs.Contexts.{declared_type, meaning_view, seen_types, texts}
+use Rattle.protobuf_parse_model.specs.Contexts.{declared_type, meaning_view, seen_types, name_texts}
 use Rattle.protobuf_parse_model.proofs.Scopes.{found-here, full_name-outward, none-here}
 use Rattle.protobuf_parse_model.proofs.scope.type_named.Goals as goal
 
 pub move_outward-requires : goal.move_outward-requires
 move_outward-requires c =
     let scope = c.args.context.now.scope.now in (
-      absolute_text (texts (take (c.loop-length.length - 1) scope)),
+      absolute_text (name_texts (take (c.loop-length.length - 1) scope)),
       c.loop-length.invariant.text_is
           ∙ full_name-outward scope c.args.name.now c.loop-length.length _ c.loop-length-test.true
           c.loop-length.invariant.bound refl,
@@ -33,7 +33,8 @@ loop-length-preserved c =
     record {
       bound = omega arith;
       text_is =
-          c.in_ok-move_outward.ensures (absolute_text (texts (take (c.loop-length.length - 1) scope)))
+          c.in_ok-move_outward.ensures
+          (absolute_text (name_texts (take (c.loop-length.length - 1) scope)))
           (c.loop-length.invariant.text_is
           ∙ full_name-outward scope c.args.name.now c.loop-length.length _ c.loop-length-test.true
           c.loop-length.invariant.bound refl);

@@ -3,17 +3,18 @@ use Rattle.protobuf_parse_base.specs.Names.{fronts}
 use Rattle.protobuf_parse_model.specs.Declarations.{full_name}
 use Rattle.protobuf_parse_model.specs.Environment.{type_named}
 use Rattle.protobuf_parse_model.specs.Lookup.{declared_in_first}
-use Rattle.protobuf_parse_model.specs.Contexts.{names_in, seen_types, texts}
+use Rattle.protobuf_parse_model.specs.Contexts.{names_of_context, seen_types, name_texts}
 use Rattle.protobuf_parse_model.proofs.scope.type_named.Given as goal
 
 abbrev pub invariant-loop-length : goal.invariant-loop-length
 invariant-loop-length l =
     record {
       bound : l.length ≤ length l.context.scope.now;
-      text_is : string_bytes l.text ≡ full_name (texts (take l.length l.context.scope.now)) l.name;
-      none_longer : type_named (names_in l.context) l.name
+      text_is : string_bytes l.text
+          ≡ full_name (name_texts (take l.length l.context.scope.now)) l.name;
+      none_longer : type_named (names_of_context l.context) l.name
           ≡ declared_in_first (seen_types l.context.seen) l.name
-          (fronts (texts (take l.length l.context.scope.now)));
+          (fronts (name_texts (take l.length l.context.scope.now)));
     }
 
 abbrev pub decreases-loop-length : goal.decreases-loop-length

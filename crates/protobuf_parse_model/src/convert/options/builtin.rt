@@ -2,7 +2,7 @@
 
 ghost use Rattle.std.specs.Prelude.{◌≡◌};
 ghost use Rattle.protobuf_parse_model.specs.Duplicates.{stands_in};
-ghost use Rattle.protobuf_parse_model.specs.OptionTables.{names_in, table_of};
+ghost use Rattle.protobuf_parse_model.specs.OptionTables.{option_names_in, table_of};
 ghost use Rattle.protobuf_parse_model.specs.OptionViews.{table_seen};
 
 use crate::convert::options::tables::{
@@ -14,7 +14,7 @@ use crate::customs::Construct;
 /// Whether the construct has a built-in option of that name, which `default` and `json_name` of a
 /// field are not.
 pub fn has_builtin_option(construct: Construct, name: &str) -> bool
-    ensures { result ≡ stands_in name.now (names_in (table_of construct)) }
+    ensures { result ≡ stands_in name.now (option_names_in (table_of construct)) }
 {
     has_entry(table_of(construct), name)
 }
@@ -36,7 +36,7 @@ fn table_of(construct: Construct) -> Table
 }
 
 fn has_entry(table: &[(&str, BuiltinKind)], name: &str) -> bool
-    ensures { result ≡ stands_in name.now (names_in (table_seen table.now)) }
+    ensures { result ≡ stands_in name.now (option_names_in (table_seen table.now)) }
 {
     'entries: for entry in table {
         if entry.0 == name {

@@ -160,7 +160,7 @@ fn check_value(
     value: &ProtobufConstant,
 ) -> Result<(), ElabFailure>
     ensures { Elaborates (λ u. u) result
-        (spec.value_faults name.now (kind_seen kind) (constant_view value.now)) tt }
+        (spec.builtin_value_faults name.now (kind_seen kind) (constant_view value.now)) tt }
 {
     match kind {
         BuiltinKind::Text => check_text(alloc, name, value),
@@ -171,7 +171,7 @@ fn check_value(
 
 fn check_text(alloc: Global, name: &str, value: &ProtobufConstant) -> Result<(), ElabFailure>
     ensures { Elaborates (λ u. u) result
-        (spec.value_faults name.now spec.a_text (constant_view value.now)) tt }
+        (spec.builtin_value_faults name.now spec.a_text (constant_view value.now)) tt }
 {
     match value {
         ProtobufConstant::String(string) => {
@@ -184,7 +184,7 @@ fn check_text(alloc: Global, name: &str, value: &ProtobufConstant) -> Result<(),
 
 fn check_truth(alloc: Global, name: &str, value: &ProtobufConstant) -> Result<(), ElabFailure>
     ensures { Elaborates (λ u. u) result
-        (spec.value_faults name.now spec.a_truth (constant_view value.now)) tt }
+        (spec.builtin_value_faults name.now spec.a_truth (constant_view value.now)) tt }
 {
     match value {
         ProtobufConstant::Bool(_) => Ok(()),
@@ -199,7 +199,8 @@ fn check_word(
     value: &ProtobufConstant,
 ) -> Result<(), ElabFailure>
     ensures { Elaborates (λ u. u) result
-        (spec.value_faults name.now (spec.a_word (map (λ (w : Bor (List ℕ)). w.now) words.now))
+        (spec.builtin_value_faults name.now
+        (spec.a_word (map (λ (w : Bor (List ℕ)). w.now) words.now))
         (constant_view value.now)) tt }
 {
     match value {

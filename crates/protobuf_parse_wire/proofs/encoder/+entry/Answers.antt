@@ -3,10 +3,10 @@ use Rattle.std.proofs.Common.{refl, arith, drop-cons, add-one}
 use Rattle.std.proofs.lemmas.List.{drop_all}
 use Rattle.protobuf_parse_wire.specs.declared.entry.Entry.{Entry}
 use Rattle.protobuf_parse_wire.specs.Trees.{Entries, entry}
-use Rattle.protobuf_parse_wire.specs.Views.{Item, entries_view, entry_value_view}
+use Rattle.protobuf_parse_wire.specs.Views.{WireItem, entries_view, entry_value_view}
 use Rattle.protobuf_parse_wire.proofs.Appending.{entry_is}
 use Rattle.protobuf_parse_wire.proofs.Written.{Completes, goes_on, is_done}
-use Rattle.protobuf_parse_wire.specs.Kinds.{shape, wire_type}
+use Rattle.protobuf_parse_wire.specs.Kinds.{shape_of_kind, wire_type}
 use Rattle.protobuf_parse_wire.proofs.encoder.+entry.Goals as goal
 
 pub encode_into-entries-preserved : goal.encode_into-entries-preserved
@@ -20,9 +20,9 @@ encode_into-entries-preserved t c =
     let rest = entries_view (drop (i + 1) list) in
     let seen : entries_view (e ∷ drop (i + 1) list)
     ≡ entry e.number e.kind (entry_value_view e.value) rest =
-    ap (λ (x : Item). entry x.number x.kind x.value rest) (entry_is e) in
+    ap (λ (x : WireItem). entry x.number x.kind x.value rest) (entry_is e) in
     let is : c.from.result * 8 + c.wire_type_of.result
-    ≡ e.number * 8 + wire_type (shape e.kind) =
+    ≡ e.number * 8 + wire_type (shape_of_kind e.kind) =
     omega (arith, c.from.ensures, c.wire_type_of.ensures) in
     let left : Completes
     (entry e.number e.kind (entry_value_view e.value) (entries_view (drop (i + 1) list)))

@@ -1,5 +1,5 @@
 use Rattle.std.proofs.Common.{ℕ, List, Bor, sym, append-nil}
-use Rattle.protobuf_parse.specs.Includes.{next_part}
+use Rattle.protobuf_parse.specs.Includes.{part_behind}
 use Rattle.protobuf_parse.proofs.Appending.{appended_all}
 use Rattle.protobuf_parse.proofs.Including.{appended-part}
 use Rattle.protobuf_parse.proofs.front.includes.put_next_parts.Goals as goal
@@ -14,5 +14,5 @@ loop-part-preserved c =
 
 pub returns : goal.returns
 returns c =
-    appended_all next_part (λ (p : Bor (List ℕ)). p.now) _ _ _ _ c.loop-part-test.false
+    appended_all part_behind (λ (p : Bor (List ℕ)). p.now) _ _ _ _ c.loop-part-test.false
     c.loop-part.invariant

@@ -12,9 +12,9 @@ use Rattle.protobuf_parse.specs.declared.run.loader.Met.TheVariants as met
 use Rattle.protobuf_parse.specs.declared.run.log.ReadEntry.{ReadEntry}
 use Rattle.protobuf_parse.specs.Walks.{walk}
 use Rattle.protobuf_parse.specs.Run.{rows}
-use Rattle.protobuf_parse.specs.Loading.{legal_by, Grows, MoreLoaded, asked_by, texts}
+use Rattle.protobuf_parse.specs.Loading.{legal_by, Grows, MoreLoaded, asked_by, chain_texts}
 use Rattle.protobuf_parse.specs.Frames.{IsAgain, IsOpened, Joined, chain_of, imports_in, later_in}
-use Rattle.protobuf_parse.specs.Frames.{left_in, path_of, to_meet}
+use Rattle.protobuf_parse.specs.Frames.{left_in, frame_path, to_meet}
 use Rattle.protobuf_parse.proofs.Keeping.{among-last}
 use Rattle.protobuf_parse.proofs.Steps.{Grows-trans}
 use Rattle.protobuf_parse.proofs.Leaving.{goes-back, goes-same, texts-length}
@@ -46,7 +46,7 @@ returns-in_err-first-clause-count g c files kept go good =
 
 pub files-init : goal.files-init
 files-init g c =
-    let none = ap texts c.requires.chain in
+    let none = ap chain_texts c.requires.chain in
     let same = ap (λ m. m.entries) c.meet.ensures.loaded in
     let o = first-stands _ _ _ _ _ _ (Ok (met.Opened c.in-Opened.frame)) none
     (rw c.in-Opened.is at c.in_ok-first.ensures.stands) in
@@ -94,7 +94,7 @@ files-init g c =
 pub meet-requires-in-files-clause-chain : goal.meet-requires-in-files-clause-chain
 meet-requires-in-files-clause-chain g c =
     let e = ap length c.files.invariant.chain in
-    let f = length_push (chain_of [] c.files.stack.items) (path_of c.files.top) in
+    let f = length_push (chain_of [] c.files.stack.items) (frame_path c.files.top) in
     let h = length-chain_of [] c.files.stack.items in
     let n = texts-length c.files.loader.chain.items in
     omega (arith, e, f, h, n, c.files.invariant.low)
@@ -115,7 +115,7 @@ returns-in_err-met-clause-goes g c files kept go good =
     rw (p.1, p.2)
     (running-stops legal files kept _
     (path_buf_text c.args.input.now) c.args.loader.now.meets c.files.stack.items c.files.top
-    c.in-Import.import _ (texts c.files.loader.chain.items) _ _ _ c.in_err-met.field-0.0 r
+    c.in-Import.import _ (chain_texts c.files.loader.chain.items) _ _ _ c.in_err-met.field-0.0 r
     c.files.invariant.chain at (λ x. c.in_err-met.ensures.leaves files r.now go x))
 
 pub returns-in_err-met-clause-count : goal.returns-in_err-met-clause-count
@@ -157,14 +157,14 @@ files-preserved-in-Continue-branch-5 g c =
     (rw c.deref.ensures.value at c.in-Some.ensures.lookup.1) ∙ ap Some c.in-Import.is in
     let j : Joined c.files.top c.in-Loaded-met.placed c.join-in-Loaded-met.new.frame =
     c.in_ok-join-in-Loaded-met.ensures in
-    let s : IsAgain (texts c.files.loader.chain.items)
+    let s : IsAgain (chain_texts c.files.loader.chain.items)
     (path_buf_text c.in-Import.import.path) c.files.loader.loaded.entries
-    c.files.loader.reads.items (texts c.meet-in-files.new.loader.chain.items)
+    c.files.loader.reads.items (chain_texts c.meet-in-files.new.loader.chain.items)
     c.meet-in-files.new.loader.reads.items c.in-Loaded-met.placed =
     (rw c.in-Loaded-met.is at c.in_ok-met.ensures.stands) in
     let same = ap (λ m. m.entries) c.meet-in-files.ensures.loaded in
     let e = ap length c.files.invariant.chain in
-    let f = length_push (chain_of [] c.files.stack.items) (path_of c.files.top) in
+    let f = length_push (chain_of [] c.files.stack.items) (frame_path c.files.top) in
     let h = length-chain_of [] c.files.stack.items in
     let n = texts-length c.files.loader.chain.items in
     let more : MoreLoaded c.files.loader.loaded.entries c.meet-in-files.new.loader.loaded.entries =
@@ -200,7 +200,7 @@ files-preserved-in-Continue-branch-5 g c =
           rw same (running-known legal files kept _
           (path_buf_text c.args.input.now) c.args.loader.now.meets c.files.stack.items
           c.files.top c.join-in-Loaded-met.new.frame c.in-Loaded-met.placed c.in-Import.import _
-          _ (texts c.files.loader.chain.items) _ _ _ r c.files.invariant.chain at
+          _ (chain_texts c.files.loader.chain.items) _ _ _ r c.files.invariant.chain at
           c.meet-in-files.ensures.meets c.meet-in-files.ensures.grows
           (λ x. rw c.in-Loaded-met.is at (c.in_ok-met.ensures.leaves files r.now go x)) j);
     }
@@ -216,7 +216,7 @@ returns-in_err-join-in-Loaded-met-clause-goes g c files kept go good =
     rw p.1 (known-breaks legal files kept _
     (path_buf_text c.args.input.now) c.args.loader.now.meets c.files.stack.items c.files.top
     c.in-Loaded-met.placed (path_buf_text c.in-Import.import.path) _
-    (texts c.files.loader.chain.items) _ _ _ p.0 r c.files.invariant.chain
+    (chain_texts c.files.loader.chain.items) _ _ _ p.0 r c.files.invariant.chain
     (λ x. rw c.in-Loaded-met.is at (c.in_ok-met.ensures.leaves files r.now go x)) p.2)
 
 pub returns-in_err-join-in-Loaded-met-clause-count : goal.returns-in_err-join-in-Loaded-met-clause-count
@@ -245,9 +245,9 @@ returns-in_err-push-in-Opened-met-clause-goes g c files kept go good =
     (rw c.deref.ensures.value at c.in-Some.ensures.lookup.1) ∙ ap Some c.in-Import.is in
     let legal = legal_by g.R.ProtoPathResolver.may_answer g.I.InputReader.may_read
     c.args.sources.now in
-    let o : IsOpened (texts c.files.loader.chain.items)
+    let o : IsOpened (chain_texts c.files.loader.chain.items)
     (path_buf_text c.in-Import.import.path) c.files.loader.loaded.entries
-    c.files.loader.reads.items (texts c.meet-in-files.new.loader.chain.items)
+    c.files.loader.reads.items (chain_texts c.meet-in-files.new.loader.chain.items)
     c.meet-in-files.new.loader.reads.items c.in-Opened-met.frame =
     (rw c.in-Opened-met.is at c.in_ok-met.ensures.stands) in
     let back = goes-back files _ _ _ c.meet-in-files.ensures.grows go in
@@ -260,7 +260,7 @@ returns-in_err-push-in-Opened-met-clause-goes g c files kept go good =
     (running-new legal files kept _
     (path_buf_text c.args.input.now) c.args.loader.now.meets c.files.stack.items c.files.top
     c.in-Opened-met.frame c.in-Import.import _ _
-    (texts c.files.loader.chain.items) _ _ _ _ r c.files.invariant.chain at
+    (chain_texts c.files.loader.chain.items) _ _ _ _ r c.files.invariant.chain at
     c.meet-in-files.ensures.meets c.meet-in-files.ensures.grows
     (λ x. rw c.in-Opened-met.is at (c.in_ok-met.ensures.leaves files r.now go x)) o) p.2)
 
@@ -283,13 +283,13 @@ returns-in_err-push-in-Opened-met-clause-count g c files kept go good =
 
 pub files-smaller : goal.files-smaller
 files-smaller g c =
-    let o : IsOpened (texts c.files.loader.chain.items)
+    let o : IsOpened (chain_texts c.files.loader.chain.items)
     (path_buf_text c.in-Import.import.path) c.files.loader.loaded.entries
-    c.files.loader.reads.items (texts c.meet-in-files.new.loader.chain.items)
+    c.files.loader.reads.items (chain_texts c.meet-in-files.new.loader.chain.items)
     c.meet-in-files.new.loader.reads.items c.in-Opened-met.frame =
     (rw c.in-Opened-met.is at c.in_ok-met.ensures.stands) in
     let e = ap length c.files.invariant.chain in
-    let f = length_push (chain_of [] c.files.stack.items) (path_of c.files.top) in
+    let f = length_push (chain_of [] c.files.stack.items) (frame_path c.files.top) in
     let h = length-chain_of [] c.files.stack.items in
     let n = texts-length c.files.loader.chain.items in
     let pushed : c.push.new.self.items ≡ c.files.stack.items ++ c.files.top
@@ -310,14 +310,14 @@ files-preserved g c =
     at_get c.files.top.tree.statements.items c.files.top.next c.in-Some.statement.now
     (rw c.deref.ensures.value at c.in-Some.ensures.lookup.3.0)
     (rw c.deref.ensures.value at c.in-Some.ensures.lookup.1) ∙ ap Some c.in-Import.is in
-    let o : IsOpened (texts c.files.loader.chain.items)
+    let o : IsOpened (chain_texts c.files.loader.chain.items)
     (path_buf_text c.in-Import.import.path) c.files.loader.loaded.entries
-    c.files.loader.reads.items (texts c.meet-in-files.new.loader.chain.items)
+    c.files.loader.reads.items (chain_texts c.meet-in-files.new.loader.chain.items)
     c.meet-in-files.new.loader.reads.items c.in-Opened-met.frame =
     (rw c.in-Opened-met.is at c.in_ok-met.ensures.stands) in
     let same = ap (λ m. m.entries) c.meet-in-files.ensures.loaded in
     let e = ap length c.files.invariant.chain in
-    let f = length_push (chain_of [] c.files.stack.items) (path_of c.files.top) in
+    let f = length_push (chain_of [] c.files.stack.items) (frame_path c.files.top) in
     let h = length-chain_of [] c.files.stack.items in
     let n = texts-length c.files.loader.chain.items in
     let pushed : c.push.new.self.items ≡ c.files.stack.items ++ c.files.top
@@ -336,7 +336,7 @@ files-preserved g c =
     let l = ap length o.reads ∙ length_push c.files.loader.reads.items o.entry in
     let t = to_meet-push c.files.stack.items c.files.top in
     let outer : chain_of [] (c.files.stack.items ++ c.files.top ∷ [])
-    ≡ chain_of [] c.files.stack.items ++ path_of c.files.top ∷ [] =
+    ≡ chain_of [] c.files.stack.items ++ frame_path c.files.top ∷ [] =
     chain_of-push [] c.files.stack.items c.files.top in
     record {
       chain = rw (pushed, after, outer, o.path_is)
@@ -359,7 +359,7 @@ files-preserved g c =
       waiting =
           rw (pushed, after)
           (waiting-push [] c.files.stack.items c.files.top
-          (path_of c.in-Opened-met.frame) c.files.invariant.waiting
+          (frame_path c.in-Opened-met.frame) c.files.invariant.waiting
           (record {
             low = omega (arith, h, c.files.invariant.low);
             off = c.files.invariant.off;
@@ -369,7 +369,7 @@ files-preserved g c =
           }));
       lowest =
           rw (pushed, after)
-          (first_path-push c.files.stack.items c.files.top (path_of c.in-Opened-met.frame)
+          (first_path-push c.files.stack.items c.files.top (frame_path c.in-Opened-met.frame)
           ∙ c.files.invariant.lowest);
       bound = rw (pushed, after)
           (omega (
@@ -394,7 +394,7 @@ files-preserved g c =
           (running-new legal files kept _
           (path_buf_text c.args.input.now) c.args.loader.now.meets c.files.stack.items
           c.files.top c.in-Opened-met.frame c.in-Import.import _ _
-          (texts c.files.loader.chain.items) _ _ _ _ r c.files.invariant.chain at
+          (chain_texts c.files.loader.chain.items) _ _ _ _ r c.files.invariant.chain at
           c.meet-in-files.ensures.meets c.meet-in-files.ensures.grows
           (λ x. rw c.in-Opened-met.is at (c.in_ok-met.ensures.leaves files r.now go x)) o);
     }
@@ -461,8 +461,8 @@ returns-in_err-placed-clause-goes g c files kept go good =
     let reads = ap (λ (w : Vec ReadEntry). w.items) c.close.ensures.reads in
     let legal = legal_by g.R.ProtoPathResolver.may_answer g.I.InputReader.may_read
     c.args.sources.now in
-    let none = c.files.invariant.unloaded (path_of c.files.top)
-    (among-last (path_of c.files.top) (chain_of [] c.files.stack.items)) in
+    let none = c.files.invariant.unloaded (frame_path c.files.top)
+    (among-last (frame_path c.files.top) (chain_of [] c.files.stack.items)) in
     let back = goes-same files _ _ _ reads go in
     let r = c.files.invariant.inside files kept back good in
     let k = running-closes legal files kept _
@@ -507,8 +507,8 @@ returns-in_default-pop-clause-goes g c files kept go good =
     let empty : c.files.stack.items ≡ [] = none_of c.files.stack.items zero_left in
     let legal = legal_by g.R.ProtoPathResolver.may_answer g.I.InputReader.may_read
     c.args.sources.now in
-    let none = c.files.invariant.unloaded (path_of c.files.top)
-    (among-last (path_of c.files.top) (chain_of [] c.files.stack.items)) in
+    let none = c.files.invariant.unloaded (frame_path c.files.top)
+    (among-last (frame_path c.files.top) (chain_of [] c.files.stack.items)) in
     let back = goes-same files _ _ _ reads go in
     let r = c.files.invariant.inside files kept back good in
     let k = running-closes legal files kept _
@@ -550,7 +550,7 @@ returns-in_default-pop-clause-chain g c =
     let empty : c.files.stack.items ≡ [] = none_of c.files.stack.items zero_left in
     none-texts _
     (c.close.ensures.chain [] (c.files.invariant.chain
-    ∙ ap (λ z. chain_of [] z ++ path_of c.files.top ∷ []) empty))
+    ∙ ap (λ z. chain_of [] z ++ frame_path c.files.top ∷ []) empty))
 
 pub returns-in_default-pop-clause-known : goal.returns-in_default-pop-clause-known
 returns-in_default-pop-clause-known g c =
@@ -567,7 +567,7 @@ pub join-requires : goal.join-requires
 join-requires g c =
     let s : c.files.stack.items ≡ c.pop.new.self.items ++ c.in-Some-pop.parent
     ∷ [] = c.in-Some-pop.ensures.items in
-    let w = waiting-pop [] c.pop.new.self.items c.in-Some-pop.parent (path_of c.files.top)
+    let w = waiting-pop [] c.pop.new.self.items c.in-Some-pop.parent (frame_path c.files.top)
     (rw s at c.files.invariant.waiting) in
     slice_get_within c.in-Some-pop.parent.tree.statements.items c.in-Some-pop.parent.next
     (file_statement.Import w.1.import) w.1.at
@@ -576,7 +576,7 @@ pub files-smaller-in_default : goal.files-smaller-in_default
 files-smaller-in_default g c =
     let s : c.files.stack.items ≡ c.pop.new.self.items ++ c.in-Some-pop.parent
     ∷ [] = c.in-Some-pop.ensures.items in
-    let w = waiting-pop [] c.pop.new.self.items c.in-Some-pop.parent (path_of c.files.top)
+    let w = waiting-pop [] c.pop.new.self.items c.in-Some-pop.parent (frame_path c.files.top)
     (rw s at c.files.invariant.waiting) in
     let j : Joined c.in-Some-pop.parent c.in_ok-placed.placed c.join.new.frame =
     c.in_ok-join.ensures in
@@ -596,7 +596,7 @@ files-preserved-in_default g c =
     (c.in_ok-placed.ensures.settles c.files.invariant.known.tells) in
     let s : c.files.stack.items ≡ c.pop.new.self.items ++ c.in-Some-pop.parent
     ∷ [] = c.in-Some-pop.ensures.items in
-    let w = waiting-pop [] c.pop.new.self.items c.in-Some-pop.parent (path_of c.files.top)
+    let w = waiting-pop [] c.pop.new.self.items c.in-Some-pop.parent (frame_path c.files.top)
     (rw s at c.files.invariant.waiting) in
     let j : Joined c.in-Some-pop.parent c.in_ok-placed.placed c.join.new.frame =
     c.in_ok-join.ensures in
@@ -637,19 +637,19 @@ files-preserved-in_default g c =
       );
       taken = rw reads
           (taken-joined _ _ c.in-Some-pop.parent c.join.new.frame c.in_ok-placed.placed w.1.import
-          (path_of c.files.top) b.1 w.1.at w.1.named cl.number j);
+          (frame_path c.files.top) b.1 w.1.at w.1.named cl.number j);
       below = rw reads b.0;
       waiting = rw j.path_is w.0;
       lowest =
           rw j.path_is
-          (sym (first_path-push c.pop.new.self.items c.in-Some-pop.parent (path_of c.files.top))
+          (sym (first_path-push c.pop.new.self.items c.in-Some-pop.parent (frame_path c.files.top))
           ∙ (rw s at c.files.invariant.lowest));
       bound = omega (arith, x, y, z, q, c.close.ensures.meets, c.files.invariant.bound);
       inside = λ files kept go good.
           let legal = legal_by g.R.ProtoPathResolver.may_answer g.I.InputReader.may_read
           c.args.sources.now in
-          let none = c.files.invariant.unloaded (path_of c.files.top)
-          (among-last (path_of c.files.top) (chain_of [] c.files.stack.items)) in
+          let none = c.files.invariant.unloaded (frame_path c.files.top)
+          (among-last (frame_path c.files.top) (chain_of [] c.files.stack.items)) in
           let back = goes-same files _ _ _ reads go in
           let r = c.files.invariant.inside files kept back good in
           let k = running-closes legal files kept _
@@ -672,8 +672,8 @@ returns-in_err-join-clause-goes g c files kept go good =
     let reads = ap (λ (w : Vec ReadEntry). w.items) c.close.ensures.reads in
     let legal = legal_by g.R.ProtoPathResolver.may_answer g.I.InputReader.may_read
     c.args.sources.now in
-    let none = c.files.invariant.unloaded (path_of c.files.top)
-    (among-last (path_of c.files.top) (chain_of [] c.files.stack.items)) in
+    let none = c.files.invariant.unloaded (frame_path c.files.top)
+    (among-last (frame_path c.files.top) (chain_of [] c.files.stack.items)) in
     let back = goes-same files _ _ _ reads go in
     let r = c.files.invariant.inside files kept back good in
     let k = running-closes legal files kept _

@@ -4,28 +4,28 @@ use Rattle.protobuf_parse_base.specs.PathViews.{path_buf_text}
 use Rattle.protobuf_parse.specs.Walks.{Event, among, keep, walk}
 use Rattle.protobuf_parse.specs.Run.{Files, rows}
 use Rattle.protobuf_parse.specs.Loading.{legal_by, AreKnown, AreUnloaded, GoesOn, Good, Grows}
-use Rattle.protobuf_parse.specs.Loading.{IsDecided, asked_by, texts}
+use Rattle.protobuf_parse.specs.Loading.{IsDecided, asked_by, chain_texts}
 use Rattle.protobuf_parse.specs.Frames.{AreWaiting, IsRunning, IsTaken, chain_of, first_path}
-use Rattle.protobuf_parse.specs.Frames.{left_in, left_over, path_of, to_meet}
+use Rattle.protobuf_parse.specs.Frames.{left_in, left_over, frame_path, to_meet}
 use Rattle.protobuf_parse.proofs.run.loader.load_file.Given as goal
 
 abbrev pub invariant-files : goal.invariant-files
 invariant-files g l =
     let legal = legal_by g.R.ProtoPathResolver.may_answer g.I.InputReader.may_read l.sources in
     record {
-      chain : texts l.loader.chain.items ≡ chain_of [] l.stack.items ++ path_of l.top ∷ [];
+      chain : chain_texts l.loader.chain.items ≡ chain_of [] l.stack.items ++ frame_path l.top ∷ [];
       grows : Grows l.fn.loader.reads.items l.loader.reads.items;
       decided : IsDecided (rows l.sources.bundled.now) l.fn.loader.reads.items
           → IsDecided (rows l.sources.bundled.now) l.loader.reads.items;
       known : AreKnown l.loader.loaded.entries l.loader.tables l.loader.reads.items;
-      unloaded : AreUnloaded (chain_of [] l.stack.items ++ path_of l.top ∷ [])
+      unloaded : AreUnloaded (chain_of [] l.stack.items ++ frame_path l.top ∷ [])
           l.loader.loaded.entries;
-      off : among (path_of l.top) (chain_of [] l.stack.items) ≡ false;
+      off : among (frame_path l.top) (chain_of [] l.stack.items) ≡ false;
       low : length l.stack.items + l.top.height < 100;
       taken : IsTaken l.loader.loaded.entries l.loader.reads.items l.top;
       below : AllByRecursion (IsTaken l.loader.loaded.entries l.loader.reads.items) l.stack.items;
-      waiting : AreWaiting [] l.stack.items (path_of l.top);
-      lowest : first_path l.stack.items (path_of l.top) ≡ path_buf_text l.input;
+      waiting : AreWaiting [] l.stack.items (frame_path l.top);
+      lowest : first_path l.stack.items (frame_path l.top) ≡ path_buf_text l.input;
       bound : l.loader.meets + (length (left_in l.top) + to_meet l.stack.items) + length
           l.fn.loader.reads.items * 2 ^ 64
           ≤ l.fn.loader.meets + 1 + length l.loader.reads.items * 2 ^ 64;

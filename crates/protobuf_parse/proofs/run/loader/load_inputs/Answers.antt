@@ -1,7 +1,7 @@
 use Rattle.std.proofs.Common.{◌≡◌, [], ap, refl, map, take, arith}
 use Rattle.std.proofs.lemmas.List.{take_all}
 use Rattle.std.proofs.lemmas.Result.{err_from_is_err_and}
-use Rattle.protobuf_parse.specs.Walks.{events, statements}
+use Rattle.protobuf_parse.specs.Walks.{events, import_statements}
 use Rattle.protobuf_parse.specs.Run.{input_view, rows}
 use Rattle.protobuf_parse.specs.Loading.{legal_by}
 use Rattle.protobuf_parse.proofs.Counting.{count-inputs, count-inputs-stop}
@@ -88,6 +88,7 @@ returns g c = record {
       let whole : take c.loop-input.input-index c.args.inputs.now
       ≡ c.args.inputs.now = take_all _ _ (omega arith) in
       let h = c.loop-input.invariant.count files go in
-      let e = ap (λ z. statements files.trees (events files.trees (map input_view z))) whole in
+      let e = ap (λ z. import_statements files.trees (events files.trees (map input_view z)))
+      whole in
       omega (arith, h, e);
 }

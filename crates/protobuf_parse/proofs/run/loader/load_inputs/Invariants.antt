@@ -1,5 +1,5 @@
 use Rattle.std.proofs.Common.{◌≡◌, ◌+◌, ◌*◌, ◌^◌, ◌≤◌, [], length, map, take}
-use Rattle.protobuf_parse.specs.Walks.{events, statements}
+use Rattle.protobuf_parse.specs.Walks.{events, import_statements}
 use Rattle.protobuf_parse.specs.Run.{Files, input_view, rows}
 use Rattle.protobuf_parse.specs.Loading.{legal_by, AreKnown, GoesOn, Good, IsDecided}
 use Rattle.protobuf_parse.proofs.run.loader.load_inputs.Given as goal
@@ -16,6 +16,6 @@ invariant-loop-input g l =
           l.loader.loaded.entries l.loader.reads.items [];
       known : AreKnown l.loader.loaded.entries l.loader.tables l.loader.reads.items;
       count : (files : Files) → GoesOn files (rows l.sources.bundled.now) l.loader.reads.items
-          → l.loader.meets ≡ l.input-index + statements files.trees
+          → l.loader.meets ≡ l.input-index + import_statements files.trees
           (events files.trees (map input_view (take l.input-index l.inputs)));
     }

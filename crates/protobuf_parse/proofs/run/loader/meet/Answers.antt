@@ -8,7 +8,7 @@ use Rattle.protobuf_parse_model.specs.Descriptors.{Text}
 use Rattle.protobuf_parse.specs.Walks.{among}
 use Rattle.protobuf_parse.specs.Run.{rows}
 use Rattle.protobuf_parse.specs.Loading.{legal_by, IsNumbered, asked_by, file_at, named_trees}
-use Rattle.protobuf_parse.specs.Loading.{texts}
+use Rattle.protobuf_parse.specs.Loading.{chain_texts}
 use Rattle.protobuf_parse.proofs.Deciding.{decided-file}
 use Rattle.protobuf_parse.proofs.Leaving.{chain-told, texts-length, texts-push, leaves-cycle}
 use Rattle.protobuf_parse.proofs.Leaving.{leaves-tall, leaves-full, leaves-read}
@@ -20,7 +20,7 @@ pub returns-then-is_on_chain-clause-leaves : goal.returns-then-is_on_chain-claus
 returns-then-is_on_chain-clause-leaves g c files kept go good =
     let text_is : c.to_str-text.result.now
     ≡ path_buf_text c.args.path.now = c.to_str-text.ensures.text ∙ c.as_path.ensures in
-    let on : among c.to_str-text.result.now (texts c.args.loader.now.chain.items)
+    let on : among c.to_str-text.result.now (chain_texts c.args.loader.now.chain.items)
     ≡ true =
     chain-told _ _ _ _ c.is_on_chain.result true refl c.deref.ensures.value
     c.is_on_chain.ensures c.if-is_on_chain.true in
@@ -65,7 +65,7 @@ returns-then-len-eq-LIMIT-clause-leaves g c files kept go good =
     let text_is : c.to_str-text.result.now
     ≡ path_buf_text c.args.path.now = c.to_str-text.ensures.text ∙ c.as_path.ensures in
     let n = texts-length c.args.loader.now.chain.items in
-    let off : among c.to_str-text.result.now (texts c.args.loader.now.chain.items)
+    let off : among c.to_str-text.result.now (chain_texts c.args.loader.now.chain.items)
     ≡ false =
     chain-told _ _ _ _ c.is_on_chain.result false refl c.deref.ensures.value
     c.is_on_chain.ensures c.if-is_on_chain.false in
@@ -92,7 +92,7 @@ returns-in_err-tree-clause-leaves g c files kept go good =
     let text_is : c.to_str-text.result.now
     ≡ path_buf_text c.args.path.now = c.to_str-text.ensures.text ∙ c.as_path.ensures in
     let n = texts-length c.args.loader.now.chain.items in
-    let off : among (path_buf_text c.args.path.now) (texts c.args.loader.now.chain.items)
+    let off : among (path_buf_text c.args.path.now) (chain_texts c.args.loader.now.chain.items)
     ≡ false =
     chain-told _ _ _ _ c.is_on_chain.result false text_is c.deref.ensures.value
     c.is_on_chain.ensures c.if-is_on_chain.false in
@@ -119,7 +119,7 @@ returns-in_err-enter-clause-leaves g c files kept go good =
     let text_is : c.to_str-text.result.now
     ≡ path_buf_text c.args.path.now = c.to_str-text.ensures.text ∙ c.as_path.ensures in
     let n = texts-length c.args.loader.now.chain.items in
-    let off : among (path_buf_text c.args.path.now) (texts c.args.loader.now.chain.items)
+    let off : among (path_buf_text c.args.path.now) (chain_texts c.args.loader.now.chain.items)
     ≡ false =
     chain-told _ _ _ _ c.is_on_chain.result false text_is c.deref.ensures.value
     c.is_on_chain.ensures c.if-is_on_chain.false in
@@ -146,7 +146,7 @@ returns-in_err-from_str-clause-leaves g c files kept go good =
     let text_is : c.to_str-text.result.now
     ≡ path_buf_text c.args.path.now = c.to_str-text.ensures.text ∙ c.as_path.ensures in
     let n = texts-length c.args.loader.now.chain.items in
-    let off : among (path_buf_text c.args.path.now) (texts c.args.loader.now.chain.items)
+    let off : among (path_buf_text c.args.path.now) (chain_texts c.args.loader.now.chain.items)
     ≡ false =
     chain-told _ _ _ _ c.is_on_chain.result false text_is c.deref.ensures.value
     c.is_on_chain.ensures c.if-is_on_chain.false in
@@ -173,7 +173,7 @@ returns-clause-stands g c =
     let text_is : c.to_str-text.result.now
     ≡ path_buf_text c.args.path.now = c.to_str-text.ensures.text ∙ c.as_path.ensures in
     let n = texts-length c.args.loader.now.chain.items in
-    let off : among (path_buf_text c.args.path.now) (texts c.args.loader.now.chain.items)
+    let off : among (path_buf_text c.args.path.now) (chain_texts c.args.loader.now.chain.items)
     ≡ false =
     chain-told _ _ _ _ c.is_on_chain.result false text_is c.deref.ensures.value
     c.is_on_chain.ensures c.if-is_on_chain.false in
@@ -185,7 +185,7 @@ returns-clause-stands g c =
     let r = c.in_ok-tree.ensures.read in
     record {
       chain_is =
-          ap texts
+          ap chain_texts
           (s.1 ∙ ap (λ (v : Vec (String Global)). v.items ++ s.0 ∷ []) c.read_tree.ensures.chain)
           ∙ texts-push c.args.loader.now.chain.items s.0 _ (s.2 ∙ text_is);
       room = omega (arith, n, c.if-len-eq-LIMIT.false, c.len-2.ensures, c.requires.chain);
@@ -206,7 +206,7 @@ pub returns-clause-leaves : goal.returns-clause-leaves
 returns-clause-leaves g c files kept go good =
     let text_is : c.to_str-text.result.now
     ≡ path_buf_text c.args.path.now = c.to_str-text.ensures.text ∙ c.as_path.ensures in
-    let off : among (path_buf_text c.args.path.now) (texts c.args.loader.now.chain.items)
+    let off : among (path_buf_text c.args.path.now) (chain_texts c.args.loader.now.chain.items)
     ≡ false =
     chain-told _ _ _ _ c.is_on_chain.result false text_is c.deref.ensures.value
     c.is_on_chain.ensures c.if-is_on_chain.false in

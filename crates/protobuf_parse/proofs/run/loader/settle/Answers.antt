@@ -4,7 +4,7 @@ use Rattle.std.proofs.lemmas.Result.{err_from_is_err_and}
 use Rattle.protobuf_parse_syntax.specs.Trees.{FileSyntax, file_view}
 use Rattle.protobuf_parse_model.specs.Descriptors.{FileDescriptor, Text}
 use Rattle.protobuf_parse.specs.Run.{StandsInElab, origin_given}
-use Rattle.protobuf_parse.specs.Loading.{Begins, Describes, Named, faults_over, named_trees}
+use Rattle.protobuf_parse.specs.Loading.{IndexBegins, Describes, Named, faults_over, named_trees}
 use Rattle.protobuf_parse.specs.Loading.{plain_in, plains_next, trees_of, with_next}
 use Rattle.protobuf_parse.specs.declared.run.loader.LoadedFile.{LoadedFile}
 use Rattle.protobuf_parse.proofs.Catching.{plains-push}
@@ -55,7 +55,8 @@ returns-clause-settles c told none =
       plain = is.2;
       tells = rw c.in_ok-described.ensures.names tells;
       begins =
-          subst (λ (ps : List FileDescriptor). Begins c.descriptor_of.new.loader.tables.places ps)
+          subst (λ (ps : List FileDescriptor). IndexBegins c.descriptor_of.new.loader.tables.places
+          ps)
           (plains-push loaded (c.args.path, file) ∙ ap (map plain_in) (sym added.0))
           c.in_ok-described.ensures.begins;
       height_placed = c.in_ok-placed.ensures.height;

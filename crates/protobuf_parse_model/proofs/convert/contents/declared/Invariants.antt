@@ -2,7 +2,7 @@ use Rattle.std.proofs.Common.{◌≡◌, [], map, take, flat_map}
 use Rattle.protobuf_parse_syntax.specs.Trees.{statement_view}
 use Rattle.protobuf_parse_model.specs.Contexts.{environment_in}
 use Rattle.protobuf_parse_model.specs.FileDescriptor.{statement_faults}
-use Rattle.protobuf_parse_model.specs.FileParts.{parts_of, parts_view}
+use Rattle.protobuf_parse_model.specs.FileParts.{parts_of_file, parts_view}
 use Rattle.protobuf_parse_model.proofs.convert.contents.declared.Given as goal
 
 abbrev pub invariant-loop-statement : goal.invariant-loop-statement
@@ -11,5 +11,5 @@ invariant-loop-statement g l =
     let seen = map statement_view (take l.statement-index l.statements) in
     record {
       no_fault : flat_map (statement_faults env) seen ≡ [];
-      all : parts_view l.contents ≡ parts_of env seen;
+      all : parts_view l.contents ≡ parts_of_file env seen;
     }

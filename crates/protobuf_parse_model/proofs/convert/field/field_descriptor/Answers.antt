@@ -1,7 +1,7 @@
 use Rattle.std.proofs.Common.{◌≡◌}
 use Rattle.std.proofs.lemmas.Result.{err_from_is_err_and}
 use Rattle.protobuf_parse_syntax.specs.Trees.{field_view}
-use Rattle.protobuf_parse_model.specs.Contexts.{place_view, resolved_view}
+use Rattle.protobuf_parse_model.specs.Contexts.{field_place_view, resolved_view}
 use Rattle.protobuf_parse_model.specs.Descriptors as described
 use Rattle.protobuf_parse_model.proofs.SameTypes.{blames_type, field_elaborates}
 use Rattle.protobuf_parse_model.proofs.convert.field.field_descriptor.Goals as goal
@@ -21,5 +21,5 @@ returns g c =
     let resolved = c.in_ok-resolved.ensures in
     field_elaborates customs c.args.context.now
     (field_view c.args.field.now) c.deref.result.now c.deref.ensures described.field_view
-    c.field_with.result (place_view c.args.place.now)
+    c.field_with.result (field_place_view c.args.place.now)
     (resolved_view c.in_ok-resolved.resolved) resolved.0 resolved.1 c.field_with.ensures

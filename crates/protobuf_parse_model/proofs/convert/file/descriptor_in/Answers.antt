@@ -14,7 +14,7 @@ use Rattle.protobuf_parse_model.specs.Descriptors as described
 use Rattle.protobuf_parse_model.specs.Faults.{Blames}
 use Rattle.protobuf_parse_model.specs.FileDescriptor.{file_duplicates, file_faults, file_of}
 use Rattle.protobuf_parse_model.specs.FileDescriptor.{options_of_statements, statement_faults}
-use Rattle.protobuf_parse_model.specs.FileParts.{parts_faults, parts_of}
+use Rattle.protobuf_parse_model.specs.FileParts.{parts_faults, parts_of_file}
 use Rattle.protobuf_parse_model.specs.OptionsSet.{file_options}
 use Rattle.protobuf_parse_model.proofs.Files.{blames_around, faultless, same_file, tells}
 use Rattle.protobuf_parse_model.proofs.convert.file.descriptor_in.Goals as goal
@@ -43,7 +43,7 @@ returns-in_err-contents g c =
     let e = c.in_err-contents.field-0.0 in
     let told : Blames e (file_duplicates env t ++ flat_map (statement_faults env) t.statements) =
     subst (λ z.
-    Blames e (parts_faults (parts_of env (map statement_view z))
+    Blames e (parts_faults (parts_of_file env (map statement_view z))
     ++ flat_map (statement_faults env) (map statement_view z))) c.deref.ensures.value
     c.in_err-contents.ensures in
     let whole : Blames e (file_faults env t) =
@@ -59,7 +59,7 @@ returns g c =
     let t = file_view c.args.tree.now in
     let env = environment_in (g.C.CustomOptions.customs c.args.custom.now) c.args.context.now in
     let no_parts : file_duplicates env t ++ flat_map (statement_faults env) t.statements
-    ≡ [] = ap (λ z. parts_faults (parts_of env (map statement_view z))
+    ≡ [] = ap (λ z. parts_faults (parts_of_file env (map statement_view z))
     ++ flat_map (statement_faults env) (map statement_view z)) (sym c.deref.ensures.value)
     ∙ c.in_ok-contents.ensures.0 in
     let no_options : construct_faults env of.File file_table (options_of_statements t.statements)
@@ -68,7 +68,7 @@ returns g c =
     (options_of_statements (map statement_view z))) (sym c.deref-2.ensures.value)
     ∙ c.in_ok-options.ensures.0 in
     let parts = c.in_ok-contents.ensures.1
-    ∙ ap (λ z. parts_of env (map statement_view z)) c.deref.ensures.value in
+    ∙ ap (λ z. parts_of_file env (map statement_view z)) c.deref.ensures.value in
     let options = c.in_ok-options.ensures.1
     ∙ ap (λ z. let os = options_of_statements (map statement_view z) in
     file_options (customs_bytes env of.File os) os) c.deref-2.ensures.value in

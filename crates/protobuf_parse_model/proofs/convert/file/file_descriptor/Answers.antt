@@ -1,6 +1,6 @@
 use Rattle.std.proofs.Common.{◌∙◌, ◌++◌, List, ap, subst}
 use Rattle.protobuf_parse_syntax.specs.Trees.{file_view}
-use Rattle.protobuf_parse_model.specs.Contexts.{seen_types, texts}
+use Rattle.protobuf_parse_model.specs.Contexts.{seen_types, name_texts}
 use Rattle.protobuf_parse_model.specs.Descriptors as described
 use Rattle.protobuf_parse_model.specs.Descriptors.{Text}
 use Rattle.protobuf_parse_model.specs.Environment.{Environment}
@@ -21,5 +21,5 @@ returns g c =
     } in
     subst (λ (scope : List Text). Elaborates described.file_view c.descriptor_in.result
     (file_faults (within scope) t)
-    (file_of (within scope) c.args.name.now t)) (ap texts c.deref.ensures.value
+    (file_of (within scope) c.args.name.now t)) (ap name_texts c.deref.ensures.value
     ∙ c.in_ok-scope.ensures) c.descriptor_in.ensures

@@ -1,6 +1,6 @@
 use Rattle.std.proofs.Common.{◌≡◌, [], map, take, flat_map}
 use Rattle.protobuf_parse_syntax.specs.Trees.{field_statement_view}
-use Rattle.protobuf_parse_model.specs.Contexts.{environment_in, place_view}
+use Rattle.protobuf_parse_model.specs.Contexts.{environment_in, field_place_view}
 use Rattle.protobuf_parse_model.specs.Descriptors.{field_view, message_view}
 use Rattle.protobuf_parse_model.specs.Fields.{extension_faults, field_statement_of}
 use Rattle.protobuf_parse_model.specs.Messages.{messages_behind}
@@ -12,6 +12,7 @@ invariant-loop-statement g l =
     let seen = map field_statement_view (take l.statement-index l.statements) in
     record {
       no_fault : flat_map (extension_faults env) seen ≡ [];
-      all : map field_view l.fields.items ≡ map (field_statement_of env (place_view l.place)) seen;
+      all : map field_view l.fields.items
+          ≡ map (field_statement_of env (field_place_view l.place)) seen;
       all_behind : map message_view l.behind.items ≡ flat_map (messages_behind env) seen;
     }

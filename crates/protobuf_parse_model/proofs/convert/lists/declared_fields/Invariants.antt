@@ -1,5 +1,5 @@
 use Rattle.std.proofs.Common.{◌≡◌, [], map, take, flat_map}
-use Rattle.protobuf_parse_model.specs.Contexts.{environment_in, place_view, statements_seen}
+use Rattle.protobuf_parse_model.specs.Contexts.{environment_in, field_place_view, statements_seen}
 use Rattle.protobuf_parse_model.specs.Descriptors.{field_view, message_view}
 use Rattle.protobuf_parse_model.specs.Fields.{field_statement_faults, field_statement_of}
 use Rattle.protobuf_parse_model.specs.Messages.{messages_behind}
@@ -11,6 +11,7 @@ invariant-loop-statement g l =
     let seen = statements_seen (take l.statement-index l.statements) in
     record {
       no_fault : flat_map (field_statement_faults env) seen ≡ [];
-      all : map field_view l.fields.items ≡ map (field_statement_of env (place_view l.place)) seen;
+      all : map field_view l.fields.items
+          ≡ map (field_statement_of env (field_place_view l.place)) seen;
       all_behind : map message_view l.behind.items ≡ flat_map (messages_behind env) seen;
     }

@@ -1,7 +1,7 @@
 use Rattle.std.proofs.Common.{◌∙◌, List, ap, flat_map, map, subst}
 use Rattle.protobuf_parse_syntax.specs.Trees.{FieldStatementSyntax, oneof_statement_view}
 use Rattle.protobuf_parse_model.specs.Contexts.{environment_in, fields_declared, fields_view}
-use Rattle.protobuf_parse_model.specs.Contexts.{place_view, statements_seen}
+use Rattle.protobuf_parse_model.specs.Contexts.{field_place_view, statements_seen}
 use Rattle.protobuf_parse_model.specs.Faults.{Elaborates}
 use Rattle.protobuf_parse_model.specs.Fields.{field_statement_faults}
 use Rattle.protobuf_parse_model.specs.Statements.{oneof_fields}
@@ -15,4 +15,4 @@ returns g c =
     ∙ ap (λ z. flat_map oneof_fields (map oneof_statement_view z)) c.deref.ensures.value) in
     subst (λ (ss : List FieldStatementSyntax). Elaborates fields_view c.declared_fields.result
     (flat_map (field_statement_faults env) ss)
-    (fields_declared env (place_view c.args.place.now) ss)) is c.declared_fields.ensures
+    (fields_declared env (field_place_view c.args.place.now) ss)) is c.declared_fields.ensures

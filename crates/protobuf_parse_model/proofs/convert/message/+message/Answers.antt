@@ -11,7 +11,8 @@ use Rattle.protobuf_parse_syntax.proofs.Counts.{body_length, in_message_of, item
 use Rattle.protobuf_parse_syntax.proofs.Counts.{message_counts}
 use Rattle.protobuf_parse_syntax.proofs.Messages.{view_parts}
 use Rattle.protobuf_parse_model.specs.Contexts.{BodyParts, body_of, body_view, environment_in}
-use Rattle.protobuf_parse_model.specs.Contexts.{seen_types, texts, with_message, with_statement}
+use Rattle.protobuf_parse_model.specs.Contexts.{seen_types, name_texts, with_message}
+use Rattle.protobuf_parse_model.specs.Contexts.{with_body_statement}
 use Rattle.protobuf_parse_model.specs.Declarations.{Scope}
 use Rattle.protobuf_parse_model.specs.Descriptors as described
 use Rattle.protobuf_parse_model.specs.Environment.{Environment}
@@ -59,7 +60,8 @@ body_inside-returns g t c =
           g.C.CustomOptions.customs c.args.custom.now;
     } in
     subst (λ (s : Scope). Elaborates body_view c.body_of.result
-    (flat_map (statement_faults (at s)) ss) (body_of (at s) ss)) (ap texts c.deref.ensures.value
+    (flat_map (statement_faults (at s)) ss) (body_of (at s) ss))
+    (ap name_texts c.deref.ensures.value
     ∙ c.in_ok-scope.ensures) c.body_of.ensures
 
 pub body_of-loop-statement-preserved : goal.body_of-loop-statement-preserved
@@ -80,7 +82,7 @@ body_of-loop-statement-preserved g t c =
       few = few_more env c.loop-statement.body c.add_statement.new.body
           (message_statement_view s) i added.1 c.loop-statement.invariant.few;
       all = added.1
-          ∙ (ap (λ b. with_statement env b (message_statement_view s))
+          ∙ (ap (λ b. with_body_statement env b (message_statement_view s))
           c.loop-statement.invariant.all
           ∙ (body_more env seen (message_statement_view s) ∙ sym (ap (body_of env) more)));
     }
@@ -103,7 +105,7 @@ add_statement-returns-in-Message g t c =
     (statement_faults env (nested_message m)) p) (with_nested env b m) faults in
     subst (λ (s : MessageStatementSyntax). Elaborates {Y = BodyParts}
     (λ x. body_view c.add_message.new.body) r (statement_faults env s)
-    (with_statement env b s)) (sym is) whole
+    (with_body_statement env b s)) (sym is) whole
 
 -- ---- each part has fewer statements than the whole
 

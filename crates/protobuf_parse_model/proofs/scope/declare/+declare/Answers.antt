@@ -5,14 +5,14 @@ use Rattle.protobuf_parse_syntax.specs.declared.tree.declaration.MessageStatemen
 use Rattle.protobuf_parse_syntax.specs.Trees.{message_statement_view}
 use Rattle.protobuf_parse_model.specs.Declarations.{DeclaredType, Scope, a_message, declare, inside}
 use Rattle.protobuf_parse_model.specs.Declarations.{types_of}
-use Rattle.protobuf_parse_model.specs.Contexts.{texts}
+use Rattle.protobuf_parse_model.specs.Contexts.{name_texts}
 use Rattle.protobuf_parse_model.specs.Tables.{Adds, type_entry}
 use Rattle.protobuf_parse_model.proofs.Tables.{adds_next, message_types-view, types_of-view}
 use Rattle.protobuf_parse_model.proofs.scope.declare.+declare.Goals as goal
 
 pub add_message-loop-statement-preserved : goal.add_message-loop-statement-preserved
 add_message-loop-statement-preserved t c =
-    let outer = texts c.args.scope.now.items in
+    let outer = name_texts c.args.scope.now.items in
     let name = string_bytes c.args.message.now.name in
     let within = c.loop-statement.invariant.within in
     let more = subst
@@ -30,7 +30,7 @@ add_message-loop-statement-preserved t c =
 
 pub add_message-returns-clause-adds : goal.add_message-returns-clause-adds
 add_message-returns-clause-adds t c =
-    let outer = texts c.args.scope.now.items in
+    let outer = name_texts c.args.scope.now.items in
     let name = string_bytes c.args.message.now.name in
     let items = take_all c.loop-statement.statement-index c.deref-statement-items.result.now
     c.loop-statement-test.false ∙ c.deref-statement-items.ensures.value in
@@ -42,7 +42,7 @@ add_message-returns-clause-adds t c =
 
 pub add_statement-returns-in-Message-clause-adds : goal.add_statement-returns-in-Message-clause-adds
 add_statement-returns-in-Message-clause-adds t c =
-    let scope = texts c.args.scope.now.items in
+    let scope = name_texts c.args.scope.now.items in
     let is = sym (types_of-view scope c.in-Message.message)
     ∙ ap (λ s. types_of scope (message_statement_view s)) (sym c.in-Message.is) in
     on_ok_weaker c.add_message.result

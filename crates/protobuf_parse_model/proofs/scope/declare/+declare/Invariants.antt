@@ -1,16 +1,16 @@
 use Rattle.std.proofs.Common.{◌≡◌, ◌∷◌, map, flat_map, take, string_bytes}
 use Rattle.protobuf_parse_syntax.specs.Trees.{message_statement_view}
 use Rattle.protobuf_parse_model.specs.Declarations.{a_message, declare, inside, types_of}
-use Rattle.protobuf_parse_model.specs.Contexts.{texts}
+use Rattle.protobuf_parse_model.specs.Contexts.{name_texts}
 use Rattle.protobuf_parse_model.specs.Tables.{Adds, type_entry}
 use Rattle.protobuf_parse_model.proofs.scope.declare.+declare.Given as goal
 
 abbrev pub invariant-add_message-loop-statement : goal.invariant-add_message-loop-statement
 invariant-add_message-loop-statement l =
-    let scope = texts l.fn.scope.items in
+    let scope = name_texts l.fn.scope.items in
     let name = string_bytes l.message.name in
     record {
-      within : texts l.scope.items ≡ inside scope name;
+      within : name_texts l.scope.items ≡ inside scope name;
       adds : Adds type_entry l.fn.table l.table l.file
           (declare scope name a_message
           ∷ flat_map (types_of (inside scope name))

@@ -1,7 +1,7 @@
 use Rattle.std.proofs.Common.{◌∙◌, [], subst}
 use Rattle.protobuf_parse_syntax.specs.Trees.{statement_view}
 use Rattle.protobuf_parse_model.specs.Declarations.{Scope, statement_types}
-use Rattle.protobuf_parse_model.specs.Contexts.{texts}
+use Rattle.protobuf_parse_model.specs.Contexts.{name_texts}
 use Rattle.protobuf_parse_model.specs.Tables.{Adds, type_entry}
 use Rattle.protobuf_parse_model.proofs.Tables.{adds_next}
 use Rattle.protobuf_parse_model.proofs.scope.declare.add_types.Goals as goal
@@ -16,7 +16,7 @@ loop-statement-preserved c =
     record {
       within = c.in_ok-add_declared.ensures.scope ∙ within;
       adds = adds_next type_entry c.args.table.now c.loop-statement.table c.add_declared.new.table
-          c.args.file (statement_types (texts c.args.scope.now.items)) statement_view
+          c.args.file (statement_types (name_texts c.args.scope.now.items)) statement_view
           [] c.args.statements.now c.loop-statement.statement-index c.statement-item.result
           c.loop-statement-test.true c.statement-item.is c.loop-statement.invariant.adds more;
     }

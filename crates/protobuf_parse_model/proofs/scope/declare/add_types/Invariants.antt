@@ -1,15 +1,15 @@
 use Rattle.std.proofs.Common.{◌≡◌, map, flat_map, take}
 use Rattle.protobuf_parse_syntax.specs.Trees.{statement_view}
 use Rattle.protobuf_parse_model.specs.Declarations.{statement_types}
-use Rattle.protobuf_parse_model.specs.Contexts.{texts}
+use Rattle.protobuf_parse_model.specs.Contexts.{name_texts}
 use Rattle.protobuf_parse_model.specs.Tables.{Adds, type_entry}
 use Rattle.protobuf_parse_model.proofs.scope.declare.add_types.Given as goal
 
 abbrev pub invariant-loop-statement : goal.invariant-loop-statement
 invariant-loop-statement l =
-    let scope = texts l.fn.scope.items in
+    let scope = name_texts l.fn.scope.items in
     record {
-      within : texts l.scope.items ≡ scope;
+      within : name_texts l.scope.items ≡ scope;
       adds : Adds type_entry l.fn.table l.table l.file
           (flat_map (statement_types scope)
           (map statement_view (take l.statement-index l.statements)));

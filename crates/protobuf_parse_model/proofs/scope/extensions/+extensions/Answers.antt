@@ -5,7 +5,7 @@ use Rattle.protobuf_parse_syntax.specs.declared.tree.declaration.MessageStatemen
 use Rattle.protobuf_parse_syntax.specs.Trees.{extend_view, message_statement_view}
 use Rattle.protobuf_parse_model.specs.Declarations.{DeclaredExtension, Scope, extend_extensions}
 use Rattle.protobuf_parse_model.specs.Declarations.{inside, extensions_of}
-use Rattle.protobuf_parse_model.specs.Contexts.{texts}
+use Rattle.protobuf_parse_model.specs.Contexts.{name_texts}
 use Rattle.protobuf_parse_model.specs.Tables.{Adds, extension_entry}
 use Rattle.protobuf_parse_model.proofs.Tables.{adds_next, extensions_of-view, extensions-view}
 use Rattle.protobuf_parse_model.proofs.TreeViews.{views_extend}
@@ -13,7 +13,7 @@ use Rattle.protobuf_parse_model.proofs.scope.extensions.+extensions.Goals as goa
 
 pub add_in_message-loop-statement-preserved : goal.add_in_message-loop-statement-preserved
 add_in_message-loop-statement-preserved t c =
-    let scope = inside (texts c.args.scope.now.items) (string_bytes c.args.message.now.name) in
+    let scope = inside (name_texts c.args.scope.now.items) (string_bytes c.args.message.now.name) in
     let within = c.loop-statement.invariant.within in
     let more = subst
     (λ (s : Scope). Adds extension_entry c.loop-statement.table c.add_in_body.new.table
@@ -30,7 +30,7 @@ add_in_message-loop-statement-preserved t c =
 
 pub add_in_message-returns-clause-adds : goal.add_in_message-returns-clause-adds
 add_in_message-returns-clause-adds t c =
-    let outer = texts c.args.scope.now.items in
+    let outer = name_texts c.args.scope.now.items in
     let items = take_all c.loop-statement.statement-index c.deref-statement-items.result.now
     c.loop-statement-test.false ∙ c.deref-statement-items.ensures.value in
     let is =
@@ -42,7 +42,7 @@ add_in_message-returns-clause-adds t c =
 
 pub add_in_body-returns-in-Message-clause-adds : goal.add_in_body-returns-in-Message-clause-adds
 add_in_body-returns-in-Message-clause-adds t c =
-    let scope = texts c.args.scope.now.items in
+    let scope = name_texts c.args.scope.now.items in
     let is = sym (extensions_of-view scope c.in-Message.message)
     ∙ ap (λ s. extensions_of scope (message_statement_view s)) (sym c.in-Message.is) in
     on_ok_weaker c.add_in_message.result
@@ -51,11 +51,11 @@ add_in_body-returns-in-Message-clause-adds t c =
 
 pub add_in_body-returns-in-Extend-clause-adds : goal.add_in_body-returns-in-Extend-clause-adds
 add_in_body-returns-in-Extend-clause-adds t c =
-    let scope = texts c.args.scope.now.items in
+    let scope = name_texts c.args.scope.now.items in
     let view = ap message_statement_view c.in-Extend.is ∙ views_extend c.in-Extend.extend in
-    let is : extend_extensions (texts c.deref.result.now) (extend_view c.in-Extend.extend)
+    let is : extend_extensions (name_texts c.deref.result.now) (extend_view c.in-Extend.extend)
     ≡ extensions_of scope (message_statement_view c.args.statement.now) =
-    ap (λ xs. extend_extensions (texts xs) (extend_view c.in-Extend.extend))
+    ap (λ xs. extend_extensions (name_texts xs) (extend_view c.in-Extend.extend))
     c.deref.ensures.value ∙ sym (ap (extensions_of scope) view) in
     on_ok_weaker c.add_in_extend.result
     (subst (λ (ds : List DeclaredExtension). Adds extension_entry c.args.table.now

@@ -5,14 +5,14 @@ use Rattle.protobuf_parse_syntax.specs.declared.tree.declaration.MessageStatemen
 use Rattle.protobuf_parse_syntax.specs.Trees.{message_statement_view}
 use Rattle.protobuf_parse_model.specs.Descriptors.{Text}
 use Rattle.protobuf_parse_model.specs.Declarations.{Scope, inside, generated_of}
-use Rattle.protobuf_parse_model.specs.Contexts.{texts}
+use Rattle.protobuf_parse_model.specs.Contexts.{name_texts}
 use Rattle.protobuf_parse_model.specs.Tables.{Adds, generated_entry}
 use Rattle.protobuf_parse_model.proofs.Tables.{adds_next, generated_of-view, generated-view}
 use Rattle.protobuf_parse_model.proofs.scope.generated.+generated.Goals as goal
 
 pub add_in_message-loop-statement-preserved : goal.add_in_message-loop-statement-preserved
 add_in_message-loop-statement-preserved t c =
-    let scope = inside (texts c.args.scope.now.items) (string_bytes c.args.message.now.name) in
+    let scope = inside (name_texts c.args.scope.now.items) (string_bytes c.args.message.now.name) in
     let within = c.loop-statement.invariant.within in
     let more = subst
     (λ (s : Scope). Adds generated_entry c.loop-statement.table c.add_in_body.new.table
@@ -29,7 +29,7 @@ add_in_message-loop-statement-preserved t c =
 
 pub add_in_message-returns-clause-adds : goal.add_in_message-returns-clause-adds
 add_in_message-returns-clause-adds t c =
-    let outer = texts c.args.scope.now.items in
+    let outer = name_texts c.args.scope.now.items in
     let items = take_all c.loop-statement.statement-index c.deref-statement-items.result.now
     c.loop-statement-test.false ∙ c.deref-statement-items.ensures.value in
     let is =
@@ -41,7 +41,7 @@ add_in_message-returns-clause-adds t c =
 
 pub add_in_body-returns-in-Message-clause-adds : goal.add_in_body-returns-in-Message-clause-adds
 add_in_body-returns-in-Message-clause-adds t c =
-    let scope = texts c.args.scope.now.items in
+    let scope = name_texts c.args.scope.now.items in
     let is = sym (generated_of-view scope c.in-Message.message)
     ∙ ap (λ s. generated_of scope (message_statement_view s)) (sym c.in-Message.is) in
     on_ok_weaker c.add_in_message.result

@@ -1,7 +1,7 @@
 use Rattle.std.proofs.Common.{◌∙◌, [], subst}
 use Rattle.protobuf_parse_syntax.specs.Trees.{statement_view}
 use Rattle.protobuf_parse_model.specs.Declarations.{Scope, statement_generated}
-use Rattle.protobuf_parse_model.specs.Contexts.{texts}
+use Rattle.protobuf_parse_model.specs.Contexts.{name_texts}
 use Rattle.protobuf_parse_model.specs.Tables.{Adds, generated_entry}
 use Rattle.protobuf_parse_model.proofs.Tables.{adds_next}
 use Rattle.protobuf_parse_model.proofs.scope.generated.add_generated.Goals as goal
@@ -17,7 +17,7 @@ loop-statement-preserved c =
       within = c.in_ok-add_in_file.ensures.scope ∙ within;
       adds = adds_next generated_entry c.args.table.now c.loop-statement.table
           c.add_in_file.new.table c.args.file
-          (statement_generated (texts c.args.scope.now.items)) statement_view
+          (statement_generated (name_texts c.args.scope.now.items)) statement_view
           [] c.args.statements.now c.loop-statement.statement-index c.statement-item.result
           c.loop-statement-test.true c.statement-item.is c.loop-statement.invariant.adds more;
     }

@@ -5,7 +5,7 @@ use Rattle.protobuf_parse_syntax.specs.Trees.{OneofStatementSyntax, oneof_statem
 use Rattle.protobuf_parse_model.specs.Descriptors.{Text}
 use Rattle.protobuf_parse_model.specs.Declarations.{generated_by}
 use Rattle.protobuf_parse_model.specs.Statements.{oneof_fields}
-use Rattle.protobuf_parse_model.specs.Contexts.{texts}
+use Rattle.protobuf_parse_model.specs.Contexts.{name_texts}
 use Rattle.protobuf_parse_model.specs.Tables.{Adds, generated_entry}
 use Rattle.protobuf_parse_model.proofs.Tables.{adds_next, flat_map-inside}
 use Rattle.protobuf_parse_model.proofs.scope.generated.add_in_oneof.Goals as goal
@@ -14,14 +14,14 @@ pub loop-statement-preserved : goal.loop-statement-preserved
 loop-statement-preserved c =
     adds_next generated_entry c.args.table.now c.loop-statement.table c.add_of_choice.new.table
     c.args.file
-    (λ (s : OneofStatementSyntax). flat_map (generated_by (texts c.args.scope.now))
+    (λ (s : OneofStatementSyntax). flat_map (generated_by (name_texts c.args.scope.now))
     (oneof_fields s)) oneof_statement_view [] c.deref-statement-items.result.now
     c.loop-statement.statement-index c.statement-item.result c.loop-statement-test.true
     c.statement-item.is c.loop-statement.invariant c.in_ok-add_of_choice.ensures
 
 pub returns : goal.returns
 returns c =
-    let by = generated_by (texts c.args.scope.now) in
+    let by = generated_by (name_texts c.args.scope.now) in
     let items = take_all c.loop-statement.statement-index c.deref-statement-items.result.now
     c.loop-statement-test.false ∙ c.deref-statement-items.ensures.value in
     let is =

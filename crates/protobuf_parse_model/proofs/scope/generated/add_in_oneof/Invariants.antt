@@ -2,7 +2,7 @@ use Rattle.std.proofs.Common.{map, flat_map, take}
 use Rattle.protobuf_parse_syntax.specs.Trees.{OneofStatementSyntax, oneof_statement_view}
 use Rattle.protobuf_parse_model.specs.Declarations.{generated_by}
 use Rattle.protobuf_parse_model.specs.Statements.{oneof_fields}
-use Rattle.protobuf_parse_model.specs.Contexts.{texts}
+use Rattle.protobuf_parse_model.specs.Contexts.{name_texts}
 use Rattle.protobuf_parse_model.specs.Tables.{Adds, generated_entry}
 use Rattle.protobuf_parse_model.proofs.scope.generated.add_in_oneof.Given as goal
 
@@ -10,5 +10,5 @@ abbrev pub invariant-loop-statement : goal.invariant-loop-statement
 invariant-loop-statement l =
     Adds generated_entry l.fn.table l.table l.file
     (flat_map
-    (λ (s : OneofStatementSyntax). flat_map (generated_by (texts l.scope)) (oneof_fields s))
+    (λ (s : OneofStatementSyntax). flat_map (generated_by (name_texts l.scope)) (oneof_fields s))
     (map oneof_statement_view (take l.statement-index l.statement-items)))

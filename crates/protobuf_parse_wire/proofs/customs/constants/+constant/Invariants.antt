@@ -3,13 +3,13 @@ use Rattle.protobuf_parse_syntax.specs.Trees.{constant_field_view, constant_view
 use Rattle.protobuf_parse_model.specs.Descriptors.{field_view}
 use Rattle.protobuf_parse_wire.specs.CustomFaults.{value_faults}
 use Rattle.protobuf_parse_wire.specs.CustomOptions.{value_items}
-use Rattle.protobuf_parse_wire.specs.Given.{field_faults_of, field_items_of, place_view}
+use Rattle.protobuf_parse_wire.specs.Given.{field_faults_of, given_field_items, option_place_view}
 use Rattle.protobuf_parse_wire.specs.Views.{entry_view}
 use Rattle.protobuf_parse_wire.proofs.customs.constants.+constant.Given as goal
 
 abbrev pub invariant-push_list-items : goal.invariant-push_list-items
 invariant-push_list-items l =
-    let s = place_view l.at in
+    let s = option_place_view l.at in
     let cs = map constant_view (take l.item-index l.items) in
     record {
       no_fault : flat_map (value_faults s l.option (field_view l.field)) cs ≡ [];
@@ -19,10 +19,10 @@ invariant-push_list-items l =
 
 abbrev pub invariant-push_fields-fields : goal.invariant-push_fields-fields
 invariant-push_fields-fields l =
-    let s = place_view l.at in
+    let s = option_place_view l.at in
     let fs = map constant_field_view (take l.field-index l.fields) in
     record {
       no_fault : flat_map (field_faults_of s l.option l.message) fs ≡ [];
       all : map entry_view l.entries.items ≡ map entry_view l.fn.entries.items ++ flat_map
-          (field_items_of s l.message) fs;
+          (given_field_items s l.message) fs;
     }

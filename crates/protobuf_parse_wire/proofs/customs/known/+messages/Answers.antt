@@ -4,7 +4,7 @@ use Rattle.std.proofs.lemmas.List.{map-append}
 use Rattle.std.proofs.lemmas.Result.{on_ok_weaker}
 use Rattle.protobuf_parse_model.specs.declared.descriptor.DescriptorProto.{DescriptorProto}
 use Rattle.protobuf_parse_model.specs.Descriptors.{Text, MessageDescriptor, message_view}
-use Rattle.protobuf_parse_wire.specs.Declarations.{within}
+use Rattle.protobuf_parse_wire.specs.Declarations.{name_within}
 use Rattle.protobuf_parse_wire.specs.Holding.{message_seen, messages_placed, placed_known}
 use Rattle.protobuf_parse_wire.specs.Places.{Placed, placed_list}
 use Rattle.protobuf_parse_wire.proofs.Placing.{message_listed}
@@ -28,7 +28,7 @@ add_message-returns t c =
     ∙ map-append (placed_known message_seen) c.args.list.now.items _
     ∙ ap (λ (n : Text). old ++ head n c.in_ok-copied.field-0.items index m) cloned
     ∙ ap (λ (p : List ℕ). old ++ head name p index m) copied in
-    let named = c.in_ok-name.ensures ∙ ap (within scope) c.deref.ensures in
+    let named = c.in_ok-name.ensures ∙ ap (name_within scope) c.deref.ensures in
     let inner = c.deref-3.ensures.value ∙ c.in_ok-inner.ensures in
     on_ok_weaker c.add_messages.result
     (λ nested. message_listed scope name path index m old

@@ -1,7 +1,7 @@
 use Rattle.std.proofs.Common.{◌≡◌, ◌≤◌, flat_map, length, take}
 use Rattle.protobuf_parse_base.specs.Names.{fronts}
 use Rattle.protobuf_parse_model.specs.Lookup.{declared, declared_in_first, meaning}
-use Rattle.protobuf_parse_model.specs.Contexts.{texts}
+use Rattle.protobuf_parse_model.specs.Contexts.{name_texts}
 use Rattle.protobuf_parse_wire.specs.Declarations.{declared_extensions}
 use Rattle.protobuf_parse_wire.specs.Holding.{files_seen}
 use Rattle.protobuf_parse_wire.proofs.customs.lookup.extension_meant.Given as goal
@@ -11,8 +11,8 @@ invariant-scopes l =
     let es = flat_map declared_extensions (files_seen l.known.sight) in
     record {
       bound : l.length ≤ length l.scope;
-      none_longer : meaning es (texts l.scope) l.name ≡ declared_in_first (declared es) l.name
-          (fronts (texts (take l.length l.scope)));
+      none_longer : meaning es (name_texts l.scope) l.name ≡ declared_in_first (declared es) l.name
+          (fronts (name_texts (take l.length l.scope)));
     }
 
 abbrev pub decreases-scopes : goal.decreases-scopes

@@ -4,15 +4,15 @@ use Rattle.std.proofs.Common.{append-nil, take, get_or}
 use Rattle.std.proofs.lemmas.List.{map_more}
 use Rattle.protobuf_parse_base.specs.Names.{absolute_text}
 use Rattle.protobuf_parse_base.proofs.NameTexts.{absolute_text-append}
-use Rattle.protobuf_parse_model.specs.Contexts.{texts}
+use Rattle.protobuf_parse_model.specs.Contexts.{name_texts}
 use Rattle.protobuf_parse_wire.proofs.customs.lookup.full_name.Goals as goal
 
 pub scope-preserved : goal.scope-preserved
 unfolding lib.Utf8.encode
 scope-preserved c =
     let d = get_or c.args.scope.now c.scope.outer-index (record { ref_ptr = (0, 0); now = [] }) in
-    let before = texts (take c.scope.outer-index c.args.scope.now) in
-    let more : texts (take (c.scope.outer-index + 1) c.args.scope.now) ≡ before
+    let before = name_texts (take c.scope.outer-index c.args.scope.now) in
+    let more : name_texts (take (c.scope.outer-index + 1) c.args.scope.now) ≡ before
     ++ d.now ∷ [] = map_more (λ
     (s : Bor (List ℕ)). s.now) c.args.scope.now c.scope.outer-index _ c.scope-test.true in
     let old = c.in_ok-push.ensures.bytes ∙ ap (λ z. z ++ 46 ∷ []) c.scope.invariant in

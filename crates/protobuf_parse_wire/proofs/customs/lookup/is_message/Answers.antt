@@ -1,6 +1,6 @@
 use Rattle.std.proofs.Common.{◌∙◌, ap, flat_map, is_some, map, sym}
 use Rattle.protobuf_parse_wire.specs.ByName.{first}
-use Rattle.protobuf_parse_wire.specs.Declarations.{declared_in}
+use Rattle.protobuf_parse_wire.specs.Declarations.{messages_declared_in}
 use Rattle.protobuf_parse_wire.specs.Holding.{at_spots, files_seen, message_seen, spot_view}
 use Rattle.protobuf_parse_wire.specs.Indexed.{parts_seen}
 use Rattle.protobuf_parse_wire.specs.Places.{messages_inside}
@@ -19,4 +19,4 @@ returns c =
     ∙ sym (first_mapped parts_seen (at_spots messages_inside reach
     (map spot_view c.group.result.now)))
     ∙ ap (λ ps. is_some (first ps)) all
-    ∙ sym (any_named name (flat_map declared_in (files_seen reach)))
+    ∙ sym (any_named name (flat_map messages_declared_in (files_seen reach)))

@@ -1,5 +1,5 @@
 use Rattle.std.proofs.Common.{◌≡◌, drop, map}
-use Rattle.protobuf_parse_wire.specs.ByName.{fields_in}
+use Rattle.protobuf_parse_wire.specs.ByName.{fields_of_all}
 use Rattle.protobuf_parse_wire.specs.Holding.{at_spots, spot_view}
 use Rattle.protobuf_parse_wire.specs.Indexed.{parts_seen}
 use Rattle.protobuf_parse_wire.specs.Known.{field_among}
@@ -8,6 +8,6 @@ use Rattle.protobuf_parse_wire.proofs.customs.spots.field_of.Given as goal
 
 abbrev pub invariant-places : goal.invariant-places
 invariant-places l =
-    field_among (fields_in (map parts_seen (at_spots messages_inside l.picked
-    (map spot_view l.places)))) l.name ≡ field_among (fields_in (map parts_seen
+    field_among (fields_of_all (map parts_seen (at_spots messages_inside l.picked
+    (map spot_view l.places)))) l.name ≡ field_among (fields_of_all (map parts_seen
     (at_spots messages_inside l.picked (map spot_view (drop l.place-index l.places))))) l.name

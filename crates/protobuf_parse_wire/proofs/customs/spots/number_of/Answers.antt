@@ -1,7 +1,7 @@
 use Rattle.std.proofs.Common.{◌∙◌, ◌+◌, ap, drop, map, sym}
 use Rattle.std.specs.Prelude.{option_to_list}
 use Rattle.std.specs.Option.{option_or}
-use Rattle.protobuf_parse_wire.specs.ByName.{values_in}
+use Rattle.protobuf_parse_wire.specs.ByName.{values_of_all}
 use Rattle.protobuf_parse_wire.specs.Holding.{at_spot, at_spots, spot_view}
 use Rattle.protobuf_parse_wire.specs.Known.{number_among}
 use Rattle.protobuf_parse_wire.specs.Places.{enums_inside}
@@ -18,8 +18,8 @@ returns-then-is_some c =
     let i = c.places.place-index in
     let o = c.number_at-number.result in
     let later = at_spots enums_inside picked (map spot_view (drop (i + 1) xs)) in
-    let rest = number_among (values_in later) name in
-    let step = ap (λ es. number_among (values_in es) name) (opened enums_inside picked xs i
+    let rest = number_among (values_of_all later) name in
+    let step = ap (λ es. number_among (values_of_all es) name) (opened enums_inside picked xs i
     c.place-item.result c.places-test.true c.place-item.is)
     ∙ values_more name
     (option_to_list (at_spot enums_inside picked (spot_view c.place-item.result))) later in
@@ -35,8 +35,8 @@ places-preserved c =
     let i = c.places.place-index in
     let o = c.number_at-number.result in
     let later = at_spots enums_inside picked (map spot_view (drop (i + 1) xs)) in
-    let rest = number_among (values_in later) name in
-    let step = ap (λ es. number_among (values_in es) name) (opened enums_inside picked xs i
+    let rest = number_among (values_of_all later) name in
+    let step = ap (λ es. number_among (values_of_all es) name) (opened enums_inside picked xs i
     c.place-item.result c.places-test.true c.place-item.is)
     ∙ values_more name
     (option_to_list (at_spot enums_inside picked (spot_view c.place-item.result))) later in

@@ -1,7 +1,7 @@
 use Rattle.std.proofs.Common.{◌∙◌, ap, subst, sym}
 use Rattle.protobuf_parse_model.specs.OptionViews.{options_seen}
 use Rattle.protobuf_parse_wire.specs.Encoded.{encoded}
-use Rattle.protobuf_parse_wire.specs.Given.{place_view}
+use Rattle.protobuf_parse_wire.specs.Given.{option_place_view}
 use Rattle.protobuf_parse_wire.specs.Writing.{AreWritable}
 use Rattle.protobuf_parse_wire.proofs.Stated.{denoted}
 use Rattle.protobuf_parse_wire.proofs.Writable.{denotes_writable}
@@ -9,7 +9,7 @@ use Rattle.protobuf_parse_wire.proofs.customs.statements.bytes_of.Goals as goal
 
 pub encode-requires : goal.encode-requires
 encode-requires c =
-    let s = place_view c.args.at.now in
+    let s = option_place_view c.args.at.now in
     let os = options_seen c.args.options.now in
     let is = denoted s c.args.construct os c.new-entries.result.items
     c.push_options.new.entries.items c.deref.result.now c.new-entries.ensures.items
@@ -20,7 +20,7 @@ encode-requires c =
 
 pub returns : goal.returns
 returns c =
-    let s = place_view c.args.at.now in
+    let s = option_place_view c.args.at.now in
     let os = options_seen c.args.options.now in
     let is = denoted s c.args.construct os c.new-entries.result.items
     c.push_options.new.entries.items c.deref.result.now c.new-entries.ensures.items

@@ -1,13 +1,13 @@
 use Rattle.std.proofs.Common.{map, ◌∙◌, arith}
 use Rattle.protobuf_parse_syntax.specs.Trees.{constant_view}
-use Rattle.protobuf_parse_wire.specs.Given.{place_view}
+use Rattle.protobuf_parse_wire.specs.Given.{option_place_view}
 use Rattle.protobuf_parse_wire.specs.Views.{entry_view}
 use Rattle.protobuf_parse_wire.proofs.Stated.{extension_given, plain_blamed}
 use Rattle.protobuf_parse_wire.proofs.customs.statements.push_custom.Goals as goal
 
 pub returns-in-Direct : goal.returns-in-Direct
 returns-in-Direct c =
-    plain_blamed c.plain_first.result (place_view c.args.at.now) c.args.construct
+    plain_blamed c.plain_first.result (option_place_view c.args.at.now) c.args.construct
     (constant_view c.args.value.now) c.args.parts.now c.first-item.result c.in-Direct.name
     c.deref.result.now (omega arith) c.first-item.is c.in-Direct.is c.deref.ensures
     c.plain_first.ensures
@@ -15,7 +15,8 @@ returns-in-Direct c =
 pub returns-in_ok-option-in-Ext : goal.returns-in_ok-option-in-Ext
 returns-in_ok-option-in-Ext c =
     extension_given (λ u. map entry_view c.push_path.new.entries.items) c.push_path.result
-    (place_view c.args.at.now) c.args.construct (constant_view c.args.value.now) c.args.parts.now
+    (option_place_view c.args.at.now) c.args.construct
+    (constant_view c.args.value.now) c.args.parts.now
     c.first-item.result c.in-Ext.field-0 c.deref-in-Ext.result.now
     c.options_message-message.result.now (map entry_view c.args.entries.now.items) (omega arith)
     c.first-item.is c.in-Ext.is (c.deref-in-Ext.ensures ∙ c.in_ok-option-in-Ext.ensures)

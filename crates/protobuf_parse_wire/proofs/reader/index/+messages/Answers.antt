@@ -10,7 +10,7 @@ use Rattle.protobuf_parse_model.specs.declared.descriptor.DescriptorProto.{out-D
 use Rattle.protobuf_parse_model.specs.declared.descriptor.FieldDescriptorProto.{FieldDescriptorProto}
 use Rattle.protobuf_parse_model.specs.Descriptors.{Text, field_view, message_view}
 use Rattle.protobuf_parse_wire.specs.Declarations.{Declaration, declared_message}
-use Rattle.protobuf_parse_wire.specs.Indexed.{Adds, AddsMessages}
+use Rattle.protobuf_parse_wire.specs.Indexed.{IndexAdds, AddsMessages}
 use Rattle.protobuf_parse_wire.proofs.Adding.{adds_none, adds_messages_more, joined_one_more}
 use Rattle.protobuf_parse_wire.proofs.Adding.{mapped_all, message_added}
 use Rattle.protobuf_parse_wire.proofs.reader.index.+messages.Goals as goal
@@ -25,9 +25,9 @@ add_message-returns t c =
     let put : (q : Text) → group a.messages q
     ≡ cond (bytes_eq q name) (group c.args.index.now.messages q ++ c.args.message ∷ [])
     (group c.args.index.now.messages q) = λ q. rw (← cloned) (c.in_ok-put.ensures q) in
-    let own : Adds a b []
+    let own : IndexAdds a b []
     (map field_view (out-DescriptorProto c.args.message.now).extension.items) =
-    subst (λ (es : List FieldDescriptorProto). Adds a b [] (map field_view es))
+    subst (λ (es : List FieldDescriptorProto). IndexAdds a b [] (map field_view es))
     c.deref.ensures.value c.in_ok-add_extensions.ensures in
     on_ok_weaker c.add_messages.result
     (λ nested.

@@ -1,6 +1,6 @@
 use Rattle.std.proofs.Common.{◌≡◌, Some, sym, subst, ◌∙◌, ◌++◌, map}
 use Rattle.protobuf_parse_model.specs.Descriptors.{field_view}
-use Rattle.protobuf_parse_wire.specs.Reading.{Gives, Numbers, Read, by_number}
+use Rattle.protobuf_parse_wire.specs.Reading.{ReaderGives, FieldsByNumber, WireRead, by_number}
 use Rattle.protobuf_parse_wire.specs.Indexed.{entered_by, numbered}
 use Rattle.protobuf_parse_wire.proofs.Distinct.{seen, entered_one, one_element}
 use Rattle.protobuf_parse_wire.proofs.reader.numbers.numbers_of.Goals as goal
@@ -15,5 +15,5 @@ returns-in-len1 c =
     entered_one index c.args.name.now c.message-item.result c.deref.result.now
     c.group-in-len1.result.now (sym c.group.ensures ∙ alone) c.deref.ensures.value
     c.group-in-len1.ensures in
-    subst (λ (read : Read Numbers). Gives numbered c.by_number.result read)
+    subst (λ (read : WireRead FieldsByNumber). ReaderGives numbered c.by_number.result read)
     (sym by_index) c.by_number.ensures

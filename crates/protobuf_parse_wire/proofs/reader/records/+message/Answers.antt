@@ -3,7 +3,7 @@ use Rattle.std.proofs.lemmas.Result.{err_from_is_err_and}
 use Rattle.std.proofs.lemmas.List.{map_push}
 use Rattle.std.proofs.lemmas.Grind.{common_steps}
 use Rattle.std.specs.Option.{option_copied}
-use Rattle.protobuf_parse_wire.specs.Reading.{Read, Gives, message_at}
+use Rattle.protobuf_parse_wire.specs.Reading.{WireRead, ReaderGives, message_at}
 use Rattle.protobuf_parse_wire.specs.Views.{read_field_view, read_value_view}
 use Rattle.protobuf_parse_wire.specs.Trees.{Field, ValueTree}
 use Rattle.protobuf_parse_model.specs.Descriptors.{field_view}
@@ -60,7 +60,7 @@ message_of-returns-clause-gives t c =
     let e = one_level (entered_by c.args.index.now) c.args.levels
     (option_copied c.args.name) c.args.bytes.now
     (numbered c.deref.result.now) c.if-levels-eq0.false made in
-    subst (λ (read : Read (List Field)). Gives
+    subst (λ (read : WireRead (List Field)). ReaderGives
     (λ v. map read_field_view v.items) c.records_of.result read) (sym e)
     c.records_of.ensures.gives
 
@@ -71,6 +71,6 @@ value_of-returns-clause-gives t c =
     (field_view c.in-Some.field.now) c.in-Some-of.kind c.args.wire_type c.args.bytes.now
     (sym c.in-Some.ensures.found) (sym c.in-Some-of.ensures)
     (sym c.wire_type_of.ensures ∙ c.if-wire_type_of-wire_type.false) in
-    subst (λ (read : Read (ValueTree × List ℕ)). Gives
+    subst (λ (read : WireRead (ValueTree × List ℕ)). ReaderGives
     (λ x. (read_value_view x.0, x.1.now)) c.payload_of.result read) (sym e) (rw
     (← c.type_name_of.ensures) c.payload_of.ensures.gives)
