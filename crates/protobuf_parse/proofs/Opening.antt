@@ -49,13 +49,6 @@ tree_of_no_text bytes bad = (λ utf8 u h. bad utf8, the_none)
     the_none (Some u) h = absurd (bad h.0)
     the_none None h = refl
 
-pub tree_of_nothing : IsTheTree None None
-tree_of_nothing = (tt, the_none)
-  where
-    the_none : (u : Option FileSyntax) → IsTree None u → u ≡ None
-    the_none (Some u) h = absurd h
-    the_none None h = refl
-
 pub content_stands : (f : RunFault) (asked : Asked) (p origin bytes : List ℕ)
     (answer : Option ReadOutcome) → origin ≡ origin_given p answer → IsContentFault p origin bytes f
     → StandsInLoad asked p answer (Some bytes) f

@@ -81,16 +81,6 @@ file-none p (x ∷ loaded) h =
       | inr w ↦ let z : file_at p loaded ≡ None = (rw w at h) in rw w (file-none p loaded z)
     ]
 
-pub none-file : (p : Text) (loaded : List LoadedEntry) → among p (paths_of loaded) ≡ false
-    → file_at p loaded ≡ None
-none-file p [] h = refl
-none-file p (x ∷ loaded) h =
-    elim (bool_cases (bytes_eq p (string_bytes x.0))) [
-      | inl w ↦ absurd (let z : true ≡ false = (rw w at h) in cc)
-      | inr w ↦ let z : among p (paths_of loaded) ≡ false = (rw w at h) in
-          rw w (none-file p loaded z)
-    ]
-
 pub entry-in : (q : Text) (n : LoadedEntry) (e : LoadedFile) (loaded : List LoadedEntry)
     → file_at q (loaded ++ n ∷ []) ≡ Some e
     → (file_at q loaded ≡ Some e) ⊎ ((q ≡ string_bytes n.0) × (n.1 ≡ e))
