@@ -12,7 +12,7 @@ use Rattle.protobuf_parse_base.specs.declared.proto_path.error.PathError.TheVari
 use Rattle.protobuf_parse_model.specs.Descriptors.{Text}
 use Rattle.protobuf_parse.specs.declared.run.fault.RunFault.{RunFault}
 use Rattle.protobuf_parse.specs.declared.run.fault.RunFault.TheVariants as fault
-use Rattle.protobuf_parse.specs.Loading.{OrMemory}
+use Rattle.protobuf_parse.specs.Run.{OrMemory}
 use Rattle.protobuf_parse.proofs.Keeping.{bool_cases}
 use Rattle.protobuf_parse.specs.Includes.{AreNamed, unnamed, named_as, IsMisnamed}
 use Rattle.protobuf_parse.specs.Includes.{StandsAtFirst, StandsAtInput, is_unnamed}

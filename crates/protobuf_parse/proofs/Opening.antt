@@ -11,7 +11,8 @@ use Rattle.protobuf_parse.specs.declared.run.fault.RunFault.TheVariants as fault
 use Rattle.protobuf_parse.specs.declared.run.log.ReadOutcome.{ReadOutcome}
 use Rattle.protobuf_parse.specs.Walks.{Asked}
 use Rattle.protobuf_parse.specs.Run.{IsTree, IsTheTree, StandsInLoad, origin_given}
-use Rattle.protobuf_parse.specs.Loading.{OrMemory, IsContentFault}
+use Rattle.protobuf_parse.specs.Loading.{IsContentFault}
+use Rattle.protobuf_parse.specs.Run.{OrMemory}
 
 the_one : (text : List ℕ) (t : FileSyntax) → IsUtf8 text → HasTree text t
     → ((u : FileSyntax) → HasTree text u → u ≡ t) → (u : Option FileSyntax) → IsTree (Some text) u

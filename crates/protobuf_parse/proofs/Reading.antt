@@ -16,7 +16,8 @@ use Rattle.protobuf_parse.specs.declared.run.log.ReadOutcome.TheVariants as outc
 use Rattle.protobuf_parse.specs.Walks.{Asked}
 use Rattle.protobuf_parse.specs.Run.{IsTheTree, StandsInLoad}
 use Rattle.protobuf_parse.specs.Run.{text_given}
-use Rattle.protobuf_parse.specs.Loading.{Legal, OrMemory, ReadsTree}
+use Rattle.protobuf_parse.specs.Loading.{Legal, ReadsTree}
+use Rattle.protobuf_parse.specs.Run.{OrMemory}
 
 abbrev pub Noted : Text → ReadOutcome → List ReadEntry → List ReadEntry → Type 0
 Noted p o old new = (e : ReadEntry) × (new ≡ old ++ e ∷ []) × (path_buf_text e.path ≡ p)

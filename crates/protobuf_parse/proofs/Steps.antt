@@ -22,7 +22,8 @@ use Rattle.protobuf_parse.specs.Run.{Files, HasTrees, faults_in, IsTree, IsTheTr
 use Rattle.protobuf_parse.specs.Run.{first_read, fails, AreAnswered, StandsAtEvent}
 use Rattle.protobuf_parse.specs.Loading.{Legal, LoadedEntry, paths_of, file_at, read_paths, Grows}
 use Rattle.protobuf_parse.specs.Loading.{Settled, path_shape, imports_shape, IsLoaded, Good, Halts}
-use Rattle.protobuf_parse.specs.Loading.{Stops, OrMemory}
+use Rattle.protobuf_parse.specs.Loading.{Stops}
+use Rattle.protobuf_parse.specs.Run.{OrMemory}
 use Rattle.protobuf_parse.proofs.Keeping.{never_both, false_true, some_same, none_some, text-true}
 use Rattle.protobuf_parse.proofs.Keeping.{text-same, cycle-same, long-same, or_left, bool_cases}
 use Rattle.protobuf_parse.proofs.Keeping.{not_true, has-append, has-in, has-left, has-right}

@@ -21,8 +21,8 @@ pub enum ReadValue {
 }
 
 // Written out: a crate above calls these, and need not prove anew how values are dropped.
-#[cycle(field)]
 impl Drop for ReadField {
+    #[cycle(field)]
     fn drop(self) {
         let ReadField {
             number: _,
@@ -31,8 +31,8 @@ impl Drop for ReadField {
     }
 }
 
-#[cycle(field)]
 impl Drop for ReadValue {
+    #[cycle(field)]
     fn drop(self) {
         match self {
             ReadValue::Number(_) | ReadValue::Bool(_) => {}
