@@ -1,7 +1,7 @@
 -- What a file becomes over numbered files is what it becomes over the files that it reaches and
 -- sees, however these are listed.
-use Rattle.std.proofs.Common.{◌≡◌, ◌⊎◌, ℕ, zero, suc, ◌+◌, ◌<◌, ◌≤◌, Bool, true, false, ◌||◌, inl}
-use Rattle.std.proofs.Common.{inr, List, [], ◌∷◌, ◌++◌, flat_map, map, length, get_or, Option, Some}
+use Rattle.std.proofs.Common.{◌≡◌, ◌⊎◌, ℕ, zero, suc, ◌+◌, ◌≤◌, Bool, true, false, ◌||◌, inl}
+use Rattle.std.proofs.Common.{inr, List, [], ◌∷◌, ◌++◌, flat_map, map, Option, Some}
 use Rattle.std.proofs.Common.{None, option_map, refl, sym, ◌∙◌, ap, subst, arith, Result, Ok, Err}
 use Rattle.std.proofs.Common.{append_assoc, Contains}
 use Rattle.std.specs.Prelude.{bytes_eq, slice_get, option_to_list, string_bytes}
@@ -15,7 +15,7 @@ use Rattle.protobuf_parse_syntax.specs.Trees.{FileSyntax, file_view}
 use Rattle.protobuf_parse_model.specs.Descriptors.{Text, FileDescriptor}
 use Rattle.protobuf_parse_model.specs.Declarations.{DeclaredType, file_scope}
 use Rattle.protobuf_parse_model.specs.Environment.{Customs, Environment, no_customs}
-use Rattle.protobuf_parse_model.specs.Faults.{Among, here, there, fault_view}
+use Rattle.protobuf_parse_model.specs.Faults.{Among, there, fault_view}
 use Rattle.protobuf_parse_model.specs.Faults as elaborating
 use Rattle.protobuf_parse_model.specs.FileDescriptor.{environment, file_faults, file_of}
 use Rattle.protobuf_parse_model.specs.FilesByPath.{AreDistinct, AreJust, leads, stays, trees_at}
@@ -24,6 +24,7 @@ use Rattle.protobuf_parse_model.specs.Tables.{picked}
 use Rattle.protobuf_parse.specs.declared.run.tables.Tables.{Tables}
 use Rattle.protobuf_parse_model.proofs.Orders.{SameMembers, just-same, link-none, link-told}
 use Rattle.protobuf_parse_model.proofs.Orders.{types-same}
+use Rattle.protobuf_parse_model.proofs.Picks.{Rises, rises}
 use Rattle.protobuf_parse_wire.specs.OptionBytes.{known_customs}
 use Rattle.protobuf_parse.specs.Walks.{Trees, Reaches, HandsOn, Sees, sees_itself, by_import, among}
 use Rattle.protobuf_parse.specs.Walks.{import_paths}
@@ -32,7 +33,7 @@ use Rattle.protobuf_parse.specs.Run.{environment_of}
 use Rattle.protobuf_parse.specs.Run.{faults_in, origin_given, plain_of, plains_at}
 use Rattle.protobuf_parse.specs.Loading.{Agrees, AreJoined, AreKnown, FilesAreNumbered}
 use Rattle.protobuf_parse.specs.Loading.{AreNumbersOf}
-use Rattle.protobuf_parse.specs.Loading.{LoadedEntry, IsAddedOver, IsLoaded, IsNumbered, Named}
+use Rattle.protobuf_parse.specs.Loading.{LoadedEntry, IsLoaded, IsNumbered, Named}
 use Rattle.protobuf_parse.specs.Loading.{Settles}
 use Rattle.protobuf_parse.specs.Loading.{SettlesOver, customs_over, faults_over, file_at, file_over}
 use Rattle.protobuf_parse.specs.Loading.{named_trees, paths_in, picked_plains, plain_in, plain_over}
@@ -211,25 +212,6 @@ one-number (f ∷ files) zero zero p d i j = refl
 one-number (f ∷ files) (suc n) (suc m) p d i j = ap suc (one-number files n m p d.1 i j)
 one-number (f ∷ files) zero (suc m) p d i j = absurd (first-apart f files m p d.0 i j)
 one-number (f ∷ files) (suc n) zero p d i j = absurd (first-apart f files n p d.0 j i)
-
--- the numbers rise, from n on
-abbrev Rises : ℕ → List ℕ → Type 0
-Rises n [] = Unit {0}
-Rises n (r ∷ rs) = (n ≤ r) × Rises (suc r) rs
-
-rises : (n : ℕ) (rs : List ℕ) → IsStrictlyIncreasing rs → (0 < length rs → n ≤ get_or rs 0 0)
-    → Rises n rs
-rises n [] up low = tt
-rises n (r ∷ rs) up low = (low (omega arith), rises (suc r) rs later next)
-  where
-    later : IsStrictlyIncreasing rs
-    later k lt =
-        let e : suc k + 1 ≡ suc (k + 1) = omega arith in
-        let g = up (suc k) (omega (arith, lt)) in
-        subst (λ (j : ℕ). get_or rs k 0 < get_or (r ∷ rs) j 0) e g
-
-    next : 0 < length rs → suc r ≤ get_or rs 0 0
-    next some = omega (arith, up 0 (omega (arith, some)))
 
 above : (n : ℕ) (rs : List ℕ) (m : ℕ) → Rises n rs → Contains rs m → n ≤ m
 above n [] m h c = absurd (none-in m c)

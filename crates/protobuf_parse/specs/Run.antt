@@ -13,15 +13,16 @@ use Rattle.protobuf_parse_syntax.specs.Trees.{FileSyntax}
 use Rattle.protobuf_parse_syntax.specs.declared.error.ParserErrorWithLocation.{ParserErrorWithLocation}
 use Rattle.protobuf_parse_model.specs.Descriptors as described
 use Rattle.protobuf_parse_model.specs.Descriptors.{Text, FileDescriptor}
-use Rattle.protobuf_parse_model.specs.Environment.{Customs, Environment, no_customs}
+use Rattle.protobuf_parse_model.specs.Environment.{Customs, Environment}
 use Rattle.protobuf_parse_model.specs.FileDescriptor.{environment, file_of}
 use Rattle.protobuf_parse_model.specs.FilesByPath.{AreDistinct, AreJust, trees_at}
 use Rattle.protobuf_parse_model.specs.Faults as elaborating
 use Rattle.protobuf_parse_model.specs.Faults.{Among, fault_view}
 use Rattle.protobuf_parse_model.specs.declared.descriptor.FileDescriptorProto.{FileDescriptorProto}
 use Rattle.protobuf_parse_wire.specs.CustomFaults.{elaboration_faults}
-use Rattle.protobuf_parse_wire.specs.DescriptorsByPath.{Environments, described_at, descriptors_at}
+use Rattle.protobuf_parse_wire.specs.DescriptorsByPath.{Environments, described_at}
 use Rattle.protobuf_parse_wire.specs.OptionBytes.{known_customs}
+use Rattle.protobuf_parse_wire.specs.Recovery.{plainly, plain_at}
 use Rattle.protobuf_parse.specs.declared.bundled.TheConstants.{BUNDLED_FILES}
 use Rattle.protobuf_parse.specs.declared.run.fault.RunFault.{RunFault}
 use Rattle.protobuf_parse.specs.declared.run.fault.RunFault.TheVariants as fault
@@ -144,7 +145,7 @@ are_same_bytes _ _ = false
 
 -- from where each file is seen, its custom options left out
 abbrev pub plain_environments : Files → Environments
-plain_environments files = λ p t. environment (trees_at files.trees (files.seen p)) no_customs t
+plain_environments files = plainly files.trees files.seen
 
 -- The descriptor of the file of this path and tree without its custom options.
 abbrev pub plain_of : Files → Text → FileSyntax → FileDescriptor
@@ -152,7 +153,7 @@ plain_of files p t = described_at (plain_environments files) p t
 
 -- those of the files that have a tree: what names in custom options mean is looked up in these
 abbrev pub plains_at : Files → List Text → List FileDescriptor
-plains_at files ps = descriptors_at files.trees (plain_environments files) ps
+plains_at files ps = plain_at files.trees files.seen ps
 
 -- what the custom options of a file become
 abbrev pub customs_of : Files → Text → Customs

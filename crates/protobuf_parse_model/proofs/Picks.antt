@@ -1,4 +1,5 @@
--- Files by ascending numbers, as the files one after another of which a number is among them.
+-- The members of a list by ascending numbers, as those one after another whose number is among
+-- these.
 use Rattle.std.proofs.Common.{◌≡◌, ℕ, suc, List, [], ◌∷◌, ◌++◌, true, false, if◌then◌else◌, None}
 use Rattle.std.proofs.Common.{Some, refl, sym, ap, ◌∙◌, ◌+◌, ◌-◌, ◌<◌, ◌≤◌, ◌||◌, length, get_or}
 use Rattle.std.proofs.Common.{subst, arith, inl, inr, nat_eq, slice_get, zero-add}
@@ -6,15 +7,14 @@ use Rattle.std.specs.Prelude.{option_to_list}
 use Rattle.std.specs.List.{list_any}
 use Rattle.std.specs.List.Sorted.{IsStrictlyIncreasing}
 use Rattle.std.proofs.lemmas.Bool.{cases_eq, eq-eqb, ne_eqb}
-use Rattle.protobuf_parse_syntax.specs.Trees.{FileSyntax}
 use Rattle.protobuf_parse_model.specs.Tables.{picked}
 
 -- the numbers rise, from n on
-abbrev Rises : ℕ → List ℕ → Type 0
+abbrev pub Rises : ℕ → List ℕ → Type 0
 Rises n [] = Unit {0}
 Rises n (r ∷ rs) = (n ≤ r) × Rises (suc r) rs
 
-rises : (n : ℕ) (rs : List ℕ) → IsStrictlyIncreasing rs → (0 < length rs → n ≤ get_or rs 0 0)
+pub rises : (n : ℕ) (rs : List ℕ) → IsStrictlyIncreasing rs → (0 < length rs → n ≤ get_or rs 0 0)
     → Rises n rs
 rises n [] up low = tt
 rises n (r ∷ rs) up low = (low (omega arith), rises (suc r) rs later next)
@@ -39,33 +39,33 @@ absent n (r ∷ rs) h =
     lower m k [] le g = tt
     lower m k (x ∷ xs) le g = (omega (arith, g.0), g.1)
 
-none_picked : (files : List FileSyntax) (n : ℕ) (rs : List ℕ)
+none_picked : {T : Type 0} (files : List T) (n : ℕ) (rs : List ℕ)
     → ((k : ℕ) → n ≤ k → slice_get files k ≡ None) → Rises n rs → picked files rs ≡ []
 none_picked files n [] none h = refl
 none_picked files n (r ∷ rs) none h =
     ap (λ o. option_to_list o ++ picked files rs) (none r h.0)
     ∙ none_picked files (suc r) rs (λ k le. none k (omega (arith, h.0))) h.1
 
--- the files, of which the first has the number n, whose number is among these
-abbrev pub among : List ℕ → ℕ → List FileSyntax → List FileSyntax
+-- those of the list, of which the first has the number n, whose number is among these
+abbrev pub among : {T : Type 0} → List ℕ → ℕ → List T → List T
 among numbers n [] = []
 among numbers n (t ∷ ts) = (if list_any (nat_eq n) numbers then t ∷ [] else [])
     ++ among numbers (suc n) ts
 
-module _ (files : List FileSyntax) (numbers : List ℕ) where
+module _ {T : Type 0} (files : List T) (numbers : List ℕ) where
   -- the files from the number n on, and those of the numbers that are n or more
-  record Rest (ts : List FileSyntax) (n : ℕ) (rs : List ℕ) : Type 0 where
+  record Rest (ts : List T) (n : ℕ) (rs : List ℕ) : Type 0 where
     stand : (i : ℕ) → slice_get files (n + i) ≡ slice_get ts i
     same : (k : ℕ) → n ≤ k → list_any (nat_eq k) numbers ≡ list_any (nat_eq k) rs
     rise : Rises n rs
 
-  stand-next : (t : FileSyntax) (ts : List FileSyntax) (n : ℕ)
+  stand-next : (t : T) (ts : List T) (n : ℕ)
       → ((i : ℕ) → slice_get files (n + i) ≡ slice_get (t ∷ ts) i) → (i : ℕ)
       → slice_get files (suc n + i) ≡ slice_get ts i
   stand-next t ts n stand i = let e : suc n + i ≡ n + suc i = omega arith in ap (slice_get files) e
       ∙ stand (suc i)
 
-  skip : (t : FileSyntax) (ts : List FileSyntax) (n : ℕ) (rs : List ℕ) → Rest (t ∷ ts) n rs
+  skip : (t : T) (ts : List T) (n : ℕ) (rs : List ℕ) → Rest (t ∷ ts) n rs
       → Rises (suc n) rs → Rest ts (suc n) rs
   skip t ts n rs h rise =
       record {
@@ -75,7 +75,7 @@ module _ (files : List FileSyntax) (numbers : List ℕ) where
             rise;
       }
 
-  keep : (t : FileSyntax) (ts : List FileSyntax) (n r : ℕ) (rs : List ℕ) → Rest (t ∷ ts) n (r ∷ rs)
+  keep : (t : T) (ts : List T) (n r : ℕ) (rs : List ℕ) → Rest (t ∷ ts) n (r ∷ rs)
       → n ≡ r → Rest ts (suc n) rs
   keep t ts n r rs h e = record {
     stand = stand-next t ts n h.stand;
@@ -84,7 +84,7 @@ module _ (files : List FileSyntax) (numbers : List ℕ) where
     rise = subst (λ (j : ℕ). Rises (suc j) rs) (sym e) h.rise.1;
   }
 
-  picks : (ts : List FileSyntax) (n : ℕ) (rs : List ℕ) → Rest ts n rs
+  picks : (ts : List T) (n : ℕ) (rs : List ℕ) → Rest ts n rs
       → among numbers n ts ≡ picked files rs
   picks [] n rs h = sym (none_picked files n rs none h.rise)
     where
@@ -116,7 +116,7 @@ module _ (files : List FileSyntax) (numbers : List ℕ) where
       later up more = ap (λ b. (if b then t ∷ [] else []) ++ among numbers (suc n) ts)
           (h.same n (omega arith) ∙ absent n (r ∷ rs) up) ∙ more
 
-pub picked_among : (files : List FileSyntax) (numbers : List ℕ) → IsStrictlyIncreasing numbers
+pub picked_among : {T : Type 0} (files : List T) (numbers : List ℕ) → IsStrictlyIncreasing numbers
     → among numbers 0 files ≡ picked files numbers
 picked_among files numbers ascends =
     picks files numbers files 0 numbers

@@ -83,7 +83,7 @@ pub record AddsOne (old new : Declarations) (full : Text) (d : Declaration) : Ty
   pub lists : ListsRepeated old → ListsRepeated new
 
 -- the files with these numbers
-abbrev pub picked : List FileSyntax → List ℕ → List FileSyntax
+abbrev pub picked : {T : Type 0} → List T → List ℕ → List T
 picked files numbers = flat_map (λ (n : ℕ). option_to_list (slice_get files n)) numbers
 
 -- ---- what is declared twice

@@ -30,7 +30,8 @@ use Rattle.protobuf_parse_wire.specs.Places.{Inside, Placed, one_inside, placed_
 use Rattle.protobuf_parse_wire.proofs.Adding.{messages_named-append}
 use Rattle.protobuf_parse_wire.proofs.Found.{mapped_rest}
 use Rattle.protobuf_parse_wire.proofs.Placing.{StandsIn, declared_of, message_of, messages_without}
-use Rattle.protobuf_parse_wire.proofs.Picks.{among, picked, picked_among}
+use Rattle.protobuf_parse_model.specs.Tables.{picked}
+use Rattle.protobuf_parse_model.proofs.Picks.{among, picked_among}
 
 -- ---- the files that are picked
 

@@ -18,7 +18,7 @@ use Rattle.protobuf_parse_wire.specs.Known.{enum_known, number_among, values_amo
 use Rattle.protobuf_parse_wire.specs.OptionFields.{declared_enums}
 use Rattle.protobuf_parse_wire.specs.OptionLaw.{HasSmallValues}
 use Rattle.protobuf_parse_wire.specs.SmallValues.{AreSmall, HaveSmall}
-use Rattle.protobuf_parse_wire.proofs.Picks.{picked}
+use Rattle.protobuf_parse_model.specs.Tables.{picked}
 use Rattle.protobuf_parse_wire.proofs.Placing.{declared_of, enums_without}
 use Rattle.protobuf_parse_wire.proofs.SoundSets.{both}
 
