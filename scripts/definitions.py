@@ -2,7 +2,8 @@
 
 Run it at the top of the repository: scripts/definitions.py prints each file of specs/ that has
 such a definition, with the lines of these definitions and of the whole file, and the sum. With
---unused it lists the definitions of specs/ that no public clause rests on.
+--unused it lists the definitions of specs/ that no public clause rests on. A file that has none
+begins with the line MARK; where that is not so the status is 1.
 """
 
 import re
@@ -10,9 +11,10 @@ import sys
 from collections import defaultdict
 from pathlib import Path
 
+MARK = "-- No public clause rests on this file.\n"
 CRATES = ["base", "syntax", "model", "wire", ""]
 TOKEN = re.compile(r"[^\s(){};,λ\[\]`:!&]+")
-USE = r"\s*(?:ghost |pub |unfoldable )*use (Rattle\.\S+?)"
+USE = r"(?:^|(?<=\n))\s*(?:ghost |pub |unfoldable )*use (Rattle\.[^\s{;]+?)"
 SIGNATURE = re.compile(
     r"\s*(?:abbrev |unfoldable )?(?:pub )?(?:(?:data|record) (\S+)|([A-Za-z◌«][^\s(){}:]*) :)"
 )
@@ -22,19 +24,15 @@ def crate_folder(crate):
     return Path("crates") / ("protobuf_parse_" + crate if crate else "protobuf_parse")
 
 
-def imports_of(lines):
+def imports_of(text):
     """Names to modules, and aliases to modules, by the `use` lines."""
     names, aliases = {}, {}
-    for line in lines:
-        found = re.match(USE + r"\.\{(.*)\};?$", line)
-        if found:
-            for item in found.group(2).split(","):
-                old, _, new = item.strip().partition(" as ")
-                names[new or old] = (found.group(1), old)
-            continue
-        found = re.match(USE + r"(?: as (\w+))?;?$", line)
-        if found:
-            aliases[found.group(2) or found.group(1).split(".")[-1]] = found.group(1)
+    for found in re.finditer(USE + r"\.\{([^}]*)\}", text):
+        for item in found.group(2).split(","):
+            old, _, new = item.strip().partition(" as ")
+            names[new or old] = (found.group(1), old)
+    for found in re.finditer(USE + r"(?: as (\w+))?;?$", text, re.MULTILINE):
+        aliases[found.group(2) or found.group(1).split(".")[-1]] = found.group(1)
     return names, aliases
 
 
@@ -86,9 +84,8 @@ def read_specs():
             definition = Definition(module, path, len(body))
             for name in names_in("\n".join(body)):
                 found.setdefault((module, name), definition)
-        for name, target in imports_of(
-            [line for line in text.split("\n") if re.match(r"(unfoldable )?pub use", line)]
-        )[0].items():
+        given = re.findall(r"(?m)^(?:unfoldable )?pub use .*$", text)
+        for name, target in imports_of("\n".join(given))[0].items():
             passed_on[(module, name)] = target
     link(texts, found, passed_on)
     return found, sizes, passed_on
@@ -96,7 +93,7 @@ def read_specs():
 
 def link(texts, found, passed_on):
     for module, (path, text) in texts.items():
-        names, aliases = imports_of(text.split("\n"))
+        names, aliases = imports_of(text)
         own = {name for (where, name) in found if where == module}
         for part in paragraphs(text):
             code = re.sub(r"--.*", "", part)
@@ -110,52 +107,63 @@ def link(texts, found, passed_on):
 
 
 def exported(crate):
-    """The names that a crate gives to others; none where whole modules are public."""
+    """The names that a crate gives to others, and its public modules."""
     text = (crate_folder(crate) / "src" / "lib.rt").read_text()
     names = set()
     for found in re.finditer(r"pub use [\w:]+?(?:::\{([^}]*)\}|::(\w+));", text):
         names |= {n.strip() for n in (found.group(1) or found.group(2)).split(",") if n.strip()}
-    return names if names else None
+    return names, set(re.findall(r"pub mod (\w+)", text))
+
+
+def is_public(path, name, names, modules):
+    return name in names or path.stem in modules or not modules.isdisjoint(path.parts)
+
+
+def type_of(line):
+    """The type or trait that an `impl` or `trait` line is of."""
+    words = re.findall(r"\w+", re.sub(r"<.*?>", "", line))
+    if "trait" in words:
+        return words[words.index("trait") + 1]
+    return words[words.index("for") + 1] if "for" in words else words[1]
+
+
+def clauses_from(lines, number):
+    """The lines of a signature and its clauses, up to the body."""
+    clauses = []
+    for line in lines[number:]:
+        if line.strip() in ("{", "}", "{}") or re.match(r"\s*(pub )?fn |\s*///", line):
+            break
+        clauses.append(line)
+    return "\n".join(clauses)
 
 
 def public_clauses(crate):
-    """The clauses of a crate's public functions, with the file that each stands in."""
-    names = exported(crate)
+    """The clauses of a crate's public functions, with the lines of their files."""
+    names, modules = exported(crate)
     for path in sorted((crate_folder(crate) / "src").rglob("*.rt")):
         lines = path.read_text().split("\n")
         inside = None
         for number, line in enumerate(lines):
-            found = re.match(r"(?:pub )?(impl|trait)\b(?:<[^>]*>)? ?(.*?)[ <{(]*$", line)
-            if found and not line.startswith(" "):
-                words = re.findall(r"\w+", re.sub(r"<.*?>", "", line))
-                inside = words[words.index("for") + 1] if "for" in words else words[-1]
-                if words[0] == "pub" or words[0] == "trait":
-                    inside = words[words.index("trait") + 1] if "trait" in words else inside
+            if re.match(r"(pub )?(impl|trait)\b", line):
+                inside = type_of(line)
             if line == "}":
                 inside = None
             found = re.match(r"(\s*)(pub )?fn (\w+)", line)
-            if not found:
-                ghost = inside and re.match(r"\s+ghost \w+[ :=]", line)
-                if ghost and (names is None or inside in names):
-                    yield path, lines, "\n".join(lines[number : number + 6])
-                continue
-            known = inside if found.group(1) else found.group(3)
-            if names is None and not found.group(2) or names is not None and known not in names:
-                continue
-            clauses = []
-            for after in lines[number + 1 :]:
-                if after.strip() in ("{", "}") or re.match(r"\s*(pub )?fn |\s*///", after):
-                    break
-                clauses.append(after)
-            yield path, lines, "\n".join(clauses)
+            if found:
+                name = inside if found.group(1) else found.group(3)
+                if (found.group(2) or inside) and is_public(path, name, names, modules):
+                    yield lines, clauses_from(lines, number + 1)
+            elif inside and re.match(r"\s+ghost \w+[ :=]", line):
+                if is_public(path, inside, names, modules):
+                    yield lines, "\n".join(lines[number : number + 6])
 
 
-def main():
-    found, sizes, passed_on = read_specs()
+def rests(found, passed_on):
+    """The definitions that public clauses rest on."""
     needed, waiting = set(), []
     for crate in CRATES:
-        for path, lines, clauses in public_clauses(crate):
-            names, aliases = imports_of(lines)
+        for lines, clauses in public_clauses(crate):
+            names, aliases = imports_of("\n".join(lines))
             for word in TOKEN.findall(re.sub(r"//.*", "", clauses)):
                 target = resolve(word, None, names, aliases, ())
                 target = passed_on.get(target, target)
@@ -166,18 +174,27 @@ def main():
         if definition not in needed:
             needed.add(definition)
             waiting += definition.rests_on
+    return needed
+
+
+def main():
+    found, sizes, passed_on = read_specs()
+    needed = rests(found, passed_on)
     if "--unused" in sys.argv:
         for (module, name), definition in sorted(found.items()):
             if definition not in needed:
                 print(definition.path, name)
-        return
+        return 0
     lines = defaultdict(int)
     for definition in needed:
         lines[definition.path] += definition.lines
-    for path in sorted(sizes):
-        if path in lines:
-            print(f"{lines[path]:5} of {sizes[path]:4}  {path}")
+    wrong = [path for path in sizes if path.read_text().startswith(MARK) == (path in lines)]
+    for path in sorted(lines):
+        print(f"{lines[path]:5} of {sizes[path]:4}  {path}")
     print(f"{sum(lines.values()):5} in {len(lines)} files")
+    for path in wrong:
+        print(f"its first line is wrong: {path}")
+    return 1 if wrong else 0
 
 
-main()
+sys.exit(main())

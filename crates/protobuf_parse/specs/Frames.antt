@@ -1,3 +1,4 @@
+-- No public clause rests on this file.
 -- Loading by a stack of files whose imports are being met: what the stack still owes, and what
 -- holds of each of its frames. The lowest frame is the first of the list; the top one stands beside
 -- it.

@@ -1,3 +1,4 @@
+-- No public clause rests on this file.
 -- What holds while files are loaded, for every list of reads that the log begins and any events
 -- kept so far.
 use Rattle.std.specs.Prelude.{◌≡◌, ◌⊎◌, ◌≤◌, ℕ, true, false, nat_lt, List, [], ◌∷◌, ◌++◌, length}

@@ -1,3 +1,4 @@
+-- No public clause rests on this file.
 -- Names in a set, as the code holds it.
 use Rattle.std.specs.Prelude.{◌≡◌, List, String, bytes_eq}
 use Rattle.std.specs.BTreeSet.{BTreeSet, contains_text}

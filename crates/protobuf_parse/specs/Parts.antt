@@ -1,3 +1,4 @@
+-- No public clause rests on this file.
 -- A message's lines, one level deep.
 use Rattle.std.specs.Prelude.{◌≡◌, ℕ, ◌+◌, List, [], ◌∷◌, ◌++◌, codes, flat_map, map, refl}
 use Rattle.std.specs.Prelude.{string_bytes}

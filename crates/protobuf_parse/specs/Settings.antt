@@ -1,3 +1,4 @@
+-- No public clause rests on this file.
 -- Built-in options as the listing's code has them: a name, and the words of its value where it is
 -- set.
 use Rattle.std.specs.Prelude.{ℕ, List, Option, option_map}

@@ -1,3 +1,4 @@
+-- No public clause rests on this file.
 -- Readers of parts that stand under a condition, and of parts joined from them.
 use Rattle.std.proofs.Common.{◌≡◌, List, [], ◌∷◌, ◌++◌, Option, Some, None, Bool, true, false, ◌&&◌}
 use Rattle.std.proofs.Common.{◌||◌, cond, refl, sym, ap, ◌∙◌}

@@ -1,3 +1,4 @@
+-- No public clause rests on this file.
 -- Readers of parts that contain themselves: a reader for each depth, and what one level more
 -- changes.
 use Rattle.std.proofs.Common.{◌≡◌, ℕ, zero, suc, ◌<◌, ◌≤◌, List, [], ◌∷◌, Option, Some, None, Bool}

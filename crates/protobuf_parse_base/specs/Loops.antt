@@ -1,3 +1,4 @@
+-- No public clause rests on this file.
 -- What a loop over the parts of `many` keeps: what is made of the items so far and of those that
 -- are still read is what is made of them all.
 use Rattle.std.proofs.Common.{◌≡◌, List, [], ◌∷◌, ◌++◌, Option, Some, None, true, false, refl, sym}

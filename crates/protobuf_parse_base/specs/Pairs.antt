@@ -1,3 +1,4 @@
+-- No public clause rests on this file.
 -- Productions in which parts nest, written once for two depths: a reader of what the parts are at
 -- one depth and of what they are at the next, with what one level more changes.
 use Rattle.std.proofs.Common.{◌≡◌, ℕ, zero, suc, ◌≤◌, List, [], ◌∷◌, Option, Some, None, Bool, true}

@@ -2,6 +2,7 @@
 use Rattle.std.proofs.Common.{◌≡◌, ℕ, suc, List, [], ◌∷◌, ◌++◌}
 use Rattle.std.proofs.Common.{Bool, true, false, not, ◌&&◌, ◌||◌, Result, Ok, Err, refl, sym}
 use Rattle.std.proofs.Common.{ap, ◌∙◌, inl, inr, ◌⊎◌}
+use Rattle.protobuf_parse_base.specs.Relations.{seen}
 
 -- ---- what is read
 
@@ -82,11 +83,6 @@ pub read_parts : {Tok Mark A : Type 0} (a b : A) (x y : Rest Tok Mark)
 read_parts a b x y e = (cc, cc)
 
 -- ---- tests of the next token
-
--- one of the classes sees the token
-abbrev pub seen : {Tok Class : Type 0} → (Class → Tok → Bool) → List Class → Tok → Bool
-seen sees [] t = false
-seen sees (c ∷ cs) t = sees c t || seen sees cs t
 
 -- How tokens are told from one another: a mark for each (its place), and classes, each of which
 -- sees some tokens. `apart` is true only of classes that see no token both, `within` only where the

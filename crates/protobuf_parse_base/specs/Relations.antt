@@ -3,6 +3,7 @@
 -- and then the rest.
 use Rattle.std.specs.Prelude.{◌≡◌, ℕ, zero, suc, List, [], ◌∷◌, ◌++◌, Option, Some, None, Bool}
 use Rattle.std.specs.Prelude.{true, false, ◌⊎◌}
+use Rattle.std.proofs.Common.{◌||◌}
 
 abbrev pub Rel : Type 0 → Type 0 → Type 1
 Rel Tok A = List Tok → A → Type 0
@@ -96,3 +97,33 @@ abbrev pub somes : {A : Type 0} → List (Option A) → List A
 somes [] = []
 somes (None ∷ items) = somes items
 somes (Some a ∷ items) = a ∷ somes items
+
+-- the first of the list, if there is one
+abbrev pub head : {Tok : Type 0} → List Tok → Option Tok
+head [] = None
+head (t ∷ ts) = Some t
+
+-- the mark of the first of the list, or else this mark
+abbrev pub first_mark : {Tok Mark : Type 0} → (Tok → Mark) → Mark → List Tok → Mark
+first_mark mark m [] = m
+first_mark mark m (t ∷ ts) = mark t
+
+-- The list falls into front and rest. No list that begins with front and the first token of rest is
+-- in the relation; where rest is empty, the list itself is not. The mark is that of the token, or
+-- of the end.
+pub record StopsAt {Tok Mark A : Type 0} (mark : Tok → Mark) (R : List Tok → A → Type 0)
+    (ts : List Tok) (last : Mark) (m : Mark) : Type 0 where
+  pub front : List Tok
+  pub rest : List Tok
+  pub parts : ts ≡ front ++ rest
+  pub place : m ≡ first_mark mark last rest
+  pub never : (other : List Tok) (a : A) → head other ≡ head rest → R (front ++ other) a → ⊥
+
+-- at some depth
+abbrev pub AtSomeDepth : {Tok A : Type 0} → (ℕ → Rel Tok A) → Rel Tok A
+AtSomeDepth R ts a = (n : ℕ) × R n ts a
+
+-- one of the classes sees the token
+abbrev pub seen : {Tok Class : Type 0} → (Class → Tok → Bool) → List Class → Tok → Bool
+seen sees [] t = false
+seen sees (c ∷ cs) t = sees c t || seen sees cs t

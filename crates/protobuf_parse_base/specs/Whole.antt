@@ -1,37 +1,17 @@
+-- No public clause rests on this file.
 -- What a reader of whole lists says of its relation: the one value, no other, and where none can
 -- be.
-use Rattle.std.proofs.Common.{◌≡◌, ℕ, zero, suc, ◌+◌, ◌<◌, List, [], ◌∷◌, ◌++◌, length, Option}
-use Rattle.std.proofs.Common.{Some, None, true, false, Result, Ok, refl, sym, ap, subst, ◌∙◌, inl}
+use Rattle.std.proofs.Common.{◌≡◌, ℕ, zero, suc, ◌+◌, ◌<◌, List, [], ◌∷◌, ◌++◌, length}
+use Rattle.std.proofs.Common.{true, false, Result, Ok, refl, sym, ap, subst, ◌∙◌, inl}
 use Rattle.std.proofs.Common.{inr, ◌⊎◌, arith, add-zero, zero-add}
 use Rattle.std.proofs.Math.Nat.{add-suc}
 use Rattle.std.proofs.lemmas.List.{append_cancel_right}
-use Rattle.protobuf_parse_base.specs.Relations.{Rel}
 use Rattle.protobuf_parse_base.specs.Readers.{Rest, end, token, onto, onto-append, size, next, Read}
 use Rattle.protobuf_parse_base.specs.Readers.{read, stuck, wrong, deep, read_parts, Lexicon, Shape}
 use Rattle.protobuf_parse_base.specs.Readers.{Reader, LocalAt, LocalRead, LocalStuck, starts}
 use Rattle.protobuf_parse_base.specs.Conditions.{mark_of}
 use Rattle.protobuf_parse_base.specs.Depth.{Near, NearAt}
-
--- the first of the list, if there is one
-abbrev pub head : {Tok : Type 0} → List Tok → Option Tok
-head [] = None
-head (t ∷ ts) = Some t
-
--- the mark of the first of the list, or else this mark
-abbrev pub first_mark : {Tok Mark : Type 0} → (Tok → Mark) → Mark → List Tok → Mark
-first_mark mark m [] = m
-first_mark mark m (t ∷ ts) = mark t
-
--- The list falls into front and rest. No list that begins with front and the first token of rest is
--- in the relation; where rest is empty, the list itself is not. The mark is that of the token, or
--- of the end.
-pub record StopsAt {Tok Mark A : Type 0} (mark : Tok → Mark) (R : List Tok → A → Type 0)
-    (ts : List Tok) (last : Mark) (m : Mark) : Type 0 where
-  pub front : List Tok
-  pub rest : List Tok
-  pub parts : ts ≡ front ++ rest
-  pub place : m ≡ first_mark mark last rest
-  pub never : (other : List Tok) (a : A) → head other ≡ head rest → R (front ++ other) a → ⊥
+use Rattle.protobuf_parse_base.specs.Relations.{AtSomeDepth, StopsAt, first_mark, head}
 
 -- a list as what is left before the end
 abbrev pub whole : {Tok Mark : Type 0} → List Tok → Mark → Rest Tok Mark
@@ -160,10 +140,6 @@ module _ {Tok Mark Class A : Type 0} {L : Lexicon Tok Mark Class} {R : List Tok 
       }
 
 -- ---- a reader for each depth
-
--- at some depth
-abbrev pub AtSomeDepth : {Tok A : Type 0} → (ℕ → Rel Tok A) → Rel Tok A
-AtSomeDepth R ts a = (n : ℕ) × R n ts a
 
 module _ {Tok Mark Class A : Type 0} {L : Lexicon Tok Mark Class} {R : ℕ → List Tok → A → Type 0}
     {s : Shape Class} (p : (n : ℕ) → Reader L (R n) s)

@@ -21,7 +21,7 @@ use Rattle.protobuf_parse_model.specs.declared.scope.seen.Seen.{Seen}
 use Rattle.protobuf_parse_model.specs.Descriptors.{Text}
 use Rattle.protobuf_parse_model.specs.Declarations.{DeclaredType, a_message, an_enum}
 use Rattle.protobuf_parse_model.specs.Declarations.{file_extensions, file_generated, file_types}
-use Rattle.protobuf_parse_model.specs.Contexts.{declared_as}
+use Rattle.protobuf_parse_model.specs.SeenFiles.{declared_as}
 use Rattle.protobuf_parse_model.specs.Duplicates.{fault, fault_when}
 use Rattle.protobuf_parse_model.specs.Faults.{Among, here, there, Elaborates, Fault}
 use Rattle.protobuf_parse_model.specs.Linking.{extension_names, link_faults, occurrences, repeated}

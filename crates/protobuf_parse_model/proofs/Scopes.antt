@@ -18,7 +18,7 @@ use Rattle.protobuf_parse_base.specs.Names.{absolute_text, fronts}
 use Rattle.protobuf_parse_base.proofs.Fronts.{fronts-push}
 use Rattle.protobuf_parse_base.proofs.NameTexts.{absolute_text-append}
 use Rattle.protobuf_parse_model.specs.Descriptors.{Text}
-use Rattle.protobuf_parse_model.specs.Contexts.{name_texts}
+use Rattle.protobuf_parse_model.specs.SeenFiles.{name_texts}
 use Rattle.protobuf_parse_model.specs.Declarations.{Declared, full_name}
 use Rattle.protobuf_parse_model.specs.Lookup.{Meanings, declared_in_first}
 

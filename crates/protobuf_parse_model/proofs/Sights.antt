@@ -17,7 +17,7 @@ use Rattle.protobuf_parse_model.specs.Declarations.{DeclaredType, a_message, an_
 use Rattle.protobuf_parse_model.specs.Declarations.{file_extensions, file_generated, file_types}
 use Rattle.protobuf_parse_model.specs.Lookup.{declared}
 use Rattle.protobuf_parse_model.specs.FileDescriptor.{types_of_files}
-use Rattle.protobuf_parse_model.specs.Contexts.{declared_type, first_type, seen_types, type_kind}
+use Rattle.protobuf_parse_model.specs.SeenFiles.{declared_type, first_type, seen_types, type_kind}
 use Rattle.protobuf_parse_model.specs.Tables.{Entry, TableTells, declared_by, declared_in}
 use Rattle.protobuf_parse_model.specs.Tables.{extension_entry, generated_entry, declaration_kind}
 use Rattle.protobuf_parse_model.specs.Tables.{picked}

@@ -32,7 +32,7 @@ use Rattle.protobuf_parse_model.specs.Declarations.{file_extensions, file_genera
 use Rattle.protobuf_parse_model.specs.Declarations.{full_name, generated_of, inside, message_types}
 use Rattle.protobuf_parse_model.specs.Declarations.{types_of}
 use Rattle.protobuf_parse_model.specs.Statements.{field_statement_name}
-use Rattle.protobuf_parse_model.specs.Contexts.{declared_as, listed}
+use Rattle.protobuf_parse_model.specs.SeenFiles.{declared_as, listed}
 use Rattle.protobuf_parse_model.specs.Tables.{Adds, AddsOne, Entry, ListsRepeated, TableTells}
 use Rattle.protobuf_parse_model.specs.Tables.{declared_by, declared_in, declared_in_file}
 use Rattle.protobuf_parse_model.specs.Tables.{extension_entry, generated_entry, listed_names}

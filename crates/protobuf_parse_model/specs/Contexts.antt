@@ -1,19 +1,11 @@
+-- No public clause rests on this file.
 -- The environment of a construct, by the numbers of the files that its file sees and what each full
 -- name is declared as in which files.
-use Rattle.std.specs.Prelude.{ℕ, List, [], ◌∷◌, ◌++◌, map, flat_map, length, nat_eq, string_bytes}
-use Rattle.std.specs.Prelude.{String, Option, Some, None, option_map, option_to_list, if◌then◌else◌}
+use Rattle.std.specs.Prelude.{ℕ, List, [], ◌∷◌, ◌++◌, map, flat_map, length, string_bytes}
+use Rattle.std.specs.Prelude.{String, Option, option_map, option_to_list}
 use Rattle.std.specs.Borrow.{Bor}
 use Rattle.std.specs.Global.{Global, Vec}
-use Rattle.std.specs.List.{list_any}
-use Rattle.std.specs.BTreeMap.{get_by_text}
-use Rattle.std.specs.Option.{option_or}
-use Rattle.protobuf_parse_model.specs.declared.scope.seen.TypeKind.{TypeKind}
 use Rattle.protobuf_parse_model.specs.declared.scope.seen.TypeKind.TheVariants as kind
-use Rattle.protobuf_parse_model.specs.declared.scope.seen.DeclarationKind.{DeclarationKind}
-use Rattle.protobuf_parse_model.specs.declared.scope.seen.DeclarationKind.TheVariants as declaration
-use Rattle.protobuf_parse_model.specs.declared.scope.seen.Declaration.{Declaration}
-use Rattle.protobuf_parse_model.specs.declared.scope.seen.Declarations.{Declarations}
-use Rattle.protobuf_parse_model.specs.declared.scope.seen.Seen.{Seen}
 use Rattle.protobuf_parse_model.specs.declared.scope.Context.{Context}
 use Rattle.protobuf_parse_model.specs.declared.scope.Meaning.{Meaning}
 use Rattle.protobuf_parse_model.specs.declared.scope.ResolvedType.{ResolvedType}
@@ -41,7 +33,7 @@ use Rattle.protobuf_parse_model.specs.declared.convert.rest.Rest.{Rest}
 use Rattle.protobuf_parse_model.specs.declared.descriptor.ReservedRange.{ReservedRange}
 use Rattle.protobuf_parse_model.specs.declared.convert.lists.DeclaredFields.{DeclaredFields}
 use Rattle.protobuf_parse_model.specs.declared.convert.body.Body.{Body}
-use Rattle.protobuf_parse_syntax.specs.Trees.{FileSyntax, OptionSyntax, FieldStatementSyntax}
+use Rattle.protobuf_parse_syntax.specs.Trees.{OptionSyntax, FieldStatementSyntax}
 use Rattle.protobuf_parse_syntax.specs.Trees.{MessageStatementSyntax, ReservedSyntax}
 use Rattle.protobuf_parse_syntax.specs.Trees.{EnumValueSyntax, MethodSyntax, reserved_view}
 use Rattle.protobuf_parse_syntax.specs.Trees.{value_view, method_view, field_statement_view}
@@ -53,17 +45,10 @@ use Rattle.protobuf_parse_model.specs.Options.{FieldOptionsSet, MessageOptionsSe
 use Rattle.protobuf_parse_model.specs.Options.{field_options_view, message_options_view}
 use Rattle.protobuf_parse_model.specs.OptionsSet.{field_options, message_options}
 use Rattle.protobuf_parse_model.specs.Fields.{FieldTypeOf}
-use Rattle.protobuf_parse_model.specs.Declarations as declared
-use Rattle.protobuf_parse_model.specs.Declarations.{DeclaredType, a_message, an_enum, file_scope}
+use Rattle.protobuf_parse_model.specs.Declarations.{DeclaredType}
 use Rattle.protobuf_parse_model.specs.declared.customs.Construct.TheVariants as of
 use Rattle.protobuf_parse_model.specs.Environment.{Environment, Customs, customs_bytes, no_customs}
-
-abbrev pub name_texts : List (Bor (List ℕ)) → List Text
-name_texts names = map (λ (s : Bor (List ℕ)). s.now) names
-
-abbrev pub kind_view : TypeKind → declared.TypeKind
-kind_view kind.Message = a_message
-kind_view kind.Enum = an_enum
+use Rattle.protobuf_parse_model.specs.SeenFiles.{kind_view, name_texts, seen_types}
 
 abbrev pub meaning_view : Meaning → DeclaredType
 meaning_view m = record { name = string_bytes m.name; what = kind_view m.kind }
@@ -258,37 +243,6 @@ field_place_view p =
           p.oneof_index;
     }
 
--- what kind of type is declared, where a written name may mean it
-abbrev pub type_kind : DeclarationKind → Option TypeKind
-type_kind declaration.Message = Some kind.Message
-type_kind declaration.Enum = Some kind.Enum
-type_kind declaration.Generated = None
-type_kind declaration.Extension = None
-
--- the type that the first declaration declares that is of one and stands in a file with one of
--- these numbers
-abbrev pub first_type : List ℕ → List Declaration → Option TypeKind
-first_type sight [] = None
-first_type sight (d ∷ ds) = if list_any (nat_eq d.file) sight
-    then option_or (type_kind d.kind) (first_type sight ds) else first_type sight ds
-
--- the declarations of a list that may be there
-abbrev pub listed : Option (Vec Declaration) → List Declaration
-listed None = []
-listed (Some v) = v.items
-
--- the declarations of the full name
-abbrev pub declared_as : Declarations → Text → List Declaration
-declared_as ds name = listed (get_by_text ds.by_name name)
-
-abbrev pub declared_type : Text → TypeKind → DeclaredType
-declared_type name k = record { name = name; what = kind_view k }
-
-abbrev pub seen_types : Seen → Text → Option DeclaredType
-seen_types seen name =
-    option_map (declared_type name)
-    (first_type seen.sight.now (declared_as seen.declarations.now name))
-
 abbrev pub environment_in : Customs → Context → Environment
 environment_in customs c =
     record {
@@ -302,8 +256,3 @@ environment_in customs c =
 -- the environment that names of types are looked up in, which custom options are no part of
 abbrev pub names_of_context : Context → Environment
 names_of_context c = environment_in no_customs c
-
--- the same for a whole file, by what it sees
-abbrev pub environment_of_file : Customs → Seen → FileSyntax → Environment
-environment_of_file customs seen t =
-    record { syntax = t.syntax; types = seen_types seen; scope = file_scope t; customs = customs }

@@ -1,3 +1,4 @@
+-- No public clause rests on this file.
 -- What the statements of a file declare, as the code collects it.
 use Rattle.std.specs.Prelude.{List, ◌++◌, map, flat_map}
 use Rattle.protobuf_parse_syntax.specs.Trees.{StatementSyntax}

@@ -15,6 +15,7 @@ pub mod OptionViews
 pub mod Enums
 pub mod Services
 pub mod Messages
+pub mod SeenFiles
 pub mod Contexts
 pub mod FileDescriptor
 pub mod NamedTypes

@@ -18,7 +18,7 @@ use Rattle.protobuf_parse_model.specs.Declarations as declared
 use Rattle.protobuf_parse_model.specs.Declarations.{Declared, DeclaredType, DeclaredExtension}
 use Rattle.protobuf_parse_model.specs.Declarations.{a_message, an_enum, file_types, file_generated}
 use Rattle.protobuf_parse_model.specs.Declarations.{file_extensions}
-use Rattle.protobuf_parse_model.specs.Contexts.{declared_as}
+use Rattle.protobuf_parse_model.specs.SeenFiles.{declared_as}
 
 -- a full name, and what it is declared as
 abbrev pub Entry : Type 0

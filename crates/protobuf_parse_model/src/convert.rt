@@ -22,7 +22,7 @@ pub mod types;
 ghost use Rattle.std.specs.Prelude.{List, ◌≤◌};
 ghost use Rattle.protobuf_parse_syntax.specs.Counts.{statements_in};
 ghost use Rattle.protobuf_parse_syntax.specs.Trees.{FileSyntax, file_view};
-ghost use Rattle.protobuf_parse_model.specs.Contexts.{environment_of_file};
+ghost use Rattle.protobuf_parse_model.specs.SeenFiles.{environment_of_file};
 ghost use Rattle.protobuf_parse_model.specs.Descriptors as described;
 ghost use Rattle.protobuf_parse_model.specs.Faults.{Elaborates};
 ghost use Rattle.protobuf_parse_model.specs.FileDescriptor.{environment, file_faults, file_of};

@@ -2,7 +2,7 @@
 
 ghost use Rattle.std.specs.Prelude.{◌≡◌, ◌++◌, [], codes, map, flat_map, string_bytes, IfOk, OnOk};
 ghost use Rattle.protobuf_parse_syntax.specs.Trees.{option_part_view, option_view};
-ghost use Rattle.protobuf_parse_model.specs.Contexts.{name_texts};
+ghost use Rattle.protobuf_parse_model.specs.SeenFiles.{name_texts};
 ghost use Rattle.protobuf_parse_model.specs.Environment.{Customs, no_customs, no_extensions};
 ghost use Rattle.protobuf_parse_model.specs.Environment.{part_text, option_path_text};
 ghost use Rattle.protobuf_parse_model.specs.Environment.{unknown_option};

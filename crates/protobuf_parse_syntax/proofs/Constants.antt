@@ -4,7 +4,8 @@ use Rattle.std.proofs.Common.{◌||◌, map, length, get_or, ◌<◌, ◌≤◌,
 use Rattle.std.proofs.Common.{arith}
 use Rattle.std.proofs.lemmas.Slice.Eq.{bytes_eq-Decides}
 use Rattle.protobuf_parse_base.specs.Readers.{Rest, end, token, Read, read, stuck, wrong, bind}
-use Rattle.protobuf_parse_base.specs.Readers.{seen, starts, or_true, or_left}
+use Rattle.protobuf_parse_base.specs.Readers.{starts, or_true, or_left}
+use Rattle.protobuf_parse_base.specs.Relations.{seen}
 use Rattle.protobuf_parse_base.specs.Combinators.{run_one, taken}
 use Rattle.protobuf_parse_base.specs.Readers.{false_by, all_apart-law}
 use Rattle.protobuf_parse_base.specs.Whole.{whole}
@@ -12,7 +13,8 @@ use Rattle.protobuf_parse_base.specs.Conditions.{meaning}
 use Rattle.protobuf_parse_syntax.specs.Tokens.{Lexeme, lexeme}
 use Rattle.protobuf_parse_syntax.specs.Text.{Bytes}
 use Rattle.protobuf_parse_syntax.specs.Classes.{sees, symbol as symbol_class, integer, float, text}
-use Rattle.protobuf_parse_syntax.specs.Classes.{lexicon, is_one_of, is_floating, is_string}
+use Rattle.protobuf_parse_syntax.specs.Classes.{is_one_of, is_floating, is_string}
+use Rattle.protobuf_parse_syntax.specs.ClassLaws.{lexicon}
 use Rattle.protobuf_parse_syntax.specs.Grammar.{if_so, number, small_number, negative, piece_at}
 use Rattle.protobuf_parse_syntax.specs.Grammar.{other_constants}
 use Rattle.protobuf_parse_syntax.specs.Productions.{symbol, signed_by, sign_and, said_of, found}

@@ -2,7 +2,8 @@
 use Rattle.std.proofs.Common.{◌≡◌, ◌≤◌, ◌-◌, ℕ, suc, List, [], ◌∷◌, ◌++◌, Option, Some, None, Bool}
 use Rattle.std.proofs.Common.{true, false, not, ◌||◌, cond, bytes_eq, refl, ◌∙◌, codes, arith}
 use Rattle.protobuf_parse_base.specs.Relations.{somes}
-use Rattle.protobuf_parse_base.specs.Readers.{Rest, end, token, read, stuck, bind, seen}
+use Rattle.protobuf_parse_base.specs.Readers.{Rest, end, token, read, stuck, bind}
+use Rattle.protobuf_parse_base.specs.Relations.{seen}
 use Rattle.protobuf_parse_base.specs.Combinators.{taken}
 use Rattle.protobuf_parse_base.specs.Readers.{starts, starts-within, first-of, last-of}
 use Rattle.protobuf_parse_base.specs.Combinators.{run_many}
@@ -10,7 +11,8 @@ use Rattle.protobuf_parse_base.specs.Conditions.{mark_of}
 use Rattle.protobuf_parse_syntax.specs.Text.{Bytes}
 use Rattle.protobuf_parse_syntax.specs.Tokens.{Lexeme}
 use Rattle.protobuf_parse_syntax.specs.Classes.{Class, symbol as symbol_class, word as word_class}
-use Rattle.protobuf_parse_syntax.specs.Classes.{ident as ident_class, sees, is_among, lexicon}
+use Rattle.protobuf_parse_syntax.specs.Classes.{ident as ident_class, sees, is_among}
+use Rattle.protobuf_parse_syntax.specs.ClassLaws.{lexicon}
 use Rattle.protobuf_parse_syntax.specs.Classes.{words}
 use Rattle.protobuf_parse_syntax.specs.Grammar.{place_of, scalars, labels, labels3, statement_words}
 use Rattle.protobuf_parse_syntax.specs.Grammar.{table_words}

@@ -7,14 +7,15 @@ use Rattle.protobuf_parse_base.specs.Relations.{BeginsOtherwise}
 use Rattle.protobuf_parse_syntax.proofs.Strings.{str_ends}
 use Rattle.protobuf_parse_syntax.proofs.Wrongs.{says_behind}
 use Rattle.protobuf_parse_base.specs.Conditions.{mark_of}
-use Rattle.protobuf_parse_base.specs.Whole.{whole, StopsAt, left_whole, local_stuck, local_wrong}
+use Rattle.protobuf_parse_base.specs.Whole.{whole, left_whole, local_stuck, local_wrong}
+use Rattle.protobuf_parse_base.specs.Relations.{StopsAt}
 use Rattle.protobuf_parse_base.specs.Whole.{deep_found, deep_only, deep_wrong, deep_never}
 use Rattle.protobuf_parse_base.specs.Whole.{deep_stops, deep_leaves}
 use Rattle.protobuf_parse_syntax.specs.Text.{Bytes}
 use Rattle.protobuf_parse_syntax.specs.Tokens.{Lexeme}
 use Rattle.protobuf_parse_syntax.specs.Trees.{Pieces, FileSyntax, file_view}
 use Rattle.protobuf_parse_syntax.specs.Classes.{symbol, float, text, is_one_of, is_floating}
-use Rattle.protobuf_parse_syntax.specs.Classes.{lexicon}
+use Rattle.protobuf_parse_syntax.specs.ClassLaws.{lexicon}
 use Rattle.protobuf_parse_syntax.specs.Grammar.{IsFile, IsStr, place_of}
 use Rattle.protobuf_parse_syntax.specs.Productions as parse
 use Rattle.protobuf_parse_syntax.specs.Nested as nest

@@ -5,7 +5,8 @@ use Rattle.std.proofs.lemmas.Bool.{eqb-true}
 use Rattle.protobuf_parse_base.specs.Readers.{Rest, starts, starts-append, false_by}
 use Rattle.protobuf_parse_base.specs.Whole.{whole}
 use Rattle.protobuf_parse_syntax.specs.Tokens.{Lexeme, lexeme}
-use Rattle.protobuf_parse_syntax.specs.Classes.{Class, lexicon}
+use Rattle.protobuf_parse_syntax.specs.Classes.{Class}
+use Rattle.protobuf_parse_syntax.specs.ClassLaws.{lexicon}
 use Rattle.protobuf_parse_syntax.specs.Code.{is_end}
 use Rattle.protobuf_parse_syntax.specs.declared.lexer.token.Place.{Place}
 use Rattle.protobuf_parse_syntax.specs.declared.lexer.token.Token.{Token}

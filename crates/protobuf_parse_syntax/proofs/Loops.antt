@@ -13,10 +13,11 @@ use Rattle.protobuf_parse_base.specs.Loops.{ends_stuck, ends_wrong}
 use Rattle.protobuf_parse_syntax.specs.Text.{Bytes}
 use Rattle.protobuf_parse_syntax.specs.Grammar.{dots, IsComma}
 use Rattle.protobuf_parse_syntax.specs.Tokens.{Lexeme}
-use Rattle.protobuf_parse_syntax.specs.Classes.{Class, symbol as symbol_class, lexicon}
+use Rattle.protobuf_parse_syntax.specs.Classes.{Class, symbol as symbol_class}
+use Rattle.protobuf_parse_syntax.specs.ClassLaws.{lexicon}
 use Rattle.protobuf_parse_syntax.specs.Productions.{symbol}
 use Rattle.protobuf_parse_syntax.specs.Code.{Fails, fails_first, Failure, at, off, too_deep, failed}
-use Rattle.protobuf_parse_syntax.specs.Code.{seen_by}
+use Rattle.protobuf_parse_syntax.specs.Text.{seen_by}
 use Rattle.protobuf_parse_syntax.specs.declared.lexer.token.Place.{Place}
 use Rattle.protobuf_parse_syntax.specs.declared.parser.refusal.Refusal.{Refusal}
 use Rattle.protobuf_parse_syntax.specs.declared.parser.refusal.Refusal.TheVariants.{Memory, Next}

@@ -7,7 +7,8 @@ use Rattle.protobuf_parse_base.specs.Combinators.{taken, run_one}
 use Rattle.protobuf_parse_base.specs.Readers.{starts}
 use Rattle.protobuf_parse_base.specs.Combinators.{run_many, many-law, shorter, with_first}
 use Rattle.protobuf_parse_syntax.specs.Tokens.{Lexeme}
-use Rattle.protobuf_parse_syntax.specs.Classes.{Class, lexicon}
+use Rattle.protobuf_parse_syntax.specs.Classes.{Class}
+use Rattle.protobuf_parse_syntax.specs.ClassLaws.{lexicon}
 use Rattle.protobuf_parse_syntax.specs.Grammar.{any_ident}
 use Rattle.protobuf_parse_syntax.specs.Productions.{symbol, ident, dot_ident, dotted, root, name}
 use Rattle.protobuf_parse_syntax.specs.Productions.{option_part, next_part}

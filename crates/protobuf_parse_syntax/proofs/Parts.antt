@@ -11,7 +11,8 @@ use Rattle.protobuf_parse_base.specs.Loops.{with_rest}
 use Rattle.protobuf_parse_syntax.specs.Tokens.{Lexeme}
 use Rattle.protobuf_parse_syntax.specs.Trees as tree
 use Rattle.protobuf_parse_syntax.specs.Trees.{OptionPartSyntax, OptionNameSyntax}
-use Rattle.protobuf_parse_syntax.specs.Classes.{Class, lexicon, sees, symbol}
+use Rattle.protobuf_parse_syntax.specs.Classes.{Class, sees, symbol}
+use Rattle.protobuf_parse_syntax.specs.ClassLaws.{lexicon}
 use Rattle.protobuf_parse_syntax.specs.Grammar.{IsNextPart, option_name}
 use Rattle.protobuf_parse_syntax.specs.Readings.{wrong_from}
 use Rattle.protobuf_parse_syntax.specs.Productions as parse

@@ -19,7 +19,8 @@ use Rattle.protobuf_parse_syntax.specs.Grammar.{StandsFor, SaysVersion, SaysPath
 use Rattle.protobuf_parse_syntax.specs.Decoder.{text_of, text-to, text-from, version_of, version-to}
 use Rattle.protobuf_parse_syntax.specs.Decoder.{version-from, path_of, path-to, path-from}
 use Rattle.protobuf_parse_syntax.specs.Productions.{str, piece, reserved_name, version, path}
-use Rattle.protobuf_parse_syntax.specs.Classes.{lexicon, text as string_token}
+use Rattle.protobuf_parse_syntax.specs.Classes.{text as string_token}
+use Rattle.protobuf_parse_syntax.specs.ClassLaws.{lexicon}
 use Rattle.protobuf_parse_syntax.specs.Code.{Failure, at, off, too_deep, failed, Fails, Unsaid}
 use Rattle.protobuf_parse_syntax.specs.Code.{of_text, of_version, of_path, refusal_of}
 use Rattle.protobuf_parse_syntax.specs.declared.lexer.token.Place.{Place}

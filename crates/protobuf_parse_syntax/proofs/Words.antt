@@ -2,13 +2,15 @@
 -- none.
 use Rattle.std.proofs.Common.{◌≡◌, List, [], ◌∷◌, Option, Some, None, Bool, true, false, ◌||◌, cond}
 use Rattle.std.proofs.Common.{is_some, bytes_eq, refl, sym, ap, ◌∙◌}
-use Rattle.protobuf_parse_base.specs.Readers.{Rest, end, token, read, seen, starts}
+use Rattle.protobuf_parse_base.specs.Readers.{Rest, end, token, read, starts}
+use Rattle.protobuf_parse_base.specs.Relations.{seen}
 use Rattle.protobuf_parse_base.specs.Combinators.{taken}
 use Rattle.protobuf_parse_base.specs.Readers.{starts-append}
 use Rattle.protobuf_parse_syntax.specs.Text.{Bytes}
 use Rattle.protobuf_parse_syntax.specs.Tokens.{Lexeme}
 use Rattle.protobuf_parse_syntax.specs.Classes.{Class, symbol, word, ident, integer, float, text}
-use Rattle.protobuf_parse_syntax.specs.Classes.{sees, sees_at, is_ident, lexicon, words}
+use Rattle.protobuf_parse_syntax.specs.Classes.{sees, sees_at, is_ident, words}
+use Rattle.protobuf_parse_syntax.specs.ClassLaws.{lexicon}
 use Rattle.protobuf_parse_syntax.specs.Grammar.{any_ident, lookup, table_words, word_of}
 use Rattle.protobuf_parse_syntax.specs.Productions.{one_of}
 use Rattle.protobuf_parse_syntax.specs.Code.{next_ident}

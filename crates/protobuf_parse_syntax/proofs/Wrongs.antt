@@ -13,7 +13,7 @@ use Rattle.protobuf_parse_syntax.specs.Text.{Bytes}
 use Rattle.protobuf_parse_syntax.specs.Tokens.{Lexeme}
 use Rattle.protobuf_parse_syntax.specs.Classes.{Class, symbol as symbol_class}
 use Rattle.protobuf_parse_syntax.specs.Classes.{word as word_class, text as string_token, is_one_of}
-use Rattle.protobuf_parse_syntax.specs.Classes.{lexicon}
+use Rattle.protobuf_parse_syntax.specs.ClassLaws.{lexicon}
 use Rattle.protobuf_parse_syntax.specs.Grammar.{IsSymbol, IsWord, IsVisibility}
 use Rattle.protobuf_parse_syntax.specs.Readings.{from_first, wrong_from}
 use Rattle.protobuf_parse_syntax.specs.Productions as parse

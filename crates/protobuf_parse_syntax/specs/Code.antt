@@ -1,5 +1,6 @@
+-- No public clause rests on this file.
 -- What the parser's functions say of readers.
-use Rattle.std.specs.Prelude.{◌≡◌, ◌⊎◌, Bool, true, false, Option, Some, None, List, [], ◌∷◌, map}
+use Rattle.std.specs.Prelude.{◌≡◌, ◌⊎◌, Bool, true, false, Option, None, List, [], ◌∷◌, map}
 use Rattle.std.specs.Prelude.{Result, Ok, Err}
 use Rattle.std.proofs.Common.{ap, ◌∙◌, refl}
 use Rattle.protobuf_parse_base.specs.Readers.{Rest, end, token, onto, Read, read, stuck, wrong}
@@ -9,7 +10,7 @@ use Rattle.protobuf_parse_base.specs.declared.proto_path.error.PathError.{PathEr
 use Rattle.protobuf_parse_syntax.specs.Text.{Bytes}
 use Rattle.protobuf_parse_syntax.specs.Tokens.{Lexeme, lexeme}
 use Rattle.protobuf_parse_syntax.specs.Trees.{Pieces}
-use Rattle.protobuf_parse_syntax.specs.Classes.{Class, sees, symbol, ident, is_one_of, float}
+use Rattle.protobuf_parse_syntax.specs.Classes.{Class, symbol, ident, is_one_of, float}
 use Rattle.protobuf_parse_syntax.specs.Classes.{is_floating}
 use Rattle.protobuf_parse_syntax.specs.Grammar.{any_ident}
 use Rattle.protobuf_parse_syntax.specs.Parsing.{IsLarge, SaysNothing, HundredParts, SyntaxHead}
@@ -180,11 +181,6 @@ abbrev pub refusal_of : StrLitDecodeError → Refusal
 refusal_of decoding.Memory = Memory
 refusal_of decoding.BadEscape = Here error.StrLitDecode
 refusal_of decoding.NotUtf8 = Here error.StrLitDecode
-
--- an item, if there is one, seen by view
-abbrev pub seen_by : {X Y : Type 0} → (X → Y) → Option X → Option Y
-seen_by view None = None
-seen_by view (Some x) = Some (view x)
 
 -- ---- what fails first fails
 

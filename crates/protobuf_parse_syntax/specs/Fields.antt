@@ -1,3 +1,4 @@
+-- No public clause rests on this file.
 -- Readers of types and fields whose parts have so many levels, and what one level more reads.
 use Rattle.std.proofs.Common.{◌≡◌, ℕ, suc, ◌≤◌, ◌-◌, List, [], ◌∷◌, Option, None, false, codes}
 use Rattle.std.proofs.Common.{refl, ap, ◌∙◌, arith}
@@ -8,7 +9,8 @@ use Rattle.protobuf_parse_syntax.specs.Text.{Bytes}
 use Rattle.protobuf_parse_syntax.specs.Tokens.{Lexeme}
 use Rattle.protobuf_parse_syntax.specs.Trees as tree
 use Rattle.protobuf_parse_syntax.specs.Trees.{FieldStatementSyntax}
-use Rattle.protobuf_parse_syntax.specs.Classes.{Class, word as word_class, lexicon, words}
+use Rattle.protobuf_parse_syntax.specs.Classes.{Class, word as word_class, words}
+use Rattle.protobuf_parse_syntax.specs.ClassLaws.{lexicon}
 use Rattle.protobuf_parse_syntax.specs.Grammar.{table_words, labels, labels3, scalars, MapOf}
 use Rattle.protobuf_parse_syntax.specs.Grammar.{TypeOf, IsType, AfterLabel, FieldOf, IsField}
 use Rattle.protobuf_parse_syntax.specs.Productions.{Parses, name}

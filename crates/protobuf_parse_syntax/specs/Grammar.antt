@@ -11,7 +11,7 @@ use Rattle.std.specs.Str.{IsUtf8}
 use Rattle.protobuf_parse_base.specs.Relations.{Rel, Nothing, Such, Never, Level, One, Either, Many}
 use Rattle.protobuf_parse_base.specs.Relations.{OneOrMore, Separated, Unless, At, somes, ◌>>=◌}
 use Rattle.protobuf_parse_base.specs.Relations.{◌>>◌}
-use Rattle.protobuf_parse_base.specs.Whole.{AtSomeDepth}
+use Rattle.protobuf_parse_base.specs.Relations.{AtSomeDepth}
 use Rattle.protobuf_parse_base.specs.Paths.{IsProtoPath}
 use Rattle.protobuf_parse_syntax.specs.Text.{Bytes}
 use Rattle.protobuf_parse_syntax.specs.Characters as char

@@ -7,6 +7,7 @@ pub mod Decoding
 pub mod Escapes
 pub mod Cut
 pub mod Laws
+pub mod ClassLaws
 pub mod Classes
 pub mod Trees
 pub mod Counts

@@ -1,3 +1,4 @@
+-- No public clause rests on this file.
 -- A pair of readers for each production in which parts nest.
 use Rattle.std.proofs.Common.{◌≡◌, ℕ, suc, ◌≤◌, List, [], ◌∷◌, ◌++◌, None, true}
 use Rattle.std.proofs.Common.{false, codes, refl, ap, ◌∙◌, ◌-◌, arith}

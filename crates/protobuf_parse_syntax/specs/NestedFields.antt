@@ -1,3 +1,4 @@
+-- No public clause rests on this file.
 -- The readers of what nests, each one level deep and one deeper: constants, types, options, fields.
 use Rattle.std.proofs.Common.{◌≡◌, ℕ, suc, ◌≤◌, List, [], ◌∷◌, ◌++◌, Option, Some, None, true}
 use Rattle.std.proofs.Common.{false, codes, refl, ap, ◌∙◌, ◌-◌, arith}
@@ -17,7 +18,8 @@ use Rattle.protobuf_parse_syntax.specs.Trees.{ConstantSyntax}
 use Rattle.protobuf_parse_syntax.specs.Trees.{TypeSyntax}
 use Rattle.protobuf_parse_syntax.specs.Trees.{FieldStatementSyntax}
 use Rattle.protobuf_parse_syntax.specs.Classes.{Class, symbol as symbol_class, word as word_class}
-use Rattle.protobuf_parse_syntax.specs.Classes.{ident as ident_class, integer, text, lexicon, words}
+use Rattle.protobuf_parse_syntax.specs.Classes.{ident as ident_class, integer, text, words}
+use Rattle.protobuf_parse_syntax.specs.ClassLaws.{lexicon}
 use Rattle.protobuf_parse_syntax.specs.Classes.{is_one_of}
 use Rattle.protobuf_parse_syntax.specs.Productions.{Parses, symbol, word, ident, capital, one_of}
 use Rattle.protobuf_parse_syntax.specs.Productions.{str, name, signed, constant_name, field_end}

@@ -3,7 +3,7 @@ use Rattle.std.specs.Prelude.{◌≡◌, ◌<◌, ◌⊎◌, List, [], ◌∷◌
 use Rattle.std.specs.Prelude.{Result, MatchResult}
 use Rattle.protobuf_parse_base.specs.Paths.{path_fault}
 use Rattle.protobuf_parse_base.specs.Relations.{Rel, Many, BeginsOtherwise, ◌>>◌}
-use Rattle.protobuf_parse_base.specs.Whole.{StopsAt}
+use Rattle.protobuf_parse_base.specs.Relations.{StopsAt}
 use Rattle.protobuf_parse_syntax.specs.Text.{Bytes}
 use Rattle.protobuf_parse_syntax.specs.Characters as char
 use Rattle.protobuf_parse_syntax.specs.Tokens.{Lexeme}

@@ -1,3 +1,4 @@
+-- No public clause rests on this file.
 -- A reader for each production of the grammar in which nothing nests.
 use Rattle.std.proofs.Common.{◌≡◌, ℕ, zero, suc, ℤ, pos, List, [], ◌∷◌, ◌++◌, Option, Some, None}
 use Rattle.std.proofs.Common.{Bool, true, false, ◌||◌, cond, bytes_eq, slice_index, codes, refl}
@@ -7,7 +8,8 @@ use Rattle.protobuf_parse_base.specs.Relations.{Rel, Then, Nothing, Either, One,
 use Rattle.protobuf_parse_base.specs.Relations.{Unless}
 use Rattle.protobuf_parse_base.specs.Readers.{Rest, end, token, read, bind, starts}
 use Rattle.protobuf_parse_base.specs.Combinators.{run_many}
-use Rattle.protobuf_parse_base.specs.Readers.{Reader, Shape, shape, seen}
+use Rattle.protobuf_parse_base.specs.Readers.{Reader, Shape, shape}
+use Rattle.protobuf_parse_base.specs.Relations.{seen}
 use Rattle.protobuf_parse_base.specs.Combinators.{then_shape, give, one}
 use Rattle.protobuf_parse_base.specs.Readers.{or_true}
 use Rattle.protobuf_parse_base.specs.Combinators.{choose, many, shaped, ◌>>=◌, ◌>>◌}
@@ -20,7 +22,8 @@ use Rattle.protobuf_parse_syntax.specs.Trees as tree
 use Rattle.protobuf_parse_syntax.specs.Trees.{Pieces, OptionPartSyntax}
 use Rattle.protobuf_parse_syntax.specs.Classes.{Class, sees, symbol as symbol_class}
 use Rattle.protobuf_parse_syntax.specs.Classes.{word as word_class, ident as ident_class, integer}
-use Rattle.protobuf_parse_syntax.specs.Classes.{text, is_ident, lexicon, words, floatings}
+use Rattle.protobuf_parse_syntax.specs.Classes.{text, is_ident, words, floatings}
+use Rattle.protobuf_parse_syntax.specs.ClassLaws.{lexicon}
 use Rattle.protobuf_parse_syntax.specs.Classes.{is_floating, is_one_of}
 use Rattle.protobuf_parse_syntax.specs.Grammar as grammar
 use Rattle.protobuf_parse_syntax.specs.Grammar.{if_so, IsSymbol, IsWord, any_ident, IsIdent, lookup}

@@ -1,3 +1,4 @@
+-- No public clause rests on this file.
 -- Readers that the grammar of this language needs beside those of base: of what is nowhere, of a
 -- relation said otherwise, of a part that is looked at only where it can begin, of one that is
 -- wrong from its first token on, of a value that is found by a test, and of at most so many parts.

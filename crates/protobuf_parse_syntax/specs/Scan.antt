@@ -1,3 +1,4 @@
+-- No public clause rests on this file.
 -- What the scanners of the front of a text answer.
 use Rattle.std.specs.Prelude.{◌≡◌, ◌≤◌, ◌<◌, ◌⊎◌, ℕ, ◌+◌, Bool, true, false, not, nat_lt, ◌&&◌}
 use Rattle.std.specs.Prelude.{◌||◌, if◌then◌else◌, ◌==◌, List, [], ◌∷◌, length, slice_index, Option}

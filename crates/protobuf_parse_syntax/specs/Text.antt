@@ -12,6 +12,7 @@ use Rattle.protobuf_parse_syntax.specs.declared.error.ParserError.{ParserError}
 use Rattle.protobuf_parse_syntax.specs.declared.error.ParserError.TheVariants as error
 use Rattle.protobuf_parse_syntax.specs.declared.lexer.token.TokenKind.{TokenKind}
 use Rattle.protobuf_parse_syntax.specs.declared.lexer.token.TokenKind.TheVariants as kind
+use Rattle.std.specs.Prelude.{Option, Some, None}
 
 abbrev pub Bytes : Type 0
 Bytes = List ℕ
@@ -225,3 +226,8 @@ IsFault z error.UnexpectedCharacter =
     (0 < length z) × (is_in class.Blank (slice_index z 0) ≡ false) × HasNoComment z
     × NoFront IsLiteral z × (is_symbol (slice_index z 0) ≡ false) × (IsQuote (slice_index z 0) → ⊥)
 IsFault z _ = ⊥
+
+-- an item, if there is one, seen by view
+abbrev pub seen_by : {X Y : Type 0} → (X → Y) → Option X → Option Y
+seen_by view None = None
+seen_by view (Some x) = Some (view x)

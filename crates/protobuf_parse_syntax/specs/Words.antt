@@ -1,9 +1,12 @@
+-- No public clause rests on this file.
 -- What functions say of the next token's word.
 use Rattle.std.specs.Prelude.{◌≡◌, Bool, true, false, Option, Some, None, List}
-use Rattle.protobuf_parse_base.specs.Readers.{Rest, end, token, read, seen, starts}
+use Rattle.protobuf_parse_base.specs.Readers.{Rest, end, token, read, starts}
+use Rattle.protobuf_parse_base.specs.Relations.{seen}
 use Rattle.protobuf_parse_syntax.specs.Text.{Bytes}
 use Rattle.protobuf_parse_syntax.specs.Tokens.{Lexeme}
-use Rattle.protobuf_parse_syntax.specs.Classes.{Class, sees_at, words, lexicon}
+use Rattle.protobuf_parse_syntax.specs.Classes.{Class, sees_at, words}
+use Rattle.protobuf_parse_syntax.specs.ClassLaws.{lexicon}
 use Rattle.protobuf_parse_syntax.specs.Grammar.{table_words}
 use Rattle.protobuf_parse_syntax.specs.Productions.{one_of}
 use Rattle.protobuf_parse_syntax.specs.declared.lexer.token.Place.{Place}

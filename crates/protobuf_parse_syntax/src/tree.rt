@@ -9,7 +9,7 @@ mod option;
 ghost use Rattle.std.specs.Prelude.{◌≡◌};
 ghost use Rattle.protobuf_parse_syntax.specs.Trees.{file_view, statement_view, package_of};
 ghost use Rattle.protobuf_parse_syntax.specs.Trees.{package_behind};
-ghost use Rattle.protobuf_parse_syntax.specs.Code.{seen_by};
+ghost use Rattle.protobuf_parse_syntax.specs.Text.{seen_by};
 
 use crate::lexer::token::Place;
 pub use constant::{ConstantField, ConstantFieldName, ProtobufConstant};

@@ -1,3 +1,4 @@
+-- No public clause rests on this file.
 -- The extensions that a tree declares are those of its descriptor.
 use Rattle.std.specs.Prelude.{◌≡◌, ◌<◌, List, length, Some}
 use Rattle.protobuf_parse_syntax.specs.Trees.{FileSyntax, package_of}

@@ -1,3 +1,4 @@
+-- No public clause rests on this file.
 -- What messages and enums of a name have.
 use Rattle.std.specs.Prelude.{List, [], ◌∷◌, map, flat_map, filter, bytes_eq, Option, Some, None}
 use Rattle.protobuf_parse_model.specs.Declarations.{Declared}

@@ -1,8 +1,9 @@
+-- No public clause rests on this file.
 -- What the constants of lists and of message constants give, as lists; and from where the code sees
 -- options.
 use Rattle.std.specs.Prelude.{List, ◌++◌, flat_map, option_to_list}
 use Rattle.protobuf_parse_syntax.specs.Trees.{ConstantSyntax, ConstantFieldSyntax, OptionPartSyntax}
-use Rattle.protobuf_parse_model.specs.Contexts.{name_texts}
+use Rattle.protobuf_parse_model.specs.SeenFiles.{name_texts}
 use Rattle.protobuf_parse_model.specs.Descriptors.{Text, FieldDescriptor}
 use Rattle.protobuf_parse_model.specs.Environment.{part_text}
 use Rattle.protobuf_parse_model.specs.Faults.{Fault}

@@ -1,3 +1,4 @@
+-- No public clause rests on this file.
 -- What the code holds of the files' descriptors: references to them, and to what they declare.
 use Rattle.std.specs.Prelude.{ℤ, List, [], flat_map, string_bytes, bytes_eq, Option, option_map}
 use Rattle.std.specs.Prelude.{if◌then◌else◌}

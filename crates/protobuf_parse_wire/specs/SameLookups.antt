@@ -1,3 +1,4 @@
+-- No public clause rests on this file.
 -- What the custom options of a construct denote and what is wrong in them is decided by what names
 -- mean there: which field of a message has a name, which number a value of an enum, what is a
 -- message, and which extension a name means. Nothing else of the files counts.

@@ -4,7 +4,8 @@ ghost use Rattle.std.specs.Prelude.{◌≡◌, ◌++◌, map, flat_map, option_m
 ghost use Rattle.protobuf_parse_syntax.specs.Trees as tree;
 ghost use Rattle.protobuf_parse_model.specs.BuiltinOptions.{enum_table};
 ghost use Rattle.protobuf_parse_model.specs.ConstructOptions.{construct_faults};
-ghost use Rattle.protobuf_parse_model.specs.Contexts.{environment_in, reserves_seen, name_texts};
+ghost use Rattle.protobuf_parse_model.specs.Contexts.{environment_in, reserves_seen};
+ghost use Rattle.protobuf_parse_model.specs.SeenFiles.{name_texts};
 ghost use Rattle.protobuf_parse_model.specs.Contexts.{values_seen};
 ghost use Rattle.protobuf_parse_model.specs.Descriptors as described;
 ghost use Rattle.protobuf_parse_model.specs.Enums as enums;

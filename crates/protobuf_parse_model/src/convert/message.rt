@@ -6,7 +6,8 @@ ghost use Rattle.protobuf_parse_syntax.specs.Counts.{in_message, message_stateme
 ghost use Rattle.protobuf_parse_syntax.specs.Trees.{message_statement_view, message_view};
 ghost use Rattle.protobuf_parse_model.specs.Contexts as contexts;
 ghost use Rattle.protobuf_parse_model.specs.Contexts.{body_view, environment_in, names_faults};
-ghost use Rattle.protobuf_parse_model.specs.Contexts.{name_texts, with_body_statement};
+ghost use Rattle.protobuf_parse_model.specs.Contexts.{with_body_statement};
+ghost use Rattle.protobuf_parse_model.specs.SeenFiles.{name_texts};
 ghost use Rattle.protobuf_parse_model.specs.Declarations as names;
 ghost use Rattle.protobuf_parse_model.specs.Descriptors as described;
 ghost use Rattle.protobuf_parse_model.specs.Environment.{env_inside};

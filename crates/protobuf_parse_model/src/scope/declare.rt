@@ -8,7 +8,7 @@ ghost use Rattle.protobuf_parse_syntax.specs.Trees.{FileSyntax, file_view, messa
 ghost use Rattle.protobuf_parse_syntax.specs.Trees.{message_view, statement_view};
 ghost use Rattle.protobuf_parse_model.specs.Declarations as names;
 ghost use Rattle.protobuf_parse_model.specs.Descriptors.{Text};
-ghost use Rattle.protobuf_parse_model.specs.Contexts.{declared_as, kind_view, listed, name_texts};
+ghost use Rattle.protobuf_parse_model.specs.SeenFiles.{declared_as, kind_view, listed, name_texts};
 ghost use Rattle.protobuf_parse_model.specs.Tables.{Adds, AddsOne, TableTells, listed_names};
 ghost use Rattle.protobuf_parse_model.specs.Tables.{type_entry};
 

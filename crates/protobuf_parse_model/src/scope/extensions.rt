@@ -7,7 +7,7 @@ ghost use Rattle.protobuf_parse_syntax.specs.Trees.{statement_view};
 ghost use Rattle.protobuf_parse_model.specs.declared.scope.seen.DeclarationKind.TheVariants.{Extension};
 ghost use Rattle.protobuf_parse_model.specs.Declarations as names;
 ghost use Rattle.protobuf_parse_model.specs.Statements.{field_statement_name};
-ghost use Rattle.protobuf_parse_model.specs.Contexts.{name_texts};
+ghost use Rattle.protobuf_parse_model.specs.SeenFiles.{name_texts};
 ghost use Rattle.protobuf_parse_model.specs.Tables.{Adds, AddsOne, extension_entry};
 
 use super::declare::add_name;

@@ -8,7 +8,7 @@ ghost use Rattle.protobuf_parse_syntax.specs.Trees.{statement_view};
 ghost use Rattle.protobuf_parse_syntax.specs.Trees as tree;
 ghost use Rattle.protobuf_parse_model.specs.Declarations as names;
 ghost use Rattle.protobuf_parse_model.specs.Statements.{oneof_fields};
-ghost use Rattle.protobuf_parse_model.specs.Contexts.{name_texts};
+ghost use Rattle.protobuf_parse_model.specs.SeenFiles.{name_texts};
 ghost use Rattle.protobuf_parse_model.specs.Tables.{Adds, generated_entry};
 
 use super::declare::add_name;

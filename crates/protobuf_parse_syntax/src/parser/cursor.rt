@@ -6,10 +6,11 @@ ghost use Rattle.protobuf_parse_base.specs.Readers.{starts};
 ghost use Rattle.protobuf_parse_base.specs.Conditions.{mark_of};
 ghost use Rattle.protobuf_parse_syntax.specs.Tokens.{lexeme};
 ghost use Rattle.protobuf_parse_syntax.specs.Classes as class;
-ghost use Rattle.protobuf_parse_syntax.specs.Classes.{lexicon};
+ghost use Rattle.protobuf_parse_syntax.specs.ClassLaws.{lexicon};
 ghost use Rattle.protobuf_parse_syntax.specs.Grammar.{place_of};
 ghost use Rattle.protobuf_parse_syntax.specs.Productions as read;
-ghost use Rattle.protobuf_parse_syntax.specs.Code.{left, Gives, AtOneToken, is_end, seen_by};
+ghost use Rattle.protobuf_parse_syntax.specs.Code.{left, Gives, AtOneToken, is_end};
+ghost use Rattle.protobuf_parse_syntax.specs.Text.{seen_by};
 ghost use Rattle.protobuf_parse_syntax.specs.Code.{next_ident, floats_second};
 ghost use Rattle.protobuf_parse_syntax.specs.Words.{behind_next};
 

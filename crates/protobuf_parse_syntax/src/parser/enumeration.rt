@@ -3,11 +3,12 @@
 ghost use Rattle.std.specs.Prelude.{◌≡◌, ◌≤◌, ◌∷◌, [], map, string_bytes, OnOk};
 ghost use Rattle.protobuf_parse_base.specs.Readers.{starts};
 ghost use Rattle.protobuf_parse_syntax.specs.Classes as class;
-ghost use Rattle.protobuf_parse_syntax.specs.Classes.{lexicon};
+ghost use Rattle.protobuf_parse_syntax.specs.ClassLaws.{lexicon};
 ghost use Rattle.protobuf_parse_syntax.specs.Grammar as grammar;
 ghost use Rattle.protobuf_parse_syntax.specs.Productions as read;
 ghost use Rattle.protobuf_parse_syntax.specs.Trees as view;
-ghost use Rattle.protobuf_parse_syntax.specs.Code.{left, Gives, GivesOr, Unsaid, of_text, seen_by};
+ghost use Rattle.protobuf_parse_syntax.specs.Code.{left, Gives, GivesOr, Unsaid, of_text};
+ghost use Rattle.protobuf_parse_syntax.specs.Text.{seen_by};
 ghost use Rattle.protobuf_parse_syntax.specs.Nested as nest;
 
 use crate::error::ParserError;

@@ -2,7 +2,8 @@
 
 ghost use Rattle.std.specs.Prelude.{map};
 ghost use Rattle.protobuf_parse_syntax.specs.Trees as view;
-ghost use Rattle.protobuf_parse_syntax.specs.Code.{left, Gives, seen_by};
+ghost use Rattle.protobuf_parse_syntax.specs.Code.{left, Gives};
+ghost use Rattle.protobuf_parse_syntax.specs.Text.{seen_by};
 ghost use Rattle.protobuf_parse_syntax.specs.Nested as nest;
 
 use crate::error::ParserError;

@@ -3,7 +3,7 @@
 ghost use Rattle.std.specs.Prelude.{◌≡◌, ◌∷◌};
 ghost use Rattle.protobuf_parse_base.specs.Readers.{starts};
 ghost use Rattle.protobuf_parse_syntax.specs.Classes as class;
-ghost use Rattle.protobuf_parse_syntax.specs.Classes.{lexicon};
+ghost use Rattle.protobuf_parse_syntax.specs.ClassLaws.{lexicon};
 ghost use Rattle.protobuf_parse_syntax.specs.Words.{takes};
 ghost use Rattle.protobuf_parse_syntax.specs.Fields.{labels_in};
 ghost use Rattle.protobuf_parse_syntax.specs.Grammar as grammar;

@@ -1,7 +1,7 @@
 //! Looking up what files declare, by name.
 
 ghost use Rattle.std.specs.Prelude.{◌≡◌, flat_map, map, option_map, string_bytes, IfOk};
-ghost use Rattle.protobuf_parse_model.specs.Contexts.{name_texts};
+ghost use Rattle.protobuf_parse_model.specs.SeenFiles.{name_texts};
 ghost use Rattle.protobuf_parse_model.specs.Declarations as names;
 ghost use Rattle.protobuf_parse_model.specs.Descriptors.{enum_value_view, field_view};
 ghost use Rattle.protobuf_parse_model.specs.Lookup.{declared, meaning};

@@ -1,5 +1,5 @@
 use Rattle.std.proofs.Common.{◌≡◌, drop}
-use Rattle.protobuf_parse_model.specs.Contexts.{first_type}
+use Rattle.protobuf_parse_model.specs.SeenFiles.{first_type}
 use Rattle.protobuf_parse_model.proofs.scope.first_type.Given as goal
 
 abbrev pub invariant-loop-declaration : goal.invariant-loop-declaration

@@ -4,7 +4,7 @@ use Rattle.std.proofs.Common.{append-nil, take, get_or}
 use Rattle.std.proofs.lemmas.List.{map_more}
 use Rattle.protobuf_parse_base.specs.Names.{absolute_text}
 use Rattle.protobuf_parse_base.proofs.NameTexts.{absolute_text-append}
-use Rattle.protobuf_parse_model.specs.Contexts.{name_texts}
+use Rattle.protobuf_parse_model.specs.SeenFiles.{name_texts}
 use Rattle.protobuf_parse_model.proofs.scope.full_name.Goals as goal
 
 pub loop-outer-preserved : goal.loop-outer-preserved

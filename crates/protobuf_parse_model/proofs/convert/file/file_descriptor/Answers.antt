@@ -1,6 +1,6 @@
 use Rattle.std.proofs.Common.{◌∙◌, ◌++◌, List, ap, subst}
 use Rattle.protobuf_parse_syntax.specs.Trees.{file_view}
-use Rattle.protobuf_parse_model.specs.Contexts.{seen_types, name_texts}
+use Rattle.protobuf_parse_model.specs.SeenFiles.{seen_types, name_texts}
 use Rattle.protobuf_parse_model.specs.Descriptors as described
 use Rattle.protobuf_parse_model.specs.Descriptors.{Text}
 use Rattle.protobuf_parse_model.specs.Environment.{Environment}

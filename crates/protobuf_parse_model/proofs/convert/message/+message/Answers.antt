@@ -11,7 +11,8 @@ use Rattle.protobuf_parse_syntax.proofs.Counts.{body_length, in_message_of, item
 use Rattle.protobuf_parse_syntax.proofs.Counts.{message_counts}
 use Rattle.protobuf_parse_syntax.proofs.Messages.{view_parts}
 use Rattle.protobuf_parse_model.specs.Contexts.{BodyParts, body_of, body_view, environment_in}
-use Rattle.protobuf_parse_model.specs.Contexts.{seen_types, name_texts, with_message}
+use Rattle.protobuf_parse_model.specs.Contexts.{with_message}
+use Rattle.protobuf_parse_model.specs.SeenFiles.{seen_types, name_texts}
 use Rattle.protobuf_parse_model.specs.Contexts.{with_body_statement}
 use Rattle.protobuf_parse_model.specs.Declarations.{Scope}
 use Rattle.protobuf_parse_model.specs.Descriptors as described

@@ -1,5 +1,5 @@
 use Rattle.std.proofs.Common.{◌≡◌, map, take}
-use Rattle.protobuf_parse_model.specs.Contexts.{name_texts}
+use Rattle.protobuf_parse_model.specs.SeenFiles.{name_texts}
 use Rattle.protobuf_parse_model.specs.Descriptors.{field_view}
 use Rattle.protobuf_parse_model.specs.Fields.{names_of_fields}
 use Rattle.protobuf_parse_model.proofs.convert.names.names_of_fields.Given as goal

@@ -1,6 +1,7 @@
 use Rattle.std.proofs.Common.{◌≡◌, map, take}
 use Rattle.protobuf_parse_syntax.specs.Trees.{MethodSyntax}
-use Rattle.protobuf_parse_model.specs.Contexts.{methods_seen, name_texts}
+use Rattle.protobuf_parse_model.specs.Contexts.{methods_seen}
+use Rattle.protobuf_parse_model.specs.SeenFiles.{name_texts}
 use Rattle.protobuf_parse_model.proofs.convert.service.names.Given as goal
 
 abbrev pub invariant-loop-method : goal.invariant-loop-method

@@ -5,7 +5,7 @@ use Rattle.protobuf_parse_syntax.specs.declared.tree.declaration.MessageStatemen
 use Rattle.protobuf_parse_syntax.specs.Trees.{message_statement_view}
 use Rattle.protobuf_parse_model.specs.Declarations.{DeclaredType, Scope, a_message, declare, inside}
 use Rattle.protobuf_parse_model.specs.Declarations.{types_of}
-use Rattle.protobuf_parse_model.specs.Contexts.{name_texts}
+use Rattle.protobuf_parse_model.specs.SeenFiles.{name_texts}
 use Rattle.protobuf_parse_model.specs.Tables.{Adds, type_entry}
 use Rattle.protobuf_parse_model.proofs.Tables.{adds_next, message_types-view, types_of-view}
 use Rattle.protobuf_parse_model.proofs.scope.declare.+declare.Goals as goal

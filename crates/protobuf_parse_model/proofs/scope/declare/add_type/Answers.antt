@@ -1,7 +1,7 @@
 use Rattle.std.proofs.Common.{◌≡◌, ◌∙◌, ap, refl, subst, sym}
 use Rattle.std.proofs.lemmas.Result.{on_ok_weaker}
 use Rattle.protobuf_parse_model.specs.declared.scope.seen.DeclarationKind.{DeclarationKind}
-use Rattle.protobuf_parse_model.specs.Contexts.{kind_view, name_texts}
+use Rattle.protobuf_parse_model.specs.SeenFiles.{kind_view, name_texts}
 use Rattle.protobuf_parse_model.specs.Declarations.{declare, full_name}
 use Rattle.protobuf_parse_model.specs.Tables.{AddsOne, declaration_kind, type_entry}
 use Rattle.protobuf_parse_model.proofs.Tables.{adds_single}

@@ -1,7 +1,7 @@
 use Rattle.std.proofs.Common.{◌∙◌, [], subst}
 use Rattle.protobuf_parse_syntax.specs.Trees.{statement_view}
 use Rattle.protobuf_parse_model.specs.Declarations.{Scope, statement_types}
-use Rattle.protobuf_parse_model.specs.Contexts.{name_texts}
+use Rattle.protobuf_parse_model.specs.SeenFiles.{name_texts}
 use Rattle.protobuf_parse_model.specs.Tables.{Adds, type_entry}
 use Rattle.protobuf_parse_model.proofs.Tables.{adds_next}
 use Rattle.protobuf_parse_model.proofs.scope.declare.add_types.Goals as goal

@@ -4,7 +4,7 @@ use Rattle.std.proofs.lemmas.Result.{on_ok_weaker}
 use Rattle.std.specs.BTreeMap.{get_by_text}
 use Rattle.protobuf_parse_model.specs.declared.scope.seen.Declarations.{Declarations}
 use Rattle.protobuf_parse_model.specs.Descriptors.{Text}
-use Rattle.protobuf_parse_model.specs.Contexts.{declared_as, listed}
+use Rattle.protobuf_parse_model.specs.SeenFiles.{declared_as, listed}
 use Rattle.protobuf_parse_model.specs.Tables.{listed_names}
 use Rattle.protobuf_parse_model.proofs.Tables.{adds_one}
 use Rattle.protobuf_parse_model.proofs.scope.declare.put.Goals as goal

@@ -5,7 +5,7 @@ use Rattle.protobuf_parse_syntax.specs.declared.tree.declaration.MessageStatemen
 use Rattle.protobuf_parse_syntax.specs.Trees.{extend_view, message_statement_view}
 use Rattle.protobuf_parse_model.specs.Declarations.{DeclaredExtension, Scope, extend_extensions}
 use Rattle.protobuf_parse_model.specs.Declarations.{inside, extensions_of}
-use Rattle.protobuf_parse_model.specs.Contexts.{name_texts}
+use Rattle.protobuf_parse_model.specs.SeenFiles.{name_texts}
 use Rattle.protobuf_parse_model.specs.Tables.{Adds, extension_entry}
 use Rattle.protobuf_parse_model.proofs.Tables.{adds_next, extensions_of-view, extensions-view}
 use Rattle.protobuf_parse_model.proofs.TreeViews.{views_extend}

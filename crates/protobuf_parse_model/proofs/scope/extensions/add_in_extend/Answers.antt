@@ -1,5 +1,5 @@
 use Rattle.protobuf_parse_syntax.specs.Trees.{extend_view}
-use Rattle.protobuf_parse_model.specs.Contexts.{name_texts}
+use Rattle.protobuf_parse_model.specs.SeenFiles.{name_texts}
 use Rattle.protobuf_parse_model.proofs.Tables.{adds_extension}
 use Rattle.protobuf_parse_model.proofs.scope.extensions.add_in_extend.Goals as goal
 

@@ -1,7 +1,7 @@
 use Rattle.std.proofs.Common.{map, take}
 use Rattle.protobuf_parse_syntax.specs.Trees.{extend_view, field_statement_view}
 use Rattle.protobuf_parse_model.specs.Declarations.{extend_extensions}
-use Rattle.protobuf_parse_model.specs.Contexts.{name_texts}
+use Rattle.protobuf_parse_model.specs.SeenFiles.{name_texts}
 use Rattle.protobuf_parse_model.specs.Tables.{Adds, extension_entry}
 use Rattle.protobuf_parse_model.proofs.scope.extensions.add_in_extend.Given as goal
 

@@ -3,7 +3,7 @@ use Rattle.std.proofs.lemmas.Result.{on_ok_weaker}
 use Rattle.protobuf_parse_syntax.specs.Trees.{extend_view, statement_view}
 use Rattle.protobuf_parse_model.specs.Declarations.{DeclaredExtension, extend_extensions}
 use Rattle.protobuf_parse_model.specs.Declarations.{statement_extensions}
-use Rattle.protobuf_parse_model.specs.Contexts.{name_texts}
+use Rattle.protobuf_parse_model.specs.SeenFiles.{name_texts}
 use Rattle.protobuf_parse_model.specs.Tables.{Adds, extension_entry}
 use Rattle.protobuf_parse_model.proofs.scope.extensions.add_in_file.Goals as goal
 

@@ -5,7 +5,7 @@ use Rattle.protobuf_parse_syntax.specs.declared.tree.declaration.MessageStatemen
 use Rattle.protobuf_parse_syntax.specs.Trees.{message_statement_view}
 use Rattle.protobuf_parse_model.specs.Descriptors.{Text}
 use Rattle.protobuf_parse_model.specs.Declarations.{Scope, inside, generated_of}
-use Rattle.protobuf_parse_model.specs.Contexts.{name_texts}
+use Rattle.protobuf_parse_model.specs.SeenFiles.{name_texts}
 use Rattle.protobuf_parse_model.specs.Tables.{Adds, generated_entry}
 use Rattle.protobuf_parse_model.proofs.Tables.{adds_next, generated_of-view, generated-view}
 use Rattle.protobuf_parse_model.proofs.scope.generated.+generated.Goals as goal

@@ -1,7 +1,7 @@
 use Rattle.std.proofs.Common.{◌≡◌, map, flat_map, take}
 use Rattle.protobuf_parse_syntax.specs.Trees.{statement_view}
 use Rattle.protobuf_parse_model.specs.Declarations.{statement_generated}
-use Rattle.protobuf_parse_model.specs.Contexts.{name_texts}
+use Rattle.protobuf_parse_model.specs.SeenFiles.{name_texts}
 use Rattle.protobuf_parse_model.specs.Tables.{Adds, generated_entry}
 use Rattle.protobuf_parse_model.proofs.scope.generated.add_generated.Given as goal
 

@@ -1,7 +1,7 @@
 use Rattle.std.proofs.Common.{[]}
 use Rattle.protobuf_parse_syntax.specs.Trees.{field_statement_view}
 use Rattle.protobuf_parse_model.specs.Declarations.{generated_by}
-use Rattle.protobuf_parse_model.specs.Contexts.{name_texts}
+use Rattle.protobuf_parse_model.specs.SeenFiles.{name_texts}
 use Rattle.protobuf_parse_model.specs.Tables.{generated_entry}
 use Rattle.protobuf_parse_model.proofs.Tables.{adds_next}
 use Rattle.protobuf_parse_model.proofs.scope.generated.add_in_extend.Goals as goal

@@ -5,7 +5,7 @@ use Rattle.protobuf_parse_syntax.specs.Trees.{OneofStatementSyntax, oneof_statem
 use Rattle.protobuf_parse_model.specs.Descriptors.{Text}
 use Rattle.protobuf_parse_model.specs.Declarations.{generated_by}
 use Rattle.protobuf_parse_model.specs.Statements.{oneof_fields}
-use Rattle.protobuf_parse_model.specs.Contexts.{name_texts}
+use Rattle.protobuf_parse_model.specs.SeenFiles.{name_texts}
 use Rattle.protobuf_parse_model.specs.Tables.{Adds, generated_entry}
 use Rattle.protobuf_parse_model.proofs.Tables.{adds_next, flat_map-inside}
 use Rattle.protobuf_parse_model.proofs.scope.generated.add_in_oneof.Goals as goal

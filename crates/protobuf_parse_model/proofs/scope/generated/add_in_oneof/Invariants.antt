@@ -2,7 +2,7 @@ use Rattle.std.proofs.Common.{map, flat_map, take}
 use Rattle.protobuf_parse_syntax.specs.Trees.{OneofStatementSyntax, oneof_statement_view}
 use Rattle.protobuf_parse_model.specs.Declarations.{generated_by}
 use Rattle.protobuf_parse_model.specs.Statements.{oneof_fields}
-use Rattle.protobuf_parse_model.specs.Contexts.{name_texts}
+use Rattle.protobuf_parse_model.specs.SeenFiles.{name_texts}
 use Rattle.protobuf_parse_model.specs.Tables.{Adds, generated_entry}
 use Rattle.protobuf_parse_model.proofs.scope.generated.add_in_oneof.Given as goal
 

@@ -5,7 +5,8 @@ use Rattle.protobuf_parse_base.specs.Combinators.{shorter, run_many}
 use Rattle.protobuf_parse_base.specs.Loops.{with_rest, shows_somes, goes_on, stops_here}
 use Rattle.protobuf_parse_syntax.specs.Trees.{FieldStatementSyntax, field_statement_view}
 use Rattle.protobuf_parse_syntax.specs.Nested as nest
-use Rattle.protobuf_parse_syntax.specs.Code.{left, seen_by, Gives, fails_first}
+use Rattle.protobuf_parse_syntax.specs.Code.{left, Gives, fails_first}
+use Rattle.protobuf_parse_syntax.specs.Text.{seen_by}
 use Rattle.protobuf_parse_syntax.proofs.Loops.{pushed, fails}
 use Rattle.protobuf_parse_syntax.proofs.Fields.{field_absent, field_labelled, field_mapped}
 use Rattle.protobuf_parse_syntax.proofs.Fields.{field_unlabelled, field_items_law, field_block_law}

@@ -8,7 +8,8 @@ use Rattle.protobuf_parse_syntax.specs.Trees as tree
 use Rattle.protobuf_parse_syntax.specs.Trees.{message_statement_view, MessageStatementSyntax}
 use Rattle.protobuf_parse_syntax.specs.Nested as nest
 use Rattle.protobuf_parse_syntax.specs.Nested.{message_zero, message_more}
-use Rattle.protobuf_parse_syntax.specs.Code.{left, seen_by, too_deep, fails_first}
+use Rattle.protobuf_parse_syntax.specs.Code.{left, too_deep, fails_first}
+use Rattle.protobuf_parse_syntax.specs.Text.{seen_by}
 use Rattle.protobuf_parse_syntax.proofs.Loops.{pushed, fails}
 use Rattle.protobuf_parse_syntax.proofs.Messages.{views_reserved, views_oneof, views_extend}
 use Rattle.protobuf_parse_syntax.proofs.Messages.{views_message, views_enum, views_extensions}

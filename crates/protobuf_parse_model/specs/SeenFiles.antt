@@ -1,0 +1,65 @@
+-- What the code has of the files that are seen: names, and the table of their declarations.
+use Rattle.std.specs.Prelude.{ℕ, List, [], ◌∷◌, map, nat_eq}
+use Rattle.std.specs.Prelude.{Option, Some, None, option_map, if◌then◌else◌}
+use Rattle.std.specs.Borrow.{Bor}
+use Rattle.std.specs.Global.{Vec}
+use Rattle.std.specs.List.{list_any}
+use Rattle.std.specs.BTreeMap.{get_by_text}
+use Rattle.std.specs.Option.{option_or}
+use Rattle.protobuf_parse_model.specs.declared.scope.seen.TypeKind.{TypeKind}
+use Rattle.protobuf_parse_model.specs.declared.scope.seen.TypeKind.TheVariants as kind
+use Rattle.protobuf_parse_model.specs.declared.scope.seen.DeclarationKind.{DeclarationKind}
+use Rattle.protobuf_parse_model.specs.declared.scope.seen.DeclarationKind.TheVariants as declaration
+use Rattle.protobuf_parse_model.specs.declared.scope.seen.Declaration.{Declaration}
+use Rattle.protobuf_parse_model.specs.declared.scope.seen.Declarations.{Declarations}
+use Rattle.protobuf_parse_model.specs.declared.scope.seen.Seen.{Seen}
+use Rattle.protobuf_parse_model.specs.Descriptors.{Text}
+use Rattle.protobuf_parse_syntax.specs.Trees.{FileSyntax}
+use Rattle.protobuf_parse_model.specs.Declarations as declared
+use Rattle.protobuf_parse_model.specs.Declarations.{DeclaredType, a_message, an_enum, file_scope}
+use Rattle.protobuf_parse_model.specs.Environment.{Environment, Customs}
+
+-- names as texts
+abbrev pub name_texts : List (Bor (List ℕ)) → List Text
+name_texts names = map (λ (s : Bor (List ℕ)). s.now) names
+
+abbrev pub kind_view : TypeKind → declared.TypeKind
+kind_view kind.Message = a_message
+kind_view kind.Enum = an_enum
+
+-- what kind of type is declared, where a written name may mean it
+abbrev pub type_kind : DeclarationKind → Option TypeKind
+type_kind declaration.Message = Some kind.Message
+type_kind declaration.Enum = Some kind.Enum
+type_kind declaration.Generated = None
+type_kind declaration.Extension = None
+
+-- the type that the first declaration declares that is of one and stands in a file with one of
+-- these numbers
+abbrev pub first_type : List ℕ → List Declaration → Option TypeKind
+first_type sight [] = None
+first_type sight (d ∷ ds) = if list_any (nat_eq d.file) sight
+    then option_or (type_kind d.kind) (first_type sight ds) else first_type sight ds
+
+-- the declarations of a list that may be there
+abbrev pub listed : Option (Vec Declaration) → List Declaration
+listed None = []
+listed (Some v) = v.items
+
+-- the declarations of the full name
+abbrev pub declared_as : Declarations → Text → List Declaration
+declared_as ds name = listed (get_by_text ds.by_name name)
+
+abbrev pub declared_type : Text → TypeKind → DeclaredType
+declared_type name k = record { name = name; what = kind_view k }
+
+-- which type a full name means, among those of the files that are seen
+abbrev pub seen_types : Seen → Text → Option DeclaredType
+seen_types seen name =
+    option_map (declared_type name)
+    (first_type seen.sight.now (declared_as seen.declarations.now name))
+
+-- from where a whole file is seen, by the files that it sees
+abbrev pub environment_of_file : Customs → Seen → FileSyntax → Environment
+environment_of_file customs seen t =
+    record { syntax = t.syntax; types = seen_types seen; scope = file_scope t; customs = customs }
