@@ -1,10 +1,12 @@
 -- Laws of the definitions.
 use Rattle.std.specs.Prelude.{◌≡◌, ◌⊎◌, ℕ, ◌+◌, ◌==◌, ◌<◌, not, All, List, [], ◌∷◌, ◌++◌, length}
-use Rattle.std.specs.Prelude.{reverse, count_by, take_while, take, drop, slice_index}
+use Rattle.std.specs.Prelude.{Some, reverse, count_by, take_while, take, drop, slice_index}
 use Rattle.std.specs.Str.{IsUtf8, chars}
 use Rattle.protobuf_parse_syntax.specs.Text.{Bytes, IsToken, IsFault}
 use Rattle.protobuf_parse_syntax.specs.Place.{start, after}
 use Rattle.protobuf_parse_syntax.specs.Tokens.{Lexeme, unquoted, Decodes, DecodesAll}
+use Rattle.protobuf_parse_syntax.specs.Grammar.{StandsFor}
+use Rattle.protobuf_parse_syntax.specs.Decoder.{decode, text_of}
 use Rattle.protobuf_parse_syntax.specs.Cut.{Cuts, mark_len}
 use Rattle.protobuf_parse_base.specs.Escapes.{escaped_bytes}
 use Rattle.protobuf_parse_syntax.specs.declared.error.ParserError.{ParserError}
@@ -29,6 +31,20 @@ IsOneFault = (rest : Bytes) (e f : ParserError) → IsFault rest e → IsFault r
 abbrev pub IsOneDecoding : Type 0
 IsOneDecoding =
     (pieces : List Bytes) (u v : Bytes) → DecodesAll pieces u → DecodesAll pieces v → u ≡ v
+
+-- `decode` gives just the bytes that the pieces stand for
+abbrev pub DecodeIsExact : Type 0
+DecodeIsExact =
+    (pieces : List Bytes) (bytes : Bytes)
+    → (decode pieces ≡ Some bytes → DecodesAll pieces bytes)
+    × (DecodesAll pieces bytes → decode pieces ≡ Some bytes)
+
+-- and `text_of` those that are a text
+abbrev pub TextIsExact : Type 0
+TextIsExact =
+    (pieces : List Bytes) (text : Bytes)
+    → (text_of pieces ≡ Some text → StandsFor pieces text)
+    × (StandsFor pieces text → text_of pieces ≡ Some text)
 
 -- the line behind these characters: one more than the line feeds among them
 abbrev pub line_after : List ℕ → ℕ

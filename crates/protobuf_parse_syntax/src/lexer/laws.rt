@@ -3,6 +3,7 @@
 ghost use Rattle.protobuf_parse_syntax.specs.Laws.{IsOneCut, IsOneFault, IsOneDecoding};
 ghost use Rattle.protobuf_parse_syntax.specs.Laws.{PlacesCountCharacters, TokensStandInTheText};
 ghost use Rattle.protobuf_parse_syntax.specs.Laws.{StringsAreQuoted, EscapedBytesDecode};
+ghost use Rattle.protobuf_parse_syntax.specs.Laws.{DecodeIsExact, TextIsExact};
 
 /// A text is cut in one way, and one fault ends it.
 pub fn cuts_are_unique()
@@ -13,6 +14,13 @@ pub fn cuts_are_unique()
 /// The pieces of a string stand for one list of bytes.
 pub fn decoding_is_unique()
     ensures { IsOneDecoding }
+{}
+
+/// The functions that the definitions of descriptors use for strings, `decode` and `text_of`, give
+/// just what the pieces of a string stand for.
+pub fn strings_are_decoded()
+    ensures bytes { DecodeIsExact }
+    ensures text { TextIsExact }
 {}
 
 /// A place counts line feeds and the characters after the last one, and a token has that of what
