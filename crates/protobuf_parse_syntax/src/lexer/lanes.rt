@@ -1,6 +1,6 @@
 //! Runs of bytes, sixteen at a time.
 
-ghost use Rattle.std.specs.Prelude.{◌≡◌, ◌+◌, ◌≤◌, length};
+ghost use Rattle.std.specs.Prelude.{◌≡◌, ◌<◌, ◌+◌, ◌≤◌, false, length, slice_index};
 ghost use Rattle.protobuf_parse_syntax.specs.Scan as scan;
 ghost use Rattle.protobuf_parse_syntax.specs.Scan.{AllPass, IsRunIn, is_plain};
 ghost use Rattle.protobuf_parse_syntax.specs.Text as text;
@@ -105,6 +105,7 @@ pub fn plain_run_end(bytes: &[u8], at: usize) -> usize
     ensures after { at ≤ result }
     ensures within { result ≤ length bytes.now }
     ensures passes { AllPass is_plain bytes.now at result }
+    ensures stops { result < length bytes.now → is_plain (slice_index bytes.now result) ≡ false }
 {
     let mut end = at;
     'by_block: while bytes.len() - end >= LANES {
