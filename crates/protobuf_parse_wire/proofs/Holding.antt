@@ -193,14 +193,6 @@ spots_push parts listed name n (x ∷ fs) f = let e : suc n + length fs
     ∙ sym (append_assoc (spots_in parts n name (listed x)) (spots_of parts listed name (suc n) fs)
     (spots_in parts (n + suc (length fs)) name (listed f)))
 
-pub known_append : {T : Type 0} (parts : T → List Text) (file : ℕ) (name : Text)
-    (ks ls : List (Known (Bor T))) → spots_known parts file name (ks ++ ls)
-    ≡ spots_known parts file name ks ++ spots_known parts file name ls
-known_append {T = T} parts file name ks ls =
-    ap (map (spot_known parts file))
-    (filter-append (λ (k : Known (Bor T)). bytes_eq name (string_bytes k.name)) ks ls)
-    ∙ map-append (spot_known parts file) _ _
-
 -- the places of what the next file declares
 pub more_held : {T U : Type 0} (seen : T → U) (parts : U → List Text)
     (listed : FileDescriptor → List (Placed U))
