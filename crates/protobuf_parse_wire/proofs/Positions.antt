@@ -109,20 +109,20 @@ module _ {T : Type 0} (parts : T → List Text) (list : Inside → List T)
   abbrev has : ℕ → Bool
   has n = list_any (nat_eq n) picks.numbers.now
 
+  abbrev tells_of : Placed T → Option T → Type 0
+  tells_of p o = IfSome o (λ x. kept_position (parts p.what) ≡ kept_position (parts x))
+
+  abbrev there : Placed T → Option FileDescriptor → Option T
+  there p o = one_inside list (inside_of o p.path) p.index
+
   one_told : (n : ℕ) (file : FileDescriptor) → slice_get files n ≡ Some file → (p : Placed T)
       → StandsIn list file p → Tells parts list picks (spot_in parts n p)
   one_told n file e p stands = by_test (has n) refl
     where
-      abbrev tells_of : Option T → Type 0
-      tells_of o = IfSome o (λ x. kept_position (parts p.what) ≡ kept_position (parts x))
-
-      there : Option FileDescriptor → Option T
-      there o = one_inside list (inside_of o p.path) p.index
-
       by_test : (b : Bool) → has n ≡ b → Tells parts list picks (spot_in parts n p)
-      by_test true h = subst tells_of (sym (ap there (numbered_is files picks is n
+      by_test true h = subst (tells_of p) (sym (ap (there p) (numbered_is files picks is n
           ∙ ap (λ b. if b then slice_get files n else None) h ∙ e) ∙ stands)) refl
-      by_test false h = subst tells_of (sym (ap there (numbered_is files picks is n
+      by_test false h = subst (tells_of p) (sym (ap (there p) (numbered_is files picks is n
           ∙ ap (λ b. if b then slice_get files n else None) h))) tt
 
   from_told : (n : ℕ) (fs : List FileDescriptor) → Rest files n fs

@@ -1,7 +1,8 @@
 //! What stands at places, in the files that are picked.
 
 ghost use Rattle.std.specs.Prelude.{◌≡◌, map, option_map, slice_get};
-ghost use Rattle.protobuf_parse_model.specs.Descriptors.{enum_value_view, enum_view, message_view};
+ghost use Rattle.protobuf_parse_model.specs.Descriptors.{enum_value_view, enum_view, field_view};
+ghost use Rattle.protobuf_parse_model.specs.Descriptors.{message_view};
 ghost use Rattle.protobuf_parse_wire.specs.Holding.{at_spot, at_spots, enum_seen, field_there};
 ghost use Rattle.protobuf_parse_wire.specs.Holding.{file_numbered, file_seen, found_by, inside_of};
 ghost use Rattle.protobuf_parse_wire.specs.Holding.{members_view, message_seen, number_there};
@@ -158,11 +159,22 @@ fn field_in<'a>(
     ensures { option_map field_seen result ≡ field_by (spot_view place.now).position
         (parts_seen (message_view message.now)).field name.now }
 {
-    if message.field.len() <= FEW {
-        return field_among(&message.field, name);
+    field_by(&message.field, place, name)
+}
+
+fn field_by<'a>(
+    fields: &'a [FieldDescriptorProto],
+    place: &Place,
+    name: &str,
+) -> Option<&'a FieldDescriptorProto>
+    ensures { option_map field_seen result ≡ field_by (spot_view place.now).position
+        (map field_view fields.now) name.now }
+{
+    if fields.len() <= FEW {
+        return field_among(fields, name);
     }
     match place.positions.get(name) {
-        Some(position) => message.field.get(*position),
+        Some(position) => fields.get(*position),
         None => None,
     }
 }
