@@ -7,22 +7,25 @@
 -- message with an entry for each field; for a map it is the message of one of its entries.
 -- Protocol Buffers Language Guide (proto2), "Custom Options"; Protocol Buffers Encoding,
 -- "Message Structure" (https://protobuf.dev).
-use Rattle.std.specs.Prelude.{◌≡◌, ℤ, nat_abs, List, [], ◌∷◌, ◌++◌, map, flat_map, unwrap_or}
+use Rattle.std.specs.Prelude.{ℤ, nat_abs, List, [], ◌∷◌, ◌++◌, map, flat_map, unwrap_or}
 use Rattle.std.specs.Prelude.{option_to_list}
 use Rattle.protobuf_parse_syntax.specs.Trees.{ConstantSyntax, integer, truth, dotted, string, list}
 use Rattle.protobuf_parse_syntax.specs.Trees.{fields, ConstantList, no_constants, more_constants}
 use Rattle.protobuf_parse_syntax.specs.Trees.{ConstantFieldList, no_fields, more_fields}
 use Rattle.protobuf_parse_syntax.specs.Trees.{OptionPartSyntax, OptionNameSyntax, builtin, custom}
-use Rattle.protobuf_parse_syntax.specs.Trees.{OptionSyntax}
+use Rattle.protobuf_parse_syntax.specs.Trees.{OptionSyntax, FileSyntax}
 use Rattle.protobuf_parse_syntax.specs.Decoder.{decode}
 use Rattle.protobuf_parse_model.specs.Descriptors.{Text, FieldDescriptor, FileDescriptor}
+use Rattle.protobuf_parse_model.specs.Faults.{Among}
 use Rattle.protobuf_parse_model.specs.declared.customs.Construct.{Construct}
-use Rattle.protobuf_parse_model.specs.OptionSets.{OptionSet}
+use Rattle.protobuf_parse_model.specs.Environment.{CustomBytes}
+use Rattle.protobuf_parse_model.specs.OptionSets.{OptionSet, option_sets}
 use Rattle.protobuf_parse_wire.specs.declared.kind.Kind.{Kind}
 use Rattle.protobuf_parse_wire.specs.Kinds.{kind_of_field_type}
 use Rattle.protobuf_parse_wire.specs.Trees as trees
 use Rattle.protobuf_parse_wire.specs.Trees.{EntryTree, Entries}
 use Rattle.protobuf_parse_wire.specs.Views.{WireItem, entries_of_list}
+use Rattle.protobuf_parse_wire.specs.Wire.{Spells}
 use Rattle.protobuf_parse_wire.specs.OptionFields.{OptionScope, options_message, number_of_value}
 use Rattle.protobuf_parse_wire.specs.OptionFields.{part_field, constant_field, type_name_of}
 
@@ -85,3 +88,10 @@ denotes at construct os = entries_of_list (flat_map (items_of_option at construc
 -- where a set of options is seen from, in a file that reaches the first files and sees the second
 abbrev pub scope_of : (files visible : List FileDescriptor) → OptionSet → OptionScope
 scope_of files visible s = record { files = files; visible = visible; scope = s.scope }
+
+-- The bytes of each construct of the file spell what its custom options denote.
+abbrev pub SpellsOptions : (files visible : List FileDescriptor) → FileSyntax → CustomBytes → Type 0
+SpellsOptions files visible t spelled =
+    (s : OptionSet) → Among (option_sets t) s
+    → Spells (denotes (scope_of files visible s) s.construct s.statements)
+    (spelled s.construct s.scope s.statements)

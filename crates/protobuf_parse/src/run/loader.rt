@@ -439,7 +439,7 @@ fn join(frame: &mut LoadFrame, placed: Placed) -> Result<(), AllocError>
 
 /// Whether the statement with this number is a public import.
 fn is_public_next(statements: &[FileStatement], number: usize) -> bool
-    ensures { result ≡ is_public_at (slice_get import_statements.now number) }
+    ensures { result ≡ is_public_at (slice_get statements.now number) }
 {
     match statements.get(number) {
         Some(statement) => imports_publicly(statement),
