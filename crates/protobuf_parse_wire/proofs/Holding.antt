@@ -5,6 +5,7 @@ use Rattle.std.proofs.Common.{◌∷◌, ◌++◌, map, flat_map, filter, length
 use Rattle.std.proofs.Common.{sym, ap, ◌∙◌, arith, bytes_eq, nat_eq, slice_get, zero-add}
 use Rattle.std.proofs.Common.{append_assoc, append-nil, string_bytes, ◌<◌, drop, get_or}
 use Rattle.std.specs.Prelude.{option_to_list}
+use Rattle.std.specs.Borrow.{Bor}
 use Rattle.std.specs.Global.{Global, Vec}
 use Rattle.std.specs.BTreeMap.{BTreeMap, IsEmpty}
 use Rattle.std.specs.List.{AllByRecursion, list_any}
@@ -22,8 +23,8 @@ use Rattle.protobuf_parse_wire.specs.Declarations.{Declaration, messages_declare
 use Rattle.protobuf_parse_wire.specs.Declarations.{messages_named}
 use Rattle.protobuf_parse_wire.specs.Holding.{AddsSpots, Picks, Spot, at_spot, at_spots, beside}
 use Rattle.protobuf_parse_wire.specs.Holding.{file_numbered, files_seen, inside_of, placed_known}
-use Rattle.protobuf_parse_wire.specs.Holding.{spot_in, spot_view, spots_in, spots_known, spots_of}
-use Rattle.protobuf_parse_wire.specs.Holding.{spots_under}
+use Rattle.protobuf_parse_wire.specs.Holding.{spot_in, spot_known, spot_view, spots_in, spots_known}
+use Rattle.protobuf_parse_wire.specs.Holding.{spots_of, spots_under}
 use Rattle.protobuf_parse_wire.specs.Groups.{group}
 use Rattle.protobuf_parse_wire.specs.Indexed.{parts_seen}
 use Rattle.protobuf_parse_wire.specs.Places.{Inside, Placed, one_inside, placed_messages}
@@ -73,7 +74,8 @@ abbrev pub named_in : {T : Type 0} → (FileDescriptor → List (Placed T)) → 
 named_in {T = T} listed name file = map (λ (p : Placed T). p.what)
     (filter (λ (p : Placed T). bytes_eq name p.name) (listed file))
 
-module _ {T : Type 0} (list : Inside → List T) (listed : FileDescriptor → List (Placed T))
+module _ {T : Type 0} (parts : T → List Text) (list : Inside → List T)
+    (listed : FileDescriptor → List (Placed T))
     (stand : (file : FileDescriptor) → AllByRecursion (StandsIn list file) (listed file))
     (name : Text) (picks : PickedFiles) where
   abbrev is_named : Placed T → Bool
@@ -88,39 +90,39 @@ module _ {T : Type 0} (list : Inside → List T) (listed : FileDescriptor → Li
   -- a file that is picked
   kept : (n : ℕ) (file : FileDescriptor) → file_numbered picks n ≡ Some file
       → (ps : List (Placed T)) → AllByRecursion (StandsIn list file) ps
-      → flat_map look (spots_in n name ps) ≡ map what_of (filter is_named ps)
+      → flat_map look (spots_in parts n name ps) ≡ map what_of (filter is_named ps)
   kept n file e [] h = refl
   kept n file e (p ∷ ps) h = by_test (is_named p) (kept n file e ps h.1)
     where
-      here : look (spot_in n p) ≡ p.what ∷ []
+      here : look (spot_in parts n p) ≡ p.what ∷ []
       here = ap (λ o. option_to_list (one_inside list (inside_of o p.path) p.index)) e
           ∙ ap option_to_list h.0
 
-      by_test : (b : Bool) → flat_map look (spots_in n name ps) ≡ map what_of (filter is_named ps)
-          → flat_map look (map (spot_in n) (cond b (p ∷ filter is_named ps) (filter is_named ps)))
+      by_test : (b : Bool) → flat_map look (spots_in parts n name ps) ≡ map what_of (filter is_named ps)
+          → flat_map look (map (spot_in parts n) (cond b (p ∷ filter is_named ps) (filter is_named ps)))
           ≡ map what_of (cond b (p ∷ filter is_named ps) (filter is_named ps))
-      by_test true rest = ap (λ xs. xs ++ flat_map look (spots_in n name ps)) here
+      by_test true rest = ap (λ xs. xs ++ flat_map look (spots_in parts n name ps)) here
           ∙ ap (λ xs. p.what ∷ xs) rest
       by_test false rest = rest
 
   -- one that isn't
   left_out : (n : ℕ) → file_numbered picks n ≡ None → (ps : List (Placed T))
-      → flat_map look (map (spot_in n) ps) ≡ []
+      → flat_map look (map (spot_in parts n) ps) ≡ []
   left_out n e [] = refl
   left_out n e (p ∷ ps) =
       ap (λ o. option_to_list (one_inside list (inside_of o p.path) p.index)
-      ++ flat_map look (map (spot_in n) ps)) e ∙ left_out n e ps
+      ++ flat_map look (map (spot_in parts n) ps)) e ∙ left_out n e ps
 
   module _ (files : List FileDescriptor) (is : Picks files picks) where
     abbrev has : ℕ → Bool
     has n = list_any (nat_eq n) picks.numbers.now
 
     one_file : (n : ℕ) (file : FileDescriptor) → slice_get files n ≡ Some file
-        → flat_map look (spots_in n name (listed file))
+        → flat_map look (spots_in parts n name (listed file))
         ≡ flat_map (named_in listed name) (if has n then file ∷ [] else [])
     one_file n file e = by_test (has n) refl
       where
-        by_test : (b : Bool) → has n ≡ b → flat_map look (spots_in n name (listed file))
+        by_test : (b : Bool) → has n ≡ b → flat_map look (spots_in parts n name (listed file))
             ≡ flat_map (named_in listed name) (if b then file ∷ [] else [])
         by_test true h =
             let found = numbered_is files picks is n
@@ -134,13 +136,13 @@ module _ {T : Type 0} (list : Inside → List T) (listed : FileDescriptor → Li
 
     from : (n : ℕ) (fs : List FileDescriptor)
         → ((i : ℕ) → slice_get files (n + i) ≡ slice_get fs i)
-        → flat_map look (spots_of listed name n fs)
+        → flat_map look (spots_of parts listed name n fs)
         ≡ flat_map (named_in listed name) (among picks.numbers.now n fs)
     from n [] h = refl
     from n (f ∷ fs) h =
         let zero_more : n ≡ n + 0 = omega arith in
-        flat_map-append look (spots_in n name (listed f)) (spots_of listed name (suc n) fs)
-        ∙ ap (λ xs. xs ++ flat_map look (spots_of listed name (suc n) fs))
+        flat_map-append look (spots_in parts n name (listed f)) (spots_of parts listed name (suc n) fs)
+        ∙ ap (λ xs. xs ++ flat_map look (spots_of parts listed name (suc n) fs))
         (one_file n f (ap (slice_get files) zero_more ∙ h 0))
         ∙ ap (λ xs. flat_map (named_in listed name) (if has n then f ∷ [] else []) ++ xs)
         (from (suc n) fs (λ i. let e : suc n + i ≡ n + suc i = omega arith in
@@ -149,7 +151,7 @@ module _ {T : Type 0} (list : Inside → List T) (listed : FileDescriptor → Li
         (among picks.numbers.now (suc n) fs))
 
     -- what stands at the places of the name is what has the name in the files that are picked
-    pub stands_there : at_spots list picks (spots_of listed name 0 files)
+    pub stands_there : at_spots list picks (spots_of parts listed name 0 files)
         ≡ flat_map (named_in listed name) (files_seen picks)
     stands_there =
         from 0 files (λ i. ap (slice_get files) (zero-add i))
@@ -158,50 +160,55 @@ module _ {T : Type 0} (list : Inside → List T) (listed : FileDescriptor → Li
 
 -- ---- the index as it grows
 
-pub spots_of_known : {T U : Type 0} (seen : T → U) (file : ℕ) (name : Text) (ks : List (Known T))
-    → spots_in file name (map (placed_known seen) ks) ≡ spots_known file name ks
-spots_of_known seen file name [] = refl
-spots_of_known {T = T} {U = U} seen file name (k ∷ ks) =
-    by_test (bytes_eq name (string_bytes k.name)) refl (spots_of_known seen file name ks)
+pub spots_of_known : {T U : Type 0} (seen : T → U) (parts : U → List Text) (file : ℕ) (name : Text)
+    (ks : List (Known (Bor T)))
+    → spots_in parts file name (map (placed_known (λ (b : Bor T). seen b.now)) ks)
+    ≡ spots_known (λ t. parts (seen t)) file name ks
+spots_of_known seen parts file name [] = refl
+spots_of_known {T = T} {U = U} seen parts file name (k ∷ ks) =
+    by_test (bytes_eq name (string_bytes k.name)) refl (spots_of_known seen parts file name ks)
   where
+    placed : Known (Bor T) → Placed U
+    placed = placed_known (λ (b : Bor T). seen b.now)
+
+    of_parts : T → List Text
+    of_parts t = parts (seen t)
+
     by_test : (b : Bool) → bytes_eq name (string_bytes k.name) ≡ b
-        → spots_in file name (map (placed_known seen) ks) ≡ spots_known file name ks
-        → spots_in file name (map (placed_known seen) (k ∷ ks)) ≡ spots_known file name (k ∷ ks)
-    by_test true e rest = rw e (ap (λ (ss : List Spot). record {
-      file = file;
-      path = k.path.items;
-      index = k.index;
-    } ∷ ss) rest)
+        → spots_in parts file name (map placed ks) ≡ spots_known of_parts file name ks
+        → spots_in parts file name (map placed (k ∷ ks)) ≡ spots_known of_parts file name (k ∷ ks)
+    by_test true e rest = rw e (ap (λ (ss : List Spot). spot_known of_parts file k ∷ ss) rest)
     by_test false e rest = rw e rest
 
-pub spots_push : {T : Type 0} (listed : FileDescriptor → List (Placed T)) (name : Text) (n : ℕ)
-    (fs : List FileDescriptor) (f : FileDescriptor)
-    → spots_of listed name n (fs ++ f ∷ [])
-    ≡ spots_of listed name n fs ++ spots_in (n + length fs) name (listed f)
-spots_push listed name n [] f = let e : n ≡ n + 0 = omega arith in
-    append-nil (spots_in n name (listed f)) ∙ ap (λ i. spots_in i name (listed f)) e
-spots_push listed name n (x ∷ fs) f = let e : suc n + length fs
+pub spots_push : {T : Type 0} (parts : T → List Text) (listed : FileDescriptor → List (Placed T))
+    (name : Text) (n : ℕ) (fs : List FileDescriptor) (f : FileDescriptor)
+    → spots_of parts listed name n (fs ++ f ∷ [])
+    ≡ spots_of parts listed name n fs ++ spots_in parts (n + length fs) name (listed f)
+spots_push parts listed name n [] f = let e : n ≡ n + 0 = omega arith in
+    append-nil (spots_in parts n name (listed f)) ∙ ap (λ i. spots_in parts i name (listed f)) e
+spots_push parts listed name n (x ∷ fs) f = let e : suc n + length fs
     ≡ n + suc (length fs) = omega arith in
-    ap (λ ss. spots_in n name (listed x) ++ ss)
-    (spots_push listed name (suc n) fs f
-    ∙ ap (λ i. spots_of listed name (suc n) fs ++ spots_in i name (listed f)) e)
-    ∙ sym (append_assoc (spots_in n name (listed x)) (spots_of listed name (suc n) fs)
-    (spots_in (n + suc (length fs)) name (listed f)))
+    ap (λ ss. spots_in parts n name (listed x) ++ ss)
+    (spots_push parts listed name (suc n) fs f
+    ∙ ap (λ i. spots_of parts listed name (suc n) fs ++ spots_in parts i name (listed f)) e)
+    ∙ sym (append_assoc (spots_in parts n name (listed x)) (spots_of parts listed name (suc n) fs)
+    (spots_in parts (n + suc (length fs)) name (listed f)))
 
 -- the places of what the next file declares
-pub more_held : {T U : Type 0} (seen : T → U) (listed : FileDescriptor → List (Placed U))
+pub more_held : {T U : Type 0} (seen : T → U) (parts : U → List Text)
+    (listed : FileDescriptor → List (Placed U))
     (old new : BTreeMap (String Global) (Vec Place)) (files : List FileDescriptor)
-    (f : FileDescriptor) (n : ℕ) (ks : List (Known T)) → length files ≡ n
-    → map (placed_known seen) ks ≡ listed f
-    → AddsSpots old new (λ name. spots_known n name ks)
-    → ((name : Text) → spots_under old name ≡ spots_of listed name 0 files)
-    → (name : Text) → spots_under new name ≡ spots_of listed name 0 (files ++ f ∷ [])
-more_held seen listed old new files f n ks len is adds before name =
-    adds name ∙ ap (λ ss. ss ++ spots_known n name ks) (before name)
-    ∙ ap (λ ss. spots_of listed name 0 files ++ ss)
-    (sym (spots_of_known seen n name ks) ∙ ap (spots_in n name) is
-    ∙ ap (λ i. spots_in i name (listed f)) (sym len ∙ sym (zero-add (length files))))
-    ∙ sym (spots_push listed name 0 files f)
+    (f : FileDescriptor) (n : ℕ) (ks : List (Known (Bor T))) → length files ≡ n
+    → map (placed_known (λ (b : Bor T). seen b.now)) ks ≡ listed f
+    → AddsSpots old new (λ name. spots_known (λ t. parts (seen t)) n name ks)
+    → ((name : Text) → spots_under old name ≡ spots_of parts listed name 0 files)
+    → (name : Text) → spots_under new name ≡ spots_of parts listed name 0 (files ++ f ∷ [])
+more_held seen parts listed old new files f n ks len is adds before name =
+    adds name ∙ ap (λ ss. ss ++ spots_known (λ t. parts (seen t)) n name ks) (before name)
+    ∙ ap (λ ss. spots_of parts listed name 0 files ++ ss)
+    (sym (spots_of_known seen parts n name ks) ∙ ap (spots_in parts n name) is
+    ∙ ap (λ i. spots_in parts i name (listed f)) (sym len ∙ sym (zero-add (length files))))
+    ∙ sym (spots_push parts listed name 0 files f)
 
 -- ---- what has a name in files
 
@@ -275,26 +282,19 @@ parts_named name (f ∷ fs) =
     ∙ sym (messages_named-append name (messages_declared_in f) (flat_map messages_declared_in fs))
 
 -- a place put under a name
-pub put_spot : {T : Type 0} (old new : BTreeMap (String Global) (Vec Place)) (k : Known T)
-    (item : Place) (file : ℕ) (text name : Text) → spot_view item ≡ record {
-      file = file;
-      path = k.path.items;
-      index = k.index;
-    }
+pub put_spot : {T : Type 0} (parts : T → List Text)
+    (old new : BTreeMap (String Global) (Vec Place)) (k : Known (Bor T)) (item : Place) (file : ℕ)
+    (text name : Text) → spot_view item ≡ spot_known parts file k
     → text ≡ string_bytes k.name
     → group new name ≡ (if bytes_eq name text then group old name ++ item ∷ [] else group old name)
-    → spots_under new name ≡ spots_under old name ++ spots_known file name (k ∷ [])
-put_spot {T = T} old new k item file text name is named put =
+    → spots_under new name ≡ spots_under old name ++ spots_known parts file name (k ∷ [])
+put_spot {T = T} parts old new k item file text name is named put =
     ap (map spot_view) put ∙ ap (λ (t : Text). map spot_view (if bytes_eq name t then
     group old name ++ item ∷ [] else group old name)) named
     ∙ by_test (bytes_eq name (string_bytes k.name))
   where
     by_test : (b : Bool) → map spot_view (cond b (group old name ++ item ∷ []) (group old name))
-        ≡ spots_under old name ++ map (λ (k : Known T). record {
-          file = file;
-          path = k.path.items;
-          index = k.index;
-        }) (cond b (k ∷ []) [])
+        ≡ spots_under old name ++ map (spot_known parts file) (cond b (k ∷ []) [])
     by_test true = map-append spot_view (group old name) (item ∷ [])
         ∙ ap (λ (s : Spot). spots_under old name ++ s ∷ []) is
     by_test false = sym (append-nil (spots_under old name))

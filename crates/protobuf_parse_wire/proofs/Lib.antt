@@ -44,5 +44,6 @@ pub mod EnumNumbers
 pub mod ByName
 pub mod Placing
 pub mod Picks
+pub mod Positions
 pub mod Holding
 pub mod Visiting

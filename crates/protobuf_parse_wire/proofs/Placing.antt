@@ -59,19 +59,19 @@ inside_is m = ap inside_message (message_view_is m) ∙ ap with_messages
     }
 
 -- a rest of a list that begins at the number n
-abbrev Rest : {T : Type 0} → List T → ℕ → List T → Type 0
+abbrev pub Rest : {T : Type 0} → List T → ℕ → List T → Type 0
 Rest all n rest = (i : ℕ) → slice_get all (n + i) ≡ slice_get rest i
 
-rest_next : {T : Type 0} (all : List T) (n : ℕ) (x : T) (rest : List T) → Rest all n (x ∷ rest)
+pub rest_next : {T : Type 0} (all : List T) (n : ℕ) (x : T) (rest : List T) → Rest all n (x ∷ rest)
     → Rest all (suc n) rest
 rest_next all n x rest h i = let e : suc n + i ≡ n + suc i = omega arith in
     ap (slice_get all) e ∙ h (suc i)
 
-rest_first : {T : Type 0} (all : List T) (n : ℕ) (x : T) (rest : List T) → Rest all n (x ∷ rest)
+pub rest_first : {T : Type 0} (all : List T) (n : ℕ) (x : T) (rest : List T) → Rest all n (x ∷ rest)
     → slice_get all n ≡ Some x
 rest_first all n x rest h = let e : n ≡ n + 0 = omega arith in ap (slice_get all) e ∙ h 0
 
-all_rest : {T : Type 0} (all : List T) → Rest all 0 all
+pub all_rest : {T : Type 0} (all : List T) → Rest all 0 all
 all_rest all i = ap (slice_get all) (zero-add i)
 
 module _ (start : Option Inside) where

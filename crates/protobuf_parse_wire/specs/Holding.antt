@@ -1,11 +1,12 @@
 -- What the index of a run holds: the places of what files declare, by full name.
 use Rattle.std.specs.Prelude.{◌≡◌, ℕ, suc, List, [], ◌∷◌, ◌++◌, map, flat_map, filter, bytes_eq}
 use Rattle.std.specs.Prelude.{nat_eq, String, string_bytes, Option, Some, None, option_map}
-use Rattle.std.specs.Prelude.{option_to_list, slice_get, if◌then◌else◌}
+use Rattle.std.specs.Prelude.{ℤ, option_to_list, slice_get, if◌then◌else◌}
 use Rattle.std.specs.List.{AllByRecursion}
 use Rattle.std.specs.Borrow.{Bor}
 use Rattle.std.specs.Global.{Global, Vec}
-use Rattle.std.specs.BTreeMap.{BTreeMap}
+use Rattle.std.specs.BTreeMap.{BTreeMap, get_by_text}
+use Rattle.std.specs.Option.{option_or}
 use Rattle.protobuf_parse_model.specs.declared.descriptor.DescriptorProto.{DescriptorProto}
 use Rattle.protobuf_parse_model.specs.declared.descriptor.EnumDescriptorProto.{EnumDescriptorProto}
 use Rattle.protobuf_parse_model.specs.declared.descriptor.FieldDescriptorProto.{FieldDescriptorProto}
@@ -22,17 +23,27 @@ use Rattle.protobuf_parse_wire.specs.Groups.{group}
 use Rattle.protobuf_parse_wire.specs.Known.{field_seen}
 use Rattle.protobuf_parse_wire.specs.OptionFields.{declared_enums}
 use Rattle.protobuf_parse_wire.specs.Places.{Inside, Placed, down, inside_file, one_inside}
+use Rattle.protobuf_parse_wire.specs.Places.{enums_inside, messages_inside}
 use Rattle.protobuf_parse_wire.specs.Places.{placed_enums, placed_extensions, placed_messages}
+use Rattle.protobuf_parse_wire.specs.Positions.{extension_parts, field_inside, field_names}
+use Rattle.protobuf_parse_wire.specs.Positions.{kept_position, number_inside, value_names}
 use Rattle.protobuf_parse_wire.specs.SmallValues.{HaveSmall}
 
--- a place in the file with a number
+-- a place in the file with a number, and the positions that are kept of the parts of what stands
+-- there, by their names
 pub record Spot : Type 0 where
   pub file : ℕ
   pub path : List ℕ
   pub index : ℕ
+  pub position : Text → Option ℕ
 
 abbrev pub spot_view : Place → Spot
-spot_view p = record { file = p.file; path = p.path.items; index = p.index }
+spot_view p = record {
+  file = p.file;
+  path = p.path.items;
+  index = p.index;
+  position = get_by_text p.positions;
+}
 
 abbrev pub members_view : Members → Inside
 members_view m = record {
@@ -71,23 +82,38 @@ extensions_placed ks = map (placed_known field_seen) ks
 abbrev pub spots_under : BTreeMap (String Global) (Vec Place) → Text → List Spot
 spots_under places name = map spot_view (group places name)
 
-abbrev pub spot_in : {T : Type 0} → ℕ → Placed T → Spot
-spot_in file p = record { file = file; path = p.path; index = p.index }
+abbrev pub spot_in : {T : Type 0} → (T → List Text) → ℕ → Placed T → Spot
+spot_in parts file p = record {
+  file = file;
+  path = p.path;
+  index = p.index;
+  position = kept_position (parts p.what);
+}
 
 -- the places of what has the name, in the file with this number
-abbrev pub spots_in : {T : Type 0} → ℕ → Text → List (Placed T) → List Spot
-spots_in file name ps = map (spot_in file) (filter (λ p. bytes_eq name p.name) ps)
+abbrev pub spots_in : {T : Type 0} → (T → List Text) → ℕ → Text → List (Placed T) → List Spot
+spots_in parts file name ps = map (spot_in parts file) (filter (λ p. bytes_eq name p.name) ps)
 
 -- those of what the code's list has
-abbrev pub spots_known : {T : Type 0} → ℕ → Text → List (Known T) → List Spot
-spots_known file name ks = map (λ k. record { file = file; path = k.path.items; index = k.index })
-    (filter (λ k. bytes_eq name (string_bytes k.name)) ks)
+abbrev pub spot_known : {T : Type 0} → (T → List Text) → ℕ → Known (Bor T) → Spot
+spot_known parts file k = record {
+  file = file;
+  path = k.path.items;
+  index = k.index;
+  position = kept_position (parts k.what.now);
+}
+
+abbrev pub spots_known : {T : Type 0} → (T → List Text) → ℕ → Text → List (Known (Bor T))
+    → List Spot
+spots_known parts file name ks =
+    map (spot_known parts file) (filter (λ k. bytes_eq name (string_bytes k.name)) ks)
 
 -- the same in files, of which the first has the number n and each next one the next number
-abbrev pub spots_of : {T : Type 0} → (FileDescriptor → List (Placed T)) → Text → ℕ
-    → List FileDescriptor → List Spot
-spots_of listed name n [] = []
-spots_of listed name n (f ∷ fs) = spots_in n name (listed f) ++ spots_of listed name (suc n) fs
+abbrev pub spots_of : {T : Type 0} → (T → List Text) → (FileDescriptor → List (Placed T)) → Text
+    → ℕ → List FileDescriptor → List Spot
+spots_of parts listed name n [] = []
+spots_of parts listed name n (f ∷ fs) =
+    spots_in parts n name (listed f) ++ spots_of parts listed name (suc n) fs
 
 -- these places were added behind the others of each name
 abbrev pub AddsSpots : (old new : BTreeMap (String Global) (Vec Place)) → (Text → List Spot)
@@ -98,10 +124,11 @@ AddsSpots old new added = (name : Text) → spots_under new name ≡ spots_under
 -- have 32 bits.
 pub record Holds (places : DeclaredPlaces) (files : List FileDescriptor) : Type 0 where
   pub messages : (name : Text)
-      → spots_under places.messages name ≡ spots_of placed_messages name 0 files
-  pub enums : (name : Text) → spots_under places.enums name ≡ spots_of placed_enums name 0 files
+      → spots_under places.messages name ≡ spots_of field_names placed_messages name 0 files
+  pub enums : (name : Text)
+      → spots_under places.enums name ≡ spots_of value_names placed_enums name 0 files
   pub extensions : (name : Text)
-      → spots_under places.extensions name ≡ spots_of placed_extensions name 0 files
+      → spots_under places.extensions name ≡ spots_of extension_parts placed_extensions name 0 files
   pub small : AllByRecursion (λ f. HaveSmall (declared_enums f)) files
 
 -- ---- the files that are picked
@@ -142,6 +169,19 @@ at_spot list picked s = one_inside list (inside_of (file_numbered picked s.file)
 
 abbrev pub at_spots : {T : Type 0} → (Inside → List T) → PickedFiles → List Spot → List T
 at_spots list picked spots = flat_map (λ s. option_to_list (at_spot list picked s)) spots
+
+-- what is found first
+abbrev pub found_by : {A : Type 0} → (Spot → Option A) → List Spot → Option A
+found_by look [] = None
+found_by look (s ∷ ss) = option_or (look s) (found_by look ss)
+
+-- the field of that name in the message at a place
+abbrev pub field_there : PickedFiles → Text → Spot → Option FieldDescriptor
+field_there picked name s = field_inside s.position (at_spot messages_inside picked s) name
+
+-- the number of the value of that name in the enum at a place
+abbrev pub number_there : PickedFiles → Text → Spot → Option ℤ
+number_there picked name s = number_inside s.position (at_spot enums_inside picked s) name
 
 -- The index holds what some files declare, of which these are picked, and those.
 pub record Knows (places : DeclaredPlaces) (reach sight : PickedFiles) : Type 0 where

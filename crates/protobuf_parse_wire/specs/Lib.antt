@@ -27,4 +27,5 @@ pub mod MoreFiles
 pub mod Recovery
 pub mod ByName
 pub mod Places
+pub mod Positions
 pub mod Holding

@@ -9,6 +9,7 @@ mod members;
 mod paths;
 mod picked_files;
 mod places;
+mod positions;
 mod refuse;
 mod spots;
 mod statements;

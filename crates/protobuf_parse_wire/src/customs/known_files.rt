@@ -4,13 +4,13 @@ ghost use Rattle.std.specs.Prelude.{◌≡◌, List, ℕ, flat_map, map};
 ghost use Rattle.std.proofs.Props.{props};
 ghost use Rattle.protobuf_parse_wire.specs.ByName.{named};
 ghost use Rattle.protobuf_parse_wire.specs.Declarations.{declared_extensions, messages_with_name};
-ghost use Rattle.protobuf_parse_wire.specs.Holding.{Knows, at_spots, files_seen, spots_under};
+ghost use Rattle.protobuf_parse_wire.specs.Holding.{Knows, at_spots, field_there, files_seen};
+ghost use Rattle.protobuf_parse_wire.specs.Holding.{found_by, number_there, spots_under};
 ghost use Rattle.protobuf_parse_wire.specs.Indexed.{parts_seen};
 ghost use Rattle.protobuf_parse_wire.specs.OptionBytes.{known_customs};
-ghost use Rattle.protobuf_parse_wire.specs.OptionFields.{declared_enums};
+ghost use Rattle.protobuf_parse_wire.specs.OptionFields.{field_named, number_of_value};
 ghost use Rattle.protobuf_parse_wire.specs.OptionLaw.{HasSmallValues};
-ghost use Rattle.protobuf_parse_wire.specs.Places.{enums_inside, extensions_inside};
-ghost use Rattle.protobuf_parse_wire.specs.Places.{messages_inside};
+ghost use Rattle.protobuf_parse_wire.specs.Places.{extensions_inside, messages_inside};
 
 use crate::customs::fields::OptionPlace;
 use crate::customs::picked_files::PickedFiles;
@@ -31,9 +31,12 @@ pub struct KnownFiles<'a> {
     pub(crate) sight: PickedFiles<'a>,
     ghost all_messages: { (name : List ℕ) → map parts_seen (at_spots messages_inside reach
         (spots_under places.now.messages name)) ≡ messages_with_name (files_seen reach) name } by { Prim.hlevel props },
-    ghost all_enums: { (name : List ℕ) → at_spots enums_inside reach
-        (spots_under places.now.enums name)
-        ≡ named name (flat_map declared_enums (files_seen reach)) } by { Prim.hlevel props },
+    ghost all_fields: { (message name : List ℕ) → found_by (field_there reach name)
+        (spots_under places.now.messages message)
+        ≡ field_named (files_seen reach) message name } by { Prim.hlevel props },
+    ghost all_values: { (enum_name name : List ℕ) → found_by (number_there reach name)
+        (spots_under places.now.enums enum_name)
+        ≡ number_of_value (files_seen reach) enum_name name } by { Prim.hlevel props },
     ghost all_extensions: { (name : List ℕ) → at_spots extensions_inside sight
         (spots_under places.now.extensions name)
         ≡ named name (flat_map declared_extensions (files_seen sight)) } by { Prim.hlevel props },

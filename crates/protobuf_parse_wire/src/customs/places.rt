@@ -12,6 +12,7 @@ ghost use Rattle.protobuf_parse_wire.specs.Known.{enum_known};
 ghost use Rattle.protobuf_parse_wire.specs.SmallValues.{AreSmall, HaveSmall};
 
 use crate::customs::known::{self, Known};
+use crate::customs::positions::HasParts;
 use crate::reader::groups;
 use protobuf_parse_model::{EnumDescriptorProto, EnumValueDescriptorProto, FileDescriptorProto};
 use std::alloc::{AllocError, Global};
@@ -27,6 +28,9 @@ pub struct Place {
     pub path: Vec<usize>,
     /// Its number in its list.
     pub index: usize,
+    /// The positions of the fields of a message and of the values of an enum, where they are more
+    /// than a few: the first of each name.
+    pub positions: BTreeMap<String, usize>,
 }
 
 /// Where the files of a run declare messages, enums and extensions: the places of each full name,
@@ -72,14 +76,14 @@ impl DeclaredPlaces {
 }
 
 /// Puts the places of what a file declares under the full names, behind what stands there.
-fn put_all<T>(
+fn put_all<T: HasParts>(
     places: &mut BTreeMap<String, Vec<Place>>,
     alloc: Global,
     file: usize,
-    list: &[Known<T>],
+    list: &[Known<&T>],
 ) -> Result<(), AllocError>
     ensures { OnOk result (AddsSpots places.old places.new
-        (λ (name : Text). spots_known file name list.now)) }
+        (λ (name : Text). spots_known T.part_names file name list.now)) }
 {
     'items: for known in list {
         put(places, alloc, file, known)?;
@@ -87,19 +91,20 @@ fn put_all<T>(
     Ok(())
 }
 
-fn put<T>(
+fn put<T: HasParts>(
     places: &mut BTreeMap<String, Vec<Place>>,
     alloc: Global,
     file: usize,
-    known: &Known<T>,
+    known: &Known<&T>,
 ) -> Result<(), AllocError>
     ensures { OnOk result (AddsSpots places.old places.new
-        (λ (name : Text). spots_known file name (known.now ∷ []))) }
+        (λ (name : Text). spots_known T.part_names file name (known.now ∷ []))) }
 {
     let place = Place {
         file,
         path: known::copied(alloc, &known.path)?,
         index: known.index,
+        positions: known.what.positions(alloc)?,
     };
     groups::put(places, known.name.clone()?, place)
 }

@@ -1,22 +1,27 @@
 //! What stands at places, in the files that are picked.
 
-ghost use Rattle.std.specs.Prelude.{◌≡◌, map, option_map, option_to_list, slice_get};
-ghost use Rattle.protobuf_parse_model.specs.Descriptors.{enum_view, message_view};
-ghost use Rattle.protobuf_parse_wire.specs.Holding.{at_spot, at_spots, enum_seen, file_numbered};
-ghost use Rattle.protobuf_parse_wire.specs.Holding.{file_seen, inside_of, members_view};
-ghost use Rattle.protobuf_parse_wire.specs.Holding.{message_seen, option_join, spot_view};
-ghost use Rattle.protobuf_parse_wire.specs.Known.{field_among, field_seen, number_among};
-ghost use Rattle.protobuf_parse_wire.specs.ByName.{fields_of_all, first, values_of_all};
+ghost use Rattle.std.specs.Prelude.{◌≡◌, map, option_map, slice_get};
+ghost use Rattle.protobuf_parse_model.specs.Descriptors.{enum_value_view, enum_view, field_view};
+ghost use Rattle.protobuf_parse_model.specs.Descriptors.{message_view};
+ghost use Rattle.protobuf_parse_wire.specs.Holding.{at_spot, at_spots, enum_seen, field_there};
+ghost use Rattle.protobuf_parse_wire.specs.Holding.{file_numbered, file_seen, found_by, inside_of};
+ghost use Rattle.protobuf_parse_wire.specs.Holding.{members_view, message_seen, number_there};
+ghost use Rattle.protobuf_parse_wire.specs.Holding.{option_join, spot_view};
+ghost use Rattle.protobuf_parse_wire.specs.Known.{field_seen};
+ghost use Rattle.protobuf_parse_wire.specs.ByName.{first};
 ghost use Rattle.protobuf_parse_wire.specs.Indexed.{parts_seen};
 ghost use Rattle.protobuf_parse_wire.specs.Places.{enums_inside, extensions_inside};
 ghost use Rattle.protobuf_parse_wire.specs.Places.{messages_inside};
+ghost use Rattle.protobuf_parse_wire.specs.Positions.{field_by, number_by, value_number};
 
 use crate::customs::lookup::{field_among, number_among};
 use crate::customs::members::{Members, members_down};
 use crate::customs::picked_files::PickedFiles;
 use crate::customs::places::Place;
+use crate::customs::positions::FEW;
 use protobuf_parse_model::{
-    DescriptorProto, EnumDescriptorProto, FieldDescriptorProto, FileDescriptorProto,
+    DescriptorProto, EnumDescriptorProto, EnumValueDescriptorProto, FieldDescriptorProto,
+    FileDescriptorProto,
 };
 
 /// The file with the number, if it is among them.
@@ -120,8 +125,8 @@ pub fn field_of<'a>(
     places: &[Place],
     name: &str,
 ) -> Option<&'a FieldDescriptorProto>
-    ensures { option_map field_seen result ≡ field_among (fields_of_all (map parts_seen
-        (at_spots messages_inside picked.now (map spot_view places.now)))) name.now }
+    ensures { option_map field_seen result
+        ≡ found_by (field_there picked.now name.now) (map spot_view places.now) }
 {
     'places: for place in places {
         let field = field_at(picked, place, name);
@@ -137,26 +142,46 @@ fn field_at<'a>(
     place: &Place,
     name: &str,
 ) -> Option<&'a FieldDescriptorProto>
-    ensures { option_map field_seen result ≡ field_among (fields_of_all (map parts_seen
-        (option_to_list (at_spot messages_inside picked.now (spot_view place.now))))) name.now }
+    ensures { option_map field_seen result ≡ field_there picked.now name.now (spot_view place.now) }
 {
     match message_at(picked, place) {
-        Some(message) => field_in(message, name),
+        Some(message) => field_in(message, place, name),
         None => None,
     }
 }
 
-fn field_in<'a>(message: &'a DescriptorProto, name: &str) -> Option<&'a FieldDescriptorProto>
-    ensures { option_map field_seen result ≡ field_among
+/// The first field of that name in the message, which stands at the place.
+fn field_in<'a>(
+    message: &'a DescriptorProto,
+    place: &Place,
+    name: &str,
+) -> Option<&'a FieldDescriptorProto>
+    ensures { option_map field_seen result ≡ field_by (spot_view place.now).position
         (parts_seen (message_view message.now)).field name.now }
 {
-    field_among(&message.field, name)
+    field_by(&message.field, place, name)
+}
+
+fn field_by<'a>(
+    fields: &'a [FieldDescriptorProto],
+    place: &Place,
+    name: &str,
+) -> Option<&'a FieldDescriptorProto>
+    ensures { option_map field_seen result ≡ field_by (spot_view place.now).position
+        (map field_view fields.now) name.now }
+{
+    if fields.len() <= FEW {
+        return field_among(fields, name);
+    }
+    match place.positions.get(name) {
+        Some(position) => fields.get(*position),
+        None => None,
+    }
 }
 
 /// The number of the first value of that name in the enums at the places.
 pub fn number_of(picked: &PickedFiles<'_>, places: &[Place], name: &str) -> Option<i32>
-    ensures { result ≡ number_among (values_of_all
-        (at_spots enums_inside picked.now (map spot_view places.now))) name.now }
+    ensures { result ≡ found_by (number_there picked.now name.now) (map spot_view places.now) }
 {
     'places: for place in places {
         let number = number_at(picked, place, name);
@@ -168,17 +193,34 @@ pub fn number_of(picked: &PickedFiles<'_>, places: &[Place], name: &str) -> Opti
 }
 
 fn number_at(picked: &PickedFiles<'_>, place: &Place, name: &str) -> Option<i32>
-    ensures { result ≡ number_among (values_of_all (option_to_list
-        (at_spot enums_inside picked.now (spot_view place.now)))) name.now }
+    ensures { result ≡ number_there picked.now name.now (spot_view place.now) }
 {
     match enum_at(picked, place) {
-        Some(known) => number_in(known, name),
+        Some(known) => number_in(known, place, name),
         None => None,
     }
 }
 
-fn number_in(known: &EnumDescriptorProto, name: &str) -> Option<i32>
-    ensures { result ≡ number_among (enum_view known.now).value name.now }
+/// The number of the first value of that name in the enum, which stands at the place.
+fn number_in(known: &EnumDescriptorProto, place: &Place, name: &str) -> Option<i32>
+    ensures { result ≡ number_by (spot_view place.now).position (enum_view known.now).value
+        name.now }
 {
-    number_among(&known.value, name)
+    if known.value.len() <= FEW {
+        return number_among(&known.value, name);
+    }
+    match place.positions.get(name) {
+        Some(position) => number_at_position(&known.value, *position),
+        None => None,
+    }
+}
+
+fn number_at_position(values: &[EnumValueDescriptorProto], position: usize) -> Option<i32>
+    ensures { result ≡ option_map value_number (slice_get (map enum_value_view values.now)
+        position) }
+{
+    match values.get(position) {
+        Some(value) => Some(value.number),
+        None => None,
+    }
 }

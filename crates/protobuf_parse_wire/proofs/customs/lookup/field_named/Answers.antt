@@ -1,14 +1,11 @@
 use Rattle.std.proofs.Common.{◌∙◌, ap, map}
-use Rattle.protobuf_parse_wire.specs.ByName.{fields_of_all}
-use Rattle.protobuf_parse_wire.specs.Holding.{at_spots, spot_view}
-use Rattle.protobuf_parse_wire.specs.Indexed.{parts_seen}
-use Rattle.protobuf_parse_wire.specs.Known.{field_among}
-use Rattle.protobuf_parse_wire.specs.Places.{messages_inside}
+use Rattle.protobuf_parse_wire.specs.Holding.{field_there, found_by, spot_view}
 use Rattle.protobuf_parse_wire.proofs.customs.lookup.field_named.Goals as goal
 
 pub returns : goal.returns
 returns c =
-    let reach = c.args.known.now.reach in
-    c.field_of.ensures ∙ ap (λ ps. field_among (fields_of_all ps) c.args.name.now)
-    (ap (λ ps. map parts_seen (at_spots messages_inside reach (map spot_view ps))) c.group.ensures
-    ∙ c.args.known.now.all_messages c.args.message.now)
+    let known = c.args.known.now in
+    let name = c.args.name.now in
+    c.field_of.ensures
+    ∙ ap (λ ps. found_by (field_there known.reach name) (map spot_view ps)) c.group.ensures
+    ∙ known.all_fields c.args.message.now name

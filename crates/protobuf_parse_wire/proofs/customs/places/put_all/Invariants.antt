@@ -5,5 +5,6 @@ use Rattle.protobuf_parse_wire.proofs.customs.places.put_all.Given as goal
 
 abbrev pub invariant-items : goal.invariant-items
 invariant-items g l =
-    (name : Text) → spots_under l.fn.places name ++ spots_known l.file name l.list
-    ≡ spots_under l.places name ++ spots_known l.file name (drop l.known-index l.list)
+    let parts = g.T.HasParts.part_names in
+    (name : Text) → spots_under l.fn.places name ++ spots_known parts l.file name l.list
+    ≡ spots_under l.places name ++ spots_known parts l.file name (drop l.known-index l.list)
