@@ -1,4 +1,3 @@
--- No public clause rests on this file.
 -- What the reader's indexes say: by name the messages and the extensions of files, by number the
 -- fields of a message.
 use Rattle.std.specs.Prelude.{◌≡◌, ℕ, ◌^◌, ◌≤◌, nat_lt, if◌then◌else◌, ℤ, pos, true, List, ◌++◌}
