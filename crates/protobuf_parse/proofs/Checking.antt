@@ -16,7 +16,8 @@ use Rattle.protobuf_parse.specs.Run.{Files, AreAnswered, StandsInCheck, answer_a
 use Rattle.protobuf_parse.specs.Run.{fails, first_read, text_for, text_given}
 use Rattle.protobuf_parse.specs.Loading.{Legal, LoadedEntry, file_at, read_paths, Goes, GoesOn}
 use Rattle.protobuf_parse.specs.Loading.{Good}
-use Rattle.protobuf_parse.specs.Loading.{OrMemory, Stops}
+use Rattle.protobuf_parse.specs.Loading.{Stops}
+use Rattle.protobuf_parse.specs.Run.{OrMemory}
 use Rattle.protobuf_parse.proofs.Keeping.{text-same, or_left, has-in, has-left, has-one}
 use Rattle.protobuf_parse.proofs.Keeping.{reads_in-append, elab_paths-append, among-in, find-none}
 use Rattle.protobuf_parse.proofs.Steps.{read_paths-append, answers-more, get-seam, get-grown}

@@ -12,10 +12,10 @@ use Rattle.protobuf_parse_base.specs.declared.proto_path.error.PathError.TheVari
 use Rattle.protobuf_parse_model.specs.Descriptors.{Text}
 use Rattle.protobuf_parse.specs.declared.run.fault.RunFault.{RunFault}
 use Rattle.protobuf_parse.specs.declared.run.fault.RunFault.TheVariants as fault
-use Rattle.protobuf_parse.specs.Loading.{OrMemory}
+use Rattle.protobuf_parse.specs.Run.{OrMemory}
 use Rattle.protobuf_parse.proofs.Keeping.{bool_cases}
-use Rattle.protobuf_parse.specs.Includes.{AreNamed, outside, unnamed, named_as, IsMisnamed}
-use Rattle.protobuf_parse.specs.Includes.{IsOutside, StandsAtFirst, StandsAtInput, is_unnamed}
+use Rattle.protobuf_parse.specs.Includes.{AreNamed, unnamed, named_as, IsMisnamed}
+use Rattle.protobuf_parse.specs.Includes.{StandsAtFirst, StandsAtInput, is_unnamed}
 use Rattle.protobuf_parse.specs.Includes.{naming_of, part_behind, part_views, parts_after}
 
 -- the parts behind the first, each after a slash
@@ -129,17 +129,6 @@ misnamed-stands includes input why f is (inl h) = inl (told f h.1)
   where
     told : (g : RunFault) → IsMisnamed input why g → StandsAtInput includes input g
     told (fault.InputPath p e) k = (k.0, is h.0 ∙ ap unnamed (sym k.1))
-    told _ k = absurd k
-
--- L3 of one that resides in no include
-pub outside-stands : (includes : List Text) (input : Text) (f : RunFault)
-    → naming_of includes input ≡ outside
-    → OrMemory f (IsOutside includes input f) → OrMemory f (StandsAtInput includes input f)
-outside-stands includes input f is (inr m) = inr m
-outside-stands includes input f is (inl h) = inl (told f h)
-  where
-    told : (g : RunFault) → IsOutside includes input g → StandsAtInput includes input g
-    told (fault.FileMustResideInImportPath p l) k = (k.0, k.1, is)
     told _ k = absurd k
 
 -- ---- the first input that gets no proto path

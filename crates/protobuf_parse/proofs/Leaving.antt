@@ -21,7 +21,8 @@ use Rattle.protobuf_parse.specs.Run.{Files, IsTheTree, StandsAtEvent, StandsInCy
 use Rattle.protobuf_parse.specs.Run.{StandsInLoad, StandsInElab, text_given, is_nothing}
 use Rattle.protobuf_parse.specs.Loading.{Legal, LoadedEntry, IsElabFault, file_at, Grows, Good}
 use Rattle.protobuf_parse.specs.Loading.{Stops}
-use Rattle.protobuf_parse.specs.Loading.{OrMemory, GoesOn, ReadsTree, IsPlaced, chain_texts}
+use Rattle.protobuf_parse.specs.Loading.{GoesOn, ReadsTree, IsPlaced, chain_texts}
+use Rattle.protobuf_parse.specs.Run.{OrMemory}
 use Rattle.protobuf_parse.proofs.Steps.{Grows-trans, room-is, breaks-now, stops-cycle}
 use Rattle.protobuf_parse.proofs.Steps.{stops-no_room, stops-tall, halts-load, unread-first}
 use Rattle.protobuf_parse.proofs.Steps.{tree-read}

@@ -11,7 +11,8 @@ use Rattle.protobuf_parse.specs.declared.run.fault.RunFault.TheVariants as fault
 use Rattle.protobuf_parse.specs.declared.run.log.ReadOutcome.{ReadOutcome}
 use Rattle.protobuf_parse.specs.Walks.{Asked}
 use Rattle.protobuf_parse.specs.Run.{IsTree, IsTheTree, StandsInLoad, origin_given}
-use Rattle.protobuf_parse.specs.Loading.{OrMemory, IsContentFault}
+use Rattle.protobuf_parse.specs.Loading.{IsContentFault}
+use Rattle.protobuf_parse.specs.Run.{OrMemory}
 
 the_one : (text : List ℕ) (t : FileSyntax) → IsUtf8 text → HasTree text t
     → ((u : FileSyntax) → HasTree text u → u ≡ t) → (u : Option FileSyntax) → IsTree (Some text) u
@@ -47,13 +48,6 @@ tree_of_no_text bytes bad = (λ utf8 u h. bad utf8, the_none)
   where
     the_none : (u : Option FileSyntax) → IsTree (Some bytes) u → u ≡ None
     the_none (Some u) h = absurd (bad h.0)
-    the_none None h = refl
-
-pub tree_of_nothing : IsTheTree None None
-tree_of_nothing = (tt, the_none)
-  where
-    the_none : (u : Option FileSyntax) → IsTree None u → u ≡ None
-    the_none (Some u) h = absurd h
     the_none None h = refl
 
 pub content_stands : (f : RunFault) (asked : Asked) (p origin bytes : List ℕ)

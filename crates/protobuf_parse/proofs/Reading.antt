@@ -13,23 +13,15 @@ use Rattle.protobuf_parse.specs.declared.run.fault.RunFault.TheVariants as fault
 use Rattle.protobuf_parse.specs.declared.run.log.ReadEntry.{ReadEntry}
 use Rattle.protobuf_parse.specs.declared.run.log.ReadOutcome.{ReadOutcome}
 use Rattle.protobuf_parse.specs.declared.run.log.ReadOutcome.TheVariants as outcome
-use Rattle.protobuf_parse.specs.Walks.{Asked, the_resolver, the_reader}
-use Rattle.protobuf_parse.specs.Run.{IsTheTree, MayResolve, MayRead, MayAnswer, StandsInLoad}
+use Rattle.protobuf_parse.specs.Walks.{Asked}
+use Rattle.protobuf_parse.specs.Run.{IsTheTree, StandsInLoad}
 use Rattle.protobuf_parse.specs.Run.{text_given}
-use Rattle.protobuf_parse.specs.Loading.{Legal, OrMemory, ReadsTree, CanGive}
+use Rattle.protobuf_parse.specs.Loading.{Legal, ReadsTree}
+use Rattle.protobuf_parse.specs.Run.{OrMemory}
 
 abbrev pub Noted : Text → ReadOutcome → List ReadEntry → List ReadEntry → Type 0
 Noted p o old new = (e : ReadEntry) × (new ≡ old ++ e ∷ []) × (path_buf_text e.path ≡ p)
     × (e.outcome ≡ o)
-
--- a legal answer is one that who is asked can give at all
-pub can_give : (resolve : MayResolve) (read : MayRead) (asked : Asked) (p : Text) (o : ReadOutcome)
-    → MayAnswer resolve read asked p o → CanGive asked o
-can_give resolve read the_resolver p (outcome.ReaderFault why) h = h
-can_give resolve read the_resolver p (outcome.Content origin content) h = tt
-can_give resolve read the_resolver p outcome.NotFound h = tt
-can_give resolve read the_resolver p (outcome.ResolverFault why) h = tt
-can_give resolve read (the_reader own) p o h = tt
 
 tree_moved : (table : List (Text × Text)) (p q : Text) (x o : ReadOutcome) (t : Option FileSyntax)
     → q ≡ p → x ≡ o → IsTheTree (text_given table q (Some o)) t

@@ -22,7 +22,8 @@ use Rattle.protobuf_parse.specs.Run.{Files, HasTrees, faults_in, IsTree, IsTheTr
 use Rattle.protobuf_parse.specs.Run.{first_read, fails, AreAnswered, StandsAtEvent}
 use Rattle.protobuf_parse.specs.Loading.{Legal, LoadedEntry, paths_of, file_at, read_paths, Grows}
 use Rattle.protobuf_parse.specs.Loading.{Settled, path_shape, imports_shape, IsLoaded, Good, Halts}
-use Rattle.protobuf_parse.specs.Loading.{Stops, OrMemory}
+use Rattle.protobuf_parse.specs.Loading.{Stops}
+use Rattle.protobuf_parse.specs.Run.{OrMemory}
 use Rattle.protobuf_parse.proofs.Keeping.{never_both, false_true, some_same, none_some, text-true}
 use Rattle.protobuf_parse.proofs.Keeping.{text-same, cycle-same, long-same, or_left, bool_cases}
 use Rattle.protobuf_parse.proofs.Keeping.{not_true, has-append, has-in, has-left, has-right}
@@ -79,16 +80,6 @@ file-none p (x ∷ loaded) h =
     elim (bool_cases (bytes_eq p (string_bytes x.0))) [
       | inl w ↦ absurd (let z : Some x.1 ≡ None = (rw w at h) in cc)
       | inr w ↦ let z : file_at p loaded ≡ None = (rw w at h) in rw w (file-none p loaded z)
-    ]
-
-pub none-file : (p : Text) (loaded : List LoadedEntry) → among p (paths_of loaded) ≡ false
-    → file_at p loaded ≡ None
-none-file p [] h = refl
-none-file p (x ∷ loaded) h =
-    elim (bool_cases (bytes_eq p (string_bytes x.0))) [
-      | inl w ↦ absurd (let z : true ≡ false = (rw w at h) in cc)
-      | inr w ↦ let z : among p (paths_of loaded) ≡ false = (rw w at h) in
-          rw w (none-file p loaded z)
     ]
 
 pub entry-in : (q : Text) (n : LoadedEntry) (e : LoadedFile) (loaded : List LoadedEntry)

@@ -45,7 +45,7 @@ use Rattle.protobuf_parse.specs.declared.run.fault.ReadInputFault.{ReadInputFaul
 use Rattle.protobuf_parse.specs.declared.run.log.ReadOutcome.TheVariants as outcome
 use Rattle.protobuf_parse.specs.declared.run.source.Sources.{Sources}
 use Rattle.protobuf_parse.specs.Run.{Files, MayAnswer, MayRead, MayResolve, FilesAreListed}
-use Rattle.protobuf_parse.specs.Run.{HasTrees}
+use Rattle.protobuf_parse.specs.Run.{HasTrees, OrMemory}
 use Rattle.protobuf_parse.specs.Run.{faults_in, IsTheTree, text_read, environment_of, plain_of}
 use Rattle.protobuf_parse.specs.Run.{first_read, fails, said, text_given, origin_given, AreAnswered}
 use Rattle.protobuf_parse.specs.Run.{StandsAtEvent, StandsInLoad, StandsInElab, IsUnparsed}
@@ -312,10 +312,6 @@ pub record Breaks (legal : Legal) (files : Files) (events : List Event) (log : L
 
 abbrev pub Stops : Legal → Files → List Event → List ReadEntry → RunFault → Type 0
 Stops legal files events log f = Halts legal files events log f ⊎ Breaks legal files events log f
-
--- the fault is this or want of memory
-abbrev pub OrMemory : RunFault → Type 0 → Type 0
-OrMemory f P = P ⊎ (f ≡ fault.Memory)
 
 -- whom a read asks
 abbrev pub asked_by : Option (Bor (List ℕ)) → Asked

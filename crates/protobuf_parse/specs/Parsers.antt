@@ -13,7 +13,7 @@ use Rattle.protobuf_parse.specs.declared.run.fault.RunFault.{RunFault}
 use Rattle.protobuf_parse.specs.Walks.{Input, at}
 use Rattle.protobuf_parse.specs.Run.{MayRead}
 use Rattle.protobuf_parse.specs.Shipped.{RunsWithShipped}
-use Rattle.protobuf_parse.specs.Loading.{OrMemory}
+use Rattle.protobuf_parse.specs.Run.{OrMemory}
 use Rattle.protobuf_parse.specs.Includes.{AreNamed, StandsAtFirst}
 use Rattle.protobuf_parse.specs.Folders.{MayFind}
 

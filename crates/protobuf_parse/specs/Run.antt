@@ -328,6 +328,10 @@ RunEnds legal files events (Ok ds) = IsAccepted legal files events ds.items
 RunEnds legal files events (Err f) = RunIsRefused legal files events f
     ⊎ IsBroken legal files events f
 
+-- the fault is this or want of memory
+abbrev pub OrMemory : RunFault → Type 0 → Type 0
+OrMemory f P = P ⊎ (f ≡ fault.Memory)
+
 -- L5 comes only where the resolver may give such a fault for that path, and L4 only where the
 -- reader may give that fault for that path. Neither is want of memory.
 abbrev pub IsCaused : MayResolve → MayRead → RunFault → Type 0

@@ -91,13 +91,6 @@ relative_idents-text ((b ∷ bs) ∷ ids) h =
     let both = and_parts (is_ident (b ∷ bs)) (are_idents ids) h in
     dotted_parts-text (b ∷ bs) ids both.0 both.1
 
-pub absolute_idents-text : (ids : List (List ℕ)) → are_idents ids ≡ true
-    → absolute_idents (absolute_text ids) ≡ ids
-absolute_idents-text [] h = refl
-absolute_idents-text (id ∷ ids) h =
-    let both = and_parts (is_ident id) (are_idents ids) h in
-    dotted_parts-text id ids both.0 both.1
-
 pub is_relative-text : (ids : List (List ℕ)) → are_idents ids ≡ true
     → is_relative (relative_text ids) ≡ true
 is_relative-text ids h = ap are_idents (relative_idents-text ids h) ∙ h

@@ -2,7 +2,7 @@
 use Rattle.std.specs.Prelude.{if◌then◌else◌}
 use Rattle.std.proofs.Common.{◌≡◌, ℕ, ◌==◌, ◌<◌, ◌+◌, ◌++◌, ◌&&◌, ◌||◌, List, [], ◌∷◌, Bool, true}
 use Rattle.std.proofs.Common.{false, not, Option, None, Some, length, get_or, drop, refl, sym, ap}
-use Rattle.std.proofs.Common.{◌∙◌, append_assoc, append-nil, arith, inl, inr, map, Bor}
+use Rattle.std.proofs.Common.{◌∙◌, append_assoc, arith, inl, inr, map, Bor}
 use Rattle.std.proofs.lemmas.Bool.{cases_Bool, and_parts, and_from, cond-true, cond-false, ne_eqb}
 use Rattle.std.proofs.lemmas.Bool.{not-true, not_from_false, or_parts, or_from}
 use Rattle.std.proofs.lemmas.List.{at_drop_more, map_push}
@@ -258,13 +258,6 @@ kept_of-push_kept : (parts : List (List ℕ)) (part : List ℕ) → is_kept part
 kept_of-push_kept parts part kept = filter-append is_kept parts (part ∷ [])
     ∙ ap (λ last. kept_of parts ++ last) (cond-true (is_kept part) _ _ kept)
 
-kept_of-push_dropped : (parts : List (List ℕ)) (part : List ℕ) → is_kept part ≡ false
-    → kept_of (parts ++ part ∷ []) ≡ kept_of parts
-kept_of-push_dropped parts part dropped =
-    filter-append is_kept parts (part ∷ [])
-    ∙ (ap (λ last. kept_of parts ++ last) (cond-false (is_kept part) _ _ dropped)
-    ∙ append-nil (kept_of parts))
-
 -- the text of the parts so far, after one turn of the loop
 pub joined-turn_kept : (seen : List (Bor (List ℕ))) (part : Bor (List ℕ)) (text next : List ℕ)
     → is_empty part.now ≡ false → is_dot part.now ≡ false
@@ -280,14 +273,6 @@ joined-turn_kept seen part text next full no_dot before step =
     ∙ (joined-push (kept_of parts) part.now (kept_of-nonempty parts)
     ∙ ap joined (sym (kept_of-push_kept parts part.now kept)
     ∙ ap kept_of (sym (map_push (λ (p : Bor (List ℕ)). p.now) seen part)))))
-
-pub joined-turn_dropped : (seen : List (Bor (List ℕ))) (part : Bor (List ℕ)) (text : List ℕ)
-    → is_kept part.now ≡ false
-    → text ≡ joined (kept_of (map (λ p. p.now) seen))
-    → text ≡ joined (kept_of (map (λ p. p.now) (seen ++ part ∷ [])))
-joined-turn_dropped seen part text dropped before =
-    before ∙ ap joined (sym (kept_of-push_dropped (map (λ p. p.now) seen) part.now dropped)
-    ∙ ap kept_of (sym (map_push (λ (p : Bor (List ℕ)). p.now) seen part)))
 
 -- the parts that are kept are parts of a proto path
 kept-part : (a b c d : Bool) → not (a || b) ≡ true → c ≡ false → d ≡ true

@@ -74,8 +74,8 @@ none-each faults (x ∷ xs) h = (
 -- no fault stands in it, and the names of what is generated behind it have the property
 pub record IsClean {A : Type 0} (faults : A → List Fault) (P : Text → Type 0)
     (generated : A → List Text) (x : A) : Type 0 where
-  none : faults x ≡ []
-  each : AllByRecursion P (generated x)
+  pub none : faults x ≡ []
+  pub each : AllByRecursion P (generated x)
 
 -- what holds of a list in this way holds of each element
 pub clean-each : {A : Type 0} (faults : A → List Fault) (P : Text → Type 0) (generated : A → List Text)

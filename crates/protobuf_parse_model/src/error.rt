@@ -7,7 +7,7 @@ use std::alloc::{AllocError, AllocFailed};
 use thiserror::Error;
 
 /// A fault that stands in a file, and the text that it speaks of.
-#[derive(Debug, PartialEq, Eq, Drop, Error)]
+#[derive(Debug, PartialEq, Eq, Error)]
 #[error("{kind}: {what}")]
 pub struct ElabError {
     pub kind: ElabErrorKind,
@@ -18,6 +18,13 @@ pub struct ElabError {
     /// of the field that was to be set. E26: the name in the constant with its brackets. E28:
     /// `uninterpreted_option`.
     pub what: String,
+}
+
+// Written out, as in the descriptors: a crate above calls it.
+impl Drop for ElabError {
+    fn drop(self) {
+        let ElabError { kind: _, what: _ } = self;
+    }
 }
 
 /// What is wrong.

@@ -5,45 +5,26 @@ use Rattle.std.proofs.Common.{length, map, get_or, slice_get, refl, ap, ◌∙�
 use Rattle.std.proofs.Common.{sum_by}
 use Rattle.std.proofs.lemmas.List.Sums.{sum_by-cons}
 use Rattle.protobuf_parse_syntax.specs.Trees as tree
-use Rattle.protobuf_parse_syntax.specs.Trees.{FieldStatementSyntax, OneofStatementSyntax}
-use Rattle.protobuf_parse_syntax.specs.Trees.{MessageStatementSyntax, ServiceStatementSyntax}
-use Rattle.protobuf_parse_syntax.specs.Trees.{StatementSyntax, field_statement_view}
-use Rattle.protobuf_parse_syntax.specs.Trees.{oneof_statement_view, oneof_view, extend_view}
-use Rattle.protobuf_parse_syntax.specs.Trees.{enum_view, message_statement_view, message_view}
-use Rattle.protobuf_parse_syntax.specs.Trees.{service_statement_view, service_view, statement_view}
-use Rattle.protobuf_parse_syntax.specs.Trees.{file_view, group_view}
-use Rattle.protobuf_parse_syntax.specs.Counts.{field_count, in_group, oneof_statement_count}
-use Rattle.protobuf_parse_syntax.specs.Counts.{in_oneof, in_extend, in_enum}
+use Rattle.protobuf_parse_syntax.specs.Trees.{FieldStatementSyntax}
+use Rattle.protobuf_parse_syntax.specs.Trees.{MessageStatementSyntax}
+use Rattle.protobuf_parse_syntax.specs.Trees.{StatementSyntax}
+use Rattle.protobuf_parse_syntax.specs.Trees.{message_statement_view, message_view}
+use Rattle.protobuf_parse_syntax.specs.Trees.{statement_view}
+use Rattle.protobuf_parse_syntax.specs.Counts.{field_count, in_group}
 use Rattle.protobuf_parse_syntax.specs.Counts.{message_statement_count, in_body, in_message}
-use Rattle.protobuf_parse_syntax.specs.Counts.{service_statement_count, statement_count}
+use Rattle.protobuf_parse_syntax.specs.Counts.{statement_count}
 use Rattle.protobuf_parse_syntax.specs.declared.tree.FileStatement.{FileStatement}
 use Rattle.protobuf_parse_syntax.specs.declared.tree.FileStatement.TheVariants as file_statement
 use Rattle.protobuf_parse_syntax.specs.declared.tree.declaration.Message.{Message}
 use Rattle.protobuf_parse_syntax.specs.declared.tree.declaration.MessageStatement.{MessageStatement}
 use Rattle.protobuf_parse_syntax.specs.declared.tree.declaration.MessageStatement.TheVariants as statement
-use Rattle.protobuf_parse_syntax.specs.declared.tree.declaration.OneOf.{OneOf}
-use Rattle.protobuf_parse_syntax.specs.declared.tree.declaration.OneOfStatement.{OneOfStatement}
 use Rattle.protobuf_parse_syntax.specs.declared.tree.declaration.OneOfStatement.TheVariants as oneof_statement
-use Rattle.protobuf_parse_syntax.specs.declared.tree.declaration.Extend.{Extend}
-use Rattle.protobuf_parse_syntax.specs.declared.tree.declaration.Enumeration.{Enumeration}
-use Rattle.protobuf_parse_syntax.specs.declared.tree.declaration.ServiceStatement.{ServiceStatement}
-use Rattle.protobuf_parse_syntax.specs.declared.tree.field.FieldStatement.{FieldStatement}
 use Rattle.protobuf_parse_syntax.specs.declared.tree.field.FieldStatement.TheVariants as field_statement
-use Rattle.protobuf_parse_syntax.specs.declared.tree.field.Group.{Group}
-use Rattle.protobuf_parse_syntax.proofs.Messages.{view_parts, views_oneof, views_extend}
-use Rattle.protobuf_parse_syntax.proofs.Messages.{views_message, views_enum, views_field}
+use Rattle.protobuf_parse_syntax.proofs.Messages.{view_parts}
+use Rattle.protobuf_parse_syntax.proofs.Messages.{views_message}
 use Rattle.protobuf_parse_syntax.proofs.FieldViews as fields
 
 -- ---- any list
-
--- an element counts at most what all do
-pub each_counts : {S : Type 0} (count : S → ℕ) (xs : List S) (i : ℕ) (x : S) →
-    slice_get xs i ≡ Some x → count x ≤ sum_by count xs
-each_counts count [] i x e = absurd cc
-each_counts count (y ∷ ys) zero x e =
-    let same : y ≡ x = cc in omega (arith, sum_by-cons count y ys, ap count same)
-each_counts count (y ∷ ys) (suc i) x e =
-    omega (arith, sum_by-cons count y ys, each_counts count ys i x e)
 
 module _ {X S : Type 0} (view : X → S) (count : S → ℕ) where
   -- the same of a list in memory, seen
@@ -77,10 +58,6 @@ pub field_counts : (f : FieldStatementSyntax) → 0 < field_count f
 field_counts (tree.field f) = omega arith
 field_counts (tree.group place label name number fields) = omega arith
 
-pub oneof_statement_counts : (s : OneofStatementSyntax) → 0 < oneof_statement_count s
-oneof_statement_counts (tree.oneof_option o) = omega arith
-oneof_statement_counts (tree.oneof_field f) = field_counts f
-
 pub message_statement_counts : (s : MessageStatementSyntax) → 0 < message_statement_count s
 message_statement_counts (tree.message_reserved r) = omega arith
 message_statement_counts (tree.message_oneof o) = omega arith
@@ -90,10 +67,6 @@ message_statement_counts (tree.message_enum e) = omega arith
 message_statement_counts (tree.message_extensions e) = omega arith
 message_statement_counts (tree.message_option o) = omega arith
 message_statement_counts (tree.message_field f) = field_counts f
-
-pub service_statement_counts : (s : ServiceStatementSyntax) → 0 < service_statement_count s
-service_statement_counts (tree.service_method m) = omega arith
-service_statement_counts (tree.service_option o) = omega arith
 
 pub statement_counts : (s : StatementSyntax) → 0 < statement_count s
 statement_counts (tree.file_import i) = omega arith
@@ -133,65 +106,8 @@ pub body_length : (ss : List MessageStatement) →
 body_length ss =
     length_counts message_statement_view message_statement_count message_statement_counts ss
 
-pub fields_length : (fs : List FieldStatement) →
-    length fs ≤ sum_by field_count (map field_statement_view fs)
-fields_length fs = length_counts field_statement_view field_count field_counts fs
-
-pub oneof_length : (ss : List OneOfStatement) →
-    length ss ≤ sum_by oneof_statement_count (map oneof_statement_view ss)
-oneof_length ss = length_counts oneof_statement_view oneof_statement_count oneof_statement_counts ss
-
-pub service_length : (ss : List ServiceStatement) →
-    length ss ≤ sum_by service_statement_count (map service_statement_view ss)
-service_length ss =
-    length_counts service_statement_view service_statement_count service_statement_counts ss
-
-pub message_length : (m : Message) → length m.body.items ≤ in_message (message_view m)
-message_length m = omega (arith, in_message_of m, body_length m.body.items)
-
--- a statement of a file or of a message counts one, and what stands in it
-pub file_message_counts : (m : Message) →
-    statement_count (statement_view (file_statement.Message m)) ≡ suc (in_message (message_view m))
-file_message_counts m = refl
-
-pub file_extend_counts : (e : Extend) →
-    statement_count (statement_view (file_statement.Extend e)) ≡ suc (in_extend (extend_view e))
-file_extend_counts e = refl
-
 pub message_counts : (m : Message) →
     message_statement_count (message_statement_view (statement.Message m)) ≡
     suc (in_message (message_view m))
 message_counts m =
     ap message_statement_count (views_message m) ∙ ap suc (message_body (message_view m).body)
-
-pub oneof_counts : (o : OneOf) →
-    message_statement_count (message_statement_view (statement.OneOf o)) ≡
-    suc (in_oneof (oneof_view o))
-oneof_counts o = ap message_statement_count (views_oneof o)
-
-pub extend_counts : (e : Extend) →
-    message_statement_count (message_statement_view (statement.Extend e)) ≡
-    suc (in_extend (extend_view e))
-extend_counts e = ap message_statement_count (views_extend e)
-
-pub enum_counts : (e : Enumeration) →
-    message_statement_count (message_statement_view (statement.Enumeration e)) ≡
-    suc (in_enum (enum_view e))
-enum_counts e = ap message_statement_count (views_enum e)
-
-pub message_field_counts : (f : FieldStatement) →
-    message_statement_count (message_statement_view (statement.Field f)) ≡
-    field_count (field_statement_view f)
-message_field_counts f = ap message_statement_count (views_field f)
-
-pub oneof_field_counts : (f : FieldStatement) →
-    oneof_statement_count (oneof_statement_view (oneof_statement.Field f)) ≡
-    field_count (field_statement_view f)
-oneof_field_counts f = refl
-
-pub group_counts : (g : Group) →
-    field_count (field_statement_view (field_statement.Group g)) ≡
-    suc (sum_by field_count (map field_statement_view g.fields.items))
-group_counts g =
-    ap field_count (fields.views_group g) ∙
-    ap suc (group_body (map field_statement_view g.fields.items))

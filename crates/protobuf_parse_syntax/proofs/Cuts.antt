@@ -76,16 +76,6 @@ blank_cut z n utf8 (inl s) = spaces_cut z n utf8 s
 blank_cut z n utf8 (inr (inl s)) = line_cut z n utf8 s
 blank_cut z n utf8 (inr (inr s)) = block_cut z n utf8 s
 
-pub blank_some : (z : Bytes) (n : ℕ) → IsBlank z n → 0 < n
-blank_some z n (inl s) = s.some
-blank_some z n (inr (inl s)) = omega (arith, s.some)
-blank_some z n (inr (inr s)) = omega (arith, s.some)
-
-pub blank_within : (z : Bytes) (n : ℕ) → IsBlank z n → n ≤ length z
-blank_within z n (inl s) = s.within
-blank_within z n (inr (inl s)) = s.within
-blank_within z n (inr (inr s)) = s.within
-
 -- a string ends with its quote
 rest_some : (quote : ℕ) (is_escaped : Bool) (u : Bytes) → is_rest quote is_escaped u ≡ true
     → 0 < length u

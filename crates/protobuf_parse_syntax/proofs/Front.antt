@@ -205,13 +205,6 @@ long_string z n quote most m (inl w) =
 long_string z n quote most m (inr (inl t)) = most.1 m t
 long_string z n quote most m (inr (inr d)) = absurd (begins_no_quote z (number_first z m d) quote)
 
-pub no_long_string : (z : Bytes) → IsQuote (slice_index z 0) → NoFront IsString z
-    → NoFront IsLiteral z
-no_long_string z quote none m (inl w) =
-    quote_is_no_ident _ quote (w.each 0 (omega arith) (omega (arith, w.some)))
-no_long_string z quote none m (inr (inl t)) = none m t
-no_long_string z quote none m (inr (inr d)) = begins_no_quote z (number_first z m d) quote
-
 pub no_long : (z : Bytes) → is_in class.Ident (slice_index z 0) ≡ false → (BeginsNumber z → ⊥)
     → (IsQuote (slice_index z 0) → ⊥) → NoFront IsLiteral z
 no_long z no_ident no_number no_quote m (inl w) =

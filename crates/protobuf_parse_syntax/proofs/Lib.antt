@@ -9,7 +9,6 @@ pub mod Counting
 pub mod Counts
 pub mod Balance
 pub mod Nesting
-pub mod Depths
 pub mod Imports
 pub mod Formats
 pub mod Escapes

@@ -1,26 +1,25 @@
 -- What stands before the token of a fault: of a part that is wrong from its first token on.
-use Rattle.std.proofs.Common.{◌≡◌, ℕ, List, [], ◌∷◌, ◌++◌, ◌⊎◌, Option, Some, true, false, codes}
+use Rattle.std.proofs.Common.{◌≡◌, ℕ, List, [], ◌∷◌, ◌++◌, ◌⊎◌, true, false, codes}
 use Rattle.std.proofs.Common.{Result, Ok, Err, String, Global, string_bytes, refl, sym, ap, ◌∙◌}
 use Rattle.std.proofs.Common.{inl, inr, append_assoc}
 use Rattle.std.proofs.lemmas.List.{append-nil}
-use Rattle.protobuf_parse_base.specs.Readers.{Rest, end, token, onto, onto-append, Read, read}
-use Rattle.protobuf_parse_base.specs.Readers.{stuck, wrong, deep, bind, Shape, shape}
+use Rattle.protobuf_parse_base.specs.Readers.{Rest, onto, onto-append, Read, read}
+use Rattle.protobuf_parse_base.specs.Readers.{wrong, bind, Shape, shape}
 use Rattle.protobuf_parse_base.specs.Combinators.{then_shape}
 use Rattle.protobuf_parse_base.specs.Readers.{Sound, Reader, starts, all_apart-law}
 use Rattle.protobuf_parse_base.specs.Combinators.{◌>>◌}
 use Rattle.protobuf_parse_base.specs.Whole.{local_wrong}
-use Rattle.protobuf_parse_base.specs.declared.proto_path.error.PathError.{PathError}
 use Rattle.protobuf_parse_syntax.specs.Text.{Bytes}
 use Rattle.protobuf_parse_syntax.specs.Tokens.{Lexeme}
-use Rattle.protobuf_parse_syntax.specs.Classes.{Class, sees, symbol as symbol_class}
+use Rattle.protobuf_parse_syntax.specs.Classes.{Class, symbol as symbol_class}
 use Rattle.protobuf_parse_syntax.specs.Classes.{word as word_class, text as string_token, is_one_of}
 use Rattle.protobuf_parse_syntax.specs.Classes.{lexicon}
 use Rattle.protobuf_parse_syntax.specs.Grammar.{IsSymbol, IsWord, IsVisibility}
 use Rattle.protobuf_parse_syntax.specs.Readings.{from_first, wrong_from}
 use Rattle.protobuf_parse_syntax.specs.Productions as parse
-use Rattle.protobuf_parse_syntax.specs.Parsing.{HundredParts, SyntaxHead, ImportHead}
-use Rattle.protobuf_parse_syntax.specs.Parsing.{EndsWithImport, EndsWithNoString}
-use Rattle.protobuf_parse_syntax.specs.Code.{Failure, at, off, too_deep, failed, Fails, fails_first}
+use Rattle.protobuf_parse_syntax.specs.Parsing.{SyntaxHead, ImportHead}
+use Rattle.protobuf_parse_syntax.specs.Parsing.{EndsWithNoString}
+use Rattle.protobuf_parse_syntax.specs.Code.{at, off, too_deep, failed, Fails, fails_first}
 use Rattle.protobuf_parse_syntax.specs.Code.{Gives, GivesOr, Says, SaysNot, Unsaid, of_text}
 use Rattle.protobuf_parse_syntax.specs.Code.{of_version, of_path, NoVersion}
 use Rattle.protobuf_parse_syntax.specs.Trees.{ReservedSyntax}
@@ -199,14 +198,6 @@ pub fails_names : (e : Refusal) (ts after : Rest Lexeme Place)
 unfolding parse.names
 fails_names e ts after h = unsaid_first of_text e ts after (parse.reserved_name.run ts) _ h
 
-pub fails_items : (e : Refusal) (ts after : Rest Lexeme Place)
-    → starts lexicon (string_token ∷ []) ts ≡ true
-    → Fails e after (parse.names.run ts) ⊎ Unsaid of_text ts e after (parse.names.run ts)
-    → Fails e after (parse.reserved_items.run ts)
-    ⊎ Unsaid of_text ts e after (parse.reserved_items.run ts)
-unfolding parse.reserved_items
-fails_items e ts after is h = rw is (unsaid_first of_text e ts after (parse.names.run ts) _ h)
-
 module _ (e : Refusal) (ts us after : Rest Lexeme Place)
     (is : (parse.word (codes "reserved")).run ts ≡ read tt us) where
   pub fails_reserved_items : Fails e after (parse.reserved_items.run us)
@@ -290,15 +281,6 @@ module _ (e : Refusal) (ts us vs after : Rest Lexeme Place)
           rw (told, ← stands) at says,
         ),
       )
-
--- what a file's version is refused for, so is the file
-pub version_first : {Y Z : Type 0} (e : Refusal) (ts after : Rest Lexeme Place)
-    (r : Read Lexeme Place Y) (g : Y → Rest Lexeme Place → Read Lexeme Place Z)
-    → Fails e after r ⊎ NoVersion ts e after r
-    → Fails e after (bind r g) ⊎ NoVersion ts e after (bind r g)
-version_first e ts after r g (inl h) = inl (fails_first e after r g h)
-version_first {Y = Y} e ts after r g (inr (here, w, rest)) =
-    inr (here, ap (λ (v : Read Lexeme Place Y). bind v g) w, rest)
 
 -- where a statement fails behind a word, as what comes next does
 module _ (e : Refusal) (ts after : Rest Lexeme Place) where

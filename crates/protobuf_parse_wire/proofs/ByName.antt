@@ -20,7 +20,7 @@ use Rattle.protobuf_parse_wire.specs.Declarations.{Declaration, messages_named}
 use Rattle.protobuf_parse_wire.specs.Indexed.{parts_seen}
 use Rattle.protobuf_parse_wire.specs.Known.{extension_under_name, field_among, field_seen}
 use Rattle.protobuf_parse_wire.specs.Known.{number_among}
-use Rattle.protobuf_parse_wire.specs.Known.{undeclared, values_among}
+use Rattle.protobuf_parse_wire.specs.Known.{values_among}
 use Rattle.protobuf_parse_wire.proofs.Found.{number_split}
 
 pub is_some_mapped : {A B : Type 0} (f : A → B) (o : Option A) → is_some (option_map f o)
@@ -114,8 +114,3 @@ pub named_twice : (name : Text) (o : Option (Bor FieldDescriptorProto))
     ≡ option_map (with_name name) (option_map field_seen o)
 named_twice name None = refl
 named_twice name (Some f) = refl
-
-pub without_name : (name : Text) (o : Option (Bor FieldDescriptorProto))
-    → option_map field_seen o ≡ undeclared (option_map (extension_under_name name) o)
-without_name name None = refl
-without_name name (Some f) = refl

@@ -187,15 +187,6 @@ spots_push listed name n (x ∷ fs) f = let e : suc n + length fs
     ∙ sym (append_assoc (spots_in n name (listed x)) (spots_of listed name (suc n) fs)
     (spots_in (n + suc (length fs)) name (listed f)))
 
-pub known_append : {T : Type 0} (file : ℕ) (name : Text) (ks ls : List (Known T))
-    → spots_known file name (ks ++ ls) ≡ spots_known file name ks ++ spots_known file name ls
-known_append {T = T} file name ks ls =
-    ap (map spot) (filter-append (λ (k : Known T). bytes_eq name (string_bytes k.name)) ks ls)
-    ∙ map-append spot _ _
-  where
-    spot : Known T → Spot
-    spot k = record { file = file; path = k.path.items; index = k.index }
-
 -- the places of what the next file declares
 pub more_held : {T U : Type 0} (seen : T → U) (listed : FileDescriptor → List (Placed U))
     (old new : BTreeMap (String Global) (Vec Place)) (files : List FileDescriptor)

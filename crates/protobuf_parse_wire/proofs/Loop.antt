@@ -23,10 +23,6 @@ regroup : (front : List Field) (f : Field) (read : WireRead (List Field))
 regroup front f (Ok fs) = ap (λ (x : List Field). Ok x) (sym (append_assoc front (f ∷ []) fs))
 regroup front f (Err e) = refl
 
-none_read : (inner : Inner) (numbers : FieldsByNumber) (n : ℕ) → records inner numbers n [] ≡ Ok []
-unfolding records
-none_read inner numbers n = refl
-
 pub begins : (inner : Inner) (numbers : FieldsByNumber) (bs : List ℕ)
     → Left inner numbers [] bs (records inner numbers (length bs) bs)
 begins inner numbers bs =

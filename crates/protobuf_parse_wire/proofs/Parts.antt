@@ -1,7 +1,7 @@
 -- What lists and message constants give, part by part.
 use Rattle.std.proofs.Common.{◌≡◌, ◌-◌, ◌==◌, arith, drop, get_or, length, take, List, [], ◌∷◌}
-use Rattle.std.proofs.Common.{◌++◌, map, flat_map, Option, Some, None, Bool, true, false}
-use Rattle.std.proofs.Common.{option_to_list, refl, sym, ap, subst, ◌∙◌, append-nil, Result}
+use Rattle.std.proofs.Common.{◌++◌, map, flat_map, Bool, true, false}
+use Rattle.std.proofs.Common.{option_to_list, refl, sym, ap, subst, ◌∙◌, Result}
 use Rattle.std.specs.Global.{Vec}
 use Rattle.std.proofs.lemmas.List.{take_all}
 use Rattle.protobuf_parse_syntax.specs.Trees.{ConstantSyntax, ConstantFieldSyntax, list, fields}
@@ -50,12 +50,6 @@ pub field_items_are : (at : OptionScope) (message : Text) (fs : List ConstantFie
 field_items_are at message [] = refl
 field_items_are at message (f ∷ fs) = ap (λ xs. given_field_items at message f ++ xs)
     (field_items_are at message fs)
-
--- where the field is known
-pub of_known : {A B : Type 0} (give : A → List B) (o : Option A) (x : A) → Some x ≡ o
-    → flat_map give (option_to_list o) ≡ give x
-of_known give None x e = absurd cc
-of_known give (Some y) x e = let p : x ≡ y = cc in append-nil (give y) ∙ ap give (sym p)
 
 -- ---- what the code holds of them
 

@@ -40,7 +40,7 @@ use Rattle.protobuf_parse_wire.specs.CustomFaults.{string_value_faults, message_
 use Rattle.protobuf_parse_wire.specs.CustomFaults.{number_faults, constant_name_faults}
 use Rattle.protobuf_parse_wire.specs.CustomFaults.{value_faults, list_faults, field_faults}
 use Rattle.protobuf_parse_wire.specs.CustomFaults.{part_faults, step_faults, path_faults, table_of}
-use Rattle.protobuf_parse_wire.specs.CustomFaults.{names_in, builtin_step_faults, custom_faults}
+use Rattle.protobuf_parse_wire.specs.CustomFaults.{option_names_in, builtin_step_faults, custom_faults}
 use Rattle.protobuf_parse_wire.specs.CustomFaults.{custom_name_faults, custom_statement_faults}
 use Rattle.protobuf_parse_model.specs.Environment.{part_text, option_path_text}
 
@@ -221,7 +221,7 @@ pub plain_step_has_fault : (construct : Construct) (name : Text)
     → builtin_step_faults (table_of construct) name ≡ [] → ⊥
 plain_step_has_fault construct name e =
     step_has_fault (bytes_eq name (codes "uninterpreted_option"))
-    (stands_in name (names_in (table_of construct)))
+    (stands_in name (option_names_in (table_of construct)))
     (record { kind = UninterpretedOptionName; what = name })
     (record { kind = ExtensionIsNotMessage; what = name })
     (record { kind = UnknownFieldName; what = name }) e

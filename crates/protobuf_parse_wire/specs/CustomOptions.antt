@@ -7,7 +7,7 @@
 -- message with an entry for each field; for a map it is the message of one of its entries.
 -- Protocol Buffers Language Guide (proto2), "Custom Options"; Protocol Buffers Encoding,
 -- "Message Structure" (https://protobuf.dev).
-use Rattle.std.specs.Prelude.{◌≡◌, ℤ, nat_abs, List, [], ◌∷◌, ◌++◌, map, flat_map, unwrap_or}
+use Rattle.std.specs.Prelude.{ℤ, nat_abs, List, [], ◌∷◌, ◌++◌, map, flat_map, unwrap_or}
 use Rattle.std.specs.Prelude.{option_to_list}
 use Rattle.protobuf_parse_syntax.specs.Trees.{ConstantSyntax, integer, truth, dotted, string, list}
 use Rattle.protobuf_parse_syntax.specs.Trees.{fields, ConstantList, no_constants, more_constants}
@@ -18,8 +18,7 @@ use Rattle.protobuf_parse_syntax.specs.Decoder.{decode}
 use Rattle.protobuf_parse_model.specs.Descriptors.{Text, FieldDescriptor, FileDescriptor}
 use Rattle.protobuf_parse_model.specs.Faults.{Among}
 use Rattle.protobuf_parse_model.specs.declared.customs.Construct.{Construct}
-use Rattle.protobuf_parse_model.specs.Environment.{CustomBytes, spelled_so}
-use Rattle.protobuf_parse_model.specs.FileDescriptor.{environment, file_of}
+use Rattle.protobuf_parse_model.specs.Environment.{CustomBytes}
 use Rattle.protobuf_parse_model.specs.OptionSets.{OptionSet, option_sets}
 use Rattle.protobuf_parse_wire.specs.declared.kind.Kind.{Kind}
 use Rattle.protobuf_parse_wire.specs.Kinds.{kind_of_field_type}
@@ -84,7 +83,7 @@ items_of_option at construct o = named_items at (options_message construct) o.va
 abbrev pub denotes : OptionScope → Construct → List OptionSyntax → Entries
 denotes at construct os = entries_of_list (flat_map (items_of_option at construct) os)
 
--- ---- the descriptor with its custom options
+-- ---- the sets of options of a file
 
 -- where a set of options is seen from, in a file that reaches the first files and sees the second
 abbrev pub scope_of : (files visible : List FileDescriptor) → OptionSet → OptionScope
@@ -96,12 +95,3 @@ SpellsOptions files visible t spelled =
     (s : OptionSet) → Among (option_sets t) s
     → Spells (denotes (scope_of files visible s) s.construct s.statements)
     (spelled s.construct s.scope s.statements)
-
--- The descriptor is that of the file known by the path, with its custom options, where the file
--- sees the trees `seen`, and the descriptors of these are `visible`, those of all files that it
--- reaches `files`.
-pub record IsElaborated (seen : List FileSyntax) (files visible : List FileDescriptor) (path : Text)
-    (t : FileSyntax) (d : FileDescriptor) : Type 0 where
-  pub spelled : CustomBytes
-  pub spells : SpellsOptions files visible t spelled
-  pub is : d ≡ file_of (environment seen (spelled_so spelled) t) path t

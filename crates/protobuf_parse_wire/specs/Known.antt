@@ -7,10 +7,9 @@ use Rattle.protobuf_parse_model.specs.declared.descriptor.EnumDescriptorProto.{E
 use Rattle.protobuf_parse_model.specs.declared.descriptor.FieldDescriptorProto.{FieldDescriptorProto}
 use Rattle.protobuf_parse_model.specs.Declarations.{Declared}
 use Rattle.protobuf_parse_model.specs.Descriptors.{Text, FieldDescriptor, EnumDescriptor}
-use Rattle.protobuf_parse_model.specs.Descriptors.{EnumValueDescriptor, MessageParts, enum_view}
+use Rattle.protobuf_parse_model.specs.Descriptors.{EnumValueDescriptor, enum_view}
 use Rattle.protobuf_parse_model.specs.Descriptors.{field_view}
 use Rattle.protobuf_parse_wire.specs.declared.customs.known.Known.{Known}
-use Rattle.protobuf_parse_wire.specs.Declarations.{Declaration, messages_named}
 
 abbrev pub enum_known : Known (Bor EnumDescriptorProto) → Declared EnumDescriptor
 enum_known k = record { name = string_bytes k.name; what = enum_view k.what.now }
@@ -21,11 +20,6 @@ field_seen f = field_view f.now
 -- the first of that name
 abbrev pub field_among : List FieldDescriptor → Text → Option FieldDescriptor
 field_among fields name = find (λ (f : FieldDescriptor). bytes_eq f.name name) fields
-
--- the fields of the messages among these that have the full name
-abbrev pub fields_among : Text → List Declaration → List FieldDescriptor
-fields_among message ds = flat_map (λ (parts : MessageParts). parts.field)
-    (messages_named message ds)
 
 -- the values of the enums among these that have the full name
 abbrev pub values_if_named : Text → Declared EnumDescriptor → List EnumValueDescriptor

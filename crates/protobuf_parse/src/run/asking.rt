@@ -10,7 +10,8 @@ ghost use Rattle.protobuf_parse_syntax.specs.Trees.{FileSyntax, file_view};
 ghost use Rattle.protobuf_parse.specs.Walks.{the_resolver, the_reader};
 ghost use Rattle.protobuf_parse.specs.Run.{Resolved, WasRead, StandsInLoad, origin_given, row_of};
 ghost use Rattle.protobuf_parse.specs.Run.{rows, said, text_given, IsTheTree};
-ghost use Rattle.protobuf_parse.specs.Loading.{OrMemory, asked_by, legal_by, CanGive, IsUnreadable};
+ghost use Rattle.protobuf_parse.specs.Loading.{asked_by, legal_by, CanGive, IsUnreadable};
+ghost use Rattle.protobuf_parse.specs.Run.{OrMemory};
 ghost use Rattle.protobuf_parse.specs.Loading.{IsUnfound, IsUnresolved, IsParseFault};
 ghost use Rattle.protobuf_parse.specs.Loading.{IsContentFault, IsNoText};
 

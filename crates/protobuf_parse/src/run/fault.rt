@@ -10,7 +10,7 @@ use std::alloc::{AllocError, AllocFailed};
 use thiserror::Error;
 
 /// Why a run gave no descriptors.
-#[derive(Debug, PartialEq, Eq, Drop, Error)]
+#[derive(Debug, PartialEq, Eq, Error)]
 pub enum RunFault {
     #[error("out of memory")]
     Memory,
@@ -49,6 +49,26 @@ pub enum RunFault {
     /// L11: what is left of this input, once its include is taken off, is no proto path.
     #[error("input `{0}`: {1}")]
     InputPath(String, PathError),
+}
+
+// Written out: a crate above calls it, and need not prove anew how each fault is dropped.
+impl Drop for RunFault {
+    fn drop(self) {
+        match self {
+            RunFault::Memory => {}
+            RunFault::ContentIsNotUtf8(_) => {}
+            RunFault::FileNotFoundInImportPath(_, _) => {}
+            RunFault::FileMustResideInImportPath(_, _) => {}
+            RunFault::CouldNotReadFile(_, _) => {}
+            RunFault::Resolver(_, _) => {}
+            RunFault::Shadowed(_, _) => {}
+            RunFault::ImportCycle(_) => {}
+            RunFault::ImportChainTooLong(_) => {}
+            RunFault::Parse(_, _) => {}
+            RunFault::Elaborate(_, _) => {}
+            RunFault::InputPath(_, _) => {}
+        }
+    }
 }
 
 /// Why an input's own file could not be read.

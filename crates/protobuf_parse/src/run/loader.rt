@@ -24,7 +24,8 @@ ghost use Rattle.protobuf_parse.specs.Run.{StandsInLong, origin_given, rows, tex
 ghost use Rattle.protobuf_parse.specs.Loading.{AreKnown, AreJoined, FilesAreNumbered, IndexBegins};
 ghost use Rattle.protobuf_parse.specs.Loading.{Describes};
 ghost use Rattle.protobuf_parse.specs.Loading.{Goes, GoesOn, Good, Grows, IsDecided, IsElabFault};
-ghost use Rattle.protobuf_parse.specs.Loading.{IsPlaced, IsReaders, IsShadowed, OrMemory};
+ghost use Rattle.protobuf_parse.specs.Loading.{IsPlaced, IsReaders, IsShadowed};
+ghost use Rattle.protobuf_parse.specs.Run.{OrMemory};
 ghost use Rattle.protobuf_parse.specs.Loading.{ReadsTree, SettlesOver, asked_by, faults_over};
 ghost use Rattle.protobuf_parse.specs.Loading.{legal_by, named_trees, plain_in, plain_or};
 ghost use Rattle.protobuf_parse.specs.Loading.{plains_over, plains_with, chain_texts, trees_of};
@@ -435,7 +436,7 @@ fn join(frame: &mut LoadFrame, placed: Placed) -> Result<(), AllocError>
 
 /// Whether the statement with this number is a public import.
 fn is_public_next(statements: &[FileStatement], number: usize) -> bool
-    ensures { result ≡ is_public_at (slice_get import_statements.now number) }
+    ensures { result ≡ is_public_at (slice_get statements.now number) }
 {
     match statements.get(number) {
         Some(statement) => imports_publicly(statement),

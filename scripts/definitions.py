@@ -1,0 +1,183 @@
+"""Which definitions the clauses of public functions rest on, and how many lines they have.
+
+Run it at the top of the repository: scripts/definitions.py prints each file of specs/ that has
+such a definition, with the lines of these definitions and of the whole file, and the sum. With
+--unused it lists the definitions of specs/ that no public clause rests on.
+"""
+
+import re
+import sys
+from collections import defaultdict
+from pathlib import Path
+
+CRATES = ["base", "syntax", "model", "wire", ""]
+TOKEN = re.compile(r"[^\s(){};,λ\[\]`:!&]+")
+USE = r"\s*(?:ghost |pub |unfoldable )*use (Rattle\.\S+?)"
+SIGNATURE = re.compile(
+    r"\s*(?:abbrev |unfoldable )?(?:pub )?(?:(?:data|record) (\S+)|([A-Za-z◌«][^\s(){}:]*) :)"
+)
+
+
+def crate_folder(crate):
+    return Path("crates") / ("protobuf_parse_" + crate if crate else "protobuf_parse")
+
+
+def imports_of(lines):
+    """Names to modules, and aliases to modules, by the `use` lines."""
+    names, aliases = {}, {}
+    for line in lines:
+        found = re.match(USE + r"\.\{(.*)\};?$", line)
+        if found:
+            for item in found.group(2).split(","):
+                old, _, new = item.strip().partition(" as ")
+                names[new or old] = (found.group(1), old)
+            continue
+        found = re.match(USE + r"(?: as (\w+))?;?$", line)
+        if found:
+            aliases[found.group(2) or found.group(1).split(".")[-1]] = found.group(1)
+    return names, aliases
+
+
+def resolve(word, module, names, aliases, own):
+    """The definition that a word means, as its module and name."""
+    head, _, rest = word.partition(".")
+    if head in aliases and rest:
+        return aliases[head], rest.split(".")[0]
+    if head in own:
+        return module, head
+    return names.get(head)
+
+
+class Definition:
+    def __init__(self, module, path, lines):
+        self.module, self.path, self.lines, self.rests_on = module, path, lines, set()
+
+
+def paragraphs(text):
+    return [part for part in re.split(r"\n\s*\n", text) if part.strip()]
+
+
+def names_in(part):
+    """The names that a paragraph defines: its signatures, fields and constructors."""
+    names = set()
+    for line in part.split("\n"):
+        found = None if line.strip().startswith("--") else SIGNATURE.match(line)
+        if found:
+            names.add(found.group(1) or found.group(2))
+    return names
+
+
+def read_specs():
+    """All definitions by module and name."""
+    found, sizes = {}, {}
+    texts = {}
+    for crate in CRATES:
+        folder = crate_folder(crate)
+        for path in sorted((folder / "specs").rglob("*.antt")):
+            if "declared" in path.parts or path.name == "Lib.antt":
+                continue
+            inner = ".".join(path.relative_to(folder / "specs").with_suffix("").parts)
+            texts[f"Rattle.{folder.name}.specs.{inner}"] = (path, path.read_text())
+    passed_on = {}
+    for module, (path, text) in texts.items():
+        sizes[path] = text.count("\n")
+        for part in paragraphs(text):
+            body = [line for line in part.split("\n") if not re.match(r"\s*(\w+ )*use ", line)]
+            definition = Definition(module, path, len(body))
+            for name in names_in("\n".join(body)):
+                found.setdefault((module, name), definition)
+        for name, target in imports_of(
+            [line for line in text.split("\n") if re.match(r"(unfoldable )?pub use", line)]
+        )[0].items():
+            passed_on[(module, name)] = target
+    link(texts, found, passed_on)
+    return found, sizes, passed_on
+
+
+def link(texts, found, passed_on):
+    for module, (path, text) in texts.items():
+        names, aliases = imports_of(text.split("\n"))
+        own = {name for (where, name) in found if where == module}
+        for part in paragraphs(text):
+            code = re.sub(r"--.*", "", part)
+            here = {found[(module, n)] for n in names_in(part) if (module, n) in found}
+            for word in TOKEN.findall(code):
+                target = resolve(word, module, names, aliases, own)
+                target = passed_on.get(target, target)
+                if target in found:
+                    for definition in here:
+                        definition.rests_on.add(found[target])
+
+
+def exported(crate):
+    """The names that a crate gives to others; none where whole modules are public."""
+    text = (crate_folder(crate) / "src" / "lib.rt").read_text()
+    names = set()
+    for found in re.finditer(r"pub use [\w:]+?(?:::\{([^}]*)\}|::(\w+));", text):
+        names |= {n.strip() for n in (found.group(1) or found.group(2)).split(",") if n.strip()}
+    return names if names else None
+
+
+def public_clauses(crate):
+    """The clauses of a crate's public functions, with the file that each stands in."""
+    names = exported(crate)
+    for path in sorted((crate_folder(crate) / "src").rglob("*.rt")):
+        lines = path.read_text().split("\n")
+        inside = None
+        for number, line in enumerate(lines):
+            found = re.match(r"(?:pub )?(impl|trait)\b(?:<[^>]*>)? ?(.*?)[ <{(]*$", line)
+            if found and not line.startswith(" "):
+                words = re.findall(r"\w+", re.sub(r"<.*?>", "", line))
+                inside = words[words.index("for") + 1] if "for" in words else words[-1]
+                if words[0] == "pub" or words[0] == "trait":
+                    inside = words[words.index("trait") + 1] if "trait" in words else inside
+            if line == "}":
+                inside = None
+            found = re.match(r"(\s*)(pub )?fn (\w+)", line)
+            if not found:
+                ghost = inside and re.match(r"\s+ghost \w+[ :=]", line)
+                if ghost and (names is None or inside in names):
+                    yield path, lines, "\n".join(lines[number : number + 6])
+                continue
+            known = inside if found.group(1) else found.group(3)
+            if names is None and not found.group(2) or names is not None and known not in names:
+                continue
+            clauses = []
+            for after in lines[number + 1 :]:
+                if after.strip() in ("{", "}") or re.match(r"\s*(pub )?fn |\s*///", after):
+                    break
+                clauses.append(after)
+            yield path, lines, "\n".join(clauses)
+
+
+def main():
+    found, sizes, passed_on = read_specs()
+    needed, waiting = set(), []
+    for crate in CRATES:
+        for path, lines, clauses in public_clauses(crate):
+            names, aliases = imports_of(lines)
+            for word in TOKEN.findall(re.sub(r"//.*", "", clauses)):
+                target = resolve(word, None, names, aliases, ())
+                target = passed_on.get(target, target)
+                if target in found:
+                    waiting.append(found[target])
+    while waiting:
+        definition = waiting.pop()
+        if definition not in needed:
+            needed.add(definition)
+            waiting += definition.rests_on
+    if "--unused" in sys.argv:
+        for (module, name), definition in sorted(found.items()):
+            if definition not in needed:
+                print(definition.path, name)
+        return
+    lines = defaultdict(int)
+    for definition in needed:
+        lines[definition.path] += definition.lines
+    for path in sorted(sizes):
+        if path in lines:
+            print(f"{lines[path]:5} of {sizes[path]:4}  {path}")
+    print(f"{sum(lines.values()):5} in {len(lines)} files")
+
+
+main()
