@@ -2,9 +2,7 @@
 use Rattle.std.proofs.Common.{◌≡◌, ◌⊎◌, ℕ, zero, suc, Bool, true, false, ◌||◌, inl, inr, List, []}
 use Rattle.std.proofs.Common.{◌∷◌, ◌++◌, flat_map, map, length, Some, None, refl, sym, ◌∙◌, ap}
 use Rattle.std.proofs.Common.{subst, if◌then◌else◌}
-use Rattle.std.specs.Prelude.{bytes_eq, slice_get, String, string_bytes}
-use Rattle.std.specs.Global.{Global}
-use Rattle.std.specs.Map.{lookup_key}
+use Rattle.std.specs.Prelude.{bytes_eq, slice_get, string_bytes}
 use Rattle.std.proofs.lemmas.List.{map-append}
 use Rattle.protobuf_parse_base.specs.PathViews.{path_buf_text}
 use Rattle.protobuf_parse_syntax.specs.Dependencies.{imported, imports}
@@ -29,18 +27,6 @@ use Rattle.protobuf_parse.proofs.Keeping.{among-append, among-left, text-same, t
 use Rattle.protobuf_parse.proofs.Numbers.{name_of, named-length, named-push, numbers-joined}
 use Rattle.protobuf_parse.proofs.Numbers.{numbers-more}
 use Rattle.protobuf_parse.proofs.Steps.{entry-in, get-more, get-seam}
-
--- a key that was found is the one that was looked for
-pub key-found : (p : Text) (es : List LoadedEntry) (k : String Global)
-    → Some k ≡ lookup_key (λ (s : String Global). bytes_eq p (string_bytes s)) es
-    → string_bytes k ≡ p
-key-found p [] k h = cc
-key-found p (e ∷ es) k h =
-    elim (bool_cases (bytes_eq p (string_bytes e.0))) [
-      | inl w ↦ let z : Some k ≡ Some e.0 = (rw w at h) in
-          let same : k ≡ e.0 = cc in rw same (sym (text-true p (string_bytes e.0) w))
-      | inr w ↦ key-found p es k (rw w at h)
-    ]
 
 -- ** what a file stands to
 

@@ -13,6 +13,7 @@ pub mod Counting
 pub mod Deciding
 pub mod Causing
 pub mod Numbers
+pub mod Finding
 pub mod Knowing
 pub mod Spelling
 pub mod Reordering

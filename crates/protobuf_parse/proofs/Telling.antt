@@ -9,7 +9,6 @@ use Rattle.protobuf_parse_model.specs.declared.descriptor.FileDescriptorProto.{F
 use Rattle.protobuf_parse_syntax.specs.Trees.{file_view}
 use Rattle.protobuf_parse.specs.declared.run.fault.RunFault.{RunFault}
 use Rattle.protobuf_parse.specs.declared.run.fault.RunFault.TheVariants as fault
-use Rattle.protobuf_parse.specs.declared.run.loader.LoadedFile.{LoadedFile}
 use Rattle.protobuf_parse.specs.declared.run.log.ReadEntry.{ReadEntry}
 use Rattle.protobuf_parse.specs.declared.run.log.ReadOutcome.{ReadOutcome}
 use Rattle.protobuf_parse.specs.Walks.{the_resolver, Event, Input, named, events, until}
@@ -46,12 +45,6 @@ until-after test (x ∷ xs) ys h =
       | inr w ↦ let z : find test xs ≡ None = (rw w at h) in
           rw w (ap (λ r. x ∷ r) (until-after test xs ys z))
     ]
-
-pub values-descriptors : (es : List LoadedEntry)
-    → map (λ (f : LoadedFile). f.descriptor) (map (λ (e : LoadedEntry). e.1) es)
-    ≡ map (λ (e : LoadedEntry). e.1.descriptor) es
-values-descriptors [] = refl
-values-descriptors (e ∷ es) = ap (λ z. e.1.descriptor ∷ z) (values-descriptors es)
 
 module _ (legal : Legal) (files : Files) (told : List Event) where
   are-descriptors : (log : List ReadEntry) (loaded : List LoadedEntry)

@@ -6,6 +6,7 @@ pub mod Imports
 pub mod Walks
 pub mod Run
 pub mod Loading
+pub mod Loaded
 pub mod NameSets
 pub mod Includes
 pub mod Folders

@@ -15,6 +15,7 @@ pub mod describe;
 pub mod fault;
 pub mod frame;
 pub mod laws;
+pub mod loaded;
 pub mod loader;
 pub mod log;
 pub mod reach;
@@ -23,11 +24,11 @@ pub mod tables;
 
 use crate::bundled::bundled_files;
 use crate::run::fault::RunFault;
-use crate::run::loader::{LoadedFiles, Loader, load_inputs};
+use crate::run::loaded::LoadedFiles;
+use crate::run::loader::{Loader, load_inputs};
 use crate::run::log::{RunInput, RunLog};
 use crate::run::source::{InputReader, NoReader, ProtoPathResolver, Sources};
 use crate::run::tables::Tables;
-use indexmap::IndexMap;
 use protobuf_parse_base::proto_path::ProtoPathBuf;
 use protobuf_parse_model::FileDescriptorProto;
 use std::alloc::{AllocError, Global};
@@ -58,7 +59,7 @@ pub fn run_inputs<'a, R: ProtoPathResolver, I: InputReader>(
         (rows bundled.now) result.reads.items result.meets result.result }
 {
     let mut loader = Loader {
-        loaded: IndexMap::new(alloc),
+        loaded: LoadedFiles::new(alloc),
         tables: Tables::new(alloc),
         reads: Vec::new(alloc),
         chain: Vec::new(alloc),
@@ -96,7 +97,7 @@ fn descriptors(alloc: Global, loaded: LoadedFiles) -> Result<Vec<FileDescriptorP
     ensures { IfOk result (λ v. v.items ≡ map (λ (e : LoadedEntry). e.1.descriptor) loaded.entries) }
 {
     let mut descriptors = Vec::new(alloc);
-    for file in loaded.into_values() {
+    for (_, file) in loaded.into_entries() {
         descriptors.push(file.descriptor)?;
     }
     Ok(descriptors)

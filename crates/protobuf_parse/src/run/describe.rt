@@ -14,7 +14,7 @@ ghost use Rattle.protobuf_parse.specs.Loading.{IndexBegins, Describes, customs_o
 ghost use Rattle.protobuf_parse.specs.Loading.{plain_or};
 ghost use Rattle.protobuf_parse.specs.Loading.{plain_seen, plains_with};
 
-use crate::run::loader::LoadedFiles;
+use crate::run::loaded::LoadedFiles;
 use crate::run::reach::Sights;
 use crate::run::tables::{RunPlaces, Tables, add_next, plain_of};
 use protobuf_parse_model::{
@@ -160,7 +160,7 @@ fn plain_at<'a>(
     ensures { option_map plain_seen result
         ≡ slice_get (plains_with loaded.now.entries (described.file_view own.now)) number }
 {
-    match loaded.get_index(number) {
+    match loaded.at(number) {
         Some((_, file)) => Some(plain_of(file)),
         None if number == loaded.len() => Some(own),
         None => None,

@@ -27,7 +27,7 @@ ghost use Rattle.protobuf_parse.specs.Loading.{Goes, GoesOn, Good, Grows, IsDeci
 ghost use Rattle.protobuf_parse.specs.Loading.{IsPlaced, IsReaders, IsShadowed};
 ghost use Rattle.protobuf_parse.specs.Run.{OrMemory};
 ghost use Rattle.protobuf_parse.specs.Loading.{ReadsTree, SettlesOver, asked_by, faults_over};
-ghost use Rattle.protobuf_parse.specs.Loading.{file_at, legal_by, named_trees, plain_in, plain_or};
+ghost use Rattle.protobuf_parse.specs.Loading.{legal_by, named_trees, plain_in, plain_or};
 ghost use Rattle.protobuf_parse.specs.Loading.{plains_over, plains_with, chain_texts, trees_of};
 ghost use Rattle.protobuf_parse.specs.Loading.{with_next};
 ghost use Rattle.protobuf_parse.specs.Frames.{Joined, Meets, is_public_at, number_if, StandsMet};
@@ -37,11 +37,11 @@ use crate::run::asking::{answer, content, opened, origin, unreadable};
 use crate::run::describe::{Described, elaborated};
 use crate::run::fault::RunFault;
 use crate::run::frame::LoadFrame;
+use crate::run::loaded::LoadedFiles;
 use crate::run::log::{ReadEntry, ReadOutcome, RunInput};
 use crate::run::reach::{ImportNumbers, Sights, sights_of};
 use crate::run::source::{InputReader, ProtoPathResolver, Sources};
 use crate::run::tables::Tables;
-use indexmap::IndexMap;
 use protobuf_parse_base::proto_path::ProtoPathBuf;
 use protobuf_parse_model::{ElabError, ElabFailure, FileDescriptorProto};
 use protobuf_parse_syntax::{FileStatement, FileTree, ImportVis};
@@ -74,9 +74,6 @@ pub struct Placed {
     pub number: usize,
     pub height: usize,
 }
-
-/// The loaded files by their proto paths, in the order in which they were loaded.
-pub type LoadedFiles = IndexMap<String, LoadedFile>;
 
 /// What a run has so far.
 #[derive(Drop)]
@@ -201,8 +198,8 @@ fn check_loaded<R: ProtoPathResolver, I: InputReader>(
     ensures decided { IsDecided (rows sources.now.bundled.now) loader.old.reads.items
         → IsDecided (rows sources.now.bundled.now) loader.new.reads.items }
 {
-    let read = match loader.loaded.get(name.as_path().to_str()) {
-        Some(file) => file.read,
+    let read = match loader.loaded.find(name.as_path().to_str()) {
+        Some((_, file)) => file.read,
         None => return Ok(()),
     };
     let outcome = answer(alloc, sources, name, Some(fs_path))?;
@@ -539,8 +536,8 @@ fn is_on_chain(chain: &[String], path: &str) -> bool
 fn place_of(loaded: &LoadedFiles, path: &str) -> Option<Placed>
     ensures { IsPlaced path.now loaded.now.entries result }
 {
-    match loaded.get_full(path) {
-        Some((number, _, file)) => Some(Placed {
+    match loaded.find(path) {
+        Some((number, file)) => Some(Placed {
             number,
             height: file.height,
         }),
@@ -651,13 +648,12 @@ fn settle(
 /// Adds a file to the loaded ones.
 fn add(loaded: &mut LoadedFiles, path: String, file: LoadedFile) -> Result<Placed, AllocError>
     ensures height { IfOk result (λ placed. placed.height ≡ file.height) }
-    ensures added { IfOk result (λ placed. file_at (string_bytes path) loaded.old.entries ≡ None
-        → (loaded.new.entries ≡ loaded.old.entries ++ (path, file) ∷ [])
+    ensures added { IfOk result
+        (λ placed. (loaded.new.entries ≡ loaded.old.entries ++ (path, file) ∷ [])
         × (placed.number ≡ length loaded.old.entries)) }
 {
-    let number = loaded.len();
     let height = file.height;
-    loaded.insert(path, file)?;
+    let number = loaded.add(path, file)?;
     Ok(Placed { number, height })
 }
 

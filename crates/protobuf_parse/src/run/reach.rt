@@ -5,7 +5,8 @@ ghost use Rattle.protobuf_parse.specs.declared.run.reach.Held.TheVariants as hel
 ghost use Rattle.protobuf_parse.specs.Loading as loading;
 ghost use Rattle.protobuf_parse.specs.Loading.{AreJoined, held_by};
 
-use crate::run::loader::{LoadedFile, LoadedFiles};
+use crate::run::loaded::LoadedFiles;
+use crate::run::loader::LoadedFile;
 use std::alloc::{AllocError, Global};
 
 /// Which numbers of a loaded file.
@@ -95,7 +96,7 @@ fn gathered(
 fn held_at(loaded: &LoadedFiles, number: usize, which: Held) -> &[usize]
     ensures { result.now ≡ loading.held_at which (slice_get loaded.now.entries number) }
 {
-    match loaded.get_index(number) {
+    match loaded.at(number) {
         Some((_, file)) => numbers_in(file, which),
         None => &[],
     }

@@ -7,7 +7,8 @@ ghost use Rattle.protobuf_parse_wire.specs.Holding.{Holds};
 ghost use Rattle.protobuf_parse.specs.Loading.{IndexBegins, IsWhole, plain_in, plain_or};
 ghost use Rattle.protobuf_parse.specs.Loading.{plains_with};
 
-use crate::run::loader::{LoadedFile, LoadedFiles};
+use crate::run::loaded::LoadedFiles;
+use crate::run::loader::LoadedFile;
 use protobuf_parse_model::{Declarations, FileDescriptorProto};
 use protobuf_parse_wire::DeclaredPlaces;
 use std::alloc::{AllocError, Global};
@@ -75,7 +76,7 @@ fn add_loaded(places: &mut RunPlaces, alloc: Global, loaded: &LoadedFiles) -> Re
     ensures files { OnOk result (places.new.files ≡ places.old.files + 1) }
 {
     let number = places.files;
-    if let Some((_, file)) = loaded.get_index(number) {
+    if let Some((_, file)) = loaded.at(number) {
         places.declared.add(alloc, number, plain_of(file))?;
         places.files = number + 1;
     }

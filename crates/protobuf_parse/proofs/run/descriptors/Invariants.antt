@@ -1,9 +1,7 @@
-use Rattle.std.proofs.Common.{◌≡◌, ◌++◌, map}
-use Rattle.protobuf_parse.specs.declared.run.loader.LoadedFile.{LoadedFile}
+use Rattle.std.proofs.Common.{◌≡◌, map}
 use Rattle.protobuf_parse.specs.Loading.{LoadedEntry}
 use Rattle.protobuf_parse.proofs.run.descriptors.Given as goal
 
 abbrev pub invariant-loop-file : goal.invariant-loop-file
-invariant-loop-file l = l.descriptors.items
-    ++ map (λ (f : LoadedFile). f.descriptor) l.file-iterator
-    ≡ map (λ (e : LoadedEntry). e.1.descriptor) l.fn.loaded.entries
+invariant-loop-file l =
+    l.descriptors.items ≡ map (λ (e : LoadedEntry). e.1.descriptor) l.yielded

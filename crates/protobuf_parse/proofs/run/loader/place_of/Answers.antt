@@ -1,12 +1,11 @@
 use Rattle.std.proofs.Common.{refl, sym}
-use Rattle.protobuf_parse.proofs.Knowing.{key-found}
+use Rattle.protobuf_parse.proofs.Finding.{numbered}
 use Rattle.protobuf_parse.proofs.Numbers.{numbered-at}
 use Rattle.protobuf_parse.proofs.run.loader.place_of.Goals as goal
 
 pub returns-in-Some : goal.returns-in-Some
 returns-in-Some c =
-    let key = key-found c.args.path.now c.args.loaded.now.entries c.in-Some.field-0-1.now
-    c.in-Some.ensures.key in
-    let there = numbered-at c.args.loaded.now.entries _
-    (c.in-Some.field-0-1.now, c.in-Some.file.now) c.args.path.now c.in-Some.ensures.entry key in
+    let loaded = c.args.loaded.now.entries in
+    let r = numbered c.args.path.now loaded _ (sym c.in-Some.ensures.number) in
+    let there = numbered-at loaded _ r.0 c.args.path.now r.1 r.3 in
     (c.in-Some.file.now, sym c.in-Some.ensures.value, refl, there)

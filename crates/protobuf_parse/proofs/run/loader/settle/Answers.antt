@@ -28,7 +28,7 @@ returns-clause-settles c told none =
     (c.in_ok-described.ensures.ok (with_next loaded t) tells) in
     let same : c.descriptor_of.new.loader.loaded.entries
     ≡ loaded = ap (λ m. m.entries) c.in_ok-described.ensures.loaded in
-    let added = (rw same at c.in_ok-placed.ensures.added) none in
+    let added = (rw same at c.in_ok-placed.ensures.added) in
     let file : LoadedFile = record {
       tree = c.args.tree;
       height = c.args.height;

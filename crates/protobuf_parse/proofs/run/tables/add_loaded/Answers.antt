@@ -10,7 +10,7 @@ returns-in_ok-add-clause-begins c =
     let loaded = c.args.loaded.now.entries in
     let n = c.args.places.now.files in
     let d = described.file_view c.plain_of.result.now in
-    let entry = rw c.in-Some.is at c.get_index.ensures.entry in
+    let entry = rw c.in-Some.is at c.at.ensures in
     let at : slice_get (map plain_in loaded) n ≡ Some d = slice_get-map plain_in loaded n
     ∙ ap (option_map plain_in) (sym entry) ∙ ap Some (sym c.plain_of.ensures) in
     begins-next c.args.places.now (record { declared = c.add.new.self; files = n + 1 })

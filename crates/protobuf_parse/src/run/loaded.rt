@@ -1,0 +1,95 @@
+//! The loaded files: in the order in which they were loaded, and found by their paths.
+
+ghost use Rattle.std.specs.Prelude.{◌≡◌, ◌++◌, ◌∷◌, ◌^◌, ◌<◌, [], length, slice_get, IfOk, OnErr};
+ghost use Rattle.std.specs.Prelude.{option_map};
+ghost use Rattle.std.specs.Option.{option_copied};
+ghost use Rattle.protobuf_parse.specs.Loading.{file_at};
+ghost use Rattle.protobuf_parse.specs.Loaded.{number_in};
+
+use crate::run::loader::LoadedFile;
+use std::alloc::{AllocError, Global};
+use std::collections::BTreeMap;
+use std::marker::Model;
+
+/// The loaded files, each with its proto path, in the order in which they were loaded.
+#[derive(Drop)]
+pub struct LoadedFiles {
+    entries: Vec<(String, LoadedFile)>,
+    /// The number of the first file of each path. The map is ordered, since paths come from
+    /// strangers, who could choose many with one hash.
+    numbers: BTreeMap<String, usize>,
+}
+
+impl Model for LoadedFiles {
+    ghost use Rattle.protobuf_parse.specs.Loaded.{LoadedList, HasNumbers};
+
+    ghost Value = { LoadedList };
+
+    ghost view = { λ a. record { entries = a.entries.items } };
+
+    ghost invariant = { λ a. HasNumbers a.numbers a.entries.items };
+}
+
+impl LoadedFiles {
+    /// No files.
+    pub fn new(alloc: Global) -> Self
+        ensures { result.entries ≡ [] }
+    {
+        LoadedFiles {
+            entries: Vec::new(alloc),
+            numbers: BTreeMap::new(alloc),
+        }
+    }
+
+    /// How many files there are.
+    pub fn len(&self) -> usize
+        ensures len { result ≡ length self.now.entries }
+        ensures small { result < 2 ^ 63 }
+    {
+        self.entries.len()
+    }
+
+    /// The path and the file with this number.
+    pub fn at(&self, number: usize) -> Option<&(String, LoadedFile)>
+        ensures { option_copied result ≡ slice_get self.now.entries number }
+    {
+        self.entries.get(number)
+    }
+
+    /// The first file of this path, and its number.
+    pub fn find(&self, path: &str) -> Option<(usize, &LoadedFile)>
+        ensures number { option_map (λ f. f.0) result ≡ number_in path.now self.now.entries }
+        ensures value { option_map (λ f. f.1.now) result ≡ file_at path.now self.now.entries }
+    {
+        let number = *self.numbers.get(path)?;
+        let (_, file) = self.at(number)?;
+        Some((number, file))
+    }
+
+    /// Adds a file behind the others, and gives its number. Where memory is short, nothing is
+    /// added.
+    pub fn add(&mut self, path: String, file: LoadedFile) -> Result<usize, AllocError>
+        ensures number { IfOk result (λ number. number ≡ length self.old.entries) }
+        ensures added { IfOk result
+            (λ number. self.new.entries ≡ self.old.entries ++ (path, file) ∷ []) }
+        ensures err { OnErr result (self.new.entries ≡ self.old.entries) }
+    {
+        let number = self.entries.len();
+        let key = path.clone()?;
+        self.entries.reserve(1)?;
+        self.numbers.entry(key)?.or_insert(number);
+        self.entries.push_reserved((path, file));
+        Ok(number)
+    }
+
+    /// The paths and the files, in their order.
+    pub fn into_entries(self) -> Vec<(String, LoadedFile)>
+        ensures { result.items ≡ self.entries }
+    {
+        let LoadedFiles {
+            entries,
+            numbers: _,
+        } = self;
+        entries
+    }
+}
