@@ -1,3 +1,4 @@
+-- No public clause rests on this file.
 -- The loaded files and their numbers.
 use Rattle.std.specs.Prelude.{◌≡◌, ℕ, suc, List, [], ◌∷◌, Option, Some, None, option_map, bytes_eq}
 use Rattle.std.specs.Prelude.{String, string_bytes, if◌then◌else◌}
