@@ -1,5 +1,5 @@
 -- The first of a list of lists, as the lists are gone through.
-use Rattle.std.proofs.Common.{◌≡◌, ℕ, ◌+◌, ◌<◌, true, false, List, [], ◌∷◌, ◌++◌, map, drop}
+use Rattle.std.proofs.Common.{◌≡◌, ℕ, ◌+◌, ◌<◌, true, false, List, ◌∷◌, ◌++◌, map, drop}
 use Rattle.std.proofs.Common.{length, get_or, Option, Some, None, option_map, refl, ap, ◌∙◌}
 use Rattle.std.proofs.Common.{bytes_eq, is_some, drop-cons, add-one}
 use Rattle.std.specs.List.{find}

@@ -1,25 +1,25 @@
 -- What is found by the positions of parts, and that it is what going through the parts finds.
 use Rattle.std.proofs.Common.{◌≡◌, ℕ, suc, Bool, true, false, cond, if◌then◌else◌, List, [], ◌∷◌}
-use Rattle.std.proofs.Common.{◌++◌, map, filter, length, Option, Some, None, option_map, refl, sym, ap}
+use Rattle.std.proofs.Common.{map, filter, length, Option, Some, None, option_map, refl, sym, ap}
 use Rattle.std.proofs.Common.{◌∙◌, subst, bytes_eq, nat_eq, nat_lt, slice_get, append-nil}
-use Rattle.std.specs.Prelude.{ℤ, option_to_list, IfSome}
+use Rattle.std.specs.Prelude.{option_to_list, IfSome}
 use Rattle.std.specs.List.{AllByRecursion, find, list_any}
 use Rattle.std.specs.Option.{option_or}
 use Rattle.std.proofs.lemmas.List.{length-map}
-use Rattle.protobuf_parse_model.specs.Descriptors.{Text, FileDescriptor, FieldDescriptor}
-use Rattle.protobuf_parse_model.specs.Descriptors.{EnumDescriptor, EnumValueDescriptor}
+use Rattle.protobuf_parse_model.specs.Descriptors.{Text, FileDescriptor}
+use Rattle.protobuf_parse_model.specs.Descriptors.{EnumDescriptor}
 use Rattle.protobuf_parse_model.specs.Descriptors.{MessageDescriptor}
 use Rattle.protobuf_parse_wire.specs.declared.customs.picked_files.PickedFiles.{PickedFiles}
 use Rattle.protobuf_parse_wire.specs.ByName.{values_of_all}
 use Rattle.protobuf_parse_wire.specs.Holding.{Picks, Spot, at_spot, at_spots, field_there, found_by}
-use Rattle.protobuf_parse_wire.specs.Holding.{file_numbered, inside_of, number_there, spot_in}
+use Rattle.protobuf_parse_wire.specs.Holding.{inside_of, number_there, spot_in}
 use Rattle.protobuf_parse_wire.specs.Holding.{spots_in, spots_of}
 use Rattle.protobuf_parse_wire.specs.Indexed.{parts_seen}
 use Rattle.protobuf_parse_wire.specs.Known.{field_among, number_among}
 use Rattle.protobuf_parse_wire.specs.Places.{Inside, Placed, enums_inside, field_name}
 use Rattle.protobuf_parse_wire.specs.Places.{messages_inside, one_inside}
-use Rattle.protobuf_parse_wire.specs.Positions.{few, field_by, field_inside, field_names}
-use Rattle.protobuf_parse_wire.specs.Positions.{kept_position, name_of_value, number_by}
+use Rattle.protobuf_parse_wire.specs.Positions.{few, field_inside, field_names}
+use Rattle.protobuf_parse_wire.specs.Positions.{kept_position, name_of_value}
 use Rattle.protobuf_parse_wire.specs.Positions.{number_inside, part_at, position_from, value_names}
 use Rattle.protobuf_parse_wire.specs.Positions.{value_number}
 use Rattle.protobuf_parse_wire.proofs.ByName.{fields_more, fields_of, values_more}

@@ -1,10 +1,10 @@
 use Rattle.std.proofs.Common.{◌∙◌, ap, List, ℕ, Option}
 use Rattle.std.proofs.Math.Path.{fun_ext}
 use Rattle.std.proofs.lemmas.Result.{on_ok_weaker}
+use Rattle.std.specs.BTreeMap.{get_by_text}
 use Rattle.std.specs.Prelude.{string_bytes}
 use Rattle.protobuf_parse_model.specs.Descriptors.{Text}
 use Rattle.protobuf_parse_wire.specs.Holding.{Spot}
-use Rattle.protobuf_parse_wire.specs.Positions.{kept_position}
 use Rattle.protobuf_parse_wire.proofs.Holding.{put_spot}
 use Rattle.protobuf_parse_wire.proofs.customs.places.put.Goals as goal
 
@@ -13,7 +13,6 @@ returns g c =
     let parts = g.T.HasParts.part_names in
     let k = c.args.known.now in
     let path = c.in_ok-copied.ensures ∙ c.deref.ensures.value in
-    let kept = kept_position (parts k.what.now) in
     let at : List ℕ → (Text → Option ℕ) → Spot = λ p q. record {
       file = c.args.file;
       path = p;
@@ -27,6 +26,6 @@ returns g c =
       index = k.index;
       positions = c.in_ok-positions.field-0;
     }) c.args.file (string_bytes c.in_ok-clone.field-0) name
-    (ap (λ p. at p _) path ∙ ap (at k.path.items) (fun_ext c.in_ok-positions.ensures))
+    (ap (λ p. at p (get_by_text c.in_ok-positions.field-0)) path ∙ ap (at k.path.items) (fun_ext c.in_ok-positions.ensures))
     c.in_ok-clone.ensures.cases (h name))
     c.put.ensures
