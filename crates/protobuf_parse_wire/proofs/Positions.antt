@@ -20,7 +20,8 @@ use Rattle.protobuf_parse_wire.specs.Places.{Inside, Placed, enums_inside, field
 use Rattle.protobuf_parse_wire.specs.Places.{messages_inside, one_inside}
 use Rattle.protobuf_parse_wire.specs.Positions.{few, field_inside, field_names}
 use Rattle.protobuf_parse_wire.specs.Positions.{kept_position, name_of_value}
-use Rattle.protobuf_parse_wire.specs.Positions.{number_inside, part_at, position_from, value_names}
+use Rattle.protobuf_parse_wire.specs.Positions.{number_inside, part_by_position, position_from}
+use Rattle.protobuf_parse_wire.specs.Positions.{value_names}
 use Rattle.protobuf_parse_wire.specs.Positions.{value_number}
 use Rattle.protobuf_parse_wire.proofs.ByName.{fields_more, fields_of, values_more}
 use Rattle.protobuf_parse_wire.proofs.Holding.{numbered_is}
@@ -34,36 +35,38 @@ module _ {T : Type 0} (name_of : T → Text) (name : Text) (all : List T) where
   is_it x = bytes_eq (name_of x) name
 
   from_position : (n : ℕ) (rest : List T) → Rest all n rest
-      → part_at all (position_from n (map name_of rest) name) ≡ find is_it rest
+      → part_by_position all (position_from n (map name_of rest) name) ≡ find is_it rest
   from_position n [] h = refl
   from_position n (x ∷ rest) h = by_test (is_it x)
       (from_position (suc n) rest (rest_next all n x rest h))
     where
       by_test : (b : Bool)
-          → part_at all (position_from (suc n) (map name_of rest) name) ≡ find is_it rest
-          → part_at all (cond b (Some n) (position_from (suc n) (map name_of rest) name))
+          → part_by_position all (position_from (suc n) (map name_of rest) name) ≡ find is_it rest
+          → part_by_position all (cond b (Some n) (position_from (suc n) (map name_of rest) name))
           ≡ cond b (Some x) (find is_it rest)
       by_test true later = rest_first all n x rest h
       by_test false later = later
 
   -- the first of the name stands at its position
-  at_position : part_at all (position_from 0 (map name_of all) name) ≡ find is_it all
+  at_position : part_by_position all (position_from 0 (map name_of all) name) ≡ find is_it all
   at_position = from_position 0 all (all_rest all)
 
   -- where there are more than a few
   by_position : {A : Type 0} (f : Option T → A) (position : Text → Option ℕ)
       → position ≡ kept_position (map name_of all)
-      → (if nat_lt few (length all) then f (part_at all (position name)) else f (find is_it all))
+      → (if nat_lt few (length all) then f (part_by_position all (position name)) else f
+      (find is_it all))
       ≡ f (find is_it all)
   by_position f position is =
-      ap (λ (p : Text → Option ℕ). cond (nat_lt few (length all)) (f (part_at all (p name)))
+      ap (λ (p : Text → Option ℕ). cond (nat_lt few (length all))
+      (f (part_by_position all (p name)))
       (f (find is_it all))) is
-      ∙ ap (λ n. cond (nat_lt few (length all)) (f (part_at all (cond (nat_lt few n)
+      ∙ ap (λ n. cond (nat_lt few (length all)) (f (part_by_position all (cond (nat_lt few n)
       (position_from 0 (map name_of all) name) None))) (f (find is_it all))) (length-map all name_of)
       ∙ by_test (nat_lt few (length all))
     where
       by_test : (b : Bool)
-          → cond b (f (part_at all (cond b (position_from 0 (map name_of all) name) None)))
+          → cond b (f (part_by_position all (cond b (position_from 0 (map name_of all) name) None)))
           (f (find is_it all)) ≡ f (find is_it all)
       by_test true = ap f at_position
       by_test false = refl

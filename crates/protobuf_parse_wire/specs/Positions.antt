@@ -40,19 +40,20 @@ extension_parts f = []
 
 -- ---- found by positions
 
-abbrev pub part_at : {T : Type 0} → List T → Option ℕ → Option T
-part_at parts None = None
-part_at parts (Some n) = slice_get parts n
+abbrev pub part_by_position : {T : Type 0} → List T → Option ℕ → Option T
+part_by_position parts None = None
+part_by_position parts (Some n) = slice_get parts n
 
 -- the first field of the name, by its position where they are more than a few
 abbrev pub field_by : (Text → Option ℕ) → List FieldDescriptor → Text → Option FieldDescriptor
 field_by position fields name = if nat_lt few (length fields)
-    then part_at fields (position name) else field_among fields name
+    then part_by_position fields (position name) else field_among fields name
 
 -- the number of the first value of the name
 abbrev pub number_by : (Text → Option ℕ) → List EnumValueDescriptor → Text → Option ℤ
 number_by position values name = if nat_lt few (length values)
-    then option_map value_number (part_at values (position name)) else number_among values name
+    then option_map value_number (part_by_position values (position name)) else number_among values
+    name
 
 -- where there is a message
 abbrev pub field_inside : (Text → Option ℕ) → Option MessageDescriptor → Text
