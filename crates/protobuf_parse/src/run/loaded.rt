@@ -21,9 +21,13 @@ pub struct LoadedFiles {
 }
 
 impl Model for LoadedFiles {
+    ghost use Rattle.std.specs.Coded.{codes};
+    ghost use Rattle.protobuf_parse.specs.contracts.run.loader.LoadedFile as file;
     ghost use Rattle.protobuf_parse.specs.Loaded.{LoadedList, HasNumbers};
 
     ghost Value = { LoadedList };
+
+    ghost coded = { Prim.hlevel (codes, file.the_row.coded) };
 
     ghost view = { λ a. record { entries = a.entries.items } };
 
