@@ -59,7 +59,8 @@ module _ {T : Type 0} (name_of : T → Text) (name : Text) (all : List T) where
       ap (λ (p : Text → Option ℕ). cond (nat_lt few (length all)) (f (part_at all (p name)))
       (f (find is_it all))) is
       ∙ ap (λ n. cond (nat_lt few (length all)) (f (part_at all (cond (nat_lt few n)
-      (position_from 0 (map name_of all) name) None))) (f (find is_it all))) (length-map all name_of)
+      (position_from 0 (map name_of all) name) None))) (f (find is_it all)))
+      (length-map all name_of)
       ∙ by_test (nat_lt few (length all))
     where
       by_test : (b : Bool)
