@@ -98,8 +98,10 @@ module _ {T : Type 0} (parts : T → List Text) (list : Inside → List T)
       here = ap (λ o. option_to_list (one_inside list (inside_of o p.path) p.index)) e
           ∙ ap option_to_list h.0
 
-      by_test : (b : Bool) → flat_map look (spots_in parts n name ps) ≡ map what_of (filter is_named ps)
-          → flat_map look (map (spot_in parts n) (cond b (p ∷ filter is_named ps) (filter is_named ps)))
+      by_test : (b : Bool)
+          → flat_map look (spots_in parts n name ps) ≡ map what_of (filter is_named ps)
+          → flat_map look (map (spot_in parts n)
+          (cond b (p ∷ filter is_named ps) (filter is_named ps)))
           ≡ map what_of (cond b (p ∷ filter is_named ps) (filter is_named ps))
       by_test true rest = ap (λ xs. xs ++ flat_map look (spots_in parts n name ps)) here
           ∙ ap (λ xs. p.what ∷ xs) rest
@@ -141,7 +143,8 @@ module _ {T : Type 0} (parts : T → List Text) (list : Inside → List T)
     from n [] h = refl
     from n (f ∷ fs) h =
         let zero_more : n ≡ n + 0 = omega arith in
-        flat_map-append look (spots_in parts n name (listed f)) (spots_of parts listed name (suc n) fs)
+        flat_map-append look (spots_in parts n name (listed f))
+        (spots_of parts listed name (suc n) fs)
         ∙ ap (λ xs. xs ++ flat_map look (spots_of parts listed name (suc n) fs))
         (one_file n f (ap (slice_get files) zero_more ∙ h 0))
         ∙ ap (λ xs. flat_map (named_in listed name) (if has n then f ∷ [] else []) ++ xs)

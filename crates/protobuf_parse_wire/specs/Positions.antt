@@ -1,5 +1,5 @@
--- Where the parts of a message or an enum stand, by their names: the fields of a message, the values
--- of an enum.
+-- Where the parts of a message or an enum stand, by their names: the fields of a message, the
+-- values of an enum.
 use Rattle.std.specs.Prelude.{ℕ, suc, ℤ, List, [], ◌∷◌, length, map, bytes_eq, nat_lt, Option, Some}
 use Rattle.std.specs.Prelude.{None, option_map, slice_get, if◌then◌else◌}
 use Rattle.protobuf_parse_model.specs.Descriptors.{Text, FieldDescriptor, EnumDescriptor}

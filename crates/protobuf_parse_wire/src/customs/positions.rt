@@ -2,7 +2,6 @@
 //! values of an enum.
 
 ghost use Rattle.std.specs.Prelude.{◌≡◌, ℕ, List, map, Some, None, if◌then◌else◌, IfOk, OnOk};
-ghost use Rattle.std.specs.Prelude.{string_bytes};
 ghost use Rattle.std.specs.BTreeMap.{get_by_text};
 ghost use Rattle.std.specs.Option.{option_or};
 ghost use Rattle.std.specs.Str.{bytes_eq};
@@ -69,7 +68,7 @@ fn positions_of_fields(
         return Ok(positions);
     }
     for (index, field) in fields.iter().enumerate() {
-        put_first(&mut positions, &field.name, index)?;
+        put_first(&mut positions, alloc, &field.name, index)?;
     }
     Ok(positions)
 }
@@ -86,7 +85,7 @@ fn positions_of_values(
         return Ok(positions);
     }
     for (index, value) in values.iter().enumerate() {
-        put_first(&mut positions, &value.name, index)?;
+        put_first(&mut positions, alloc, &value.name, index)?;
     }
     Ok(positions)
 }
@@ -94,15 +93,17 @@ fn positions_of_values(
 /// Puts the position under the name, unless one stands there.
 fn put_first(
     positions: &mut BTreeMap<String, usize>,
-    name: &String,
+    alloc: Global,
+    name: &str,
     position: usize,
 ) -> Result<(), AllocError>
     ensures { OnOk result ((q : List ℕ) → get_by_text positions.new q
         ≡ option_or (get_by_text positions.old q)
-        (if bytes_eq (string_bytes name.now) q then Some position else None)) }
+        (if bytes_eq name.now q then Some position else None)) }
 {
-    if positions.get(name.as_str()).is_none() {
-        positions.insert(name.clone()?, position)?;
+    if positions.get(name).is_none() {
+        let key = String::from_str(alloc, name)?;
+        positions.insert(key, position)?;
     }
     Ok(())
 }

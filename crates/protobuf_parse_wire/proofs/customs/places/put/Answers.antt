@@ -26,6 +26,7 @@ returns g c =
       index = k.index;
       positions = c.in_ok-positions.field-0;
     }) c.args.file (string_bytes c.in_ok-clone.field-0) name
-    (ap (λ p. at p (get_by_text c.in_ok-positions.field-0)) path ∙ ap (at k.path.items) (fun_ext c.in_ok-positions.ensures))
+    (ap (λ p. at p (get_by_text c.in_ok-positions.field-0)) path
+    ∙ ap (at k.path.items) (fun_ext c.in_ok-positions.ensures))
     c.in_ok-clone.ensures.cases (h name))
     c.put.ensures

@@ -40,10 +40,12 @@ returns c =
     let extensions = c.in_ok-extensions.ensures (ap messages_placed c.deref-2.ensures.value
     ∙ c.in_ok-messages.ensures) in
     let first = subst (λ (ks : List (Known (Bor DescriptorProto))). AddsSpots old.messages
-    c.put_all.new.places (λ (name : Text). spots_known parts_of_message n name ks)) c.deref-4.ensures.value
+    c.put_all.new.places (λ (name : Text). spots_known parts_of_message n name ks))
+    c.deref-4.ensures.value
     c.in_ok-put_all.ensures in
     let second = subst (λ (ks : List (Known (Bor EnumDescriptorProto))). AddsSpots old.enums
-    c.put_all-2.new.places (λ (name : Text). spots_known parts_of_enum n name ks)) c.deref-5.ensures.value
+    c.put_all-2.new.places (λ (name : Text). spots_known parts_of_enum n name ks))
+    c.deref-5.ensures.value
     c.in_ok-put_all-2.ensures in
     let small = subst
     (λ (ks : List (Known (Bor EnumDescriptorProto))). HaveSmall (map enum_known ks))
@@ -55,7 +57,8 @@ returns c =
       enums = more_held enum_view value_names placed_enums old.enums c.put_all-2.new.places files f
           n es len enums second holds.enums;
       extensions = more_held field_view extension_parts placed_extensions old.extensions
-          c.put_all-3.new.places files f n xs len extensions (subst (λ (ks : List (Known (Bor FieldDescriptorProto))).
+          c.put_all-3.new.places files f n xs len extensions
+          (subst (λ (ks : List (Known (Bor FieldDescriptorProto))).
           AddsSpots old.extensions c.put_all-3.new.places
           (λ (name : Text). spots_known parts_of_extension n name ks))
           c.deref-6.ensures.value added) holds.extensions;
