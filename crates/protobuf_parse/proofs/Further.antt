@@ -378,7 +378,8 @@ clean-tree files (x ∷ es) q n h =
       | inr w ↦ elim (or_cases (same_event (load the_resolver q) x)
           (has (load the_resolver q) es) h) [
             | inl v ↦ loaded-tree files x q w v
-            | inr v ↦ let z : find (fails files) es ≡ None = (rw w at n) in clean-tree files es q z v
+            | inr v ↦ let z : find (fails files) es ≡ None = (rw w at n) in
+                clean-tree files es q z v
           ]
     ]
 

@@ -20,7 +20,8 @@ use Rattle.protobuf_parse_wire.specs.Places.{Inside, Placed, enums_inside, field
 use Rattle.protobuf_parse_wire.specs.Places.{messages_inside, one_inside}
 use Rattle.protobuf_parse_wire.specs.Positions.{few, field_inside, field_names}
 use Rattle.protobuf_parse_wire.specs.Positions.{kept_position, name_of_value}
-use Rattle.protobuf_parse_wire.specs.Positions.{number_inside, part_by_position, position_from, value_names}
+use Rattle.protobuf_parse_wire.specs.Positions.{number_inside, part_by_position, position_from}
+use Rattle.protobuf_parse_wire.specs.Positions.{value_names}
 use Rattle.protobuf_parse_wire.specs.Positions.{value_number}
 use Rattle.protobuf_parse_wire.proofs.ByName.{fields_more, fields_of, values_more}
 use Rattle.protobuf_parse_wire.proofs.Holding.{numbered_is}
@@ -53,10 +54,12 @@ module _ {T : Type 0} (name_of : T → Text) (name : Text) (all : List T) where
   -- where there are more than a few
   by_position : {A : Type 0} (f : Option T → A) (position : Text → Option ℕ)
       → position ≡ kept_position (map name_of all)
-      → (if nat_lt few (length all) then f (part_by_position all (position name)) else f (find is_it all))
+      → (if nat_lt few (length all) then f (part_by_position all (position name)) else f
+      (find is_it all))
       ≡ f (find is_it all)
   by_position f position is =
-      ap (λ (p : Text → Option ℕ). cond (nat_lt few (length all)) (f (part_by_position all (p name)))
+      ap (λ (p : Text → Option ℕ). cond (nat_lt few (length all))
+      (f (part_by_position all (p name)))
       (f (find is_it all))) is
       ∙ ap (λ n. cond (nat_lt few (length all)) (f (part_by_position all (cond (nat_lt few n)
       (position_from 0 (map name_of all) name) None))) (f (find is_it all)))

@@ -40,7 +40,8 @@ use Rattle.protobuf_parse_wire.specs.CustomFaults.{string_value_faults, message_
 use Rattle.protobuf_parse_wire.specs.CustomFaults.{number_faults, constant_name_faults}
 use Rattle.protobuf_parse_wire.specs.CustomFaults.{value_faults, list_faults, field_faults}
 use Rattle.protobuf_parse_wire.specs.CustomFaults.{part_faults, step_faults, path_faults, table_of}
-use Rattle.protobuf_parse_wire.specs.CustomFaults.{option_names_in, builtin_step_faults, custom_faults}
+use Rattle.protobuf_parse_wire.specs.CustomFaults.{option_names_in, builtin_step_faults}
+use Rattle.protobuf_parse_wire.specs.CustomFaults.{custom_faults}
 use Rattle.protobuf_parse_wire.specs.CustomFaults.{custom_name_faults, custom_statement_faults}
 use Rattle.protobuf_parse_model.specs.Environment.{part_text, option_path_text}
 
