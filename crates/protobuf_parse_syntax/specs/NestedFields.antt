@@ -64,9 +64,7 @@ unfoldable pub value_of : {R R' : List Lexeme → ConstantSyntax → Type 0} {k 
     → Parts R R' constant_shape k
     → Parts (ValueOf R) (ValueOf R')
     (nested (symbol_class 58 ∷ symbol_class 123 ∷ []) false (symbol_class 46 ∷ text ∷ [])) k
-value_of p = shaped (nested (symbol_class 58 ∷ symbol_class 123 ∷ []) false
-    (symbol_class 46 ∷ text ∷ []))
-      (choose (do same (symbol 58) refl; p) refl (begun (unless other_constants p refl) refl)) refl
+value_of p = shaped (nested (symbol_class 58 ∷ symbol_class 123 ∷ []) false (symbol_class 46 ∷ text ∷ [])) (choose (do same (symbol 58) refl; p) refl (begun (unless other_constants p refl) refl)) refl
 
 unfoldable pub constant_field_of : {R R' : List Lexeme → ConstantSyntax → Type 0} {k : ℕ}
     → Parts R R' constant_shape k
@@ -94,8 +92,7 @@ unfoldable pub message_constant_of : {R R' : List Lexeme → ConstantSyntax → 
     → Parts (MessageConstantOf R) (MessageConstantOf R') (nested (symbol_class 123 ∷ []) false [])
     (suc k)
 unfolding MessageConstantOf
-message_constant_of p =
-    shaped (nested (symbol_class 123 ∷ []) false []) (behind (symbol 123) refl refl (do
+message_constant_of p = shaped (nested (symbol_class 123 ∷ []) false []) (behind (symbol 123) refl refl (do
   fields ← constant_fields_of p
   same (symbol 125) refl
   give (tree.fields (tree.constant_fields fields)))) refl
@@ -162,8 +159,7 @@ type_shape = nested (symbol_class 46 ∷ ident_class [] ∷ []) false (symbol_cl
 unfoldable pub map_of : {R R' : List Lexeme → TypeSyntax → Type 0} {k : ℕ} → Parts R R' type_shape k
     → Parts (MapOf R) (MapOf R') (nested (word_class (codes "map") ∷ []) false []) (suc k)
 unfolding MapOf
-map_of p = shaped (nested (word_class (codes "map") ∷ []) false [])
-    (behind (word (codes "map")) refl refl (do
+map_of p = shaped (nested (word_class (codes "map") ∷ []) false []) (behind (word (codes "map")) refl refl (do
   same (symbol 60) refl
   key ← p
   same (symbol 44) refl
@@ -177,8 +173,7 @@ unfolding TypeOf
 type_of n k h R R' p = shaped type_shape
     (choose (do s ← same (one_of scalars) refl; give (tree.scalar s)) refl
     (choose (map_of p) refl
-    (do name ← unless (words (codes "map" ∷ table_words scalars)) (same name refl) refl;
-      give (tree.named name)))) refl
+    (do name ← unless (words (codes "map" ∷ table_words scalars)) (same name refl) refl; give (tree.named name)))) refl
 
 abbrev pub type_ : (n : ℕ) → Parses (IsType n) type_shape
 type_ = level refl type_of
@@ -260,9 +255,7 @@ options_shape = nested (symbol_class 91 ∷ []) true (symbol_class 91 ∷ [])
 
 unfoldable pub options_pair : (n : ℕ) → Parts (AreOptions n) (AreOptions (suc n)) options_shape n
 unfolding AreOptions
-options_pair n = shaped options_shape
-    (choose (do same (symbol 91) refl; options ← assignments n; same (symbol 93) refl;
-      give options) refl (give [])) refl
+options_pair n = shaped options_shape (choose (do same (symbol 91) refl; options ← assignments n; same (symbol 93) refl; give options) refl (give [])) refl
 
 pub options-same : (n : ℕ) (ts : Rest Lexeme Place)
     → (options_pair n).high.run ts ≡ (options_pair (suc n)).low.run ts
@@ -336,8 +329,7 @@ unfoldable pub plain_field : (n : ℕ) (place : Place) (label : Option Label)
     label) (PlainFieldOf (suc n) (Unless (is_one_of (words (codes "group" ∷ []))) (IsType (suc n)))
     place label) (field_shape (symbol_class 46 ∷ ident_class (codes "group" ∷ []) ∷ [])) n
 unfolding PlainFieldOf
-plain_field n place label =
-    shaped (field_shape (symbol_class 46 ∷ ident_class (codes "group" ∷ []) ∷ [])) (do
+plain_field n place label = shaped (field_shape (symbol_class 46 ∷ ident_class (codes "group" ∷ []) ∷ [])) (do
   type_ ← unless (words (codes "group" ∷ [])) (types n) refl
   after_type n place label type_) refl
 
@@ -380,23 +372,15 @@ field_items_of Proto3 p =
 unfoldable pub field_block_of : (s : Syntax) {R R' : List Lexeme → FieldStatementSyntax → Type 0}
     {k : ℕ} → Parts R R' (field_shape (field_firsts s)) k
     → Parts (Braced R) (Braced R') (nested (symbol_class 123 ∷ []) false []) k
-field_block_of Proto2 p =
-    shaped (nested (symbol_class 123 ∷ []) false [])
-        (do same (symbol 123) refl; fields ← field_items_of Proto2 p; same (symbol 125) refl;
-          give fields) refl
-field_block_of Proto3 p =
-    shaped (nested (symbol_class 123 ∷ []) false [])
-        (do same (symbol 123) refl; fields ← field_items_of Proto3 p; same (symbol 125) refl;
-          give fields) refl
+field_block_of Proto2 p = shaped (nested (symbol_class 123 ∷ []) false []) (do same (symbol 123) refl; fields ← field_items_of Proto2 p; same (symbol 125) refl; give fields) refl
+field_block_of Proto3 p = shaped (nested (symbol_class 123 ∷ []) false []) (do same (symbol 123) refl; fields ← field_items_of Proto3 p; same (symbol 125) refl; give fields) refl
 
 unfoldable pub group_of : (s : Syntax) {R R' : List Lexeme → FieldStatementSyntax → Type 0} {k : ℕ}
     (place : Place) (label : Option Label) → Parts R R' (field_shape (field_firsts s)) k
     → Parts (GroupOf R place label) (GroupOf R' place label)
     (field_shape (word_class (codes "group") ∷ [])) (suc k)
 unfolding GroupOf
-group_of s place label p =
-    shaped (field_shape (word_class (codes "group") ∷ []))
-        (behind (word (codes "group")) refl refl (do
+group_of s place label p = shaped (field_shape (word_class (codes "group") ∷ [])) (behind (word (codes "group")) refl refl (do
   name ← same capital refl
   same (symbol 61) refl
   number ← same field_number refl
@@ -434,12 +418,10 @@ unfoldable pub field_of : (s : Syntax) (n k : ℕ) → k ≤ n
     → Parts (FieldOf s n R) (FieldOf s (suc n) R') (field_shape (field_firsts s)) (suc k)
 unfolding FieldOf
 field_of Proto2 n k h R R' p = shaped (field_shape (field_firsts Proto2)) (at (λ place.
-    choose (do l ← same (one_of labels) refl;
-        after_label Proto2 (suc n) k (suc k) (up k n h) (self (suc k)) place (Some l) p) refl
+    choose (do l ← same (one_of labels) refl; after_label Proto2 (suc n) k (suc k) (up k n h) (self (suc k)) place (Some l) p) refl
     (less (suc n) (suc k) (up k n h) (map_field n place))) refl) refl
 field_of Proto3 n k h R R' p = shaped (field_shape (field_firsts Proto3)) (at (λ place.
-    choose (do l ← same (one_of labels3) refl;
-        after_label Proto3 (suc n) k (suc k) (up k n h) (self (suc k)) place (Some l) p) refl
+    choose (do l ← same (one_of labels3) refl; after_label Proto3 (suc n) k (suc k) (up k n h) (self (suc k)) place (Some l) p) refl
     (unless (words (table_words labels ++ statement_words))
     (after_label Proto3 (suc n) k (suc k) (up k n h) (self (suc k)) place None p) refl)) refl)
     refl
