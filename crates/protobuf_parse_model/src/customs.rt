@@ -114,8 +114,8 @@ fn refuse_custom(alloc: Global, option: &ProtobufOption) -> Result<(), ElabFailu
 
 /// The name of a custom option as it is written, with extensions in parentheses.
 pub fn path_text(alloc: Global, parts: &[ProtobufOptionNamePart]) -> Result<String, AllocError>
-    ensures { IfOk result (λ s. string_bytes s ≡ option_path_text (map option_part_view parts.now))
-        }
+    ensures { IfOk result
+        (λ s. string_bytes s ≡ option_path_text (map option_part_view parts.now)) }
 {
     let mut text = String::new(alloc);
     let [first, others @ ..] = parts else {

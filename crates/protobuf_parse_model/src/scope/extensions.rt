@@ -70,8 +70,8 @@ fn add_in_message<'a>(
     ensures scope { OnOk result (name_texts scope.new.items ≡ name_texts scope.old.items) }
     ensures adds { OnOk result (let m = message_view message.now in
         Adds extension_entry table.old table.new file
-        (flat_map (names.extensions_of (names.inside (name_texts scope.old.items) m.name)) m.body))
-        }
+        (flat_map (names.extensions_of (names.inside (name_texts scope.old.items) m.name))
+        m.body)) }
 {
     scope.push(&message.name)?;
     for statement in &message.body {

@@ -89,8 +89,8 @@ pub fn json_name_of(
     options: &[&ProtobufOption],
 ) -> Result<String, ElabFailure>
     ensures { let os = options_seen options.now in
-        Elaborates string_bytes result (spec.json_name_faults os) (spec.field_json_name name.now os)
-            }
+        Elaborates string_bytes result (spec.json_name_faults os)
+        (spec.field_json_name name.now os) }
 {
     let Some(value) = first_value(options, "json_name") else {
         return Ok(json_name(alloc, name)?);
