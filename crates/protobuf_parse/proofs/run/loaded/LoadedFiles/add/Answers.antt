@@ -1,7 +1,8 @@
-use Rattle.std.proofs.Common.{◌≡◌, ◌++◌, ◌∷◌, [], ◌∙◌, ap, arith, unwrap_or, length, string_bytes}
+use Rattle.std.proofs.Common.{◌≡◌, List, ◌++◌, ◌∷◌, [], ◌∙◌, ap, arith, unwrap_or, length}
+use Rattle.std.proofs.Common.{string_bytes}
 use Rattle.std.specs.BTreeMap.Entry.{map_with_value}
 use Rattle.std.specs.BTreeMap.{get_by_text}
-use Rattle.protobuf_parse.specs.Loaded.{number_in}
+use Rattle.protobuf_parse.specs.Loaded.{LoadedList, number_in}
 use Rattle.protobuf_parse.specs.Loading.{LoadedEntry}
 use Rattle.protobuf_parse.proofs.Finding.{numbers-push}
 use Rattle.protobuf_parse.proofs.run.loaded.LoadedFiles.add.Goals as goal
@@ -25,3 +26,9 @@ invariant_of-self-2 c =
     c.self.invariant c.in_ok-key.ensures.cases is (c.in_ok-self-inside.ensures.update.0 n) in
     rw items (λ q. let fact : get_by_text new q ≡ number_in q (old.entries.items ++ e ∷ []) =
     has q in grind (arith, fact))
+
+pub returns-clause-added : goal.returns-clause-added
+returns-clause-added c =
+    c.push_reserved.ensures.items
+    ∙ ap (λ (es : List LoadedEntry). es ++ (c.args.path, c.args.file) ∷ [])
+    (c.reserve.ensures.items ∙ ap (λ (m : LoadedList). m.entries) c.self.view_is)
