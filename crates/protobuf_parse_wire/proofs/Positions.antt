@@ -18,10 +18,9 @@ use Rattle.protobuf_parse_wire.specs.Indexed.{parts_seen}
 use Rattle.protobuf_parse_wire.specs.Known.{field_among, number_among}
 use Rattle.protobuf_parse_wire.specs.Places.{Inside, Placed, enums_inside, field_name}
 use Rattle.protobuf_parse_wire.specs.Places.{messages_inside, one_inside}
-use Rattle.protobuf_parse_wire.specs.Positions.{few, field_inside, field_names}
+use Rattle.protobuf_parse_wire.specs.Positions.{most_walked, field_inside, field_names}
 use Rattle.protobuf_parse_wire.specs.Positions.{kept_position, name_of_value}
-use Rattle.protobuf_parse_wire.specs.Positions.{number_inside, part_by_position, position_from}
-use Rattle.protobuf_parse_wire.specs.Positions.{value_names}
+use Rattle.protobuf_parse_wire.specs.Positions.{number_inside, part_in, position_from, value_names}
 use Rattle.protobuf_parse_wire.specs.Positions.{value_number}
 use Rattle.protobuf_parse_wire.proofs.ByName.{fields_more, fields_of, values_more}
 use Rattle.protobuf_parse_wire.proofs.Holding.{numbered_is}
@@ -35,41 +34,40 @@ module _ {T : Type 0} (name_of : T → Text) (name : Text) (all : List T) where
   is_it x = bytes_eq (name_of x) name
 
   from_position : (n : ℕ) (rest : List T) → Rest all n rest
-      → part_by_position all (position_from n (map name_of rest) name) ≡ find is_it rest
+      → part_in all (position_from n (map name_of rest) name) ≡ find is_it rest
   from_position n [] h = refl
   from_position n (x ∷ rest) h = by_test (is_it x)
       (from_position (suc n) rest (rest_next all n x rest h))
     where
       by_test : (b : Bool)
-          → part_by_position all (position_from (suc n) (map name_of rest) name) ≡ find is_it rest
-          → part_by_position all (cond b (Some n) (position_from (suc n) (map name_of rest) name))
+          → part_in all (position_from (suc n) (map name_of rest) name) ≡ find is_it rest
+          → part_in all (cond b (Some n) (position_from (suc n) (map name_of rest) name))
           ≡ cond b (Some x) (find is_it rest)
       by_test true later = rest_first all n x rest h
       by_test false later = later
 
   -- the first of the name stands at its position
-  at_position : part_by_position all (position_from 0 (map name_of all) name) ≡ find is_it all
-  at_position = from_position 0 all (all_rest all)
+  position_of_first : part_in all (position_from 0 (map name_of all) name) ≡ find is_it all
+  position_of_first = from_position 0 all (all_rest all)
 
   -- where there are more than a few
   by_position : {A : Type 0} (f : Option T → A) (position : Text → Option ℕ)
       → position ≡ kept_position (map name_of all)
-      → (if nat_lt few (length all) then f (part_by_position all (position name)) else f
-      (find is_it all))
+      → (if nat_lt most_walked (length all) then f (part_in all (position name))
+      else f (find is_it all))
       ≡ f (find is_it all)
   by_position f position is =
-      ap (λ (p : Text → Option ℕ). cond (nat_lt few (length all))
-      (f (part_by_position all (p name)))
+      ap (λ (p : Text → Option ℕ). cond (nat_lt most_walked (length all)) (f (part_in all (p name)))
       (f (find is_it all))) is
-      ∙ ap (λ n. cond (nat_lt few (length all)) (f (part_by_position all (cond (nat_lt few n)
+      ∙ ap (λ n. cond (nat_lt most_walked (length all)) (f (part_in all (cond (nat_lt most_walked n)
       (position_from 0 (map name_of all) name) None))) (f (find is_it all)))
       (length-map all name_of)
-      ∙ by_test (nat_lt few (length all))
+      ∙ by_test (nat_lt most_walked (length all))
     where
       by_test : (b : Bool)
-          → cond b (f (part_by_position all (cond b (position_from 0 (map name_of all) name) None)))
+          → cond b (f (part_in all (cond b (position_from 0 (map name_of all) name) None)))
           (f (find is_it all)) ≡ f (find is_it all)
-      by_test true = ap f at_position
+      by_test true = ap f position_of_first
       by_test false = refl
 
 field_found : (position : Text → Option ℕ) (name : Text) (o : Option MessageDescriptor)
@@ -91,8 +89,10 @@ number_found position name (Some e) h =
 -- ---- at places
 
 -- At the place are kept the positions of the parts of what stands there.
-abbrev pub Tells : {T : Type 0} → (T → List Text) → (Inside → List T) → PickedFiles → Spot → Type 0
-Tells parts list picks s = IfSome (at_spot list picks s) (λ x. s.position ≡ kept_position (parts x))
+abbrev pub KeepsPositions : {T : Type 0} → (T → List Text) → (Inside → List T) → PickedFiles → Spot
+    → Type 0
+KeepsPositions parts list picks s =
+    IfSome (at_spot list picks s) (λ x. s.position ≡ kept_position (parts x))
 
 all_spots : {A B : Type 0} (P : A → Type 0) (Q : B → Type 0) (f : A → B) (test : A → Bool)
     → ((x : A) → P x → Q (f x)) → (xs : List A) → AllByRecursion P xs
@@ -120,31 +120,32 @@ module _ {T : Type 0} (parts : T → List Text) (list : Inside → List T)
   there p o = one_inside list (inside_of o p.path) p.index
 
   one_told : (n : ℕ) (file : FileDescriptor) → slice_get files n ≡ Some file → (p : Placed T)
-      → StandsIn list file p → Tells parts list picks (spot_in parts n p)
+      → StandsIn list file p → KeepsPositions parts list picks (spot_in parts n p)
   one_told n file e p stands = by_test (has n) refl
     where
-      by_test : (b : Bool) → has n ≡ b → Tells parts list picks (spot_in parts n p)
+      by_test : (b : Bool) → has n ≡ b → KeepsPositions parts list picks (spot_in parts n p)
       by_test true h = subst (tells_of p) (sym (ap (there p) (numbered_is files picks is n
           ∙ ap (λ b. if b then slice_get files n else None) h ∙ e) ∙ stands)) refl
       by_test false h = subst (tells_of p) (sym (ap (there p) (numbered_is files picks is n
           ∙ ap (λ b. if b then slice_get files n else None) h))) tt
 
   from_told : (n : ℕ) (fs : List FileDescriptor) → Rest files n fs
-      → AllByRecursion (Tells parts list picks) (spots_of parts listed name n fs)
+      → AllByRecursion (KeepsPositions parts list picks) (spots_of parts listed name n fs)
   from_told n [] h = tt
   from_told n (f ∷ fs) h =
-      both (Tells parts list picks) (spots_in parts n name (listed f))
+      both (KeepsPositions parts list picks) (spots_in parts n name (listed f))
       (spots_of parts listed name (suc n) fs)
-      (all_spots (StandsIn list f) (Tells parts list picks) (spot_in parts n)
+      (all_spots (StandsIn list f) (KeepsPositions parts list picks) (spot_in parts n)
       (λ (p : Placed T). bytes_eq name p.name) (one_told n f (rest_first files n f fs h)) (listed f)
       (stand f))
       (from_told (suc n) fs (rest_next files n f fs h))
 
-  pub all_told : AllByRecursion (Tells parts list picks) (spots_of parts listed name 0 files)
+  pub all_told : AllByRecursion (KeepsPositions parts list picks)
+      (spots_of parts listed name 0 files)
   all_told = from_told 0 files (all_rest files)
 
 pub fields_found : (picks : PickedFiles) (name : Text) (ss : List Spot)
-    → AllByRecursion (Tells field_names messages_inside picks) ss
+    → AllByRecursion (KeepsPositions field_names messages_inside picks) ss
     → found_by (field_there picks name) ss
     ≡ field_among (fields_of (at_spots messages_inside picks ss)) name
 fields_found picks name [] h = refl
@@ -158,7 +159,7 @@ fields_found picks name (s ∷ ss) h =
     ∙ sym (fields_more name (option_to_list there) later)
 
 pub numbers_found : (picks : PickedFiles) (name : Text) (ss : List Spot)
-    → AllByRecursion (Tells value_names enums_inside picks) ss
+    → AllByRecursion (KeepsPositions value_names enums_inside picks) ss
     → found_by (number_there picks name) ss
     ≡ number_among (values_of_all (at_spots enums_inside picks ss)) name
 numbers_found picks name [] h = refl

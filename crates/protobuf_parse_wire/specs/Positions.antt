@@ -14,13 +14,14 @@ position_from at [] name = None
 position_from at (n ∷ ns) name =
     if bytes_eq n name then Some at else position_from (suc at) ns name
 
--- Of up to so many parts no positions are kept.
-abbrev pub few : ℕ
-few = 16
+-- Of up to so many parts no positions are kept: they are gone through.
+abbrev pub most_walked : ℕ
+most_walked = 16
 
 -- the position of the first that has the name, of more than a few
 abbrev pub kept_position : List Text → Text → Option ℕ
-kept_position names name = if nat_lt few (length names) then position_from 0 names name else None
+kept_position names name =
+    if nat_lt most_walked (length names) then position_from 0 names name else None
 
 abbrev pub name_of_value : EnumValueDescriptor → Text
 name_of_value v = v.name
@@ -40,20 +41,19 @@ extension_parts f = []
 
 -- ---- found by positions
 
-abbrev pub part_by_position : {T : Type 0} → List T → Option ℕ → Option T
-part_by_position parts None = None
-part_by_position parts (Some n) = slice_get parts n
+abbrev pub part_in : {T : Type 0} → List T → Option ℕ → Option T
+part_in parts None = None
+part_in parts (Some n) = slice_get parts n
 
 -- the first field of the name, by its position where they are more than a few
 abbrev pub field_by : (Text → Option ℕ) → List FieldDescriptor → Text → Option FieldDescriptor
-field_by position fields name = if nat_lt few (length fields)
-    then part_by_position fields (position name) else field_among fields name
+field_by position fields name = if nat_lt most_walked (length fields)
+    then part_in fields (position name) else field_among fields name
 
 -- the number of the first value of the name
 abbrev pub number_by : (Text → Option ℕ) → List EnumValueDescriptor → Text → Option ℤ
-number_by position values name = if nat_lt few (length values)
-    then option_map value_number (part_by_position values (position name)) else number_among values
-    name
+number_by position values name = if nat_lt most_walked (length values)
+    then option_map value_number (part_in values (position name)) else number_among values name
 
 -- where there is a message
 abbrev pub field_inside : (Text → Option ℕ) → Option MessageDescriptor → Text
