@@ -59,7 +59,8 @@ pub fn sights_of(
     })
 }
 
-/// The numbers that these files hold, and that of the next file, each once.
+/// The numbers that these files hold, and that of the next file, each once. The files' lists
+/// ascend, so the sort merges them.
 fn joined(
     alloc: Global,
     loaded: &LoadedFiles,
@@ -69,8 +70,9 @@ fn joined(
     ensures { IfOk result (λ v. AreJoined which loaded.now.entries files.now v.items) }
 {
     let mut numbers = gathered(alloc, loaded, files, which)?;
-    numbers.sort_unstable();
+    numbers.sort()?;
     numbers.dedup();
+    numbers.shrink_to_fit();
     Ok(numbers)
 }
 
