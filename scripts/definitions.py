@@ -1,3 +1,4 @@
+#!/usr/bin/env python3
 """Which definitions the clauses of public functions rest on, and how many lines they have.
 
 Run it at the top of the repository: scripts/definitions.py prints each file of specs/ that has
