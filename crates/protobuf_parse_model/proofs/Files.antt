@@ -1,9 +1,10 @@
 -- The faults of a whole file, by those of its parts.
-use Rattle.std.proofs.Common.{◌≡◌, ℤ, List, [], ◌∷◌, ◌++◌, Option, Result, Ok, Err, refl, subst}
+use Rattle.std.proofs.Common.{◌≡◌, List, [], ◌∷◌, ◌++◌, Option, Result, Ok, Err, refl, subst}
 use Rattle.std.proofs.Common.{sym}
 use Rattle.std.specs.Result.{IsErr, IsErrAnd}
-use Rattle.protobuf_parse_model.specs.Descriptors.{Text, FileDescriptor}
-use Rattle.protobuf_parse_model.specs.FileParts.{FileParts}
+use Rattle.protobuf_parse_syntax.specs.Dependencies.{FileImports}
+use Rattle.protobuf_parse_model.specs.Descriptors.{Text}
+use Rattle.protobuf_parse_model.specs.FileParts.{FileParts, file_with}
 use Rattle.protobuf_parse_model.specs.Options.{FileOptionsSet}
 use Rattle.protobuf_parse_model.specs.declared.error.ElabFailure.{ElabFailure}
 use Rattle.protobuf_parse_model.specs.declared.error.ElabFailure.TheVariants as failure
@@ -36,26 +37,10 @@ faultless (x ∷ xs) ys zs no_x no_y = absurd cc
 faultless [] ys zs no_z no_y = rw (no_y, no_z) refl
 
 -- a descriptor, by what its parts say
-abbrev file_with : (name «package» syntax : Option Text) (paths : List Text) (public weak : List ℤ)
-    → FileParts → Option FileOptionsSet → FileDescriptor
-file_with name «package» syntax paths public weak parts options = record {
-  name = name;
-  «package» = «package»;
-  syntax = syntax;
-  dependency = paths;
-  public_dependency = public;
-  weak_dependency = weak;
-  message_type = parts.message_type;
-  enum_type = parts.enum_type;
-  service = parts.service;
-  extension = parts.extension;
-  options = options;
-}
-
-pub same_file : {name name' «package» package' syntax syntax' : Option Text}
-    {paths paths' : List Text} {public public' weak weak' : List ℤ} {parts parts' : FileParts}
+pub same_file : {name name' : Text} {«package» package' : Option Text} {syntax syntax' : Text}
+    {imports imports' : FileImports} {parts parts' : FileParts}
     {options options' : Option FileOptionsSet} → name ≡ name' → «package» ≡ package'
-    → syntax ≡ syntax' → paths ≡ paths' → public ≡ public' → weak ≡ weak' → parts ≡ parts'
-    → options ≡ options' → file_with name «package» syntax paths public weak parts options
-    ≡ file_with name' package' syntax' paths' public' weak' parts' options'
-same_file a b c d e f g h = rw (a, b, c, d, e, f, g, h) refl
+    → syntax ≡ syntax' → imports ≡ imports' → parts ≡ parts' → options ≡ options'
+    → file_with name «package» syntax imports parts options
+    ≡ file_with name' package' syntax' imports' parts' options'
+same_file a b c d e f = rw (a, b, c, d, e, f) refl

@@ -1,9 +1,11 @@
 pub mod Blaming
+pub mod Naming
 pub mod OrTests
 pub mod Repeats
 pub mod TreeViews
 pub mod Lookups
 pub mod Scopes
+pub mod FileOrder
 pub mod Tables
 pub mod Picks
 pub mod Sights
@@ -13,6 +15,7 @@ pub mod SameTypes
 pub mod Levels
 pub mod Decodings
 pub mod Settings
+pub mod StatedOptions
 pub mod Bodies
 pub mod Files
 pub mod Extending

@@ -8,7 +8,8 @@ use Rattle.std.specs.List.{list_any}
 use Rattle.std.proofs.lemmas.Bool.{ltb-true}
 use Rattle.std.proofs.lemmas.Slice.Eq.{bytes_eq-Decides}
 use Rattle.std.proofs.lemmas.List.{map-id}
-use Rattle.std.proofs.lemmas.List.Elements.{filter-append}
+use Rattle.std.proofs.lemmas.List.Elements.{filter-append, Contains-append_left, Contains-push}
+use Rattle.std.proofs.lemmas.List.Elements.{Contains-append_right}
 use Rattle.std.proofs.lemmas.List.Sums.{length-filter, count_by-le-length}
 use Rattle.protobuf_parse_syntax.specs.Trees.{FileSyntax}
 use Rattle.protobuf_parse_model.specs.declared.error.ElabErrorKind.{ElabErrorKind}
@@ -28,10 +29,11 @@ use Rattle.protobuf_parse_model.specs.Linking.{extension_names, link_faults, occ
 use Rattle.protobuf_parse_model.specs.Linking.{type_names}
 use Rattle.protobuf_parse_model.specs.Tables.{Entry, TableTells, declared_by, declared_in}
 use Rattle.protobuf_parse_model.specs.Tables.{declared_in_file, extension_entry, generated_entry}
-use Rattle.protobuf_parse_model.specs.Tables.{is_of, declaration_kind, listed_names, name_faults}
-use Rattle.protobuf_parse_model.specs.Tables.{picked}
+use Rattle.protobuf_parse_model.specs.Tables.{is_of, declaration_kind, listed_faults, listed_names}
+use Rattle.protobuf_parse_model.specs.Tables.{name_faults, picked}
 use Rattle.protobuf_parse_model.specs.Tables.{times, times_declared, type_entry}
 use Rattle.protobuf_parse_model.proofs.Blaming.{among_left, among_right}
+use Rattle.protobuf_parse_model.proofs.FileOrder.{contains_number}
 use Rattle.protobuf_parse_model.proofs.Picks.{among, picked_among}
 
 -- ---- how often a name is declared
@@ -119,6 +121,10 @@ type_is extension d = at d.what
     at : (k : _) → is_of extension (declaration_kind k) ≡ not extension
     at a_message = refl
     at an_enum = refl
+
+and_true_right : (a b : Bool) → (a && b) ≡ true → b ≡ true
+and_true_right true b e = e
+and_true_right false b e = absurd cc
 
 and_false : (b : Bool) → (b && false) ≡ false
 and_false true = refl
@@ -267,12 +273,12 @@ append_nil_right : {A : Type 0} (xs ys : List A) → xs ++ ys ≡ [] → ys ≡ 
 append_nil_right [] ys e = e
 append_nil_right (x ∷ xs) ys e = absurd cc
 
-no_fault_at : (faults : Text → List Fault) (texts : List Text) (name : Text)
-    → flat_map faults texts ≡ [] → Contains texts name → faults name ≡ []
-no_fault_at faults texts name e h = at texts h.0 e h.1 h.2
+no_fault_at : {A : Type 0} (faults : A → List Fault) (all : List A) (one : A)
+    → flat_map faults all ≡ [] → Contains all one → faults one ≡ []
+no_fault_at {A} faults all one e h = at all h.0 e h.1 h.2
   where
-    at : (xs : List Text) (k : ℕ) → flat_map faults xs ≡ [] → k < length xs
-        → get_or xs k name ≡ name → faults name ≡ []
+    at : (xs : List A) (k : ℕ) → flat_map faults xs ≡ [] → k < length xs
+        → get_or xs k one ≡ one → faults one ≡ []
     at [] k gone lt is = absurd (omega (arith, lt))
     at (x ∷ xs) zero gone lt is = ap faults (sym is)
         ∙ append_nil_left (faults x) (flat_map faults xs) gone
@@ -283,6 +289,28 @@ when_none : (b : Bool) (kind : ElabErrorKind) (name : Text) → fault_when b kin
     → b ≡ false
 when_none false kind name e = refl
 when_none true kind name e = absurd cc
+
+-- some declaration counts, where more than none do
+some_counts : (extension : Bool) (reach : List ℕ) (name : Text) (ds : List Declaration)
+    → 0 < times extension reach ds
+    → (d : Declaration) × Contains ds d × (list_any (nat_eq d.file) reach ≡ true)
+some_counts extension reach name [] some = absurd (omega (arith, some))
+some_counts extension reach name (d ∷ ds) some =
+    at (counts extension reach name d) refl some (some_counts extension reach name ds)
+  where
+    at : (b : Bool) → counts extension reach name d ≡ b
+        → 0 < length (cond b (d ∷ filter (counts extension reach name) ds)
+        (filter (counts extension reach name) ds))
+        → (0 < times extension reach ds
+        → (x : Declaration) × Contains ds x × (list_any (nat_eq x.file) reach ≡ true))
+        → (x : Declaration) × Contains (d ∷ ds) x × (list_any (nat_eq x.file) reach ≡ true)
+    at true e s more = (
+      d,
+      Contains-append_left (d ∷ []) ds d (Contains-push [] d),
+      and_true_right (is_of extension d.kind) (list_any (nat_eq d.file) reach) e,
+    )
+    at false e s more =
+        let one = more s in (one.0, Contains-append_right (d ∷ []) ds one.0 one.1, one.2)
 
 module _ (seen : Seen) (files : List FileSyntax)
     (tells : TableTells seen.declarations.now files) where
@@ -300,17 +328,22 @@ module _ (seen : Seen) (files : List FileSyntax)
       ∙ ap (λ fs. occurrences name (flat_map (names_in extension) fs))
       (picked_among files seen.reach.now seen.reach_ascends)
 
-  -- a name that is declared more than once is listed
+  -- a name that is declared more than once is listed for a file that is reached
   is_listed : (extension : Bool) (name : Text)
       → nat_lt 1 (times_declared extension seen name) ≡ true
-      → Contains (listed_names seen.declarations.now) name
+      → (d : Declaration) × Contains seen.reach.now d.file
+      × Contains (listed_names seen.declarations.now d.file) name
   is_listed extension name e =
       let ds = declared_as seen.declarations.now name in
       let more : 1 < times_declared extension seen name =
       ltb-true 1 (times_declared extension seen name) e in
       let count = length-filter (counts extension seen.reach.now name) ds in
       let below = count_by-le-length (counts extension seen.reach.now name) ds in
-      tells.lists name (omega (arith, more, count, below))
+      let one = some_counts extension seen.reach.now name ds (omega (arith, more)) in (
+        one.0,
+        contains_number one.0.file seen.reach.now one.2,
+        tells.lists name (omega (arith, more, count, below)) one.0 one.1,
+      )
 
   faults_none : (extension : Bool) (name : Text) → name_faults seen name ≡ []
       → nat_lt 1 (times_declared extension seen name) ≡ false
@@ -325,7 +358,7 @@ module _ (seen : Seen) (files : List FileSyntax)
       (fault_when (nat_lt 1 (times_declared false seen name)) TypeDeclaredTwice name)
       (fault_when (nat_lt 1 (times_declared true seen name)) ExtensionDeclaredTwice name) e)
 
-  once : flat_map (name_faults seen) (listed_names seen.declarations.now) ≡ []
+  once : flat_map (listed_faults seen) seen.reach.now ≡ []
       → (extension : Bool) (name : Text)
       → nat_lt 1 (occurrences name (names_reached extension)) ≡ false
   once e extension name = ap (nat_lt 1) (sym (times_are extension name))
@@ -334,12 +367,13 @@ module _ (seen : Seen) (files : List FileSyntax)
       at : (b : Bool) → nat_lt 1 (times_declared extension seen name) ≡ b
           → nat_lt 1 (times_declared extension seen name) ≡ false
       at false h = h
-      at true h = faults_none extension name
-          (no_fault_at (name_faults seen) (listed_names seen.declarations.now) name e
-          (is_listed extension name h))
+      at true h =
+          let one = is_listed extension name h in
+          faults_none extension name
+          (no_fault_at (name_faults seen) (listed_names seen.declarations.now one.0.file) name
+          (no_fault_at (listed_faults seen) seen.reach.now one.0.file e one.1) one.2)
 
-  faultless : flat_map (name_faults seen) (listed_names seen.declarations.now) ≡ []
-      → link_faults reached ≡ []
+  faultless : flat_map (listed_faults seen) seen.reach.now ≡ [] → link_faults reached ≡ []
   faultless e =
       ap (λ fs. fs ++ flat_map (fault ExtensionDeclaredTwice) (repeated (names_reached true)))
       (none_told TypeDeclaredTwice (names_reached false) (once e false) (names_reached false))
@@ -377,10 +411,19 @@ module _ (seen : Seen) (files : List FileSyntax)
       elim (among_cases (name_faults seen x) (flat_map (name_faults seen) xs) h)
       [ inl g ↦ name_told x f g | inr g ↦ names_told xs f g ]
 
+  files_told : (files : List ℕ) (f : Fault) → Among (flat_map (listed_faults seen) files) f
+      → Among (link_faults reached) f
+  files_told [] f h = elim h [ ]
+  files_told (x ∷ xs) f h =
+      elim (among_cases (listed_faults seen x) (flat_map (listed_faults seen) xs) h) [
+        | inl g ↦ names_told (listed_names seen.declarations.now x) f g
+        | inr g ↦ files_told xs f g
+      ]
+
   pub links : (r : Result (Unit {0}) ElabFailure)
       → Elaborates {X = Unit {0}} {Y = Unit {0}} (λ u. u) r
-      (flat_map (name_faults seen) (listed_names seen.declarations.now)) tt
+      (flat_map (listed_faults seen) seen.reach.now) tt
       → Elaborates {X = Unit {0}} {Y = Unit {0}} (λ u. u) r (link_faults reached) tt
   links (Ok u) h = (faultless h.0, h.1)
   links (Err failure.Memory) h = tt
-  links (Err (failure.Fault e)) h = names_told (listed_names seen.declarations.now) _ h
+  links (Err (failure.Fault e)) h = files_told seen.reach.now _ h

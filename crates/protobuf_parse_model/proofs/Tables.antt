@@ -1,20 +1,23 @@
 -- The table of declarations, step by step.
-use Rattle.std.proofs.Common.{◌≡◌, ℕ, suc, List, [], ◌∷◌, ◌++◌, Bool, true, false, cond}
+use Rattle.std.proofs.Common.{◌≡◌, ℕ, zero, suc, List, [], ◌∷◌, ◌++◌, Bool, true, false, cond}
 use Rattle.std.proofs.Common.{if◌then◌else◌, Option, Some, None, refl, sym, ap, ◌∙◌, bytes_eq}
 use Rattle.std.proofs.Common.{append-nil, append_assoc, map, filter, flat_map, ◌+◌, ◌<◌, length}
 use Rattle.std.proofs.Common.{length-append, take, get_or, subst, arith, nat_eq}
+use Rattle.std.proofs.Common.{inl, inr}
 use Rattle.std.specs.Prelude.{String, string_bytes, unwrap_or, Contains}
 use Rattle.std.specs.Global.{Global, Vec}
 use Rattle.std.specs.Cmp.Lexicographic.{slice_cmp}
-use Rattle.std.specs.Ordering.{nat_cmp}
+use Rattle.std.specs.Ordering.{nat_cmp, is_eq}
 use Rattle.std.specs.String.{string_cmp}
-use Rattle.std.specs.BTreeMap.{BTreeMap, UpdatesBy, get_by_text, is_at}
-use Rattle.std.specs.Map.{lookup}
+use Rattle.std.specs.BTreeMap.{BTreeMap, UpdatesBy, get, get_by_text}
 use Rattle.std.proofs.lemmas.Slice.Eq.{bytes_eq-Decides}
 use Rattle.std.proofs.lemmas.Map.Text.{btree_map_updates_text}
 use Rattle.std.proofs.lemmas.Grind.{flat_map-append}
 use Rattle.std.proofs.lemmas.List.{flat_map_more, map-append, map_more}
 use Rattle.std.proofs.lemmas.List.Elements.{filter-append, Contains-append_left, Contains-push}
+use Rattle.std.proofs.lemmas.List.Elements.{Contains-get_or, Contains-push_cases}
+use Rattle.std.proofs.lemmas.Bool.Decides.{Decides-eqb}
+use Rattle.std.specs.Cmp.{unsigned_tied}
 use Rattle.protobuf_parse_syntax.proofs.Messages.{view_parts, views_message}
 use Rattle.protobuf_parse_syntax.specs.declared.tree.declaration.Message.{Message}
 use Rattle.protobuf_parse_syntax.specs.declared.tree.declaration.MessageStatement.TheVariants as statement
@@ -33,7 +36,8 @@ use Rattle.protobuf_parse_model.specs.Declarations.{full_name, generated_of, ins
 use Rattle.protobuf_parse_model.specs.Declarations.{types_of}
 use Rattle.protobuf_parse_model.specs.Statements.{field_statement_name}
 use Rattle.protobuf_parse_model.specs.SeenFiles.{declared_as, listed}
-use Rattle.protobuf_parse_model.specs.Tables.{Adds, AddsOne, Entry, ListsRepeated, TableTells}
+use Rattle.protobuf_parse_model.specs.Tables.{Adds, AddsOne, Entry, KeepsListed, ListsOne}
+use Rattle.protobuf_parse_model.specs.Tables.{ListsRepeated, TableTells, name_list, names_listed}
 use Rattle.protobuf_parse_model.specs.Tables.{declared_by, declared_in, declared_in_file}
 use Rattle.protobuf_parse_model.specs.Tables.{extension_entry, generated_entry, listed_names}
 use Rattle.protobuf_parse_model.specs.Tables.{type_entry}
@@ -71,46 +75,163 @@ module _ (old new : BTreeMap (String Global) (Vec Declaration)) (name : String G
       ∙ here text (bytes_eq (string_bytes name) text) refl
       (is ∙ ap (λ l. l ++ d ∷ []) (or_empty (get_by_text old (string_bytes name)) nil))
 
--- a name that gets its second declaration is listed
+-- ---- names that are declared more than once
+
+same_number : (x y : ℕ) → is_eq (nat_cmp x y) ≡ nat_eq x y
+same_number x y = unsigned_tied x y
+
+module _ (old new : BTreeMap ℕ (Vec (String Global))) (file : ℕ)
+    (empty list : Vec (String Global)) (name : String Global) where
+  at_file : (n : ℕ) (b : Bool) → nat_eq file n ≡ b
+      → map string_bytes list.items ≡ names_listed old file ++ string_bytes name ∷ []
+      → name_list (cond b (Some list) (get nat_cmp old n)) ≡ names_listed old n
+      ++ (if b then string_bytes name ∷ [] else [])
+  at_file n false e is = sym (append-nil (names_listed old n))
+  at_file n true e is = is
+      ∙ ap (λ k. names_listed old k ++ string_bytes name ∷ []) ((Decides-eqb file n).0 e)
+
+  or_no_name : (o : Option (Vec (String Global))) → empty.items ≡ []
+      → map string_bytes (unwrap_or o empty).items ≡ name_list o
+  or_no_name None e = ap (map string_bytes) e
+  or_no_name (Some v) e = refl
+
+  pub names_more : (text : Text) → UpdatesBy nat_cmp (nat_cmp file) old new (Some list)
+      → empty.items ≡ []
+      → list.items ≡ (unwrap_or (get nat_cmp old file) empty).items ++ name ∷ []
+      → string_bytes name ≡ text
+      → (n : ℕ) → names_listed new n ≡ names_listed old n
+      ++ (if nat_eq file n then text ∷ [] else [])
+  names_more text updates nil is bytes n =
+      ap name_list (updates.0 n)
+      ∙ ap (λ b. name_list (cond b (Some list) (get nat_cmp old n))) (same_number file n)
+      ∙ at_file n (nat_eq file n) refl
+      (ap (map string_bytes) is
+      ∙ map-append string_bytes (unwrap_or (get nat_cmp old file) empty).items (name ∷ [])
+      ∙ ap (λ l. l ++ string_bytes name ∷ []) (or_no_name (get nat_cmp old file) nil))
+      ∙ ap (λ t. names_listed old n ++ (if nat_eq file n then t ∷ [] else [])) bytes
+
+-- what a list that has one more name for a file says
+module _ (old new : BTreeMap ℕ (Vec (String Global))) (file : ℕ) (text : Text)
+    (more : (n : ℕ) → names_listed new n ≡ names_listed old n
+    ++ (if nat_eq file n then text ∷ [] else [])) where
+  pub keeps_listed : KeepsListed old new
+  keeps_listed n x h = subst (λ (xs : List Text). Contains xs x) (sym (more n))
+      (Contains-append_left (names_listed old n) (if nat_eq file n then text ∷ [] else []) x h)
+
+  pub is_listed : Contains (names_listed new file) text
+  is_listed =
+      let itself : nat_eq file file ≡ true = (Decides-eqb file file).1 refl in
+      let here : names_listed new file ≡ names_listed old file ++ text ∷ [] = more file
+      ∙ ap (λ b. names_listed old file ++ (if b then text ∷ [] else [])) itself in
+      subst (λ (xs : List Text). Contains xs text) (sym here)
+      (Contains-push (names_listed old file) text)
+
+contains_none : {A : Type 0} (xs : List A) (x : A) → xs ≡ [] → Contains xs x → ⊥
+contains_none xs x e h =
+    let lt : h.0 < length xs = h.1 in
+    let none : length xs ≡ 0 = ap length e in
+    omega (arith, lt, none)
+
+-- a name that isn't declared yet
+pub lists_none : (old : Declarations) (new : BTreeMap ℕ (Vec (String Global))) (full : Text)
+    (file : ℕ) → declared_as old full ≡ [] → new ≡ old.repeated → ListsOne old new full file
+lists_none old new full file none same = record {
+  kept = λ n name h. subst (λ (m : BTreeMap ℕ (Vec (String Global))).
+      Contains (names_listed m n) name) (sym same) h;
+  earlier = λ was d h. absurd (contains_none (declared_as old full) d none h);
+  again = λ was some. absurd (empty some);
+}
+  where
+    empty : 0 < length (declared_as old full) → ⊥
+    empty some = let zero : length (declared_as old full) ≡ 0 = ap length none in
+        omega (arith, zero, some)
+
+in_one : (ds : List Declaration) (k : ℕ) (default d : Declaration) → length ds < 2 → k < length ds
+    → Contains ds d → get_or ds k default ≡ d
+in_one [] k default d few lt h = absurd (omega (arith, lt))
+in_one (x ∷ []) zero default d few lt h = elim (Contains-push_cases [] x d h) [
+  | inl g ↦ absurd (contains_none [] d refl g)
+  | inr e ↦ e
+]
+in_one (x ∷ []) (suc k) default d few lt h = absurd (omega (arith, lt))
+in_one (x ∷ y ∷ ds) k default d few lt h = absurd (omega (arith, few))
+
+module _ (old : Declarations) (full : Text) (ds : List Declaration) (k : ℕ) (default : Declaration)
+    (are : ds ≡ declared_as old full) (lt : k < length ds) where
+  -- the declaration at a place in the list
+  abbrev at_place : Declaration
+  at_place = get_or ds k default
+
+  -- a name that is declared once
+  pub lists_second : (between new : BTreeMap ℕ (Vec (String Global))) (file : ℕ) → length ds < 2
+      → KeepsListed old.repeated between → Contains (names_listed between at_place.file) full
+      → KeepsListed between new
+      → (Contains (names_listed between at_place.file) full
+      → Contains (names_listed new file) full)
+      → ListsOne old new full file
+  lists_second between new file few first is second next = record {
+    kept = λ n name h. second n name (first n name h);
+    earlier = λ was d h. subst (λ (x : Declaration). Contains (names_listed new x.file) full)
+        (in_one ds k default d few lt
+        (subst (λ (xs : List Declaration). Contains xs d) (sym are) h))
+        (second at_place.file full is);
+    again = λ was some. next is;
+  }
+
+  -- a name that is declared more than once
+  pub lists_more : (new : BTreeMap ℕ (Vec (String Global))) (file : ℕ) → 1 < length ds
+      → KeepsListed old.repeated new
+      → (Contains (listed_names old at_place.file) full → Contains (names_listed new file) full)
+      → ListsOne old new full file
+  lists_more new file more kept next =
+      let two : 1 < length (declared_as old full) =
+      subst (λ (xs : List Declaration). 1 < length xs) are more in
+      let member : Contains (declared_as old full) at_place =
+      subst (λ (xs : List Declaration). Contains xs at_place) are
+      (Contains-get_or ds k default lt) in
+      record {
+        kept = kept;
+        earlier = λ was d h. kept d.file full (was full two d h);
+        again = λ was some. next (was full two at_place member);
+      }
+
+-- a name that is declared is listed, where it gets a declaration more
 pub adds_one : (old new : Declarations) (full : Text) (d : Declaration)
     → ((text : Text) → declared_as new text ≡ declared_as old text
     ++ (if bytes_eq full text then d ∷ [] else []))
-    → listed_names new ≡ listed_names old
-    ++ (if nat_eq (length (declared_as old full)) 1 then full ∷ [] else [])
-    → AddsOne old new full d
-adds_one old new full d adds lists =
-    record { declares = adds; lists = λ was text more. at was text more (bytes_eq full text) refl }
+    → ListsOne old new.repeated full d.file → AddsOne old new full d
+adds_one old new full d adds lists = record {
+  declares = adds;
+  lists = λ was text more x h. at was text more x h (bytes_eq full text) refl;
+}
   where
-    kept : (text : Text) → Contains (listed_names old) text → Contains (listed_names new) text
-    kept text h = subst (λ (names : List Text). Contains names text) (sym lists)
-        (Contains-append_left (listed_names old)
-        (if nat_eq (length (declared_as old full)) 1 then full ∷ [] else []) text h)
-
-    second : ListsRepeated old → 0 < length (declared_as old full) → (b : Bool)
-        → nat_eq (length (declared_as old full)) 1 ≡ b → Contains (listed_names new) full
-    second was some true e =
-        subst (λ (names : List Text). Contains names full)
-        (sym (lists ∙ ap (λ b. listed_names old ++ (if b then full ∷ [] else [])) e))
-        (Contains-push (listed_names old) full)
-    second was some false e = kept full (was full (grind (arith, e, some)))
-
-    at : ListsRepeated old → (text : Text) → 1 < length (declared_as new text) → (b : Bool)
-        → bytes_eq full text ≡ b → Contains (listed_names new) text
-    at was text more false e =
+    at : ListsRepeated old → (text : Text) → 1 < length (declared_as new text) → (x : Declaration)
+        → Contains (declared_as new text) x → (b : Bool) → bytes_eq full text ≡ b
+        → Contains (listed_names new x.file) text
+    at was text more x h false e =
         let same : declared_as new text ≡ declared_as old text = adds text
         ∙ ap (λ b. declared_as old text ++ (if b then d ∷ [] else [])) e
         ∙ append-nil (declared_as old text) in
-        kept text (was text (subst (λ (ds : List Declaration). 1 < length ds) same more))
-    at was text more true e =
+        lists.kept x.file text
+        (was text (subst (λ (ds : List Declaration). 1 < length ds) same more) x
+        (subst (λ (ds : List Declaration). Contains ds x) same h))
+    at was text more x h true e =
         let is : full ≡ text = (bytes_eq-Decides full text).0 e in
         let one : declared_as new text ≡ declared_as old text ++ d ∷ [] = adds text
         ∙ ap (λ b. declared_as old text ++ (if b then d ∷ [] else [])) e in
         let long : length (declared_as new text) ≡ length (declared_as old text) + 1 = ap length one
         ∙ length-append (declared_as old text) (d ∷ []) in
         let some : 0 < length (declared_as old text) = omega (arith, long, more) in
-        subst (λ (t : Text). Contains (listed_names new) t) is
-        (second was (subst (λ (t : Text). 0 < length (declared_as old t)) (sym is) some)
-        (nat_eq (length (declared_as old full)) 1) refl)
+        elim (Contains-push_cases (declared_as old text) d x
+        (subst (λ (ds : List Declaration). Contains ds x) one h)) [
+          | inl g ↦ subst (λ (t : Text). Contains (listed_names new x.file) t) is
+              (lists.earlier was x
+              (subst (λ (t : Text). Contains (declared_as old t) x) (sym is) g))
+          | inr s ↦ subst (λ (y : Declaration). Contains (listed_names new y.file) text) s
+              (subst (λ (t : Text). Contains (listed_names new d.file) t) is
+              (lists.again was
+              (subst (λ (t : Text). 0 < length (declared_as old t)) (sym is) some)))
+        ]
 
 -- ---- declarations of a file, one after another
 

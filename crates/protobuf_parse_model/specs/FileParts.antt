@@ -1,11 +1,14 @@
 -- No public clause rests on this file.
 -- What the statements of a file declare, as the code collects it.
-use Rattle.std.specs.Prelude.{List, ◌++◌, map, flat_map}
+use Rattle.std.specs.Prelude.{List, ◌++◌, map, flat_map, Option, Some}
+use Rattle.protobuf_parse_syntax.specs.Dependencies.{FileImports}
 use Rattle.protobuf_parse_syntax.specs.Trees.{StatementSyntax}
 use Rattle.protobuf_parse_model.specs.declared.convert.contents.Contents.{Contents}
-use Rattle.protobuf_parse_model.specs.Descriptors.{FieldDescriptor, EnumDescriptor}
+use Rattle.protobuf_parse_model.specs.Descriptors.{Text, FieldDescriptor, EnumDescriptor}
 use Rattle.protobuf_parse_model.specs.Descriptors.{MessageDescriptor, ServiceDescriptor, enum_view}
 use Rattle.protobuf_parse_model.specs.Descriptors.{field_view, message_view, service_view}
+use Rattle.protobuf_parse_model.specs.Descriptors.{FileDescriptor}
+use Rattle.protobuf_parse_model.specs.Options.{FileOptionsSet}
 use Rattle.protobuf_parse_model.specs.Duplicates.{duplicates}
 use Rattle.protobuf_parse_model.specs.Environment.{Environment}
 use Rattle.protobuf_parse_model.specs.Faults.{Fault}
@@ -60,3 +63,20 @@ parts_faults p =
     ++ duplicates (names_of_enums p.enum_type)
     ++ duplicates (names_of_fields p.extension)
     ++ duplicates (names_of_services p.service)
+
+-- a file of these parts
+abbrev pub file_with : (name : Text) («package» : Option Text) (syntax : Text)
+    → FileImports → FileParts → Option FileOptionsSet → FileDescriptor
+file_with name «package» syntax imports parts options = record {
+  name = Some name;
+  «package» = «package»;
+  syntax = Some syntax;
+  dependency = imports.paths;
+  public_dependency = imports.public;
+  weak_dependency = imports.weak;
+  message_type = parts.message_type;
+  enum_type = parts.enum_type;
+  service = parts.service;
+  extension = parts.extension;
+  options = options;
+}

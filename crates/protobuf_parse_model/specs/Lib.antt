@@ -21,6 +21,7 @@ pub mod FileDescriptor
 pub mod NamedTypes
 pub mod Linking
 pub mod FilesByPath
+pub mod FileOrder
 pub mod FileParts
 pub mod Tables
 pub mod OptionSets

@@ -2,7 +2,6 @@
 use Rattle.std.specs.Prelude.{ℕ, List, [], ◌∷◌, map, nat_eq}
 use Rattle.std.specs.Prelude.{Option, Some, None, option_map, if◌then◌else◌}
 use Rattle.std.specs.Borrow.{Bor}
-use Rattle.std.specs.Global.{Vec}
 use Rattle.std.specs.List.{list_any}
 use Rattle.std.specs.BTreeMap.{get_by_text}
 use Rattle.std.specs.Option.{option_or}
@@ -15,6 +14,7 @@ use Rattle.protobuf_parse_model.specs.declared.scope.seen.Declarations.{Declarat
 use Rattle.protobuf_parse_model.specs.declared.scope.seen.Seen.{Seen}
 use Rattle.protobuf_parse_model.specs.Descriptors.{Text}
 use Rattle.protobuf_parse_syntax.specs.Trees.{FileSyntax}
+pub use Rattle.protobuf_parse_model.specs.FileOrder.{listed}
 use Rattle.protobuf_parse_model.specs.Declarations as declared
 use Rattle.protobuf_parse_model.specs.Declarations.{DeclaredType, a_message, an_enum, file_scope}
 use Rattle.protobuf_parse_model.specs.Environment.{Environment, Customs}
@@ -41,10 +41,10 @@ first_type sight [] = None
 first_type sight (d ∷ ds) = if list_any (nat_eq d.file) sight
     then option_or (type_kind d.kind) (first_type sight ds) else first_type sight ds
 
--- the declarations of a list that may be there
-abbrev pub listed : Option (Vec Declaration) → List Declaration
-listed None = []
-listed (Some v) = v.items
+-- which type the first of the declarations declares that is of one
+abbrev pub first_kind : List Declaration → Option TypeKind
+first_kind [] = None
+first_kind (d ∷ ds) = option_or (type_kind d.kind) (first_kind ds)
 
 -- the declarations of the full name
 abbrev pub declared_as : Declarations → Text → List Declaration

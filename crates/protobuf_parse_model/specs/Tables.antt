@@ -2,7 +2,11 @@
 use Rattle.std.specs.Prelude.{◌≡◌, ℕ, ◌<◌, suc, Bool, true, false, not, ◌&&◌, List, [], ◌∷◌, ◌++◌}
 use Rattle.std.specs.Prelude.{map, flat_map, filter, length, bytes_eq, nat_eq, nat_lt, string_bytes}
 use Rattle.std.specs.Prelude.{option_to_list, slice_get, if◌then◌else◌, Contains}
+use Rattle.std.specs.Prelude.{Option, Some, None, String}
 use Rattle.std.specs.List.{list_any}
+use Rattle.std.specs.Global.{Global, Vec}
+use Rattle.std.specs.BTreeMap.{BTreeMap, get}
+use Rattle.std.specs.Ordering.{nat_cmp}
 use Rattle.protobuf_parse_syntax.specs.Trees.{FileSyntax}
 use Rattle.protobuf_parse_model.specs.declared.error.ElabErrorKind.TheVariants.{TypeDeclaredTwice}
 use Rattle.protobuf_parse_model.specs.declared.error.ElabErrorKind.TheVariants.{ExtensionDeclaredTwice}
@@ -55,14 +59,24 @@ abbrev pub declared_in : Text → ℕ → List FileSyntax → List Declaration
 declared_in name n [] = []
 declared_in name n (t ∷ ts) = declared_in_file name n t ++ declared_in name (suc n) ts
 
--- the full names that the table lists as declared more than once
-abbrev pub listed_names : Declarations → List Text
-listed_names table = map string_bytes table.repeated.items
+-- the full names in a list that may be there
+abbrev pub name_list : Option (Vec (String Global)) → List Text
+name_list None = []
+name_list (Some names) = map string_bytes names.items
 
--- Each name that is declared more than once is listed.
+-- the full names that are listed for the file with that number
+abbrev pub names_listed : BTreeMap ℕ (Vec (String Global)) → ℕ → List Text
+names_listed names file = name_list (get nat_cmp names file)
+
+-- those of the full names that the file declares which the table lists as declared more than once
+abbrev pub listed_names : Declarations → ℕ → List Text
+listed_names table file = names_listed table.repeated file
+
+-- Each name that is declared more than once is listed for each file that declares it.
 abbrev pub ListsRepeated : Declarations → Type 0
 ListsRepeated table = (name : Text) → 1 < length (declared_as table name)
-    → Contains (listed_names table) name
+    → (d : Declaration) → Contains (declared_as table name) d
+    → Contains (listed_names table d.file) name
 
 -- Each name is declared in the table as the files declare it, in their order.
 pub record TableTells (table : Declarations) (files : List FileSyntax) : Type 0 where
@@ -75,6 +89,22 @@ pub record Adds {A : Type 0} (entry : A → Entry) (old new : Declarations) (fil
   pub declares : (name : Text)
       → declared_as new name ≡ declared_as old name ++ declared_by entry name file ds
   pub lists : ListsRepeated old → ListsRepeated new
+
+-- each name is still listed for the files for which it was
+abbrev pub KeepsListed : BTreeMap ℕ (Vec (String Global)) → BTreeMap ℕ (Vec (String Global))
+    → Type 0
+KeepsListed old new = (n : ℕ) (name : Text) → Contains (names_listed old n) name
+    → Contains (names_listed new n) name
+
+-- What was listed still is; and a name that is declared already, and once more in the file with
+-- that number, is listed for that file and for each that declares it.
+pub record ListsOne (old : Declarations) (new : BTreeMap ℕ (Vec (String Global))) (full : Text)
+    (file : ℕ) : Type 0 where
+  pub kept : KeepsListed old.repeated new
+  pub earlier : ListsRepeated old → (d : Declaration) → Contains (declared_as old full) d
+      → Contains (names_listed new d.file) full
+  pub again : ListsRepeated old → 0 < length (declared_as old full)
+      → Contains (names_listed new file) full
 
 -- the same of one declaration, by its full name
 pub record AddsOne (old new : Declarations) (full : Text) (d : Declaration) : Type 0 where
@@ -111,3 +141,7 @@ abbrev pub name_faults : Seen → Text → List Fault
 name_faults seen name =
     fault_when (nat_lt 1 (times_declared false seen name)) TypeDeclaredTwice name
     ++ fault_when (nat_lt 1 (times_declared true seen name)) ExtensionDeclaredTwice name
+
+-- the same for the names that are listed for a file
+abbrev pub listed_faults : Seen → ℕ → List Fault
+listed_faults seen file = flat_map (name_faults seen) (listed_names seen.declarations.now file)

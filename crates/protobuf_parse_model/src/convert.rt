@@ -6,6 +6,7 @@ mod enumeration;
 pub mod field;
 mod file;
 mod generated;
+mod heading;
 mod lists;
 mod message;
 mod names;

@@ -16,7 +16,7 @@ use std::alloc::{AllocError, Global};
 
 /// What has options: each kind has an options message of its own in
 /// google/protobuf/descriptor.proto.
-#[derive(Clone, Copy, Debug, PartialEq, Eq)]
+#[derive(Clone, Copy)]
 pub enum Construct {
     File,
     Message,
@@ -52,7 +52,7 @@ pub trait CustomOptions {
 }
 
 /// Knows no extension: a custom option is refused as one that isn't there, E11.
-#[derive(Clone, Copy, Debug, Drop)]
+#[derive(Clone, Copy)]
 pub struct NoExtensions;
 
 impl CustomOptions for NoExtensions {
@@ -71,7 +71,7 @@ impl CustomOptions for NoExtensions {
 }
 
 /// Leaves custom options out: nothing is wrong in any, and each becomes no bytes.
-#[derive(Clone, Copy, Debug, Drop)]
+#[derive(Clone, Copy)]
 pub struct WithoutCustoms;
 
 impl CustomOptions for WithoutCustoms {

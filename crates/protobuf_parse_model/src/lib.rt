@@ -21,4 +21,4 @@ pub use descriptor::{
 pub use error::{ElabError, ElabErrorKind, ElabFailure};
 pub use laws::{custom_options_are_of_sets, types_are_declared, types_are_looked_up};
 pub use linking::link;
-pub use scope::{Declaration, DeclarationKind, Declarations, Seen, TypeKind};
+pub use scope::{Declaration, DeclarationKind, Declarations, Seen, TypeKind, full_name};

@@ -1,15 +1,19 @@
 //! Full names that files declare more than once.
 
-ghost use Rattle.std.specs.Prelude.{◌≡◌, Bool, ◌&&◌, List, map, flat_map, nat_eq, string_bytes};
+ghost use Rattle.std.specs.Prelude.{◌≡◌, Bool, true, ◌&&◌, List, filter, map, flat_map, length};
+ghost use Rattle.std.specs.Prelude.{◌<◌, ◌^◌, nat_eq, string_bytes};
 ghost use Rattle.std.specs.List.{list_any};
 ghost use Rattle.protobuf_parse_syntax.specs.Trees.{FileSyntax};
+ghost use Rattle.protobuf_parse_model.specs.declared.scope.seen.Declaration as declaration;
 ghost use Rattle.protobuf_parse_model.specs.Faults.{Elaborates};
+ghost use Rattle.protobuf_parse_model.specs.FileOrder.{FilesAscend};
 ghost use Rattle.protobuf_parse_model.specs.Linking.{link_faults};
-ghost use Rattle.protobuf_parse_model.specs.Tables.{TableTells, is_of, name_faults, picked, times};
+ghost use Rattle.protobuf_parse_model.specs.Tables.{TableTells, is_of, listed_faults, listed_names};
+ghost use Rattle.protobuf_parse_model.specs.Tables.{name_faults, picked, times};
 
 use crate::convert::refuse::fault;
 use crate::error::{ElabErrorKind, ElabFailure};
-use crate::scope::{Declaration, DeclarationKind, Seen, declarations_of};
+use crate::scope::{Declaration, DeclarationKind, Declarations, Seen, declarations_of, in_file};
 use std::alloc::Global;
 
 /// Refuses a full name that the files that are reached declare more than once.
@@ -24,7 +28,37 @@ pub fn link(alloc: Global, seen: &Seen<'_>) -> Result<(), ElabFailure>
     ensures { (files : List FileSyntax) → TableTells seen.now.declarations.now files →
         Elaborates (λ u. u) result (link_faults (picked files seen.now.reach.now)) tt }
 {
-    check_names(alloc, seen, &seen.declarations.repeated)
+    check_files(alloc, seen, seen.reach)
+}
+
+/// Refuses the first of the full names that are listed for these files that the files that are
+/// reached declare more than once.
+#[tactic(auto, using(crate::proofs::Blaming::blames_one))]
+fn check_files(alloc: Global, seen: &Seen<'_>, files: &[usize]) -> Result<(), ElabFailure>
+    ensures { Elaborates (λ u. u) result (flat_map (listed_faults seen.now) files.now) tt }
+{
+    for file in files {
+        check_file(alloc, seen, *file)?;
+    }
+    Ok(())
+}
+
+/// Refuses the first of the full names that are listed for the file with that number that the files
+/// that are reached declare more than once.
+fn check_file(alloc: Global, seen: &Seen<'_>, file: usize) -> Result<(), ElabFailure>
+    ensures { Elaborates (λ u. u) result (listed_faults seen.now file) tt }
+{
+    check_names(alloc, seen, names_listed(seen.declarations, file))
+}
+
+/// The full names that are listed for the file with that number.
+fn names_listed(table: &Declarations, file: usize) -> &[String]
+    ensures { map string_bytes result.now ≡ listed_names table.now file }
+{
+    match table.repeated.get(&file) {
+        Some(names) => names,
+        None => &[],
+    }
 }
 
 /// Refuses the first of these full names that the files that are reached declare more than once.
@@ -56,11 +90,42 @@ fn check_name(alloc: Global, seen: &Seen<'_>, name: &str) -> Result<(), ElabFail
 
 /// How many of the declarations, of extensions or else of types, stand in files that are reached.
 fn times(seen: &Seen<'_>, declarations: &[Declaration], extension: bool) -> usize
+    requires { seen.now.declarations.now.in_order ≡ true → FilesAscend declarations.now }
     ensures { result ≡ times extension seen.now.reach.now declarations.now }
 {
+    if seen.declarations.in_order && seen.reach.len() < declarations.len() {
+        return times_by_file(seen, declarations, extension);
+    }
     let mut count = 0;
     for declaration in declarations {
         if counts(seen, *declaration, extension) {
+            count += 1;
+        }
+    }
+    count
+}
+
+/// The same, where the declarations are in the order of the files, by the files that are reached.
+fn times_by_file(seen: &Seen<'_>, declarations: &[Declaration], extension: bool) -> usize
+    requires ordered { FilesAscend declarations.now }
+    requires few { length declarations.now < 2 ^ 64 }
+    ensures { result ≡ times extension seen.now.reach.now declarations.now }
+{
+    let mut count = 0;
+    for file in seen.reach {
+        count += number_of(in_file(declarations, *file), extension);
+    }
+    count
+}
+
+/// How many of the declarations are of extensions, or else of types.
+fn number_of(declarations: &[Declaration], extension: bool) -> usize
+    ensures { result ≡ length (filter
+        (λ (d : declaration.Declaration). is_of extension d.kind) declarations.now) }
+{
+    let mut count = 0;
+    for declaration in declarations {
+        if is_of(declaration.kind, extension) {
             count += 1;
         }
     }

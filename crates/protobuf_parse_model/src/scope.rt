@@ -1,13 +1,14 @@
 //! What the names of types mean.
 
 ghost use Rattle.std.specs.Prelude.{◌≡◌, ◌+◌, ◌<◌, ◌∷◌, ◌++◌, ℕ, List, length, map, nat_eq};
-ghost use Rattle.std.specs.Prelude.{option_map, string_bytes, IfOk, OnOk};
+ghost use Rattle.std.specs.Prelude.{true, option_map, string_bytes, IfOk, OnOk};
 ghost use Rattle.std.specs.Borrow.{Bor};
 ghost use Rattle.std.specs.List.{list_any};
 ghost use Rattle.protobuf_parse_model.specs.Declarations as names;
 ghost use Rattle.protobuf_parse_model.specs.Environment.{type_named};
 ghost use Rattle.protobuf_parse_model.specs.Contexts.{names_of_context};
-ghost use Rattle.protobuf_parse_model.specs.SeenFiles.{declared_as, first_type};
+ghost use Rattle.protobuf_parse_model.specs.FileOrder.{FilesAscend};
+ghost use Rattle.protobuf_parse_model.specs.SeenFiles.{declared_as, first_kind, first_type};
 ghost use Rattle.protobuf_parse_model.specs.Contexts.{meaning_view};
 ghost use Rattle.protobuf_parse_model.specs.SeenFiles.{declared_type, seen_types};
 ghost use Rattle.protobuf_parse_model.specs.SeenFiles.{name_texts, type_kind};
@@ -15,10 +16,12 @@ ghost use Rattle.protobuf_parse_model.specs.SeenFiles.{name_texts, type_kind};
 mod declare;
 mod extensions;
 mod generated;
+mod ordered;
 mod seen;
 
 use crate::descriptor::FieldType;
 pub use declare::package_scope;
+pub use ordered::in_file;
 use protobuf_parse_syntax::Syntax;
 pub use seen::{Declaration, DeclarationKind, Declarations, Seen, TypeKind};
 use std::alloc::{AllocError, Global};
@@ -62,11 +65,14 @@ impl From<TypeKind> for FieldType {
     }
 }
 
-/// The full name of what has the name in the scope.
+/// The full name, with the first dot, of what has the name in the scope. The one error is that
+/// memory is short.
+///
+/// The scope is the names of the package and of the messages around it, the outermost first.
 pub fn full_name(alloc: Global, scope: &[&str], name: &str) -> Result<String, AllocError>
     ensures { IfOk result (λ s. string_bytes s ≡ names.full_name (name_texts scope.now) name.now) }
 {
-    let mut text = String::new(alloc);
+    let mut text = String::with_capacity(alloc, full_name_len(scope, name))?;
     for outer in scope {
         text.push('.')?;
         text.push_str(outer)?;
@@ -74,6 +80,15 @@ pub fn full_name(alloc: Global, scope: &[&str], name: &str) -> Result<String, Al
     text.push('.')?;
     text.push_str(name)?;
     Ok(text)
+}
+
+/// How many bytes that full name has: the room to ask for.
+fn full_name_len(scope: &[&str], name: &str) -> usize {
+    let mut len = name.len().saturating_add(1);
+    for outer in scope {
+        len = len.saturating_add(outer.len()).saturating_add(1);
+    }
+    len
 }
 
 /// The type that a name means there, if it means one.
@@ -144,13 +159,42 @@ pub fn declarations_of<'a>(table: &'a Declarations, name: &str) -> &'a [Declarat
 
 /// The type that the first of these declarations declares that is of one and that the file sees.
 fn first_type(seen: &Seen<'_>, declarations: &[Declaration]) -> Option<TypeKind>
+    requires { seen.now.declarations.now.in_order ≡ true → FilesAscend declarations.now }
     ensures { result ≡ first_type seen.now.sight.now declarations.now }
 {
+    if seen.declarations.in_order && seen.sight.len() < declarations.len() {
+        return first_by_file(seen, declarations);
+    }
     for declaration in declarations {
         if is_seen(seen, declaration.file) {
             if let Some(kind) = type_kind(declaration.kind) {
                 return Some(kind);
             }
+        }
+    }
+    None
+}
+
+/// The same, where the declarations are in the order of the files, by the files that are seen.
+fn first_by_file(seen: &Seen<'_>, declarations: &[Declaration]) -> Option<TypeKind>
+    requires { FilesAscend declarations.now }
+    ensures { result ≡ first_type seen.now.sight.now declarations.now }
+{
+    for file in seen.sight {
+        if let Some(kind) = first_kind(in_file(declarations, *file)) {
+            return Some(kind);
+        }
+    }
+    None
+}
+
+/// The type that the first of these declarations declares that is of one.
+fn first_kind(declarations: &[Declaration]) -> Option<TypeKind>
+    ensures { result ≡ first_kind declarations.now }
+{
+    for declaration in declarations {
+        if let Some(kind) = type_kind(declaration.kind) {
+            return Some(kind);
         }
     }
     None

@@ -14,15 +14,11 @@ use Rattle.protobuf_parse_syntax.specs.Counts.{field_count, in_group}
 use Rattle.protobuf_parse_syntax.specs.Counts.{message_statement_count, in_body, in_message}
 use Rattle.protobuf_parse_syntax.specs.Counts.{statement_count}
 use Rattle.protobuf_parse_syntax.specs.declared.tree.FileStatement.{FileStatement}
-use Rattle.protobuf_parse_syntax.specs.declared.tree.FileStatement.TheVariants as file_statement
 use Rattle.protobuf_parse_syntax.specs.declared.tree.declaration.Message.{Message}
 use Rattle.protobuf_parse_syntax.specs.declared.tree.declaration.MessageStatement.{MessageStatement}
 use Rattle.protobuf_parse_syntax.specs.declared.tree.declaration.MessageStatement.TheVariants as statement
-use Rattle.protobuf_parse_syntax.specs.declared.tree.declaration.OneOfStatement.TheVariants as oneof_statement
-use Rattle.protobuf_parse_syntax.specs.declared.tree.field.FieldStatement.TheVariants as field_statement
 use Rattle.protobuf_parse_syntax.proofs.Messages.{view_parts}
 use Rattle.protobuf_parse_syntax.proofs.Messages.{views_message}
-use Rattle.protobuf_parse_syntax.proofs.FieldViews as fields
 
 -- ---- any list
 

@@ -20,7 +20,8 @@ use Rattle.protobuf_parse_syntax.specs.Grammar.{IsFile, IsStr, place_of}
 use Rattle.protobuf_parse_syntax.specs.Productions as parse
 use Rattle.protobuf_parse_syntax.specs.Nested as nest
 use Rattle.protobuf_parse_syntax.specs.Readings.{steady-near}
-use Rattle.protobuf_parse_syntax.specs.Parsing.{HasTree, NoTree, StandsAt, LargeToken, HundredParts}
+use Rattle.protobuf_parse_syntax.specs.Parsing.{HasTree, NoTree, StandsAt, LargeToken}
+use Rattle.protobuf_parse_syntax.specs.Parsing.{EndsWithParts}
 use Rattle.protobuf_parse_syntax.specs.Parsing.{NextPart, Floats, StandsBehind, WrongStrings}
 use Rattle.protobuf_parse_syntax.specs.Parsing.{SaysNothing, IsGrammarFault}
 use Rattle.protobuf_parse_syntax.specs.Code.{Stands, Says, Tells, Fails, NoVersion, Failure, failed}
@@ -96,7 +97,7 @@ sign_at ts used m (token t (token u rest)) e h =
     (λ back g. sign_next used back m t u rest g h.0 h.1)
 
 part_at : (ts used : List Lexeme) (m : Place) (after : Rest Lexeme Place)
-    → whole ts m ≡ onto used after → HundredParts used → begins_part after ≡ true
+    → whole ts m ≡ onto used after → EndsWithParts used → begins_part after ≡ true
     → StandsAt NextPart ts (mark_of place_of after)
 part_at ts used m (end n) e d h = absurd cc
 part_at ts used m (token t rest) e d h = stands_at NextPart ts used m t rest e (λ back f. (d, h))

@@ -1,4 +1,5 @@
 mod File
+mod LongNames
 pub mod Front
 pub mod Cuts
 pub mod Unique

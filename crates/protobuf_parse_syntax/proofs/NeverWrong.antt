@@ -1,8 +1,8 @@
 -- Parts that are never wrong: the names of the language, in which nothing is looked up.
 use Rattle.std.proofs.Common.{◌≡◌, ◌<◌, ℕ, zero, suc, List, [], ◌∷◌, ◌⊎◌, Option, Some, None, Bool}
 use Rattle.std.proofs.Common.{true, false, cond, refl, sym, ◌∙◌, inl, inr, arith}
-use Rattle.protobuf_parse_base.specs.Readers.{Rest, end, token, size, Read, read, stuck, wrong}
-use Rattle.protobuf_parse_base.specs.Readers.{deep, bind, bind_wrong, Shape, Reader}
+use Rattle.protobuf_parse_base.specs.Readers.{Rest, end, token, size, Read, read, wrong}
+use Rattle.protobuf_parse_base.specs.Readers.{bind, bind_wrong, Shape, Reader}
 use Rattle.protobuf_parse_base.specs.Combinators.{taken, run_one}
 use Rattle.protobuf_parse_base.specs.Readers.{starts}
 use Rattle.protobuf_parse_base.specs.Combinators.{run_many, many-law, shorter, with_first}

@@ -19,7 +19,8 @@ use Rattle.protobuf_parse_syntax.specs.Productions as parse
 use Rattle.protobuf_parse_syntax.specs.Productions.{option_part, option_part_firsts, next_part}
 use Rattle.protobuf_parse_syntax.specs.Productions.{parts_up_to}
 use Rattle.protobuf_parse_syntax.specs.Code.{Failure, at, off, too_deep, failed, comes, begins_part}
-use Rattle.protobuf_parse_syntax.specs.Code.{Fails, TooMany, fails_first}
+use Rattle.protobuf_parse_syntax.specs.Code.{Fails, TooMany, LongName, fails_first}
+use Rattle.protobuf_parse_syntax.specs.Parsing.{HundredParts}
 use Rattle.protobuf_parse_syntax.specs.declared.lexer.token.Place.{Place}
 use Rattle.protobuf_parse_syntax.specs.declared.parser.refusal.Refusal.{Refusal}
 use Rattle.protobuf_parse_syntax.specs.declared.parser.refusal.Refusal.TheVariants.{Memory, Next}
@@ -27,7 +28,7 @@ use Rattle.protobuf_parse_syntax.specs.declared.parser.refusal.Refusal.TheVarian
 use Rattle.protobuf_parse_syntax.specs.declared.error.ParserError.TheVariants as error
 use Rattle.protobuf_parse_syntax.proofs.Failures.{failed_as, never_failed}
 use Rattle.protobuf_parse_syntax.proofs.NeverWrong.{next_part_wrong}
-use Rattle.protobuf_parse_syntax.proofs.Wrongs.{fails_from_first, fails_behind}
+use Rattle.protobuf_parse_syntax.proofs.Wrongs.{fails_from_first}
 
 abbrev Parts : Type 0
 Parts = List OptionPartSyntax
@@ -309,10 +310,10 @@ module _ (ts us : Rest Lexeme Place) (first : OptionPartSyntax)
   pub fails_at_parts : (e : Refusal) (after : Rest Lexeme Place)
       → Fails e after (with_first first ((parts_up_to 99).run us))
       ⊎ TooMany e after (with_first first ((parts_up_to 99).run us))
-      → Fails e after (parse.option_name.run ts)
+      → Fails e after (parse.option_name.run ts) ⊎ LongName ts e after (parse.option_name.run ts)
   fails_at_parts e after (inl h) =
-      fails_from_first parse.option_name_parts e ts after
-      (rw behind_first (fails_named first e after ((parts_up_to 99).run us) h))
+      inl (fails_from_first parse.option_name_parts e ts after
+      (rw behind_first (fails_named first e after ((parts_up_to 99).run us) h)))
   fails_at_parts e after (inr h) =
       let w = first_wrong first ((parts_up_to 99).run us) after h.1 in
       let b = parts_wrong 99 us after w in
@@ -321,26 +322,23 @@ module _ (ts us : Rest Lexeme Place) (first : OptionPartSyntax)
       let parts : ts ≡ onto used after = l.parts
       ∙ ap (onto l.used) (b.3 ∙ sym (onto-append b.0 (b.2 ∷ []) after))
       ∙ sym (onto-append l.used (b.0 ++ b.2 ∷ []) after) in
-      let named_wrong : parse.option_name_parts.run ts ≡ wrong after = behind_first
-      ∙ ap (named first) w in
-      fails_behind parse.option_name_parts error.OptionNameTooLong e ts after after after used h.0
-      refl parts named_wrong (inr (inl (
-        refl,
-        record {
-          before = [];
-          first = l.used;
-          others = b.0;
-          dot = b.2;
-          parts = refl;
-          part = first;
-          is = l.holds;
-          more = b.1;
-          are = b.4;
-          hundred = b.5;
-          dotted = rw (b.6) refl;
-        },
-        h.2,
-      )))
+      let hundred : HundredParts used = record {
+        first = l.used;
+        others = b.0;
+        dot = b.2;
+        parts = refl;
+        part = first;
+        is = l.holds;
+        more = b.1;
+        are = b.4;
+        hundred = b.5;
+        dotted = rw (b.6) refl;
+      } in
+      inr (
+        h.0,
+        ap (wrong_from ts) (behind_first ∙ ap (named first) w),
+        (used, parts, hundred, h.2),
+      )
 
 -- a name of which the first part could not be read
 pub fails_at_first : (e : Refusal) (ts after : Rest Lexeme Place)

@@ -19,7 +19,7 @@ use Rattle.protobuf_parse_syntax.specs.Readings.{from_first, wrong_from}
 use Rattle.protobuf_parse_syntax.specs.Productions as parse
 use Rattle.protobuf_parse_syntax.specs.Parsing.{SyntaxHead, ImportHead}
 use Rattle.protobuf_parse_syntax.specs.Parsing.{EndsWithNoString}
-use Rattle.protobuf_parse_syntax.specs.Code.{at, off, too_deep, failed, Fails, fails_first}
+use Rattle.protobuf_parse_syntax.specs.Code.{off, too_deep, failed, Fails, fails_first}
 use Rattle.protobuf_parse_syntax.specs.Code.{Gives, GivesOr, Says, SaysNot, Unsaid, of_text}
 use Rattle.protobuf_parse_syntax.specs.Code.{of_version, of_path, NoVersion}
 use Rattle.protobuf_parse_syntax.specs.Trees.{ReservedSyntax}
@@ -27,7 +27,6 @@ use Rattle.protobuf_parse_syntax.specs.declared.tree.ImportVis.{ImportVis}
 use Rattle.protobuf_parse_syntax.specs.declared.tree.Syntax.{Syntax}
 use Rattle.protobuf_parse_syntax.specs.declared.lexer.token.Place.{Place}
 use Rattle.protobuf_parse_syntax.specs.declared.error.ParserError.{ParserError}
-use Rattle.protobuf_parse_syntax.specs.declared.error.ParserError.TheVariants as error
 use Rattle.protobuf_parse_syntax.specs.declared.parser.refusal.Refusal.{Refusal}
 use Rattle.protobuf_parse_syntax.specs.declared.parser.refusal.Refusal.TheVariants.{Memory, Next}
 use Rattle.protobuf_parse_syntax.specs.declared.parser.refusal.Refusal.TheVariants.{Here}
@@ -46,19 +45,7 @@ says_behind e front used after (inr (inl h)) =
     let w = h.1 in
     inr (inl (
       h.0,
-      record {
-        before = front ++ w.before;
-        first = w.first;
-        others = w.others;
-        dot = w.dot;
-        parts = behind front w.before (w.first ++ (w.others ++ w.dot ∷ [])) used w.parts;
-        part = w.part;
-        is = w.is;
-        more = w.more;
-        are = w.are;
-        hundred = w.hundred;
-        dotted = w.dotted;
-      },
+      (front ++ w.0, w.1, w.2, behind front w.0 (w.1 ++ w.2) used w.3, w.4, w.5),
       h.2,
     ))
 says_behind e front used after (inr (inr (inl h))) =

@@ -13,8 +13,9 @@ use Rattle.protobuf_parse_syntax.specs.Trees.{Pieces}
 use Rattle.protobuf_parse_syntax.specs.Classes.{Class, symbol, ident, is_one_of, float}
 use Rattle.protobuf_parse_syntax.specs.Classes.{is_floating}
 use Rattle.protobuf_parse_syntax.specs.Grammar.{any_ident}
-use Rattle.protobuf_parse_syntax.specs.Parsing.{IsLarge, SaysNothing, HundredParts, SyntaxHead}
-use Rattle.protobuf_parse_syntax.specs.Parsing.{EndsWithImport, EndsWithNoString, IsGrammarFault}
+use Rattle.protobuf_parse_syntax.specs.Parsing.{IsLarge, SaysNothing, HundredParts, EndsWithParts}
+use Rattle.protobuf_parse_syntax.specs.Parsing.{EndsWithImport, EndsWithNoString, SyntaxHead}
+use Rattle.protobuf_parse_syntax.specs.Parsing.{IsGrammarFault}
 use Rattle.protobuf_parse_syntax.specs.Cut.{out_of_memory, located as located_at}
 use Rattle.protobuf_parse_syntax.specs.Productions as parse
 use Rattle.protobuf_parse_syntax.specs.declared.lexer.token.Place.{Place}
@@ -117,7 +118,7 @@ AtOneToken _ = ⊥
 abbrev pub Says : ParserError → List Lexeme → Rest Lexeme Place → Type 0
 Says e used after =
     ((e ≡ error.FloatConstant) × SignedFloat after)
-    ⊎ ((e ≡ error.OptionNameTooLong) × HundredParts used × (begins_part after ≡ true))
+    ⊎ ((e ≡ error.OptionNameTooLong) × EndsWithParts used × (begins_part after ≡ true))
     ⊎ ((e ≡ error.StrLitDecode) × EndsWithNoString used × SaysNot error.StrLitDecode after)
     ⊎ ((p : PathError) × (e ≡ error.BadImportPath p) × EndsWithImport used
     × SaysNot (error.BadImportPath p) after)
@@ -175,6 +176,13 @@ NoVersion before e after r = (e ≡ Here error.UnknownSyntax) × (r ≡ wrong be
 abbrev pub TooMany : {Y : Type 0} → Refusal → Rest Lexeme Place → Read Lexeme Place Y → Type 0
 TooMany e after r = (e ≡ Here error.OptionNameTooLong) × (r ≡ wrong after)
     × (begins_part after ≡ true)
+
+-- The option's name that comes first has more than a hundred parts.
+abbrev pub LongName : Rest Lexeme Place → {Y : Type 0} → Refusal → Rest Lexeme Place
+    → Read Lexeme Place Y → Type 0
+LongName before e after r = (e ≡ Here error.OptionNameTooLong) × (r ≡ wrong before)
+    × ((used : List Lexeme) × (before ≡ onto used after) × HundredParts used
+    × (begins_part after ≡ true))
 
 -- what a string's error is to the parser
 abbrev pub refusal_of : StrLitDecodeError → Refusal

@@ -4,9 +4,10 @@ use Rattle.std.proofs.Common.{◌≡◌, ℕ, suc, ◌≤◌, List, [], ◌∷�
 use Rattle.std.proofs.Common.{false, codes, refl, ap, ◌∙◌, ◌-◌, arith}
 use Rattle.protobuf_parse_base.specs.Relations.{Rel, Then, Either, Many, Unless, Separated}
 use Rattle.protobuf_parse_base.specs.Relations.{somes, Nothing}
-use Rattle.protobuf_parse_base.specs.Readers.{Rest, deep, Shape, nested, shape}
+use Rattle.protobuf_parse_base.specs.Readers.{Rest, deep, read, Shape, nested, shape}
+use Rattle.protobuf_parse_base.specs.Loops.{with_rest}
 use Rattle.protobuf_parse_base.specs.Combinators.{then_shape}
-use Rattle.protobuf_parse_base.specs.Combinators.{either_shape, many_shape}
+use Rattle.protobuf_parse_base.specs.Combinators.{either_shape, many_shape, run_many}
 use Rattle.protobuf_parse_base.specs.Relations as relation
 use Rattle.protobuf_parse_base.specs.Depth.{Near}
 use Rattle.protobuf_parse_base.specs.Pairs.{Pair, same, less, give, behind, choose, many, shaped}
@@ -14,7 +15,7 @@ use Rattle.protobuf_parse_base.specs.Pairs.{unless, separated, at, both, none-le
 use Rattle.protobuf_parse_base.specs.Pairs.{level-suc, levels, ◌>>=◌, ◌>>◌}
 use Rattle.protobuf_parse_syntax.specs.Tokens.{Lexeme}
 use Rattle.protobuf_parse_syntax.specs.Trees as tree
-use Rattle.protobuf_parse_syntax.specs.Trees.{ConstantSyntax}
+use Rattle.protobuf_parse_syntax.specs.Trees.{ConstantSyntax, OptionSyntax}
 use Rattle.protobuf_parse_syntax.specs.Trees.{TypeSyntax}
 use Rattle.protobuf_parse_syntax.specs.Trees.{FieldStatementSyntax}
 use Rattle.protobuf_parse_syntax.specs.Classes.{Class, symbol as symbol_class, word as word_class}
@@ -24,7 +25,7 @@ use Rattle.protobuf_parse_syntax.specs.Classes.{is_one_of}
 use Rattle.protobuf_parse_syntax.specs.Productions.{Parses, symbol, word, ident, capital, one_of}
 use Rattle.protobuf_parse_syntax.specs.Productions.{str, name, signed, constant_name, field_end}
 use Rattle.protobuf_parse_syntax.specs.Productions.{word_constant, field_number, option_name}
-use Rattle.protobuf_parse_syntax.specs.Readings.{steady, begun}
+use Rattle.protobuf_parse_syntax.specs.Readings.{steady, begun, from_start}
 use Rattle.protobuf_parse_syntax.specs.Grammar.{IsSymbol, table_words, other_constants, labels}
 use Rattle.protobuf_parse_syntax.specs.Grammar.{labels3, scalars, statement_words, Item, Statements}
 use Rattle.protobuf_parse_syntax.specs.Grammar.{Braced, ConstantFieldOf, MessageConstantOf, ListOf}
@@ -225,41 +226,92 @@ assignment n = shaped assignment_shape (do
 abbrev pub option_shape : Shape Class
 option_shape = nested (word_class (codes "option") ∷ []) false []
 
-unfoldable pub option_pair : (n : ℕ) → Parts (IsOption n) (IsOption (suc n)) option_shape n
+unfoldable pub option_parts : (n : ℕ) → Parts (IsOption n) (IsOption (suc n)) option_shape n
 unfolding IsOption
-option_pair n = shaped option_shape (at (λ place. do
+option_parts n = shaped option_shape (at (λ place. do
   same (word (codes "option")) refl
   option ← assignment n
   same (symbol 59) refl
   give (record { place = place; option = option })) refl) refl
 
+-- wrong from the word `option` on, if something in it is
+abbrev pub option_pair : (n : ℕ) → Parts (IsOption n) (IsOption (suc n)) option_shape n
+option_pair n = from_start (option_parts n)
+
 pub option-same : (n : ℕ) (ts : Rest Lexeme Place)
     → (option_pair n).high.run ts ≡ (option_pair (suc n)).low.run ts
-unfolding option_pair assignment
+unfolding option_parts assignment
 option-same n ts = refl
 
 abbrev pub option : (n : ℕ) → Parts (IsOption n) (IsOption (suc n)) option_shape n
 option = steady option_pair option-same
 
+abbrev pub comma_shape : Shape Class
+comma_shape = nested (symbol_class 44 ∷ []) false (symbol_class 46 ∷ text ∷ [])
+
+-- "," and an option
+abbrev pub comma_parts : (n : ℕ)
+    → Parts (Then IsComma (λ u. IsAssignment n)) (Then IsComma (λ u. IsAssignment (suc n)))
+    comma_shape n
+comma_parts n = shaped comma_shape (do same (symbol 44) refl; assignment n) refl
+
+-- wrong from the comma on, if something in it is
+abbrev pub comma_assignment : (n : ℕ)
+    → Parts (Then IsComma (λ u. IsAssignment n)) (Then IsComma (λ u. IsAssignment (suc n)))
+    comma_shape n
+comma_assignment n = from_start (comma_parts n)
+
+abbrev pub assignments_shape : Shape Class
+assignments_shape = nested (ident_class [] ∷ symbol_class 40 ∷ []) false
+    (symbol_class 46 ∷ text ∷ symbol_class 44 ∷ [])
+
 unfoldable pub assignments : (n : ℕ)
     → Parts (Separated (IsComma) (IsAssignment n)) (Separated (IsComma) (IsAssignment (suc n)))
-    (nested (ident_class [] ∷ symbol_class 40 ∷ []) false
-    (symbol_class 46 ∷ text ∷ symbol_class 44 ∷ [])) n
-assignments n =
-    shaped (nested (ident_class [] ∷ symbol_class 40 ∷ []) false
-    (symbol_class 46 ∷ text ∷ symbol_class 44 ∷ [])) (separated (symbol 44) refl refl
-    (assignment n)) refl
+    assignments_shape n
+assignments n = shaped assignments_shape (do
+  first ← assignment n
+  others ← many (comma_assignment n) refl
+  give (first ∷ others)) refl
+
+-- behind the first of them
+pub assignments_first : (n : ℕ) (ts us : Rest Lexeme Place) (a : OptionSyntax)
+    → (assignment n).low.run ts ≡ read a us
+    → (assignments n).low.run ts ≡ with_rest (λ (v : List OptionSyntax). v)
+    (λ (v : List OptionSyntax). v) (a ∷ []) (run_many (comma_assignment n).low us)
+unfolding assignments run_many
+assignments_first n ts us a e = rw e refl
+
+abbrev pub bracketed_shape : Shape Class
+bracketed_shape = nested (symbol_class 91 ∷ []) false []
+
+-- "[" options "]"
+abbrev pub Bracketed : ℕ → Rel Lexeme (List OptionSyntax)
+Bracketed n = Then (IsSymbol 91) (λ u. Then (Separated IsComma (IsAssignment n))
+    (λ options. Then (IsSymbol 93) (λ v. Nothing options)))
+
+unfoldable pub bracket_parts : (n : ℕ)
+    → Parts (Bracketed n) (Bracketed (suc n)) bracketed_shape n
+bracket_parts n = shaped bracketed_shape (do
+  same (symbol 91) refl
+  options ← assignments n
+  same (symbol 93) refl
+  give options) refl
+
+-- wrong from the bracket on, if something in them is
+abbrev pub bracketed_options : (n : ℕ)
+    → Parts (Bracketed n) (Bracketed (suc n)) bracketed_shape n
+bracketed_options n = from_start (bracket_parts n)
 
 abbrev pub options_shape : Shape Class
 options_shape = nested (symbol_class 91 ∷ []) true (symbol_class 91 ∷ [])
 
 unfoldable pub options_pair : (n : ℕ) → Parts (AreOptions n) (AreOptions (suc n)) options_shape n
 unfolding AreOptions
-options_pair n = shaped options_shape (choose (do same (symbol 91) refl; options ← assignments n; same (symbol 93) refl; give options) refl (give [])) refl
+options_pair n = shaped options_shape (choose (bracketed_options n) refl (give [])) refl
 
 pub options-same : (n : ℕ) (ts : Rest Lexeme Place)
     → (options_pair n).high.run ts ≡ (options_pair (suc n)).low.run ts
-unfolding options_pair assignments assignment
+unfolding options_pair bracket_parts assignments assignment
 options-same n ts = refl
 
 abbrev pub options : (n : ℕ) → Parts (AreOptions n) (AreOptions (suc n)) options_shape n

@@ -46,14 +46,12 @@ IsLarge _ = ⊥
 abbrev pub LargeToken : List Lexeme → Lexeme → List Lexeme → Type 0
 LargeToken front t back = IsLarge t.kind
 
--- The tokens end with a hundred parts of an option's name, each but the first behind a dot, and
--- with one more dot.
+-- a hundred parts of an option's name, each but the first behind a dot, and one more dot
 pub record HundredParts (ts : List Lexeme) : Type 0 where
-  pub before : List Lexeme
   pub first : List Lexeme
   pub others : List Lexeme
   pub dot : Lexeme
-  pub parts : ts ≡ before ++ (first ++ (others ++ dot ∷ []))
+  pub parts : ts ≡ first ++ (others ++ dot ∷ [])
   pub part : OptionPartSyntax
   pub is : IsOptionPart first part
   pub more : List OptionPartSyntax
@@ -61,10 +59,22 @@ pub record HundredParts (ts : List Lexeme) : Type 0 where
   pub hundred : length more ≡ 99
   pub dotted : is_one_of (symbol char.dot ∷ []) dot ≡ true
 
+-- The token behind which an option's name begins: the word `option`, or in a list of options the
+-- bracket that opens it or a comma.
+abbrev pub OptionHead : List Lexeme → Type 0
+OptionHead ts =
+    IsWord (codes "option") ts tt ⊎ IsSymbol char.open_bracket ts tt ⊎ IsSymbol char.comma ts tt
+
+-- The tokens end with the first hundred parts of an option's name and their dots.
+abbrev pub EndsWithParts : List Lexeme → Type 0
+EndsWithParts ts =
+    (before : List Lexeme) × (head : List Lexeme) × (name : List Lexeme)
+    × (ts ≡ before ++ (head ++ name)) × OptionHead head × HundredParts name
+
 -- the first token of part 101 of an option's name
 abbrev pub NextPart : List Lexeme → Lexeme → List Lexeme → Type 0
 NextPart front t back =
-    HundredParts front × (is_one_of (ident [] ∷ symbol char.open_paren ∷ []) t ≡ true)
+    EndsWithParts front × (is_one_of (ident [] ∷ symbol char.open_paren ∷ []) t ≡ true)
 
 -- a float; or a sign, and a float, `inf` or `nan` behind it
 abbrev pub Floats : List Lexeme → Lexeme → List Lexeme → Type 0

@@ -342,3 +342,18 @@ begun {A = A} {L = L} {k = k} p some =
           near-choose p.low p.high (never {L = L} {A = A}) (never {L = L} {A = A}) k p.near
           (near_same (never {L = L} {A = A}) refl);
     }
+
+pub near-wrong_from : {Tok Mark A : Type 0} (k : ℕ) (ts : Rest Tok Mark) (r r' : Read Tok Mark A)
+    → NearAt k ts r r' → NearAt k ts (wrong_from ts r) (wrong_from ts r')
+near-wrong_from k ts r r' (inl h) =
+    inl (ap (wrong_from ts) h.0, λ e. h.1 (wrong_from-deep ts r e))
+near-wrong_from k ts r r' (inr h) = inr (ap (wrong_from ts) h.0, h.1)
+
+-- such a part, which is wrong from its first token on, if something in it is wrong
+abbrev pub from_start : {Tok Mark Class A : Type 0} {L : Lexicon Tok Mark Class}
+    {R R' : List Tok → A → Type 0} {s : Shape Class} {k : ℕ} → Pair L R R' s k → Pair L R R' s k
+from_start {k = k} p = record {
+  low = from_first p.low;
+  high = from_first p.high;
+  near = λ ts. near-wrong_from k ts (p.low.run ts) (p.high.run ts) (p.near ts);
+}

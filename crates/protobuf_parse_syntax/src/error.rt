@@ -5,53 +5,73 @@ ghost use Rattle.protobuf_parse_syntax.specs.declared.error.ParserError.TheVaria
 
 use protobuf_parse_base::proto_path::PathError;
 use std::alloc::{AllocError, AllocFailed};
+use std::fmt;
 use thiserror::Error;
 
 /// What is wrong with a text.
 #[derive(Clone, Copy, Debug, PartialEq, Eq, Error)]
 pub enum ParserError {
-    #[error("out of memory")]
     Memory,
-    #[error("S1 UnexpectedCharacter")]
     UnexpectedCharacter,
-    #[error("S2 UnterminatedComment")]
     UnterminatedComment,
-    #[error("S3 UnterminatedString")]
     UnterminatedString,
-    #[error("S4 BadNumber")]
     BadNumber,
-    #[error("S5 IntegerOverflow")]
     IntegerOverflow,
-    #[error("S6 NestingTooDeep")]
     NestingTooDeep,
-    #[error("S7 OptionNameTooLong")]
     OptionNameTooLong,
-    #[error("S8 IncorrectInput")]
     IncorrectInput,
-    #[error("S9 ExpectConstant")]
     ExpectConstant,
-    #[error("S10 UnknownSyntax")]
     UnknownSyntax,
-    #[error("S11 LabelNotAllowed")]
     LabelNotAllowed,
-    #[error("S12 LabelRequired")]
     LabelRequired,
-    #[error("S13 GroupNameShouldStartWithUpperCase")]
     GroupNameShouldStartWithUpperCase,
-    #[error("S14 MapFieldNotAllowed")]
     MapFieldNotAllowed,
-    #[error("S15 StrLitDecode")]
     StrLitDecode,
-    #[error("S16 OneOfInGroup")]
     OneOfInGroup,
-    #[error("S17 OnlyFieldsInGroup")]
     OnlyFieldsInGroup,
-    #[error("S18 FloatConstant")]
     FloatConstant,
-    #[error("S19 BadImportPath: {0}")]
     BadImportPath(PathError),
-    #[error("S20 TextTooLong")]
     TextTooLong,
+}
+
+impl ParserError {
+    /// What is wrong, but for the fault of a path.
+    fn text(&self) -> &'static str {
+        match self {
+            ParserError::Memory => "out of memory",
+            ParserError::UnexpectedCharacter => "S1 UnexpectedCharacter",
+            ParserError::UnterminatedComment => "S2 UnterminatedComment",
+            ParserError::UnterminatedString => "S3 UnterminatedString",
+            ParserError::BadNumber => "S4 BadNumber",
+            ParserError::IntegerOverflow => "S5 IntegerOverflow",
+            ParserError::NestingTooDeep => "S6 NestingTooDeep",
+            ParserError::OptionNameTooLong => "S7 OptionNameTooLong",
+            ParserError::IncorrectInput => "S8 IncorrectInput",
+            ParserError::ExpectConstant => "S9 ExpectConstant",
+            ParserError::UnknownSyntax => "S10 UnknownSyntax",
+            ParserError::LabelNotAllowed => "S11 LabelNotAllowed",
+            ParserError::LabelRequired => "S12 LabelRequired",
+            ParserError::GroupNameShouldStartWithUpperCase =>
+                "S13 GroupNameShouldStartWithUpperCase",
+            ParserError::MapFieldNotAllowed => "S14 MapFieldNotAllowed",
+            ParserError::StrLitDecode => "S15 StrLitDecode",
+            ParserError::OneOfInGroup => "S16 OneOfInGroup",
+            ParserError::OnlyFieldsInGroup => "S17 OnlyFieldsInGroup",
+            ParserError::FloatConstant => "S18 FloatConstant",
+            ParserError::BadImportPath(_) => "S19 BadImportPath",
+            ParserError::TextTooLong => "S20 TextTooLong",
+        }
+    }
+}
+
+impl fmt::Display for ParserError {
+    fn fmt<W: fmt::Write>(&self, f: &mut fmt::Formatter<W>) -> fmt::Result {
+        let text = self.text();
+        match self {
+            ParserError::BadImportPath(fault) => write!(f, "{text}: {fault}"),
+            _ => f.write_str(text),
+        }
+    }
 }
 
 /// What is wrong with a text, and at which line and column, both from 1.

@@ -1,6 +1,6 @@
 -- What stands beside ascending numbers.
 use Rattle.std.proofs.Common.{◌≡◌, ℕ, zero, suc, Bool, Option, Ok, Err, List, [], ◌∷◌, true}
-use Rattle.std.proofs.Common.{false, None, refl, sym, ◌-◌, ◌<◌}
+use Rattle.std.proofs.Common.{false, None, refl, sym, ◌<◌}
 use Rattle.std.proofs.Common.{◌≤◌, length, get_or, arith, nat_eq, slice_get}
 use Rattle.std.specs.List.{list_any}
 use Rattle.std.proofs.lemmas.Bool.{eq-eqb, ne_eqb}

@@ -16,6 +16,7 @@ use Rattle.protobuf_parse_model.specs.OptionTables.{table_of}
 use Rattle.protobuf_parse_wire.specs.declared.entry.Entry.{Entry}
 use Rattle.protobuf_parse_wire.specs.CustomFaults.{builtin_step_faults, custom_faults, path_faults}
 use Rattle.protobuf_parse_wire.specs.CustomOptions.{denotes, items_of_option, path_items}
+use Rattle.protobuf_parse_wire.specs.Given.{path_said}
 use Rattle.protobuf_parse_wire.specs.OptionFields.{OptionScope, options_message}
 use Rattle.protobuf_parse_wire.specs.Views.{WireItem, entries_of_list, entries_view, entry_view}
 
@@ -54,21 +55,20 @@ extension_first at construct value (y ∷ ys) x s some is ext =
 pub extension_given : {X : Type 0} (view : X → List WireItem) (r : Result X ElabFailure)
     (at : OptionScope) (construct : Construct) (value : ConstantSyntax)
     (xs : List ProtobufOptionNamePart) (x : ProtobufOptionNamePart) (s : String Global)
-    (option message : Text) (old : List WireItem) → 1 ≤ length xs → x ≡ get_or xs 0 x → x ≡ Ext s
-    → option ≡ option_path_text (map option_part_view xs) → message ≡ options_message construct
-    → Elaborates view r (path_faults at option value message (map option_part_view xs))
+    (message : Text) (old : List WireItem) → 1 ≤ length xs → x ≡ get_or xs 0 x → x ≡ Ext s
+    → message ≡ options_message construct
+    → Elaborates view r (path_faults at (path_said xs) value message (map option_part_view xs))
     (old ++ path_items at value message (map option_part_view xs))
     → Elaborates view r (custom_faults at construct value (map option_part_view xs))
     (old ++ path_items at value (options_message construct) (map option_part_view xs))
-extension_given view r at construct value xs x s option message old some is ext written holds h =
+extension_given view r at construct value xs x s message old some is ext holds h =
     let ps = parts_of xs in
     let m = options_message construct in
     let items = old ++ path_items at value m ps in
-    let a = subst (λ (t : Text). Elaborates view r (path_faults at option value t ps)
+    let a = subst (λ (t : Text). Elaborates view r (path_faults at (path_said xs) value t ps)
     (old ++ path_items at value t ps)) holds h in
-    let b = subst (λ (t : Text). Elaborates view r (path_faults at t value m ps) items) written a in
     subst (λ (faults : List Fault). Elaborates view r faults items)
-    (sym (extension_first at construct value xs x s some is ext)) b
+    (sym (extension_first at construct value xs x s some is ext)) a
 
 -- all of them, added to nothing
 pub denoted : (at : OptionScope) (construct : Construct) (os : List OptionSyntax)

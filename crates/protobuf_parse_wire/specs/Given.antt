@@ -1,11 +1,13 @@
 -- No public clause rests on this file.
 -- What the constants of lists and of message constants give, as lists; and from where the code sees
 -- options.
-use Rattle.std.specs.Prelude.{List, ◌++◌, flat_map, option_to_list}
+use Rattle.std.specs.Prelude.{List, ◌++◌, map, flat_map, option_to_list}
 use Rattle.protobuf_parse_syntax.specs.Trees.{ConstantSyntax, ConstantFieldSyntax, OptionPartSyntax}
+use Rattle.protobuf_parse_syntax.specs.Trees.{option_part_view}
+use Rattle.protobuf_parse_syntax.specs.declared.tree.option.ProtobufOptionNamePart.{ProtobufOptionNamePart}
 use Rattle.protobuf_parse_model.specs.SeenFiles.{name_texts}
 use Rattle.protobuf_parse_model.specs.Descriptors.{Text, FieldDescriptor}
-use Rattle.protobuf_parse_model.specs.Environment.{part_text}
+use Rattle.protobuf_parse_model.specs.Environment.{part_text, option_path_text}
 use Rattle.protobuf_parse_model.specs.Faults.{Fault}
 use Rattle.protobuf_parse_wire.specs.declared.customs.fields.OptionPlace.{OptionPlace}
 use Rattle.protobuf_parse_wire.specs.CustomFaults.{constant_name_faults, number_faults, path_faults}
@@ -22,6 +24,10 @@ option_place_view p = record {
   visible = files_seen p.known.now.sight;
   scope = name_texts p.scope.now;
 }
+
+-- the name of an option as it is written
+abbrev pub path_said : List ProtobufOptionNamePart → Text
+path_said parts = option_path_text (map option_part_view parts)
 
 -- of a value for the field that a name means
 abbrev pub given_faults : OptionScope → Text → ConstantSyntax → FieldDescriptor → List Fault

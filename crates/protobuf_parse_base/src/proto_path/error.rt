@@ -1,28 +1,36 @@
 //! Why a text is no proto path.
+use std::fmt;
 use thiserror::Error;
 
 /// Why a text is no proto path.
 #[derive(Clone, Copy, Debug, PartialEq, Eq, Error)]
 pub enum PathError {
     /// P1: the text, or what is left of it, is empty.
-    #[error("path is empty")]
     Empty,
     /// P2: the text holds a backslash.
-    #[error("backslashes in path")]
     Backslashes,
     /// P3: there is nothing between two slashes, or before the first or after the last one.
-    #[error("path contains empty components")]
     EmptyComponent,
     /// P4: a part between slashes is `.`.
-    #[error("dot in path")]
     Dot,
     /// P5: a part between slashes is `..`.
-    #[error("dot-dot in path")]
     DotDot,
     /// P6: the text begins with a slash.
-    #[error("path is absolute")]
     Absolute,
     /// Memory is short.
-    #[error("out of memory")]
     Memory,
+}
+
+impl fmt::Display for PathError {
+    fn fmt<W: fmt::Write>(&self, f: &mut fmt::Formatter<W>) -> fmt::Result {
+        f.write_str(match self {
+            PathError::Empty => "path is empty",
+            PathError::Backslashes => "backslashes in path",
+            PathError::EmptyComponent => "path contains empty components",
+            PathError::Dot => "dot in path",
+            PathError::DotDot => "dot-dot in path",
+            PathError::Absolute => "path is absolute",
+            PathError::Memory => "out of memory",
+        })
+    }
 }

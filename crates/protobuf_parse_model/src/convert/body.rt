@@ -1,18 +1,21 @@
 //! What the statements of a message's body declare.
 
-ghost use Rattle.std.specs.Prelude.{◌≡◌, ◌<◌, ◌^◌, true, false, length};
+ghost use Rattle.std.specs.Prelude.{◌≡◌, ◌<◌, ◌^◌, true, false, length, string_bytes};
 ghost use Rattle.protobuf_parse_syntax.specs.Trees as tree;
 ghost use Rattle.protobuf_parse_model.specs.Contexts.{body_view, environment_in};
+ghost use Rattle.protobuf_parse_model.specs.Contexts.{message_of_both, rest_view};
 ghost use Rattle.protobuf_parse_model.specs.Contexts.{with_body_statement};
+ghost use Rattle.protobuf_parse_model.specs.Descriptors as described;
 ghost use Rattle.protobuf_parse_model.specs.Enums.{enum_faults};
 ghost use Rattle.protobuf_parse_model.specs.Faults.{Elaborates};
 ghost use Rattle.protobuf_parse_model.specs.Fields.{field_statement_faults};
 ghost use Rattle.protobuf_parse_model.specs.Messages.{extend_faults, has_own_oneof, oneof_faults};
 
 use crate::convert::enumeration::enum_descriptor;
-use crate::convert::lists::{fields_of_extend, fields_of_oneof, push_behind};
+use crate::convert::lists::{append_declared, fields_of_extend, fields_of_oneof};
 use crate::convert::oneof::{has_own_oneof, oneof_descriptor, own_oneof};
 use crate::convert::place::FieldPlace;
+use crate::convert::rest::Rest;
 use crate::convert::statement::declared_field;
 use crate::customs::CustomOptions;
 use crate::descriptor::{
@@ -24,13 +27,53 @@ use protobuf_parse_syntax::{Enumeration, Extend, FieldStatement, OneOf};
 use std::alloc::Global;
 
 /// What the statements of a message's body declare, each list in source order.
-#[derive(Drop)]
 pub struct Body {
     pub field: Vec<FieldDescriptorProto>,
     pub oneof_decl: Vec<OneofDescriptorProto>,
     pub nested_type: Vec<DescriptorProto>,
     pub enum_type: Vec<EnumDescriptorProto>,
     pub extension: Vec<FieldDescriptorProto>,
+}
+
+// Written out: what drops it calls this, and need not prove anew how each list is dropped.
+impl Drop for Body {
+    fn drop(self) {
+        let Body {
+            field: _,
+            oneof_decl: _,
+            nested_type: _,
+            enum_type: _,
+            extension: _,
+        } = self;
+    }
+}
+
+impl Body {
+    /// The message of that name with this body.
+    pub fn into_message(self, name: String, rest: Rest) -> DescriptorProto
+        ensures { described.message_view result ≡ message_of_both (string_bytes name)
+            (body_view self) (rest_view rest) }
+    {
+        let Body {
+            field,
+            oneof_decl,
+            nested_type,
+            enum_type,
+            extension,
+        } = self;
+        DescriptorProto {
+            name,
+            field,
+            oneof_decl,
+            nested_type,
+            enum_type,
+            extension,
+            extension_range: rest.extension_range,
+            reserved_range: rest.reserved_range,
+            reserved_name: rest.reserved_name,
+            options: rest.options,
+        }
+    }
 }
 
 /// Adds a field, with the oneof of its own and the message behind it, where there are any.
@@ -74,8 +117,7 @@ fn add_plain<C: CustomOptions>(
         oneof_index: None,
     };
     let declared = declared_field(alloc, context, custom, &place, statement)?;
-    body.field.push(declared.field)?;
-    push_behind(&mut body.nested_type, declared.behind)?;
+    declared.push_to(&mut body.field, &mut body.nested_type)?;
     Ok(())
 }
 
@@ -100,10 +142,9 @@ fn add_in_own_oneof<C: CustomOptions>(
         oneof_index: Some(body.oneof_decl.len()),
     };
     let declared = declared_field(alloc, context, custom, &place, statement)?;
-    let own = own_oneof(alloc, &declared.field.name)?;
+    let own = own_oneof(alloc, &declared)?;
     body.oneof_decl.push(own)?;
-    body.field.push(declared.field)?;
-    push_behind(&mut body.nested_type, declared.behind)?;
+    declared.push_to(&mut body.field, &mut body.nested_type)?;
     Ok(())
 }
 
@@ -126,11 +167,10 @@ pub fn add_oneof<C: CustomOptions>(
         extendee: None,
         oneof_index: Some(body.oneof_decl.len()),
     };
-    let mut declared = fields_of_oneof(alloc, context, custom, &place, oneof)?;
+    let declared = fields_of_oneof(alloc, context, custom, &place, oneof)?;
     let descriptor = oneof_descriptor(alloc, context, custom, oneof)?;
     body.oneof_decl.push(descriptor)?;
-    body.field.append(&mut declared.fields)?;
-    body.nested_type.append(&mut declared.behind)?;
+    append_declared(&mut body.field, &mut body.nested_type, declared)?;
     Ok(())
 }
 
@@ -147,9 +187,8 @@ pub fn add_extend<C: CustomOptions>(
         Elaborates (λ _. body_view body.new) result (extend_faults env e)
         (with_body_statement env (body_view body.old) (tree.message_extend e)) }
 {
-    let mut declared = fields_of_extend(alloc, context, custom, &extend.extendee, &extend.fields)?;
-    body.extension.append(&mut declared.fields)?;
-    body.nested_type.append(&mut declared.behind)?;
+    let declared = fields_of_extend(alloc, context, custom, &extend.extendee, &extend.fields)?;
+    append_declared(&mut body.extension, &mut body.nested_type, declared)?;
     Ok(())
 }
 

@@ -1,37 +1,87 @@
 //! What the statements of a file declare.
 
-ghost use Rattle.std.specs.Prelude.{◌++◌, ◌≤◌, map, flat_map, sum_by};
+ghost use Rattle.std.specs.Prelude.{◌≡◌, ◌++◌, ◌≤◌, map, flat_map, option_map, string_bytes};
+ghost use Rattle.std.specs.Prelude.{sum_by};
 ghost use Rattle.protobuf_parse_syntax.specs.Counts.{statement_count};
+ghost use Rattle.protobuf_parse_syntax.specs.Dependencies.{dependencies_view};
 ghost use Rattle.protobuf_parse_syntax.specs.Trees.{extend_view, file_extend, statement_view};
 ghost use Rattle.protobuf_parse_model.specs.Contexts.{environment_in};
 ghost use Rattle.protobuf_parse_model.specs.Descriptors as described;
 ghost use Rattle.protobuf_parse_model.specs.Faults.{Elaborates};
 ghost use Rattle.protobuf_parse_model.specs.FileDescriptor.{statement_faults};
 ghost use Rattle.protobuf_parse_model.specs.FileParts.{parts_faults, parts_of_file, parts_view};
-ghost use Rattle.protobuf_parse_model.specs.FileParts.{with_file_statement};
+ghost use Rattle.protobuf_parse_model.specs.FileParts.{file_with, with_file_statement};
 ghost use Rattle.protobuf_parse_model.specs.Messages.{extend_faults};
+ghost use Rattle.protobuf_parse_model.specs.Options.{file_options_view};
 
 use crate::convert::enumeration::enum_descriptor;
-use crate::convert::lists::fields_of_extend;
+use crate::convert::heading::Heading;
+use crate::convert::lists::{append_declared, fields_of_extend};
 use crate::convert::message::message_descriptor;
-use crate::convert::names::{unlike_enums, unlike_fields, unlike_messages, unlike_services};
+use crate::convert::names::check_unlike;
 use crate::convert::service::service_descriptor;
 use crate::customs::CustomOptions;
 use crate::descriptor::{
-    DescriptorProto, EnumDescriptorProto, FieldDescriptorProto, ServiceDescriptorProto,
+    DescriptorProto, EnumDescriptorProto, FieldDescriptorProto, FileDescriptorProto, FileOptions,
+    ServiceDescriptorProto,
 };
 use crate::error::ElabFailure;
 use crate::scope::Context;
-use protobuf_parse_syntax::{Extend, FileStatement};
+use protobuf_parse_syntax::{Dependencies, Extend, FileStatement};
 use std::alloc::Global;
 
 /// What the statements of a file declare, each list in source order.
-#[derive(Drop)]
 pub struct Contents {
     pub message_type: Vec<DescriptorProto>,
     pub enum_type: Vec<EnumDescriptorProto>,
     pub service: Vec<ServiceDescriptorProto>,
     pub extension: Vec<FieldDescriptorProto>,
+}
+
+// Written out: what drops it calls this, and need not prove anew how each list is dropped.
+impl Drop for Contents {
+    fn drop(self) {
+        let Contents {
+            message_type: _,
+            enum_type: _,
+            service: _,
+            extension: _,
+        } = self;
+    }
+}
+
+impl Contents {
+    /// The file with these contents.
+    pub fn into_file(
+        self,
+        heading: Heading,
+        imports: Dependencies,
+        options: Option<FileOptions>,
+    ) -> FileDescriptorProto
+        ensures { described.file_view result ≡ file_with (string_bytes heading.name)
+            (option_map string_bytes heading.package_name) (string_bytes heading.syntax)
+            (dependencies_view imports) (parts_view self) (option_map file_options_view options) }
+    {
+        let Contents {
+            message_type,
+            enum_type,
+            service,
+            extension,
+        } = self;
+        FileDescriptorProto {
+            name: Some(heading.name),
+            package: heading.package_name,
+            syntax: Some(heading.syntax),
+            dependency: imports.dependency,
+            public_dependency: imports.public_dependency,
+            weak_dependency: imports.weak_dependency,
+            message_type,
+            enum_type,
+            service,
+            extension,
+            options,
+        }
+    }
 }
 
 /// What these statements declare, of which no two of a kind have one name: E1. The faults inside
@@ -56,14 +106,14 @@ pub fn contents_of<C: CustomOptions>(
 }
 
 /// Refuses two messages, enums, extensions or services that have one name: E1.
-#[tactic(auto, using(crate::proofs::Blaming::blames_left, crate::proofs::Blaming::blames_right))]
+#[tactic(auto, using(crate::proofs::Naming::named_in_file))]
 fn check_names(alloc: Global, contents: &Contents) -> Result<(), ElabFailure>
     ensures { Elaborates (λ u. u) result (parts_faults (parts_view contents.now)) tt }
 {
-    unlike_messages(alloc, &contents.message_type)?;
-    unlike_enums(alloc, &contents.enum_type)?;
-    unlike_fields(alloc, &contents.extension)?;
-    unlike_services(alloc, &contents.service)
+    check_unlike(alloc, &contents.message_type)?;
+    check_unlike(alloc, &contents.enum_type)?;
+    check_unlike(alloc, &contents.extension)?;
+    check_unlike(alloc, &contents.service)
 }
 
 /// What these statements declare.
@@ -137,8 +187,11 @@ fn add_extensions<C: CustomOptions>(
         Elaborates (λ _. parts_view contents.new) result (extend_faults env e)
         (with_file_statement env (parts_view contents.old) (file_extend e)) }
 {
-    let mut declared = fields_of_extend(alloc, context, custom, &extend.extendee, &extend.fields)?;
-    contents.extension.append(&mut declared.fields)?;
-    contents.message_type.append(&mut declared.behind)?;
+    let declared = fields_of_extend(alloc, context, custom, &extend.extendee, &extend.fields)?;
+    append_declared(
+        &mut contents.extension,
+        &mut contents.message_type,
+        declared,
+    )?;
     Ok(())
 }

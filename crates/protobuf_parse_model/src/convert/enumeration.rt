@@ -1,31 +1,31 @@
 //! Enums.
 
-ghost use Rattle.std.specs.Prelude.{◌≡◌, ◌++◌, map, flat_map, option_map, IfOk};
+ghost use Rattle.std.specs.Prelude.{◌≡◌, ◌++◌, map, flat_map, option_map, string_bytes, IfOk};
 ghost use Rattle.protobuf_parse_syntax.specs.Trees as tree;
 ghost use Rattle.protobuf_parse_model.specs.BuiltinOptions.{enum_table};
 ghost use Rattle.protobuf_parse_model.specs.ConstructOptions.{construct_faults};
 ghost use Rattle.protobuf_parse_model.specs.Contexts.{environment_in, reserves_seen};
-ghost use Rattle.protobuf_parse_model.specs.SeenFiles.{name_texts};
 ghost use Rattle.protobuf_parse_model.specs.Contexts.{values_seen};
 ghost use Rattle.protobuf_parse_model.specs.Descriptors as described;
 ghost use Rattle.protobuf_parse_model.specs.Enums as enums;
 ghost use Rattle.protobuf_parse_model.specs.Faults.{Elaborates};
 ghost use Rattle.protobuf_parse_model.specs.Environment.{customs_bytes};
 ghost use Rattle.protobuf_parse_model.specs.declared.customs.Construct.TheVariants as of;
-ghost use Rattle.protobuf_parse_model.specs.OptionViews.{options_seen};
 ghost use Rattle.protobuf_parse_model.specs.Options.{enum_options_view};
 ghost use Rattle.protobuf_parse_model.specs.OptionsSet as sets;
 
+use crate::convert::names::check_unlike;
 use crate::convert::options::{
-    checked_customs, enum_options, enum_table, enum_value_options, enum_value_table, options_of,
+    checked_customs, enum_options, enum_value_options, options_in, options_of,
 };
-use crate::convert::refuse::check_unique;
 use crate::convert::reserved::{inclusive_ranges, names_reserved, ranges_reserved};
 use crate::customs::{Construct, CustomOptions};
-use crate::descriptor::{EnumDescriptorProto, EnumOptions, EnumValueDescriptorProto};
+use crate::descriptor::{
+    EnumDescriptorProto, EnumOptions, EnumReservedRange, EnumValueDescriptorProto,
+};
 use crate::error::ElabFailure;
 use crate::scope::Context;
-use protobuf_parse_syntax::{EnumStatement, EnumValue, Enumeration, ProtobufOption, Reserved};
+use protobuf_parse_syntax::{EnumStatement, EnumValue, Enumeration, Reserved};
 use std::alloc::{AllocError, Global};
 
 /// The descriptor of an enum.
@@ -43,13 +43,14 @@ pub fn enum_descriptor<C: CustomOptions>(
         Elaborates described.enum_view result (enums.enum_faults env e) (enums.enum_of env e) }
 {
     let value = enum_values(alloc, context, custom, &enumeration.body)?;
+    let reserved = reserved(alloc, &enumeration.body)?;
+    let name = enumeration.name.clone()?;
     let options = checked_options(alloc, context, custom, &enumeration.body)?;
-    let reserves = reserves(alloc, &enumeration.body)?;
     Ok(EnumDescriptorProto {
-        name: enumeration.name.clone()?,
+        name,
         value,
-        reserved_range: inclusive_ranges(alloc, &ranges_reserved(alloc, &reserves)?)?,
-        reserved_name: names_reserved(alloc, &reserves)?,
+        reserved_range: reserved.ranges,
+        reserved_name: reserved.names,
         options,
     })
 }
@@ -71,7 +72,7 @@ fn enum_values<C: CustomOptions>(
 }
 
 /// The descriptors of these values, whose names differ: E1.
-#[tactic(auto, using(crate::proofs::Blaming::blames_left, crate::proofs::Blaming::blames_right))]
+#[tactic(auto, using(crate::proofs::Naming::named_in_enum))]
 fn unlike_values<C: CustomOptions>(
     alloc: Global,
     context: &Context<'_>,
@@ -83,7 +84,7 @@ fn unlike_values<C: CustomOptions>(
         Elaborates (λ v. map described.enum_value_view v.items) result (enums.values_faults env vs)
         (map (enums.value_of env) vs) }
 {
-    check_unique(alloc, &names(alloc, values)?)?;
+    check_unlike(alloc, values)?;
     value_descriptors(alloc, context, custom, values)
 }
 
@@ -100,19 +101,6 @@ fn values(alloc: Global, body: &[EnumStatement]) -> Result<Vec<&EnumValue>, Allo
         }
     }
     Ok(values)
-}
-
-/// Their names.
-fn names<'a>(alloc: Global, values: &[&'a EnumValue]) -> Result<Vec<&'a str>, AllocError>
-    ensures { IfOk result
-        (λ v. name_texts v.items
-        ≡ map (λ (v : tree.EnumValueSyntax). v.name) (values_seen values.now)) }
-{
-    let mut names = Vec::new(alloc);
-    for value in values {
-        names.push(value.name.as_str())?;
-    }
-    Ok(names)
 }
 
 /// Their descriptors.
@@ -147,14 +135,7 @@ fn value_descriptor<C: CustomOptions>(
         (enums.value_of env v) }
 {
     let options = options_of(alloc, &value.options)?;
-    let bytes = checked_customs(
-        alloc,
-        context,
-        custom,
-        Construct::EnumValue,
-        enum_value_table(),
-        &options,
-    )?;
+    let bytes = checked_customs(alloc, context, custom, Construct::EnumValue, &options)?;
     Ok(EnumValueDescriptorProto {
         name: value.name.clone()?,
         number: value.number,
@@ -163,6 +144,7 @@ fn value_descriptor<C: CustomOptions>(
 }
 
 /// What the options of an enum say.
+#[tactic(auto, using(crate::proofs::StatedOptions::enum_options_set))]
 fn checked_options<C: CustomOptions>(
     alloc: Global,
     context: &Context<'_>,
@@ -176,30 +158,32 @@ fn checked_options<C: CustomOptions>(
         (sets.enum_options (customs_bytes env of.Enum os) os) }
 {
     let options = options_in(alloc, body)?;
-    let bytes = checked_customs(
-        alloc,
-        context,
-        custom,
-        Construct::Enum,
-        enum_table(),
-        &options,
-    )?;
+    let bytes = checked_customs(alloc, context, custom, Construct::Enum, &options)?;
     Ok(enum_options(&options, bytes))
 }
 
-/// The options of an enum.
-fn options_in(alloc: Global, body: &[EnumStatement]) -> Result<Vec<&ProtobufOption>, AllocError>
-    ensures { IfOk result
-        (λ v. options_seen v.items
-        ≡ flat_map enums.options_in_enum (map tree.enum_statement_view body.now)) }
+/// The ranges and the names that an enum reserves.
+#[derive(Drop)]
+struct EnumReserved {
+    ranges: Vec<EnumReservedRange>,
+    names: Vec<String>,
+}
+
+fn reserved(alloc: Global, body: &[EnumStatement]) -> Result<EnumReserved, AllocError>
+    ensures ranges { let ss = map tree.enum_statement_view body.now in
+        IfOk result (λ r. map described.enum_range_view r.ranges.items
+        ≡ map enums.inclusive (flat_map enums.ranges_reserved (flat_map enums.enum_reserves ss))) }
+    ensures names { let ss = map tree.enum_statement_view body.now in
+        IfOk result (λ r. map string_bytes r.names.items
+        ≡ flat_map enums.names_reserved (flat_map enums.enum_reserves ss)) }
 {
-    let mut options = Vec::new(alloc);
-    for statement in body {
-        if let EnumStatement::Option(statement) = statement {
-            options.push(&statement.option)?;
-        }
-    }
-    Ok(options)
+    let reserves = reserves(alloc, body)?;
+    let names = names_reserved(alloc, &reserves)?;
+    let ranges = ranges_reserved(alloc, &reserves)?;
+    Ok(EnumReserved {
+        ranges: inclusive_ranges(alloc, &ranges)?,
+        names,
+    })
 }
 
 /// What an enum reserves.

@@ -59,6 +59,8 @@ fn field_with<C: CustomOptions>(
         (fields.faults_of_options env resolved.kind f.name f.options)
         (fields.field_with env (field_place_view place.now) f (resolved_view resolved)) }
 {
+    let name = field.name.clone()?;
+    let extendee = place.extendee(alloc)?;
     let said = field_said(
         alloc,
         context,
@@ -68,12 +70,12 @@ fn field_with<C: CustomOptions>(
         &field.options,
     )?;
     Ok(FieldDescriptorProto {
-        name: field.name.clone()?,
+        name,
         number: field.number,
         label: label_of(field.label, &field.type_),
         type_: resolved.kind,
         type_name: resolved.name,
-        extendee: place.extendee(alloc)?,
+        extendee,
         default_value: said.default_value,
         oneof_index: place.oneof_index(),
         json_name: said.json_name,
@@ -146,13 +148,15 @@ pub fn group_field(
 {
     let name = group_field_name(alloc, &group.name)?;
     let json_name = json_name(alloc, &name)?;
+    let type_name = full_name(alloc, context.scope, &group.name)?;
+    let extendee = place.extendee(alloc)?;
     Ok(FieldDescriptorProto {
         name,
         number: group.number,
         label: group.label.unwrap_or(Label::Optional),
         type_: FieldType::Group,
-        type_name: Some(full_name(alloc, context.scope, &group.name)?),
-        extendee: place.extendee(alloc)?,
+        type_name: Some(type_name),
+        extendee,
         default_value: None,
         oneof_index: place.oneof_index(),
         json_name,

@@ -14,9 +14,9 @@ ghost use Rattle.protobuf_parse_model.specs.Messages as messages;
 ghost use Rattle.protobuf_parse_model.specs.Options.{message_options_view};
 
 use crate::convert::field::{check_no_map, field_descriptor, group_field_name};
-use crate::convert::names::names_of_fields;
+use crate::convert::names::check_unlike;
 use crate::convert::place::FieldPlace;
-use crate::convert::refuse::{check_unique, fault};
+use crate::convert::refuse::fault;
 use crate::convert::types::{entry_name, inner_type};
 use crate::customs::CustomOptions;
 use crate::descriptor::{DescriptorProto, FieldDescriptorProto, Label, MessageOptions};
@@ -137,7 +137,7 @@ fn message_with(
 }
 
 /// The message of a group.
-#[tactic(auto, using(crate::proofs::Blaming::blames_left, crate::proofs::Blaming::blames_right))]
+#[tactic(auto, using(crate::proofs::Naming::named_in_group))]
 pub fn group_message<C: CustomOptions>(
     alloc: Global,
     context: &Context<'_>,
@@ -150,7 +150,7 @@ pub fn group_message<C: CustomOptions>(
         (messages.group_message env g.name g.fields) }
 {
     let field = grouped_fields(alloc, context, custom, &group.fields)?;
-    check_unique(alloc, &names_of_fields(alloc, &field)?)?;
+    check_unlike(alloc, &field)?;
     Ok(message_with(alloc, group.name.clone()?, field, None))
 }
 

@@ -1,6 +1,6 @@
 //! Several fields: those of a oneof, and those of an `extend`.
 
-ghost use Rattle.std.specs.Prelude.{◌≡◌, ◌++◌, map, flat_map, option_to_list, IfOk, OnOk};
+ghost use Rattle.std.specs.Prelude.{◌≡◌, ◌++◌, map, flat_map, IfOk, OnOk};
 ghost use Rattle.protobuf_parse_syntax.specs.Trees.{field_statement_view, oneof_statement_view};
 ghost use Rattle.protobuf_parse_syntax.specs.Trees.{oneof_view};
 ghost use Rattle.protobuf_parse_model.specs.Contexts.{environment_in, fields_declared, fields_view};
@@ -76,8 +76,7 @@ fn declared_fields<C: CustomOptions>(
     let mut behind = Vec::new(alloc);
     for statement in statements {
         let declared = declared_field(alloc, context, custom, place, statement)?;
-        fields.push(declared.field)?;
-        push_behind(&mut behind, declared.behind)?;
+        declared.push_to(&mut fields, &mut behind)?;
     }
     Ok(DeclaredFields { fields, behind })
 }
@@ -128,21 +127,22 @@ fn declared_extensions<C: CustomOptions>(
     let mut behind = Vec::new(alloc);
     for statement in statements {
         let declared = declared_extension(alloc, context, custom, place, statement)?;
-        fields.push(declared.field)?;
-        push_behind(&mut behind, declared.behind)?;
+        declared.push_to(&mut fields, &mut behind)?;
     }
     Ok(DeclaredFields { fields, behind })
 }
 
-/// Adds the message behind a field, if one stands there.
-pub fn push_behind(
+/// Adds these fields, and the messages behind them.
+pub fn append_declared(
+    fields: &mut Vec<FieldDescriptorProto>,
     messages: &mut Vec<DescriptorProto>,
-    behind: Option<DescriptorProto>,
+    mut declared: DeclaredFields,
 ) -> Result<(), AllocError>
-    ensures { OnOk result (messages.new.items ≡ messages.old.items ++ option_to_list behind) }
+    ensures fields { OnOk result
+        (fields.new.items ≡ fields.old.items ++ declared.fields.items) }
+    ensures messages { OnOk result
+        (messages.new.items ≡ messages.old.items ++ declared.behind.items) }
 {
-    if let Some(message) = behind {
-        messages.push(message)?;
-    }
-    Ok(())
+    fields.append(&mut declared.fields)?;
+    messages.append(&mut declared.behind)
 }

@@ -1,7 +1,7 @@
 //! Messages.
 
 ghost use Rattle.std.specs.Prelude.{◌≡◌, ◌++◌, ◌<◌, ◌≤◌, ◌^◌, List, [], ◌∷◌, length, map, flat_map};
-ghost use Rattle.std.specs.Prelude.{string_bytes, sum_by, IfOk};
+ghost use Rattle.std.specs.Prelude.{sum_by, IfOk};
 ghost use Rattle.protobuf_parse_syntax.specs.Counts.{in_message, message_statement_count};
 ghost use Rattle.protobuf_parse_syntax.specs.Trees.{message_statement_view, message_view};
 ghost use Rattle.protobuf_parse_model.specs.Contexts as contexts;
@@ -15,8 +15,8 @@ ghost use Rattle.protobuf_parse_model.specs.Faults.{Elaborates};
 ghost use Rattle.protobuf_parse_model.specs.Messages as messages;
 
 use crate::convert::body::{Body, add_enum, add_extend, add_field, add_oneof};
-use crate::convert::names::{unlike_enums, unlike_fields, unlike_messages, unlike_oneofs};
-use crate::convert::rest::{Rest, rest_of_message};
+use crate::convert::names::check_unlike;
+use crate::convert::rest::rest_of_message;
 use crate::customs::CustomOptions;
 use crate::descriptor::DescriptorProto;
 use crate::error::ElabFailure;
@@ -81,40 +81,21 @@ fn finished<C: CustomOptions>(
         (contexts.message_of_both name.now (body_view parts) (contexts.rest_of env ss)) }
 {
     check_names(alloc, &parts)?;
+    let copy = String::from_str(alloc, name)?;
     let rest = rest_of_message(alloc, context, custom, name, body)?;
-    let name = String::from_str(alloc, name)?;
-    Ok(assembled(name, parts, rest))
-}
-
-/// A message of these parts.
-fn assembled(name: String, body: Body, rest: Rest) -> DescriptorProto
-    ensures { described.message_view result
-        ≡ contexts.message_of_both (string_bytes name) (body_view body) (contexts.rest_view rest) }
-{
-    DescriptorProto {
-        name,
-        field: body.field,
-        oneof_decl: body.oneof_decl,
-        nested_type: body.nested_type,
-        enum_type: body.enum_type,
-        extension: body.extension,
-        extension_range: rest.extension_range,
-        reserved_range: rest.reserved_range,
-        reserved_name: rest.reserved_name,
-        options: rest.options,
-    }
+    Ok(parts.into_message(copy, rest))
 }
 
 /// Refuses two of a kind that have one name: E1.
-#[tactic(auto, using(crate::proofs::Blaming::blames_left, crate::proofs::Blaming::blames_right))]
+#[tactic(auto, using(crate::proofs::Naming::named_in_body))]
 fn check_names(alloc: Global, body: &Body) -> Result<(), ElabFailure>
     ensures { Elaborates (λ u. u) result (names_faults (body_view body.now)) tt }
 {
-    unlike_fields(alloc, &body.field)?;
-    unlike_oneofs(alloc, &body.oneof_decl)?;
-    unlike_fields(alloc, &body.extension)?;
-    unlike_enums(alloc, &body.enum_type)?;
-    unlike_messages(alloc, &body.nested_type)
+    check_unlike(alloc, &body.field)?;
+    check_unlike(alloc, &body.oneof_decl)?;
+    check_unlike(alloc, &body.extension)?;
+    check_unlike(alloc, &body.enum_type)?;
+    check_unlike(alloc, &body.nested_type)
 }
 
 /// The scope inside the message of that name.

@@ -1,13 +1,12 @@
-//! The names of what was declared.
+//! Names, of which no two in one scope are the same.
 
-ghost use Rattle.std.specs.Prelude.{◌≡◌, map, IfOk};
+ghost use Rattle.std.specs.Prelude.{◌≡◌, ℕ, List, map, IfOk};
+ghost use Rattle.protobuf_parse_syntax.specs.Trees.{method_view, value_view};
 ghost use Rattle.protobuf_parse_model.specs.SeenFiles.{name_texts};
 ghost use Rattle.protobuf_parse_model.specs.Descriptors as described;
+ghost use Rattle.protobuf_parse_model.specs.Messages.{message_name};
 ghost use Rattle.protobuf_parse_model.specs.Duplicates.{duplicates};
 ghost use Rattle.protobuf_parse_model.specs.Faults.{Elaborates};
-ghost use Rattle.protobuf_parse_model.specs.Fields as spec;
-ghost use Rattle.protobuf_parse_model.specs.FileDescriptor as files;
-ghost use Rattle.protobuf_parse_model.specs.Messages as bodies;
 
 use crate::convert::refuse::check_unique;
 use crate::descriptor::{
@@ -15,121 +14,87 @@ use crate::descriptor::{
     ServiceDescriptorProto,
 };
 use crate::error::ElabFailure;
+use protobuf_parse_syntax::{EnumValue, Method};
 use std::alloc::{AllocError, Global};
 
-/// The names of fields.
-pub fn names_of_fields(
-    alloc: Global,
-    fields: &[FieldDescriptorProto],
-) -> Result<Vec<&str>, AllocError>
-    ensures { IfOk result
-        (λ v. name_texts v.items ≡ spec.names_of_fields (map described.field_view fields.now)) }
+/// What has a name in its scope.
+pub trait Named {
+    ghost name_of: { Self → List ℕ };
+
+    fn name(&self) -> &str
+        ensures { result.now ≡ name_of self.now };
+}
+
+impl Named for FieldDescriptorProto {
+    ghost name_of = { λ field. (described.field_view field).name };
+
+    fn name(&self) -> &str {
+        self.name.as_str()
+    }
+}
+
+impl Named for OneofDescriptorProto {
+    ghost name_of = { λ oneof. (described.oneof_view oneof).name };
+
+    fn name(&self) -> &str {
+        self.name.as_str()
+    }
+}
+
+impl Named for EnumDescriptorProto {
+    ghost name_of = { λ each. (described.enum_view each).name };
+
+    fn name(&self) -> &str {
+        self.name.as_str()
+    }
+}
+
+impl Named for DescriptorProto {
+    ghost name_of = { λ message. message_name (described.message_view message) };
+
+    fn name(&self) -> &str {
+        self.name.as_str()
+    }
+}
+
+impl Named for ServiceDescriptorProto {
+    ghost name_of = { λ service. (described.service_view service).name };
+
+    fn name(&self) -> &str {
+        self.name.as_str()
+    }
+}
+
+impl Named for &EnumValue {
+    ghost name_of = { λ value. (value_view value.now).name };
+
+    fn name(&self) -> &str {
+        self.name.as_str()
+    }
+}
+
+impl Named for &Method {
+    ghost name_of = { λ method. (method_view method.now).name };
+
+    fn name(&self) -> &str {
+        self.name.as_str()
+    }
+}
+
+/// Refuses two that have one name: E1.
+pub fn check_unlike<T: Named>(alloc: Global, items: &[T]) -> Result<(), ElabFailure>
+    ensures { Elaborates (λ u. u) result (duplicates (map T.name_of items.now)) tt }
+{
+    check_unique(alloc, &names_of(alloc, items)?)
+}
+
+/// The names of these, in their order.
+fn names_of<T: Named>(alloc: Global, items: &[T]) -> Result<Vec<&str>, AllocError>
+    ensures { IfOk result (λ v. name_texts v.items ≡ map T.name_of items.now) }
 {
     let mut names = Vec::new(alloc);
-    for field in fields {
-        names.push(field.name.as_str())?;
+    for item in items {
+        names.push(item.name())?;
     }
     Ok(names)
-}
-
-/// The names of oneofs.
-pub fn names_of_oneofs(
-    alloc: Global,
-    oneofs: &[OneofDescriptorProto],
-) -> Result<Vec<&str>, AllocError>
-    ensures { IfOk result
-        (λ v. name_texts v.items ≡ bodies.names_of_oneofs (map described.oneof_view oneofs.now)) }
-{
-    let mut names = Vec::new(alloc);
-    for oneof in oneofs {
-        names.push(oneof.name.as_str())?;
-    }
-    Ok(names)
-}
-
-/// The names of enums.
-pub fn names_of_enums(alloc: Global, enums: &[EnumDescriptorProto]) -> Result<Vec<&str>, AllocError>
-    ensures { IfOk result
-        (λ v. name_texts v.items ≡ bodies.names_of_enums (map described.enum_view enums.now)) }
-{
-    let mut names = Vec::new(alloc);
-    for each in enums {
-        names.push(each.name.as_str())?;
-    }
-    Ok(names)
-}
-
-/// The names of messages.
-pub fn names_of_messages(
-    alloc: Global,
-    messages: &[DescriptorProto],
-) -> Result<Vec<&str>, AllocError>
-    ensures { IfOk result
-        (λ v. name_texts v.items
-        ≡ bodies.names_of_messages (map described.message_view messages.now)) }
-{
-    let mut names = Vec::new(alloc);
-    for message in messages {
-        names.push(message.name.as_str())?;
-    }
-    Ok(names)
-}
-
-/// The names of services.
-pub fn names_of_services(
-    alloc: Global,
-    services: &[ServiceDescriptorProto],
-) -> Result<Vec<&str>, AllocError>
-    ensures { IfOk result
-        (λ v. name_texts v.items
-        ≡ files.names_of_services (map described.service_view services.now)) }
-{
-    let mut names = Vec::new(alloc);
-    for service in services {
-        names.push(service.name.as_str())?;
-    }
-    Ok(names)
-}
-
-/// Refuses two fields that have one name: E1.
-pub fn unlike_fields(alloc: Global, fields: &[FieldDescriptorProto]) -> Result<(), ElabFailure>
-    ensures { Elaborates (λ u. u) result
-        (duplicates (spec.names_of_fields (map described.field_view fields.now))) tt }
-{
-    check_unique(alloc, &names_of_fields(alloc, fields)?)
-}
-
-/// Refuses two oneofs that have one name: E1.
-pub fn unlike_oneofs(alloc: Global, oneofs: &[OneofDescriptorProto]) -> Result<(), ElabFailure>
-    ensures { Elaborates (λ u. u) result
-        (duplicates (bodies.names_of_oneofs (map described.oneof_view oneofs.now))) tt }
-{
-    check_unique(alloc, &names_of_oneofs(alloc, oneofs)?)
-}
-
-/// Refuses two enums that have one name: E1.
-pub fn unlike_enums(alloc: Global, enums: &[EnumDescriptorProto]) -> Result<(), ElabFailure>
-    ensures { Elaborates (λ u. u) result
-        (duplicates (bodies.names_of_enums (map described.enum_view enums.now))) tt }
-{
-    check_unique(alloc, &names_of_enums(alloc, enums)?)
-}
-
-/// Refuses two messages that have one name: E1.
-pub fn unlike_messages(alloc: Global, messages: &[DescriptorProto]) -> Result<(), ElabFailure>
-    ensures { Elaborates (λ u. u) result
-        (duplicates (bodies.names_of_messages (map described.message_view messages.now))) tt }
-{
-    check_unique(alloc, &names_of_messages(alloc, messages)?)
-}
-
-/// Refuses two services that have one name: E1.
-pub fn unlike_services(
-    alloc: Global,
-    services: &[ServiceDescriptorProto],
-) -> Result<(), ElabFailure>
-    ensures { Elaborates (λ u. u) result
-        (duplicates (files.names_of_services (map described.service_view services.now))) tt }
-{
-    check_unique(alloc, &names_of_services(alloc, services)?)
 }

@@ -11,18 +11,18 @@ ghost use Rattle.protobuf_parse_model.specs.declared.customs.Construct.TheVarian
 ghost use Rattle.protobuf_parse_model.specs.Descriptors as described;
 ghost use Rattle.protobuf_parse_model.specs.Faults.{Elaborates};
 ghost use Rattle.protobuf_parse_model.specs.Messages as messages;
-ghost use Rattle.protobuf_parse_model.specs.OptionViews.{options_seen};
 ghost use Rattle.protobuf_parse_model.specs.Options.{oneof_options_view};
 ghost use Rattle.protobuf_parse_model.specs.OptionsSet as sets;
 ghost use Rattle.protobuf_parse_model.specs.Statements as statements;
 
 use crate::convert::field::says_optional;
-use crate::convert::options::{checked_customs, oneof_options, oneof_table};
+use crate::convert::options::{checked_customs, oneof_options, options_in};
+use crate::convert::statement::DeclaredField;
 use crate::customs::{Construct, CustomOptions};
 use crate::descriptor::{OneofDescriptorProto, OneofOptions};
 use crate::error::ElabFailure;
 use crate::scope::Context;
-use protobuf_parse_syntax::{FieldStatement, OneOf, OneOfStatement, ProtobufOption};
+use protobuf_parse_syntax::{FieldStatement, OneOf, OneOfStatement};
 use std::alloc::{AllocError, Global};
 
 /// The descriptor of a oneof. Its fields stand apart from it.
@@ -38,14 +38,13 @@ pub fn oneof_descriptor<C: CustomOptions>(
         (construct_faults env of.Oneof oneof_table (messages.options_in_oneof o))
         (messages.oneof_of env o) }
 {
+    let name = oneof.name.clone()?;
     let options = checked_options(alloc, context, custom, &oneof.body)?;
-    Ok(OneofDescriptorProto {
-        name: oneof.name.clone()?,
-        options,
-    })
+    Ok(OneofDescriptorProto { name, options })
 }
 
 /// What the options of a oneof say.
+#[tactic(auto, using(crate::proofs::StatedOptions::oneof_options_set))]
 fn checked_options<C: CustomOptions>(
     alloc: Global,
     context: &Context<'_>,
@@ -59,30 +58,8 @@ fn checked_options<C: CustomOptions>(
         (sets.oneof_options (customs_bytes env of.Oneof os) os) }
 {
     let options = options_in(alloc, body)?;
-    let bytes = checked_customs(
-        alloc,
-        context,
-        custom,
-        Construct::Oneof,
-        oneof_table(),
-        &options,
-    )?;
+    let bytes = checked_customs(alloc, context, custom, Construct::Oneof, &options)?;
     Ok(oneof_options(&options, bytes))
-}
-
-/// The options of a oneof.
-fn options_in(alloc: Global, body: &[OneOfStatement]) -> Result<Vec<&ProtobufOption>, AllocError>
-    ensures { IfOk result
-        (λ v. options_seen v.items
-        ≡ flat_map statements.oneof_statement_options (map oneof_statement_view body.now)) }
-{
-    let mut options = Vec::new(alloc);
-    for statement in body {
-        if let OneOfStatement::Option(statement) = statement {
-            options.push(&statement.option)?;
-        }
-    }
-    Ok(options)
 }
 
 /// Whether the field is alone in a oneof of its own: in proto3 with the label `optional`.
@@ -96,12 +73,16 @@ pub fn has_own_oneof(context: &Context<'_>, statement: &FieldStatement) -> bool
     }
 }
 
-/// The oneof that the field of that name is alone in.
-pub fn own_oneof(alloc: Global, field: &str) -> Result<OneofDescriptorProto, AllocError>
-    ensures { IfOk result (λ o. described.oneof_view o ≡ messages.own_oneof_of field.now) }
+/// The oneof that the declared field is alone in.
+pub fn own_oneof(
+    alloc: Global,
+    declared: &DeclaredField,
+) -> Result<OneofDescriptorProto, AllocError>
+    ensures { IfOk result (λ o. described.oneof_view o
+        ≡ messages.own_oneof_of (described.field_view declared.now.field).name) }
 {
     let mut name = String::from_str(alloc, "_")?;
-    name.push_str(field)?;
+    name.push_str(&declared.field.name)?;
     Ok(OneofDescriptorProto {
         name,
         options: None,

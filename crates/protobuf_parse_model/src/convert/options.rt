@@ -4,6 +4,7 @@ mod builtin;
 mod check;
 mod said;
 mod sets;
+mod statements;
 mod strings;
 mod tables;
 mod texts;
@@ -19,11 +20,8 @@ pub use sets::{
     enum_options, enum_value_options, field_options, file_options, message_options, method_options,
     oneof_options, service_options,
 };
+pub use statements::options_in;
 use std::alloc::{AllocError, Global};
-pub use tables::{
-    enum_table, enum_value_table, file_table, message_table, method_table, oneof_table,
-    service_table,
-};
 pub use texts::{default_value, json_name_of};
 
 /// The options of a list, one by one.

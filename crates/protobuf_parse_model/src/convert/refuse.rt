@@ -18,10 +18,7 @@ pub fn check_unique(alloc: Global, names: &[&str]) -> Result<(), ElabFailure>
     for name in names {
         let is_new = seen.insert(*name)?;
         if !is_new {
-            return Err(ElabFailure::Fault(ElabError {
-                kind: ElabErrorKind::DuplicateName,
-                what: String::from_str(alloc, name)?,
-            }));
+            return Err(fault(alloc, ElabErrorKind::DuplicateName, name));
         }
     }
     Ok(())

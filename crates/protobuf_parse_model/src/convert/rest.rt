@@ -12,11 +12,10 @@ ghost use Rattle.protobuf_parse_model.specs.Faults.{Elaborates};
 ghost use Rattle.protobuf_parse_model.specs.Messages as messages;
 ghost use Rattle.protobuf_parse_model.specs.Environment.{customs_bytes};
 ghost use Rattle.protobuf_parse_model.specs.declared.customs.Construct.TheVariants as of;
-ghost use Rattle.protobuf_parse_model.specs.OptionViews.{options_seen};
 ghost use Rattle.protobuf_parse_model.specs.Options.{message_options_view};
 ghost use Rattle.protobuf_parse_model.specs.OptionsSet as sets;
 
-use crate::convert::options::{checked_customs, message_options, message_table};
+use crate::convert::options::{checked_customs, message_options, options_in};
 use crate::convert::reserved::{
     extension_ranges, names_reserved, ranges_reserved, reserved_ranges,
 };
@@ -24,7 +23,7 @@ use crate::customs::{Construct, CustomOptions};
 use crate::descriptor::{ExtensionRange, MessageOptions, ReservedRange};
 use crate::error::ElabFailure;
 use crate::scope::Context;
-use protobuf_parse_syntax::{FieldNumberRange, MessageStatement, ProtobufOption, Reserved};
+use protobuf_parse_syntax::{FieldNumberRange, MessageStatement, Reserved};
 use std::alloc::{AllocError, Global};
 
 /// The ranges and the options of a message.
@@ -145,6 +144,7 @@ fn reserves(alloc: Global, body: &[MessageStatement]) -> Result<Vec<&Reserved>, 
 }
 
 /// What the options of a message say.
+#[tactic(auto, using(crate::proofs::StatedOptions::message_options_set))]
 fn checked_options<C: CustomOptions>(
     alloc: Global,
     context: &Context<'_>,
@@ -158,28 +158,6 @@ fn checked_options<C: CustomOptions>(
         (sets.message_options (customs_bytes env of.Message os) os) }
 {
     let options = options_in(alloc, body)?;
-    let bytes = checked_customs(
-        alloc,
-        context,
-        custom,
-        Construct::Message,
-        message_table(),
-        &options,
-    )?;
+    let bytes = checked_customs(alloc, context, custom, Construct::Message, &options)?;
     Ok(message_options(&options, bytes))
-}
-
-/// The options of a message.
-fn options_in(alloc: Global, body: &[MessageStatement]) -> Result<Vec<&ProtobufOption>, AllocError>
-    ensures { IfOk result
-        (λ v. options_seen v.items
-        ≡ flat_map messages.options_in_message (map message_statement_view body.now)) }
-{
-    let mut options = Vec::new(alloc);
-    for statement in body {
-        if let MessageStatement::Option(statement) = statement {
-            options.push(&statement.option)?;
-        }
-    }
-    Ok(options)
 }

@@ -6,7 +6,6 @@ ghost use Rattle.protobuf_parse_syntax.specs.Trees as tree;
 ghost use Rattle.protobuf_parse_model.specs.BuiltinOptions.{method_table, service_table};
 ghost use Rattle.protobuf_parse_model.specs.ConstructOptions.{construct_faults};
 ghost use Rattle.protobuf_parse_model.specs.Contexts.{environment_in, methods_seen};
-ghost use Rattle.protobuf_parse_model.specs.SeenFiles.{name_texts};
 ghost use Rattle.protobuf_parse_model.specs.Contexts.{names_of_context};
 ghost use Rattle.protobuf_parse_model.specs.Descriptors as described;
 ghost use Rattle.protobuf_parse_model.specs.Environment.{customs_bytes, type_full_name};
@@ -18,10 +17,8 @@ ghost use Rattle.protobuf_parse_model.specs.Options.{method_options_view, servic
 ghost use Rattle.protobuf_parse_model.specs.OptionsSet as sets;
 ghost use Rattle.protobuf_parse_model.specs.Services as services;
 
-use crate::convert::options::{
-    checked_customs, method_options, method_table, service_options, service_table,
-};
-use crate::convert::refuse::check_unique;
+use crate::convert::names::check_unlike;
+use crate::convert::options::{checked_customs, method_options, options_in, service_options};
 use crate::convert::types::type_full_name;
 use crate::customs::{Construct, CustomOptions};
 use crate::descriptor::{
@@ -49,9 +46,10 @@ pub fn service_descriptor<C: CustomOptions>(
         (services.service_of env s) }
 {
     let method = service_methods(alloc, context, custom, &service.body)?;
+    let name = service.name.clone()?;
     let options = checked_options(alloc, context, custom, &service.body)?;
     Ok(ServiceDescriptorProto {
-        name: service.name.clone()?,
+        name,
         method,
         options,
     })
@@ -74,7 +72,7 @@ fn service_methods<C: CustomOptions>(
 }
 
 /// The descriptors of these methods, whose names differ: E1.
-#[tactic(auto, using(crate::proofs::Blaming::blames_left, crate::proofs::Blaming::blames_right))]
+#[tactic(auto, using(crate::proofs::Naming::named_in_service))]
 fn unlike_methods<C: CustomOptions>(
     alloc: Global,
     context: &Context<'_>,
@@ -86,7 +84,7 @@ fn unlike_methods<C: CustomOptions>(
         Elaborates (λ v. map described.method_view v.items) result (services.methods_faults env ms)
         (map (services.method_of env) ms) }
 {
-    check_unique(alloc, &names(alloc, methods)?)?;
+    check_unlike(alloc, methods)?;
     method_descriptors(alloc, context, custom, methods)
 }
 
@@ -103,19 +101,6 @@ fn methods(alloc: Global, body: &[ServiceStatement]) -> Result<Vec<&Method>, All
         }
     }
     Ok(methods)
-}
-
-/// Their names.
-fn names<'a>(alloc: Global, methods: &[&'a Method]) -> Result<Vec<&'a str>, AllocError>
-    ensures { IfOk result
-        (λ v. name_texts v.items
-        ≡ map (λ (m : tree.MethodSyntax). m.name) (methods_seen methods.now)) }
-{
-    let mut names = Vec::new(alloc);
-    for method in methods {
-        names.push(method.name.as_str())?;
-    }
-    Ok(names)
 }
 
 /// Their descriptors.
@@ -152,9 +137,10 @@ fn method_descriptor<C: CustomOptions>(
 {
     let input_type = method_type(alloc, context, &method.input)?;
     let output_type = method_type(alloc, context, &method.output)?;
+    let name = method.name.clone()?;
     let options = checked_method_options(alloc, context, custom, &method.options)?;
     Ok(MethodDescriptorProto {
-        name: method.name.clone()?,
+        name,
         input_type,
         output_type,
         client_streaming: method.client_streaming,
@@ -173,6 +159,7 @@ fn method_type(alloc: Global, context: &Context<'_>, name: &str) -> Result<Strin
 }
 
 /// What the options of a method say.
+#[tactic(auto, using(crate::proofs::StatedOptions::method_options_set))]
 fn checked_method_options<C: CustomOptions>(
     alloc: Global,
     context: &Context<'_>,
@@ -185,35 +172,13 @@ fn checked_method_options<C: CustomOptions>(
         (construct_faults env of.Method method_table os)
         (sets.method_options (customs_bytes env of.Method os) os) }
 {
-    let options = statement_options(alloc, statements)?;
-    let bytes = checked_customs(
-        alloc,
-        context,
-        custom,
-        Construct::Method,
-        method_table(),
-        &options,
-    )?;
+    let options = options_in(alloc, statements)?;
+    let bytes = checked_customs(alloc, context, custom, Construct::Method, &options)?;
     Ok(method_options(&options, bytes))
 }
 
-/// The options of a method.
-fn statement_options(
-    alloc: Global,
-    statements: &[OptionStatement],
-) -> Result<Vec<&ProtobufOption>, AllocError>
-    ensures { IfOk result
-        (λ v. options_seen v.items
-        ≡ map services.statement_option (map tree.option_statement_view statements.now)) }
-{
-    let mut options = Vec::new(alloc);
-    for statement in statements {
-        options.push(&statement.option)?;
-    }
-    Ok(options)
-}
-
 /// What the options of a service say.
+#[tactic(auto, using(crate::proofs::StatedOptions::service_options_set))]
 fn checked_options<C: CustomOptions>(
     alloc: Global,
     context: &Context<'_>,
@@ -227,28 +192,6 @@ fn checked_options<C: CustomOptions>(
         (sets.service_options (customs_bytes env of.Service os) os) }
 {
     let options = options_in(alloc, body)?;
-    let bytes = checked_customs(
-        alloc,
-        context,
-        custom,
-        Construct::Service,
-        service_table(),
-        &options,
-    )?;
+    let bytes = checked_customs(alloc, context, custom, Construct::Service, &options)?;
     Ok(service_options(&options, bytes))
-}
-
-/// The options of a service.
-fn options_in(alloc: Global, body: &[ServiceStatement]) -> Result<Vec<&ProtobufOption>, AllocError>
-    ensures { IfOk result
-        (λ v. options_seen v.items
-        ≡ flat_map services.options_in_service (map tree.service_statement_view body.now)) }
-{
-    let mut options = Vec::new(alloc);
-    for statement in body {
-        if let ServiceStatement::Option(statement) = statement {
-            options.push(&statement.option)?;
-        }
-    }
-    Ok(options)
 }

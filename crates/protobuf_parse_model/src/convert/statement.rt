@@ -1,5 +1,6 @@
 //! The statements that declare fields: fields with the messages behind maps, and groups.
 
+ghost use Rattle.std.specs.Prelude.{◌≡◌, [], ◌∷◌, ◌++◌, option_to_list, OnOk};
 ghost use Rattle.protobuf_parse_syntax.specs.Trees as tree;
 ghost use Rattle.protobuf_parse_syntax.specs.Trees.{field_view, field_statement_view, group_of};
 ghost use Rattle.protobuf_parse_syntax.specs.Trees.{group_view};
@@ -17,14 +18,53 @@ use crate::descriptor::{DescriptorProto, FieldDescriptorProto};
 use crate::error::ElabFailure;
 use crate::scope::Context;
 use protobuf_parse_syntax::{Field, FieldStatement, Group};
-use std::alloc::Global;
+use std::alloc::{AllocError, Global};
 
 /// The field that a statement declares.
-#[derive(Drop)]
 pub struct DeclaredField {
     pub field: FieldDescriptorProto,
     /// The message of a map's entries, or that of a group.
     pub behind: Option<DescriptorProto>,
+}
+
+// Written out: what drops it calls this, and need not prove anew how a field is dropped.
+impl Drop for DeclaredField {
+    fn drop(self) {
+        let DeclaredField {
+            field: _,
+            behind: _,
+        } = self;
+    }
+}
+
+impl DeclaredField {
+    /// Adds the field, and the message behind it, if one stands there.
+    pub fn push_to(
+        self,
+        fields: &mut Vec<FieldDescriptorProto>,
+        messages: &mut Vec<DescriptorProto>,
+    ) -> Result<(), AllocError>
+        ensures fields { OnOk result (fields.new.items ≡ fields.old.items ++ self.field ∷ []) }
+        ensures messages { OnOk result
+            (messages.new.items ≡ messages.old.items ++ option_to_list self.behind) }
+    {
+        let DeclaredField { field, behind } = self;
+        fields.push(field)?;
+        push_behind(messages, behind)
+    }
+}
+
+/// Adds the message behind a field, if one stands there.
+fn push_behind(
+    messages: &mut Vec<DescriptorProto>,
+    behind: Option<DescriptorProto>,
+) -> Result<(), AllocError>
+    ensures { OnOk result (messages.new.items ≡ messages.old.items ++ option_to_list behind) }
+{
+    if let Some(message) = behind {
+        messages.push(message)?;
+    }
+    Ok(())
 }
 
 /// What a statement of a message or a oneof declares.

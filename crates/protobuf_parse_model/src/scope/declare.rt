@@ -1,16 +1,18 @@
 //! What files declare, by full name.
 
-ghost use Rattle.std.specs.Prelude.{◌≡◌, List, [], ◌∷◌, ◌++◌, map, flat_map, length, nat_eq};
-ghost use Rattle.std.specs.Prelude.{bytes_eq, if◌then◌else◌, string_bytes, IfOk, OnOk};
+ghost use Rattle.std.specs.Prelude.{◌≡◌, ℕ, true, List, [], ◌∷◌, ◌++◌, map, flat_map, length};
+ghost use Rattle.std.specs.Prelude.{nat_eq};
+ghost use Rattle.std.specs.Prelude.{bytes_eq, if◌then◌else◌, string_bytes, Contains, IfOk, OnOk};
 ghost use Rattle.std.specs.BTreeMap.{get_by_text};
 ghost use Rattle.protobuf_parse_base.specs.Names.{relative_idents};
 ghost use Rattle.protobuf_parse_syntax.specs.Trees.{FileSyntax, file_view, message_statement_view};
 ghost use Rattle.protobuf_parse_syntax.specs.Trees.{message_view, statement_view};
 ghost use Rattle.protobuf_parse_model.specs.Declarations as names;
 ghost use Rattle.protobuf_parse_model.specs.Descriptors.{Text};
+ghost use Rattle.protobuf_parse_model.specs.FileOrder.{FilesAscend};
 ghost use Rattle.protobuf_parse_model.specs.SeenFiles.{declared_as, kind_view, listed, name_texts};
-ghost use Rattle.protobuf_parse_model.specs.Tables.{Adds, AddsOne, TableTells, listed_names};
-ghost use Rattle.protobuf_parse_model.specs.Tables.{type_entry};
+ghost use Rattle.protobuf_parse_model.specs.Tables.{Adds, AddsOne, KeepsListed, ListsOne};
+ghost use Rattle.protobuf_parse_model.specs.Tables.{TableTells, names_listed, type_entry};
 
 use super::extensions::add_extensions;
 use super::generated::add_generated;
@@ -27,7 +29,8 @@ impl Declarations {
     {
         Declarations {
             by_name: BTreeMap::new(alloc),
-            repeated: Vec::new(alloc),
+            repeated: BTreeMap::new(alloc),
+            in_order: true,
         }
     }
 
@@ -192,7 +195,7 @@ pub fn add_name(
     put(table, alloc, name, declaration)
 }
 
-/// Adds a declaration of that full name, which is listed where this is its second.
+/// Adds a declaration of that full name, which is listed where it has one already.
 fn put(
     table: &mut Declarations,
     alloc: Global,
@@ -201,20 +204,85 @@ fn put(
 ) -> Result<(), AllocError>
     ensures { OnOk result (AddsOne table.old table.new (string_bytes name) declaration) }
 {
-    list_repeated(table, alloc, &name)?;
-    add_last(&mut table.by_name, alloc, name, declaration)
+    let in_order = stays_in_order(table, &name, declaration);
+    table.in_order = false;
+    list_repeated(table, alloc, &name, declaration.file)?;
+    add_last(&mut table.by_name, alloc, name, declaration)?;
+    table.in_order = in_order;
+    Ok(())
 }
 
-/// Lists the full name where it has one declaration, since it gets its second.
-fn list_repeated(table: &mut Declarations, alloc: Global, name: &str) -> Result<(), AllocError>
-    ensures same { OnOk result (table.new.by_name ≡ table.old.by_name) }
-    ensures lists { OnOk result (listed_names table.new ≡ listed_names table.old
-        ++ (if nat_eq (length (declared_as table.old name.now)) 1 then name.now ∷ [] else [])) }
+/// Whether the table is in the order of the files, and will be with that declaration of the full
+/// name.
+fn stays_in_order(table: &Declarations, name: &str, declaration: Declaration) -> bool
+    ensures { result ≡ true → (text : Text) → FilesAscend (declared_as table.now text
+        ++ (if bytes_eq name.now text then declaration ∷ [] else [])) }
 {
-    if declarations_of(table, name).len() != 1 {
+    table.in_order
+        && match declarations_of(table, name) {
+            [] => true,
+            [.., last] => last.file <= declaration.file,
+        }
+}
+
+/// Lists the full name, where it is declared already, for the file with that number, which declares
+/// it once more, and for the one that declares it until then.
+fn list_repeated(
+    table: &mut Declarations,
+    alloc: Global,
+    name: &str,
+    file: usize,
+) -> Result<(), AllocError>
+    ensures same { OnOk result (table.new.by_name ≡ table.old.by_name) }
+    ensures order { OnOk result (table.new.in_order ≡ table.old.in_order) }
+    ensures lists { OnOk result (ListsOne table.old table.new.repeated name.now file) }
+{
+    match declarations_of(table, name) {
+        [] => Ok(()),
+        [only] => {
+            let first = only.file;
+            list_name(&mut table.repeated, alloc, first, name)?;
+            list_next(&mut table.repeated, alloc, first, file, name)
+        }
+        [.., last] => {
+            let last = last.file;
+            list_next(&mut table.repeated, alloc, last, file, name)
+        }
+    }
+}
+
+/// Lists the full name for the file with that number, unless that is the last for which it is
+/// listed.
+fn list_next(
+    repeated: &mut BTreeMap<usize, Vec<String>>,
+    alloc: Global,
+    last: usize,
+    file: usize,
+    name: &str,
+) -> Result<(), AllocError>
+    ensures kept { OnOk result (KeepsListed repeated.old repeated.new) }
+    ensures listed { OnOk result (Contains (names_listed repeated.old last) name.now →
+        Contains (names_listed repeated.new file) name.now) }
+{
+    if file == last {
         return Ok(());
     }
-    table.repeated.push(String::from_str(alloc, name)?)?;
+    list_name(repeated, alloc, file, name)
+}
+
+/// Lists the full name for the file with that number.
+fn list_name(
+    repeated: &mut BTreeMap<usize, Vec<String>>,
+    alloc: Global,
+    file: usize,
+    name: &str,
+) -> Result<(), AllocError>
+    ensures { OnOk result ((n : ℕ) → names_listed repeated.new n ≡ names_listed repeated.old n
+        ++ (if nat_eq file n then name.now ∷ [] else [])) }
+{
+    let name = String::from_str(alloc, name)?;
+    let names = repeated.entry(file)?.or_insert(Vec::new(alloc));
+    names.push(name)?;
     Ok(())
 }
 

@@ -1,19 +1,21 @@
 //! What a file sees of what files declare.
 
-ghost use Rattle.std.specs.Prelude.{◌≡◌, ℕ, List};
+ghost use Rattle.std.specs.Prelude.{◌≡◌, ℕ, true, List};
+ghost use Rattle.std.specs.BTreeMap.{get_by_text};
 ghost use Rattle.std.specs.List.Sorted.{IsStrictlyIncreasing};
+ghost use Rattle.protobuf_parse_model.specs.FileOrder.{FilesAscend, listed};
 
 use std::collections::BTreeMap;
 
 /// What the name of a type may mean.
-#[derive(Clone, Copy, Debug, PartialEq, Eq)]
+#[derive(Clone, Copy)]
 pub enum TypeKind {
     Message,
     Enum,
 }
 
 /// What a full name may be declared as.
-#[derive(Clone, Copy, Debug)]
+#[derive(Clone, Copy)]
 pub enum DeclarationKind {
     Message,
     Enum,
@@ -24,7 +26,7 @@ pub enum DeclarationKind {
 }
 
 /// That a file declares a full name.
-#[derive(Clone, Copy, Debug)]
+#[derive(Clone, Copy)]
 pub struct Declaration {
     /// The number of the file.
     pub file: usize,
@@ -32,12 +34,18 @@ pub struct Declaration {
 }
 
 /// What files declare: messages, also those behind maps and groups, enums and extensions.
-#[derive(Debug, Drop)]
+#[derive(Drop)]
 pub struct Declarations {
-    /// The declarations of each full name, which has its first dot, in the order of the files.
+    /// The declarations of each full name, which has its first dot, as they were added.
     pub by_name: BTreeMap<String, Vec<Declaration>>,
-    /// The full names that have more than one declaration.
-    pub repeated: Vec<String>,
+    /// By the number of a file, those of the full names that it declares which have more than one
+    /// declaration.
+    pub repeated: BTreeMap<usize, Vec<String>>,
+    /// Whether the declarations of each full name are in the order of the files: so they are where
+    /// no file was added behind one with a higher number.
+    pub in_order: bool,
+    pub ghost ordered: { in_order ≡ true →
+        (name : List ℕ) → FilesAscend (listed (get_by_text by_name name)) },
 }
 
 /// What a file sees and what it reaches, of all the declarations that were made.

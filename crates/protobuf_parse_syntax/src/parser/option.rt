@@ -8,7 +8,7 @@ ghost use Rattle.protobuf_parse_syntax.specs.ClassLaws.{lexicon};
 ghost use Rattle.protobuf_parse_syntax.specs.Grammar as grammar;
 ghost use Rattle.protobuf_parse_syntax.specs.Productions as read;
 ghost use Rattle.protobuf_parse_syntax.specs.Trees as view;
-ghost use Rattle.protobuf_parse_syntax.specs.Code.{left, Gives, GivesOr, TooMany};
+ghost use Rattle.protobuf_parse_syntax.specs.Code.{left, Gives, GivesOr, TooMany, LongName};
 ghost use Rattle.protobuf_parse_syntax.specs.Text.{seen_by};
 ghost use Rattle.protobuf_parse_syntax.specs.Code.{begins_part};
 ghost use Rattle.protobuf_parse_syntax.specs.Nested as nest;
@@ -26,7 +26,7 @@ use std::alloc::Global;
 const MAX_OTHER_PARTS: usize = 99;
 
 /// `option = "option" optname "=" constant ";"`
-#[tactic(auto, unfolding(crate::specs::Nested::option_pair), using(crate::specs::Code::fails_first))]
+#[tactic(auto, unfolding(crate::specs::Nested::option_parts))]
 pub fn option(
     alloc: Global,
     tokens: &mut Cursor<'_, '_>,
@@ -43,7 +43,7 @@ pub fn option(
 }
 
 /// `[ "[" optname "=" constant { "," optname "=" constant } "]" ]`
-#[tactic(auto, unfolding(crate::specs::Nested::options_pair), using(crate::specs::Code::fails_first))]
+#[tactic(auto, unfolding(crate::specs::Nested::options_pair))]
 pub fn options(
     alloc: Global,
     tokens: &mut Cursor<'_, '_>,
@@ -55,29 +55,53 @@ pub fn options(
     if !tokens.sees_symbol('[') {
         return Ok(Vec::new(alloc));
     }
+    bracketed_options(alloc, tokens, levels)
+}
+
+/// `"[" optname "=" constant { "," optname "=" constant } "]"`
+#[tactic(auto, unfolding(crate::specs::Nested::bracket_parts))]
+fn bracketed_options(
+    alloc: Global,
+    tokens: &mut Cursor<'_, '_>,
+    levels: usize,
+) -> Result<Vec<ProtobufOption>, Refusal>
+    ensures { Gives (λ v. map view.option_view v.items) result (left tokens.new)
+        ((nest.bracketed_options levels).low.run (left tokens.old)) }
+{
     tokens.symbol('[')?;
     let options = assignments(alloc, tokens, levels)?;
     tokens.symbol(']')?;
     Ok(options)
 }
 
-#[tactic(auto, unfolding(crate::specs::Nested::assignments), using(crate::specs::Code::fails_first))]
 fn assignments(
     alloc: Global,
     tokens: &mut Cursor<'_, '_>,
     levels: usize,
 ) -> Result<Vec<ProtobufOption>, Refusal>
-    ensures { Gives (λ v. map view.option_view v.items) result (left tokens.new)
-        ((nest.assignments levels).low.run (left tokens.old)) }
+    ensures { GivesOr (LongName (left tokens.old)) (λ v. map view.option_view v.items) result
+        (left tokens.new) ((nest.assignments levels).low.run (left tokens.old)) }
 {
     let mut options = Vec::new(alloc);
     options.push(assignment(alloc, tokens, levels)?)?;
     'others: while tokens.sees_symbol(',') {
-        tokens.symbol(',')?;
-        let option = assignment(alloc, tokens, levels)?;
+        let option = comma_assignment(alloc, tokens, levels)?;
         options.push(option)?;
     }
     Ok(options)
+}
+
+/// `"," optname "=" constant`
+fn comma_assignment(
+    alloc: Global,
+    tokens: &mut Cursor<'_, '_>,
+    levels: usize,
+) -> Result<ProtobufOption, Refusal>
+    ensures { Gives view.option_view result (left tokens.new)
+        ((nest.comma_assignment levels).low.run (left tokens.old)) }
+{
+    tokens.symbol(',')?;
+    assignment(alloc, tokens, levels)
 }
 
 /// `optname "=" constant`
@@ -87,7 +111,7 @@ fn assignment(
     tokens: &mut Cursor<'_, '_>,
     levels: usize,
 ) -> Result<ProtobufOption, Refusal>
-    ensures { Gives view.option_view result (left tokens.new)
+    ensures { GivesOr (LongName (left tokens.old)) view.option_view result (left tokens.new)
         ((nest.assignment levels).low.run (left tokens.old)) }
 {
     let name = option_name(alloc, tokens)?;
@@ -99,7 +123,7 @@ fn assignment(
 /// `optname = optpart { "." optpart }`, of at most 100 parts
 #[tactic(auto, unfolding(crate::specs::Productions::option_name_parts), using(crate::specs::Code::fails_first))]
 fn option_name(alloc: Global, tokens: &mut Cursor<'_, '_>) -> Result<ProtobufOptionName, Refusal>
-    ensures { Gives view.option_name_view result (left tokens.new)
+    ensures { GivesOr (LongName (left tokens.old)) view.option_name_view result (left tokens.new)
         (read.option_name.run (left tokens.old)) }
 {
     let first = option_part(alloc, tokens)?;

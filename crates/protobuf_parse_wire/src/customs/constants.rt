@@ -12,7 +12,7 @@ ghost use Rattle.protobuf_parse_wire.specs.CustomFaults.{string_value_faults, tr
 ghost use Rattle.protobuf_parse_wire.specs.CustomFaults.{value_faults};
 ghost use Rattle.protobuf_parse_wire.specs.CustomOptions.{item_of, item_of_message, value_items};
 ghost use Rattle.protobuf_parse_wire.specs.Given.{field_faults_of, given_field_items, given_faults};
-ghost use Rattle.protobuf_parse_wire.specs.Given.{option_place_view};
+ghost use Rattle.protobuf_parse_wire.specs.Given.{option_place_view, path_said};
 ghost use Rattle.protobuf_parse_wire.specs.Holding.{files_seen};
 ghost use Rattle.protobuf_parse_wire.specs.OptionFields.{type_takes, type_name_of};
 ghost use Rattle.protobuf_parse_wire.specs.Views.{entry_view};
@@ -26,7 +26,7 @@ use crate::customs::values::{
 };
 use crate::entry::{Entry, EntryValue};
 use protobuf_parse_model::{ElabErrorKind, ElabFailure, FieldDescriptorProto, FieldType};
-use protobuf_parse_syntax::{ConstantField, ProtobufConstant, StrLit};
+use protobuf_parse_syntax::{ConstantField, ProtobufConstant, ProtobufOptionNamePart, StrLit};
 use std::alloc::Global;
 
 /// Adds the entries that the constant gives to the field, for the option of that name.
@@ -35,13 +35,14 @@ pub fn push_value(
     value: &ProtobufConstant,
     alloc: Global,
     at: &OptionPlace<'_, '_>,
-    option: &str,
+    option: &[ProtobufOptionNamePart],
     field: &FieldDescriptorProto,
     entries: &mut Vec<Entry>,
 ) -> Result<(), ElabFailure>
     ensures { let s = option_place_view at.now in let f = field_view field.now in
         let c = constant_view value.now in
-        Elaborates (λ u. map entry_view entries.new.items) result (value_faults s option.now f c)
+        Elaborates (λ u. map entry_view entries.new.items) result
+        (value_faults s (path_said option.now) f c)
         (map entry_view entries.old.items ++ value_items s f c) }
 {
     match value {
@@ -93,14 +94,15 @@ fn push_truth(
 fn push_value_name(
     alloc: Global,
     at: &OptionPlace<'_, '_>,
-    option: &str,
+    option: &[ProtobufOptionNamePart],
     field: &FieldDescriptorProto,
     name: &str,
     entries: &mut Vec<Entry>,
 ) -> Result<(), ElabFailure>
     ensures { let s = option_place_view at.now in let f = field_view field.now in
         let c = dotted name.now in
-        Elaborates (λ u. map entry_view entries.new.items) result (value_faults s option.now f c)
+        Elaborates (λ u. map entry_view entries.new.items) result
+        (value_faults s (path_said option.now) f c)
         (map entry_view entries.old.items ++ value_items s f c) }
 {
     let number = lookup::number_of_value(at.known, type_name_of(field), name);
@@ -113,14 +115,14 @@ fn push_value_name(
 
 fn push_string(
     alloc: Global,
-    option: &str,
+    option: &[ProtobufOptionNamePart],
     field: &FieldDescriptorProto,
     string: &StrLit,
     entries: &mut Vec<Entry>,
 ) -> Result<(), ElabFailure>
     ensures { let f = field_view field.now in let pieces = pieces_of string.now in
         Elaborates (λ u. map entry_view entries.new.items) result
-        (string_value_faults option.now f.name (type_takes f.type_) pieces)
+        (string_value_faults (path_said option.now) f.name (type_takes f.type_) pieces)
         (map entry_view entries.old.items ++ item_of f
         (trees.bytes (unwrap_or (decode pieces) []))) }
 {
@@ -136,14 +138,14 @@ fn push_list(
     items: &[ProtobufConstant],
     alloc: Global,
     at: &OptionPlace<'_, '_>,
-    option: &str,
+    option: &[ProtobufOptionNamePart],
     field: &FieldDescriptorProto,
     entries: &mut Vec<Entry>,
 ) -> Result<(), ElabFailure>
     ensures { let s = option_place_view at.now in let f = field_view field.now in
         let cs = map constant_view items.now in
         Elaborates (λ u. map entry_view entries.new.items) result
-        (flat_map (value_faults s option.now f) cs)
+        (flat_map (value_faults s (path_said option.now) f) cs)
         (map entry_view entries.old.items ++ flat_map (value_items s f) cs) }
 {
     'items: for item in items {
@@ -158,7 +160,7 @@ fn push_message(
     fields: &[ConstantField],
     alloc: Global,
     at: &OptionPlace<'_, '_>,
-    option: &str,
+    option: &[ProtobufOptionNamePart],
     field: &FieldDescriptorProto,
     entries: &mut Vec<Entry>,
 ) -> Result<(), ElabFailure>
@@ -166,7 +168,7 @@ fn push_message(
         let fs = map constant_field_view fields.now in
         Elaborates (λ u. map entry_view entries.new.items) result
         (message_value_faults f.name (type_takes f.type_)
-        (flat_map (field_faults_of s option.now (type_name_of f)) fs))
+        (flat_map (field_faults_of s (path_said option.now) (type_name_of f)) fs))
         (map entry_view entries.old.items ++ item_of_message f
         (flat_map (given_field_items s (type_name_of f)) fs)) }
 {
@@ -187,13 +189,13 @@ fn push_fields(
     fields: &[ConstantField],
     alloc: Global,
     at: &OptionPlace<'_, '_>,
-    option: &str,
+    option: &[ProtobufOptionNamePart],
     message: &str,
     entries: &mut Vec<Entry>,
 ) -> Result<(), ElabFailure>
     ensures { let s = option_place_view at.now in let fs = map constant_field_view fields.now in
         Elaborates (λ u. map entry_view entries.new.items) result
-        (flat_map (field_faults_of s option.now message.now) fs)
+        (flat_map (field_faults_of s (path_said option.now) message.now) fs)
         (map entry_view entries.old.items ++ flat_map (given_field_items s message.now) fs) }
 {
     'fields: for field in fields {
@@ -208,13 +210,13 @@ fn push_field(
     field: &ConstantField,
     alloc: Global,
     at: &OptionPlace<'_, '_>,
-    option: &str,
+    option: &[ProtobufOptionNamePart],
     message: &str,
     entries: &mut Vec<Entry>,
 ) -> Result<(), ElabFailure>
     ensures { let s = option_place_view at.now in let f = constant_field_view field.now in
         Elaborates (λ u. map entry_view entries.new.items) result
-        (field_faults_of s option.now message.now f)
+        (field_faults_of s (path_said option.now) message.now f)
         (map entry_view entries.old.items ++ given_field_items s message.now f) }
 {
     let known = constant_field(alloc, at, message, &field.name)?;
@@ -228,13 +230,14 @@ pub fn push_given(
     value: &ProtobufConstant,
     alloc: Global,
     at: &OptionPlace<'_, '_>,
-    option: &str,
+    option: &[ProtobufOptionNamePart],
     field: &FieldDescriptorProto,
     entries: &mut Vec<Entry>,
 ) -> Result<(), ElabFailure>
     ensures { let s = option_place_view at.now in let f = field_view field.now in
         let c = constant_view value.now in
-        Elaborates (λ u. map entry_view entries.new.items) result (given_faults s option.now c f)
+        Elaborates (λ u. map entry_view entries.new.items) result
+        (given_faults s (path_said option.now) c f)
         (map entry_view entries.old.items ++ value_items s f c) }
 {
     check_number(alloc, field)?;

@@ -1,8 +1,7 @@
 //! Looking up what files declare, by name.
 
-ghost use Rattle.std.specs.Prelude.{◌≡◌, flat_map, map, option_map, string_bytes, IfOk};
+ghost use Rattle.std.specs.Prelude.{◌≡◌, flat_map, map, option_map, IfOk};
 ghost use Rattle.protobuf_parse_model.specs.SeenFiles.{name_texts};
-ghost use Rattle.protobuf_parse_model.specs.Declarations as names;
 ghost use Rattle.protobuf_parse_model.specs.Descriptors.{enum_value_view, field_view};
 ghost use Rattle.protobuf_parse_model.specs.Lookup.{declared, meaning};
 ghost use Rattle.protobuf_parse_wire.specs.Declarations.{declared_extensions};
@@ -15,7 +14,7 @@ ghost use Rattle.protobuf_parse_wire.specs.OptionFields.{number_of_value};
 use crate::customs::known_files::KnownFiles;
 use crate::customs::spots::{field_of, first_extension, first_message, number_of};
 use crate::reader::groups;
-use protobuf_parse_model::{EnumValueDescriptorProto, FieldDescriptorProto};
+use protobuf_parse_model::{EnumValueDescriptorProto, FieldDescriptorProto, full_name};
 use std::alloc::{AllocError, Global};
 
 // ---- fields of messages
@@ -64,11 +63,8 @@ pub fn is_message(known: &KnownFiles<'_>, name: &str) -> bool
 pub fn number_of_value(known: &KnownFiles<'_>, enum_name: &str, name: &str) -> Option<i32>
     ensures { result ≡ number_of_value (files_seen known.now.reach) enum_name.now name.now }
 {
-    number_of(
-        &known.reach,
-        groups::group(&known.places.enums, enum_name),
-        name,
-    )
+    let enums = groups::group(&known.places.enums, enum_name);
+    number_of(&known.reach, enums, name)
 }
 
 /// The number of the first value of that name.
@@ -117,18 +113,4 @@ fn declared<'a>(known: &KnownFiles<'a>, name: &str) -> Option<&'a FieldDescripto
         (flat_map declared_extensions (files_seen known.now.sight)) name.now }
 {
     first_extension(&known.sight, groups::group(&known.places.extensions, name))
-}
-
-/// The full name of what has the name in the scope.
-fn full_name(alloc: Global, scope: &[&str], name: &str) -> Result<String, AllocError>
-    ensures { IfOk result (λ s. string_bytes s ≡ names.full_name (name_texts scope.now) name.now) }
-{
-    let mut text = String::new(alloc);
-    'scope: for outer in scope {
-        text.push('.')?;
-        text.push_str(outer)?;
-    }
-    text.push('.')?;
-    text.push_str(name)?;
-    Ok(text)
 }

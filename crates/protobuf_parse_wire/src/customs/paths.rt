@@ -8,7 +8,8 @@ ghost use Rattle.protobuf_parse_model.specs.Environment.{part_text};
 ghost use Rattle.protobuf_parse_model.specs.Faults.{Blames, Elaborates, Fault};
 ghost use Rattle.protobuf_parse_wire.specs.CustomFaults.{part_faults, path_faults, step_faults};
 ghost use Rattle.protobuf_parse_wire.specs.CustomOptions.{path_items};
-ghost use Rattle.protobuf_parse_wire.specs.Given.{option_place_view, through_faults, through_items};
+ghost use Rattle.protobuf_parse_wire.specs.Given.{option_place_view, path_said};
+ghost use Rattle.protobuf_parse_wire.specs.Given.{through_faults, through_items};
 ghost use Rattle.protobuf_parse_wire.specs.OptionFields.{messages, part_field, type_takes};
 ghost use Rattle.protobuf_parse_wire.specs.Views.{entry_view};
 
@@ -28,7 +29,7 @@ pub fn push_path(
     parts: &[ProtobufOptionNamePart],
     alloc: Global,
     at: &OptionPlace<'_, '_>,
-    option: &str,
+    option: &[ProtobufOptionNamePart],
     value: &ProtobufConstant,
     message: &str,
     entries: &mut Vec<Entry>,
@@ -36,7 +37,7 @@ pub fn push_path(
     ensures { let s = option_place_view at.now in let ps = map option_part_view parts.now in
         let c = constant_view value.now in
         Elaborates (λ u. map entry_view entries.new.items) result
-        (path_faults s option.now c message.now ps)
+        (path_faults s (path_said option.now) c message.now ps)
         (map entry_view entries.old.items ++ path_items s c message.now ps) }
 {
     let [part, others @ ..] = parts else {
@@ -56,7 +57,7 @@ fn push_first(
     part: &ProtobufOptionNamePart,
     alloc: Global,
     at: &OptionPlace<'_, '_>,
-    option: &str,
+    option: &[ProtobufOptionNamePart],
     value: &ProtobufConstant,
     message: &str,
     entries: &mut Vec<Entry>,
@@ -64,7 +65,7 @@ fn push_first(
     ensures { let s = option_place_view at.now in let p = option_part_view part.now in
         let ps = map option_part_view others.now in let c = constant_view value.now in
         Elaborates (λ u. map entry_view entries.new.items) result
-        (part_faults s message.now p ++ flat_map (through_faults s option.now c p ps)
+        (part_faults s message.now p ++ flat_map (through_faults s (path_said option.now) c p ps)
         (option_to_list (part_field s message.now p)))
         (map entry_view entries.old.items ++ flat_map (through_items s c ps)
         (option_to_list (part_field s message.now p))) }
@@ -81,7 +82,7 @@ fn push_through(
     part: &ProtobufOptionNamePart,
     alloc: Global,
     at: &OptionPlace<'_, '_>,
-    option: &str,
+    option: &[ProtobufOptionNamePart],
     value: &ProtobufConstant,
     field: &FieldDescriptorProto,
     entries: &mut Vec<Entry>,
@@ -90,7 +91,7 @@ fn push_through(
         let ps = map option_part_view others.now in let c = constant_view value.now in
         let f = field_view field.now in
         Elaborates (λ u. map entry_view entries.new.items) result
-        (through_faults s option.now c p ps f)
+        (through_faults s (path_said option.now) c p ps f)
         (map entry_view entries.old.items ++ through_items s c ps f) }
 {
     check_number(alloc, field)?;
@@ -115,7 +116,7 @@ pub fn push_last(
     part: &ProtobufOptionNamePart,
     alloc: Global,
     at: &OptionPlace<'_, '_>,
-    option: &str,
+    option: &[ProtobufOptionNamePart],
     value: &ProtobufConstant,
     message: &str,
     entries: &mut Vec<Entry>,
@@ -123,7 +124,7 @@ pub fn push_last(
     ensures { let s = option_place_view at.now in let ps = option_part_view part.now ∷ [] in
         let c = constant_view value.now in
         Elaborates (λ u. map entry_view entries.new.items) result
-        (path_faults s option.now c message.now ps)
+        (path_faults s (path_said option.now) c message.now ps)
         (map entry_view entries.old.items ++ path_items s c message.now ps) }
 {
     let field = part_field(alloc, at, message, part)?;

@@ -19,7 +19,7 @@ use crate::customs::paths::push_path;
 use crate::customs::refuse::fault;
 use crate::encoder::encode;
 use crate::entry::Entry;
-use protobuf_parse_model::{Construct, ElabErrorKind, ElabFailure, has_builtin_option, path_text};
+use protobuf_parse_model::{Construct, ElabErrorKind, ElabFailure, has_builtin_option};
 use protobuf_parse_syntax::{
     ProtobufConstant, ProtobufOption, ProtobufOptionName, ProtobufOptionNamePart,
 };
@@ -101,9 +101,8 @@ fn push_custom(
     match first {
         ProtobufOptionNamePart::Direct(name) => Err(plain_first(alloc, construct, name)),
         ProtobufOptionNamePart::Ext(_) => {
-            let option = path_text(alloc, parts)?;
             let message = options_message(construct);
-            push_path(parts, alloc, at, &option, value, message, entries)
+            push_path(parts, alloc, at, parts, value, message, entries)
         }
     }
 }

@@ -6,26 +6,31 @@ ghost use Rattle.protobuf_parse_syntax.specs.Trees.{pieces_of};
 ghost use Rattle.protobuf_parse_syntax.specs.declared.lexer.str_lit.StrLitDecodeError.TheVariants.{Memory};
 ghost use Rattle.protobuf_parse_model.specs.BuiltinOptions.{string_faults};
 ghost use Rattle.protobuf_parse_model.specs.Descriptors.{field_view};
-ghost use Rattle.protobuf_parse_model.specs.Faults.{Elaborates};
+ghost use Rattle.protobuf_parse_model.specs.Duplicates as duplicates;
+ghost use Rattle.protobuf_parse_model.specs.Faults.{Blames, Elaborates};
+ghost use Rattle.protobuf_parse_model.specs.declared.error.ElabErrorKind.TheVariants.{StrLitDecode};
 ghost use Rattle.protobuf_parse_wire.specs.CustomFaults.{string_value_faults};
+ghost use Rattle.protobuf_parse_wire.specs.Given.{path_said};
 ghost use Rattle.protobuf_parse_wire.specs.OptionFields.{type_takes};
 
 use crate::customs::refuse::{fault, not_taken};
-use protobuf_parse_model::{ElabErrorKind, ElabFailure, FieldDescriptorProto, FieldType};
-use protobuf_parse_syntax::{StrLit, StrLitDecodeError};
+use protobuf_parse_model::{
+    ElabErrorKind, ElabFailure, FieldDescriptorProto, FieldType, path_text,
+};
+use protobuf_parse_syntax::{ProtobufOptionNamePart, StrLit, StrLitDecodeError};
 use std::alloc::{AllocError, Global};
 
 /// The bytes of the string that the option of that name gives to the field. E9 for one that says
 /// nothing, of a text field too for one that is no text.
 pub fn bytes_given(
     alloc: Global,
-    option: &str,
+    option: &[ProtobufOptionNamePart],
     field: &FieldDescriptorProto,
     string: &StrLit,
 ) -> Result<Vec<u8>, ElabFailure>
     ensures { let f = field_view field.now in let pieces = pieces_of string.now in
         Elaborates (λ v. v.items) result
-        (string_value_faults option.now f.name (type_takes f.type_) pieces)
+        (string_value_faults (path_said option.now) f.name (type_takes f.type_) pieces)
         (unwrap_or (decode pieces) []) }
 {
     match field.type_ {
@@ -35,31 +40,49 @@ pub fn bytes_given(
     }
 }
 
-fn text_said(alloc: Global, option: &str, string: &StrLit) -> Result<Vec<u8>, ElabFailure>
+fn text_said(
+    alloc: Global,
+    option: &[ProtobufOptionNamePart],
+    string: &StrLit,
+) -> Result<Vec<u8>, ElabFailure>
     ensures { let pieces = pieces_of string.now in
-        Elaborates (λ v. v.items) result (string_faults option.now (text_of pieces))
+        Elaborates (λ v. v.items) result (string_faults (path_said option.now) (text_of pieces))
         (unwrap_or (decode pieces) []) }
 {
     match string.decode_utf8(alloc) {
         Ok(text) => Ok(text.into_bytes()),
         Err(error) => {
             check_memory(error)?;
-            Err(fault(alloc, ElabErrorKind::StrLitDecode, option))
+            Err(says_nothing(alloc, option))
         }
     }
 }
 
-fn bytes_said(alloc: Global, option: &str, string: &StrLit) -> Result<Vec<u8>, ElabFailure>
+fn bytes_said(
+    alloc: Global,
+    option: &[ProtobufOptionNamePart],
+    string: &StrLit,
+) -> Result<Vec<u8>, ElabFailure>
     ensures { let pieces = pieces_of string.now in
-        Elaborates (λ v. v.items) result (string_faults option.now (decode pieces))
+        Elaborates (λ v. v.items) result (string_faults (path_said option.now) (decode pieces))
         (unwrap_or (decode pieces) []) }
 {
     match string.decode_bytes(alloc) {
         Ok(bytes) => Ok(bytes),
         Err(error) => {
             check_memory(error)?;
-            Err(fault(alloc, ElabErrorKind::StrLitDecode, option))
+            Err(says_nothing(alloc, option))
         }
+    }
+}
+
+/// The failure for a string that says nothing, by the option's name: E9.
+fn says_nothing(alloc: Global, option: &[ProtobufOptionNamePart]) -> ElabFailure
+    ensures { Blames result (duplicates.fault StrLitDecode (path_said option.now)) }
+{
+    match path_text(alloc, option) {
+        Ok(name) => fault(alloc, ElabErrorKind::StrLitDecode, &name),
+        Err(_) => ElabFailure::Memory,
     }
 }
 

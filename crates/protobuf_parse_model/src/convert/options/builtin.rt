@@ -20,7 +20,7 @@ pub fn has_builtin_option(construct: Construct, name: &str) -> bool
 }
 
 /// The built-in options of the construct.
-fn table_of(construct: Construct) -> Table
+pub fn table_of(construct: Construct) -> Table
     ensures { table_seen result.now ≡ table_of construct }
 {
     match construct {

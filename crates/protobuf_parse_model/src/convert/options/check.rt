@@ -12,9 +12,11 @@ ghost use Rattle.protobuf_parse_model.specs.Duplicates.{stands_in};
 ghost use Rattle.protobuf_parse_model.specs.Environment.{customs_bytes, customs_faults};
 ghost use Rattle.protobuf_parse_model.specs.Faults.{Elaborates};
 ghost use Rattle.protobuf_parse_model.specs.Fields.{field_option_faults, field_options_faults};
+ghost use Rattle.protobuf_parse_model.specs.OptionTables.{table_of};
 ghost use Rattle.protobuf_parse_model.specs.OptionViews.{entry_seen, kind_seen, options_seen};
 ghost use Rattle.protobuf_parse_model.specs.OptionViews.{table_seen};
 
+use crate::convert::options::builtin::table_of;
 use crate::convert::options::strings::text_given;
 use crate::convert::options::tables::{BuiltinKind, field_table};
 use crate::convert::refuse::fault;
@@ -24,24 +26,23 @@ use crate::scope::Context;
 use protobuf_parse_syntax::{ProtobufConstant, ProtobufOption, ProtobufOptionName};
 use std::alloc::Global;
 
-/// What the custom options of a construct become that has the built-in options of the table, once
-/// these are checked: E9 for a string that is no text, E11 for a name that the table doesn't have,
-/// E12 for `uninterpreted_option`, E13 for a value of another kind.
+/// What the custom options of a construct become, once its built-in options are checked: E9 for a
+/// string that is no text, E11 for a name that the construct has no option of, E12 for
+/// `uninterpreted_option`, E13 for a value of another kind.
 #[tactic(auto, using(crate::proofs::Blaming::blames_left, crate::proofs::Blaming::blames_right))]
 pub fn checked_customs<C: CustomOptions>(
     alloc: Global,
     context: &Context<'_>,
     custom: &C,
     construct: Construct,
-    table: &[(&str, BuiltinKind)],
     options: &[&ProtobufOption],
 ) -> Result<Vec<u8>, ElabFailure>
     ensures { let env = environment_in (C.customs custom.now) context.now in
         let os = options_seen options.now in
-        Elaborates (λ v. v.items) result (construct_faults env construct (table_seen table.now) os)
+        Elaborates (λ v. v.items) result (construct_faults env construct (table_of construct) os)
         (customs_bytes env construct os) }
 {
-    check_options(alloc, table, options)?;
+    check_options(alloc, table_of(construct), options)?;
     custom.bytes(alloc, construct, context.scope, options)
 }
 

@@ -25,18 +25,18 @@ returns g c =
     (flat_map (extension_faults_of env e.extendee) (map field_statement_view xs) ≡ [])
     × (fields_view declared ≡ fields_declared env (extending env e.extendee)
     (map field_statement_view xs))) c.deref-2.ensures.value by_name in
-    let extensions = ap (map field_view) c.in_ok-append.ensures.items
+    let extensions = ap (map field_view) c.in_ok-append_declared.ensures.fields
     ∙ map-append field_view old.extension.items _ in
-    let nested = ap (map message_view) c.in_ok-append-2.ensures.items
+    let nested = ap (map message_view) c.in_ok-append_declared.ensures.messages
     ∙ map-append message_view old.nested_type.items _ in (
       d.0,
       with_extend env old
           (record {
             field = old.field;
             oneof_decl = old.oneof_decl;
-            nested_type = c.append-2.new.self;
+            nested_type = c.append_declared.new.messages;
             enum_type = old.enum_type;
-            extension = c.append.new.self;
+            extension = c.append_declared.new.fields;
           }) e (fields_view declared) d.1
           extensions nested refl refl refl,
     )

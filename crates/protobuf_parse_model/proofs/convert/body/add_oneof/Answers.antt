@@ -18,18 +18,18 @@ returns g c =
     let o = c.in_ok-descriptor.ensures in
     let oneofs = ap (map oneof_view) c.in_ok-push.ensures.items
     ∙ map-append oneof_view old.oneof_decl.items _ in
-    let fields = ap (map field_view) c.in_ok-append.ensures.items
+    let fields = ap (map field_view) c.in_ok-append_declared.ensures.fields
     ∙ map-append field_view old.field.items _ in
-    let nested = ap (map message_view) c.in_ok-append-2.ensures.items
+    let nested = ap (map message_view) c.in_ok-append_declared.ensures.messages
     ∙ map-append message_view old.nested_type.items _ in (
       ap (λ z. z ++ construct_faults env of.Oneof oneof_table
           (options_in_oneof (oneof_seen c.args.oneof.now))) d.0 ∙ o.0,
       with_oneof env old
           (record {
-            field = c.append.new.self;
+            field = c.append_declared.new.fields;
             oneof_decl = c.push.new.self;
             nested_type =
-                c.append-2.new.self;
+                c.append_declared.new.messages;
             enum_type = old.enum_type;
             extension = old.extension;
           }) c.len.result

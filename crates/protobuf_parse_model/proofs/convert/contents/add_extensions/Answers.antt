@@ -25,18 +25,18 @@ returns g c =
     (flat_map (extension_faults_of env e.extendee) (map field_statement_view xs) ≡ [])
     × (fields_view declared ≡ fields_declared env (extending env e.extendee)
     (map field_statement_view xs))) c.deref-2.ensures.value by_name in
-    let extensions = ap (map field_view) c.in_ok-append.ensures.items
+    let extensions = ap (map field_view) c.in_ok-append_declared.ensures.fields
     ∙ map-append field_view old.extension.items _ in
-    let messages = ap (map message_view) c.in_ok-append-2.ensures.items
+    let messages = ap (map message_view) c.in_ok-append_declared.ensures.messages
     ∙ map-append message_view old.message_type.items _ in (
       d.0,
       file_with_extend env old
           (record {
-            message_type = c.append-2.new.self;
+            message_type = c.append_declared.new.messages;
             enum_type = old.enum_type;
             service =
                 old.service;
-            extension = c.append.new.self;
+            extension = c.append_declared.new.fields;
           }) e (fields_view declared) d.1 extensions
           messages refl refl,
     )

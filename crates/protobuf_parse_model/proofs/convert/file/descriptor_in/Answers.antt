@@ -1,7 +1,7 @@
-use Rattle.std.proofs.Common.{◌≡◌, ◌≤◌, ◌++◌, ◌∙◌, List, [], Some, ap, arith, flat_map, length, map}
+use Rattle.std.proofs.Common.{◌≡◌, ◌≤◌, ◌++◌, ◌∙◌, List, [], ap, arith, flat_map, length, map}
 use Rattle.std.proofs.Common.{subst, sum_by, sym}
 use Rattle.protobuf_parse_syntax.specs.Counts.{statement_count}
-use Rattle.protobuf_parse_syntax.specs.Dependencies.{FileImports, dependencies_of}
+use Rattle.protobuf_parse_syntax.specs.Dependencies.{dependencies_of}
 use Rattle.protobuf_parse_syntax.specs.Trees.{file_view, statement_view}
 use Rattle.protobuf_parse_syntax.specs.declared.tree.FileStatement.{FileStatement}
 use Rattle.protobuf_parse_syntax.proofs.Counts.{file_length}
@@ -31,7 +31,7 @@ pub imports_of-requires : goal.imports_of-requires
 imports_of-requires g c =
     omega (
       arith,
-      ap length c.deref-3.ensures.value,
+      ap length c.deref-2.ensures.value,
       file_length c.args.tree.now.statements.items,
       c.requires.few,
     )
@@ -65,20 +65,19 @@ returns g c =
     let no_options : construct_faults env of.File file_table (options_of_statements t.statements)
     ≡ [] = ap
     (λ z. construct_faults env of.File file_table
-    (options_of_statements (map statement_view z))) (sym c.deref-2.ensures.value)
+    (options_of_statements (map statement_view z))) (sym c.deref-3.ensures.value)
     ∙ c.in_ok-options.ensures.0 in
     let parts = c.in_ok-contents.ensures.1
     ∙ ap (λ z. parts_of_file env (map statement_view z)) c.deref.ensures.value in
     let options = c.in_ok-options.ensures.1
     ∙ ap (λ z. let os = options_of_statements (map statement_view z) in
-    file_options (customs_bytes env of.File os) os) c.deref-2.ensures.value in
+    file_options (customs_bytes env of.File os) os) c.deref-3.ensures.value in
     let lists = c.in_ok-imports.ensures
-    ∙ ap (λ z. dependencies_of (map statement_view z)) c.deref-3.ensures.value in
+    ∙ ap (λ z. dependencies_of (map statement_view z)) c.deref-2.ensures.value in
     let heading = c.in_ok-heading.ensures in (
       faultless (file_duplicates env t)
           (construct_faults env of.File file_table (options_of_statements t.statements))
           (flat_map (statement_faults env) t.statements) no_parts no_options,
-      same_file (ap Some heading.name) heading.package_name (ap Some heading.syntax)
-          (ap (λ (l : FileImports). l.paths) lists) (ap (λ (l : FileImports). l.public) lists)
-          (ap (λ (l : FileImports). l.weak) lists) parts options,
+      c.into_file.ensures
+          ∙ same_file heading.name heading.package_name heading.syntax lists parts options,
     )

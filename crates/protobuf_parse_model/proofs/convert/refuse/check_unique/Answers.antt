@@ -6,9 +6,11 @@ use Rattle.std.proofs.lemmas.List.{map_more}
 use Rattle.std.proofs.lemmas.Map.Text.{is_eq-slice_cmp}
 use Rattle.protobuf_parse_model.proofs.OrTests.{cond-true_or}
 use Rattle.protobuf_parse_model.proofs.Repeats.{stands_in-push}
-use Rattle.protobuf_parse_model.specs.Faults.{Among, Fault}
+use Rattle.protobuf_parse_model.specs.Faults.{Among, here, there, Blames, Fault}
+use Rattle.protobuf_parse_model.specs.declared.error.ElabFailure.{ElabFailure}
+use Rattle.protobuf_parse_model.specs.declared.error.ElabFailure.TheVariants as failure
 use Rattle.protobuf_parse_model.specs.declared.error.ElabErrorKind.TheVariants.{DuplicateName}
-use Rattle.protobuf_parse_model.specs.Duplicates.{stands_in, duplicates, repeats_after}
+use Rattle.protobuf_parse_model.specs.Duplicates.{stands_in, duplicates, fault, repeats_after}
 use Rattle.protobuf_parse_model.proofs.Blaming.{among_when}
 use Rattle.protobuf_parse_model.proofs.convert.refuse.check_unique.Goals as goal
 
@@ -21,6 +23,13 @@ duplicate name = record { kind = DuplicateName; what = name }
 rest_is : (names : List (Bor (List ℕ))) (i : ℕ) (d : Bor (List ℕ)) → i < length names
     → texts (drop i names) ≡ (get_or names i d).now ∷ texts (drop (i + 1) names)
 rest_is names i d lt = rw (add-one, drop-cons names i d) refl
+
+-- what tells the fault of a name tells a fault of the list, where it is there
+told : (e : ElabFailure) (t : List ℕ) (faults : List Fault) → Blames e (fault DuplicateName t)
+    → Among faults (duplicate t) → Blames e faults
+told failure.Memory t faults h is = tt
+told (failure.Fault f) t faults here is = is
+told (failure.Fault f) t faults (there h) is = elim h [ ]
 
 -- a name among those before it is a fault
 found_again : (names : List (Bor (List ℕ))) (i : ℕ) (d : Bor (List ℕ)) (t : List ℕ)
@@ -69,8 +78,9 @@ returns-then-not-is_new c =
     (record { ref_ptr = (0, 0); now = [] }) in
     let is_in = sym (c.loop-name.invariant.seen d)
     ∙ was_in _ _ c.in_ok-is_new.ensures.added c.if-not-is_new.true in
-    found_again c.args.names.now c.loop-name.name-index _ _ c.loop-name-test.true is_in
-    (sym c.in_ok-from_str.ensures.ok) c.loop-name.invariant.none_yet
+    told c.fault.result _ _ c.fault.ensures
+    (found_again c.args.names.now c.loop-name.name-index _ _ c.loop-name-test.true is_in refl
+    c.loop-name.invariant.none_yet)
 
 pub loop-name-preserved : goal.loop-name-preserved
 loop-name-preserved c =

@@ -1,4 +1,4 @@
-use Rattle.std.proofs.Common.{◌≡◌, List, ◌++◌, ◌∷◌, [], map, string_bytes, sym, ap, ◌∙◌}
+use Rattle.std.proofs.Common.{◌≡◌, List, ◌++◌, ◌∷◌, [], map, string_bytes, inl, sym, ap, ◌∙◌}
 use Rattle.std.proofs.lemmas.Result.{err_from_is_err_and}
 use Rattle.protobuf_parse_base.specs.Readers.{read}
 use Rattle.protobuf_parse_syntax.specs.Trees as tree
@@ -43,8 +43,8 @@ pub returns-in_err-first : goal.returns-in_err-first
 returns-in_err-first c =
     let p = err_from_is_err_and c.from_residual.result c.from_residual.ensures.1 in
     rw (p.1, p.2)
-    (fails_at_first c.in_err-first.field-0.0 (left c.args.tokens.now)
-    (left c.option_part.new.tokens) c.in_err-first.ensures)
+    (inl (fails_at_first c.in_err-first.field-0.0 (left c.args.tokens.now)
+    (left c.option_part.new.tokens) c.in_err-first.ensures))
 
 pub returns-in_err-parts : goal.returns-in_err-parts
 returns-in_err-parts c =

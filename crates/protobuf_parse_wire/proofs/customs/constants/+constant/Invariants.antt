@@ -4,6 +4,7 @@ use Rattle.protobuf_parse_model.specs.Descriptors.{field_view}
 use Rattle.protobuf_parse_wire.specs.CustomFaults.{value_faults}
 use Rattle.protobuf_parse_wire.specs.CustomOptions.{value_items}
 use Rattle.protobuf_parse_wire.specs.Given.{field_faults_of, given_field_items, option_place_view}
+use Rattle.protobuf_parse_wire.specs.Given.{path_said}
 use Rattle.protobuf_parse_wire.specs.Views.{entry_view}
 use Rattle.protobuf_parse_wire.proofs.customs.constants.+constant.Given as goal
 
@@ -12,7 +13,7 @@ invariant-push_list-items l =
     let s = option_place_view l.at in
     let cs = map constant_view (take l.item-index l.items) in
     record {
-      no_fault : flat_map (value_faults s l.option (field_view l.field)) cs ≡ [];
+      no_fault : flat_map (value_faults s (path_said l.option) (field_view l.field)) cs ≡ [];
       all : map entry_view l.entries.items ≡ map entry_view l.fn.entries.items ++ flat_map
           (value_items s (field_view l.field)) cs;
     }
@@ -22,7 +23,7 @@ invariant-push_fields-fields l =
     let s = option_place_view l.at in
     let fs = map constant_field_view (take l.field-index l.fields) in
     record {
-      no_fault : flat_map (field_faults_of s l.option l.message) fs ≡ [];
+      no_fault : flat_map (field_faults_of s (path_said l.option) l.message) fs ≡ [];
       all : map entry_view l.entries.items ≡ map entry_view l.fn.entries.items ++ flat_map
           (given_field_items s l.message) fs;
     }

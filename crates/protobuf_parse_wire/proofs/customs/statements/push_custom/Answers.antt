@@ -1,4 +1,4 @@
-use Rattle.std.proofs.Common.{map, ◌∙◌, arith}
+use Rattle.std.proofs.Common.{map, arith}
 use Rattle.protobuf_parse_syntax.specs.Trees.{constant_view}
 use Rattle.protobuf_parse_wire.specs.Given.{option_place_view}
 use Rattle.protobuf_parse_wire.specs.Views.{entry_view}
@@ -12,12 +12,11 @@ returns-in-Direct c =
     c.deref.result.now (omega arith) c.first-item.is c.in-Direct.is c.deref.ensures
     c.plain_first.ensures
 
-pub returns-in_ok-option-in-Ext : goal.returns-in_ok-option-in-Ext
-returns-in_ok-option-in-Ext c =
+pub returns-in-Ext : goal.returns-in-Ext
+returns-in-Ext c =
     extension_given (λ u. map entry_view c.push_path.new.entries.items) c.push_path.result
     (option_place_view c.args.at.now) c.args.construct
     (constant_view c.args.value.now) c.args.parts.now
-    c.first-item.result c.in-Ext.field-0 c.deref-in-Ext.result.now
-    c.options_message-message.result.now (map entry_view c.args.entries.now.items) (omega arith)
-    c.first-item.is c.in-Ext.is (c.deref-in-Ext.ensures ∙ c.in_ok-option-in-Ext.ensures)
-    c.options_message-message.ensures c.push_path.ensures
+    c.first-item.result c.in-Ext.field-0 c.options_message-message.result.now
+    (map entry_view c.args.entries.now.items) (omega arith)
+    c.first-item.is c.in-Ext.is c.options_message-message.ensures c.push_path.ensures
