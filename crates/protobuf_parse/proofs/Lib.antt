@@ -31,4 +31,5 @@ pub mod Recovering
 pub mod Following
 pub mod Asking
 pub mod OptionLines
+pub mod Quoting
 mod Catching

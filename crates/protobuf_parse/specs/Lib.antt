@@ -15,3 +15,4 @@ pub mod Frames
 pub mod Stability
 pub mod Recovered
 pub mod Shipped
+pub mod Plain

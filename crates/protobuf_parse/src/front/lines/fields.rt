@@ -101,9 +101,9 @@ fn put_field_front(text: &mut String, field: &FieldDescriptorProto) -> Result<()
     ensures { OnOk result
         (string_bytes text.new ≡ string_bytes text.old ++ spec.field_front (field_view field.now)) }
 {
-    let label = label_word(field.label);
     let number = field.number;
-    write!(text, "{label} ")?;
+    text.push_str(label_word(field.label))?;
+    text.push_str(" ")?;
     put_type(text, field.type_, &field.type_name)?;
     text.push_str(" ")?;
     text.push_str(&field.name)?;

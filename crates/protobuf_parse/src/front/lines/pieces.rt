@@ -2,8 +2,11 @@
 
 ghost use Rattle.std.specs.Prelude.{◌≡◌, ◌+◌, ◌*◌, ◌++◌, IfOk, OnOk, flat_map, map, option_map};
 ghost use Rattle.std.specs.Prelude.{replicate};
+ghost use Rattle.std.specs.List.{list_all};
 ghost use Rattle.std.specs.String.{string_bytes};
+ghost use Rattle.protobuf_parse_base.specs.Escapes.{escaped_bytes};
 ghost use Rattle.protobuf_parse.specs.Listing as spec;
+ghost use Rattle.protobuf_parse.specs.Plain as plain;
 
 use protobuf_parse_base::text::escape_bytes;
 use std::alloc::{AllocError, Global};
@@ -96,10 +99,34 @@ pub fn quoted(alloc: Global, words: &str) -> Result<String, AllocError>
 pub fn put_quoted(alloc: Global, text: &mut String, words: &str) -> Result<(), AllocError>
     ensures { OnOk result (string_bytes text.new ≡ string_bytes text.old ++ spec.quoted words.now) }
 {
-    let escaped = escape_bytes(alloc, words.as_bytes())?;
     text.push_str("\"")?;
-    text.push_str(&escaped)?;
+    put_escaped(alloc, text, words)?;
     text.push_str("\"")
+}
+
+/// The words as they are escaped between double quotes: most as they are.
+fn put_escaped(alloc: Global, text: &mut String, words: &str) -> Result<(), AllocError>
+    ensures { OnOk result
+        (string_bytes text.new ≡ string_bytes text.old ++ escaped_bytes words.now) }
+{
+    if is_plain(words) {
+        return text.push_str(words);
+    }
+    let escaped = escape_bytes(alloc, words.as_bytes())?;
+    text.push_str(&escaped)
+}
+
+/// Whether each byte stands between double quotes as it is.
+fn is_plain(words: &str) -> bool
+    ensures { result ≡ list_all plain.is_plain_byte words.now }
+{
+    words.as_bytes().iter().all(|byte| is_plain_byte(*byte))
+}
+
+fn is_plain_byte(byte: u8) -> bool
+    ensures { result ≡ plain.is_plain_byte byte }
+{
+    !matches!(byte, b'"' | b'\'' | b'\\') && matches!(byte, 0x20..=0x7e)
 }
 
 /// A line `reserved_name "N"` each.
