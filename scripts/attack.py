@@ -203,6 +203,57 @@ def options(n):
     yield from block("message M", n, lambda i: f"option (xs) = {i};")
 
 
+FIVE_FIELDS = """  optional int32 first_field = 1;
+  optional string second_field = 2;
+  repeated uint64 third_field = 3;
+  optional bool fourth_field = 4;
+  optional double fifth_field = 5;
+"""
+
+
+def with_options(n, statements):
+    """n messages of five fields, each with these statements."""
+    yield OPTIONS + "enum Level { LOW = 0; HIGH = 1; }\n"
+    yield "message Tags { optional string name = 1; repeated int32 ids = 2; }\n"
+    yield "extend google.protobuf.MessageOptions {\n"
+    yield "  optional int32 weight = 50000; optional string owner = 50001;\n"
+    yield "  optional bool shown = 50002; optional Level level = 50003;\n"
+    yield "  optional Tags tags = 50004;\n}\n"
+    for i in range(n):
+        yield f"message Message{i} {{\n"
+        yield from (f"  option {it};\n" for it in statements(i))
+        yield FIVE_FIELDS + "}\n"
+
+
+def customs(n):
+    """n messages of five fields, each with five custom options."""
+    tags = '(tags) = { name: "some name" ids: [1, 2, 3] }'
+    yield from with_options(
+        n,
+        lambda i: [
+            f"(weight) = {i}",
+            f'(owner) = "team number {i}"',
+            "(shown) = true",
+            "(level) = HIGH",
+            tags,
+        ],
+    )
+
+
+def builtins(n):
+    """The same messages with five statements of built-in options each."""
+    yield from with_options(
+        n,
+        lambda i: [
+            "deprecated = true",
+            "message_set_wire_format = false",
+            "no_standard_descriptor_accessor = true",
+            "map_entry = false",
+            "deprecated = false",
+        ],
+    )
+
+
 def imports(n):
     """n public imports of one file that the library brings (refused: a file is imported twice)."""
     yield PROTO3
@@ -303,6 +354,7 @@ HELPERS = (
     word,
     colliding_front,
     colliding,
+    with_options,
 )
 ATTACKS = {
     name: it for name, it in list(globals().items()) if callable(it) and it not in HELPERS
