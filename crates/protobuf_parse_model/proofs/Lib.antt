@@ -22,6 +22,7 @@ pub mod Extending
 pub mod Orders
 pub mod Closing
 pub mod EachOne
+pub mod DeclaredMessages
 pub mod NamedTypes
 pub mod SameNames
 pub mod AddedFaults

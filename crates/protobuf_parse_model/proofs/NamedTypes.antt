@@ -2,7 +2,7 @@
 -- types.
 use Rattle.std.proofs.Common.{◌≡◌, ℕ, ◌+◌, ℤ, pos, Bool, true, false, List, [], ◌∷◌, ◌++◌, map}
 use Rattle.std.proofs.Common.{flat_map, length, Option, Some, None, is_some, IsSome, option_map}
-use Rattle.std.proofs.Common.{option_to_list, unwrap_or, if◌then◌else◌, codes, refl, sym, ap, subst}
+use Rattle.std.proofs.Common.{option_to_list, unwrap_or, if◌then◌else◌, codes, refl, ap, subst}
 use Rattle.std.proofs.Common.{◌∙◌}
 use Rattle.std.specs.List.{AllByRecursion}
 use Rattle.protobuf_parse_syntax.specs.Trees.{TypeSyntax, scalar, map_of, named, FieldSyntax}
@@ -22,7 +22,7 @@ use Rattle.protobuf_parse_model.specs.Descriptors.{Text, FieldDescriptor, Messag
 use Rattle.protobuf_parse_model.specs.Descriptors.{MessageDescriptor, messages_of_list}
 use Rattle.protobuf_parse_model.specs.Descriptors.{MethodDescriptor, ServiceDescriptor}
 use Rattle.protobuf_parse_model.specs.Descriptors.{FileDescriptor}
-use Rattle.protobuf_parse_model.specs.Faults.{Among, here, there, Fault}
+use Rattle.protobuf_parse_model.specs.Faults.{Among, Fault}
 use Rattle.protobuf_parse_model.specs.Duplicates.{fault_when, duplicates}
 use Rattle.protobuf_parse_model.specs.Statements.{group_body, message_body, entry_name, is_map}
 use Rattle.protobuf_parse_model.specs.Statements.{oneof_fields}
@@ -63,12 +63,12 @@ use Rattle.protobuf_parse_model.specs.FileDescriptor.{file_of, file_duplicates, 
 use Rattle.protobuf_parse_model.specs.NamedTypes.{in_message, in_messages, fields_in, extensions_in}
 use Rattle.protobuf_parse_model.specs.NamedTypes.{names_of_field, names_of_method, names_of_service}
 use Rattle.protobuf_parse_model.specs.NamedTypes.{type_names_in, has_name, names_declared}
-use Rattle.protobuf_parse_model.specs.NamedTypes.{if_message}
-use Rattle.protobuf_parse_model.specs.NamedTypes.{declared_message_name, messages_declared}
+use Rattle.protobuf_parse_model.specs.NamedTypes.{messages_declared}
 use Rattle.protobuf_parse_model.specs.NamedTypes.{NamesAreDeclared}
 use Rattle.protobuf_parse_model.specs.NamedTypes.{TypesAreNamed, ExtendeesAreNamed}
 use Rattle.protobuf_parse_model.specs.NamedTypes.{MessagesAreNamed}
 use Rattle.protobuf_parse_model.proofs.Blaming.{among_left, among_right}
+use Rattle.protobuf_parse_model.proofs.DeclaredMessages.{front, message-told, message-from}
 use Rattle.protobuf_parse_model.proofs.Lookups.{meaning_declared}
 use Rattle.protobuf_parse_model.proofs.Orders.{among-map}
 use Rattle.protobuf_parse_model.proofs.EachOne.{no-left, no-right, all-left, all-right, all-both}
@@ -685,46 +685,6 @@ module _ (P M : Text → Type 0) (any : (name : Text) → M name → P name) (cu
       (λ (d : FieldDescriptor) (k : ExtensionIsNamed d). k.is_field.each)
       (extensions_in f) h.extensions))
       h.services
-
--- ---- members
-
--- what stands in the first of two lists, or in a list with all of it
-front : {A : Type 0} (xs xs' zs : List A) (x : A) → ((y : A) → Among xs y → Among xs' y)
-    → Among (xs ++ zs) x → Among (xs' ++ zs) x
-front [] xs' zs x f h = among_right xs' h
-front (y ∷ xs) xs' zs _ f here = among_left zs (f y here)
-front (y ∷ xs) xs' zs x f (there h) = front xs xs' zs x (λ z k. f z (there k)) h
-
--- the same of the second
-back : {A : Type 0} (xs ys ys' : List A) (x : A) → (Among ys x → Among ys' x) → Among (xs ++ ys) x
-    → Among (xs ++ ys') x
-back [] ys ys' x f h = f h
-back (z ∷ xs) ys ys' _ f here = here
-back (z ∷ xs) ys ys' x f (there h) = there (back xs ys ys' x f h)
-
--- the name of a message is one of a type
-message-told : (ds : List DeclaredType) (n : Text) → Among (flat_map declared_message_name ds) n
-    → Among (map (λ (d : DeclaredType). d.name) ds) n
-message-told [] n h = elim h [ ]
-message-told (d ∷ ds) n h = at d.what h (message-told ds n)
-  where
-    at : (k : TypeKind) → Among (if_message k d.name ++ flat_map declared_message_name ds) n
-        → (Among (flat_map declared_message_name ds) n
-        → Among (map (λ (x : DeclaredType). x.name) ds) n)
-        → Among (map (λ (x : DeclaredType). x.name) (d ∷ ds)) n
-    at a_message k rest =
-        back (d.name ∷ []) (flat_map declared_message_name ds)
-        (map (λ (x : DeclaredType). x.name) ds) n rest k
-    at an_enum k rest = there (rest k)
-
--- a message that is declared has its name among those of messages
-message-from : (ds : List DeclaredType) (d : DeclaredType) → Among ds d → d.what ≡ a_message
-    → Among (flat_map declared_message_name ds) d.name
-message-from [] d h e = elim h [ ]
-message-from (d ∷ ds) _ here e =
-    among_left (flat_map declared_message_name ds)
-    (subst (λ (k : TypeKind). Among (if_message k d.name) d.name) (sym e) here)
-message-from (x ∷ ds) d (there h) e = among_right (declared_message_name x) (message-from ds d h e)
 
 -- ---- the laws
 
