@@ -1,4 +1,3 @@
-pub mod Appending
 pub mod Refusing
 pub mod Opening
 pub mod Keeping
@@ -30,6 +29,4 @@ pub mod Further
 pub mod Recovering
 pub mod Following
 pub mod Asking
-pub mod OptionLines
-pub mod Quoting
 mod Catching

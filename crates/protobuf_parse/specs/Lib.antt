@@ -1,7 +1,3 @@
-pub mod Listing
-pub mod Settings
-pub mod ListedOptions
-pub mod Parts
 pub mod Imports
 pub mod Walks
 pub mod Run
@@ -15,4 +11,3 @@ pub mod Frames
 pub mod Stability
 pub mod Recovered
 pub mod Shipped
-pub mod Plain

@@ -6,16 +6,14 @@ mod front;
 pub mod pure;
 mod run;
 
-pub use front::{
-    FsReader, FsResolver, ParsedAndTypechecked, Parser, builtin_options_are_listed, fs_resolver,
-    listing, program,
-};
+pub use front::{FsReader, FsResolver, ParsedAndTypechecked, Parser, fs_resolver, program};
 pub use protobuf_parse_base::names::{
     Components, ProtobufAbsPath, ProtobufAbsPathRef, ProtobufIdent, ProtobufIdentRef,
     ProtobufRelPath, ProtobufRelPathRef,
 };
 pub use protobuf_parse_base::proto_path::{PathError, ProtoPath, ProtoPathBuf};
 pub use protobuf_parse_base::text::{camel_case, snake_case};
+pub use protobuf_parse_listing::{builtin_options_are_listed, listing};
 pub use protobuf_parse_model::{
     CType, DescriptorProto, ElabError, ElabErrorKind, EnumDescriptorProto, EnumOptions,
     EnumReservedRange, EnumValueDescriptorProto, EnumValueOptions, ExtensionRange,

@@ -1,8 +1,8 @@
 //! The program `parse-and-typecheck`, over any two writers.
 
 use crate::front::builder::Parser;
-use crate::front::lines::listing;
 use crate::run::fault::RunFault;
+use protobuf_parse_listing::listing;
 use std::io::{self, Write};
 use std::rt::Files;
 use thiserror::Error;

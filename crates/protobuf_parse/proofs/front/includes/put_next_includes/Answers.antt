@@ -1,7 +1,7 @@
 use Rattle.std.proofs.Common.{sym, append-nil}
 use Rattle.std.specs.Prelude.{string_bytes}
 use Rattle.protobuf_parse.specs.Includes.{next_include}
-use Rattle.protobuf_parse.proofs.Appending.{appended_all, appended_next}
+use Rattle.protobuf_parse_listing.proofs.Appending.{appended_all, appended_next}
 use Rattle.protobuf_parse.proofs.front.includes.put_next_includes.Goals as goal
 
 pub loop-include-init : goal.loop-include-init

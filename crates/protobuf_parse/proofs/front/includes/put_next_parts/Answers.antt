@@ -1,6 +1,6 @@
 use Rattle.std.proofs.Common.{ℕ, List, Bor, sym, append-nil}
 use Rattle.protobuf_parse.specs.Includes.{part_behind}
-use Rattle.protobuf_parse.proofs.Appending.{appended_all}
+use Rattle.protobuf_parse_listing.proofs.Appending.{appended_all}
 use Rattle.protobuf_parse.proofs.Including.{appended-part}
 use Rattle.protobuf_parse.proofs.front.includes.put_next_parts.Goals as goal
 

@@ -1,0 +1,24 @@
+-- No public clause rests on this file.
+-- A message's lines, one level deep.
+use Rattle.std.specs.Prelude.{◌≡◌, ℕ, ◌+◌, List, [], ◌∷◌, ◌++◌, codes, flat_map, map, refl}
+use Rattle.std.specs.Prelude.{string_bytes}
+use Rattle.protobuf_parse_model.specs.Descriptors.{MessageDescriptor, messages_of_list}
+use Rattle.protobuf_parse_model.specs.Descriptors.{message_parts, message_view, message_view_is}
+use Rattle.protobuf_parse_model.specs.declared.descriptor.DescriptorProto.{DescriptorProto}
+use Rattle.protobuf_parse_model.specs.declared.descriptor.DescriptorProto.{out-DescriptorProto}
+use Rattle.protobuf_parse_listing.specs.Listing.{line, message_lines, all_message_lines, message_front}
+use Rattle.protobuf_parse_listing.specs.Listing.{message_middle, message_back}
+
+pub all_message_lines_is : (level : ℕ) (ms : List MessageDescriptor)
+    → all_message_lines level (messages_of_list ms) ≡ flat_map (message_lines level) ms
+all_message_lines_is level [] = refl
+all_message_lines_is level (m ∷ ms) = rw (all_message_lines_is level ms) refl
+
+pub message_lines_is : (level : ℕ) (m : DescriptorProto)
+    → message_lines level (message_view m)
+    ≡ line level (codes "message " ++ string_bytes (out-DescriptorProto m).name)
+    ++ (message_front (level + 1) (message_parts m)
+    ++ flat_map (message_lines (level + 1))
+    (map message_view (out-DescriptorProto m).nested_type.items)
+    ++ message_middle (level + 1) (message_parts m) ++ message_back (level + 1) (message_parts m))
+message_lines_is level m = rw (message_view_is m, all_message_lines_is) refl

@@ -1,0 +1,43 @@
+//! Descriptors as text: a line a construct, its parts below it and two spaces further in.
+#![tactic(auto)]
+
+mod declarations;
+mod fields;
+mod laws;
+mod pieces;
+mod settings;
+
+ghost use Rattle.std.specs.Prelude.{◌≡◌, IfOk, map};
+ghost use Rattle.std.specs.String.{string_bytes};
+ghost use Rattle.protobuf_parse_model.specs.Descriptors.{file_view};
+ghost use Rattle.protobuf_parse_listing.specs.Listing.{listing_of};
+
+use declarations::put_file;
+pub use laws::builtin_options_are_listed;
+use protobuf_parse_model::FileDescriptorProto;
+use std::alloc::{AllocError, Global};
+
+/// The listing of the files, in order. Each line ends with a line feed. An absent text prints as
+/// nothing.
+///
+/// | construct | line | below it, in this order |
+/// |---|---|---|
+/// | file | `file NAME` | `syntax S`, `package P` if present, `import PATH`, `import public PATH` or `import weak PATH` each, options, messages, enums, services, extensions |
+/// | options | `option NAME = VALUE` in the order of the options' numbers, then `custom HEX` if there are bytes | |
+/// | message | `message NAME` | options, fields, oneofs, nested messages, enums, extensions, `extension_range START END`, `reserved_range START END`, `reserved_name "N"` |
+/// | field | `field LABEL TYPE NAME = NUMBER json "J"`, and where set ` default "D"`, ` oneof INDEX`, ` proto3_optional` | options |
+/// | extension | `extension EXTENDEE` and the same from LABEL on | options |
+/// | oneof | `oneof NAME` | options |
+/// | enum | `enum NAME` | options, values, `reserved_range START END`, `reserved_name "N"` |
+/// | value | `value NAME = NUMBER` | options |
+/// | service | `service NAME` | options, methods |
+/// | method | `method NAME INPUT OUTPUT`, and where set ` client_streaming`, ` server_streaming` | options |
+pub fn listing(alloc: Global, files: &[FileDescriptorProto]) -> Result<String, AllocError>
+    ensures { IfOk result (λ s. string_bytes s ≡ listing_of (map file_view files.now)) }
+{
+    let mut text = String::new(alloc);
+    for file in files {
+        put_file(alloc, &mut text, file)?;
+    }
+    Ok(text)
+}
