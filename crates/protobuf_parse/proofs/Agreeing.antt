@@ -12,7 +12,7 @@ use Rattle.protobuf_parse_model.specs.FilesByPath.{AreDistinct, AreJust, leads, 
 use Rattle.protobuf_parse_model.specs.Linking.{before_others, link_faults}
 use Rattle.protobuf_parse_model.proofs.Orders.{SameMembers, first-among, just-same, link-none}
 use Rattle.protobuf_parse_model.proofs.Orders.{link-told, types-same}
-use Rattle.protobuf_parse_wire.specs.OptionBytes.{known_customs}
+use Rattle.protobuf_parse_options.specs.OptionBytes.{known_customs}
 use Rattle.protobuf_parse.specs.Walks.{Trees, Reaches, HandsOn, Sees, sees_itself, by_import, among}
 use Rattle.protobuf_parse.specs.Run.{Files, HasTrees, HaveTrees, IsTree, customs_of, environment_of}
 use Rattle.protobuf_parse.specs.Run.{faults_in, plain_of, plains_at, text_for}

@@ -5,7 +5,7 @@ use Rattle.std.proofs.Common.{subst, slice_get, length-append, flat_map}
 use Rattle.std.specs.Prelude.{option_to_list}
 use Rattle.std.proofs.lemmas.List.{length-map, map-append}
 use Rattle.protobuf_parse_model.specs.Descriptors.{FileDescriptor}
-use Rattle.protobuf_parse_wire.specs.Holding.{Holds}
+use Rattle.protobuf_parse_options.specs.Holding.{Holds}
 use Rattle.protobuf_parse.specs.Loading.{IndexBegins, LoadedEntry, IsWhole, picked_plains, plain_in}
 use Rattle.protobuf_parse.specs.Loading.{plains_with}
 use Rattle.protobuf_parse.specs.declared.run.tables.RunPlaces.{RunPlaces}

@@ -13,24 +13,24 @@ use Rattle.protobuf_parse_model.specs.FilesByPath.{among, leads, stays, trees_at
 use Rattle.protobuf_parse_model.specs.Linking.{before_others, link_faults}
 use Rattle.protobuf_parse_model.specs.OptionSets.{OptionSet, option_sets}
 use Rattle.protobuf_parse_model.specs.declared.descriptor.FileDescriptorProto.{FileDescriptorProto}
-use Rattle.protobuf_parse_wire.specs.CustomFaults.{custom_option_faults}
-use Rattle.protobuf_parse_wire.specs.CustomOptions.{denotes, scope_of}
+use Rattle.protobuf_parse_options.specs.CustomFaults.{custom_option_faults}
+use Rattle.protobuf_parse_options.specs.CustomOptions.{denotes, scope_of}
 use Rattle.protobuf_parse_wire.specs.Law.{said}
-use Rattle.protobuf_parse_wire.specs.OptionFields.{options_message}
-use Rattle.protobuf_parse_wire.specs.OptionLaw.{HasSmallValues}
+use Rattle.protobuf_parse_options.specs.OptionFields.{options_message}
+use Rattle.protobuf_parse_options.specs.OptionLaw.{HasSmallValues}
 use Rattle.protobuf_parse_wire.specs.Reading.{reader}
-use Rattle.protobuf_parse_wire.specs.Recovery.{AreReachedFiles, HasCustom, HaveDistinctNumbers}
+use Rattle.protobuf_parse_options.specs.Recovery.{AreReachedFiles, HasCustom, HaveDistinctNumbers}
 use Rattle.protobuf_parse_wire.specs.Trees.{Entries}
 use Rattle.protobuf_parse_wire.specs.Wire.{Spells}
-use Rattle.protobuf_parse_wire.proofs.Entered.{described}
-use Rattle.protobuf_parse_wire.proofs.EnumNumbers.{SmallFile, file_small, values_small}
-use Rattle.protobuf_parse_wire.proofs.OptionBytes.{option_bytes_spell}
-use Rattle.protobuf_parse_wire.proofs.Recovery.{plain_options_are_no_bytes}
-use Rattle.protobuf_parse_wire.proofs.RecoveryAbove.{options_are_recovered_above}
-use Rattle.protobuf_parse_wire.proofs.Sound.{text_sound}
-use Rattle.protobuf_parse_wire.proofs.WithoutOptions.{customs_are_options}
-use Rattle.protobuf_parse_wire.proofs.WithoutOptions.{customs_make_no_difference}
-use Rattle.protobuf_parse_wire.proofs.WithoutOptions.{meaning_ignores_options}
+use Rattle.protobuf_parse_options.proofs.Entered.{described}
+use Rattle.protobuf_parse_options.proofs.EnumNumbers.{SmallFile, file_small, values_small}
+use Rattle.protobuf_parse_options.proofs.OptionBytes.{option_bytes_spell}
+use Rattle.protobuf_parse_options.proofs.Recovery.{plain_options_are_no_bytes}
+use Rattle.protobuf_parse_options.proofs.RecoveryAbove.{options_are_recovered_above}
+use Rattle.protobuf_parse_options.proofs.Sound.{text_sound}
+use Rattle.protobuf_parse_options.proofs.WithoutOptions.{customs_are_options}
+use Rattle.protobuf_parse_options.proofs.WithoutOptions.{customs_make_no_difference}
+use Rattle.protobuf_parse_options.proofs.WithoutOptions.{meaning_ignores_options}
 use Rattle.protobuf_parse.specs.Walks.{Asked, Input, Reaches, elab_paths, events}
 use Rattle.protobuf_parse.specs.Run.{Files, FilesAreListed, RunEnds, HasTrees, IsTree, RunsAsTold}
 use Rattle.protobuf_parse.specs.Run.{environment_of, faults_in, plain_environments, plains_at}

@@ -6,9 +6,9 @@ use Rattle.protobuf_parse_model.specs.FilesByPath.{among, trees_at}
 use Rattle.protobuf_parse_model.specs.Linking.{link_faults}
 use Rattle.protobuf_parse_model.proofs.Orders.{SameMembers}
 use Rattle.protobuf_parse_syntax.proofs.PackageNames.{package_has_name}
-use Rattle.protobuf_parse_wire.specs.NamesAlike.{HasPackageName}
-use Rattle.protobuf_parse_wire.specs.OptionBytes.{known_customs}
-use Rattle.protobuf_parse_wire.proofs.DescriptorOrders.{order_makes_no_difference}
+use Rattle.protobuf_parse_options.specs.NamesAlike.{HasPackageName}
+use Rattle.protobuf_parse_options.specs.OptionBytes.{known_customs}
+use Rattle.protobuf_parse_options.proofs.DescriptorOrders.{order_makes_no_difference}
 use Rattle.protobuf_parse.specs.Walks.{Trees}
 use Rattle.protobuf_parse.specs.Run.{Files, HasTrees, IsTree, plain_environments, plains_at}
 use Rattle.protobuf_parse.specs.Run.{text_read}

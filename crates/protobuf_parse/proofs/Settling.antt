@@ -25,7 +25,7 @@ use Rattle.protobuf_parse.specs.declared.run.tables.Tables.{Tables}
 use Rattle.protobuf_parse_model.proofs.Orders.{SameMembers, just-same, link-none, link-told}
 use Rattle.protobuf_parse_model.proofs.Orders.{types-same}
 use Rattle.protobuf_parse_model.proofs.Picks.{Rises, rises}
-use Rattle.protobuf_parse_wire.specs.OptionBytes.{known_customs}
+use Rattle.protobuf_parse_options.specs.OptionBytes.{known_customs}
 use Rattle.protobuf_parse.specs.Walks.{Trees, Reaches, HandsOn, Sees, sees_itself, by_import, among}
 use Rattle.protobuf_parse.specs.Walks.{import_paths}
 use Rattle.protobuf_parse.specs.Run.{Files, FilesAreListed, StandsInElab, customs_of}

@@ -18,11 +18,11 @@ use Rattle.protobuf_parse_model.specs.declared.error.ElabFailure.TheVariants as 
 use Rattle.protobuf_parse_model.proofs.CustomSets.{faults_are_of_sets, none_is_none_in_sets}
 use Rattle.protobuf_parse_model.proofs.CustomSets.{none_of_sets, options_are_builtin}
 use Rattle.protobuf_parse_model.proofs.SameBytes.{bytes_are_of_sets}
-use Rattle.protobuf_parse_wire.specs.CustomFaults.{custom_name_faults, custom_option_faults}
-use Rattle.protobuf_parse_wire.specs.CustomFaults.{custom_statement_faults}
-use Rattle.protobuf_parse_wire.specs.CustomOptions.{items_of_option, scope_of}
-use Rattle.protobuf_parse_wire.specs.OptionFields.{OptionScope}
-use Rattle.protobuf_parse_wire.specs.OptionBytes.{known_customs, option_bytes}
+use Rattle.protobuf_parse_options.specs.CustomFaults.{custom_name_faults, custom_option_faults}
+use Rattle.protobuf_parse_options.specs.CustomFaults.{custom_statement_faults}
+use Rattle.protobuf_parse_options.specs.CustomOptions.{items_of_option, scope_of}
+use Rattle.protobuf_parse_options.specs.OptionFields.{OptionScope}
+use Rattle.protobuf_parse_options.specs.OptionBytes.{known_customs, option_bytes}
 use Rattle.protobuf_parse.specs.Loading.{Describes, LoadedEntry, customs_over, picked_plains}
 use Rattle.protobuf_parse.specs.Loading.{plain_over}
 use Rattle.protobuf_parse.specs.Loading.{plains_over}

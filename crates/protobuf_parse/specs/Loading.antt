@@ -21,9 +21,9 @@ use Rattle.protobuf_parse_model.specs.declared.descriptor.FileDescriptorProto.{F
 use Rattle.protobuf_parse_model.specs.Faults as elaborating
 use Rattle.protobuf_parse_model.specs.Faults.{Blames, fault_view}
 use Rattle.protobuf_parse_model.specs.declared.error.ElabFailure.{ElabFailure}
-use Rattle.protobuf_parse_wire.specs.CustomFaults.{elaboration_faults}
-use Rattle.protobuf_parse_wire.specs.Holding.{Holds}
-use Rattle.protobuf_parse_wire.specs.OptionBytes.{known_customs}
+use Rattle.protobuf_parse_options.specs.CustomFaults.{elaboration_faults}
+use Rattle.protobuf_parse_options.specs.Holding.{Holds}
+use Rattle.protobuf_parse_options.specs.OptionBytes.{known_customs}
 use Rattle.protobuf_parse.specs.declared.run.fault.RunFault.{RunFault}
 use Rattle.protobuf_parse.specs.declared.run.fault.RunFault.TheVariants as fault
 use Rattle.protobuf_parse.specs.declared.run.describe.Described.{Described}

@@ -13,12 +13,12 @@ use Rattle.protobuf_parse_model.specs.Faults.{Among}
 use Rattle.protobuf_parse_model.specs.FilesByPath.{among}
 use Rattle.protobuf_parse_model.specs.OptionSets.{OptionSet, option_sets}
 use Rattle.protobuf_parse_model.specs.declared.descriptor.FileDescriptorProto.{FileDescriptorProto}
-use Rattle.protobuf_parse_wire.specs.CustomOptions.{denotes, scope_of}
-use Rattle.protobuf_parse_wire.specs.DescriptorsByPath.{descriptors_at}
+use Rattle.protobuf_parse_options.specs.CustomOptions.{denotes, scope_of}
+use Rattle.protobuf_parse_options.specs.DescriptorsByPath.{descriptors_at}
 use Rattle.protobuf_parse_wire.specs.Law.{said}
-use Rattle.protobuf_parse_wire.specs.OptionFields.{options_message}
+use Rattle.protobuf_parse_options.specs.OptionFields.{options_message}
 use Rattle.protobuf_parse_wire.specs.Reading.{reader}
-use Rattle.protobuf_parse_wire.specs.Recovery.{HasCustom, HaveDistinctNumbers}
+use Rattle.protobuf_parse_options.specs.Recovery.{HasCustom, HaveDistinctNumbers}
 use Rattle.protobuf_parse_wire.specs.Trees.{Entries}
 use Rattle.protobuf_parse_wire.specs.Wire.{Spells}
 use Rattle.protobuf_parse.specs.Walks.{Input}

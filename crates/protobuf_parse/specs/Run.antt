@@ -19,10 +19,10 @@ use Rattle.protobuf_parse_model.specs.FilesByPath.{AreDistinct, AreJust, trees_a
 use Rattle.protobuf_parse_model.specs.Faults as elaborating
 use Rattle.protobuf_parse_model.specs.Faults.{Among, fault_view}
 use Rattle.protobuf_parse_model.specs.declared.descriptor.FileDescriptorProto.{FileDescriptorProto}
-use Rattle.protobuf_parse_wire.specs.CustomFaults.{elaboration_faults}
-use Rattle.protobuf_parse_wire.specs.DescriptorsByPath.{Environments, described_at}
-use Rattle.protobuf_parse_wire.specs.OptionBytes.{known_customs}
-use Rattle.protobuf_parse_wire.specs.Recovery.{plainly, plain_at}
+use Rattle.protobuf_parse_options.specs.CustomFaults.{elaboration_faults}
+use Rattle.protobuf_parse_options.specs.DescriptorsByPath.{Environments, described_at}
+use Rattle.protobuf_parse_options.specs.OptionBytes.{known_customs}
+use Rattle.protobuf_parse_options.specs.Recovery.{plainly, plain_at}
 use Rattle.protobuf_parse.specs.declared.bundled.TheConstants.{BUNDLED_FILES}
 use Rattle.protobuf_parse.specs.declared.run.fault.RunFault.{RunFault}
 use Rattle.protobuf_parse.specs.declared.run.fault.RunFault.TheVariants as fault

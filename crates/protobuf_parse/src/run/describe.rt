@@ -9,7 +9,7 @@ ghost use Rattle.protobuf_parse_model.specs.Faults.{Elaborates};
 ghost use Rattle.protobuf_parse_model.specs.FileDescriptor.{environment, file_faults, file_of};
 ghost use Rattle.protobuf_parse_model.specs.Linking.{link_faults};
 ghost use Rattle.protobuf_parse_model.specs.Tables.{TableTells, picked};
-ghost use Rattle.protobuf_parse_wire.specs.Holding.{Holds};
+ghost use Rattle.protobuf_parse_options.specs.Holding.{Holds};
 ghost use Rattle.protobuf_parse.specs.Loading.{IndexBegins, Describes, customs_over, plain_in};
 ghost use Rattle.protobuf_parse.specs.Loading.{plain_or};
 ghost use Rattle.protobuf_parse.specs.Loading.{plain_seen, plains_with};
@@ -20,8 +20,8 @@ use crate::run::tables::{RunPlaces, Tables, add_next, plain_of};
 use protobuf_parse_model::{
     ElabFailure, FileDescriptorProto, NoExtensions, Seen, WithoutCustoms, elaborate, link,
 };
+use protobuf_parse_options::{DeclaredPlaces, KnownFiles, PickedFiles};
 use protobuf_parse_syntax::FileTree;
-use protobuf_parse_wire::{DeclaredPlaces, KnownFiles, PickedFiles};
 use std::alloc::{AllocError, Global};
 
 /// What a file becomes.

@@ -3,14 +3,14 @@
 ghost use Rattle.std.specs.Prelude.{◌≡◌, ◌+◌, ◌^◌, ◌<◌, [], length, map, OnOk};
 ghost use Rattle.protobuf_parse_model.specs.Descriptors as described;
 ghost use Rattle.protobuf_parse_model.specs.Tables.{TableTells};
-ghost use Rattle.protobuf_parse_wire.specs.Holding.{Holds};
+ghost use Rattle.protobuf_parse_options.specs.Holding.{Holds};
 ghost use Rattle.protobuf_parse.specs.Loading.{IndexBegins, IsWhole, plain_in, plain_or};
 ghost use Rattle.protobuf_parse.specs.Loading.{plains_with};
 
 use crate::run::loaded::LoadedFiles;
 use crate::run::loader::LoadedFile;
 use protobuf_parse_model::{Declarations, FileDescriptorProto};
-use protobuf_parse_wire::DeclaredPlaces;
+use protobuf_parse_options::DeclaredPlaces;
 use std::alloc::{AllocError, Global};
 
 /// What the loaded files declare.

@@ -9,7 +9,7 @@ use Rattle.protobuf_parse_model.specs.Environment.{Customs}
 use Rattle.protobuf_parse_model.specs.Faults.{Elaborates}
 use Rattle.protobuf_parse_model.specs.FileDescriptor.{environment, file_faults, file_of}
 use Rattle.protobuf_parse_model.specs.Tables.{picked}
-use Rattle.protobuf_parse_wire.specs.OptionBytes.{known_customs}
+use Rattle.protobuf_parse_options.specs.OptionBytes.{known_customs}
 use Rattle.protobuf_parse.specs.Loading.{picked_plains, plain_seen, plains_with}
 use Rattle.protobuf_parse.proofs.Catching.{picked-seen}
 use Rattle.protobuf_parse.proofs.run.describe.spelled.Goals as goal

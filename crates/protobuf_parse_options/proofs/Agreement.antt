@@ -1,0 +1,231 @@
+-- The extensions that a tree declares stand in its descriptor.
+use Rattle.std.proofs.Common.{◌≡◌, ℕ, ◌<◌, List, [], ◌∷◌, ◌++◌, map, flat_map, length, Option, Some}
+use Rattle.std.proofs.Common.{None, unwrap_or, refl, sym, ap, subst, ◌∙◌, append-nil, arith}
+use Rattle.std.proofs.lemmas.List.{map-append}
+use Rattle.std.proofs.lemmas.Grind.{flat_map-append}
+use Rattle.protobuf_parse_base.specs.Names.{absolute_text, relative_idents}
+use Rattle.protobuf_parse_base.proofs.NameTexts.{absolute_text-parts, absolute_text-append}
+use Rattle.protobuf_parse_syntax.specs.Trees.{FieldStatementSyntax, field, group}
+use Rattle.protobuf_parse_syntax.specs.Trees.{MessageStatementSyntax, message_extend}
+use Rattle.protobuf_parse_syntax.specs.Trees.{message_message, MessageStatementList, no_statements}
+use Rattle.protobuf_parse_syntax.specs.Trees.{more_statements, StatementSyntax, file_message}
+use Rattle.protobuf_parse_syntax.specs.Trees.{file_extend, package_of}
+use Rattle.protobuf_parse_model.specs.Statements.{field_statement_name, message_body}
+use Rattle.protobuf_parse_model.specs.Descriptors.{Text, FieldDescriptor, MessageDescriptor}
+use Rattle.protobuf_parse_model.specs.Descriptors.{messages_of_list}
+use Rattle.protobuf_parse_model.specs.Faults.{Among, here, there}
+use Rattle.protobuf_parse_model.specs.Declarations as names
+use Rattle.protobuf_parse_model.specs.Declarations.{Scope, Declared, declare, DeclaredExtension}
+use Rattle.protobuf_parse_model.specs.Declarations.{ExtensionSyntax, file_scope}
+use Rattle.protobuf_parse_model.specs.Environment.{Environment, env_inside}
+use Rattle.protobuf_parse_model.specs.Fields.{field_statement_of}
+use Rattle.protobuf_parse_model.specs.Messages as bodies
+use Rattle.protobuf_parse_model.specs.Messages.{extending, message_from, nested_of, nested_in}
+use Rattle.protobuf_parse_model.specs.FileDescriptor as files
+use Rattle.protobuf_parse_wire.specs.Declarations.{Declaration, name_within, declared_message}
+use Rattle.protobuf_parse_wire.specs.Declarations.{declared_messages, package_scope}
+use Rattle.protobuf_parse_wire.specs.Declarations.{extensions_within}
+use Rattle.protobuf_parse_options.specs.Agreement.{described, ExtensionsAreDescribed}
+use Rattle.protobuf_parse_options.proofs.Options.{among_left, among_right, SplitAmong, left, right}
+use Rattle.protobuf_parse_options.proofs.Options.{split_among}
+
+abbrev pub extensions_by : List Declaration → List (Declared FieldDescriptor)
+extensions_by ds = flat_map (λ (d : Declaration). extensions_within d.name d.parts.extension) ds
+
+-- in the scope itself, or in one of the messages there
+pub data Placed (scope : Text) (own : List FieldDescriptor) (nested : List MessageDescriptor)
+    (d : Declared FieldDescriptor) : Type 0 where
+  its_own : Among (extensions_within scope own) d → Placed scope own nested d
+  in_one : (m : MessageDescriptor) → Among nested m
+      → Among (extensions_by (declared_message scope m)) d → Placed scope own nested d
+
+pub within_append : (scope : Text) (xs ys : List FieldDescriptor)
+    → extensions_within scope (xs ++ ys) ≡ extensions_within scope xs ++ extensions_within scope ys
+within_append scope xs ys =
+    map-append (λ (f : FieldDescriptor). record { name = name_within scope f.name; what = f }) xs ys
+
+placed_left : (scope : Text) (xs ys : List FieldDescriptor) (ms ns : List MessageDescriptor)
+    (d : Declared FieldDescriptor) → Placed scope xs ms d → Placed scope (xs ++ ys) (ms ++ ns) d
+placed_left scope xs ys ms ns d (its_own h) =
+    its_own (rw (within_append scope xs ys) (among_left (extensions_within scope ys) h))
+placed_left scope xs ys ms ns d (in_one m a h) = in_one m (among_left ns a) h
+
+placed_right : (scope : Text) (xs ys : List FieldDescriptor) (ms ns : List MessageDescriptor)
+    (d : Declared FieldDescriptor) → Placed scope ys ns d → Placed scope (xs ++ ys) (ms ++ ns) d
+placed_right scope xs ys ms ns d (its_own h) =
+    its_own (rw (within_append scope xs ys) (among_right (extensions_within scope xs) h))
+placed_right scope xs ys ms ns d (in_one m a h) = in_one m (among_right ms a) h
+
+in_nested : (scope : Text) (ns : List MessageDescriptor) (m : MessageDescriptor)
+    (d : Declared FieldDescriptor) → Among ns m → Among (extensions_by (declared_message scope m)) d
+    → Among (extensions_by (declared_messages scope (messages_of_list ns))) d
+in_nested scope [] m d a h = elim a [ ]
+in_nested scope (n ∷ ns) _ d here h =
+    rw (flat_map-append (λ (x : Declaration). extensions_within x.name x.parts.extension)
+    (declared_message scope n) (declared_messages scope (messages_of_list ns))) (among_left
+    (extensions_by (declared_messages scope (messages_of_list ns))) h)
+in_nested scope (n ∷ ns) m d (there a) h =
+    rw (flat_map-append (λ (x : Declaration). extensions_within x.name x.parts.extension)
+    (declared_message scope n) (declared_messages scope (messages_of_list ns))) (among_right
+    (extensions_by (declared_message scope n)) (in_nested scope ns m d a h))
+
+pub scope_inside : (scope : Scope) (name : Text)
+    → absolute_text (names.inside scope name) ≡ name_within (absolute_text scope) name
+scope_inside scope name = absolute_text-append scope (name ∷ [])
+    ∙ ap (λ (xs : List ℕ). absolute_text scope ++ (46 ∷ xs)) (append-nil name)
+
+in_message : (env : Environment) (name : Text) (body : List MessageStatementSyntax)
+    (ns : List MessageDescriptor) (d : Declared FieldDescriptor)
+    → Placed (absolute_text (names.inside env.scope name))
+    (flat_map (bodies.extensions_of (env_inside env name)) body) ns d
+    → Among (extensions_by
+    (declared_message (absolute_text env.scope) (message_from env name body ns))) d
+in_message env name body ns d p =
+    at (subst (λ (s : Text). Placed s (flat_map (bodies.extensions_of (env_inside env name)) body)
+    ns d)
+    (scope_inside env.scope name) p)
+  where
+    at : Placed (name_within (absolute_text env.scope) name)
+        (flat_map (bodies.extensions_of (env_inside env name)) body) ns d
+        → Among (extensions_by
+        (declared_message (absolute_text env.scope) (message_from env name body ns))) d
+    at (its_own h) =
+        among_left
+        (extensions_by
+        (declared_messages (name_within (absolute_text env.scope) name) (messages_of_list ns))) h
+    at (in_one m a h) =
+        among_right
+        (extensions_within (name_within (absolute_text env.scope) name)
+        (flat_map (bodies.extensions_of (env_inside env name)) body)) (in_nested
+        (name_within (absolute_text env.scope) name) ns m d a h)
+
+in_extend : (env : Environment) (extendee : Text) (fs : List FieldStatementSyntax)
+    (e : DeclaredExtension)
+    → Among (map
+    (λ (f : FieldStatementSyntax). declare env.scope (field_statement_name f)
+    (record { extendee = extendee; scope = env.scope; field = f })) fs) e
+    → Among (extensions_within (absolute_text env.scope)
+    (map (field_statement_of env (extending env extendee)) fs)) (described env e)
+in_extend env extendee [] e h = elim h [ ]
+in_extend env extendee (field f ∷ fs) _ here = here
+in_extend env extendee (group place label name number inner ∷ fs) _ here = here
+in_extend env extendee (f ∷ fs) e (there h) = there (in_extend env extendee fs e h)
+
+abbrev pub InBody : Environment → List FieldDescriptor → List MessageDescriptor → DeclaredExtension
+    → Type 0
+InBody env own nested e = Placed (absolute_text env.scope) own nested (described env e)
+
+either : (env : Environment) (s : MessageStatementSyntax) (ss : MessageStatementList)
+    (e : DeclaredExtension)
+    → SplitAmong (names.extensions_of env.scope s) (names.extensions_in env.scope ss) e
+    → (Among (names.extensions_of env.scope s) e
+    → InBody env (bodies.extensions_of env s) (nested_of env s) e)
+    → (Among (names.extensions_in env.scope ss) e
+    → InBody env (flat_map (bodies.extensions_of env) (message_body ss)) (nested_in env ss) e)
+    → InBody env (flat_map (bodies.extensions_of env) (message_body (more_statements s ss)))
+    (nested_in env (more_statements s ss)) e
+either env s ss e (left k) first others =
+    placed_left (absolute_text env.scope) (bodies.extensions_of env s)
+    (flat_map (bodies.extensions_of env) (message_body ss)) (nested_of env s) (nested_in env ss)
+    (described env e) (first k)
+either env s ss e (right k) first others =
+    placed_right (absolute_text env.scope) (bodies.extensions_of env s)
+    (flat_map (bodies.extensions_of env) (message_body ss)) (nested_of env s) (nested_in env ss)
+    (described env e) (others k)
+
+mutual
+  of_statement : (env : Environment) (s : MessageStatementSyntax) (e : DeclaredExtension)
+      → Among (names.extensions_of env.scope s) e
+      → InBody env (bodies.extensions_of env s) (nested_of env s) e
+  of_statement env (message_extend x) e h = its_own (in_extend env x.extendee x.fields e h)
+  of_statement env (message_message place name body) e h =
+      in_one (message_from env name (message_body body) (nested_in (env_inside env name) body)) here
+      (in_message env name (message_body body) (nested_in (env_inside env name) body)
+      (described env e)
+      (of_list (env_inside env name) body e h))
+  of_statement env _ e h = elim h [ ]
+
+  of_list : (env : Environment) (ss : MessageStatementList) (e : DeclaredExtension)
+      → Among (names.extensions_in env.scope ss) e
+      → InBody env (flat_map (bodies.extensions_of env) (message_body ss)) (nested_in env ss) e
+  of_list env no_statements e h = elim h [ ]
+  of_list env (more_statements s ss) e h =
+      either env s ss e
+      (split_among (names.extensions_of env.scope s) (names.extensions_in env.scope ss) e h)
+      (λ k. of_statement env s e k) (λ k. of_list env ss e k)
+
+-- where each of a list has its place
+of_each : {S : Type 0} (env : Environment) (told : S → List DeclaredExtension)
+    (own : S → List FieldDescriptor) (nested : S → List MessageDescriptor)
+    → ((s : S) (e : DeclaredExtension) → Among (told s) e → InBody env (own s) (nested s) e)
+    → (ss : List S) (e : DeclaredExtension) → Among (flat_map told ss) e
+    → InBody env (flat_map own ss) (flat_map nested ss) e
+of_each env told own nested each [] e h = elim h [ ]
+of_each env told own nested each (s ∷ ss) e h =
+    at (split_among (told s) (flat_map told ss) e h) (λ k. of_each env told own nested each ss e k)
+  where
+    at : SplitAmong (told s) (flat_map told ss) e
+        → (Among (flat_map told ss) e → InBody env (flat_map own ss) (flat_map nested ss) e)
+        → InBody env (flat_map own (s ∷ ss)) (flat_map nested (s ∷ ss)) e
+    at (left k) others =
+        placed_left (absolute_text env.scope) (own s) (flat_map own ss) (nested s)
+        (flat_map nested ss) (described env e) (each s e k)
+    at (right k) others =
+        placed_right (absolute_text env.scope) (own s) (flat_map own ss) (nested s)
+        (flat_map nested ss) (described env e) (others k)
+
+of_file_statement : (env : Environment) (s : StatementSyntax) (e : DeclaredExtension)
+    → Among (names.statement_extensions env.scope s) e
+    → InBody env (files.file_extensions_of env s) (files.file_messages_of env s) e
+of_file_statement env (file_extend x) e h = its_own (in_extend env x.extendee x.fields e h)
+of_file_statement env (file_message m) e h =
+    in_one (bodies.message_of env m) here
+    (in_message env m.name m.body (flat_map (nested_of (env_inside env m.name)) m.body)
+    (described env e)
+    (of_each (env_inside env m.name) (names.extensions_of (names.inside env.scope m.name))
+    (bodies.extensions_of (env_inside env m.name)) (nested_of (env_inside env m.name))
+    (of_statement (env_inside env m.name)) m.body e h))
+of_file_statement env _ e h = elim h [ ]
+
+pub package_is : (package_name : Option Text)
+    → ((name : Text) → package_name ≡ Some name → 0 < length name)
+    → absolute_text (relative_idents (unwrap_or package_name [])) ≡ package_scope package_name
+package_is None some = refl
+package_is (Some []) some = absurd (omega (arith, some [] refl))
+package_is (Some (b ∷ bs)) some = absolute_text-parts (b ∷ bs)
+
+pub extensions_are_described : ExtensionsAreDescribed
+extensions_are_described env path t scoped named e h =
+    let ms = flat_map (files.file_messages_of env) t.statements in
+    let own = flat_map (files.file_extensions_of env) t.statements in
+    let stands : InBody env own ms e = of_each env (names.statement_extensions env.scope)
+    (files.file_extensions_of env) (files.file_messages_of env) (of_file_statement env) t.statements
+    e
+    (subst (λ (s : Scope). Among (flat_map (names.statement_extensions s) t.statements) e)
+    (sym scoped) h) in
+    at (package_scope (package_of t)) ms own (described env e)
+    (subst (λ (s : Text). Placed s own ms (described env e))
+    (ap absolute_text scoped ∙ package_is (package_of t) named) stands)
+  where
+    at : (scope : Text) (ms : List MessageDescriptor) (own : List FieldDescriptor)
+        (d : Declared FieldDescriptor) → Placed scope own ms d
+        → Among (extensions_by (flat_map (declared_message scope) ms)
+        ++ extensions_within scope own) d
+    at scope ms own d (its_own k) =
+        among_right (extensions_by (flat_map (declared_message scope) ms)) k
+    at scope ms own d (in_one m a k) =
+        among_left (extensions_within scope own) (joined scope ms m d a k)
+      where
+        joined : (scope : Text) (ms : List MessageDescriptor) (m : MessageDescriptor)
+            (d : Declared FieldDescriptor) → Among ms m
+            → Among (extensions_by (declared_message scope m)) d
+            → Among (extensions_by (flat_map (declared_message scope) ms)) d
+        joined scope [] m d a k = elim a [ ]
+        joined scope (n ∷ ns) _ d here k =
+            rw (flat_map-append (λ (x : Declaration). extensions_within x.name x.parts.extension)
+            (declared_message scope n) (flat_map (declared_message scope) ns)) (among_left
+            (extensions_by (flat_map (declared_message scope) ns)) k)
+        joined scope (n ∷ ns) m d (there a) k =
+            rw (flat_map-append (λ (x : Declaration). extensions_within x.name x.parts.extension)
+            (declared_message scope n) (flat_map (declared_message scope) ns)) (among_right
+            (extensions_by (declared_message scope n)) (joined scope ns m d a k))

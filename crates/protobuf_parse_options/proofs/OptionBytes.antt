@@ -1,0 +1,25 @@
+-- The bytes of custom options spell what these denote.
+use Rattle.std.proofs.Common.{◌≡◌, List, [], ◌∷◌, flat_map}
+use Rattle.protobuf_parse_model.specs.Faults.{Fault, Among, here, there}
+use Rattle.protobuf_parse_model.specs.OptionSets.{OptionSet, option_sets}
+use Rattle.protobuf_parse_options.specs.CustomOptions.{denotes, scope_of}
+use Rattle.protobuf_parse_options.specs.CustomFaults.{custom_statement_faults}
+use Rattle.protobuf_parse_options.specs.OptionBytes.{OptionBytesSpell}
+use Rattle.protobuf_parse_wire.proofs.Encoded.{encoded_spells}
+use Rattle.protobuf_parse_options.proofs.Writable.{no_left, no_right, denotes_writable}
+
+-- where none of a list has a fault
+pub none_of : {A : Type 0} (faults : A → List Fault) (xs : List A) (x : A) → Among xs x
+    → flat_map faults xs ≡ [] → faults x ≡ []
+none_of faults [] x h e = elim h [ ]
+none_of faults (x ∷ xs) _ here e = no_left (faults x) (flat_map faults xs) e
+none_of faults (y ∷ xs) x (there h) e =
+    none_of faults xs x h (no_right (faults y) (flat_map faults xs) e)
+
+pub option_bytes_spell : OptionBytesSpell
+option_bytes_spell files visible t small none s h =
+    encoded_spells (denotes (scope_of files visible s) s.construct s.statements)
+    (denotes_writable (scope_of files visible s) small s.construct s.statements
+    (none_of
+    (λ (x : OptionSet). custom_statement_faults (scope_of files visible x) x.construct x.statements)
+    (option_sets t) s h none))

@@ -1,0 +1,29 @@
+use Rattle.std.proofs.Common.{◌≡◌, ◌++◌, [], map, flat_map, take}
+use Rattle.protobuf_parse_syntax.specs.Trees.{constant_field_view, constant_view}
+use Rattle.protobuf_parse_model.specs.Descriptors.{field_view}
+use Rattle.protobuf_parse_options.specs.CustomFaults.{value_faults}
+use Rattle.protobuf_parse_options.specs.CustomOptions.{value_items}
+use Rattle.protobuf_parse_options.specs.Given.{field_faults_of, given_field_items, option_place_view}
+use Rattle.protobuf_parse_options.specs.Given.{path_said}
+use Rattle.protobuf_parse_wire.specs.Views.{entry_view}
+use Rattle.protobuf_parse_options.proofs.constants.+constant.Given as goal
+
+abbrev pub invariant-push_list-items : goal.invariant-push_list-items
+invariant-push_list-items l =
+    let s = option_place_view l.at in
+    let cs = map constant_view (take l.item-index l.items) in
+    record {
+      no_fault : flat_map (value_faults s (path_said l.option) (field_view l.field)) cs ≡ [];
+      all : map entry_view l.entries.items ≡ map entry_view l.fn.entries.items ++ flat_map
+          (value_items s (field_view l.field)) cs;
+    }
+
+abbrev pub invariant-push_fields-fields : goal.invariant-push_fields-fields
+invariant-push_fields-fields l =
+    let s = option_place_view l.at in
+    let fs = map constant_field_view (take l.field-index l.fields) in
+    record {
+      no_fault : flat_map (field_faults_of s (path_said l.option) l.message) fs ≡ [];
+      all : map entry_view l.entries.items ≡ map entry_view l.fn.entries.items ++ flat_map
+          (given_field_items s l.message) fs;
+    }

@@ -1,0 +1,31 @@
+use Rattle.std.proofs.Common.{◌∙◌, ◌++◌, [], ◌∷◌, List, ℕ, ap, append-nil, map, sym}
+use Rattle.std.specs.Prelude.{string_bytes}
+use Rattle.std.proofs.lemmas.Result.{on_ok_weaker}
+use Rattle.protobuf_parse_model.specs.declared.descriptor.FieldDescriptorProto.{FieldDescriptorProto}
+use Rattle.protobuf_parse_model.specs.Descriptors.{Text, FieldDescriptor, field_view}
+use Rattle.protobuf_parse_options.specs.Holding.{extensions_placed}
+use Rattle.protobuf_parse_options.specs.Places.{Placed, field_name, extensions_inside, placed_each}
+use Rattle.protobuf_parse_options.proofs.Placing.{inside_is}
+use Rattle.protobuf_parse_options.proofs.known.add_extensions_inside.Goals as goal
+
+pub returns : goal.returns
+returns c =
+    let k = c.args.message.now in
+    let name : Text = string_bytes k.name in
+    let path = k.path.items ++ k.index ∷ [] in
+    let paths = c.deref-3.ensures.value ∙ c.in_ok-path.ensures
+    ∙ ap (λ (p : List ℕ). p ++ k.index ∷ []) c.deref.ensures.value in
+    let members = sym (ap extensions_inside (inside_is k.what.now)) in
+    on_ok_weaker c.add_extensions.result
+    (λ e. e ∙ ap (λ (ps : List (Placed FieldDescriptor)). extensions_placed c.args.list.now.items
+    ++ ps)
+    (ap (λ (s : Text). placed_each field_name s c.deref-3.result.now 0
+    (map field_view c.deref-4.result.now)) c.deref-2.ensures
+    ∙ ap (λ (p : List ℕ). placed_each field_name name p 0 (map field_view c.deref-4.result.now))
+    paths
+    ∙ ap (λ (xs : List FieldDescriptorProto). placed_each field_name name path 0
+    (map field_view xs))
+    c.deref-4.ensures.value
+    ∙ ap (λ (xs : List FieldDescriptor). placed_each field_name name path 0 xs) members
+    ∙ sym (append-nil _)))
+    c.add_extensions.ensures

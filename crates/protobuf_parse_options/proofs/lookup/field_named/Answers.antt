@@ -1,0 +1,11 @@
+use Rattle.std.proofs.Common.{◌∙◌, ap, map}
+use Rattle.protobuf_parse_options.specs.Holding.{field_there, found_by, spot_view}
+use Rattle.protobuf_parse_options.proofs.lookup.field_named.Goals as goal
+
+pub returns : goal.returns
+returns c =
+    let known = c.args.known.now in
+    let name = c.args.name.now in
+    c.field_of.ensures
+    ∙ ap (λ ps. found_by (field_there known.reach name) (map spot_view ps)) c.group.ensures
+    ∙ known.all_fields c.args.message.now name

@@ -1,0 +1,22 @@
+use Rattle.std.proofs.Common.{◌∙◌, ap, flat_map, is_some, map, sym}
+use Rattle.protobuf_parse_options.specs.ByName.{first}
+use Rattle.protobuf_parse_wire.specs.Declarations.{messages_declared_in}
+use Rattle.protobuf_parse_options.specs.Holding.{at_spots, files_seen, message_seen, spot_view}
+use Rattle.protobuf_parse_wire.specs.Indexed.{parts_seen}
+use Rattle.protobuf_parse_options.specs.Places.{messages_inside}
+use Rattle.protobuf_parse_options.proofs.ByName.{any_named, first_mapped, is_some_mapped}
+use Rattle.protobuf_parse_options.proofs.lookup.is_message.Goals as goal
+
+pub returns : goal.returns
+returns c =
+    let reach = c.args.known.now.reach in
+    let name = c.args.name.now in
+    let all = ap (λ ps. map parts_seen (at_spots messages_inside reach (map spot_view ps)))
+    c.group.ensures ∙ c.args.known.now.all_messages name in
+    c.is_some.ensures
+    ∙ sym (is_some_mapped message_seen c.first_message.result)
+    ∙ ap is_some c.first_message.ensures
+    ∙ sym (first_mapped parts_seen (at_spots messages_inside reach
+    (map spot_view c.group.result.now)))
+    ∙ ap (λ ps. is_some (first ps)) all
+    ∙ sym (any_named name (flat_map messages_declared_in (files_seen reach)))

@@ -1,0 +1,11 @@
+use Rattle.std.proofs.Common.{◌∙◌, ap, map}
+use Rattle.protobuf_parse_options.specs.Holding.{found_by, number_there, spot_view}
+use Rattle.protobuf_parse_options.proofs.lookup.number_of_value.Goals as goal
+
+pub returns : goal.returns
+returns c =
+    let known = c.args.known.now in
+    let name = c.args.name.now in
+    c.number_of.ensures
+    ∙ ap (λ ps. found_by (number_there known.reach name) (map spot_view ps)) c.group-enums.ensures
+    ∙ known.all_values c.args.enum_name.now name

@@ -1,0 +1,55 @@
+-- No public clause rests on this file.
+-- What the constants of lists and of message constants give, as lists; and from where the code sees
+-- options.
+use Rattle.std.specs.Prelude.{List, ◌++◌, map, flat_map, option_to_list}
+use Rattle.protobuf_parse_syntax.specs.Trees.{ConstantSyntax, ConstantFieldSyntax, OptionPartSyntax}
+use Rattle.protobuf_parse_syntax.specs.Trees.{option_part_view}
+use Rattle.protobuf_parse_syntax.specs.declared.tree.option.ProtobufOptionNamePart.{ProtobufOptionNamePart}
+use Rattle.protobuf_parse_model.specs.SeenFiles.{name_texts}
+use Rattle.protobuf_parse_model.specs.Descriptors.{Text, FieldDescriptor}
+use Rattle.protobuf_parse_model.specs.Environment.{part_text, option_path_text}
+use Rattle.protobuf_parse_model.specs.Faults.{Fault}
+use Rattle.protobuf_parse_options.specs.declared.fields.OptionPlace.{OptionPlace}
+use Rattle.protobuf_parse_options.specs.CustomFaults.{constant_name_faults, number_faults, path_faults}
+use Rattle.protobuf_parse_options.specs.CustomFaults.{step_faults, value_faults}
+use Rattle.protobuf_parse_options.specs.CustomOptions.{item_of_message, path_items, value_items}
+use Rattle.protobuf_parse_options.specs.Holding.{files_seen}
+use Rattle.protobuf_parse_options.specs.OptionFields.{OptionScope, constant_field, type_takes}
+use Rattle.protobuf_parse_options.specs.OptionFields.{type_name_of}
+use Rattle.protobuf_parse_wire.specs.Views.{WireItem}
+
+abbrev pub option_place_view : OptionPlace → OptionScope
+option_place_view p = record {
+  files = files_seen p.known.now.reach;
+  visible = files_seen p.known.now.sight;
+  scope = name_texts p.scope.now;
+}
+
+-- the name of an option as it is written
+abbrev pub path_said : List ProtobufOptionNamePart → Text
+path_said parts = option_path_text (map option_part_view parts)
+
+-- of a value for the field that a name means
+abbrev pub given_faults : OptionScope → Text → ConstantSyntax → FieldDescriptor → List Fault
+given_faults at option c g = number_faults g ++ value_faults at option g c
+
+abbrev pub field_faults_of : OptionScope → Text → Text → ConstantFieldSyntax → List Fault
+field_faults_of at option message f = constant_name_faults at message f.name ++ flat_map
+    (given_faults at option f.value) (option_to_list (constant_field at message f.name))
+
+abbrev pub given_items : OptionScope → ConstantSyntax → FieldDescriptor → List WireItem
+given_items at c g = value_items at g c
+
+abbrev pub given_field_items : OptionScope → Text → ConstantFieldSyntax → List WireItem
+given_field_items at message f = flat_map (given_items at f.value)
+    (option_to_list (constant_field at message f.name))
+
+-- of a field that other parts follow, which the part means
+abbrev pub through_faults : OptionScope → Text → ConstantSyntax → OptionPartSyntax
+    → List OptionPartSyntax → FieldDescriptor → List Fault
+through_faults at option value p ps g = number_faults g ++ step_faults (part_text p)
+    (type_takes g.type_) (path_faults at option value (type_name_of g) ps)
+
+abbrev pub through_items : OptionScope → ConstantSyntax → List OptionPartSyntax → FieldDescriptor
+    → List WireItem
+through_items at value ps g = item_of_message g (path_items at value (type_name_of g) ps)

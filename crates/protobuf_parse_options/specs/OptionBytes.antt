@@ -1,0 +1,29 @@
+-- The bytes of custom options, as a function of the statements: what stands in a descriptor.
+use Rattle.std.specs.Prelude.{◌≡◌, List, []}
+use Rattle.protobuf_parse_syntax.specs.Trees.{FileSyntax}
+use Rattle.protobuf_parse_model.specs.Descriptors.{FileDescriptor}
+use Rattle.protobuf_parse_model.specs.Environment.{CustomBytes, Customs}
+use Rattle.protobuf_parse_wire.specs.Encoded.{encoded}
+use Rattle.protobuf_parse_options.specs.OptionLaw.{HasSmallValues}
+use Rattle.protobuf_parse_options.specs.CustomOptions.{denotes, SpellsOptions}
+use Rattle.protobuf_parse_options.specs.CustomFaults.{custom_option_faults, custom_statement_faults}
+
+abbrev pub option_bytes : (files visible : List FileDescriptor) → CustomBytes
+option_bytes files visible = λ construct scope os.
+    encoded (denotes (record { files = files; visible = visible; scope = scope }) construct os)
+
+-- what custom options become in a file that reaches the first files and sees the second
+abbrev pub known_customs : (files visible : List FileDescriptor) → Customs
+known_customs files visible = record {
+  faults = λ construct scope os. custom_statement_faults
+      (record { files = files; visible = visible; scope = scope })
+      construct os;
+  bytes = option_bytes files visible;
+}
+
+-- Where no fault stands in the custom options of a file, these bytes spell what they denote.
+abbrev pub OptionBytesSpell : Type 0
+OptionBytesSpell =
+    (files visible : List FileDescriptor) (t : FileSyntax)
+    → HasSmallValues files → custom_option_faults files visible t ≡ []
+    → SpellsOptions files visible t (option_bytes files visible)

@@ -1,0 +1,79 @@
+//! Custom options by the descriptors of files.
+
+ghost use Rattle.std.specs.Prelude.{◌≡◌, List, ℕ, flat_map, map};
+ghost use Rattle.std.proofs.Props.{props};
+ghost use Rattle.protobuf_parse_options.specs.ByName.{named};
+ghost use Rattle.protobuf_parse_wire.specs.Declarations.{declared_extensions, messages_with_name};
+ghost use Rattle.protobuf_parse_options.specs.Holding.{Knows, at_spots, field_there, files_seen};
+ghost use Rattle.protobuf_parse_options.specs.Holding.{found_by, number_there, spots_under};
+ghost use Rattle.protobuf_parse_wire.specs.Indexed.{parts_seen};
+ghost use Rattle.protobuf_parse_options.specs.OptionBytes.{known_customs};
+ghost use Rattle.protobuf_parse_options.specs.OptionFields.{field_named, number_of_value};
+ghost use Rattle.protobuf_parse_options.specs.OptionLaw.{HasSmallValues};
+ghost use Rattle.protobuf_parse_options.specs.Places.{extensions_inside, messages_inside};
+
+use crate::fields::OptionPlace;
+use crate::picked_files::PickedFiles;
+use crate::places::DeclaredPlaces;
+use crate::statements::bytes_of;
+use protobuf_parse_model::{Construct, CustomOptions, ElabFailure};
+use protobuf_parse_syntax::ProtobufOption;
+use std::alloc::Global;
+
+/// Who says what custom options become, by the descriptors of files.
+///
+/// The names of extensions mean extensions of the files that are seen; the names of types in
+/// descriptors mean messages and enums of all files that are reached.
+#[derive(Clone, Copy)]
+pub struct KnownFiles<'a> {
+    pub(crate) places: &'a DeclaredPlaces,
+    pub(crate) reach: PickedFiles<'a>,
+    pub(crate) sight: PickedFiles<'a>,
+    ghost all_messages: { (name : List ℕ) → map parts_seen (at_spots messages_inside reach
+        (spots_under places.now.messages name)) ≡ messages_with_name (files_seen reach) name } by { Prim.hlevel props },
+    ghost all_fields: { (message name : List ℕ) → found_by (field_there reach name)
+        (spots_under places.now.messages message)
+        ≡ field_named (files_seen reach) message name } by { Prim.hlevel props },
+    ghost all_values: { (enum_name name : List ℕ) → found_by (number_there reach name)
+        (spots_under places.now.enums enum_name)
+        ≡ number_of_value (files_seen reach) enum_name name } by { Prim.hlevel props },
+    ghost all_extensions: { (name : List ℕ) → at_spots extensions_inside sight
+        (spots_under places.now.extensions name)
+        ≡ named name (flat_map declared_extensions (files_seen sight)) } by { Prim.hlevel props },
+    ghost small: { HasSmallValues (files_seen reach) } by { Prim.hlevel props },
+}
+
+impl<'a> KnownFiles<'a> {
+    /// Knows the extensions of the files that a file sees, itself among them, and the messages and
+    /// enums of all files that it reaches.
+    pub fn new(
+        places: &'a DeclaredPlaces,
+        reach: PickedFiles<'a>,
+        sight: PickedFiles<'a>,
+    ) -> KnownFiles<'a>
+        requires knows { Knows places.now reach sight }
+        ensures { ⟦<KnownFiles<'a> as CustomOptions>⟧.customs result
+            ≡ known_customs (files_seen reach.entry) (files_seen sight.entry) }
+    {
+        KnownFiles {
+            places,
+            reach,
+            sight,
+        }
+    }
+}
+
+impl CustomOptions for KnownFiles<'_> {
+    ghost customs = { λ k. known_customs (files_seen k.reach) (files_seen k.sight) };
+
+    fn bytes(
+        &self,
+        alloc: Global,
+        construct: Construct,
+        scope: &[&str],
+        options: &[&ProtobufOption],
+    ) -> Result<Vec<u8>, ElabFailure> {
+        let at = OptionPlace { known: self, scope };
+        bytes_of(alloc, &at, construct, options)
+    }
+}

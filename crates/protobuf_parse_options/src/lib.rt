@@ -1,0 +1,27 @@
+//! What the custom options of a construct become, by the descriptors of files.
+#![tactic(auto)]
+
+mod constants;
+mod fields;
+mod known;
+mod known_files;
+mod laws;
+mod lookup;
+mod members;
+mod paths;
+mod picked_files;
+mod places;
+mod positions;
+mod refuse;
+mod spots;
+mod statements;
+mod strings;
+mod values;
+
+pub use known_files::KnownFiles;
+pub use laws::{
+    any_order, more_files, never_too_deep, option_bytes_spell, options_are_not_read,
+    options_are_read, options_are_recovered,
+};
+pub use picked_files::PickedFiles;
+pub use places::DeclaredPlaces;

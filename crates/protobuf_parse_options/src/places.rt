@@ -1,0 +1,136 @@
+//! Where files declare messages, enums and extensions, by their full names.
+
+ghost use Rattle.std.specs.Prelude.{◌≡◌, ◌++◌, ◌∷◌, [], List, length, map, string_bytes};
+ghost use Rattle.std.specs.Prelude.{if◌then◌else◌, OnOk};
+ghost use Rattle.std.specs.Int.{w32};
+ghost use Rattle.std.specs.Int.RustNames.{FitsSigned};
+ghost use Rattle.std.specs.Str.{bytes_eq};
+ghost use Rattle.protobuf_parse_model.specs.Descriptors.{FileDescriptor, Text, enum_value_view};
+ghost use Rattle.protobuf_parse_model.specs.Descriptors.{file_view};
+ghost use Rattle.protobuf_parse_options.specs.Holding.{AddsSpots, Holds, spots_known};
+ghost use Rattle.protobuf_parse_options.specs.Known.{enum_known};
+ghost use Rattle.protobuf_parse_options.specs.SmallValues.{AreSmall, HaveSmall};
+
+use crate::known::{self, Known};
+use crate::positions::HasParts;
+use protobuf_parse_model::{EnumDescriptorProto, EnumValueDescriptorProto, FileDescriptorProto};
+use protobuf_parse_wire::groups;
+use std::alloc::{AllocError, Global};
+use std::collections::BTreeMap;
+
+/// Where something is declared.
+#[derive(Debug, Drop)]
+pub struct Place {
+    /// The number of the file.
+    pub file: usize,
+    /// The way to the message around it: the number of a message in its list, then that of a
+    /// message in it, and so on. Empty for what stands in no message.
+    pub path: Vec<usize>,
+    /// Its number in its list.
+    pub index: usize,
+    /// The positions of the fields of a message and of the values of an enum, where they are more
+    /// than a few: the first of each name.
+    pub positions: BTreeMap<String, usize>,
+}
+
+/// Where the files of a run declare messages, enums and extensions: the places of each full name,
+/// which has its first dot, in the order of the files.
+#[derive(Debug, Drop)]
+pub struct DeclaredPlaces {
+    pub(crate) messages: BTreeMap<String, Vec<Place>>,
+    pub(crate) enums: BTreeMap<String, Vec<Place>>,
+    pub(crate) extensions: BTreeMap<String, Vec<Place>>,
+}
+
+impl DeclaredPlaces {
+    /// No places.
+    pub fn new(alloc: Global) -> Self
+        ensures { Holds result [] }
+    {
+        DeclaredPlaces {
+            messages: BTreeMap::new(alloc),
+            enums: BTreeMap::new(alloc),
+            extensions: BTreeMap::new(alloc),
+        }
+    }
+
+    /// Adds the places of what the next file declares, which has that number.
+    /// The one error is that memory is short: nothing is known of the index then.
+    pub fn add(
+        &mut self,
+        alloc: Global,
+        file: usize,
+        descriptor: &FileDescriptorProto,
+    ) -> Result<(), AllocError>
+        ensures { OnOk result ((files : List FileDescriptor) → length files ≡ file →
+            Holds self.old files → Holds self.new (files ++ file_view descriptor.now ∷ [])) }
+    {
+        let messages = known::messages_of(alloc, descriptor)?;
+        let enums = known::enums_of(alloc, descriptor, &messages)?;
+        let extensions = known::extensions_of(alloc, descriptor, &messages)?;
+        read_enums(&enums);
+        put_all(&mut self.messages, alloc, file, &messages)?;
+        put_all(&mut self.enums, alloc, file, &enums)?;
+        put_all(&mut self.extensions, alloc, file, &extensions)
+    }
+}
+
+/// Puts the places of what a file declares under the full names, behind what stands there.
+fn put_all<T: HasParts>(
+    places: &mut BTreeMap<String, Vec<Place>>,
+    alloc: Global,
+    file: usize,
+    list: &[Known<&T>],
+) -> Result<(), AllocError>
+    ensures { OnOk result (AddsSpots places.old places.new
+        (λ (name : Text). spots_known T.part_names file name list.now)) }
+{
+    'items: for known in list {
+        put(places, alloc, file, known)?;
+    }
+    Ok(())
+}
+
+fn put<T: HasParts>(
+    places: &mut BTreeMap<String, Vec<Place>>,
+    alloc: Global,
+    file: usize,
+    known: &Known<&T>,
+) -> Result<(), AllocError>
+    ensures { OnOk result (AddsSpots places.old places.new
+        (λ (name : Text). spots_known T.part_names file name (known.now ∷ []))) }
+{
+    let place = Place {
+        file,
+        path: known::copied(alloc, &known.path)?,
+        index: known.index,
+        positions: known.what.positions(alloc)?,
+    };
+    groups::put(places, known.name.clone()?, place)
+}
+
+// ---- numbers of enums' values
+
+/// Reads the number of each value. It has 32 bits, as its type says; the encoder asks it of all of
+/// them.
+fn read_enums(enums: &[Known<&EnumDescriptorProto>])
+    ensures { HaveSmall (map enum_known enums.now) }
+{
+    'enums: for known in enums {
+        read_values(&known.what.value);
+    }
+}
+
+fn read_values(values: &[EnumValueDescriptorProto])
+    ensures { AreSmall (map enum_value_view values.now) }
+{
+    'values: for value in values {
+        read_number(value);
+    }
+}
+
+fn read_number(value: &EnumValueDescriptorProto)
+    ensures { FitsSigned w32 value.now.number }
+{
+    let _number = value.number;
+}

@@ -1,0 +1,138 @@
+//! What the custom options among the statements of a construct become.
+
+ghost use Rattle.std.specs.Prelude.{◌≡◌, ◌++◌, flat_map, map};
+ghost use Rattle.protobuf_parse_syntax.specs.Trees.{constant_view, option_part_view, option_view};
+ghost use Rattle.protobuf_parse_model.specs.Faults.{Blames, Elaborates};
+ghost use Rattle.protobuf_parse_model.specs.OptionTables.{table_of};
+ghost use Rattle.protobuf_parse_model.specs.OptionViews.{options_seen};
+ghost use Rattle.protobuf_parse_options.specs.CustomFaults.{builtin_step_faults, custom_faults};
+ghost use Rattle.protobuf_parse_options.specs.CustomFaults.{custom_name_faults};
+ghost use Rattle.protobuf_parse_options.specs.CustomFaults.{custom_statement_faults};
+ghost use Rattle.protobuf_parse_options.specs.CustomOptions.{denotes, items_of_option, path_items};
+ghost use Rattle.protobuf_parse_wire.specs.Encoded.{encoded};
+ghost use Rattle.protobuf_parse_options.specs.Given.{option_place_view};
+ghost use Rattle.protobuf_parse_options.specs.OptionFields.{options_message};
+ghost use Rattle.protobuf_parse_wire.specs.Views.{entry_view};
+
+use crate::fields::OptionPlace;
+use crate::paths::push_path;
+use crate::refuse::fault;
+use protobuf_parse_model::{Construct, ElabErrorKind, ElabFailure, has_builtin_option};
+use protobuf_parse_syntax::{
+    ProtobufConstant, ProtobufOption, ProtobufOptionName, ProtobufOptionNamePart,
+};
+use protobuf_parse_wire::{Entry, encode};
+use std::alloc::Global;
+
+/// The bytes that spell what the statements of the construct denote.
+pub fn bytes_of(
+    alloc: Global,
+    at: &OptionPlace<'_, '_>,
+    construct: Construct,
+    options: &[&ProtobufOption],
+) -> Result<Vec<u8>, ElabFailure>
+    ensures { let s = option_place_view at.now in let os = options_seen options.now in
+        Elaborates (λ v. v.items) result (custom_statement_faults s construct os)
+        (encoded (denotes s construct os)) }
+{
+    let mut entries = Vec::new(alloc);
+    push_options(alloc, at, construct, options, &mut entries)?;
+    let bytes = encode(alloc, &entries)?;
+    Ok(bytes)
+}
+
+/// Adds the entries that the statements give, in their order.
+#[tactic(auto, using(protobuf_parse_model::proofs::Blaming::blames_at))]
+fn push_options(
+    alloc: Global,
+    at: &OptionPlace<'_, '_>,
+    construct: Construct,
+    options: &[&ProtobufOption],
+    entries: &mut Vec<Entry>,
+) -> Result<(), ElabFailure>
+    ensures { let s = option_place_view at.now in let os = options_seen options.now in
+        Elaborates (λ u. map entry_view entries.new.items) result
+        (custom_statement_faults s construct os)
+        (map entry_view entries.old.items ++ flat_map (items_of_option s construct) os) }
+{
+    'options: for option in options {
+        push_option(alloc, at, construct, option, entries)?;
+    }
+    Ok(())
+}
+
+fn push_option(
+    alloc: Global,
+    at: &OptionPlace<'_, '_>,
+    construct: Construct,
+    option: &ProtobufOption,
+    entries: &mut Vec<Entry>,
+) -> Result<(), ElabFailure>
+    ensures { let s = option_place_view at.now in let o = option_view option.now in
+        Elaborates (λ u. map entry_view entries.new.items) result
+        (custom_name_faults s construct o.value o.name)
+        (map entry_view entries.old.items ++ items_of_option s construct o) }
+{
+    match &option.name {
+        ProtobufOptionName::Builtin(_) => Ok(()),
+        ProtobufOptionName::Custom(parts) => {
+            push_custom(alloc, at, construct, parts, &option.value, entries)
+        }
+    }
+}
+
+fn push_custom(
+    alloc: Global,
+    at: &OptionPlace<'_, '_>,
+    construct: Construct,
+    parts: &[ProtobufOptionNamePart],
+    value: &ProtobufConstant,
+    entries: &mut Vec<Entry>,
+) -> Result<(), ElabFailure>
+    ensures { let s = option_place_view at.now in let ps = map option_part_view parts.now in
+        let c = constant_view value.now in
+        Elaborates (λ u. map entry_view entries.new.items) result (custom_faults s construct c ps)
+        (map entry_view entries.old.items ++ path_items s c (options_message construct) ps) }
+{
+    let [first, ..] = parts else {
+        return Ok(());
+    };
+    match first {
+        ProtobufOptionNamePart::Direct(name) => Err(plain_first(alloc, construct, name)),
+        ProtobufOptionNamePart::Ext(_) => {
+            let message = options_message(construct);
+            push_path(parts, alloc, at, parts, value, message, entries)
+        }
+    }
+}
+
+/// The failure for a name that goes on from a plain part: E28 from `uninterpreted_option`, E16 from
+/// any other built-in option, E17 where there is none.
+fn plain_first(alloc: Global, construct: Construct, name: &str) -> ElabFailure
+    ensures { Blames result (builtin_step_faults (table_of construct) name.now) }
+{
+    let kind = if name == "uninterpreted_option" {
+        ElabErrorKind::UninterpretedOptionName
+    } else if has_builtin_option(construct, name) {
+        ElabErrorKind::ExtensionIsNotMessage
+    } else {
+        ElabErrorKind::UnknownFieldName
+    };
+    fault(alloc, kind, name)
+}
+
+/// The full name of the message that holds the options of the construct.
+fn options_message(construct: Construct) -> &'static str
+    ensures { result.now ≡ options_message construct }
+{
+    match construct {
+        Construct::File => ".google.protobuf.FileOptions",
+        Construct::Message => ".google.protobuf.MessageOptions",
+        Construct::Field => ".google.protobuf.FieldOptions",
+        Construct::Oneof => ".google.protobuf.OneofOptions",
+        Construct::Enum => ".google.protobuf.EnumOptions",
+        Construct::EnumValue => ".google.protobuf.EnumValueOptions",
+        Construct::Service => ".google.protobuf.ServiceOptions",
+        Construct::Method => ".google.protobuf.MethodOptions",
+    }
+}

@@ -1,0 +1,97 @@
+//! The bytes that strings stand for.
+
+ghost use Rattle.std.specs.Prelude.{◌≡◌, unwrap_or, [], OnOk};
+ghost use Rattle.protobuf_parse_syntax.specs.Decoder.{decode, text_of};
+ghost use Rattle.protobuf_parse_syntax.specs.Trees.{pieces_of};
+ghost use Rattle.protobuf_parse_syntax.specs.declared.lexer.str_lit.StrLitDecodeError.TheVariants.{Memory};
+ghost use Rattle.protobuf_parse_model.specs.BuiltinOptions.{string_faults};
+ghost use Rattle.protobuf_parse_model.specs.Descriptors.{field_view};
+ghost use Rattle.protobuf_parse_model.specs.Duplicates as duplicates;
+ghost use Rattle.protobuf_parse_model.specs.Faults.{Blames, Elaborates};
+ghost use Rattle.protobuf_parse_model.specs.declared.error.ElabErrorKind.TheVariants.{StrLitDecode};
+ghost use Rattle.protobuf_parse_options.specs.CustomFaults.{string_value_faults};
+ghost use Rattle.protobuf_parse_options.specs.Given.{path_said};
+ghost use Rattle.protobuf_parse_options.specs.OptionFields.{type_takes};
+
+use crate::refuse::{fault, not_taken};
+use protobuf_parse_model::{
+    ElabErrorKind, ElabFailure, FieldDescriptorProto, FieldType, path_text,
+};
+use protobuf_parse_syntax::{ProtobufOptionNamePart, StrLit, StrLitDecodeError};
+use std::alloc::{AllocError, Global};
+
+/// The bytes of the string that the option of that name gives to the field. E9 for one that says
+/// nothing, of a text field too for one that is no text.
+pub fn bytes_given(
+    alloc: Global,
+    option: &[ProtobufOptionNamePart],
+    field: &FieldDescriptorProto,
+    string: &StrLit,
+) -> Result<Vec<u8>, ElabFailure>
+    ensures { let f = field_view field.now in let pieces = pieces_of string.now in
+        Elaborates (λ v. v.items) result
+        (string_value_faults (path_said option.now) f.name (type_takes f.type_) pieces)
+        (unwrap_or (decode pieces) []) }
+{
+    match field.type_ {
+        FieldType::String => text_said(alloc, option, string),
+        FieldType::Bytes => bytes_said(alloc, option, string),
+        _ => Err(not_taken(alloc, field)),
+    }
+}
+
+fn text_said(
+    alloc: Global,
+    option: &[ProtobufOptionNamePart],
+    string: &StrLit,
+) -> Result<Vec<u8>, ElabFailure>
+    ensures { let pieces = pieces_of string.now in
+        Elaborates (λ v. v.items) result (string_faults (path_said option.now) (text_of pieces))
+        (unwrap_or (decode pieces) []) }
+{
+    match string.decode_utf8(alloc) {
+        Ok(text) => Ok(text.into_bytes()),
+        Err(error) => {
+            check_memory(error)?;
+            Err(says_nothing(alloc, option))
+        }
+    }
+}
+
+fn bytes_said(
+    alloc: Global,
+    option: &[ProtobufOptionNamePart],
+    string: &StrLit,
+) -> Result<Vec<u8>, ElabFailure>
+    ensures { let pieces = pieces_of string.now in
+        Elaborates (λ v. v.items) result (string_faults (path_said option.now) (decode pieces))
+        (unwrap_or (decode pieces) []) }
+{
+    match string.decode_bytes(alloc) {
+        Ok(bytes) => Ok(bytes),
+        Err(error) => {
+            check_memory(error)?;
+            Err(says_nothing(alloc, option))
+        }
+    }
+}
+
+/// The failure for a string that says nothing, by the option's name: E9.
+fn says_nothing(alloc: Global, option: &[ProtobufOptionNamePart]) -> ElabFailure
+    ensures { Blames result (duplicates.fault StrLitDecode (path_said option.now)) }
+{
+    match path_text(alloc, option) {
+        Ok(name) => fault(alloc, ElabErrorKind::StrLitDecode, &name),
+        Err(_) => ElabFailure::Memory,
+    }
+}
+
+/// Fails where memory ran out.
+fn check_memory(error: StrLitDecodeError) -> Result<(), AllocError>
+    ensures { OnOk result (error ≡ Memory → ⊥) }
+{
+    match error {
+        StrLitDecodeError::Memory => Err(AllocError),
+        StrLitDecodeError::BadEscape | StrLitDecodeError::NotUtf8 => Ok(()),
+    }
+}

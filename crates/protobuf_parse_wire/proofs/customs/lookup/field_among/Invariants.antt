@@ -1,8 +1,0 @@
-use Rattle.std.proofs.Common.{◌≡◌, map, drop}
-use Rattle.protobuf_parse_model.specs.Descriptors.{field_view}
-use Rattle.protobuf_parse_wire.specs.Known.{field_among}
-use Rattle.protobuf_parse_wire.proofs.customs.lookup.field_among.Given as goal
-
-abbrev pub invariant-fields : goal.invariant-fields
-invariant-fields l = field_among (map field_view l.fields) l.name ≡ field_among
-    (map field_view (drop l.field-index l.fields)) l.name
