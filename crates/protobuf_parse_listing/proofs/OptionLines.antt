@@ -21,7 +21,8 @@ use Rattle.protobuf_parse_model.specs.OptionsSet.{file_options, message_options,
 use Rattle.protobuf_parse_model.specs.OptionsSet.{oneof_options, enum_options, enum_value_options}
 use Rattle.protobuf_parse_model.specs.OptionsSet.{service_options, method_options}
 use Rattle.protobuf_parse_listing.specs.Listing.{Setting, setting_line, setting_lines, custom_line}
-use Rattle.protobuf_parse_listing.specs.Listing.{truth_setting, optimize_for_word, ctype_word, jstype_word}
+use Rattle.protobuf_parse_listing.specs.Listing.{truth_setting, optimize_for_word, ctype_word}
+use Rattle.protobuf_parse_listing.specs.Listing.{jstype_word}
 use Rattle.protobuf_parse_listing.specs.Listing.{idempotency_level_word, file_option_lines}
 use Rattle.protobuf_parse_listing.specs.Listing.{message_option_lines, field_option_lines}
 use Rattle.protobuf_parse_listing.specs.Listing.{oneof_option_lines, enum_option_lines}

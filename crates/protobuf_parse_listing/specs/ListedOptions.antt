@@ -12,7 +12,8 @@ use Rattle.protobuf_parse_model.specs.OptionNumbers.{Numbers, AreNumbered, in_or
 use Rattle.protobuf_parse_model.specs.OptionNumbers.{optimize_mode_numbers, c_type_numbers}
 use Rattle.protobuf_parse_model.specs.OptionNumbers.{js_type_numbers, idempotency_level_numbers}
 use Rattle.protobuf_parse_model.specs.OptionTables.{option_names_in}
-use Rattle.protobuf_parse_listing.specs.Listing.{Setting, quoted, listed_truth, setting_lines, custom_line}
+use Rattle.protobuf_parse_listing.specs.Listing.{Setting, quoted, listed_truth, setting_lines}
+use Rattle.protobuf_parse_listing.specs.Listing.{custom_line}
 
 -- the name that a constant is, where it is one of these
 abbrev pub word_among : List Text → ConstantSyntax → Option Text

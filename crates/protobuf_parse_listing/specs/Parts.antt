@@ -6,7 +6,8 @@ use Rattle.protobuf_parse_model.specs.Descriptors.{MessageDescriptor, messages_o
 use Rattle.protobuf_parse_model.specs.Descriptors.{message_parts, message_view, message_view_is}
 use Rattle.protobuf_parse_model.specs.declared.descriptor.DescriptorProto.{DescriptorProto}
 use Rattle.protobuf_parse_model.specs.declared.descriptor.DescriptorProto.{out-DescriptorProto}
-use Rattle.protobuf_parse_listing.specs.Listing.{line, message_lines, all_message_lines, message_front}
+use Rattle.protobuf_parse_listing.specs.Listing.{line, message_lines, all_message_lines}
+use Rattle.protobuf_parse_listing.specs.Listing.{message_front}
 use Rattle.protobuf_parse_listing.specs.Listing.{message_middle, message_back}
 
 pub all_message_lines_is : (level : ℕ) (ms : List MessageDescriptor)

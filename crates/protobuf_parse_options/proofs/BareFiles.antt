@@ -26,7 +26,8 @@ use Rattle.protobuf_parse_model.specs.Messages.{nested_in, message_of}
 use Rattle.protobuf_parse_model.specs.FileDescriptor as files
 use Rattle.protobuf_parse_model.specs.FileDescriptor.{file_messages_of, services_of, file_of}
 use Rattle.protobuf_parse_model.proofs.SameNames.{with_customs}
-use Rattle.protobuf_parse_options.specs.WithoutOptions.{bare_field, bare_oneof, bare_value, bare_enum}
+use Rattle.protobuf_parse_options.specs.WithoutOptions.{bare_field, bare_oneof, bare_value}
+use Rattle.protobuf_parse_options.specs.WithoutOptions.{bare_enum}
 use Rattle.protobuf_parse_options.specs.WithoutOptions.{bare_message, bare_messages, bare_method}
 use Rattle.protobuf_parse_options.specs.WithoutOptions.{bare_service, bare_file}
 

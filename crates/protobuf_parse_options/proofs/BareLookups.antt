@@ -14,10 +14,12 @@ use Rattle.protobuf_parse_model.specs.Lookup.{declared_in_first, meant, meaning}
 use Rattle.protobuf_parse_wire.specs.Declarations.{Declaration, messages_declared_in}
 use Rattle.protobuf_parse_wire.specs.Declarations.{declared_extensions}
 use Rattle.protobuf_parse_wire.specs.Declarations.{messages_with_name}
-use Rattle.protobuf_parse_options.specs.OptionFields.{OptionScope, declared_enums, fields_of_message}
+use Rattle.protobuf_parse_options.specs.OptionFields.{OptionScope, declared_enums}
+use Rattle.protobuf_parse_options.specs.OptionFields.{fields_of_message}
 use Rattle.protobuf_parse_options.specs.OptionFields.{field_named, values_of_enum, number_of_value}
 use Rattle.protobuf_parse_options.specs.OptionFields.{names_message}
-use Rattle.protobuf_parse_options.specs.WithoutOptions.{bare_field, bare_value, bare_parts, bare_file}
+use Rattle.protobuf_parse_options.specs.WithoutOptions.{bare_field, bare_value, bare_parts}
+use Rattle.protobuf_parse_options.specs.WithoutOptions.{bare_file}
 use Rattle.protobuf_parse_options.specs.WithoutOptions.{DifferOnlyInOptions}
 use Rattle.protobuf_parse_options.proofs.BareDeclarations.{all-become, found-becomes, any-becomes}
 use Rattle.protobuf_parse_options.proofs.BareDeclarations.{bare_declaration, declared-bare}

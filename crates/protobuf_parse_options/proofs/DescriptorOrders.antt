@@ -28,7 +28,8 @@ use Rattle.protobuf_parse_model.proofs.Orders.{extension-once}
 use Rattle.protobuf_parse_wire.specs.Declarations.{Declaration, messages_declared_in}
 use Rattle.protobuf_parse_wire.specs.Declarations.{declared_extensions}
 use Rattle.protobuf_parse_wire.specs.Declarations.{messages_named}
-use Rattle.protobuf_parse_options.specs.OptionFields.{OptionScope, declared_enums, fields_of_message}
+use Rattle.protobuf_parse_options.specs.OptionFields.{OptionScope, declared_enums}
+use Rattle.protobuf_parse_options.specs.OptionFields.{fields_of_message}
 use Rattle.protobuf_parse_options.specs.OptionFields.{field_named, values_of_enum, number_of_value}
 use Rattle.protobuf_parse_options.specs.OptionFields.{names_message}
 use Rattle.protobuf_parse_options.specs.CustomFaults.{custom_statement_faults}
@@ -37,8 +38,10 @@ use Rattle.protobuf_parse_options.specs.OptionBytes.{known_customs, option_bytes
 use Rattle.protobuf_parse_options.specs.SameLookups.{SameLookups}
 use Rattle.protobuf_parse_options.specs.NamesAlike.{message_names, enum_names, described_types}
 use Rattle.protobuf_parse_options.specs.NamesAlike.{described_extensions}
-use Rattle.protobuf_parse_options.specs.DescriptorsByPath.{Environments, described_at, descriptors_at}
-use Rattle.protobuf_parse_options.specs.DescriptorsByPath.{HasFileScopes, HaveSameMembers, AreWithin}
+use Rattle.protobuf_parse_options.specs.DescriptorsByPath.{Environments, described_at}
+use Rattle.protobuf_parse_options.specs.DescriptorsByPath.{descriptors_at}
+use Rattle.protobuf_parse_options.specs.DescriptorsByPath.{HasFileScopes, HaveSameMembers}
+use Rattle.protobuf_parse_options.specs.DescriptorsByPath.{AreWithin}
 use Rattle.protobuf_parse_options.specs.DescriptorsByPath.{AreReordered, OrderMakesNoDifference}
 use Rattle.protobuf_parse_options.proofs.ExtensionsAlike.{extensions_are_counted_alike}
 use Rattle.protobuf_parse_options.proofs.NamesAlike.{types_are_counted_alike}

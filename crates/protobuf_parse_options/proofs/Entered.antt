@@ -37,7 +37,8 @@ use Rattle.protobuf_parse_wire.specs.Declarations.{extends}
 use Rattle.protobuf_parse_options.specs.NamesAlike.{HasPackageName, message_names, enum_names}
 use Rattle.protobuf_parse_options.specs.OptionFields.{fields_of_message}
 use Rattle.protobuf_parse_options.specs.OptionLaw.{IsEntered, fields_at}
-use Rattle.protobuf_parse_options.specs.DescriptorsByPath.{Environments, described_at, descriptors_at}
+use Rattle.protobuf_parse_options.specs.DescriptorsByPath.{Environments, described_at}
+use Rattle.protobuf_parse_options.specs.DescriptorsByPath.{descriptors_at}
 use Rattle.protobuf_parse_options.specs.Recovery.{plainly, plain_at, AreReachedFiles}
 use Rattle.protobuf_parse_options.proofs.MessagesAlike.{messages_are_counted_alike}
 use Rattle.protobuf_parse_options.proofs.NamesAlike.{types_are_counted_alike}

@@ -31,7 +31,8 @@ use Rattle.protobuf_parse_options.specs.OptionFields.{enum_in, declared_enums, v
 use Rattle.protobuf_parse_options.specs.OptionLaw.{HasSmallValues}
 use Rattle.protobuf_parse_options.proofs.Entered.{from_one, mapped_from}
 use Rattle.protobuf_parse_options.proofs.Options.{SplitAmong, left, right, split_among}
-use Rattle.protobuf_parse_options.proofs.Sound.{SoundEnumStatement, SoundEnum, SoundMessageStatement}
+use Rattle.protobuf_parse_options.proofs.Sound.{SoundEnumStatement, SoundEnum}
+use Rattle.protobuf_parse_options.proofs.Sound.{SoundMessageStatement}
 use Rattle.protobuf_parse_options.proofs.Sound.{SoundBody, SoundMessage, SoundStatement, SoundFile}
 use Rattle.protobuf_parse_options.proofs.SoundSets.{both, flat, mapped, of_one}
 

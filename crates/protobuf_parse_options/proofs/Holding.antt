@@ -23,14 +23,16 @@ use Rattle.protobuf_parse_wire.specs.Declarations.{Declaration, messages_declare
 use Rattle.protobuf_parse_wire.specs.Declarations.{messages_named}
 use Rattle.protobuf_parse_options.specs.Holding.{AddsSpots, Picks, Spot, at_spot, at_spots, beside}
 use Rattle.protobuf_parse_options.specs.Holding.{file_numbered, files_seen, inside_of, placed_known}
-use Rattle.protobuf_parse_options.specs.Holding.{spot_in, spot_known, spot_view, spots_in, spots_known}
+use Rattle.protobuf_parse_options.specs.Holding.{spot_in, spot_known, spot_view, spots_in}
+use Rattle.protobuf_parse_options.specs.Holding.{spots_known}
 use Rattle.protobuf_parse_options.specs.Holding.{spots_of, spots_under}
 use Rattle.protobuf_parse_wire.specs.Groups.{group}
 use Rattle.protobuf_parse_wire.specs.Indexed.{parts_seen}
 use Rattle.protobuf_parse_options.specs.Places.{Inside, Placed, one_inside, placed_messages}
 use Rattle.protobuf_parse_wire.proofs.Adding.{messages_named-append}
 use Rattle.protobuf_parse_options.proofs.Found.{mapped_rest}
-use Rattle.protobuf_parse_options.proofs.Placing.{StandsIn, declared_of, message_of, messages_without}
+use Rattle.protobuf_parse_options.proofs.Placing.{StandsIn, declared_of, message_of}
+use Rattle.protobuf_parse_options.proofs.Placing.{messages_without}
 use Rattle.protobuf_parse_model.specs.Tables.{picked}
 use Rattle.protobuf_parse_model.proofs.Picks.{among, picked_among}
 

@@ -20,9 +20,11 @@ use Rattle.protobuf_parse_wire.specs.Trees as trees
 use Rattle.protobuf_parse_wire.specs.Views.{WireItem, entries_of_list}
 use Rattle.protobuf_parse_wire.specs.Declarations.{extends}
 use Rattle.protobuf_parse_options.specs.OptionFields.{OptionScope, options_message, field_named}
-use Rattle.protobuf_parse_options.specs.OptionFields.{number_of_value, names_message, extension_meant}
+use Rattle.protobuf_parse_options.specs.OptionFields.{number_of_value, names_message}
+use Rattle.protobuf_parse_options.specs.OptionFields.{extension_meant}
 use Rattle.protobuf_parse_options.specs.OptionFields.{extends_message, if_extends, extension_named}
-use Rattle.protobuf_parse_options.specs.OptionFields.{part_field, constant_field, type_name_of, Takes}
+use Rattle.protobuf_parse_options.specs.OptionFields.{part_field, constant_field, type_name_of}
+use Rattle.protobuf_parse_options.specs.OptionFields.{Takes}
 use Rattle.protobuf_parse_options.specs.OptionFields.{names_of_values, messages, type_takes}
 use Rattle.protobuf_parse_options.specs.CustomOptions.{item_of, item_of_message, value_items}
 use Rattle.protobuf_parse_options.specs.CustomOptions.{list_items}

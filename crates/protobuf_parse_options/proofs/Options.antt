@@ -38,7 +38,8 @@ use Rattle.protobuf_parse_wire.specs.Declarations.{messages_with_name, declared_
 use Rattle.protobuf_parse_wire.specs.Declarations.{extensions_declared_in}
 use Rattle.protobuf_parse_wire.specs.Declarations.{extensions_extending, extends}
 use Rattle.protobuf_parse_wire.specs.Law.{Suit, ValueSuits, Enters}
-use Rattle.protobuf_parse_options.specs.OptionFields.{OptionScope, options_message, fields_of_message}
+use Rattle.protobuf_parse_options.specs.OptionFields.{OptionScope, options_message}
+use Rattle.protobuf_parse_options.specs.OptionFields.{fields_of_message}
 use Rattle.protobuf_parse_options.specs.OptionFields.{field_named, if_extends, names_message}
 use Rattle.protobuf_parse_options.specs.OptionFields.{extension_meant, extension_named}
 use Rattle.protobuf_parse_options.specs.OptionFields.{number_of_value, part_field, constant_field}
@@ -46,7 +47,8 @@ use Rattle.protobuf_parse_options.specs.OptionFields.{type_name_of, type_takes}
 use Rattle.protobuf_parse_options.specs.CustomOptions.{item_of_message, value_items, list_items}
 use Rattle.protobuf_parse_options.specs.CustomOptions.{field_items, path_items, named_items}
 use Rattle.protobuf_parse_options.specs.CustomOptions.{items_of_option, denotes}
-use Rattle.protobuf_parse_options.specs.CustomFaults.{integer_faults, truth_faults, value_name_faults}
+use Rattle.protobuf_parse_options.specs.CustomFaults.{integer_faults, truth_faults}
+use Rattle.protobuf_parse_options.specs.CustomFaults.{value_name_faults}
 use Rattle.protobuf_parse_options.specs.CustomFaults.{string_value_faults, message_value_faults}
 use Rattle.protobuf_parse_options.specs.CustomFaults.{number_faults, constant_name_faults}
 use Rattle.protobuf_parse_options.specs.CustomFaults.{value_faults, list_faults, field_faults}

@@ -17,7 +17,8 @@ use Rattle.protobuf_parse_model.specs.declared.error.ElabFailure.{ElabFailure}
 use Rattle.protobuf_parse_model.specs.Faults.{Elaborates, Fault}
 use Rattle.protobuf_parse_model.specs.Descriptors.{Text, FieldDescriptor}
 use Rattle.protobuf_parse_options.specs.CustomFaults.{value_faults, list_faults, field_faults}
-use Rattle.protobuf_parse_options.specs.CustomFaults.{message_value_faults, part_faults, path_faults}
+use Rattle.protobuf_parse_options.specs.CustomFaults.{message_value_faults, part_faults}
+use Rattle.protobuf_parse_options.specs.CustomFaults.{path_faults}
 use Rattle.protobuf_parse_options.specs.CustomOptions.{value_items, list_items, field_items}
 use Rattle.protobuf_parse_options.specs.CustomOptions.{item_of_message, path_items}
 use Rattle.protobuf_parse_options.specs.Given.{field_faults_of, given_field_items, through_faults}

@@ -24,8 +24,10 @@ use Rattle.protobuf_parse_options.specs.Places.{Inside, Placed, down, enum_name,
 use Rattle.protobuf_parse_options.specs.Places.{extensions_inside, field_name, inside_file}
 use Rattle.protobuf_parse_options.specs.Places.{inside_message, messages_inside, next_inside}
 use Rattle.protobuf_parse_options.specs.Places.{one_inside}
-use Rattle.protobuf_parse_options.specs.Places.{path_to, placed_each, placed_enums, placed_extensions}
-use Rattle.protobuf_parse_options.specs.Places.{placed_in, placed_inside, placed_list, placed_message}
+use Rattle.protobuf_parse_options.specs.Places.{path_to, placed_each, placed_enums}
+use Rattle.protobuf_parse_options.specs.Places.{placed_extensions}
+use Rattle.protobuf_parse_options.specs.Places.{placed_in, placed_inside, placed_list}
+use Rattle.protobuf_parse_options.specs.Places.{placed_message}
 use Rattle.protobuf_parse_options.specs.Places.{placed_messages, placed_nested}
 use Rattle.protobuf_parse_options.proofs.SoundSets.{both, flat}
 

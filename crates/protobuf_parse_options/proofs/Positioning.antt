@@ -11,7 +11,8 @@ use Rattle.protobuf_parse_model.specs.Descriptors.{EnumDescriptor}
 use Rattle.protobuf_parse_model.specs.Descriptors.{MessageDescriptor}
 use Rattle.protobuf_parse_options.specs.declared.picked_files.PickedFiles.{PickedFiles}
 use Rattle.protobuf_parse_options.specs.ByName.{values_of_all}
-use Rattle.protobuf_parse_options.specs.Holding.{Picks, Spot, at_spot, at_spots, field_there, found_by}
+use Rattle.protobuf_parse_options.specs.Holding.{Picks, Spot, at_spot, at_spots, field_there}
+use Rattle.protobuf_parse_options.specs.Holding.{found_by}
 use Rattle.protobuf_parse_options.specs.Holding.{inside_of, number_there, spot_in}
 use Rattle.protobuf_parse_options.specs.Holding.{spots_in, spots_of}
 use Rattle.protobuf_parse_wire.specs.Indexed.{parts_seen}
@@ -20,7 +21,8 @@ use Rattle.protobuf_parse_options.specs.Places.{Inside, Placed, enums_inside, fi
 use Rattle.protobuf_parse_options.specs.Places.{messages_inside, one_inside}
 use Rattle.protobuf_parse_options.specs.Positions.{most_walked, field_inside, field_names}
 use Rattle.protobuf_parse_options.specs.Positions.{kept_position, name_of_value}
-use Rattle.protobuf_parse_options.specs.Positions.{number_inside, part_in, position_from, value_names}
+use Rattle.protobuf_parse_options.specs.Positions.{number_inside, part_in, position_from}
+use Rattle.protobuf_parse_options.specs.Positions.{value_names}
 use Rattle.protobuf_parse_options.specs.Positions.{value_number}
 use Rattle.protobuf_parse_options.proofs.ByName.{fields_more, fields_of, values_more}
 use Rattle.protobuf_parse_options.proofs.Holding.{numbered_is}

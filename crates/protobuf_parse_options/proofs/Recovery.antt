@@ -25,15 +25,18 @@ use Rattle.protobuf_parse_options.specs.OptionFields.{OptionScope, options_messa
 use Rattle.protobuf_parse_options.specs.OptionFields.{extension_meant, part_field}
 use Rattle.protobuf_parse_options.specs.CustomFaults.{extension_name_faults, number_faults}
 use Rattle.protobuf_parse_options.specs.CustomFaults.{value_faults}
-use Rattle.protobuf_parse_options.specs.CustomFaults.{path_faults, custom_faults, custom_name_faults}
+use Rattle.protobuf_parse_options.specs.CustomFaults.{path_faults, custom_faults}
+use Rattle.protobuf_parse_options.specs.CustomFaults.{custom_name_faults}
 use Rattle.protobuf_parse_options.specs.CustomFaults.{custom_statement_faults}
-use Rattle.protobuf_parse_options.specs.CustomOptions.{named_items, items_of_option, denotes, scope_of}
+use Rattle.protobuf_parse_options.specs.CustomOptions.{named_items, items_of_option, denotes}
+use Rattle.protobuf_parse_options.specs.CustomOptions.{scope_of}
 use Rattle.protobuf_parse_wire.specs.Encoded.{encoded}
 use Rattle.protobuf_parse_wire.specs.Views.{entries_of_list}
 use Rattle.protobuf_parse_options.specs.NamesAlike.{HasPackageName}
 use Rattle.protobuf_parse_options.specs.Recovery.{plainly, plain_at, AreReachedFiles, HasCustom}
 use Rattle.protobuf_parse_options.specs.Recovery.{OptionsAreRecovered, PlainOptionsAreNoBytes}
-use Rattle.protobuf_parse_options.proofs.Entered.{declared_entered, held_entered, described, describes}
+use Rattle.protobuf_parse_options.proofs.Entered.{declared_entered, held_entered, described}
+use Rattle.protobuf_parse_options.proofs.Entered.{describes}
 use Rattle.protobuf_parse_options.proofs.Sound.{SoundFile, text_sound, package_named}
 use Rattle.protobuf_parse_options.proofs.SoundSets.{set_shallow}
 use Rattle.protobuf_parse_options.proofs.EnumNumbers.{SmallFile, file_small, values_small}

@@ -14,7 +14,8 @@ use Rattle.protobuf_parse_model.specs.OptionSets.{OptionSet, option_sets}
 use Rattle.protobuf_parse_model.proofs.Orders.{first-among}
 use Rattle.protobuf_parse_options.specs.CustomFaults.{custom_statement_faults, custom_option_faults}
 use Rattle.protobuf_parse_options.specs.CustomOptions.{scope_of}
-use Rattle.protobuf_parse_options.specs.DescriptorsByPath.{Environments, described_at, descriptors_at}
+use Rattle.protobuf_parse_options.specs.DescriptorsByPath.{Environments, described_at}
+use Rattle.protobuf_parse_options.specs.DescriptorsByPath.{descriptors_at}
 use Rattle.protobuf_parse_options.specs.DescriptorsByPath.{HasFileScopes, AreWithin}
 use Rattle.protobuf_parse_wire.specs.Encoded.{encoded}
 use Rattle.protobuf_parse_wire.specs.Law.{said}

@@ -14,7 +14,8 @@ use Rattle.protobuf_parse_model.specs.Descriptors.{FileDescriptor}
 use Rattle.protobuf_parse_options.specs.declared.known.Known.{Known}
 use Rattle.protobuf_parse_options.specs.Holding.{enums_placed}
 use Rattle.protobuf_parse_options.specs.Places.{placed_enums}
-use Rattle.protobuf_parse_options.specs.Known.{enum_known, number_among, values_among, values_if_named}
+use Rattle.protobuf_parse_options.specs.Known.{enum_known, number_among, values_among}
+use Rattle.protobuf_parse_options.specs.Known.{values_if_named}
 use Rattle.protobuf_parse_options.specs.OptionFields.{declared_enums}
 use Rattle.protobuf_parse_options.specs.OptionLaw.{HasSmallValues}
 use Rattle.protobuf_parse_options.specs.SmallValues.{AreSmall, HaveSmall}

@@ -14,7 +14,8 @@ use Rattle.protobuf_parse_model.specs.Environment.{option_path_text}
 use Rattle.protobuf_parse_model.specs.Faults.{Blames, Elaborates, Fault}
 use Rattle.protobuf_parse_model.specs.OptionTables.{table_of}
 use Rattle.protobuf_parse_wire.specs.declared.entry.Entry.{Entry}
-use Rattle.protobuf_parse_options.specs.CustomFaults.{builtin_step_faults, custom_faults, path_faults}
+use Rattle.protobuf_parse_options.specs.CustomFaults.{builtin_step_faults, custom_faults}
+use Rattle.protobuf_parse_options.specs.CustomFaults.{path_faults}
 use Rattle.protobuf_parse_options.specs.CustomOptions.{denotes, items_of_option, path_items}
 use Rattle.protobuf_parse_options.specs.Given.{path_said}
 use Rattle.protobuf_parse_options.specs.OptionFields.{OptionScope, options_message}

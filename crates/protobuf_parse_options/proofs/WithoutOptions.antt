@@ -12,7 +12,8 @@ use Rattle.protobuf_parse_model.specs.FileDescriptor.{file_of}
 use Rattle.protobuf_parse_wire.specs.Reading.{reader}
 use Rattle.protobuf_parse_wire.specs.Encoded.{encoded}
 use Rattle.protobuf_parse_options.specs.OptionBytes.{known_customs, option_bytes}
-use Rattle.protobuf_parse_options.specs.DescriptorsByPath.{Environments, described_at, descriptors_at}
+use Rattle.protobuf_parse_options.specs.DescriptorsByPath.{Environments, described_at}
+use Rattle.protobuf_parse_options.specs.DescriptorsByPath.{descriptors_at}
 use Rattle.protobuf_parse_options.specs.WithoutOptions.{bare_file, ReadingIgnoresOptions}
 use Rattle.protobuf_parse_options.specs.WithoutOptions.{MeaningIgnoresOptions, CustomsIgnoreOptions}
 use Rattle.protobuf_parse_options.specs.WithoutOptions.{DifferOnlyInCustoms, CustomsAreOptions}

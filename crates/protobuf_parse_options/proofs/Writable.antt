@@ -35,11 +35,13 @@ use Rattle.protobuf_parse_options.specs.OptionLaw.{HasSmallValues}
 use Rattle.protobuf_parse_options.specs.CustomOptions.{value_items, list_items, field_items}
 use Rattle.protobuf_parse_options.specs.CustomOptions.{path_items, item_of_message, named_items}
 use Rattle.protobuf_parse_options.specs.CustomOptions.{items_of_option, denotes}
-use Rattle.protobuf_parse_options.specs.CustomFaults.{integer_faults, truth_faults, value_name_faults}
+use Rattle.protobuf_parse_options.specs.CustomFaults.{integer_faults, truth_faults}
+use Rattle.protobuf_parse_options.specs.CustomFaults.{value_name_faults}
 use Rattle.protobuf_parse_options.specs.CustomFaults.{string_value_faults, message_value_faults}
 use Rattle.protobuf_parse_options.specs.CustomFaults.{number_faults, constant_name_faults}
 use Rattle.protobuf_parse_options.specs.CustomFaults.{value_faults, list_faults, field_faults}
-use Rattle.protobuf_parse_options.specs.CustomFaults.{part_faults, step_faults, path_faults, table_of}
+use Rattle.protobuf_parse_options.specs.CustomFaults.{part_faults, step_faults, path_faults}
+use Rattle.protobuf_parse_options.specs.CustomFaults.{table_of}
 use Rattle.protobuf_parse_options.specs.CustomFaults.{option_names_in, builtin_step_faults}
 use Rattle.protobuf_parse_options.specs.CustomFaults.{custom_faults}
 use Rattle.protobuf_parse_options.specs.CustomFaults.{custom_name_faults, custom_statement_faults}

@@ -38,7 +38,8 @@ use Rattle.protobuf_parse_options.specs.OptionFields.{OptionScope, options_messa
 use Rattle.protobuf_parse_options.specs.OptionFields.{number_of_value, extension_meant}
 use Rattle.protobuf_parse_options.specs.OptionFields.{extends_message, part_field, constant_field}
 use Rattle.protobuf_parse_options.specs.OptionFields.{type_name_of, Takes, integers, truths}
-use Rattle.protobuf_parse_options.specs.OptionFields.{names_of_values, texts, octets, messages, floats}
+use Rattle.protobuf_parse_options.specs.OptionFields.{names_of_values, texts, octets, messages}
+use Rattle.protobuf_parse_options.specs.OptionFields.{floats}
 use Rattle.protobuf_parse_options.specs.OptionFields.{groups, type_takes}
 use Rattle.protobuf_parse_options.specs.CustomOptions.{scope_of}
 

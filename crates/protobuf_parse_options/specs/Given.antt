@@ -10,7 +10,8 @@ use Rattle.protobuf_parse_model.specs.Descriptors.{Text, FieldDescriptor}
 use Rattle.protobuf_parse_model.specs.Environment.{part_text, option_path_text}
 use Rattle.protobuf_parse_model.specs.Faults.{Fault}
 use Rattle.protobuf_parse_options.specs.declared.fields.OptionPlace.{OptionPlace}
-use Rattle.protobuf_parse_options.specs.CustomFaults.{constant_name_faults, number_faults, path_faults}
+use Rattle.protobuf_parse_options.specs.CustomFaults.{constant_name_faults, number_faults}
+use Rattle.protobuf_parse_options.specs.CustomFaults.{path_faults}
 use Rattle.protobuf_parse_options.specs.CustomFaults.{step_faults, value_faults}
 use Rattle.protobuf_parse_options.specs.CustomOptions.{item_of_message, path_items, value_items}
 use Rattle.protobuf_parse_options.specs.Holding.{files_seen}

@@ -13,7 +13,8 @@ use Rattle.protobuf_parse_options.specs.OptionFields.{OptionScope, field_named, 
 use Rattle.protobuf_parse_options.specs.OptionFields.{names_message, extension_meant}
 use Rattle.protobuf_parse_options.specs.CustomOptions.{denotes}
 use Rattle.protobuf_parse_options.specs.CustomFaults.{custom_statement_faults}
-use Rattle.protobuf_parse_options.specs.DescriptorsByPath.{Environments, descriptors_at, HasFileScopes}
+use Rattle.protobuf_parse_options.specs.DescriptorsByPath.{Environments, descriptors_at}
+use Rattle.protobuf_parse_options.specs.DescriptorsByPath.{HasFileScopes}
 use Rattle.protobuf_parse_options.specs.DescriptorsByPath.{AreWithin}
 
 -- What a name means from the first it means from the second; from there other names may mean

@@ -14,7 +14,8 @@ use Rattle.protobuf_parse_wire.specs.Declarations.{messages_with_name, extension
 use Rattle.protobuf_parse_wire.specs.Declarations.{have_distinct_numbers}
 use Rattle.protobuf_parse_wire.specs.Reading.{reader}
 use Rattle.protobuf_parse_wire.specs.Law.{said, depth}
-use Rattle.protobuf_parse_options.specs.OptionFields.{OptionScope, options_message, fields_of_message}
+use Rattle.protobuf_parse_options.specs.OptionFields.{OptionScope, options_message}
+use Rattle.protobuf_parse_options.specs.OptionFields.{fields_of_message}
 use Rattle.protobuf_parse_options.specs.OptionFields.{number_of_value}
 use Rattle.protobuf_parse_options.specs.CustomOptions.{denotes}
 use Rattle.protobuf_parse_options.specs.CustomFaults.{custom_statement_faults}

@@ -11,7 +11,8 @@ ghost use Rattle.protobuf_parse_options.specs.CustomFaults.{integer_faults, mess
 ghost use Rattle.protobuf_parse_options.specs.CustomFaults.{string_value_faults, truth_faults};
 ghost use Rattle.protobuf_parse_options.specs.CustomFaults.{value_faults};
 ghost use Rattle.protobuf_parse_options.specs.CustomOptions.{item_of, item_of_message, value_items};
-ghost use Rattle.protobuf_parse_options.specs.Given.{field_faults_of, given_field_items, given_faults};
+ghost use Rattle.protobuf_parse_options.specs.Given.{field_faults_of, given_field_items};
+ghost use Rattle.protobuf_parse_options.specs.Given.{given_faults};
 ghost use Rattle.protobuf_parse_options.specs.Given.{option_place_view, path_said};
 ghost use Rattle.protobuf_parse_options.specs.Holding.{files_seen};
 ghost use Rattle.protobuf_parse_options.specs.OptionFields.{type_takes, type_name_of};

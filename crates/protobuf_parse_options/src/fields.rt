@@ -5,7 +5,8 @@ ghost use Rattle.protobuf_parse_syntax.specs.Trees.{constant_name_view, option_p
 ghost use Rattle.protobuf_parse_model.specs.Descriptors.{field_view};
 ghost use Rattle.protobuf_parse_model.specs.Faults.{Elaborates};
 ghost use Rattle.protobuf_parse_options.specs.CustomFaults.{bracketed, constant_name_faults};
-ghost use Rattle.protobuf_parse_options.specs.CustomFaults.{extension_name_faults, field_name_faults};
+ghost use Rattle.protobuf_parse_options.specs.CustomFaults.{extension_name_faults};
+ghost use Rattle.protobuf_parse_options.specs.CustomFaults.{field_name_faults};
 ghost use Rattle.protobuf_parse_options.specs.CustomFaults.{part_faults};
 ghost use Rattle.protobuf_parse_options.specs.Given.{option_place_view};
 ghost use Rattle.protobuf_parse_options.specs.Holding.{files_seen};

@@ -8,7 +8,8 @@ ghost use Rattle.protobuf_parse_options.specs.Holding.{enums_placed, extensions_
 ghost use Rattle.protobuf_parse_options.specs.Holding.{messages_placed};
 ghost use Rattle.protobuf_parse_options.specs.Places.{enum_name, enums_inside, extensions_inside};
 ghost use Rattle.protobuf_parse_options.specs.Places.{field_name, placed_each, placed_enums};
-ghost use Rattle.protobuf_parse_options.specs.Places.{placed_extensions, placed_inside, placed_list};
+ghost use Rattle.protobuf_parse_options.specs.Places.{placed_extensions, placed_inside};
+ghost use Rattle.protobuf_parse_options.specs.Places.{placed_list};
 ghost use Rattle.protobuf_parse_options.specs.Places.{placed_message, placed_messages};
 
 use protobuf_parse_model::{

@@ -3,7 +3,8 @@
 ghost use Rattle.std.specs.Prelude.{◌≡◌, Some, option_map};
 ghost use Rattle.protobuf_parse_model.specs.Descriptors.{file_view, message_view};
 ghost use Rattle.protobuf_parse_options.specs.Holding.{members_view};
-ghost use Rattle.protobuf_parse_options.specs.Places.{down, inside_file, inside_message, next_inside};
+ghost use Rattle.protobuf_parse_options.specs.Places.{down, inside_file, inside_message};
+ghost use Rattle.protobuf_parse_options.specs.Places.{next_inside};
 
 use protobuf_parse_model::{
     DescriptorProto, EnumDescriptorProto, FieldDescriptorProto, FileDescriptorProto,

@@ -1,5 +1,6 @@
 use Rattle.std.proofs.Common.{◌∙◌, ap, append-nil, sym, List, ℕ, ◌++◌, string_bytes}
-use Rattle.protobuf_parse_listing.proofs.Appending.{appended_all, appended_five, appended_next, on_ok_then}
+use Rattle.protobuf_parse_listing.proofs.Appending.{appended_all, appended_five, appended_next}
+use Rattle.protobuf_parse_listing.proofs.Appending.{on_ok_then}
 use Rattle.protobuf_parse_model.specs.Descriptors.{message_view}
 use Rattle.protobuf_parse_listing.specs.Listing.{message_lines}
 use Rattle.protobuf_parse_listing.specs.Parts.{message_lines_is}

@@ -1,5 +1,6 @@
 use Rattle.std.proofs.Common.{refl}
-use Rattle.protobuf_parse_listing.proofs.OptionLines.{file_lines_are, message_lines_are, field_lines_are}
+use Rattle.protobuf_parse_listing.proofs.OptionLines.{file_lines_are, message_lines_are}
+use Rattle.protobuf_parse_listing.proofs.OptionLines.{field_lines_are}
 use Rattle.protobuf_parse_listing.proofs.OptionLines.{oneof_lines_are, enum_lines_are}
 use Rattle.protobuf_parse_listing.proofs.OptionLines.{enum_value_lines_are, service_lines_are}
 use Rattle.protobuf_parse_listing.proofs.OptionLines.{method_lines_are}

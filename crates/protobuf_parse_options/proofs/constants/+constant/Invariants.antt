@@ -3,7 +3,8 @@ use Rattle.protobuf_parse_syntax.specs.Trees.{constant_field_view, constant_view
 use Rattle.protobuf_parse_model.specs.Descriptors.{field_view}
 use Rattle.protobuf_parse_options.specs.CustomFaults.{value_faults}
 use Rattle.protobuf_parse_options.specs.CustomOptions.{value_items}
-use Rattle.protobuf_parse_options.specs.Given.{field_faults_of, given_field_items, option_place_view}
+use Rattle.protobuf_parse_options.specs.Given.{field_faults_of, given_field_items}
+use Rattle.protobuf_parse_options.specs.Given.{option_place_view}
 use Rattle.protobuf_parse_options.specs.Given.{path_said}
 use Rattle.protobuf_parse_wire.specs.Views.{entry_view}
 use Rattle.protobuf_parse_options.proofs.constants.+constant.Given as goal

@@ -1,4 +1,5 @@
-use Rattle.protobuf_parse_options.proofs.Recovery.{options_are_recovered, plain_options_are_no_bytes}
+use Rattle.protobuf_parse_options.proofs.Recovery.{options_are_recovered}
+use Rattle.protobuf_parse_options.proofs.Recovery.{plain_options_are_no_bytes}
 use Rattle.protobuf_parse_options.proofs.RecoveryAbove.{options_are_recovered_above}
 use Rattle.protobuf_parse_options.proofs.laws.options_are_recovered.Goals as goal
 

@@ -8,7 +8,8 @@ use Rattle.protobuf_parse_wire.specs.Indexed.{parts_seen}
 use Rattle.protobuf_parse_options.specs.Known.{field_among, number_among}
 use Rattle.protobuf_parse_options.specs.OptionFields.{declared_enums}
 use Rattle.protobuf_parse_options.specs.OptionLaw.{HasSmallValues}
-use Rattle.protobuf_parse_options.specs.Places.{enum_name, enums_inside, extensions_inside, field_name}
+use Rattle.protobuf_parse_options.specs.Places.{enum_name, enums_inside, extensions_inside}
+use Rattle.protobuf_parse_options.specs.Places.{field_name}
 use Rattle.protobuf_parse_options.specs.Places.{messages_inside, placed_enums, placed_extensions}
 use Rattle.protobuf_parse_options.specs.Places.{placed_messages}
 use Rattle.protobuf_parse_options.specs.Positions.{extension_parts, field_names, value_names}
