@@ -14,6 +14,12 @@ fn text(alloc: Global, words: &str) -> Result<String, AllocError> {
     String::from_str(alloc, words)
 }
 
+fn one<T: Drop>(alloc: Global, item: T) -> Result<Vec<T>, AllocError> {
+    let mut items = Vec::new(alloc);
+    items.push(item)?;
+    Ok(items)
+}
+
 fn no_file(alloc: Global) -> FileDescriptorProto {
     FileDescriptorProto {
         name: None,
@@ -62,16 +68,13 @@ fn plain_field(alloc: Global, name: &str) -> Result<FieldDescriptorProto, AllocE
 }
 
 fn full_field(alloc: Global) -> Result<FieldDescriptorProto, AllocError> {
-    let mut field = plain_field(alloc, "f")?;
-    field.number = 2147483647;
-    field.label = Label::Required;
-    field.type_ = FieldType::Group;
-    field.type_name = Some(text(alloc, ".M.F")?);
-    field.extendee = Some(text(alloc, ".Q")?);
-    field.default_value = Some(text(alloc, "a\"\u{e9}")?);
-    field.oneof_index = Some(0);
-    field.proto3_optional = true;
-    field.options = Some(FieldOptions {
+    let name = text(alloc, "f")?;
+    let json_name = text(alloc, "f")?;
+    let type_name = text(alloc, ".M.F")?;
+    let extendee = text(alloc, ".Q")?;
+    let default_value = text(alloc, "a\"\u{e9}")?;
+    let custom = vec![in alloc; 0x0a, 0xff]?;
+    let options = FieldOptions {
         ctype: Some(CType::StringPiece),
         packed: Some(true),
         deprecated: None,
@@ -80,12 +83,27 @@ fn full_field(alloc: Global) -> Result<FieldDescriptorProto, AllocError> {
         weak: None,
         unverified_lazy: None,
         debug_redact: Some(false),
-        custom: vec![in alloc; 0x0a, 0xff]?,
-    });
-    Ok(field)
+        custom,
+    };
+    Ok(FieldDescriptorProto {
+        name,
+        number: 2147483647,
+        label: Label::Required,
+        type_: FieldType::Group,
+        type_name: Some(type_name),
+        extendee: Some(extendee),
+        default_value: Some(default_value),
+        oneof_index: Some(0),
+        json_name,
+        proto3_optional: true,
+        options: Some(options),
+    })
 }
 
 fn full_enum(alloc: Global) -> Result<EnumDescriptorProto, AllocError> {
+    let name = text(alloc, "E")?;
+    let reserved_range = one(alloc, EnumReservedRange { start: -4, end: 4 })?;
+    let reserved_name = one(alloc, text(alloc, "x")?)?;
     let value = EnumValueDescriptorProto {
         name: text(alloc, "V")?,
         number: -1,
@@ -94,57 +112,63 @@ fn full_enum(alloc: Global) -> Result<EnumDescriptorProto, AllocError> {
             custom: Vec::new(alloc),
         }),
     };
+    let value = one(alloc, value)?;
+    let options = EnumOptions {
+        allow_alias: Some(true),
+        deprecated: Some(false),
+        custom: Vec::new(alloc),
+    };
     Ok(EnumDescriptorProto {
-        name: text(alloc, "E")?,
-        value: vec![in alloc; value]?,
-        reserved_range: vec![in alloc; EnumReservedRange { start: -4, end: 4 }]?,
-        reserved_name: vec![in alloc; text(alloc, "x")?]?,
-        options: Some(EnumOptions {
-            allow_alias: Some(true),
-            deprecated: Some(false),
-            custom: Vec::new(alloc),
-        }),
+        name,
+        value,
+        reserved_range,
+        reserved_name,
+        options: Some(options),
     })
 }
 
+fn full_oneof(alloc: Global) -> Result<OneofDescriptorProto, AllocError> {
+    let name = text(alloc, "o")?;
+    let custom = vec![in alloc; 1]?;
+    Ok(OneofDescriptorProto {
+        name,
+        options: Some(OneofOptions { custom }),
+    })
+}
+
+const EXTENSIONS: ExtensionRange = ExtensionRange {
+    start: 100,
+    end: 536870912,
+};
+
 fn full_message(alloc: Global) -> Result<DescriptorProto, AllocError> {
-    let oneof = OneofDescriptorProto {
-        name: text(alloc, "o")?,
-        options: Some(OneofOptions {
-            custom: vec![in alloc; 1]?,
-        }),
-    };
-    let options = MessageOptions {
+    let mut message = no_message(alloc, "M")?;
+    message.field = one(alloc, full_field(alloc)?)?;
+    message.oneof_decl = one(alloc, full_oneof(alloc)?)?;
+    message.nested_type = one(alloc, no_message(alloc, "N")?)?;
+    message.enum_type = one(alloc, full_enum(alloc)?)?;
+    message.extension = one(alloc, plain_field(alloc, "y")?)?;
+    message.extension_range = one(alloc, EXTENSIONS)?;
+    message.reserved_range = one(alloc, ReservedRange { start: 4, end: 5 })?;
+    message.reserved_name = one(alloc, text(alloc, "foo")?)?;
+    message.options = Some(MessageOptions {
         message_set_wire_format: None,
         no_standard_descriptor_accessor: None,
         deprecated: None,
         map_entry: Some(true),
         custom: Vec::new(alloc),
-    };
-    Ok(DescriptorProto {
-        name: text(alloc, "M")?,
-        field: vec![in alloc; full_field(alloc)?]?,
-        oneof_decl: vec![in alloc; oneof]?,
-        nested_type: vec![in alloc; no_message(alloc, "N")?]?,
-        enum_type: vec![in alloc; full_enum(alloc)?]?,
-        extension: vec![in alloc; plain_field(alloc, "y")?]?,
-        extension_range: vec![in alloc;
-            ExtensionRange {
-                start: 100,
-                end: 536870912
-            },
-        ]?,
-        reserved_range: vec![in alloc; ReservedRange { start: 4, end: 5 }]?,
-        reserved_name: vec![in alloc; text(alloc, "foo")?]?,
-        options: Some(options),
-    })
+    });
+    Ok(message)
 }
 
-fn full_service(alloc: Global) -> Result<ServiceDescriptorProto, AllocError> {
-    let method = MethodDescriptorProto {
-        name: text(alloc, "G")?,
-        input_type: text(alloc, ".A")?,
-        output_type: text(alloc, ".B")?,
+fn full_method(alloc: Global) -> Result<MethodDescriptorProto, AllocError> {
+    let name = text(alloc, "G")?;
+    let input_type = text(alloc, ".A")?;
+    let output_type = text(alloc, ".B")?;
+    Ok(MethodDescriptorProto {
+        name,
+        input_type,
+        output_type,
         client_streaming: true,
         server_streaming: true,
         options: Some(MethodOptions {
@@ -152,10 +176,15 @@ fn full_service(alloc: Global) -> Result<ServiceDescriptorProto, AllocError> {
             idempotency_level: Some(IdempotencyLevel::NoSideEffects),
             custom: Vec::new(alloc),
         }),
-    };
+    })
+}
+
+fn full_service(alloc: Global) -> Result<ServiceDescriptorProto, AllocError> {
+    let name = text(alloc, "S")?;
+    let method = one(alloc, full_method(alloc)?)?;
     Ok(ServiceDescriptorProto {
-        name: text(alloc, "S")?,
-        method: vec![in alloc; method]?,
+        name,
+        method,
         options: Some(ServiceOptions {
             deprecated: Some(true),
             custom: Vec::new(alloc),
@@ -164,8 +193,11 @@ fn full_service(alloc: Global) -> Result<ServiceDescriptorProto, AllocError> {
 }
 
 fn file_options(alloc: Global) -> Result<FileOptions, AllocError> {
+    let java_package = text(alloc, "a.b")?;
+    let ruby_package = text(alloc, "r")?;
+    let custom = vec![in alloc; 0x88, 0xb5, 0x18, 0x01]?;
     Ok(FileOptions {
-        java_package: Some(text(alloc, "a.b")?),
+        java_package: Some(java_package),
         java_outer_classname: None,
         optimize_for: Some(OptimizeMode::LiteRuntime),
         java_multiple_files: Some(true),
@@ -183,8 +215,8 @@ fn file_options(alloc: Global) -> Result<FileOptions, AllocError> {
         php_class_prefix: None,
         php_namespace: None,
         php_metadata_namespace: None,
-        ruby_package: Some(text(alloc, "r")?),
-        custom: vec![in alloc; 0x88, 0xb5, 0x18, 0x01]?,
+        ruby_package: Some(ruby_package),
+        custom,
     })
 }
 

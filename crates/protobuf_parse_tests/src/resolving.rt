@@ -155,27 +155,32 @@ impl InputReader for Counted {
     }
 }
 
-/// An input that the resolver finds.
-fn named(alloc: Global, name: &str) -> Result<RunInput, Fail> {
-    Ok(RunInput::Named(path(alloc, name)?))
+/// The inputs of these names, in order: those in the folder `own` lie there, and the resolver finds
+/// the others.
+fn inputs(alloc: Global, names: &[&str]) -> Result<Vec<RunInput>, Fail> {
+    let mut inputs = Vec::new(alloc);
+    for name in names {
+        inputs.push(input(alloc, name)?)?;
+    }
+    Ok(inputs)
 }
 
-/// An input that lies in the folder `own`.
-fn placed(alloc: Global, name: &str) -> Result<RunInput, Fail> {
-    Ok(RunInput::At {
-        name: path(alloc, name)?,
-        fs_path: format!(in alloc; "own/{name}")?,
-    })
+fn input(alloc: Global, name: &str) -> Result<RunInput, Fail> {
+    match name.strip_prefix("own/") {
+        None => Ok(RunInput::Named(path(alloc, name)?)),
+        Some(own) => {
+            let fs_path = String::from_str(alloc, name)?;
+            let name = path(alloc, own)?;
+            Ok(RunInput::At { name, fs_path })
+        }
+    }
 }
 
 #[test]
 fn asks_a_resolver_once_for_a_path(rt: HostRuntime) -> Result<(), Fail> {
     let alloc = rt.alloc();
-    let inputs = vec![in alloc;
-        named(alloc, "top.proto")?,
-        named(alloc, "base.proto")?,
-        named(alloc, "top.proto")?,
-    ]?;
+    let names = ["top.proto", "base.proto", "top.proto"];
+    let inputs = inputs(alloc, &names)?;
     let counted = Counted::new();
     let log = run_inputs(alloc, &inputs, &counted, &counted, &[]);
     assert_eq!(rt; log.result.is_ok(), true);
@@ -188,12 +193,13 @@ fn asks_a_resolver_once_for_a_path(rt: HostRuntime) -> Result<(), Fail> {
 #[test]
 fn asks_a_reader_once_for_an_input(rt: HostRuntime) -> Result<(), Fail> {
     let alloc = rt.alloc();
-    let inputs = vec![in alloc;
-        placed(alloc, "odd.proto")?,
-        placed(alloc, "odd.proto")?,
-        named(alloc, "odd.proto")?,
-        placed(alloc, "base.proto")?,
-    ]?;
+    let names = [
+        "own/odd.proto",
+        "own/odd.proto",
+        "odd.proto",
+        "own/base.proto",
+    ];
+    let inputs = inputs(alloc, &names)?;
     let counted = Counted::new();
     let log = run_inputs(alloc, &inputs, &counted, &counted, &[]);
     assert_eq!(rt; log.result.is_ok(), true);
@@ -206,14 +212,15 @@ fn asks_a_reader_once_for_an_input(rt: HostRuntime) -> Result<(), Fail> {
 #[test]
 fn asks_no_second_time_before_a_fault(rt: HostRuntime) -> Result<(), Fail> {
     let alloc = rt.alloc();
-    let inputs = vec![in alloc;
-        named(alloc, "odd.proto")?,
-        named(alloc, "odd.proto")?,
-        placed(alloc, "odd.proto")?,
-        named(alloc, "left.proto")?,
-        named(alloc, "none.proto")?,
-        named(alloc, "right.proto")?,
-    ]?;
+    let names = [
+        "odd.proto",
+        "odd.proto",
+        "own/odd.proto",
+        "left.proto",
+        "none.proto",
+        "right.proto",
+    ];
+    let inputs = inputs(alloc, &names)?;
     let counted = Counted::new();
     let log = run_inputs(alloc, &inputs, &counted, &counted, &[]);
     let fault = RunFault::FileNotFoundInImportPath(
