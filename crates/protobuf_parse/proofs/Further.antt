@@ -38,7 +38,7 @@ use Rattle.protobuf_parse.proofs.Agreeing.{alike}
 abbrev pub Loads : List Event → Text → Type 0
 Loads events q = has (load the_resolver q) events ≡ true
 
--- ** events of files that are walks_joined
+-- ** events of files whose walks are joined
 
 has-joined : (f : Text → List Event) (ps : List Text) (x : Text) (e : Event) → among x ps ≡ true
     → has e (f x) ≡ true → has e (walks_joined f ps) ≡ true
@@ -66,7 +66,7 @@ joined-same f g (p ∷ ps) each =
     ap (λ z. z ++ walks_joined f ps) (each p (or_left _ _ (text-same p)))
     ∙ ap (λ z. g p ++ z) (joined-same f g ps (λ x m. each x (or_right _ _ m)))
 
--- ** walks whose files have the same_event trees
+-- ** walks whose files have the same trees
 
 inside-same : (f g : Text → List Event) (p : Text) (o : Option FileSyntax)
     → ((x : Text) → Within (g x) (events_inside o g p) → f x ≡ g x)

@@ -38,7 +38,7 @@ same-refl (load a p) = text-same p
 same-refl (check n f p) = eq-eqb n n refl
 same-refl (elab p) = text-same p
 
--- equal events are equal to the same_event ones
+-- equal events are equal to the same ones
 pub same-like : (x e y : Event) → same_event x e ≡ true → same_event e y ≡ same_event x y
 same-like (cycle p) (cycle q) y h = let z : cycle p ≡ cycle q = ap cycle (text-true p q h) in
     rw z refl

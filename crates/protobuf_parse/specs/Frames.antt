@@ -32,7 +32,7 @@ use Rattle.protobuf_parse.specs.Loading.{read_paths}
 abbrev pub frame_path : LoadFrame → Text
 frame_path f = string_bytes f.path
 
--- the paths that these import_statements import
+-- the paths that these statements import
 abbrev pub imports_in : List FileStatement → List Text
 imports_in xs = map (λ (i : ImportSyntax). i.path) (imports (map statement_view xs))
 
@@ -46,7 +46,7 @@ left_in f = imports_in (drop f.next f.tree.statements.items)
 abbrev pub later_in : LoadFrame → List Text
 later_in f = imports_in (drop (suc f.next) f.tree.statements.items)
 
--- the paths that these import_statements import publicly
+-- the paths that these statements import publicly
 abbrev pub public_in : List FileStatement → List Text
 public_in xs = flat_map public_paths_of (map statement_view xs)
 
@@ -119,7 +119,7 @@ pub record IsRunning (legal : Legal) (files : Files) (kept events : List Event) 
       ≡ start + 1 + import_statements files.trees now
 
 -- whatever the trees are: the imports so far have these numbers, the public ones those, and the
--- file was read; its tree has no more import_statements than a text has bytes
+-- file was read; its tree has no more statements than a text has bytes
 pub record IsTaken (loaded : List LoadedEntry) (log : List ReadEntry) (f : LoadFrame) : Type 0 where
   pub numbered : FilesAreNumbered (named_trees loaded) f.below.items (done_in f)
   pub public : FilesAreNumbered (named_trees loaded) f.public.items (public_done f)

@@ -398,7 +398,7 @@ pub record IsAdded (files : Files) (path : Text) (tree : FileSyntax) (height rea
   pub plain : plain_or file.plain file.descriptor ≡ plain_of files path tree
   pub placed_is : placed.height ≡ height
 
--- the chain_texts of a chain
+-- the texts of a chain
 abbrev pub chain_texts : List (String Global) → List Text
 chain_texts chain = map string_bytes chain
 

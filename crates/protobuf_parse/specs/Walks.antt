@@ -123,7 +123,7 @@ abbrev pub statements_of : Option FileSyntax → ℕ
 statements_of None = 0
 statements_of (Some t) = length (import_paths t)
 
--- how many import import_statements the files have that are loaded
+-- how many import statements the files have that are loaded
 abbrev pub import_statements : Trees → List Event → ℕ
 import_statements trees [] = 0
 import_statements trees (load a p ∷ events) =

@@ -469,7 +469,7 @@ module _ (P M : Text → Type 0) (any : (name : Text) → M name → P name) (cu
 
   -- ---- messages
 
-  -- the fields of messages env_inside another
+  -- the fields of messages inside another
   nested-fields : (ms : List MessageDescriptor) → AllByRecursion MessageIsNamed ms
       → AllByRecursion FieldIsNamed
       (in_messages (λ (p : MessageParts). p.field) (messages_of_list ms))
@@ -489,7 +489,7 @@ module _ (P M : Text → Type 0) (any : (name : Text) → M name → P name) (cu
       (in_messages (λ (p : MessageParts). p.extension) (messages_of_list ms)) h.0.extensions
       (nested-extensions ms h.1)
 
-  -- a message, by its statements and the messages env_inside it
+  -- a message, by its statements and the messages inside it
   message-named : (env : Environment) → Known env
       → (name : Text) (body : List MessageStatementSyntax) (ms : List MessageDescriptor)
       → AllByRecursion (StatementIsClean (env_inside env name)) body
@@ -507,7 +507,7 @@ module _ (P M : Text → Type 0) (any : (name : Text) → M name → P name) (cu
         (extensions-of (env_inside env name) known) body h) (nested-extensions ms k);
   }
 
-  -- the statements of a message env_inside another
+  -- the statements of a message inside another
   clean-in : (env : Environment) (ss : MessageStatementList) → faults_in env ss ≡ []
       → AllByRecursion M (generated_in env.scope ss)
       → AllByRecursion (StatementIsClean env) (message_body ss)

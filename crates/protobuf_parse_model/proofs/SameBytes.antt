@@ -219,7 +219,7 @@ module _ (one other : Customs) where
 
   -- ---- messages
 
-  -- a message, by its own set, by those of its body, and by the messages env_inside it
+  -- a message, by its own set, by those of its body, and by the messages inside it
   message-from-same : (env : Environment) (name : Text) (body : List MessageStatementSyntax)
       (ms ns : List MessageDescriptor)
       → one.bytes of.Message env.scope (options_of_body body)

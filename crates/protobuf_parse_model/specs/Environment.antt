@@ -43,7 +43,7 @@ pub record Environment : Type 0 where
   pub scope : Scope
   pub customs : Customs
 
--- the environment of what stands env_inside the message of that name
+-- the environment of what stands inside the message of that name
 abbrev pub env_inside : Environment → Text → Environment
 env_inside env name = record env { scope = names.inside env.scope name }
 

@@ -207,7 +207,7 @@ options_of_body body = flat_map options_in_message body
 
 -- ---- messages
 
--- the message of that name with that body and those messages env_inside it; its own options are seen
+-- the message of that name with that body and those messages inside it; its own options are seen
 -- from where it stands
 abbrev pub message_from : Environment → Text → List MessageStatementSyntax → List MessageDescriptor
     → MessageDescriptor

@@ -45,7 +45,7 @@ abbrev SmallEnum : EnumDescriptor → Type 0
 SmallEnum e = AllByRecursion SmallValue e.value
 
 abbrev mutual
-  -- all enums of a message, and of those env_inside it
+  -- all enums of a message, and of those inside it
   SmallMessage : MessageDescriptor → Type 0
   SmallMessage (a_message parts ms) = AllByRecursion SmallEnum parts.enum_type × SmallMessages ms
 

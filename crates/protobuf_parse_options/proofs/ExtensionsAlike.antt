@@ -36,15 +36,15 @@ use Rattle.protobuf_parse_options.proofs.NamesAlike.{told_within, told-append}
 abbrev fields_within : Text → List FieldDescriptor → List Text
 fields_within scope fs = map (λ (f : FieldDescriptor). name_within scope f.name) fs
 
--- of those env_inside a message
+-- of those inside a message
 abbrev names_of : Declaration → List Text
 names_of d = fields_within d.name d.parts.extension
 
--- of those env_inside messages in a scope
+-- of those inside messages in a scope
 abbrev messages_within : Text → List MessageDescriptor → List Text
 messages_within scope ms = told_within names_of scope ms
 
--- env_inside a message: its own, and those of the messages in its scope
+-- inside a message: its own, and those of the messages in its scope
 message-names : (env : Environment) (name : Text) (body : List MessageStatementSyntax)
     (ns : List MessageDescriptor)
     → messages_within (absolute_text env.scope) (message_from env name body ns ∷ [])
@@ -148,7 +148,7 @@ module _ (n : Text) where
       sums : (t f m : ℕ) → t ≡ f → m ≡ 0 → t ≡ f + m
       sums t f m h k = omega arith
 
-  -- a message, by what stands env_inside it
+  -- a message, by what stands inside it
   message-alike : (env : Environment) (name : Text) (body : List MessageStatementSyntax)
       (told : List DeclaredExtension) (ns : List MessageDescriptor)
       → Alike (absolute_text (names.inside env.scope name)) told

@@ -99,7 +99,7 @@ found_kept own own' o o' faults faults' items' items meant each h =
           ∙ sym (ap (λ (p : Option FieldDescriptor). flat_map items (option_to_list p)) m.first);
     }
 
--- ---- what a field type_takes
+-- ---- what a field takes
 
 -- an enum's value that has no fault is known
 value_known : (name : Text) (t : Takes) (value : Text) (o : Option ℤ)

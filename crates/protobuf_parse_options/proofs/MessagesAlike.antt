@@ -31,7 +31,7 @@ use Rattle.protobuf_parse_options.specs.NamesAlike.{message_names, HasPackageNam
 use Rattle.protobuf_parse_options.proofs.Agreement.{scope_inside, package_is}
 use Rattle.protobuf_parse_options.proofs.AgreementBack.{nested_are}
 
--- the full names of messages in a scope, with all that stands env_inside them
+-- the full names of messages in a scope, with all that stands inside them
 abbrev names_within : Text → List MessageDescriptor → List Text
 names_within scope ms = map (λ (d : Declaration). d.name) (flat_map (declared_message scope) ms)
 
@@ -118,7 +118,7 @@ module _ (n : Text) where
       (flat_map (messages_behind env) fs)
   fields-alike env fs = none-told _ _ (sym (ap (occurrences n) (behind-all env fs)))
 
-  -- a message, by what stands env_inside it
+  -- a message, by what stands inside it
   message-alike : (env : Environment) (name : Text) (body : List MessageStatementSyntax)
       (told : List DeclaredType) (generated : List Text) (ns : List MessageDescriptor)
       → Alike (absolute_text (names.inside env.scope name)) told generated ns

@@ -44,7 +44,7 @@ enums_within scope es = map (λ (e : EnumDescriptor). name_within scope e.name) 
 abbrev names_of : Declaration → List Text
 names_of d = d.name ∷ enums_within d.name d.parts.enum_type
 
--- what is told of messages in a scope and of all that stands env_inside them
+-- what is told of messages in a scope and of all that stands inside them
 abbrev pub told_within : (Declaration → List Text) → Text → List MessageDescriptor → List Text
 told_within tell scope ms = flat_map tell (flat_map (declared_message scope) ms)
 
@@ -139,7 +139,7 @@ module _ (n : Text) where
       (flat_map (messages_behind env) fs)
   fields-alike env fs = sym (ap (λ (ns : List Text). 0 + occurrences n ns) (behind-all env fs))
 
-  -- a message, by what stands env_inside it
+  -- a message, by what stands inside it
   message-alike : (env : Environment) (name : Text) (body : List MessageStatementSyntax)
       (told : List DeclaredType) (generated : List Text) (ns : List MessageDescriptor)
       → Alike (absolute_text (names.inside env.scope name)) told generated

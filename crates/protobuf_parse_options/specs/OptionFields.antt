@@ -1,4 +1,4 @@
--- Which field each part of an option's name means, and what values a field type_takes.
+-- Which field each part of an option's name means, and what values a field takes.
 --
 -- A name begins at the options message of its construct. A plain part means a field of the message,
 -- a part in parentheses an extension of it, looked up as a type is: from the scope outward, among
@@ -112,7 +112,7 @@ constant_field at message (url_name name) = None
 abbrev pub type_name_of : FieldDescriptor → Text
 type_name_of f = unwrap_or f.type_name []
 
--- ---- what a field type_takes
+-- ---- what a field takes
 
 pub data Takes : Type 0 where
   integers : Kind → Takes
