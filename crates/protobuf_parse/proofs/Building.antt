@@ -12,18 +12,18 @@ use Rattle.protobuf_parse_base.specs.PathViews.{path_buf_text}
 use Rattle.protobuf_parse_base.specs.declared.proto_path.path.ProtoPathBuf.{ProtoPathBuf}
 use Rattle.protobuf_parse_model.specs.Descriptors.{Text}
 use Rattle.protobuf_parse_model.specs.declared.descriptor.FileDescriptorProto.{FileDescriptorProto}
-use Rattle.protobuf_parse.specs.declared.run.fault.RunFault.{RunFault}
-use Rattle.protobuf_parse.specs.declared.run.log.ReadEntry.{ReadEntry}
-use Rattle.protobuf_parse.specs.declared.run.log.RunInput.{RunInput}
-use Rattle.protobuf_parse.specs.declared.run.log.RunInput.TheVariants as given
-use Rattle.protobuf_parse.specs.Walks.{Input, at}
-use Rattle.protobuf_parse.specs.Run.{HaveTrees, IsCaused, MayAnswer, RunsAsTold, input_view}
-use Rattle.protobuf_parse.specs.Run.{shipped}
+use Rattle.protobuf_parse_run.specs.declared.fault.RunFault.{RunFault}
+use Rattle.protobuf_parse_run.specs.declared.log.ReadEntry.{ReadEntry}
+use Rattle.protobuf_parse_run.specs.declared.log.RunInput.{RunInput}
+use Rattle.protobuf_parse_run.specs.declared.log.RunInput.TheVariants as given
+use Rattle.protobuf_parse_run.specs.Walks.{Input, at}
+use Rattle.protobuf_parse_run.specs.Run.{HaveTrees, IsCaused, MayAnswer, RunsAsTold, input_view}
+use Rattle.protobuf_parse_run.specs.Run.{shipped}
 use Rattle.protobuf_parse.specs.Includes.{AreNamed}
 use Rattle.protobuf_parse.specs.Folders.{MayFind}
 use Rattle.protobuf_parse.specs.Parsers.{MayReadAnything, RanOverFolders, RunsOverFolders}
 use Rattle.protobuf_parse.specs.Parsers.{TellsFault, inputs_at, is_of_input}
-use Rattle.protobuf_parse.proofs.Telling.{with-shipped}
+use Rattle.protobuf_parse_run.proofs.Telling.{with-shipped}
 
 -- one that passes the test is kept, and one that doesn't is left out
 pub kept_one : {X : Type 0} (p : X → Bool) (seen : List X) (x : X) (old new : List X) → p x ≡ true

@@ -10,10 +10,10 @@ use Rattle.protobuf_parse_base.specs.Paths.{joined}
 use Rattle.protobuf_parse_base.specs.declared.proto_path.error.PathError.{PathError}
 use Rattle.protobuf_parse_base.specs.declared.proto_path.error.PathError.TheVariants as path
 use Rattle.protobuf_parse_model.specs.Descriptors.{Text}
-use Rattle.protobuf_parse.specs.declared.run.fault.RunFault.{RunFault}
-use Rattle.protobuf_parse.specs.declared.run.fault.RunFault.TheVariants as fault
-use Rattle.protobuf_parse.specs.Run.{OrMemory}
-use Rattle.protobuf_parse.proofs.Keeping.{bool_cases}
+use Rattle.protobuf_parse_run.specs.declared.fault.RunFault.{RunFault}
+use Rattle.protobuf_parse_run.specs.declared.fault.RunFault.TheVariants as fault
+use Rattle.protobuf_parse_run.specs.Run.{OrMemory}
+use Rattle.protobuf_parse_run.proofs.Keeping.{bool_cases}
 use Rattle.protobuf_parse.specs.Includes.{AreNamed, unnamed, named_as, IsMisnamed}
 use Rattle.protobuf_parse.specs.Includes.{StandsAtFirst, StandsAtInput, is_unnamed}
 use Rattle.protobuf_parse.specs.Includes.{naming_of, part_behind, part_views, parts_after}

@@ -4,9 +4,9 @@ use Rattle.std.specs.Prelude.{Ok, Err, nat_eq, if◌then◌else◌, string_bytes
 use Rattle.std.specs.List.{ends_with}
 use Rattle.protobuf_parse_base.specs.Paths.{is_empty}
 use Rattle.protobuf_parse_model.specs.Descriptors.{Text}
-use Rattle.protobuf_parse.specs.declared.run.fault.ResolveFault.{ResolveFault}
-use Rattle.protobuf_parse.specs.declared.run.fault.ResolveFault.TheVariants as refused
-use Rattle.protobuf_parse.specs.declared.run.source.ResolvedProtoFile.{ResolvedProtoFile}
+use Rattle.protobuf_parse_run.specs.declared.fault.ResolveFault.{ResolveFault}
+use Rattle.protobuf_parse_run.specs.declared.fault.ResolveFault.TheVariants as refused
+use Rattle.protobuf_parse_run.specs.declared.source.ResolvedProtoFile.{ResolvedProtoFile}
 
 -- Where a proto path is looked for in an include: the include, `/`, and the path. An empty include
 -- adds nothing, and a `/` at its end isn't doubled.

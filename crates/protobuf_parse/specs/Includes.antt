@@ -6,8 +6,8 @@ use Rattle.std.specs.Borrow.{Bor}
 use Rattle.protobuf_parse_base.specs.Paths.{joined, kept_parts, starts_with_slash, host_path_fault}
 use Rattle.protobuf_parse_base.specs.declared.proto_path.error.PathError.{PathError}
 use Rattle.protobuf_parse_model.specs.Descriptors.{Text}
-use Rattle.protobuf_parse.specs.declared.run.fault.RunFault.{RunFault}
-use Rattle.protobuf_parse.specs.declared.run.fault.RunFault.TheVariants as fault
+use Rattle.protobuf_parse_run.specs.declared.fault.RunFault.{RunFault}
+use Rattle.protobuf_parse_run.specs.declared.fault.RunFault.TheVariants as fault
 
 -- What an input is called: it resides in no include, or what is left of it is no proto path, or its
 -- proto path.

@@ -1,13 +1,5 @@
 pub mod Imports
-pub mod Walks
-pub mod Run
-pub mod Loading
-pub mod Loaded
 pub mod NameSets
 pub mod Includes
 pub mod Folders
 pub mod Parsers
-pub mod Frames
-pub mod Stability
-pub mod Recovered
-pub mod Shipped

@@ -9,11 +9,11 @@ use Rattle.protobuf_parse_model.specs.declared.descriptor.FileDescriptorProto.{F
 use Rattle.protobuf_parse_model.specs.declared.descriptor.FileDescriptorSet.{FileDescriptorSet}
 use Rattle.protobuf_parse.specs.declared.front.builder.Parser.{Parser}
 use Rattle.protobuf_parse.specs.declared.front.builder.ParsedAndTypechecked.{ParsedAndTypechecked}
-use Rattle.protobuf_parse.specs.declared.run.fault.RunFault.{RunFault}
-use Rattle.protobuf_parse.specs.Walks.{Input, at}
-use Rattle.protobuf_parse.specs.Run.{MayRead}
-use Rattle.protobuf_parse.specs.Shipped.{RunsWithShipped}
-use Rattle.protobuf_parse.specs.Run.{OrMemory}
+use Rattle.protobuf_parse_run.specs.declared.fault.RunFault.{RunFault}
+use Rattle.protobuf_parse_run.specs.Walks.{Input, at}
+use Rattle.protobuf_parse_run.specs.Run.{MayRead}
+use Rattle.protobuf_parse_run.specs.Shipped.{RunsWithShipped}
+use Rattle.protobuf_parse_run.specs.Run.{OrMemory}
 use Rattle.protobuf_parse.specs.Includes.{AreNamed, StandsAtFirst}
 use Rattle.protobuf_parse.specs.Folders.{MayFind}
 

@@ -1,10 +1,8 @@
 //! Parses `.proto` files and checks their types.
 #![tactic(auto)]
 
-mod bundled;
 mod front;
 pub mod pure;
-mod run;
 
 pub use front::{FsReader, FsResolver, ParsedAndTypechecked, Parser, fs_resolver, program};
 pub use protobuf_parse_base::names::{
@@ -22,10 +20,9 @@ pub use protobuf_parse_model::{
     MethodOptions, OneofDescriptorProto, OneofOptions, OptimizeMode, ReservedRange,
     ServiceDescriptorProto, ServiceOptions,
 };
+pub use protobuf_parse_run::{
+    InputReader, ProtoPathResolver, ReadEntry, ReadInputFault, ReadOutcome, ResolveFault,
+    ResolvedProtoFile, RunFault, RunInput, RunLog, run_inputs, runs_are_stable,
+};
 pub use protobuf_parse_syntax::{ParserError, ParserErrorWithLocation};
 pub use protobuf_parse_wire::{ReadFault, ReadField, ReadValue, read_custom};
-pub use run::fault::{ReadInputFault, ResolveFault, RunFault};
-pub use run::laws::runs_are_stable;
-pub use run::log::{ReadEntry, ReadOutcome, RunInput, RunLog};
-pub use run::run_inputs;
-pub use run::source::{InputReader, ProtoPathResolver, ResolvedProtoFile};

@@ -8,7 +8,7 @@ ghost use Rattle.protobuf_parse_syntax.specs.Trees.{FileSyntax};
 ghost use Rattle.protobuf_parse_model.specs.Descriptors as described;
 ghost use Rattle.protobuf_parse.specs.Imports.{imports_alone};
 
-pub use crate::run::parse_and_typecheck_custom;
+pub use protobuf_parse_run::parse_and_typecheck_custom;
 use protobuf_parse_model::FileDescriptorProto;
 use protobuf_parse_syntax::{Dependencies, ParserErrorWithLocation};
 use std::alloc::Global;

@@ -34,7 +34,7 @@ pub fn link(alloc: Global, seen: &Seen<'_>) -> Result<(), ElabFailure>
 /// Refuses the first of the full names that are listed for these files that the files that are
 /// reached declare more than once.
 #[tactic(auto, using(crate::proofs::Blaming::blames_one))]
-fn check_files(alloc: Global, seen: &Seen<'_>, files: &[usize]) -> Result<(), ElabFailure>
+fn check_files(alloc: Global, seen: &Seen<'_>, files: &[u32]) -> Result<(), ElabFailure>
     ensures { Elaborates (λ u. u) result (flat_map (listed_faults seen.now) files.now) tt }
 {
     for file in files {
@@ -45,14 +45,14 @@ fn check_files(alloc: Global, seen: &Seen<'_>, files: &[usize]) -> Result<(), El
 
 /// Refuses the first of the full names that are listed for the file with that number that the files
 /// that are reached declare more than once.
-fn check_file(alloc: Global, seen: &Seen<'_>, file: usize) -> Result<(), ElabFailure>
+fn check_file(alloc: Global, seen: &Seen<'_>, file: u32) -> Result<(), ElabFailure>
     ensures { Elaborates (λ u. u) result (listed_faults seen.now file) tt }
 {
     check_names(alloc, seen, names_listed(seen.declarations, file))
 }
 
 /// The full names that are listed for the file with that number.
-fn names_listed(table: &Declarations, file: usize) -> &[String]
+fn names_listed(table: &Declarations, file: u32) -> &[String]
     ensures { map string_bytes result.now ≡ listed_names table.now file }
 {
     match table.repeated.get(&file) {
@@ -151,7 +151,7 @@ fn is_of(kind: DeclarationKind, extension: bool) -> bool
 }
 
 /// Whether the file with that number is reached.
-fn is_reached(seen: &Seen<'_>, file: usize) -> bool
+fn is_reached(seen: &Seen<'_>, file: u32) -> bool
     ensures { result ≡ list_any (nat_eq file) seen.now.reach.now }
 {
     seen.reach.binary_search(&file).is_ok()

@@ -212,7 +212,7 @@ fn type_kind(kind: DeclarationKind) -> Option<TypeKind>
 }
 
 /// Whether the names of the file with that number are seen.
-fn is_seen(seen: &Seen<'_>, file: usize) -> bool
+fn is_seen(seen: &Seen<'_>, file: u32) -> bool
     ensures { result ≡ list_any (nat_eq file) seen.now.sight.now }
 {
     seen.sight.binary_search(&file).is_ok()

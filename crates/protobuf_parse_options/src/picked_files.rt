@@ -8,7 +8,7 @@ use protobuf_parse_model::FileDescriptorProto;
 #[derive(Clone, Copy)]
 pub struct PickedFiles<'a> {
     /// The numbers, ascending.
-    pub numbers: &'a [usize],
+    pub numbers: &'a [u32],
     pub ghost ascends: { IsStrictlyIncreasing numbers.now },
     /// The descriptors of the files with these numbers, in the same order: none where there is no
     /// such file.

@@ -22,7 +22,7 @@ use std::collections::BTreeMap;
 #[derive(Debug, Drop)]
 pub struct Place {
     /// The number of the file.
-    pub file: usize,
+    pub file: u32,
     /// The way to the message around it: the number of a message in its list, then that of a
     /// message in it, and so on. Empty for what stands in no message.
     pub path: Vec<usize>,
@@ -59,7 +59,7 @@ impl DeclaredPlaces {
     pub fn add(
         &mut self,
         alloc: Global,
-        file: usize,
+        file: u32,
         descriptor: &FileDescriptorProto,
     ) -> Result<(), AllocError>
         ensures { OnOk result ((files : List FileDescriptor) → length files ≡ file →
@@ -79,7 +79,7 @@ impl DeclaredPlaces {
 fn put_all<T: HasParts>(
     places: &mut BTreeMap<String, Vec<Place>>,
     alloc: Global,
-    file: usize,
+    file: u32,
     list: &[Known<&T>],
 ) -> Result<(), AllocError>
     ensures { OnOk result (AddsSpots places.old places.new
@@ -94,7 +94,7 @@ fn put_all<T: HasParts>(
 fn put<T: HasParts>(
     places: &mut BTreeMap<String, Vec<Place>>,
     alloc: Global,
-    file: usize,
+    file: u32,
     known: &Known<&T>,
 ) -> Result<(), AllocError>
     ensures { OnOk result (AddsSpots places.old places.new

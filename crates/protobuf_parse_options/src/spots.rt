@@ -26,7 +26,7 @@ use protobuf_parse_model::{
 };
 
 /// The file with the number, if it is among them.
-fn file_numbered<'a>(picked: &PickedFiles<'a>, number: usize) -> Option<&'a FileDescriptorProto>
+fn file_numbered<'a>(picked: &PickedFiles<'a>, number: u32) -> Option<&'a FileDescriptorProto>
     ensures { option_map file_seen result ≡ file_numbered picked.now number }
 {
     match picked.numbers.binary_search(&number) {

@@ -1,10 +1,10 @@
 -- What a resolver gives that refuses nothing, and what may then be wrong in a run.
 use Rattle.std.specs.Prelude.{Option, Result, Ok, Err}
-use Rattle.protobuf_parse.specs.declared.run.fault.ResolveFault.{ResolveFault}
-use Rattle.protobuf_parse.specs.declared.run.fault.ResolveFault.TheVariants as refused
-use Rattle.protobuf_parse.specs.declared.run.fault.RunFault.{RunFault}
-use Rattle.protobuf_parse.specs.declared.run.fault.RunFault.TheVariants as fault
-use Rattle.protobuf_parse.specs.declared.run.source.ResolvedProtoFile.{ResolvedProtoFile}
+use Rattle.protobuf_parse_run.specs.declared.fault.ResolveFault.{ResolveFault}
+use Rattle.protobuf_parse_run.specs.declared.fault.ResolveFault.TheVariants as refused
+use Rattle.protobuf_parse_run.specs.declared.fault.RunFault.{RunFault}
+use Rattle.protobuf_parse_run.specs.declared.fault.RunFault.TheVariants as fault
+use Rattle.protobuf_parse_run.specs.declared.source.ResolvedProtoFile.{ResolvedProtoFile}
 
 -- a file, none, or want of memory
 abbrev pub IsGiven : Result (Option ResolvedProtoFile) ResolveFault → Type 0

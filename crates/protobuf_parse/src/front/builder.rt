@@ -3,7 +3,7 @@
 ghost use Rattle.std.specs.Prelude.{◌≡◌, IfOk, IfErr, OnOk, OnErr, List, [], ◌∷◌, ◌++◌, length};
 ghost use Rattle.std.specs.Prelude.{filter, map, option_map, string_bytes};
 ghost use Rattle.protobuf_parse_base.specs.PathViews.{path_buf_text};
-ghost use Rattle.protobuf_parse.specs.Run.{IsCaused, input_view};
+ghost use Rattle.protobuf_parse_run.specs.Run.{IsCaused, input_view};
 ghost use Rattle.protobuf_parse.specs.Includes.{part_views};
 ghost use Rattle.protobuf_parse.specs.Folders.{MayFind};
 ghost use Rattle.protobuf_parse.specs.NameSets.{HasNames};
@@ -13,14 +13,11 @@ ghost use Rattle.protobuf_parse.specs.Parsers.{MayReadAnything, RanOverFolders, 
 ghost use Rattle.protobuf_parse.specs.Parsers.{includes_of, inputs_at, inputs_of, is_name_among};
 ghost use Rattle.protobuf_parse.specs.Parsers.{is_of_input};
 
-use crate::bundled::bundled_files;
 use crate::front::files::{FsReader, copy_texts, fs_resolver};
 use crate::front::includes::proto_paths_of;
-use crate::run::fault::RunFault;
-use crate::run::log::RunInput;
-use crate::run::run_inputs;
 use protobuf_parse_base::proto_path::ProtoPathBuf;
 use protobuf_parse_model::{FileDescriptorProto, FileDescriptorSet};
+use protobuf_parse_run::{RunFault, RunInput, bundled_files, run_inputs};
 use std::alloc::{AllocError, Global};
 use std::collections::BTreeSet;
 use std::rt::Files;

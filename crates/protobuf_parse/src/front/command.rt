@@ -1,8 +1,8 @@
 //! The program `parse-and-typecheck`, over any two writers.
 
 use crate::front::builder::Parser;
-use crate::run::fault::RunFault;
 use protobuf_parse_listing::listing;
+use protobuf_parse_run::RunFault;
 use std::io::{self, Write};
 use std::rt::Files;
 use thiserror::Error;

@@ -6,9 +6,10 @@ ghost use Rattle.protobuf_parse.specs.Includes.{includes_text, part_views};
 ghost use Rattle.protobuf_parse.specs.Folders.{IsTriedAt, MayFind, path_tried};
 
 use crate::front::includes::list_includes;
-use crate::run::fault::{ReadInputFault, ResolveFault};
-use crate::run::source::{InputReader, ProtoPathResolver, ResolvedProtoFile};
 use protobuf_parse_base::proto_path::ProtoPath;
+use protobuf_parse_run::{
+    InputReader, ProtoPathResolver, ReadInputFault, ResolveFault, ResolvedProtoFile,
+};
 use std::alloc::{AllocError, Global};
 use std::io::ErrorKind;
 use std::rt::Files;

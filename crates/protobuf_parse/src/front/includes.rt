@@ -3,7 +3,7 @@
 ghost use Rattle.std.specs.Prelude.{◌≡◌, IfOk, IfErr, OnOk, ◌++◌, flat_map, map, string_bytes};
 ghost use Rattle.protobuf_parse_base.specs.Paths.{joined, kept_parts};
 ghost use Rattle.protobuf_parse_base.specs.PathViews.{path_buf_text};
-ghost use Rattle.protobuf_parse.specs.Run.{OrMemory};
+ghost use Rattle.protobuf_parse_run.specs.Run.{OrMemory};
 ghost use Rattle.protobuf_parse.specs.Includes.{AreNamed, IsMisnamed, IsOutside, StandsAtFirst};
 ghost use Rattle.protobuf_parse.specs.Includes.{StandsAtInput, includes_text, left_by, left_of};
 ghost use Rattle.protobuf_parse.specs.Includes.{named_as, naming_of, naming_of_rest, next_include};
@@ -11,8 +11,8 @@ ghost use Rattle.protobuf_parse.specs.Includes.{part_behind, part_views, parts_a
 ghost use Rattle.protobuf_parse.specs.Includes.{quoted_include};
 ghost use Rattle.protobuf_parse.specs.Includes.{rest_parts_view, unnamed};
 
-use crate::run::fault::RunFault;
 use protobuf_parse_base::proto_path::{PathError, ProtoPathBuf};
+use protobuf_parse_run::RunFault;
 use std::alloc::{AllocError, Global};
 
 /// The proto paths of the inputs, in order.

@@ -37,7 +37,7 @@ impl Declarations {
     /// Adds each message, enum and extension that a file declares, also the messages behind its
     /// maps and groups, as declared by the file with that number.
     /// The one error is that memory is short: nothing is known of the table then.
-    pub fn add(&mut self, alloc: Global, file: usize, tree: &FileTree) -> Result<(), AllocError>
+    pub fn add(&mut self, alloc: Global, file: u32, tree: &FileTree) -> Result<(), AllocError>
         ensures { OnOk result ((files : List FileSyntax) → length files ≡ file →
             TableTells self.old files → TableTells self.new (files ++ file_view tree.now ∷ [])) }
     {
@@ -52,7 +52,7 @@ impl Declarations {
 fn add_types<'a>(
     table: &mut Declarations,
     alloc: Global,
-    file: usize,
+    file: u32,
     scope: &mut Vec<&'a str>,
     statements: &'a [FileStatement],
 ) -> Result<(), AllocError>
@@ -71,7 +71,7 @@ fn add_types<'a>(
 fn add_declared<'a>(
     table: &mut Declarations,
     alloc: Global,
-    file: usize,
+    file: u32,
     scope: &mut Vec<&'a str>,
     statement: &'a FileStatement,
 ) -> Result<(), AllocError>
@@ -117,7 +117,7 @@ fn identifiers(alloc: Global, name: &str) -> Result<Vec<&str>, AllocError>
 fn add_message<'a>(
     table: &mut Declarations,
     alloc: Global,
-    file: usize,
+    file: u32,
     scope: &mut Vec<&'a str>,
     message: &'a Message,
 ) -> Result<(), AllocError>
@@ -139,7 +139,7 @@ fn add_message<'a>(
 fn add_statement<'a>(
     table: &mut Declarations,
     alloc: Global,
-    file: usize,
+    file: u32,
     scope: &mut Vec<&'a str>,
     statement: &'a MessageStatement,
 ) -> Result<(), AllocError>
@@ -165,7 +165,7 @@ fn add_statement<'a>(
 fn add_type(
     table: &mut Declarations,
     alloc: Global,
-    file: usize,
+    file: u32,
     scope: &[&str],
     name: &str,
     kind: TypeKind,
@@ -231,7 +231,7 @@ fn list_repeated(
     table: &mut Declarations,
     alloc: Global,
     name: &str,
-    file: usize,
+    file: u32,
 ) -> Result<(), AllocError>
     ensures same { OnOk result (table.new.by_name ≡ table.old.by_name) }
     ensures order { OnOk result (table.new.in_order ≡ table.old.in_order) }
@@ -254,10 +254,10 @@ fn list_repeated(
 /// Lists the full name for the file with that number, unless that is the last for which it is
 /// listed.
 fn list_next(
-    repeated: &mut BTreeMap<usize, Vec<String>>,
+    repeated: &mut BTreeMap<u32, Vec<String>>,
     alloc: Global,
-    last: usize,
-    file: usize,
+    last: u32,
+    file: u32,
     name: &str,
 ) -> Result<(), AllocError>
     ensures kept { OnOk result (KeepsListed repeated.old repeated.new) }
@@ -272,9 +272,9 @@ fn list_next(
 
 /// Lists the full name for the file with that number.
 fn list_name(
-    repeated: &mut BTreeMap<usize, Vec<String>>,
+    repeated: &mut BTreeMap<u32, Vec<String>>,
     alloc: Global,
-    file: usize,
+    file: u32,
     name: &str,
 ) -> Result<(), AllocError>
     ensures { OnOk result ((n : ℕ) → names_listed repeated.new n ≡ names_listed repeated.old n

@@ -20,7 +20,7 @@ use std::alloc::{AllocError, Global};
 pub fn add_extensions<'a>(
     table: &mut Declarations,
     alloc: Global,
-    file: usize,
+    file: u32,
     scope: &mut Vec<&'a str>,
     statements: &'a [FileStatement],
 ) -> Result<(), AllocError>
@@ -39,7 +39,7 @@ pub fn add_extensions<'a>(
 fn add_in_file<'a>(
     table: &mut Declarations,
     alloc: Global,
-    file: usize,
+    file: u32,
     scope: &mut Vec<&'a str>,
     statement: &'a FileStatement,
 ) -> Result<(), AllocError>
@@ -63,7 +63,7 @@ fn add_in_file<'a>(
 fn add_in_message<'a>(
     table: &mut Declarations,
     alloc: Global,
-    file: usize,
+    file: u32,
     scope: &mut Vec<&'a str>,
     message: &'a Message,
 ) -> Result<(), AllocError>
@@ -86,7 +86,7 @@ fn add_in_message<'a>(
 fn add_in_body<'a>(
     table: &mut Declarations,
     alloc: Global,
-    file: usize,
+    file: u32,
     scope: &mut Vec<&'a str>,
     statement: &'a MessageStatement,
 ) -> Result<(), AllocError>
@@ -110,7 +110,7 @@ fn add_in_body<'a>(
 fn add_in_extend(
     table: &mut Declarations,
     alloc: Global,
-    file: usize,
+    file: u32,
     scope: &[&str],
     extend: &Extend,
 ) -> Result<(), AllocError>
@@ -127,7 +127,7 @@ fn add_in_extend(
 fn add_extension(
     table: &mut Declarations,
     alloc: Global,
-    file: usize,
+    file: u32,
     scope: &[&str],
     statement: &FieldStatement,
 ) -> Result<(), AllocError>

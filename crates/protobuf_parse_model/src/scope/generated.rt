@@ -24,7 +24,7 @@ use std::alloc::{AllocError, Global};
 pub fn add_generated<'a>(
     table: &mut Declarations,
     alloc: Global,
-    file: usize,
+    file: u32,
     scope: &mut Vec<&'a str>,
     statements: &'a [FileStatement],
 ) -> Result<(), AllocError>
@@ -43,7 +43,7 @@ pub fn add_generated<'a>(
 fn add_in_file<'a>(
     table: &mut Declarations,
     alloc: Global,
-    file: usize,
+    file: u32,
     scope: &mut Vec<&'a str>,
     statement: &'a FileStatement,
 ) -> Result<(), AllocError>
@@ -67,7 +67,7 @@ fn add_in_file<'a>(
 fn add_in_message<'a>(
     table: &mut Declarations,
     alloc: Global,
-    file: usize,
+    file: u32,
     scope: &mut Vec<&'a str>,
     message: &'a Message,
 ) -> Result<(), AllocError>
@@ -89,7 +89,7 @@ fn add_in_message<'a>(
 fn add_in_body<'a>(
     table: &mut Declarations,
     alloc: Global,
-    file: usize,
+    file: u32,
     scope: &mut Vec<&'a str>,
     statement: &'a MessageStatement,
 ) -> Result<(), AllocError>
@@ -113,7 +113,7 @@ fn add_in_body<'a>(
 fn add_in_oneof(
     table: &mut Declarations,
     alloc: Global,
-    file: usize,
+    file: u32,
     scope: &[&str],
     oneof: &OneOf,
 ) -> Result<(), AllocError>
@@ -131,7 +131,7 @@ fn add_in_oneof(
 fn add_of_choice(
     table: &mut Declarations,
     alloc: Global,
-    file: usize,
+    file: u32,
     scope: &[&str],
     statement: &OneOfStatement,
 ) -> Result<(), AllocError>
@@ -149,7 +149,7 @@ fn add_of_choice(
 fn add_in_extend(
     table: &mut Declarations,
     alloc: Global,
-    file: usize,
+    file: u32,
     scope: &[&str],
     extend: &Extend,
 ) -> Result<(), AllocError>
@@ -166,7 +166,7 @@ fn add_in_extend(
 fn add_behind(
     table: &mut Declarations,
     alloc: Global,
-    file: usize,
+    file: u32,
     scope: &[&str],
     statement: &FieldStatement,
 ) -> Result<(), AllocError>
@@ -183,7 +183,7 @@ fn add_behind(
 fn add_entry(
     table: &mut Declarations,
     alloc: Global,
-    file: usize,
+    file: u32,
     scope: &[&str],
     field: &Field,
 ) -> Result<(), AllocError>
@@ -203,7 +203,7 @@ fn add_entry(
 fn add_message(
     table: &mut Declarations,
     alloc: Global,
-    file: usize,
+    file: u32,
     scope: &[&str],
     name: &str,
 ) -> Result<(), AllocError>

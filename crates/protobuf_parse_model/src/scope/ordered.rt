@@ -8,7 +8,7 @@ ghost use Rattle.protobuf_parse_model.specs.FileOrder.{FilesAscend};
 use super::seen::Declaration;
 
 /// Those of the declarations that stand in the file with that number.
-pub fn in_file(declarations: &[Declaration], file: usize) -> &[Declaration]
+pub fn in_file(declarations: &[Declaration], file: u32) -> &[Declaration]
     requires { FilesAscend declarations.now }
     ensures { result.now
         ≡ filter (λ (d : declaration.Declaration). nat_eq d.file file) declarations.now }

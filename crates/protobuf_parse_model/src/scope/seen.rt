@@ -29,7 +29,7 @@ pub enum DeclarationKind {
 #[derive(Clone, Copy)]
 pub struct Declaration {
     /// The number of the file.
-    pub file: usize,
+    pub file: u32,
     pub kind: DeclarationKind,
 }
 
@@ -40,7 +40,7 @@ pub struct Declarations {
     pub by_name: BTreeMap<String, Vec<Declaration>>,
     /// By the number of a file, those of the full names that it declares which have more than one
     /// declaration.
-    pub repeated: BTreeMap<usize, Vec<String>>,
+    pub repeated: BTreeMap<u32, Vec<String>>,
     /// Whether the declarations of each full name are in the order of the files: so they are where
     /// no file was added behind one with a higher number.
     pub in_order: bool,
@@ -53,9 +53,9 @@ pub struct Declarations {
 pub struct Seen<'a> {
     pub declarations: &'a Declarations,
     /// The numbers of the files whose names it sees, ascending.
-    pub sight: &'a [usize],
+    pub sight: &'a [u32],
     pub ghost sight_ascends: { IsStrictlyIncreasing sight.now },
     /// The numbers of the files that it reaches, ascending.
-    pub reach: &'a [usize],
+    pub reach: &'a [u32],
     pub ghost reach_ascends: { IsStrictlyIncreasing reach.now },
 }

@@ -1,7 +1,7 @@
 use Rattle.std.proofs.Common.{◌≡◌, map, take}
 use Rattle.std.specs.Prelude.{string_bytes}
 use Rattle.protobuf_parse_base.specs.PathViews.{path_buf_text}
-use Rattle.protobuf_parse.specs.Run.{input_view}
+use Rattle.protobuf_parse_run.specs.Run.{input_view}
 use Rattle.protobuf_parse.specs.Parsers.{inputs_at}
 use Rattle.protobuf_parse.proofs.front.builder.place_inputs.Given as goal
 

@@ -1,7 +1,7 @@
 use Rattle.std.proofs.Common.{◌≡◌, ◌∙◌, ap, map}
 use Rattle.std.specs.Prelude.{string_bytes}
 use Rattle.protobuf_parse.specs.Includes.{part_views}
-use Rattle.protobuf_parse.specs.Run.{input_view}
+use Rattle.protobuf_parse_run.specs.Run.{input_view}
 use Rattle.protobuf_parse.proofs.Building.{caused-over, ran-over}
 use Rattle.protobuf_parse.proofs.front.builder.run_over_folders.Goals as goal
 

@@ -1,7 +1,7 @@
 use Rattle.std.proofs.Common.{map}
 use Rattle.std.specs.Prelude.{string_bytes}
 use Rattle.std.proofs.lemmas.Result.{err_from_is_err_and}
-use Rattle.protobuf_parse.specs.Run.{OrMemory}
+use Rattle.protobuf_parse_run.specs.Run.{OrMemory}
 use Rattle.protobuf_parse.specs.Includes.{StandsAtFirst}
 use Rattle.protobuf_parse.proofs.Including.{first-stands}
 use Rattle.protobuf_parse.proofs.front.includes.proto_paths_of.Goals as goal

@@ -1,5 +1,5 @@
 use Rattle.std.proofs.lemmas.Result.{err_from_is_err_and}
-use Rattle.protobuf_parse.specs.Run.{IsCaused}
+use Rattle.protobuf_parse_run.specs.Run.{IsCaused}
 use Rattle.protobuf_parse.specs.Folders.{MayFind}
 use Rattle.protobuf_parse.specs.Parsers.{MayReadAnything, TellsFault, includes_of, inputs_of}
 use Rattle.protobuf_parse.proofs.Building.{run-caused, run-fault, run-files, run-names}

@@ -1,9 +1,0 @@
-use Rattle.std.proofs.Common.{◌-◌, length, map}
-use Rattle.protobuf_parse.specs.Loading.{IndexBegins, plain_in}
-use Rattle.protobuf_parse.proofs.run.tables.add_next.Given as goal
-
-abbrev pub invariant-files : goal.invariant-files
-invariant-files l = IndexBegins l.places (map plain_in l.loaded.entries)
-
-abbrev pub decreases-files : goal.decreases-files
-decreases-files l = length l.loaded.entries - l.places.files

@@ -1,0 +1,181 @@
+-- What stands for the custom options of an accepted run's files, and what is read back.
+use Rattle.std.proofs.Common.{◌≡◌, ℕ, ◌<◌, ◌^◌, true, length, List, [], Option, Some, None, Result}
+use Rattle.std.proofs.Common.{Ok, Err, refl, sym, ◌∙◌, ap, subst, arith}
+use Rattle.std.specs.Global.{Vec}
+use Rattle.protobuf_parse_syntax.specs.Text.{Bytes}
+use Rattle.protobuf_parse_syntax.specs.Parsing.{HasTree}
+use Rattle.protobuf_parse_syntax.specs.Trees.{FileSyntax}
+use Rattle.protobuf_parse_model.specs.Descriptors.{Text}
+use Rattle.protobuf_parse_model.specs.Faults.{Among, Fault}
+use Rattle.protobuf_parse_model.specs.Environment.{no_customs}
+use Rattle.protobuf_parse_model.specs.FileDescriptor.{environment, file_faults}
+use Rattle.protobuf_parse_model.specs.FilesByPath.{among, leads, stays, trees_at}
+use Rattle.protobuf_parse_model.specs.Linking.{before_others, link_faults}
+use Rattle.protobuf_parse_model.specs.OptionSets.{OptionSet, option_sets}
+use Rattle.protobuf_parse_model.specs.declared.descriptor.FileDescriptorProto.{FileDescriptorProto}
+use Rattle.protobuf_parse_options.specs.CustomFaults.{custom_option_faults}
+use Rattle.protobuf_parse_options.specs.CustomOptions.{denotes, scope_of}
+use Rattle.protobuf_parse_wire.specs.Law.{said}
+use Rattle.protobuf_parse_options.specs.OptionFields.{options_message}
+use Rattle.protobuf_parse_options.specs.OptionLaw.{HasSmallValues}
+use Rattle.protobuf_parse_wire.specs.Reading.{reader}
+use Rattle.protobuf_parse_options.specs.Recovery.{AreReachedFiles, HasCustom, HaveDistinctNumbers}
+use Rattle.protobuf_parse_wire.specs.Trees.{Entries}
+use Rattle.protobuf_parse_wire.specs.Wire.{Spells}
+use Rattle.protobuf_parse_options.proofs.Entered.{described}
+use Rattle.protobuf_parse_options.proofs.EnumNumbers.{SmallFile, file_small, values_small}
+use Rattle.protobuf_parse_options.proofs.OptionBytes.{option_bytes_spell}
+use Rattle.protobuf_parse_options.proofs.Recovery.{plain_options_are_no_bytes}
+use Rattle.protobuf_parse_options.proofs.RecoveryAbove.{options_are_recovered_above}
+use Rattle.protobuf_parse_options.proofs.Sound.{text_sound}
+use Rattle.protobuf_parse_options.proofs.WithoutOptions.{customs_are_options}
+use Rattle.protobuf_parse_options.proofs.WithoutOptions.{customs_make_no_difference}
+use Rattle.protobuf_parse_options.proofs.WithoutOptions.{meaning_ignores_options}
+use Rattle.protobuf_parse_run.specs.Walks.{Asked, Input, Reaches, elab_paths, events}
+use Rattle.protobuf_parse_run.specs.Run.{Files, FilesAreListed, RunEnds, HasTrees, IsTree, RunsAsTold}
+use Rattle.protobuf_parse_run.specs.Run.{environment_of, faults_in, plain_environments, plains_at}
+use Rattle.protobuf_parse_run.specs.Run.{text_read}
+use Rattle.protobuf_parse_run.specs.Recovered.{HoldsOptions, IsReadBack, OptionsAreHeld, bytes_in}
+use Rattle.protobuf_parse_run.specs.Recovered.{denoted_in, handed_out}
+use Rattle.protobuf_parse_run.specs.Stability.{IsClean, IsFileOfRun, WereRead, order}
+use Rattle.protobuf_parse_run.specs.declared.fault.RunFault.{RunFault}
+use Rattle.protobuf_parse_run.specs.declared.log.ReadEntry.{ReadEntry}
+use Rattle.protobuf_parse_run.specs.declared.log.ReadOutcome.{ReadOutcome}
+use Rattle.protobuf_parse_run.proofs.Agreeing.{reaches-on}
+use Rattle.protobuf_parse_run.proofs.Further.{faultless-file, reached-is}
+use Rattle.protobuf_parse_run.proofs.Knowing.{sees-reaches}
+use Rattle.protobuf_parse_run.proofs.Settling.{none-after, none-before}
+use Rattle.protobuf_parse_run.proofs.Spelling.{others}
+
+-- a `Vec` has fewer bytes than there are addresses
+small-bytes : (bytes : Vec ℕ) → length bytes.items < 2 ^ 64
+small-bytes bytes = omega (arith, bytes.ok.0, bytes.ok.1, bytes.small)
+
+module _ (files : Files) (inputs : List Input) (clean : IsClean files inputs)
+    (read : WereRead files) where
+  -- a file that a file of the run reaches is one of the run
+  reached-file : (p q : Text) → IsFileOfRun files.trees inputs p → among q (files.reached p) ≡ true
+      → IsFileOfRun files.trees inputs q
+  reached-file p q m h = reached-is files inputs clean p q ((read.listed.reaches p).only q h) m
+
+  -- in which no fault stands
+  no-others : (q : Text) (u : FileSyntax) → files.trees q ≡ Some u
+      → IsFileOfRun files.trees inputs q
+      → others files q u ≡ []
+  no-others q u at h = none-after (link_faults (trees_at files.trees (files.reached q)))
+      (others files q u) (faultless-file files inputs clean q u at h)
+
+  own-faultless : (q : Text) (u : FileSyntax) → files.trees q ≡ Some u
+      → IsFileOfRun files.trees inputs q
+      → file_faults (environment (trees_at files.trees (files.seen q)) no_customs u) u ≡ []
+  own-faultless q u at h = none-before
+      (file_faults (environment (trees_at files.trees (files.seen q)) no_customs u) u) _
+      (no-others q u at h)
+
+  options-faultless : (q : Text) (u : FileSyntax) → files.trees q ≡ Some u
+      → IsFileOfRun files.trees inputs q
+      → custom_option_faults (plains_at files (files.reached q)) (plains_at files (files.seen q)) u
+      ≡ []
+  options-faultless q u at h = none-after
+      (file_faults (environment (trees_at files.trees (files.seen q)) no_customs u) u) _
+      (no-others q u at h)
+
+  text-at : (q : Text) (u : FileSyntax) → files.trees q ≡ Some u → (text : Bytes) × HasTree text u
+  text-at q u at = of (text_read files.bundled files.reads q)
+      (subst (λ (o : Option FileSyntax). IsTree (text_read files.bundled files.reads q) o) at
+      (read.trees q))
+    where
+      of : (text : Option Bytes) → IsTree text (Some u) → (bytes : Bytes) × HasTree bytes u
+      of (Some text) h = (text, h.1)
+      of None h = absurd h
+
+  -- a file of the run, and all that it reaches
+  are-reached : (q : Text) (u : FileSyntax) → files.trees q ≡ Some u
+      → IsFileOfRun files.trees inputs q
+      → HaveDistinctNumbers (plains_at files (files.reached q))
+      → AreReachedFiles files.trees files.seen (files.reached q)
+  are-reached q u is m numbers = record {
+    texts = λ r v h at. text-at r v at;
+    sight = λ r h x seen. (read.listed.reaches q).all x
+        (reaches-on files.trees q r x ((read.listed.reaches q).only r h)
+        (sees-reaches files.trees r x ((read.listed.sees r).only x seen)));
+    once = none-before (link_faults (trees_at files.trees (files.reached q))) (others files q u)
+        (faultless-file files inputs clean q u is m);
+    faultless = λ r v h at. own-faultless r v at (reached-file q r m h);
+    numbers = numbers;
+  }
+
+  -- enums' values have 32 bits, as the grammar says
+  small : (p : Text) → HasSmallValues (plains_at files (files.reached p))
+  small p = values_small (plains_at files (files.reached p)) (λ file h.
+      let d = described files.trees (plain_environments files) (files.reached p) file h in
+      let text = text-at d.path d.tree d.has_tree in
+      subst SmallFile d.is (file_small (plain_environments files d.path d.tree) d.path d.tree
+      (text_sound text.0 d.tree text.1)))
+
+  module _ (p : Text) (t : FileSyntax) (is : files.trees p ≡ Some t)
+      (m : IsFileOfRun files.trees inputs p) (s : OptionSet)
+      (stands : Among (option_sets t) s) where
+    abbrev reached : List Text
+    reached = files.reached p
+
+    abbrev seen : List Text
+    seen = files.seen p
+
+    -- custom options make no difference to what is denoted
+    same : denoted_in files p s
+        ≡ denotes (scope_of (plains_at files reached) (plains_at files seen) s) s.construct
+        s.statements
+    same = meaning_ignores_options (handed_out files reached) (plains_at files reached)
+        (handed_out files seen) (plains_at files seen)
+        (customs_are_options files.trees (environment_of files) (plain_environments files) reached
+        (λ q u. refl))
+        (customs_are_options files.trees (environment_of files) (plain_environments files) seen
+        (λ q u. refl))
+        s.scope s.construct s.statements
+
+    -- a file that reaches it has a tree
+    tree-of : (q : Text) → Reaches files.trees q p → (u : FileSyntax) × (files.trees q ≡ Some u)
+    tree-of q (stays _) = (t, is)
+    tree-of q (leads _ r _ u at a rest) = (u, at)
+
+    read-back : HasCustom s.statements → (q : Text) → among q (order files.trees inputs) ≡ true
+        → among p (files.reached q) ≡ true → HaveDistinctNumbers (plains_at files (files.reached q))
+        → IsReadBack files p q s
+    read-back custom q n h numbers bytes held =
+        let above = (read.listed.reaches q).only p h in
+        let u = tree-of q above in
+        let within : (r : Text) → among r reached ≡ true → among r (files.reached q) ≡ true =
+        λ r k. (read.listed.reaches q).all r
+        (reaches-on files.trees q p r above ((read.listed.reaches p).only r k)) in
+        let alike = customs_make_no_difference files.trees (environment_of files)
+        (plain_environments files) (files.reached q) seen (λ r v. refl) in
+        let short = subst (λ (bs : Text). length bs < 2 ^ 64) held (small-bytes bytes) in
+        ap (λ (bs : Text). reader (handed_out files (files.reached q))
+        (options_message s.construct) bs)
+        held
+        ∙ (alike.0 (options_message s.construct) (bytes_in files p s)
+        ∙ (options_are_recovered_above files.trees files.seen reached (files.reached q) p t s
+        (are-reached q u.0 u.1 n numbers) within h is
+        (options-faultless p t is m) stands custom short
+        ∙ sym (ap (λ (es : Entries). Ok (said es)) same)))
+
+    pub holds-options : HoldsOptions files (order files.trees inputs) p s
+    holds-options = record {
+      spelled = subst (λ (es : Entries). Spells es (bytes_in files p s)) (sym same)
+          (option_bytes_spell (plains_at files reached) (plains_at files seen) t (small p)
+          (options-faultless p t is m) s stands);
+      nothing = plain_options_are_no_bytes (plains_at files reached) (plains_at files seen) s;
+      read = read-back;
+    }
+
+pub all-held : (legal : Asked → Text → ReadOutcome → Type 0) (inputs : List Input)
+    (bundled : List (Text × Text)) (log : List ReadEntry)
+    (result : Result (Vec FileDescriptorProto) RunFault)
+    → RunsAsTold legal inputs bundled log result → OptionsAreHeld inputs bundled log result
+all-held legal inputs bundled log (Ok ds) told = λ trees reached seen has listed p t s m is among.
+    let files : Files = record
+    { bundled = bundled; reads = log; trees = trees; reached = reached; seen = seen } in
+    holds-options files inputs (told trees reached seen has listed).none_fails
+    (record { trees = has; listed = listed }) p t is m s among
+all-held legal inputs bundled log (Err f) told = tt

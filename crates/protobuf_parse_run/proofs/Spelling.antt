@@ -1,0 +1,188 @@
+-- What custom options add to a file: faults beside its others, and bytes in its descriptor.
+use Rattle.std.proofs.Common.{◌≡◌, inl, inr, ℕ, List, [], ◌∷◌, flat_map, Option, Some, None, Result}
+use Rattle.std.proofs.Common.{Ok, Err, refl, sym, ◌∙◌, ap, subst}
+use Rattle.protobuf_parse_syntax.specs.Trees.{FileSyntax, OptionSyntax}
+use Rattle.protobuf_parse_model.specs.Descriptors.{Text, FileDescriptor}
+use Rattle.protobuf_parse_model.specs.Environment.{Customs, no_customs, no_extensions}
+use Rattle.protobuf_parse_model.specs.Descriptors as described
+use Rattle.protobuf_parse_model.specs.CustomSets.{faults_of_set, faults_of_sets}
+use Rattle.protobuf_parse_model.specs.Faults.{Among, here, there, Blames, Fault, fault_view}
+use Rattle.protobuf_parse_model.specs.FilesByPath.{trees_at}
+use Rattle.protobuf_parse_model.specs.FileDescriptor.{environment, file_faults, file_of}
+use Rattle.protobuf_parse_model.specs.Linking.{before_others, link_faults}
+use Rattle.protobuf_parse_model.specs.OptionSets.{OptionSet, option_sets}
+use Rattle.protobuf_parse_model.specs.Tables.{picked}
+use Rattle.protobuf_parse_model.specs.declared.descriptor.FileDescriptorProto.{FileDescriptorProto}
+use Rattle.protobuf_parse_model.specs.declared.error.ElabFailure.{ElabFailure}
+use Rattle.protobuf_parse_model.specs.declared.error.ElabFailure.TheVariants as failure
+use Rattle.protobuf_parse_model.proofs.CustomSets.{faults_are_of_sets, none_is_none_in_sets}
+use Rattle.protobuf_parse_model.proofs.CustomSets.{none_of_sets, options_are_builtin}
+use Rattle.protobuf_parse_model.proofs.SameBytes.{bytes_are_of_sets}
+use Rattle.protobuf_parse_options.specs.CustomFaults.{custom_name_faults, custom_option_faults}
+use Rattle.protobuf_parse_options.specs.CustomFaults.{custom_statement_faults}
+use Rattle.protobuf_parse_options.specs.CustomOptions.{items_of_option, scope_of}
+use Rattle.protobuf_parse_options.specs.OptionFields.{OptionScope}
+use Rattle.protobuf_parse_options.specs.OptionBytes.{known_customs, option_bytes}
+use Rattle.protobuf_parse_run.specs.Loading.{Describes, LoadedEntry, customs_over, picked_plains}
+use Rattle.protobuf_parse_run.specs.Loading.{plain_over}
+use Rattle.protobuf_parse_run.specs.Loading.{plains_over}
+use Rattle.protobuf_parse_run.specs.Run.{Files, customs_of}
+use Rattle.protobuf_parse_run.specs.declared.describe.Described.{Described}
+
+-- ** the faults of a file but those of names that are declared twice
+
+-- those of its custom options
+abbrev pub told_by : Customs → FileSyntax → List Fault
+told_by c t = faults_of_sets c t
+
+abbrev pub others_by : List FileSyntax → Customs → FileSyntax → List Fault
+others_by seen c t =
+    before_others (file_faults (environment seen no_customs t) t) (told_by c t)
+
+abbrev pub others : Files → Text → FileSyntax → List Fault
+others files p t = others_by (trees_at files.trees (files.seen p)) (customs_of files p) t
+
+nothing-in : {A : Type 0} {x : A} → Among [] x → ⊥
+nothing-in m = elim m [ ]
+
+-- where each gives nothing, so do all
+all-nothing : {A B : Type 0} (f : A → List B) (xs : List A)
+    → ((x : A) → Among xs x → f x ≡ []) → flat_map f xs ≡ []
+all-nothing f [] each = refl
+all-nothing f (x ∷ xs) each =
+    rw (each x here) (all-nothing f xs (λ y m. each y (there m)))
+
+module _ (seen : List FileSyntax) (files visible : List FileDescriptor) (t : FileSyntax) where
+  abbrev known : Customs
+  known = known_customs files visible
+
+  -- ** where nothing is wrong though no extension is known, no custom option is set
+
+  pub plain-faultless : file_faults (environment seen no_extensions t) t ≡ []
+      → file_faults (environment seen no_customs t) t ≡ []
+  plain-faultless none = ((none_is_none_in_sets seen no_extensions t).0 none).0
+
+  -- so nothing is wrong in any set of options, and none denotes anything
+  module _ (none : file_faults (environment seen no_extensions t) t ≡ []) (s : OptionSet)
+      (m : Among (option_sets t) s) where
+    abbrev at : OptionScope
+    at = scope_of files visible s
+
+    set-faultless : custom_statement_faults at s.construct s.statements ≡ []
+    set-faultless =
+        all-nothing (λ (o : OptionSyntax). custom_name_faults at s.construct o.value o.name)
+        s.statements
+        (λ o h. let b = options_are_builtin seen t s o none m h in rw b.1 refl)
+
+    set-empty : flat_map (items_of_option at s.construct) s.statements ≡ []
+    set-empty = all-nothing (items_of_option at s.construct) s.statements
+        (λ o h. let b = options_are_builtin seen t s o none m h in rw b.1 refl)
+
+    set-unspelled : [] ≡ option_bytes files visible s.construct s.scope s.statements
+    set-unspelled = rw set-empty refl
+
+  pub nothing-wrong : file_faults (environment seen no_extensions t) t ≡ []
+      → custom_option_faults files visible t ≡ []
+  nothing-wrong none = all-nothing (faults_of_set known) (option_sets t) (set-faultless none)
+
+  pub nothing-spelled : (path : Text) → file_faults (environment seen no_extensions t) t ≡ []
+      → file_of (environment seen no_extensions t) path t
+      ≡ file_of (environment seen known t) path t
+  nothing-spelled path none =
+      bytes_are_of_sets seen no_extensions known path t (set-unspelled none)
+
+  pub plain-same : (path : Text) → file_of (environment seen no_extensions t) path t
+      ≡ file_of (environment seen no_customs t) path t
+  plain-same path = bytes_are_of_sets seen no_extensions no_customs path t (λ s m. refl)
+
+  -- ** what is wrong with extensions known
+
+  pub options-faultless : file_faults (environment seen known t) t ≡ []
+      → custom_option_faults files visible t ≡ []
+  options-faultless none = none_of_sets seen known t none
+
+  pub option-told : (f : Fault) → file_faults (environment seen no_customs t) t ≡ []
+      → Among (file_faults (environment seen known t) t) f
+      → Among (custom_option_faults files visible t) f
+  option-told f none told =
+      elim ((faults_are_of_sets seen known t f).0 told) [
+        | inl w ↦ absurd (nothing-in (subst (λ (fs : List Fault). Among fs f) none w))
+        | inr w ↦ w
+      ]
+
+-- ** what a file becomes by numbers
+
+module _ (loaded : List LoadedEntry) (files : List FileSyntax) (reach sight : List ℕ) (path : Text)
+    (t : FileSyntax) (linked : link_faults (picked files reach) ≡ []) where
+  abbrev plains : List FileDescriptor
+  plains = plains_over loaded files sight path t
+
+  abbrev seen : List FileSyntax
+  seen = picked files sight
+
+  abbrev reached_plains : List FileDescriptor
+  reached_plains = picked_plains plains reach
+
+  abbrev seen_plains : List FileDescriptor
+  seen_plains = picked_plains plains sight
+
+  all-faultless : file_faults (environment seen no_customs t) t ≡ []
+      → custom_option_faults reached_plains seen_plains t ≡ []
+      → before_others (link_faults (picked files reach))
+      (before_others (file_faults (environment seen no_customs t) t)
+      (custom_option_faults reached_plains seen_plains t)) ≡ []
+  all-faultless own options = rw (linked, own) options
+
+  -- no custom option is set
+  pub none-set : (d : FileDescriptorProto)
+      → file_faults (environment seen no_extensions t) t ≡ []
+      → described.file_view d ≡ file_of (environment seen no_extensions t) path t
+      → Describes loaded files reach sight path t
+      (Ok (record { descriptor = d; plain = None }))
+  none-set d none is = (
+    all-faultless (plain-faultless seen reached_plains seen_plains t none)
+        (nothing-wrong seen reached_plains seen_plains t none),
+    is ∙ nothing-spelled seen reached_plains seen_plains t path none,
+    is ∙ plain-same seen reached_plains seen_plains t path,
+  )
+
+  -- some may be set
+  pub some-set : (c : Customs) (plain d : FileDescriptorProto)
+      → c ≡ customs_over plains reach sight
+      → file_faults (environment seen no_customs t) t ≡ []
+      → described.file_view plain ≡ plain_over files sight path t
+      → file_faults (environment seen c t) t ≡ []
+      → described.file_view d ≡ file_of (environment seen c t) path t
+      → Describes loaded files reach sight path t
+      (Ok (record { descriptor = d; plain = Some plain }))
+  some-set c plain d same own first none is = (
+    all-faultless own
+        (options-faultless seen reached_plains seen_plains t
+        (subst (λ (k : Customs). file_faults (environment seen k t) t ≡ []) same none)),
+    is ∙ ap (λ (k : Customs). file_of (environment seen k t) path t) same,
+    first,
+  )
+
+  -- the faults of the file itself
+  pub own-told : (e : ElabFailure) → Blames e (file_faults (environment seen no_customs t) t)
+      → Describes loaded files reach sight path t (Err e)
+  own-told (failure.Memory) h = tt
+  own-told (failure.Fault error) h =
+      rw linked (told-first (file_faults (environment seen no_customs t) t)
+      (custom_option_faults reached_plains seen_plains t) (fault_view error) h)
+    where
+      told-first : (firsts others : List Fault) (f : Fault) → Among firsts f
+          → Among (before_others firsts others) f
+      told-first [] others f m = absurd (nothing-in m)
+      told-first (a ∷ firsts) others f m = m
+
+  -- and those of its custom options
+  pub customs-told : (c : Customs) (e : ElabFailure) → c ≡ customs_over plains reach sight
+      → file_faults (environment seen no_customs t) t ≡ []
+      → Blames e (file_faults (environment seen c t) t)
+      → Describes loaded files reach sight path t (Err e)
+  customs-told c (failure.Memory) same own h = tt
+  customs-told c (failure.Fault error) same own h =
+      rw (linked, own) (option-told seen reached_plains seen_plains t (fault_view error) own
+      (subst (λ (k : Customs). Among (file_faults (environment seen k t) t) (fault_view error))
+      same h))

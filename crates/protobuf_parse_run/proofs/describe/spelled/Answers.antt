@@ -1,0 +1,37 @@
+use Rattle.std.proofs.Common.{◌∙◌, List, Option, ap, flat_map, map, option_map, subst}
+use Rattle.std.specs.Prelude.{option_to_list}
+use Rattle.std.specs.Borrow.{Bor}
+use Rattle.protobuf_parse_syntax.specs.Trees.{file_view}
+use Rattle.protobuf_parse_model.specs.declared.descriptor.FileDescriptorProto.{FileDescriptorProto}
+use Rattle.protobuf_parse_model.specs.Descriptors as described
+use Rattle.protobuf_parse_model.specs.Descriptors.{FileDescriptor}
+use Rattle.protobuf_parse_model.specs.Environment.{Customs}
+use Rattle.protobuf_parse_model.specs.Faults.{Elaborates}
+use Rattle.protobuf_parse_model.specs.FileDescriptor.{environment, file_faults, file_of}
+use Rattle.protobuf_parse_model.specs.Tables.{picked}
+use Rattle.protobuf_parse_options.specs.OptionBytes.{known_customs}
+use Rattle.protobuf_parse_run.specs.Loading.{picked_plains, plain_seen, plains_with}
+use Rattle.protobuf_parse_run.proofs.Catching.{picked-seen}
+use Rattle.protobuf_parse_run.proofs.describe.spelled.Goals as goal
+
+-- the descriptors that the code's list has
+abbrev listed : List (Option (Bor FileDescriptorProto)) → List FileDescriptor
+listed fs = flat_map option_to_list (map (option_map plain_seen) fs)
+
+pub returns : goal.returns
+returns c files told =
+    let t = file_view c.args.tree.now in
+    let seen = picked files c.args.seen.now.sight.now in
+    let plains = plains_with c.args.loaded.now.entries (described.file_view c.args.plain.now) in
+    let reach = c.args.seen.now.reach.now in
+    let sight = c.args.seen.now.sight.now in
+    let reached = ap listed c.deref.ensures.value
+    ∙ ap (flat_map option_to_list) c.in_ok-reached.ensures ∙ picked-seen plains reach in
+    let visible = ap listed c.deref-2.ensures.value
+    ∙ ap (flat_map option_to_list) c.in_ok-visible.ensures ∙ picked-seen plains sight in
+    let known = c.new-known.ensures
+    ∙ ap (λ (ds : List FileDescriptor). known_customs ds (listed c.deref-2.result.now)) reached
+    ∙ ap (λ (ds : List FileDescriptor). known_customs (picked_plains plains reach) ds) visible in
+    subst (λ (k : Customs). Elaborates described.file_view c.elaborate.result
+    (file_faults (environment seen k t) t) (file_of (environment seen k t) c.args.path.now t))
+    known (c.elaborate.ensures.by_files files told)

@@ -1,0 +1,49 @@
+use Rattle.std.proofs.Common.{◌≡◌, ap}
+use Rattle.std.proofs.lemmas.Result.{err_from_is_err_and}
+use Rattle.protobuf_parse_syntax.specs.Trees.{file_view}
+use Rattle.protobuf_parse_model.specs.Descriptors as described
+use Rattle.protobuf_parse_model.specs.Descriptors.{FileDescriptor}
+use Rattle.protobuf_parse_run.specs.Loading.{customs_over, plains_over, plains_with}
+use Rattle.protobuf_parse_run.proofs.Catching.{whole-begins}
+use Rattle.protobuf_parse_run.proofs.Spelling.{customs-told, own-told, some-set}
+use Rattle.protobuf_parse_run.proofs.describe.with_customs.Goals as goal
+
+pub returns-in_err-plain-clause-describes : goal.returns-in_err-plain-clause-describes
+returns-in_err-plain-clause-describes c files told linked =
+    let e = err_from_is_err_and c.from_residual.result c.from_residual.ensures.1 in
+    rw (e.1, e.2)
+    (own-told c.args.loaded.now.entries files c.args.seen.now.reach.now
+    c.args.seen.now.sight.now c.args.path.now
+    (file_view c.args.tree.now) linked c.in_err-plain.field-0.0
+    (c.in_err-plain.ensures.by_files files told))
+
+pub returns-in_err-descriptor-clause-describes : goal.returns-in_err-descriptor-clause-describes
+returns-in_err-descriptor-clause-describes c files told linked =
+    let loaded = c.args.loaded.now.entries in
+    let reach = c.args.seen.now.reach.now in
+    let sight = c.args.seen.now.sight.now in
+    let own = c.in_ok-plain.ensures.by_files files told in
+    let plains = plains_with loaded (described.file_view c.in_ok-plain.plain) in
+    let same = ap (λ (d : FileDescriptor). customs_over (plains_with loaded d) reach sight) own.1 in
+    let e = err_from_is_err_and c.from_residual-in_err-descriptor.result
+    c.from_residual-in_err-descriptor.ensures.1 in
+    rw (e.1, e.2)
+    (customs-told loaded files reach sight c.args.path.now (file_view c.args.tree.now) linked
+    (customs_over plains reach sight) c.in_err-descriptor.field-0.0 same own.0
+    (c.in_err-descriptor.ensures files told))
+
+pub returns-clause-describes : goal.returns-clause-describes
+returns-clause-describes c files told linked =
+    let loaded = c.args.loaded.now.entries in
+    let reach = c.args.seen.now.reach.now in
+    let sight = c.args.seen.now.sight.now in
+    let own = c.in_ok-plain.ensures.by_files files told in
+    let whole = c.in_ok-descriptor.ensures files told in
+    let plains = plains_with loaded (described.file_view c.in_ok-plain.plain) in
+    let same = ap (λ (d : FileDescriptor). customs_over (plains_with loaded d) reach sight) own.1 in
+    some-set loaded files reach sight c.args.path.now (file_view c.args.tree.now) linked
+    (customs_over plains reach sight) c.in_ok-plain.plain c.in_ok-descriptor.descriptor same
+    own.0 own.1 whole.0 whole.1
+
+pub returns-clause-begins : goal.returns-clause-begins
+returns-clause-begins c = whole-begins _ _ c.in_ok-add_next.ensures

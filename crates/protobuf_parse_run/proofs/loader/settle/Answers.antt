@@ -1,0 +1,93 @@
+use Rattle.std.proofs.Common.{◌≡◌, ◌∙◌, refl, sym, inl, inr, ap, subst, List, Some, Ok, length, map}
+use Rattle.std.proofs.lemmas.List.{length-map}
+use Rattle.std.proofs.lemmas.Result.{err_from_is_err_and}
+use Rattle.protobuf_parse_syntax.specs.Trees.{FileSyntax, file_view}
+use Rattle.protobuf_parse_model.specs.Descriptors.{FileDescriptor, Text}
+use Rattle.protobuf_parse_run.specs.Run.{StandsInElab, origin_given}
+use Rattle.protobuf_parse_run.specs.Loading.{IndexBegins, Describes, Named, faults_over, named_trees}
+use Rattle.protobuf_parse_run.specs.Loading.{plain_in, plains_next, trees_of, with_next}
+use Rattle.protobuf_parse_run.specs.declared.loader.LoadedFile.{LoadedFile}
+use Rattle.protobuf_parse_run.proofs.Catching.{plains-push}
+use Rattle.protobuf_parse_run.proofs.Numbers.{named-length}
+use Rattle.protobuf_parse_run.proofs.loader.settle.Goals as goal
+
+pub returns-clause-settles : goal.returns-clause-settles
+returns-clause-settles c told none =
+    let loaded = c.args.loader.now.loaded.entries in
+    let t = file_view c.args.tree in
+    let files = trees_of (named_trees loaded) in
+    let number : length files ≡ c.len.result = length-map (named_trees loaded) (λ (f : Named). f.1)
+    ∙ (named-length loaded ∙ sym c.len.ensures.len) in
+    let tells = c.in_ok-add.ensures files number told in
+    let sights = c.in_ok-sights.sights in
+    let described = c.in_ok-described.described in
+    let is = subst
+    (λ (z : Text). Describes loaded
+    (with_next loaded t) sights.reach.items sights.sight.items z t (Ok described))
+    c.deref.ensures
+    (c.in_ok-described.ensures.ok (with_next loaded t) tells) in
+    let same : c.descriptor_of.new.loader.loaded.entries
+    ≡ loaded = ap (λ m. m.entries) c.in_ok-described.ensures.loaded in
+    let added = (rw same at c.in_ok-placed.ensures.added) in
+    let file : LoadedFile = record {
+      tree = c.args.tree;
+      height = c.args.height;
+      reach = sights.reach;
+      handed_on = sights.handed_on;
+      read = c.args.read;
+      descriptor = described.descriptor;
+      plain = described.plain;
+    } in
+    record {
+      key = c.args.path;
+      file = file;
+      sight = sights.sight.items;
+      entries = added.0;
+      named = refl;
+      tree_is = refl;
+      height_is = refl;
+      read_is = refl;
+      reaches = c.in_ok-sights.ensures.reach;
+      sees = c.in_ok-sights.ensures.sight;
+      hands_on = c.in_ok-sights.ensures.handed_on;
+      faultless = is.0;
+      descriptor = is.1;
+      plain = is.2;
+      tells = rw c.in_ok-described.ensures.names tells;
+      begins =
+          subst (λ (ps : List FileDescriptor). IndexBegins c.descriptor_of.new.loader.tables.places
+          ps)
+          (plains-push loaded (c.args.path, file) ∙ ap (map plain_in) (sym added.0))
+          c.in_ok-described.ensures.begins;
+      height_placed = c.in_ok-placed.ensures.height;
+      number_placed = added.1;
+    }
+
+pub returns-in_err-described-clause-settles : goal.returns-in_err-described-clause-settles
+returns-in_err-described-clause-settles c told =
+    let loaded = c.args.loader.now.loaded.entries in
+    let t = file_view c.args.tree in
+    let files = trees_of (named_trees loaded) in
+    let number : length files ≡ c.len.result = length-map (named_trees loaded) (λ (f : Named). f.1)
+    ∙ (named-length loaded ∙ sym c.len.ensures.len) in
+    let tells = c.in_ok-add.ensures files number told in
+    let sights = c.in_ok-sights.sights in
+    let err = c.in_err-described.ensures.err (with_next loaded t) tells in
+    let p = err_from_is_err_and c.from_residual-in_err-described.result
+    c.from_residual-in_err-described.ensures.1 in
+    rw (p.1, p.2) (λ e found named. elim (err e found (named ∙ sym c.deref.ensures)) [
+      | inl w ↦
+          let stands = subst
+          (λ (z : Text). StandsInElab (origin_given z (Some e.outcome))
+          (faults_over (with_next loaded t)
+          (plains_next loaded sights.sight.items z t) sights.reach.items sights.sight.items t)
+          c.in_err-described.field-0.0) c.deref.ensures w in
+          inl (
+            sights.reach.items,
+            sights.sight.items,
+            c.in_ok-sights.ensures.reach,
+            c.in_ok-sights.ensures.sight,
+            stands,
+          )
+      | inr w ↦ inr w
+    ])

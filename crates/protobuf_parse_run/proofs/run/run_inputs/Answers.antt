@@ -1,0 +1,68 @@
+use Rattle.std.proofs.Common.{inr, refl, map, arith}
+use Rattle.protobuf_parse_run.specs.Walks.{events}
+use Rattle.protobuf_parse_run.specs.Run.{MayAnswer, input_view, rows}
+use Rattle.protobuf_parse_run.proofs.AskedOnce.{all-asked-once}
+use Rattle.protobuf_parse_run.proofs.Causing.{caused}
+use Rattle.std.proofs.lemmas.List.{length-map}
+use Rattle.protobuf_parse_run.proofs.Deciding.{goes-on, have-trees, run-files}
+use Rattle.protobuf_parse_run.proofs.Listed.{have-lists}
+use Rattle.protobuf_parse_run.proofs.Following.{all-follow}
+use Rattle.protobuf_parse_run.proofs.Recovering.{all-held}
+use Rattle.protobuf_parse_run.proofs.Telling.{accepted, broken, stopped}
+use Rattle.protobuf_parse_run.proofs.run.run_inputs.Goals as goal
+use Rattle.protobuf_parse_run.proofs.run.run_inputs.Goals.{in-Ok+in-Ok-descriptors}
+use Rattle.protobuf_parse_run.proofs.run.run_inputs.Goals.{in-Ok+in-Err-descriptors, in-Err}
+
+pub returns-clause-trees : goal.returns-clause-trees
+returns-clause-trees g c = have-trees _ _ c.load_inputs-outcome.ensures.decided
+
+pub returns-clause-lists : goal.returns-clause-lists
+returns-clause-lists g c = have-lists _ _
+
+pub returns-clause-told : goal.returns-clause-told
+returns-clause-told g c trees reached seen has listed =
+    let legal = MayAnswer (g.R.ProtoPathResolver.may_answer c.args.resolver.now)
+    (g.I.InputReader.may_read c.args.reader.now) in
+    let table = rows c.args.bundled.now in
+    let log = c.load_inputs-outcome.new.loader.reads.items in
+    let files = run-files table log trees reached seen in
+    let told = events trees (map input_view c.args.inputs.now) in
+    let go = goes-on table log trees reached seen has listed in
+    elim c.match-outcome.branch [
+      | in-Ok+in-Ok-descriptors w ↦ rw w.result-is
+          (accepted legal files told _ _
+          (w.in-Ok.ensures.goes files go) w.in-Ok-descriptors.ensures)
+      | in-Ok+in-Err-descriptors w ↦ rw w.result-is
+          (inr (broken legal files told _ _ (w.in-Ok.ensures.goes files go) refl))
+      | in-Err w ↦ rw w.result-is (stopped legal files told _ (w.in-Err.ensures.goes files go))
+    ]
+
+pub returns-clause-caused : goal.returns-clause-caused
+returns-clause-caused g c =
+    let t = have-trees _ _ c.load_inputs-outcome.ensures.decided in
+    let l = have-lists _ _ t.0 (λ p. (t.1 p).0) in
+    let h = returns-clause-told g c t.0 l.0 l.1 (λ p. (t.1 p).0) l.2 in
+    caused (g.R.ProtoPathResolver.may_answer c.args.resolver.now)
+    (g.I.InputReader.may_read c.args.reader.now) _ _ _ (all-follow _ _) h
+
+pub returns-clause-once : goal.returns-clause-once
+returns-clause-once g c = all-asked-once _ _ _ _ _ (returns-clause-told g c)
+
+pub returns-clause-options : goal.returns-clause-options
+returns-clause-options g c = all-held _ _ _ _ _ (returns-clause-told g c)
+
+pub returns-clause-meets : goal.returns-clause-meets
+returns-clause-meets g c trees has =
+    let table = rows c.args.bundled.now in
+    let log = c.load_inputs-outcome.new.loader.reads.items in
+    let l = have-lists table log trees has in
+    let files = run-files table log trees l.0 l.1 in
+    let go = goes-on table log trees l.0 l.1 has l.2 in
+    let same = length-map c.args.inputs.now input_view in
+    elim c.match-outcome.branch [
+      | in-Ok+in-Ok-descriptors w ↦ rw w.result-is
+          (omega (arith, same, w.in-Ok.ensures.count files go))
+      | in-Ok+in-Err-descriptors w ↦ rw w.result-is
+          (omega (arith, same, w.in-Ok.ensures.count files go))
+      | in-Err w ↦ rw w.result-is (omega (arith, same, w.in-Err.ensures.count files go))
+    ]

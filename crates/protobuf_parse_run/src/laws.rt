@@ -1,0 +1,17 @@
+//! Laws of the definitions of a run. The functions do nothing.
+
+ghost use Rattle.protobuf_parse_run.specs.Stability.{TreesAreOfTexts, StandsOnItsReach, OrderStays};
+ghost use Rattle.protobuf_parse_run.specs.Stability.{DescriptorsStay};
+
+/// What stays where other texts are read. A path that has the same text has the same tree. Where
+/// two runs agree on the files that a file reaches, the same faults stand in it, and it becomes
+/// the same, in whatever order these files are listed. Where they agree on all files of an accepted
+/// run, its order is a beginning of the order of every list of inputs that begins with the run's
+/// inputs, and its descriptors are the first of such a run that is accepted too: so further inputs
+/// whose reads agree only append.
+pub fn runs_are_stable()
+    ensures texts { TreesAreOfTexts }
+    ensures reach { StandsOnItsReach }
+    ensures order { OrderStays }
+    ensures descriptors { DescriptorsStay }
+{}

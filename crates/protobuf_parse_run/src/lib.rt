@@ -1,0 +1,23 @@
+//! Runs: from inputs to the descriptors of all files that they reach, imports first.
+#![tactic(auto)]
+
+mod asking;
+mod bundled;
+mod describe;
+mod fault;
+mod frame;
+mod laws;
+mod loaded;
+mod loader;
+mod log;
+mod reach;
+mod run;
+mod source;
+mod tables;
+
+pub use bundled::bundled_files;
+pub use fault::{ReadInputFault, ResolveFault, RunFault};
+pub use laws::runs_are_stable;
+pub use log::{ReadEntry, ReadOutcome, RunInput, RunLog};
+pub use run::{parse_and_typecheck_custom, run_inputs};
+pub use source::{InputReader, ProtoPathResolver, ResolvedProtoFile};
