@@ -8,8 +8,8 @@ ghost use Rattle.protobuf_parse_syntax.specs.Trees.{FileSyntax};
 ghost use Rattle.protobuf_parse_model.specs.Descriptors as described;
 ghost use Rattle.protobuf_parse.specs.Imports.{imports_alone};
 
-pub use protobuf_parse_run::parse_and_typecheck_custom;
 use protobuf_parse_model::FileDescriptorProto;
+pub use protobuf_parse_run::parse_and_typecheck_custom;
 use protobuf_parse_syntax::{Dependencies, ParserErrorWithLocation};
 use std::alloc::Global;
 

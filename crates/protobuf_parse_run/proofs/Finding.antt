@@ -1,12 +1,13 @@
 -- The numbers of loaded files by their paths.
 use Rattle.std.proofs.Common.{◌≡◌, ℕ, suc, false, inl, inr, List, [], ◌∷◌, ◌++◌, Option}
-use Rattle.std.proofs.Common.{Some, None, refl, sym, ◌∙◌, ap, subst, length}
+use Rattle.std.proofs.Common.{Some, None, refl, sym, ◌∙◌, ap, subst, length, ◌<◌, ◌^◌, arith}
 use Rattle.std.specs.Prelude.{bytes_eq, String, string_bytes, slice_get, option_map, unwrap_or}
 use Rattle.std.specs.Cmp.Lexicographic.{slice_cmp}
 use Rattle.std.specs.Ordering.{nat_cmp}
 use Rattle.std.specs.String.{string_cmp}
 use Rattle.std.specs.Global.{Global}
 use Rattle.std.specs.BTreeMap.{BTreeMap, UpdatesBy, get_by_text}
+use Rattle.std.proofs.lemmas.List.{length-append}
 use Rattle.std.proofs.lemmas.Map.Text.{btree_map_updates_text}
 use Rattle.protobuf_parse_model.specs.Descriptors.{Text}
 use Rattle.protobuf_parse_run.specs.Loading.{LoadedEntry, file_at}
@@ -121,3 +122,11 @@ module _ (old new : BTreeMap (String Global) ℕ) (es : List LoadedEntry) (e : L
             rw (← same) (bytes_eq-apart (string_bytes key) p w) in
             rw w (has p ∙ sym (number-other p es e off))
       ]
+
+-- there is room for one more, unless there are as many as may be
+pub few-push : (es : List LoadedEntry) (e : LoadedEntry) (n : ℕ) (new : List LoadedEntry)
+    → n ≡ length es → n < 2 ^ 31 → (n ≡ 2147483647 → ⊥) → new ≡ es ++ e ∷ []
+    → length new < 2 ^ 31
+few-push es e n new count small more is =
+    let longer = length-append es (e ∷ []) in
+    rw is (omega (arith, count, small, more, longer))

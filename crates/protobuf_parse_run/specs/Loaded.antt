@@ -22,7 +22,7 @@ abbrev pub HasNumbers : BTreeMap (String Global) ℕ → List LoadedEntry → Ty
 HasNumbers numbers loaded = (path : Text) → get_by_text numbers path ≡ number_in path loaded
 
 -- The same, and there are so few files that their numbers have 32 bits.
-pub record AreNumbered
+pub record HasSmallNumbers
     (numbers : BTreeMap (String Global) ℕ) (loaded : List LoadedEntry) : Type 0 where
   pub found : HasNumbers numbers loaded
   pub few : length loaded < 2 ^ 31

@@ -26,7 +26,7 @@ pub struct LoadedFiles {
 impl Model for LoadedFiles {
     ghost use Rattle.std.specs.Coded.{codes};
     ghost use Rattle.protobuf_parse_run.specs.contracts.loader.LoadedFile as file;
-    ghost use Rattle.protobuf_parse_run.specs.Loaded.{LoadedList, AreNumbered};
+    ghost use Rattle.protobuf_parse_run.specs.Loaded.{LoadedList, HasSmallNumbers};
 
     ghost Value = { LoadedList };
 
@@ -34,7 +34,7 @@ impl Model for LoadedFiles {
 
     ghost view = { λ a. record { entries = a.entries.items } };
 
-    ghost invariant = { λ a. AreNumbered a.numbers a.entries.items };
+    ghost invariant = { λ a. HasSmallNumbers a.numbers a.entries.items };
 }
 
 impl LoadedFiles {

@@ -9,7 +9,7 @@ returns-in_err-number-clause-value c =
     let p = c.args.path.now in
     let none : c.get.result ≡ None = c.in_err-number.was in
     let number = number-told c.self.inside.numbers c.self.inside.entries.items c.args.self.now p
-    None c.self.invariant c.self.view_is (ap option_copied (sym none) ∙ c.get.ensures.value) in
+    None c.self.invariant.found c.self.view_is (ap option_copied (sym none) ∙ c.get.ensures.value) in
     rw c.from_residual.ensures (sym (unnumbered p c.args.self.now.entries number))
 
 pub returns-in_err-file-clause-number : goal.returns-in_err-file-clause-number
@@ -17,7 +17,7 @@ returns-in_err-file-clause-number c =
     let n = c.in_ok-number.field-0.now in
     let some : c.get.result ≡ Some c.in_ok-number.field-0 = c.in_ok-number.was in
     let number = number-told c.self.inside.numbers c.self.inside.entries.items c.args.self.now
-    c.args.path.now (Some n) c.self.invariant c.self.view_is
+    c.args.path.now (Some n) c.self.invariant.found c.self.view_is
     (ap option_copied (sym some) ∙ c.get.ensures.value) in
     let none : c.at.result ≡ None = c.in_err-file.was in
     absurd (number-kept c.args.path.now c.args.self.now.entries n number
@@ -28,7 +28,7 @@ returns-in_err-file-clause-value c =
     let n = c.in_ok-number.field-0.now in
     let some : c.get.result ≡ Some c.in_ok-number.field-0 = c.in_ok-number.was in
     let number = number-told c.self.inside.numbers c.self.inside.entries.items c.args.self.now
-    c.args.path.now (Some n) c.self.invariant c.self.view_is
+    c.args.path.now (Some n) c.self.invariant.found c.self.view_is
     (ap option_copied (sym some) ∙ c.get.ensures.value) in
     let none : c.at.result ≡ None = c.in_err-file.was in
     absurd (number-kept c.args.path.now c.args.self.now.entries n number
@@ -40,7 +40,7 @@ returns-clause-value c =
     let n = c.in_ok-number.field-0.now in
     let some : c.get.result ≡ Some c.in_ok-number.field-0 = c.in_ok-number.was in
     let number = number-told c.self.inside.numbers c.self.inside.entries.items c.args.self.now p
-    (Some n) c.self.invariant c.self.view_is
+    (Some n) c.self.invariant.found c.self.view_is
     (ap option_copied (sym some) ∙ c.get.ensures.value) in
     let r = numbered p c.args.self.now.entries n number in
     let there : c.at.result ≡ Some c.in_ok-file.field-0 = c.in_ok-file.was in
