@@ -3,8 +3,12 @@ use Rattle.std.proofs.Common.{◌≡◌, ℕ, zero, suc, ◌+◌, ◌<◌, List,
 use Rattle.std.proofs.Common.{not, ◌&&◌, cond, if◌then◌else◌, refl, sym, ap, ◌∙◌, bytes_eq, map}
 use Rattle.std.proofs.Common.{filter, flat_map, length, length-append, get_or, subst, arith, nat_eq}
 use Rattle.std.proofs.Common.{Result, Ok, Err, ◌⊎◌, inl, inr}
-use Rattle.std.specs.Prelude.{nat_lt, Contains}
+use Rattle.std.specs.Prelude.{nat_lt, Contains, String}
+use Rattle.std.specs.BTreeMap.{btree_map_len, is_at}
+use Rattle.std.specs.Global.{Global, Vec}
 use Rattle.std.specs.List.{list_any}
+use Rattle.std.specs.Map.{lookup}
+use Rattle.std.specs.Ordering.{nat_cmp}
 use Rattle.std.proofs.lemmas.Bool.{ltb-true}
 use Rattle.std.proofs.lemmas.Slice.Eq.{bytes_eq-Decides}
 use Rattle.std.proofs.lemmas.List.{map-id}
@@ -30,11 +34,31 @@ use Rattle.protobuf_parse_model.specs.Linking.{type_names}
 use Rattle.protobuf_parse_model.specs.Tables.{Entry, TableTells, declared_by, declared_in}
 use Rattle.protobuf_parse_model.specs.Tables.{declared_in_file, extension_entry, generated_entry}
 use Rattle.protobuf_parse_model.specs.Tables.{is_of, declaration_kind, listed_faults, listed_names}
+use Rattle.protobuf_parse_model.specs.Tables.{name_list}
 use Rattle.protobuf_parse_model.specs.Tables.{name_faults, picked}
 use Rattle.protobuf_parse_model.specs.Tables.{times, times_declared, type_entry}
 use Rattle.protobuf_parse_model.proofs.Blaming.{among_left, among_right}
 use Rattle.protobuf_parse_model.proofs.FileOrder.{contains_number}
 use Rattle.protobuf_parse_model.proofs.Picks.{among, picked_among}
+
+-- ---- where no name is listed
+
+no_items : {A : Type 0} (xs : List A) → length xs ≡ 0 → xs ≡ []
+no_items [] h = refl
+no_items (x ∷ xs) h = cc
+
+none_listed_at : (seen : Seen) → seen.declarations.now.repeated.entries ≡ []
+    → (file : ℕ) → listed_faults seen file ≡ []
+none_listed_at seen none file =
+    ap (λ (es : List (ℕ × Vec (String Global))).
+    flat_map (name_faults seen) (name_list (lookup (is_at (nat_cmp file)) es))) none
+
+pub none_listed : (seen : Seen) → btree_map_len seen.declarations.now.repeated ≡ 0
+    → (files : List ℕ) → flat_map (listed_faults seen) files ≡ []
+none_listed seen none [] = refl
+none_listed seen none (file ∷ files) =
+    rw (none_listed_at seen (no_items seen.declarations.now.repeated.entries none) file)
+    (none_listed seen none files)
 
 -- ---- how often a name is declared
 

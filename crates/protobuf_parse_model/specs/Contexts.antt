@@ -5,7 +5,6 @@ use Rattle.std.specs.Prelude.{ℕ, List, [], ◌∷◌, ◌++◌, map, flat_map,
 use Rattle.std.specs.Prelude.{String, Option, option_map, option_to_list}
 use Rattle.std.specs.Borrow.{Bor}
 use Rattle.std.specs.Global.{Global, Vec}
-use Rattle.protobuf_parse_model.specs.declared.scope.seen.TypeKind.TheVariants as kind
 use Rattle.protobuf_parse_model.specs.declared.scope.Context.{Context}
 use Rattle.protobuf_parse_model.specs.declared.scope.Meaning.{Meaning}
 use Rattle.protobuf_parse_model.specs.declared.scope.ResolvedType.{ResolvedType}

@@ -33,8 +33,18 @@ pub fn link(alloc: Global, seen: &Seen<'_>) -> Result<(), ElabFailure>
 
 /// Refuses the first of the full names that are listed for these files that the files that are
 /// reached declare more than once.
-#[tactic(auto, using(crate::proofs::Blaming::blames_one))]
 fn check_files(alloc: Global, seen: &Seen<'_>, files: &[u32]) -> Result<(), ElabFailure>
+    ensures { Elaborates (λ u. u) result (flat_map (listed_faults seen.now) files.now) tt }
+{
+    if seen.declarations.repeated.is_empty() {
+        return Ok(());
+    }
+    check_each_file(alloc, seen, files)
+}
+
+/// The same, file by file.
+#[tactic(auto, using(crate::proofs::Blaming::blames_one))]
+fn check_each_file(alloc: Global, seen: &Seen<'_>, files: &[u32]) -> Result<(), ElabFailure>
     ensures { Elaborates (λ u. u) result (flat_map (listed_faults seen.now) files.now) tt }
 {
     for file in files {

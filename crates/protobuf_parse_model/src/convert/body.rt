@@ -12,7 +12,7 @@ ghost use Rattle.protobuf_parse_model.specs.Fields.{field_statement_faults};
 ghost use Rattle.protobuf_parse_model.specs.Messages.{extend_faults, has_own_oneof, oneof_faults};
 
 use crate::convert::enumeration::enum_descriptor;
-use crate::convert::lists::{append_declared, fields_of_extend, fields_of_oneof};
+use crate::convert::lists::{append_declared, fields_of_extend, fields_of_oneof, shrunk};
 use crate::convert::oneof::{has_own_oneof, oneof_descriptor, own_oneof};
 use crate::convert::place::FieldPlace;
 use crate::convert::rest::Rest;
@@ -63,11 +63,11 @@ impl Body {
         } = self;
         DescriptorProto {
             name,
-            field,
-            oneof_decl,
-            nested_type,
-            enum_type,
-            extension,
+            field: shrunk(field),
+            oneof_decl: shrunk(oneof_decl),
+            nested_type: shrunk(nested_type),
+            enum_type: shrunk(enum_type),
+            extension: shrunk(extension),
             extension_range: rest.extension_range,
             reserved_range: rest.reserved_range,
             reserved_name: rest.reserved_name,

@@ -16,7 +16,7 @@ ghost use Rattle.protobuf_parse_model.specs.Options.{file_options_view};
 
 use crate::convert::enumeration::enum_descriptor;
 use crate::convert::heading::Heading;
-use crate::convert::lists::{append_declared, fields_of_extend};
+use crate::convert::lists::{append_declared, fields_of_extend, shrunk};
 use crate::convert::message::message_descriptor;
 use crate::convert::names::check_unlike;
 use crate::convert::service::service_descriptor;
@@ -75,10 +75,10 @@ impl Contents {
             dependency: imports.dependency,
             public_dependency: imports.public_dependency,
             weak_dependency: imports.weak_dependency,
-            message_type,
-            enum_type,
-            service,
-            extension,
+            message_type: shrunk(message_type),
+            enum_type: shrunk(enum_type),
+            service: shrunk(service),
+            extension: shrunk(extension),
             options,
         }
     }

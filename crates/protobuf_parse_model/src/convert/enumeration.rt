@@ -116,7 +116,7 @@ fn value_descriptors<C: CustomOptions>(
         Elaborates (λ v. map described.enum_value_view v.items) result
         (flat_map (enums.value_faults env) vs) (map (enums.value_of env) vs) }
 {
-    let mut descriptors = Vec::new(alloc);
+    let mut descriptors = Vec::with_capacity(alloc, values.len())?;
     for value in values {
         descriptors.push(value_descriptor(alloc, context, custom, value)?)?;
     }

@@ -73,7 +73,7 @@ fn entry_message(
         (λ m. described.message_view m
         ≡ messages.entry_message name.now (resolved_view key) (resolved_view value)) }
 {
-    let mut field = Vec::new(alloc);
+    let mut field = Vec::with_capacity(alloc, 2)?;
     field.push(entry_field(alloc, "key", 1, key)?)?;
     field.push(entry_field(alloc, "value", 2, value)?)?;
     let name = entry_name(alloc, name)?;

@@ -27,6 +27,15 @@ pub struct DeclaredFields {
     pub behind: Vec<DescriptorProto>,
 }
 
+/// The list, in no more room than its items take.
+pub fn shrunk<T: Drop>(list: Vec<T>) -> Vec<T>
+    ensures { result.items ≡ list.items }
+{
+    let mut shrunk = list;
+    shrunk.shrink_to_fit();
+    shrunk
+}
+
 /// What the statements of a oneof declare, which stands at that place among the oneofs.
 pub fn fields_of_oneof<C: CustomOptions>(
     alloc: Global,

@@ -92,7 +92,7 @@ pub fn check_unlike<T: Named>(alloc: Global, items: &[T]) -> Result<(), ElabFail
 fn names_of<T: Named>(alloc: Global, items: &[T]) -> Result<Vec<&str>, AllocError>
     ensures { IfOk result (λ v. name_texts v.items ≡ map T.name_of items.now) }
 {
-    let mut names = Vec::new(alloc);
+    let mut names = Vec::with_capacity(alloc, items.len())?;
     for item in items {
         names.push(item.name())?;
     }

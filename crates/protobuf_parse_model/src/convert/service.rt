@@ -116,7 +116,7 @@ fn method_descriptors<C: CustomOptions>(
         Elaborates (λ v. map described.method_view v.items) result
         (flat_map (services.method_faults env) ms) (map (services.method_of env) ms) }
 {
-    let mut descriptors = Vec::new(alloc);
+    let mut descriptors = Vec::with_capacity(alloc, methods.len())?;
     for method in methods {
         descriptors.push(method_descriptor(alloc, context, custom, method)?)?;
     }
