@@ -255,7 +255,7 @@ def builtins(n):
 
 
 def imports(n):
-    """n public imports of one file that the library brings (refused: a file is imported twice)."""
+    """n imports of one file that the library brings."""
     yield PROTO3
     yield 'import "google/protobuf/any.proto";\n' * n
 

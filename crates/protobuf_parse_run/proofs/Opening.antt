@@ -1,6 +1,6 @@
 -- From what parsing a text tells to the tree of what was read.
 use Rattle.std.proofs.Common.{◌≡◌, inl, inr, ap, ◌∙◌, refl, ℕ, List, Option, Some, None, Result, Ok}
-use Rattle.std.proofs.Common.{Err}
+use Rattle.std.proofs.Common.{Err, subst}
 use Rattle.std.specs.Prelude.{IfOk, IfErr}
 use Rattle.std.specs.Str.{IsUtf8}
 use Rattle.protobuf_parse_syntax.specs.Parsing.{HasTree}
@@ -10,8 +10,9 @@ use Rattle.protobuf_parse_run.specs.declared.fault.RunFault.{RunFault}
 use Rattle.protobuf_parse_run.specs.declared.fault.RunFault.TheVariants as fault
 use Rattle.protobuf_parse_run.specs.declared.log.ReadOutcome.{ReadOutcome}
 use Rattle.protobuf_parse_run.specs.Walks.{Asked}
-use Rattle.protobuf_parse_run.specs.Run.{IsTree, IsTheTree, StandsInLoad, origin_given}
-use Rattle.protobuf_parse_run.specs.Loading.{IsContentFault}
+use Rattle.protobuf_parse_run.specs.Run.{IsTree, IsTheTree, IsUnparsed, StandsInLoad}
+use Rattle.protobuf_parse_run.specs.Run.{origin_given}
+use Rattle.protobuf_parse_run.specs.Loading.{IsContentFault, IsParseFault}
 use Rattle.protobuf_parse_run.specs.Run.{OrMemory}
 
 the_one : (text : List ℕ) (t : FileSyntax) → IsUtf8 text → HasTree text t
@@ -49,6 +50,16 @@ tree_of_no_text bytes bad = (λ utf8 u h. bad utf8, the_none)
     the_none : (u : Option FileSyntax) → IsTree (Some bytes) u → u ≡ None
     the_none (Some u) h = absurd (bad h.0)
     the_none None h = refl
+
+-- what a text is refused with, its bytes are
+pub content_unparsed : (r : Result FileTree RunFault) (p origin text bytes : List ℕ)
+    → text ≡ bytes → IsUtf8 bytes → IfErr r (λ f. OrMemory f (IsParseFault origin text f))
+    → IfErr r (λ f. OrMemory f (IsContentFault p origin bytes f))
+content_unparsed (Ok t) p origin text bytes e utf8 h = tt
+content_unparsed (Err (fault.Parse file error)) p origin text bytes e utf8 (inl s) =
+    inl (s.0, utf8, subst (λ (z : List ℕ). IsUnparsed z error) e s.1)
+content_unparsed (Err _) p origin text bytes e utf8 (inl s) = absurd s
+content_unparsed (Err f) p origin text bytes e utf8 (inr m) = inr m
 
 pub content_stands : (f : RunFault) (asked : Asked) (p origin bytes : List ℕ)
     (answer : Option ReadOutcome) → origin ≡ origin_given p answer → IsContentFault p origin bytes f

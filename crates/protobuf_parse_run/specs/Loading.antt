@@ -365,7 +365,7 @@ IsElabFault origin stands _ = ⊥
 abbrev pub IsContentFault : Text → Text → Text → RunFault → Type 0
 IsContentFault p origin text (fault.ContentIsNotUtf8 path) = (string_bytes path ≡ p) × ¬ IsUtf8 text
 IsContentFault p origin text (fault.Parse file error) = (string_bytes file ≡ origin)
-    × IsUnparsed text error
+    × IsUtf8 text × IsUnparsed text error
 IsContentFault p origin text _ = ⊥
 
 -- what a call leaves, where the events are those kept with its own

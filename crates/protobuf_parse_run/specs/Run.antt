@@ -217,7 +217,7 @@ StandsInLoad asked p answer text (fault.Resolver path why) =
     × (said why ≡ said given)
 StandsInLoad asked p answer text (fault.Parse file error) =
     (string_bytes file ≡ origin_given p answer) × (bytes : Text) × (text ≡ Some bytes)
-    × IsUnparsed bytes error
+    × IsUtf8 bytes × IsUnparsed bytes error
 StandsInLoad asked p answer text _ = ⊥
 
 -- the fault of an input's own file, read as this answer, whose path was loaded with this text

@@ -84,6 +84,11 @@ pub data Sees (trees : Trees) : Text → Text → Type 0 where
   by_import : (p q r : Text) (t : FileSyntax) → trees p ≡ Some t → among q (import_paths t) ≡ true
       → HandsOn trees q r → Sees trees p r
 
+-- A file reaches each file that it sees: so a name of a type that is looked up over the files that
+-- it sees is declared in one that it reaches.
+abbrev pub SeenAreReached : Type 0
+SeenAreReached = (trees : Trees) (p q : Text) → Sees trees p q → Reaches trees p q
+
 abbrev pub walks_joined : (Text → List Event) → List Text → List Event
 walks_joined walk_of [] = []
 walks_joined walk_of (path ∷ paths) = walk_of path ++ walks_joined walk_of paths

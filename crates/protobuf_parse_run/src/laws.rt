@@ -2,6 +2,7 @@
 
 ghost use Rattle.protobuf_parse_run.specs.Stability.{TreesAreOfTexts, StandsOnItsReach, OrderStays};
 ghost use Rattle.protobuf_parse_run.specs.Stability.{DescriptorsStay};
+ghost use Rattle.protobuf_parse_run.specs.Walks.{SeenAreReached};
 
 /// What stays where other texts are read. A path that has the same text has the same tree. Where
 /// two runs agree on the files that a file reaches, the same faults stand in it, and it becomes
@@ -14,4 +15,12 @@ pub fn runs_are_stable()
     ensures reach { StandsOnItsReach }
     ensures order { OrderStays }
     ensures descriptors { DescriptorsStay }
+{}
+
+/// A file reaches each file that it sees. So where no fault stands in a file, each name of a type
+/// in its descriptor is that of a message or an enum of a file that it reaches, or of a message
+/// behind one of its own maps and groups
+/// ([`types_are_declared`](protobuf_parse_model::types_are_declared) says so of those that it sees).
+pub fn seen_files_are_reached()
+    ensures { SeenAreReached }
 {}

@@ -1,5 +1,5 @@
 //! Tests of what is no text: names and paths as values, descriptors made by hand, values of
-//! entries, a resolver that is called by the library's own way, and the program on files. Nothing
+//! entries, a resolver that is called by the library's own way, real files, and the program on them. Nothing
 //! but tests stands here; the tables of texts are cases of `protobuf_parse_cases`.
 #![tactic(auto)]
 
@@ -15,6 +15,8 @@ mod names;
 mod program;
 #[cfg(test)]
 mod proto_path;
+#[cfg(test)]
+mod real_files;
 #[cfg(test)]
 mod registry;
 #[cfg(test)]

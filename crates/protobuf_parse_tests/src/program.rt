@@ -129,6 +129,31 @@ fn tells_the_fault_of_a_file(rt: HostRuntime) -> Result<(), Fail> {
     Ok(())
 }
 
+#[test]
+fn tells_what_is_wrong_with_imports(rt: HostRuntime) -> Result<(), Fail> {
+    let path = own_path(&rt, "importer.proto")?;
+    let folder = own_path(&rt, "folder")?;
+    fs::create_dir(&rt, folder.as_str())?;
+    let missing = "protobuf path `no/x.proto` is not found in import path [\".\"]\n";
+    let cycle = format!(in rt.alloc(); "import cycle at `{path}`\n")?;
+    let unread = format!(in rt.alloc();
+        "could not resolve `{folder}`: could not read file `./{folder}`\n"
+    )?;
+    for (import, line) in [
+        ("no/x.proto", missing),
+        (path.as_str(), cycle.as_str()),
+        (folder.as_str(), unread.as_str()),
+    ] {
+        let text = format!(in rt.alloc(); "import '{import}';")?;
+        expect_failure(&rt, &run_on(&rt, &path, text.as_bytes())?, line);
+    }
+    fs::remove_dir(&rt, folder.as_str())?;
+    let outcome = run_on(&rt, &path, b"message A { optional B b = 1; }")?;
+    let line = format!(in rt.alloc(); "error in `{path}`: E3 NotFoundByRelPath: B\n")?;
+    expect_failure(&rt, &outcome, &line);
+    Ok(())
+}
+
 /// A writer that takes so many bytes and then fails.
 #[derive(Drop)]
 struct Full {
