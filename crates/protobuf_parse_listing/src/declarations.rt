@@ -1,7 +1,8 @@
 //! The lines of files, messages, enums and services.
 
-ghost use Rattle.std.specs.Prelude.{◌≡◌, ℕ, ◌+◌, ◌++◌, IfOk, OnOk, codes, flat_map, map, nat_eq};
-ghost use Rattle.std.specs.HashSet.{contains};
+ghost use Rattle.std.specs.Prelude.{◌≡◌, ℕ, ◌+◌, ◌++◌, IfOk, OnOk, codes, flat_map, map};
+ghost use Rattle.std.specs.Ordering.{nat_cmp};
+ghost use Rattle.std.specs.BTreeSet.{contains};
 ghost use Rattle.std.specs.String.{string_bytes};
 ghost use Rattle.protobuf_parse_model.specs.Descriptors.{enum_range_view, enum_value_view};
 ghost use Rattle.protobuf_parse_model.specs.Descriptors.{enum_view, extension_range_view};
@@ -24,7 +25,7 @@ use protobuf_parse_model::{
     ReservedRange, ServiceDescriptorProto,
 };
 use std::alloc::{AllocError, Global};
-use std::collections::HashSet;
+use std::collections::BTreeSet;
 
 pub fn put_file(
     alloc: Global,
@@ -82,10 +83,10 @@ fn put_imports(
 }
 
 /// The positions as a set.
-fn positions(alloc: Global, listed: &[i32]) -> Result<HashSet<usize>, AllocError>
-    ensures { IfOk result (λ s. (i : ℕ) → contains nat_eq s i ≡ spec.is_position i listed.now) }
+fn positions(alloc: Global, listed: &[i32]) -> Result<BTreeSet<usize>, AllocError>
+    ensures { IfOk result (λ s. (i : ℕ) → contains nat_cmp s i ≡ spec.is_position i listed.now) }
 {
-    let mut positions = HashSet::new(alloc);
+    let mut positions = BTreeSet::new(alloc);
     for position in listed {
         match position_of(position) {
             Some(position) => {

@@ -1,14 +1,18 @@
 use Rattle.std.proofs.Common.{◌≡◌, ◌∙◌, ◌<◌, ◌+◌, ap, sym, ℕ, List, [], ◌∷◌, ◌++◌, length, take}
 use Rattle.std.proofs.Common.{get_or, refl}
 use Rattle.std.specs.Prelude.{◌||◌, ◌==◌, ℤ, pos}
-use Rattle.std.specs.Prelude.{nat_eq}
-use Rattle.std.specs.HashSet.{contains}
+use Rattle.std.specs.Ordering.{nat_cmp, is_eq}
+use Rattle.std.specs.BTreeSet.{contains}
+use Rattle.std.specs.Cmp.{unsigned_tied}
 use Rattle.std.proofs.lemmas.List.{take_more}
 use Rattle.protobuf_parse_model.proofs.OrTests.{cond-true_or, or_left_comm}
 use Rattle.protobuf_parse_listing.specs.Listing.{is_at, is_position, position_of}
 use Rattle.protobuf_parse_listing.proofs.declarations.positions.Goals as goal
 use Rattle.protobuf_parse_listing.proofs.declarations.positions.Goals.{in-Some+in_ok-insert-in-Some}
 use Rattle.protobuf_parse_listing.proofs.declarations.positions.Goals.{in-None}
+
+same_number : (x y : ℕ) → is_eq (nat_cmp x y) ≡ (x == y)
+same_number x y = unsigned_tied x y
 
 is_position-push : (i : ℕ) (ps : List ℤ) (p : ℤ)
     → is_position i (ps ++ p ∷ []) ≡ (is_at i (position_of p) || is_position i ps)
@@ -31,7 +35,10 @@ loop-position-preserved c = λ i.
     elim c.match-position_of.branch [
       | in-Some+in_ok-insert-in-Some w ↦
           rw w.positions-is (w.in_ok-insert-in-Some.ensures.updates.0 i
-          ∙ cond-true_or (w.in-Some.position == i) (contains nat_eq c.loop-position.positions i)
+          ∙ cond-true_or (is_eq (nat_cmp w.in-Some.position i))
+          (contains nat_cmp c.loop-position.positions i)
+          ∙ ap (λ b. b || contains nat_cmp c.loop-position.positions i)
+          (same_number w.in-Some.position i)
           ∙ ap (λ b. (w.in-Some.position == i) || b) (c.loop-position.invariant i)
           ∙ ap (λ o. is_at i o || before) w.in-Some.ensures ∙ more)
       | in-None w ↦ rw w.positions-is
