@@ -26,7 +26,10 @@ pub struct Damage {
     described: u64,
     faults: u64,
     other: u64,
+    /// To parse.
     slowest: Slowest,
+    /// To parse and describe.
+    slowest_run: Slowest,
 }
 
 /// The text that took the longest for each of its bytes.
@@ -38,7 +41,6 @@ pub struct Slowest {
 
 impl fmt::Display for Damage {
     fn fmt<W: fmt::Write>(&self, f: &mut fmt::Formatter<W>) -> fmt::Result {
-        let slowest = self.slowest;
         write!(f, "no UTF-8: {}; trees: {}; ", self.not_text, self.trees)?;
         write!(f, "refused at a place inside: {}; ", self.refused)?;
         write!(f, "descriptors: {}; ", self.described)?;
@@ -47,11 +49,14 @@ impl fmt::Display for Damage {
             "E1 to E28: {}; other faults: {}; ",
             self.faults, self.other
         )?;
-        write!(
-            f,
-            "longest: {} ns for {} bytes",
-            slowest.nanoseconds, slowest.bytes
-        )
+        write!(f, "longest: {} to parse, ", self.slowest)?;
+        write!(f, "{} to describe", self.slowest_run)
+    }
+}
+
+impl fmt::Display for Slowest {
+    fn fmt<W: fmt::Write>(&self, f: &mut fmt::Formatter<W>) -> fmt::Result {
+        write!(f, "{} ns for {} bytes", self.nanoseconds, self.bytes)
     }
 }
 
@@ -64,15 +69,26 @@ impl Damage {
             described: 0,
             faults: 0,
             other: 0,
-            slowest: Slowest {
-                nanoseconds: 0,
-                bytes: 1,
-            },
+            slowest: Slowest::NONE,
+            slowest_run: Slowest::NONE,
         }
     }
 }
 
 impl Slowest {
+    const NONE: Slowest = Slowest {
+        nanoseconds: 0,
+        bytes: 1,
+    };
+
+    /// Notes that so many bytes took so long.
+    fn note(&mut self, nanoseconds: u128, bytes: usize) {
+        if self.is_passed(nanoseconds, bytes) {
+            self.nanoseconds = nanoseconds;
+            self.bytes = bytes;
+        }
+    }
+
     /// Whether so many bytes, if they aren't few, took longer, each of them.
     fn is_passed(&self, nanoseconds: u128, bytes: usize) -> bool {
         bytes >= FEW
@@ -100,7 +116,7 @@ pub fn damage_texts<R: Runtime<A = Global>>(
         };
         let bytes = mutated(rt.alloc(), &mut numbers, of)?;
         try_parse(rt, &bytes, &mut damage)?;
-        try_run(rt.alloc(), &bytes, &mut damage)?;
+        try_run(rt, &bytes, &mut damage)?;
     }
     Ok(damage)
 }
@@ -129,12 +145,7 @@ fn try_parse<R: Runtime<A = Global>>(rt: &R, bytes: &[u8], damage: &mut Damage) 
             nanoseconds = nanoseconds.min(timed(rt, text)?.0);
         }
     }
-    if damage.slowest.is_passed(nanoseconds, bytes.len()) {
-        damage.slowest = Slowest {
-            nanoseconds,
-            bytes: bytes.len(),
-        };
-    }
+    damage.slowest.note(nanoseconds, bytes.len());
     match parsed {
         Ok(_) => more(&mut damage.trees),
         Err(error) if is_inside(text, &error) => more(&mut damage.refused),
@@ -154,9 +165,26 @@ fn is_inside(text: &str, error: &ParserErrorWithLocation) -> bool {
     }
 }
 
-/// Describes the file.
-fn try_run(alloc: Global, bytes: &[u8], damage: &mut Damage) -> Result<()> {
-    match described(alloc, bytes)? {
+/// What becomes of the file, and how long that takes.
+fn timed_run<R: Runtime<A = Global>>(
+    rt: &R,
+    bytes: &[u8],
+) -> Result<(u128, Result<Vec<FileDescriptorProto>, RunFault>)> {
+    let start = Instant::now(rt)?;
+    let outcome = described(rt.alloc(), bytes)?;
+    Ok((start.elapsed(rt)?.as_nanos(), outcome))
+}
+
+/// Describes the file; where that seems to take long, several times.
+fn try_run<R: Runtime<A = Global>>(rt: &R, bytes: &[u8], damage: &mut Damage) -> Result<()> {
+    let (mut nanoseconds, outcome) = timed_run(rt, bytes)?;
+    for _ in 0..5 {
+        if damage.slowest_run.is_passed(nanoseconds, bytes.len()) {
+            nanoseconds = nanoseconds.min(timed_run(rt, bytes)?.0);
+        }
+    }
+    damage.slowest_run.note(nanoseconds, bytes.len());
+    match outcome {
         Ok(_) => more(&mut damage.described),
         Err(RunFault::Elaborate(_, _)) => more(&mut damage.faults),
         Err(RunFault::Memory) => bail!("out of memory"),
@@ -183,11 +211,13 @@ fn option_bytes(files: &[FileDescriptorProto]) -> Option<&[u8]> {
 pub struct Reads {
     read: u64,
     refused: u64,
+    slowest: Slowest,
 }
 
 impl fmt::Display for Reads {
     fn fmt<W: fmt::Write>(&self, f: &mut fmt::Formatter<W>) -> fmt::Result {
-        write!(f, "read: {}; refused: {}", self.read, self.refused)
+        write!(f, "read: {}; refused: {}; ", self.read, self.refused)?;
+        write!(f, "longest: {}", self.slowest)
     }
 }
 
@@ -206,10 +236,15 @@ pub fn damage_bytes<R: Runtime<A = Global>>(rt: &R, text: &[u8], count: u64) -> 
     let mut reads = Reads {
         read: 0,
         refused: 0,
+        slowest: Slowest::NONE,
     };
     for _ in 0..count {
         let bytes = mutated(rt.alloc(), &mut numbers, of)?;
-        match read_custom(rt.alloc(), &files, message, &bytes) {
+        let start = Instant::now(rt)?;
+        let read = read_custom(rt.alloc(), &files, message, &bytes);
+        let nanoseconds = start.elapsed(rt)?.as_nanos();
+        reads.slowest.note(nanoseconds, bytes.len());
+        match read {
             Ok(_) => more(&mut reads.read),
             Err(ReadFault::Memory) => bail!("out of memory"),
             Err(_) => more(&mut reads.refused),

@@ -1,5 +1,6 @@
-//! Lexes and parses the file that its argument names, and prints how many tokens and statements it
-//! has and how long both took; or does what a word says:
+//! Lexes, parses, describes and lists the file that its argument names, and prints how many tokens,
+//! statements and files there are, how long the listing is, and how long each took; or does what a
+//! word says:
 //!
 //! - `--files N`: loads N files that import each other, and prints how often files were met;
 //! - `--same TEXT PATHS`: loads a file of this text for each line of PATHS;
@@ -18,8 +19,9 @@ mod same;
 
 use crate::damage::{damage_bytes, damage_texts};
 use crate::graph::load;
-use crate::same::{load_same, read_small};
+use crate::same::{described, load_same, read_small};
 use anyhow::{Result, anyhow};
+use protobuf_parse::listing;
 use protobuf_parse_syntax::{parse_file, tokenize};
 use std::alloc::Global;
 use std::rt::Runtime;
@@ -53,7 +55,8 @@ fn statements<R: Runtime<A = Global>>(rt: &R, text: &str) -> Result<usize> {
     }
 }
 
-/// Prints how long lexing the text takes, and how long lexing and parsing it.
+/// Prints how long lexing the text takes, how long lexing and parsing it, how long all that leads to
+/// descriptors, and how long listing these.
 fn measure<R: Runtime<A = Global>>(rt: &R, text: &str) -> Result<()> {
     let start = Instant::now(rt)?;
     let count = tokens(rt, text)?;
@@ -63,6 +66,17 @@ fn measure<R: Runtime<A = Global>>(rt: &R, text: &str) -> Result<()> {
     let count = statements(rt, text)?;
     let parsing = start.elapsed(rt)?.as_micros();
     println!(rt; "{count} statements in {parsing} microseconds")?;
+    let start = Instant::now(rt)?;
+    let files = match described(rt.alloc(), text.as_bytes())? {
+        Ok(files) => files,
+        Err(fault) => return Err(anyhow!("{fault}")),
+    };
+    let describing = start.elapsed(rt)?.as_micros();
+    println!(rt; "{} files in {describing} microseconds", files.len())?;
+    let start = Instant::now(rt)?;
+    let count = listing(rt.alloc(), &files)?.len();
+    let writing = start.elapsed(rt)?.as_micros();
+    println!(rt; "{count} bytes of listing in {writing} microseconds")?;
     Ok(())
 }
 
