@@ -18,11 +18,11 @@ pub use protobuf_parse_model::{
     FieldDescriptorProto, FieldOptions, FieldType, FileDescriptorProto, FileDescriptorSet,
     FileOptions, IdempotencyLevel, JSType, Label, MessageOptions, MethodDescriptorProto,
     MethodOptions, OneofDescriptorProto, OneofOptions, OptimizeMode, ReservedRange,
-    ServiceDescriptorProto, ServiceOptions, types_are_declared,
+    ServiceDescriptorProto, ServiceOptions, custom_options_are_of_sets, types_are_declared,
 };
 pub use protobuf_parse_run::{
     InputReader, ProtoPathResolver, ReadEntry, ReadInputFault, ReadOutcome, ResolveFault,
-    ResolvedProtoFile, RunFault, RunInput, RunLog, run_inputs, runs_are_stable,
+    ResolvedProtoFile, RunFault, RunInput, RunLog, custom_bytes_stand, run_inputs, runs_are_stable,
     seen_files_are_reached,
 };
 pub use protobuf_parse_syntax::{ParserError, ParserErrorWithLocation};

@@ -27,4 +27,5 @@ pub mod Further
 pub mod Recovering
 pub mod Following
 pub mod AskedOnce
+pub mod StandingBytes
 mod Catching

@@ -6,3 +6,4 @@ pub mod Frames
 pub mod Stability
 pub mod Recovered
 pub mod Shipped
+pub mod StandingBytes

@@ -2,6 +2,7 @@
 
 ghost use Rattle.protobuf_parse_run.specs.Stability.{TreesAreOfTexts, StandsOnItsReach, OrderStays};
 ghost use Rattle.protobuf_parse_run.specs.Stability.{DescriptorsStay};
+ghost use Rattle.protobuf_parse_run.specs.StandingBytes.{BytesStand};
 ghost use Rattle.protobuf_parse_run.specs.Walks.{SeenAreReached};
 
 /// What stays where other texts are read. A path that has the same text has the same tree. Where
@@ -23,4 +24,13 @@ pub fn runs_are_stable()
 /// ([`types_are_declared`](protobuf_parse_model::types_are_declared) says so of those that it sees).
 pub fn seen_files_are_reached()
     ensures { SeenAreReached }
+{}
+
+/// The bytes of the custom options of each construct stand in the descriptor of its file: where a
+/// file becomes the same by two ways to write custom options, each set of its options that has a
+/// statement becomes the same bytes by both. So what `run_inputs` says of these bytes it says of
+/// what it hands out. That a descriptor holds no other bytes of custom options is the law
+/// [`custom_options_are_of_sets`](protobuf_parse_model::custom_options_are_of_sets).
+pub fn custom_bytes_stand()
+    ensures { BytesStand }
 {}
