@@ -81,11 +81,8 @@ def is_begun(found, wanted):
     if len(found) < 3 or len(wanted) < 3:
         return False
     reads = found[1].split()
-    # The last read may be the one whose answer was refused.
-    begun = [it.split("=")[0] for it in reads] == [
-        it.split("=")[0] for it in wanted[1].split()[: len(reads)]
-    ]
-    return begun and reads[:-1] == wanted[1].split()[: len(reads)][:-1]
+    # A read that memory was short for is not among them.
+    return reads == wanted[1].split()[: len(reads)]
 
 
 def is_read(found, wanted):
