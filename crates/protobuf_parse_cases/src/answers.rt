@@ -2,6 +2,7 @@
 
 mod again;
 mod bytes;
+mod calls;
 mod customs;
 mod names;
 pub mod parsers;
@@ -56,6 +57,7 @@ fn text_answer(alloc: Global, case: &Case, given: &[u8]) -> Result<String> {
     match case.verb.as_str() {
         "constant" => return texts::constant(alloc, text),
         "again" => return again::again(alloc, text),
+        "call" => return calls::called(alloc, text),
         _ => {}
     }
     match answer_by_memory(alloc, &case.verb, text) {
