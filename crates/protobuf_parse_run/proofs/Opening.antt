@@ -67,7 +67,7 @@ pub content_stands : (f : RunFault) (asked : Asked) (p origin bytes : List ℕ)
 content_stands (fault.ContentIsNotUtf8 path) asked p origin bytes answer e h =
     (h.0, bytes, refl, h.1)
 content_stands (fault.Parse file error) asked p origin bytes answer e h =
-    (h.0 ∙ e, bytes, refl, h.1)
+    (h.0 ∙ e, bytes, refl, h.1, h.2)
 content_stands _ asked p origin bytes answer e h = absurd h
 
 pub contents_stand : (r : Result FileTree RunFault) (asked : Asked) (p origin bytes : List ℕ)
