@@ -22,7 +22,7 @@ use Rattle.protobuf_parse_options.proofs.BareDeclarations.{messages-of-bare, ext
 
 -- ---- what numbers name
 
-distinct-bare : (fs : List FieldDescriptor)
+pub distinct-bare : (fs : List FieldDescriptor)
     → have_distinct_numbers (map bare_field fs) ≡ have_distinct_numbers fs
 distinct-bare [] = refl
 distinct-bare (f ∷ fs) =

@@ -15,6 +15,7 @@ pub mod DescriptorOrders
 pub mod SmallValues
 pub mod Stated
 pub mod BareDeclarations
+pub mod BareNumbers
 pub mod BareReading
 pub mod BareFiles
 pub mod AlikeLookups

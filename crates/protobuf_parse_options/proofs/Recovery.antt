@@ -33,6 +33,7 @@ use Rattle.protobuf_parse_options.specs.CustomOptions.{scope_of}
 use Rattle.protobuf_parse_wire.specs.Encoded.{encoded}
 use Rattle.protobuf_parse_wire.specs.Views.{entries_of_list}
 use Rattle.protobuf_parse_options.specs.NamesAlike.{HasPackageName}
+use Rattle.protobuf_parse_options.specs.OptionDepth.{TextsAreNotTooDeep}
 use Rattle.protobuf_parse_options.specs.Recovery.{plainly, plain_at, AreReachedFiles, HasCustom}
 use Rattle.protobuf_parse_options.specs.Recovery.{OptionsAreRecovered, PlainOptionsAreNoBytes}
 use Rattle.protobuf_parse_options.proofs.Entered.{declared_entered, held_entered, described}
@@ -172,6 +173,13 @@ options_are_recovered trees sees reached p t s r listed has_tree none stands has
     (set_of_message at s.construct s.statements clean has))
     clean (omega (arith, few)) short
     (option_bytes_spell files visible t (small trees sees reached r) none s stands)
+
+-- ---- depth
+
+pub texts_are_not_too_deep : TextsAreNotTooDeep
+texts_are_not_too_deep text t h s stands at =
+    never_too_deep at s.construct s.statements
+    (set_shallow t (tree_shallow text t h) (text_sound text t h) s stands)
 
 -- ---- sets without custom options
 

@@ -4,7 +4,11 @@ use Rattle.protobuf_parse_syntax.specs.Trees.{ConstantSyntax, list, fields, Cons
 use Rattle.protobuf_parse_syntax.specs.Trees.{no_constants, more_constants, ConstantFieldList}
 use Rattle.protobuf_parse_syntax.specs.Trees.{no_fields, more_fields, OptionPartSyntax}
 use Rattle.protobuf_parse_syntax.specs.Trees.{OptionNameSyntax, builtin, custom, OptionSyntax}
+use Rattle.protobuf_parse_syntax.specs.Trees.{FileSyntax}
+use Rattle.protobuf_parse_syntax.specs.Text.{Bytes}
+use Rattle.protobuf_parse_syntax.specs.Parsing.{HasTree}
 use Rattle.protobuf_parse_model.specs.Faults.{Among}
+use Rattle.protobuf_parse_model.specs.OptionSets.{OptionSet, option_sets}
 use Rattle.protobuf_parse_model.specs.declared.customs.Construct.{Construct}
 use Rattle.protobuf_parse_wire.specs.Law.{depth}
 use Rattle.protobuf_parse_options.specs.OptionFields.{OptionScope}
@@ -41,3 +45,10 @@ NeverTooDeep =
     (at : OptionScope) (construct : Construct) (os : List OptionSyntax)
     → ((o : OptionSyntax) → Among os o → OptionIsShallow o)
     → depth (denotes at construct os) ≤ 200
+
+-- So it is in the tree of every text, for each set of its options, whatever files are at hand.
+abbrev pub TextsAreNotTooDeep : Type 0
+TextsAreNotTooDeep =
+    (text : Bytes) (t : FileSyntax) → HasTree text t
+    → (s : OptionSet) → Among (option_sets t) s
+    → (at : OptionScope) → depth (denotes at s.construct s.statements) ≤ 200

@@ -22,6 +22,7 @@ use Rattle.protobuf_parse_wire.specs.Reading.{reader}
 use Rattle.protobuf_parse_options.specs.CustomOptions.{denotes}
 use Rattle.protobuf_parse_options.specs.DescriptorsByPath.{Environments, descriptors_at}
 use Rattle.protobuf_parse_options.specs.OptionBytes.{known_customs}
+use Rattle.protobuf_parse_options.specs.Recovery.{HaveDistinctNumbers}
 
 -- ---- descriptors without their options, and without those of what stands in them
 
@@ -80,6 +81,12 @@ abbrev pub ReadingIgnoresOptions : Type 0
 ReadingIgnoresOptions =
     (files files' : List FileDescriptor) → DifferOnlyInOptions files files'
     → (message : Text) (bytes : List ℕ) → reader files message bytes ≡ reader files' message bytes
+
+-- Numbers of fields are distinct in both or in neither.
+abbrev pub NumbersIgnoreOptions : Type 0
+NumbersIgnoreOptions =
+    (files files' : List FileDescriptor) → DifferOnlyInOptions files files'
+    → HaveDistinctNumbers files → HaveDistinctNumbers files'
 
 -- Custom options denote the same.
 abbrev pub MeaningIgnoresOptions : Type 0

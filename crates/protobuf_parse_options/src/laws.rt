@@ -1,9 +1,11 @@
 //! Laws of the definitions. The functions do nothing.
 
+ghost use Rattle.protobuf_parse_model.specs.Descriptors.{FieldDescriptor};
+ghost use Rattle.protobuf_parse_model.specs.Lookup.{MeansTheLongest, MeansNothing, MeansItself};
 ghost use Rattle.protobuf_parse_options.specs.DescriptorsByPath.{OrderMakesNoDifference};
 ghost use Rattle.protobuf_parse_options.specs.MoreFiles.{LookupsKeepMeaning, MoreFilesKeepMeaning};
 ghost use Rattle.protobuf_parse_options.specs.OptionBytes.{OptionBytesSpell};
-ghost use Rattle.protobuf_parse_options.specs.OptionDepth.{NeverTooDeep};
+ghost use Rattle.protobuf_parse_options.specs.OptionDepth.{NeverTooDeep, TextsAreNotTooDeep};
 ghost use Rattle.protobuf_parse_options.specs.OptionLaw.{OptionsAreRead};
 ghost use Rattle.protobuf_parse_options.specs.Recovery.{OptionsAreRecovered};
 ghost use Rattle.protobuf_parse_options.specs.Recovery.{OptionsAreRecoveredAbove};
@@ -12,6 +14,7 @@ ghost use Rattle.protobuf_parse_options.specs.WithoutOptions.{CustomsAreOptions}
 ghost use Rattle.protobuf_parse_options.specs.WithoutOptions.{CustomsIgnoreOptions};
 ghost use Rattle.protobuf_parse_options.specs.WithoutOptions.{CustomsMakeNoDifference};
 ghost use Rattle.protobuf_parse_options.specs.WithoutOptions.{MeaningIgnoresOptions};
+ghost use Rattle.protobuf_parse_options.specs.WithoutOptions.{NumbersIgnoreOptions};
 ghost use Rattle.protobuf_parse_options.specs.WithoutOptions.{ReadingIgnoresOptions};
 
 /// Where no fault stands in the custom options of a construct, bytes that spell what they denote
@@ -27,10 +30,21 @@ pub fn option_bytes_spell()
 {}
 
 /// What custom options denote has at most 200 messages inside one another, where names have at most
-/// 100 parts and constants nest at most 100 deep, so that the reader never meets too many. It does
-/// nothing when called.
+/// 100 parts and constants nest at most 100 deep, so that the reader never meets too many. In the
+/// tree of a text they do, so it is said of each set of a text's options. It does nothing when
+/// called.
 pub fn never_too_deep()
-    ensures { NeverTooDeep }
+    ensures options { NeverTooDeep }
+    ensures texts { TextsAreNotTooDeep }
+{}
+
+/// What the name of an extension means is declared in the longest front of the scope in which an
+/// extension has that name; a name that means nothing is declared in no front; a name with a first
+/// dot means the extension of just that full name. It does nothing when called.
+pub fn extensions_are_looked_up()
+    ensures longest { MeansTheLongest FieldDescriptor }
+    ensures nothing { MeansNothing FieldDescriptor }
+    ensures itself { MeansItself FieldDescriptor }
 {}
 
 /// Where no name is declared twice, it makes no difference to what custom options are and to what
@@ -40,12 +54,13 @@ pub fn any_order()
     ensures { OrderMakesNoDifference }
 {}
 
-/// By files that are the same but for options the same bytes are read as the same, and custom
-/// options denote the same and are wrong alike. Custom options change nothing in descriptors but
+/// By files that are the same but for options the same bytes are read as the same, numbers of fields
+/// are distinct alike, and custom options denote the same and are wrong alike. Custom options change nothing in descriptors but
 /// options, so which ones a file sets itself makes no difference to what is read by its descriptor,
 /// nor to what custom options mean. It does nothing when called.
 pub fn options_are_not_read()
     ensures reading { ReadingIgnoresOptions }
+    ensures numbers { NumbersIgnoreOptions }
     ensures meaning { MeaningIgnoresOptions }
     ensures customs { CustomsIgnoreOptions }
     ensures descriptors { CustomsAreOptions }

@@ -20,8 +20,8 @@ mod values;
 
 pub use known_files::KnownFiles;
 pub use laws::{
-    any_order, more_files, never_too_deep, option_bytes_spell, options_are_not_read,
-    options_are_read, options_are_recovered,
+    any_order, extensions_are_looked_up, more_files, never_too_deep, option_bytes_spell,
+    options_are_not_read, options_are_read, options_are_recovered,
 };
 pub use picked_files::PickedFiles;
 pub use places::DeclaredPlaces;

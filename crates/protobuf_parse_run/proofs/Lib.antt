@@ -25,6 +25,7 @@ pub mod Meeting
 pub mod Agreeing
 pub mod Further
 pub mod Recovering
+pub mod TypeNames
 pub mod Following
 pub mod AskedOnce
 pub mod StandingBytes

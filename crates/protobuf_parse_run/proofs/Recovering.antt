@@ -25,7 +25,9 @@ use Rattle.protobuf_parse_wire.specs.Wire.{Spells}
 use Rattle.protobuf_parse_options.proofs.Entered.{described}
 use Rattle.protobuf_parse_options.proofs.EnumNumbers.{SmallFile, file_small, values_small}
 use Rattle.protobuf_parse_options.proofs.OptionBytes.{option_bytes_spell}
+use Rattle.protobuf_parse_options.proofs.BareNumbers.{numbers_ignore_options}
 use Rattle.protobuf_parse_options.proofs.Recovery.{plain_options_are_no_bytes}
+use Rattle.protobuf_parse_options.proofs.Recovery.{texts_are_not_too_deep}
 use Rattle.protobuf_parse_options.proofs.RecoveryAbove.{options_are_recovered_above}
 use Rattle.protobuf_parse_options.proofs.Sound.{text_sound}
 use Rattle.protobuf_parse_options.proofs.WithoutOptions.{customs_are_options}
@@ -36,6 +38,7 @@ use Rattle.protobuf_parse_run.specs.Run.{Files, FilesAreListed, RunEnds, HasTree
 use Rattle.protobuf_parse_run.specs.Run.{environment_of, faults_in, plain_environments, plains_at}
 use Rattle.protobuf_parse_run.specs.Run.{text_read}
 use Rattle.protobuf_parse_run.specs.Recovered.{HoldsOptions, IsReadBack, OptionsAreHeld, bytes_in}
+use Rattle.protobuf_parse_run.specs.Recovered.{AreFilesTogether, AreNumberedApart}
 use Rattle.protobuf_parse_run.specs.Recovered.{denoted_in, handed_out}
 use Rattle.protobuf_parse_run.specs.Stability.{IsClean, IsFileOfRun, WereRead, order}
 use Rattle.protobuf_parse_run.specs.declared.fault.RunFault.{RunFault}
@@ -65,7 +68,7 @@ module _ (files : Files) (inputs : List Input) (clean : IsClean files inputs)
   no-others q u at h = none-after (link_faults (trees_at files.trees (files.reached q)))
       (others files q u) (faultless-file files inputs clean q u at h)
 
-  own-faultless : (q : Text) (u : FileSyntax) → files.trees q ≡ Some u
+  pub own-faultless : (q : Text) (u : FileSyntax) → files.trees q ≡ Some u
       → IsFileOfRun files.trees inputs q
       → file_faults (environment (trees_at files.trees (files.seen q)) no_customs u) u ≡ []
   own-faultless q u at h = none-before
@@ -89,20 +92,37 @@ module _ (files : Files) (inputs : List Input) (clean : IsClean files inputs)
       of (Some text) h = (text, h.1)
       of None h = absurd h
 
-  -- a file of the run, and all that it reaches
-  are-reached : (q : Text) (u : FileSyntax) → files.trees q ≡ Some u
-      → IsFileOfRun files.trees inputs q
-      → HaveDistinctNumbers (plains_at files (files.reached q))
-      → AreReachedFiles files.trees files.seen (files.reached q)
-  are-reached q u is m numbers = record {
-    texts = λ r v h at. text-at r v at;
-    sight = λ r h x seen. (read.listed.reaches q).all x
-        (reaches-on files.trees q r x ((read.listed.reaches q).only r h)
+  -- by the descriptors without custom options numbers are distinct, too
+  plain-numbers : (by_files : List Text) → AreNumberedApart files by_files
+      → HaveDistinctNumbers (plains_at files by_files)
+  plain-numbers by_files =
+      numbers_ignore_options (handed_out files by_files) (plains_at files by_files)
+      (customs_are_options files.trees (environment_of files) (plain_environments files) by_files
+      (λ q u. refl))
+
+  -- files of the run, with all that each of them reaches
+  are-together : (by_files : List Text) → AreFilesTogether files (order files.trees inputs) by_files
+      → AreNumberedApart files by_files → AreReachedFiles files.trees files.seen by_files
+  are-together by_files h numbers = record {
+    texts = λ r v k at. text-at r v at;
+    sight = λ r k x seen. h.whole r k x ((read.listed.reaches r).all x
         (sees-reaches files.trees r x ((read.listed.sees r).only x seen)));
+    once = h.once;
+    faultless = λ r v k at. own-faultless r v at (h.of_run r k);
+    numbers = plain-numbers by_files numbers;
+  }
+
+  -- a file of the run, and all that it reaches
+  reached-together : (q : Text) (u : FileSyntax) → files.trees q ≡ Some u
+      → IsFileOfRun files.trees inputs q
+      → AreFilesTogether files (order files.trees inputs) (files.reached q)
+  reached-together q u is m = record {
+    of_run = λ r h. reached-file q r m h;
+    whole = λ r h x k. (read.listed.reaches q).all x
+        (reaches-on files.trees q r x ((read.listed.reaches q).only r h)
+        ((read.listed.reaches r).only x k));
     once = none-before (link_faults (trees_at files.trees (files.reached q))) (others files q u)
         (faultless-file files inputs clean q u is m);
-    faultless = λ r v h at. own-faultless r v at (reached-file q r m h);
-    numbers = numbers;
   }
 
   -- enums' values have 32 bits, as the grammar says
@@ -139,26 +159,30 @@ module _ (files : Files) (inputs : List Input) (clean : IsClean files inputs)
     tree-of q (stays _) = (t, is)
     tree-of q (leads _ r _ u at a rest) = (u, at)
 
-    read-back : HasCustom s.statements → (q : Text) → among q (order files.trees inputs) ≡ true
-        → among p (files.reached q) ≡ true → HaveDistinctNumbers (plains_at files (files.reached q))
-        → IsReadBack files p q s
-    read-back custom q n h numbers bytes held =
-        let above = (read.listed.reaches q).only p h in
-        let u = tree-of q above in
-        let within : (r : Text) → among r reached ≡ true → among r (files.reached q) ≡ true =
-        λ r k. (read.listed.reaches q).all r
-        (reaches-on files.trees q p r above ((read.listed.reaches p).only r k)) in
+    read-together : HasCustom s.statements → (by_files : List Text)
+        → AreFilesTogether files (order files.trees inputs) by_files → among p by_files ≡ true
+        → AreNumberedApart files by_files → IsReadBack files by_files p s
+    read-together custom by_files h listed numbers bytes held =
         let alike = customs_make_no_difference files.trees (environment_of files)
-        (plain_environments files) (files.reached q) seen (λ r v. refl) in
+        (plain_environments files) by_files seen (λ r v. refl) in
         let short = subst (λ (bs : Text). length bs < 2 ^ 64) held (small-bytes bytes) in
-        ap (λ (bs : Text). reader (handed_out files (files.reached q))
-        (options_message s.construct) bs)
+        ap (λ (bs : Text). reader (handed_out files by_files) (options_message s.construct) bs)
         held
         ∙ (alike.0 (options_message s.construct) (bytes_in files p s)
-        ∙ (options_are_recovered_above files.trees files.seen reached (files.reached q) p t s
-        (are-reached q u.0 u.1 n numbers) within h is
+        ∙ (options_are_recovered_above files.trees files.seen reached by_files p t s
+        (are-together by_files h numbers) (h.whole p listed) listed is
         (options-faultless p t is m) stands custom short
         ∙ sym (ap (λ (es : Entries). Ok (said es)) same)))
+
+    read-back : HasCustom s.statements → (q : Text) → among q (order files.trees inputs) ≡ true
+        → among p (files.reached q) ≡ true → AreNumberedApart files (files.reached q)
+        → IsReadBack files (files.reached q) p s
+    read-back custom q n h =
+        let u = tree-of q ((read.listed.reaches q).only p h) in
+        read-together custom (files.reached q) (reached-together q u.0 u.1 n) h
+
+    text : (bytes : Bytes) × HasTree bytes t
+    text = text-at p t is
 
     pub holds-options : HoldsOptions files (order files.trees inputs) p s
     holds-options = record {
@@ -166,7 +190,10 @@ module _ (files : Files) (inputs : List Input) (clean : IsClean files inputs)
           (option_bytes_spell (plains_at files reached) (plains_at files seen) t (small p)
           (options-faultless p t is m) s stands);
       nothing = plain_options_are_no_bytes (plains_at files reached) (plains_at files seen) s;
+      shallow = texts_are_not_too_deep text.0 t text.1 s stands
+          (scope_of (handed_out files reached) (handed_out files seen) s);
       read = read-back;
+      read_together = read-together;
     }
 
 pub all-held : (legal : Asked → Text → ReadOutcome → Type 0) (inputs : List Input)

@@ -7,3 +7,4 @@ pub mod Stability
 pub mod Recovered
 pub mod Shipped
 pub mod StandingBytes
+pub mod TypeNames

@@ -4,18 +4,19 @@
 -- An options message is read as any message: by the fields of it, and by the extensions of it in
 -- the files at hand (Protocol Buffers Language Guide (proto2), "Custom Options",
 -- https://protobuf.dev).
-use Rattle.std.specs.Prelude.{◌≡◌, ℕ, true, List, [], Option, Some, Result, Ok, Err}
+use Rattle.std.specs.Prelude.{◌≡◌, ◌≤◌, ℕ, true, List, [], Option, Some, Result, Ok, Err}
 use Rattle.std.specs.Global.{Vec}
 use Rattle.protobuf_parse_syntax.specs.Trees.{FileSyntax}
 use Rattle.protobuf_parse_model.specs.Descriptors.{Text, FileDescriptor}
 use Rattle.protobuf_parse_model.specs.CustomSets.{bytes_of_set}
 use Rattle.protobuf_parse_model.specs.Faults.{Among}
-use Rattle.protobuf_parse_model.specs.FilesByPath.{among}
+use Rattle.protobuf_parse_model.specs.FilesByPath.{among, trees_at}
+use Rattle.protobuf_parse_model.specs.Linking.{link_faults}
 use Rattle.protobuf_parse_model.specs.OptionSets.{OptionSet, option_sets}
 use Rattle.protobuf_parse_model.specs.declared.descriptor.FileDescriptorProto.{FileDescriptorProto}
 use Rattle.protobuf_parse_options.specs.CustomOptions.{denotes, scope_of}
-use Rattle.protobuf_parse_options.specs.DescriptorsByPath.{descriptors_at}
-use Rattle.protobuf_parse_wire.specs.Law.{said}
+use Rattle.protobuf_parse_options.specs.DescriptorsByPath.{descriptors_at, AreWithin}
+use Rattle.protobuf_parse_wire.specs.Law.{said, depth}
 use Rattle.protobuf_parse_options.specs.OptionFields.{options_message}
 use Rattle.protobuf_parse_wire.specs.Reading.{reader}
 use Rattle.protobuf_parse_options.specs.Recovery.{HasCustom, HaveDistinctNumbers}
@@ -23,7 +24,6 @@ use Rattle.protobuf_parse_wire.specs.Trees.{Entries}
 use Rattle.protobuf_parse_wire.specs.Wire.{Spells}
 use Rattle.protobuf_parse_run.specs.Walks.{Input}
 use Rattle.protobuf_parse_run.specs.Run.{Files, FilesAreListed, HasTrees, customs_of, environment_of}
-use Rattle.protobuf_parse_run.specs.Run.{plains_at}
 use Rattle.protobuf_parse_run.specs.Stability.{order}
 use Rattle.protobuf_parse_run.specs.declared.fault.RunFault.{RunFault}
 use Rattle.protobuf_parse_run.specs.declared.log.ReadEntry.{ReadEntry}
@@ -43,13 +43,24 @@ denoted_in files p s =
     s.construct s.statements
 
 -- From a `Vec` of these bytes, as the one in p's descriptor, the reader gives the numbers and the
--- values that the statements denote, by the construct's options message and the descriptors of the
--- files that q reaches.
-abbrev pub IsReadBack : Files → (p q : Text) → OptionSet → Type 0
-IsReadBack files p q s =
+-- values that the statements denote, by the construct's options message and the descriptors of
+-- these files.
+abbrev pub IsReadBack : Files → (by_files : List Text) → Text → OptionSet → Type 0
+IsReadBack files by_files p s =
     (bytes : Vec ℕ) → bytes.items ≡ bytes_in files p s
-    → reader (handed_out files (files.reached q)) (options_message s.construct) bytes.items
+    → reader (handed_out files by_files) (options_message s.construct) bytes.items
     ≡ Ok (said (denoted_in files p s))
+
+-- In the descriptors of these files numbers of fields are distinct.
+abbrev pub AreNumberedApart : Files → List Text → Type 0
+AreNumberedApart files by_files = HaveDistinctNumbers (handed_out files by_files)
+
+-- These are files of the run, with all that each of them reaches, and together they declare no full
+-- name twice.
+pub record AreFilesTogether (files : Files) (run by_files : List Text) : Type 0 where
+  pub of_run : AreWithin by_files run
+  pub whole : (q : Text) → among q by_files ≡ true → AreWithin (files.reached q) by_files
+  pub once : link_faults (trees_at files.trees by_files) ≡ []
 
 -- What stands in p's descriptor for the custom options of a construct, where these are the files of
 -- the run.
@@ -58,12 +69,19 @@ pub record HoldsOptions (files : Files) (run : List Text) (p : Text) (s : Option
   pub spelled : Spells (denoted_in files p s) (bytes_in files p s)
   -- none, where no custom option is set
   pub nothing : (HasCustom s.statements → ⊥) → bytes_in files p s ≡ []
-  -- Where one is set they are read back, by the files that p reaches; and so by those that any
-  -- other file of the run reaches which reaches p. Asked for is that numbers of fields are distinct
-  -- there. (Custom options change no number.)
+  -- in which at most 200 messages stand inside one another
+  pub shallow : depth (denoted_in files p s) ≤ 200
+  -- Where one is set they are read back by the files that p reaches, and so by those that any other
+  -- file of the run reaches which reaches p. Asked for is that numbers of fields are distinct there.
   pub read : HasCustom s.statements → (q : Text) → among q run ≡ true
-      → among p (files.reached q) ≡ true → HaveDistinctNumbers (plains_at files (files.reached q))
-      → IsReadBack files p q s
+      → among p (files.reached q) ≡ true → AreNumberedApart files (files.reached q)
+      → IsReadBack files (files.reached q) p s
+  -- And so by the files of several inputs together, as by all files of the run, where they declare
+  -- no full name twice: of files that don't reach one another no run asks that.
+  pub read_together : HasCustom s.statements → (by_files : List Text)
+      → AreFilesTogether files run by_files
+      → among p by_files ≡ true → AreNumberedApart files by_files
+      → IsReadBack files by_files p s
 
 -- So it is for each construct of an accepted run's files whose options can be set.
 abbrev pub OptionsAreHeld : List Input → List (Text × Text) → List ReadEntry

@@ -3,6 +3,7 @@
 ghost use Rattle.protobuf_parse_run.specs.Stability.{TreesAreOfTexts, StandsOnItsReach, OrderStays};
 ghost use Rattle.protobuf_parse_run.specs.Stability.{DescriptorsStay};
 ghost use Rattle.protobuf_parse_run.specs.StandingBytes.{BytesStand};
+ghost use Rattle.protobuf_parse_run.specs.TypeNames.{NamesAreReached};
 ghost use Rattle.protobuf_parse_run.specs.Walks.{SeenAreReached};
 
 /// What stays where other texts are read. A path that has the same text has the same tree. Where
@@ -18,12 +19,14 @@ pub fn runs_are_stable()
     ensures descriptors { DescriptorsStay }
 {}
 
-/// A file reaches each file that it sees. So where no fault stands in a file, each name of a type
-/// in its descriptor is that of a message or an enum of a file that it reaches, or of a message
-/// behind one of its own maps and groups
-/// ([`types_are_declared`](protobuf_parse_model::types_are_declared) says so of those that it sees).
+/// A file reaches each file that it sees. So in an accepted run each name of a type in the
+/// descriptor of a file is the full name of a message or an enum that a file declares which it
+/// reaches, or of a message behind one of its own maps and groups
+/// ([`types_are_declared`](protobuf_parse_model::types_are_declared) says so of the files that it
+/// sees).
 pub fn seen_files_are_reached()
-    ensures { SeenAreReached }
+    ensures reached { SeenAreReached }
+    ensures names { NamesAreReached }
 {}
 
 /// The bytes of the custom options of each construct stand in the descriptor of its file: where a

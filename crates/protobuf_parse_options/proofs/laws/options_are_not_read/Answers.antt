@@ -1,3 +1,4 @@
+use Rattle.protobuf_parse_options.proofs.BareNumbers.{numbers_ignore_options}
 use Rattle.protobuf_parse_options.proofs.WithoutOptions as alike
 use Rattle.protobuf_parse_options.proofs.laws.options_are_not_read.Goals as goal
 
@@ -15,3 +16,6 @@ returns-clause-descriptors c = alike.customs_are_options
 
 pub returns-clause-by_path : goal.returns-clause-by_path
 returns-clause-by_path c = alike.customs_make_no_difference
+
+pub returns-clause-numbers : goal.returns-clause-numbers
+returns-clause-numbers c = numbers_ignore_options

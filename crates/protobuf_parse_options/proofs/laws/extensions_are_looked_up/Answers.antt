@@ -1,0 +1,12 @@
+use Rattle.protobuf_parse_model.specs.Descriptors.{FieldDescriptor}
+use Rattle.protobuf_parse_model.proofs.Lookups.{means_the_longest, means_nothing, means_itself}
+use Rattle.protobuf_parse_options.proofs.laws.extensions_are_looked_up.Goals as goal
+
+pub returns-clause-longest : goal.returns-clause-longest
+returns-clause-longest c = means_the_longest FieldDescriptor
+
+pub returns-clause-nothing : goal.returns-clause-nothing
+returns-clause-nothing c = means_nothing FieldDescriptor
+
+pub returns-clause-itself : goal.returns-clause-itself
+returns-clause-itself c = means_itself FieldDescriptor
