@@ -28,4 +28,5 @@ pub mod Recovering
 pub mod Following
 pub mod AskedOnce
 pub mod StandingBytes
+mod HeldBytes
 mod Catching

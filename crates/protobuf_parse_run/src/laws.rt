@@ -2,7 +2,7 @@
 
 ghost use Rattle.protobuf_parse_run.specs.Stability.{TreesAreOfTexts, StandsOnItsReach, OrderStays};
 ghost use Rattle.protobuf_parse_run.specs.Stability.{DescriptorsStay};
-ghost use Rattle.protobuf_parse_run.specs.StandingBytes.{BytesStand};
+ghost use Rattle.protobuf_parse_run.specs.StandingBytes.{OptionsStand, NoOthersStand, BytesStand};
 ghost use Rattle.protobuf_parse_run.specs.Walks.{SeenAreReached};
 
 /// What stays where other texts are read. A path that has the same text has the same tree. Where
@@ -32,5 +32,7 @@ pub fn seen_files_are_reached()
 /// what it hands out. That a descriptor holds no other bytes of custom options is the law
 /// [`custom_options_are_of_sets`](protobuf_parse_model::custom_options_are_of_sets).
 pub fn custom_bytes_stand()
-    ensures { BytesStand }
+    ensures stand { OptionsStand }
+    ensures others { NoOthersStand }
+    ensures told { BytesStand }
 {}
