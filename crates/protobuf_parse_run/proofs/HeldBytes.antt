@@ -1,5 +1,5 @@
 -- What the options messages of a descriptor hold are the bytes of its file's sets of options.
-use Rattle.std.proofs.Common.{◌≡◌, ℕ, ◌+◌, List, [], ◌∷◌, ◌++◌, map, flat_map, length, Option}
+use Rattle.std.proofs.Common.{◌≡◌, ℕ, ◌+◌, List, [], ◌∷◌, ◌++◌, map, flat_map, length}
 use Rattle.std.proofs.Common.{refl, sym, subst, inl, inr, ◌⊎◌, Bool, true, false, if◌then◌else◌}
 use Rattle.std.proofs.lemmas.Grind.{flat_map-append}
 use Rattle.std.proofs.lemmas.List.{append-nil, append_assoc}
@@ -9,9 +9,9 @@ use Rattle.protobuf_parse_syntax.specs.Trees.{EnumValueSyntax, EnumSyntax, Messa
 use Rattle.protobuf_parse_syntax.specs.Trees.{message_oneof, message_extend, message_message}
 use Rattle.protobuf_parse_syntax.specs.Trees.{message_enum, message_field, MessageStatementList}
 use Rattle.protobuf_parse_syntax.specs.Trees.{no_statements, more_statements, MessageSyntax}
-use Rattle.protobuf_parse_syntax.specs.Trees.{OneofSyntax, MethodSyntax, ServiceSyntax, StatementSyntax}
+use Rattle.protobuf_parse_syntax.specs.Trees.{OneofSyntax, MethodSyntax, ServiceSyntax}
 use Rattle.protobuf_parse_syntax.specs.Trees.{file_message, file_enum, file_extend, file_service}
-use Rattle.protobuf_parse_syntax.specs.Trees.{FileSyntax}
+use Rattle.protobuf_parse_syntax.specs.Trees.{StatementSyntax, FileSyntax}
 use Rattle.protobuf_parse_model.specs.declared.customs.Construct.TheVariants as of
 use Rattle.protobuf_parse_model.specs.declared.customs.Construct.{Construct}
 use Rattle.protobuf_parse_model.specs.Options.{FileOptionsSet, MessageOptionsSet, FieldOptionsSet}
@@ -32,18 +32,17 @@ use Rattle.protobuf_parse_model.specs.Services.{methods_in, options_of_service, 
 use Rattle.protobuf_parse_model.specs.Services.{method_of, service_of}
 use Rattle.protobuf_parse_model.specs.Messages as messages
 use Rattle.protobuf_parse_model.specs.Messages.{entries_of, messages_behind, own_oneof}
-use Rattle.protobuf_parse_model.specs.Messages.{has_own_oneof, oneof_of, options_in_oneof, oneofs_of}
+use Rattle.protobuf_parse_model.specs.Messages.{has_own_oneof, oneof_of, options_in_oneof}
 use Rattle.protobuf_parse_model.specs.Messages.{in_oneof, fields_of, fields_from, extending}
 use Rattle.protobuf_parse_model.specs.Messages.{options_of_body, message_from, nested_of, nested_in}
-use Rattle.protobuf_parse_model.specs.Messages.{message_of}
+use Rattle.protobuf_parse_model.specs.Messages.{message_of, oneofs_of}
 use Rattle.protobuf_parse_model.specs.FileDescriptor as files
 use Rattle.protobuf_parse_model.specs.FileDescriptor.{options_of_statements, environment}
 use Rattle.protobuf_parse_model.specs.FileDescriptor.{file_messages_of, services_of, file_of}
 use Rattle.protobuf_parse_model.specs.OptionSets.{OptionSet, a_set, sets_in_group, field_sets}
-use Rattle.protobuf_parse_model.specs.OptionSets.{oneof_sets, extend_sets, value_set, enum_sets, sets_of, sets_in}
+use Rattle.protobuf_parse_model.specs.OptionSets.{oneof_sets, extend_sets, value_set, enum_sets}
 use Rattle.protobuf_parse_model.specs.OptionSets.{message_sets, method_set, service_sets}
-use Rattle.protobuf_parse_model.specs.OptionSets.{statement_sets, option_sets}
-use Rattle.protobuf_parse_model.specs.CustomSets.{bytes_of_set}
+use Rattle.protobuf_parse_model.specs.OptionSets.{sets_of, sets_in, statement_sets, option_sets}
 use Rattle.protobuf_parse_run.specs.StandingBytes.{IsStated, HeldBytes, held, held_in_field}
 use Rattle.protobuf_parse_run.specs.StandingBytes.{held_in_oneof, held_in_value, held_in_enum}
 use Rattle.protobuf_parse_run.specs.StandingBytes.{held_in_message, held_in_messages}
@@ -54,7 +53,7 @@ use Rattle.protobuf_parse_run.proofs.StandingBytes.{in_none, among_parts}
 
 -- ---- lists of what is held
 
--- the one holds what the other holds
+-- the same stands in both
 record Alike (hs ks : List HeldBytes) : Type 0 where
   goes : {h : HeldBytes} → Among hs h → Among ks h
   comes : {h : HeldBytes} → Among ks h → Among hs h
@@ -87,15 +86,15 @@ alike_second hs ks ls =
       goes = λ h. elim (among_parts hs (ks ++ ls) h) [
         | inl w ↦ among_left ls (among_right ks w)
         | inr w ↦ elim (among_parts ks ls w) [
-            | inl v ↦ among_left ls (among_left hs v)
-            | inr v ↦ among_right (ks ++ hs) v
-          ]
+          | inl v ↦ among_left ls (among_left hs v)
+          | inr v ↦ among_right (ks ++ hs) v
+        ]
       ];
       comes = λ h. elim (among_parts (ks ++ hs) ls h) [
         | inl w ↦ elim (among_parts ks hs w) [
-            | inl v ↦ among_right hs (among_left ls v)
-            | inr v ↦ among_left (ks ++ ls) v
-          ]
+          | inl v ↦ among_right hs (among_left ls v)
+          | inr v ↦ among_left (ks ++ ls) v
+        ]
         | inr w ↦ among_right hs (among_right ks w)
       ];
     }
@@ -110,31 +109,27 @@ alike_sorted hs ks fore more last k =
     record {
       goes = λ h. elim (among_parts fore (more ++ last) h) [
         | inl w ↦ elim (among_parts hs ks (k.goes w)) [
-            | inl v ↦ among_left (ks ++ last) (among_left more v)
-            | inr v ↦ among_right (hs ++ more) (among_left last v)
-          ]
+          | inl v ↦ among_left (ks ++ last) (among_left more v)
+          | inr v ↦ among_right (hs ++ more) (among_left last v)
+        ]
         | inr w ↦ elim (among_parts more last w) [
-            | inl v ↦ among_left (ks ++ last) (among_right hs v)
-            | inr v ↦ among_right (hs ++ more) (among_right ks v)
-          ]
+          | inl v ↦ among_left (ks ++ last) (among_right hs v)
+          | inr v ↦ among_right (hs ++ more) (among_right ks v)
+        ]
       ];
       comes = λ h. elim (among_parts (hs ++ more) (ks ++ last) h) [
         | inl w ↦ elim (among_parts hs more w) [
-            | inl v ↦ among_left (more ++ last) (k.comes (among_left ks v))
-            | inr v ↦ among_right fore (among_left last v)
-          ]
+          | inl v ↦ among_left (more ++ last) (k.comes (among_left ks v))
+          | inr v ↦ among_right fore (among_left last v)
+        ]
         | inr w ↦ elim (among_parts ks last w) [
-            | inl v ↦ among_left (more ++ last) (k.comes (among_right hs v))
-            | inr v ↦ among_right fore (among_right more v)
-          ]
+          | inl v ↦ among_left (more ++ last) (k.comes (among_right hs v))
+          | inr v ↦ among_right fore (among_right more v)
+        ]
       ];
     }
 
--- nothing stands beside it
-alone_in_message : (hs : List HeldBytes) → hs ≡ hs ++ [] ++ [] ++ [] ++ [] ++ []
-alone_in_message hs = simp append-nil refl
-
--- of two lists that have four or five parts
+-- where each has four parts, or five
 four_sorted : (xs bs cs ds es fs gs hs : List HeldBytes)
     → Alike ((xs ++ es) ++ (bs ++ fs) ++ (cs ++ gs) ++ (ds ++ hs))
     ((xs ++ bs ++ cs ++ ds) ++ (es ++ fs ++ gs ++ hs))
@@ -151,7 +146,7 @@ five_sorted xs bs cs ds is es fs gs hs js =
     ((xs ++ es) ++ (bs ++ fs) ++ (cs ++ gs) ++ (ds ++ hs)) is js
     (four_sorted xs bs cs ds es fs gs hs)
 
--- those before all parts
+-- what the options of the whole hold, before its parts
 message_parted : (own fs os es xs ms : List HeldBytes)
     → own ++ (fs ++ os ++ es ++ xs ++ ms) ≡ own ++ fs ++ os ++ es ++ xs ++ ms
 message_parted own fs os es xs ms = simp append_assoc refl
@@ -160,7 +155,11 @@ file_parted : (own ms es vs xs : List HeldBytes)
     → own ++ (ms ++ es ++ vs ++ xs) ≡ own ++ ms ++ es ++ vs ++ xs
 file_parted own ms es vs xs = simp append_assoc refl
 
--- among the parts of a statement
+-- In the message of a group there are fields alone.
+group_parted : (hs : List HeldBytes) → hs ≡ hs ++ [] ++ [] ++ [] ++ [] ++ []
+group_parted hs = simp append-nil refl
+
+-- what a statement becomes, among all parts
 field_parted : (one own behind : List HeldBytes) → own ≡ []
     → one ++ behind ≡ (one ++ []) ++ own ++ [] ++ [] ++ behind
 field_parted one own behind e = simp (e, append-nil) refl
@@ -197,6 +196,7 @@ module _ (customs : Customs) where
         others = λ h a. absurd (in_none a);
       }
 
+  -- what is held for some and what is held for others
   both_held : (xs ys : List OptionSet) (hs ks : List HeldBytes) → HeldFor xs hs → HeldFor ys ks
       → HeldFor (xs ++ ys) (hs ++ ks)
   both_held xs ys hs ks a b =
@@ -207,16 +207,17 @@ module _ (customs : Customs) where
         ];
         others = λ h w. elim (among_parts hs ks w) [
           | inl v ↦ elim (a.others h v) [
-              | inl empty ↦ inl empty
-              | inr f ↦ inr (f.0, among_left ys f.1, f.2, f.3)
-            ]
+            | inl empty ↦ inl empty
+            | inr f ↦ inr (f.0, among_left ys f.1, f.2, f.3)
+          ]
           | inr v ↦ elim (b.others h v) [
-              | inl empty ↦ inl empty
-              | inr f ↦ inr (f.0, among_right xs f.1, f.2, f.3)
-            ]
+            | inl empty ↦ inl empty
+            | inr f ↦ inr (f.0, among_right xs f.1, f.2, f.3)
+          ]
         ];
       }
 
+  -- in whatever order
   alike_held : (sets : List OptionSet) (hs ks : List HeldBytes) → Alike hs ks → HeldFor sets hs
       → HeldFor sets ks
   alike_held sets hs ks k a =
@@ -225,7 +226,6 @@ module _ (customs : Customs) where
         others = λ h w. a.others h (k.comes w);
       }
 
-  -- the order doesn't matter
   turned_held : (sets : List OptionSet) (hs ks ls : List HeldBytes) → hs ++ ks ≡ ls
       → HeldFor sets (ks ++ hs) → HeldFor sets ls
   turned_held sets hs ks ls e a =
@@ -266,6 +266,7 @@ module _ (customs : Customs) where
       stood [] is _ here stated = absurd (stated refl)
       stood (o ∷ os) is _ here stated = rw (sym is) here
       stood os is s (there w) stated = absurd (in_none w)
+
       only : (os : List OptionSyntax) → custom options ≡ customs.bytes construct scope os
           → (h : HeldBytes) → Among (held custom construct (where_any os options)) h
           → (h.bytes ≡ [])
@@ -299,7 +300,8 @@ module _ (customs : Customs) where
 field_held : (env : Environment) (p : FieldPlace) (f : FieldSyntax)
     → HeldFor env.customs (a_set of.Field env.scope f.options ∷ [])
     (held_in_field (field_of env p f))
-field_held env p f = set_held env.customs (λ (o : FieldOptionsSet). o.custom) of.Field env.scope f.options _ refl
+field_held env p f =
+    set_held env.customs (λ (o : FieldOptionsSet). o.custom) of.Field env.scope f.options _ refl
 
 grouped_held : (env : Environment) (s : FieldStatementSyntax)
     → HeldFor env.customs (sets_in_group env.scope s)
@@ -328,7 +330,7 @@ statement_of_field_held env p (field f) =
 statement_of_field_held env p (group at label name number fields) =
     let hs = flat_map held_in_field (map (field_statement_of env plain) (group_body fields)) in
     equal_held env.customs (flat_map (sets_in_group env.scope) (group_body fields)) hs _
-    (alone_in_message hs)
+    (group_parted hs)
     (map_held env.customs (sets_in_group env.scope) (field_statement_of env plain) held_in_field
     (grouped_held env) (group_body fields))
 
@@ -395,9 +397,13 @@ parts_sorted : (fs gs : List FieldDescriptor) (os ps : List OneofDescriptor)
     → Alike (held_in_parts fs os es xs ms ++ held_in_parts gs ps ds ys ns)
     (held_in_parts (fs ++ gs) (os ++ ps) (es ++ ds) (xs ++ ys) (ms ++ ns))
 parts_sorted fs gs os ps es ds xs ys ms ns =
-    rw (flat_map-append held_in_field fs gs, flat_map-append held_in_oneof os ps,
-    flat_map-append held_in_enum es ds, flat_map-append held_in_field xs ys,
-    flat_map-append held_in_message ms ns)
+    rw (
+      flat_map-append held_in_field fs gs,
+      flat_map-append held_in_oneof os ps,
+      flat_map-append held_in_enum es ds,
+      flat_map-append held_in_field xs ys,
+      flat_map-append held_in_message ms ns,
+    )
     (alike_back (five_sorted (flat_map held_in_field fs) (flat_map held_in_oneof os)
     (flat_map held_in_enum es) (flat_map held_in_field xs) (flat_map held_in_message ms)
     (flat_map held_in_field gs) (flat_map held_in_oneof ps) (flat_map held_in_enum ds)
@@ -436,8 +442,8 @@ message_from_held : (env : Environment) (name : Text) (body : List MessageStatem
     (held_in_message (message_from env name body ms))
 message_from_held env name body ms sets inside =
     let own = held (λ (o : MessageOptionsSet). o.custom) of.Message
-        (message_options (customs_bytes env of.Message (options_of_body body))
-        (options_of_body body)) in
+    (message_options (customs_bytes env of.Message (options_of_body body))
+    (options_of_body body)) in
     rw (held_in_list ms)
     (equal_held env.customs (a_set of.Message env.scope (options_of_body body) ∷ sets)
     (own ++ held_in_body (env_inside env name) 0 body ms) _
@@ -553,8 +559,12 @@ all_sorted : (ms ns : List MessageDescriptor) (es ds : List EnumDescriptor)
     → Alike (held_in_all ms es vs xs ++ held_in_all ns ds ws ys)
     (held_in_all (ms ++ ns) (es ++ ds) (vs ++ ws) (xs ++ ys))
 all_sorted ms ns es ds vs ws xs ys =
-    rw (flat_map-append held_in_message ms ns, flat_map-append held_in_enum es ds,
-    flat_map-append held_in_service vs ws, flat_map-append held_in_field xs ys)
+    rw (
+      flat_map-append held_in_message ms ns,
+      flat_map-append held_in_enum es ds,
+      flat_map-append held_in_service vs ws,
+      flat_map-append held_in_field xs ys,
+    )
     (alike_back (four_sorted (flat_map held_in_message ms) (flat_map held_in_enum es)
     (flat_map held_in_service vs) (flat_map held_in_field xs) (flat_map held_in_message ns)
     (flat_map held_in_enum ds) (flat_map held_in_service ws) (flat_map held_in_field ys)))
@@ -573,7 +583,7 @@ file_statement_held env (file_enum e) =
     equal_held env.customs _ _ _ (enum_parted (held_in_enum (enum_of env e))) (enum_held env e)
 file_statement_held env (file_extend e) =
     let ones = flat_map held_in_field
-        (map (field_statement_of env (extending env e.extendee)) e.fields) in
+    (map (field_statement_of env (extending env e.extendee)) e.fields) in
     let behind = flat_map held_in_message (flat_map (messages_behind env) e.fields) in
     turned_held env.customs (extend_sets env.scope e) behind ones
     (held_in_file_statement env (file_extend e)) (extend_parted behind ones)

@@ -26,10 +26,13 @@ pub fn seen_files_are_reached()
     ensures { SeenAreReached }
 {}
 
-/// The bytes of the custom options of each construct stand in the descriptor of its file: where a
-/// file becomes the same by two ways to write custom options, each set of its options that has a
-/// statement becomes the same bytes by both. So what `run_inputs` says of these bytes it says of
-/// what it hands out. That a descriptor holds no other bytes of custom options is the law
+/// The bytes of the custom options of each construct stand in the descriptor of its file, in the
+/// field `custom` of an options message. For each set of options that has a statement, an options
+/// message of its kind of construct holds its bytes (`stand`). Each options message holds no bytes,
+/// or those of such a set of its kind of construct (`others`). And where a file becomes the same by
+/// two ways to write custom options, each of its sets that has a statement becomes the same bytes
+/// by both (`told`). So what `run_inputs` says of these bytes it says of what it hands out. That a
+/// descriptor depends on no other bytes of custom options is the law
 /// [`custom_options_are_of_sets`](protobuf_parse_model::custom_options_are_of_sets).
 pub fn custom_bytes_stand()
     ensures stand { OptionsStand }
