@@ -29,4 +29,5 @@ pub mod TypeNames
 pub mod Following
 pub mod AskedOnce
 pub mod StandingBytes
+mod HeldBytes
 mod Catching

@@ -89,10 +89,10 @@ map_length f g [] = refl
 map_length f g (x ∷ xs) = ap suc (map_length f g xs)
 
 -- nothing stands in the empty list
-in_none : {A : Type 0} {x : A} → Among [] x → ⊥
+pub in_none : {A : Type 0} {x : A} → Among [] x → ⊥
 in_none h = elim h [ ]
 
-among_parts : {A : Type 0} {x : A} (xs ys : List A) → Among (xs ++ ys) x
+pub among_parts : {A : Type 0} {x : A} (xs ys : List A) → Among (xs ++ ys) x
     → Among xs x ⊎ Among ys x
 among_parts [] ys h = inr h
 among_parts (z ∷ xs) ys here = inl here

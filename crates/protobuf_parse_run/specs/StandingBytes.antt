@@ -1,23 +1,115 @@
--- The bytes of custom options stand in the descriptor of their file.
+-- Where the bytes of custom options stand in the descriptor of their file.
 --
--- Nothing is said of how a descriptor is gone through. Take two ways to write custom options as
--- bytes. Where a file becomes the same by both, each of its sets of options that has a statement
--- becomes the same bytes by both: so these bytes can be told from the descriptor. (A set without
--- statements has no options message, and so no bytes.) The other way round is `BytesAreOfSets`: the
--- descriptor depends on no other bytes of custom options.
-use Rattle.std.specs.Prelude.{◌≡◌, List, []}
+-- Custom options are extension fields of the options message of their construct, as `FieldOptions`
+-- is that of a field (Protocol Buffers Language Guide (proto2), "Custom Options",
+-- https://protobuf.dev). So each options message of a descriptor holds bytes for them, in `custom`.
+-- These are the bytes of the file's sets of options: `OptionsStand` says that each set that has a
+-- statement stands there, `NoOthersStand` that nothing else does. (A set without statements has no
+-- options message.)
+--
+-- `BytesStand` says nothing of how a descriptor is gone through. Take two ways to write custom
+-- options as bytes. Where a file becomes the same by both, each of its sets of options that has a
+-- statement becomes the same bytes by both: so these bytes can be told from the descriptor. The
+-- other way round is `BytesAreOfSets`: the descriptor depends on no other bytes of custom options.
+use Rattle.std.specs.Prelude.{◌≡◌, ◌⊎◌, List, [], ◌∷◌, ◌++◌, flat_map, Option, Some, None}
 use Rattle.protobuf_parse_syntax.specs.Trees.{FileSyntax}
-use Rattle.protobuf_parse_model.specs.Descriptors.{Text}
+use Rattle.protobuf_parse_model.specs.declared.customs.Construct.{Construct}
+use Rattle.protobuf_parse_model.specs.declared.customs.Construct.TheVariants as of
+use Rattle.protobuf_parse_model.specs.Options.{FileOptionsSet, MessageOptionsSet, FieldOptionsSet}
+use Rattle.protobuf_parse_model.specs.Options.{OneofOptionsSet, EnumOptionsSet, EnumValueOptionsSet}
+use Rattle.protobuf_parse_model.specs.Options.{ServiceOptionsSet, MethodOptionsSet}
+use Rattle.protobuf_parse_model.specs.Descriptors.{Text, FieldDescriptor, OneofDescriptor}
+use Rattle.protobuf_parse_model.specs.Descriptors.{EnumValueDescriptor, EnumDescriptor}
+use Rattle.protobuf_parse_model.specs.Descriptors.{MessageDescriptor, MessageDescriptors, a_message}
+use Rattle.protobuf_parse_model.specs.Descriptors.{no_messages, messages, MethodDescriptor}
+use Rattle.protobuf_parse_model.specs.Descriptors.{ServiceDescriptor, FileDescriptor}
 use Rattle.protobuf_parse_model.specs.Faults.{Among}
 use Rattle.protobuf_parse_model.specs.Environment.{Customs}
 use Rattle.protobuf_parse_model.specs.FileDescriptor.{environment, file_of}
 use Rattle.protobuf_parse_model.specs.OptionSets.{OptionSet, option_sets}
 use Rattle.protobuf_parse_model.specs.CustomSets.{bytes_of_set}
 
+-- ---- what the options messages of a descriptor hold
+
+-- what the options message of such a construct holds for custom options
+pub record HeldBytes : Type 0 where
+  pub construct : Construct
+  pub bytes : Text
+
+-- by an options message, where there is one
+abbrev pub held : {A : Type 0} → (A → Text) → Construct → Option A → List HeldBytes
+held custom construct None = []
+held custom construct (Some options) =
+    record { construct = construct; bytes = custom options } ∷ []
+
+-- of a field or of an extension
+abbrev pub held_in_field : FieldDescriptor → List HeldBytes
+held_in_field d = held (λ (o : FieldOptionsSet). o.custom) of.Field d.options
+
+abbrev pub held_in_oneof : OneofDescriptor → List HeldBytes
+held_in_oneof d = held (λ (o : OneofOptionsSet). o.custom) of.Oneof d.options
+
+abbrev pub held_in_value : EnumValueDescriptor → List HeldBytes
+held_in_value d = held (λ (o : EnumValueOptionsSet). o.custom) of.EnumValue d.options
+
+abbrev pub held_in_enum : EnumDescriptor → List HeldBytes
+held_in_enum d = held (λ (o : EnumOptionsSet). o.custom) of.Enum d.options
+    ++ flat_map held_in_value d.value
+
+abbrev mutual
+  -- with the messages inside it
+  pub held_in_message : MessageDescriptor → List HeldBytes
+  held_in_message (a_message parts nested) =
+      held (λ (o : MessageOptionsSet). o.custom) of.Message parts.options
+      ++ flat_map held_in_field parts.field
+      ++ flat_map held_in_oneof parts.oneof_decl
+      ++ flat_map held_in_enum parts.enum_type
+      ++ flat_map held_in_field parts.extension
+      ++ held_in_messages nested
+
+  pub held_in_messages : MessageDescriptors → List HeldBytes
+  held_in_messages no_messages = []
+  held_in_messages (messages m ms) = held_in_message m ++ held_in_messages ms
+
+abbrev pub held_in_method : MethodDescriptor → List HeldBytes
+held_in_method d = held (λ (o : MethodOptionsSet). o.custom) of.Method d.options
+
+abbrev pub held_in_service : ServiceDescriptor → List HeldBytes
+held_in_service d = held (λ (o : ServiceOptionsSet). o.custom) of.Service d.options
+    ++ flat_map held_in_method d.method
+
+abbrev pub held_in_file : FileDescriptor → List HeldBytes
+held_in_file d = held (λ (o : FileOptionsSet). o.custom) of.File d.options
+    ++ flat_map held_in_message d.message_type
+    ++ flat_map held_in_enum d.enum_type
+    ++ flat_map held_in_service d.service
+    ++ flat_map held_in_field d.extension
+
+-- ---- the laws
+
 -- a statement stands in the set
 abbrev pub IsStated : OptionSet → Type 0
 IsStated s = s.statements ≡ [] → ⊥
 
+-- what the options message of the set's construct is to hold
+abbrev pub held_by_set : Customs → OptionSet → HeldBytes
+held_by_set customs s = record { construct = s.construct; bytes = bytes_of_set customs s }
+
+-- For each set that has a statement, an options message of its kind of construct holds its bytes.
+abbrev pub OptionsStand : Type 0
+OptionsStand = (seen : List FileSyntax) (customs : Customs) (path : Text) (t : FileSyntax)
+    (s : OptionSet) → Among (option_sets t) s → IsStated s
+    → Among (held_in_file (file_of (environment seen customs t) path t)) (held_by_set customs s)
+
+-- An options message that holds bytes holds those of such a set. (One without any may be that of
+-- the message behind a map.)
+abbrev pub NoOthersStand : Type 0
+NoOthersStand = (seen : List FileSyntax) (customs : Customs) (path : Text) (t : FileSyntax)
+    (h : HeldBytes) → Among (held_in_file (file_of (environment seen customs t) path t)) h
+    → (h.bytes ≡ [])
+    ⊎ ((s : OptionSet) × Among (option_sets t) s × IsStated s × (h ≡ held_by_set customs s))
+
+-- The bytes of each set that has a statement can be told from the descriptor.
 abbrev pub BytesStand : Type 0
 BytesStand = (seen : List FileSyntax) (one other : Customs) (path : Text) (t : FileSyntax)
     → file_of (environment seen one t) path t ≡ file_of (environment seen other t) path t

@@ -2,7 +2,8 @@
 
 ghost use Rattle.protobuf_parse_run.specs.Stability.{TreesAreOfTexts, StandsOnItsReach, OrderStays};
 ghost use Rattle.protobuf_parse_run.specs.Stability.{DescriptorsStay};
-ghost use Rattle.protobuf_parse_run.specs.StandingBytes.{BytesStand};
+ghost use Rattle.protobuf_parse_run.specs.StandingBytes.{BytesStand, NoOthersStand};
+ghost use Rattle.protobuf_parse_run.specs.StandingBytes.{OptionsStand};
 ghost use Rattle.protobuf_parse_run.specs.TypeNames.{NamesAreReached};
 ghost use Rattle.protobuf_parse_run.specs.Walks.{SeenAreReached};
 
@@ -29,11 +30,16 @@ pub fn seen_files_are_reached()
     ensures names { NamesAreReached }
 {}
 
-/// The bytes of the custom options of each construct stand in the descriptor of its file: where a
-/// file becomes the same by two ways to write custom options, each set of its options that has a
-/// statement becomes the same bytes by both. So what `run_inputs` says of these bytes it says of
-/// what it hands out. That a descriptor holds no other bytes of custom options is the law
+/// The bytes of the custom options of each construct stand in the descriptor of its file, in the
+/// field `custom` of an options message. For each set of options that has a statement, an options
+/// message of its kind of construct holds its bytes (`stand`). Each options message holds no bytes,
+/// or those of such a set of its kind of construct (`others`). And where a file becomes the same by
+/// two ways to write custom options, each of its sets that has a statement becomes the same bytes
+/// by both (`told`). So what `run_inputs` says of these bytes it says of what it hands out. That a
+/// descriptor depends on no other bytes of custom options is the law
 /// [`custom_options_are_of_sets`](protobuf_parse_model::custom_options_are_of_sets).
 pub fn custom_bytes_stand()
-    ensures { BytesStand }
+    ensures stand { OptionsStand }
+    ensures others { NoOthersStand }
+    ensures told { BytesStand }
 {}

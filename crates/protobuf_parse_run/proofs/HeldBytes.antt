@@ -1,0 +1,630 @@
+-- What the options messages of a descriptor hold are the bytes of its file's sets of options.
+use Rattle.std.proofs.Common.{◌≡◌, ℕ, ◌+◌, List, [], ◌∷◌, ◌++◌, map, flat_map, length}
+use Rattle.std.proofs.Common.{refl, sym, subst, inl, inr, ◌⊎◌, Bool, true, false, if◌then◌else◌}
+use Rattle.std.proofs.lemmas.Grind.{flat_map-append}
+use Rattle.std.proofs.lemmas.List.{append-nil, append_assoc}
+use Rattle.protobuf_parse_syntax.specs.Trees.{OptionSyntax, FieldSyntax, FieldStatementSyntax}
+use Rattle.protobuf_parse_syntax.specs.Trees.{field, group, TypeSyntax, scalar, map_of, named}
+use Rattle.protobuf_parse_syntax.specs.Trees.{EnumValueSyntax, EnumSyntax, MessageStatementSyntax}
+use Rattle.protobuf_parse_syntax.specs.Trees.{message_oneof, message_extend, message_message}
+use Rattle.protobuf_parse_syntax.specs.Trees.{message_enum, message_field, MessageStatementList}
+use Rattle.protobuf_parse_syntax.specs.Trees.{no_statements, more_statements, MessageSyntax}
+use Rattle.protobuf_parse_syntax.specs.Trees.{OneofSyntax, MethodSyntax, ServiceSyntax}
+use Rattle.protobuf_parse_syntax.specs.Trees.{file_message, file_enum, file_extend, file_service}
+use Rattle.protobuf_parse_syntax.specs.Trees.{StatementSyntax, FileSyntax}
+use Rattle.protobuf_parse_model.specs.declared.customs.Construct.TheVariants as of
+use Rattle.protobuf_parse_model.specs.declared.customs.Construct.{Construct}
+use Rattle.protobuf_parse_model.specs.Options.{FileOptionsSet, MessageOptionsSet, FieldOptionsSet}
+use Rattle.protobuf_parse_model.specs.Options.{OneofOptionsSet, EnumOptionsSet, EnumValueOptionsSet}
+use Rattle.protobuf_parse_model.specs.Options.{ServiceOptionsSet, MethodOptionsSet}
+use Rattle.protobuf_parse_model.specs.Descriptors.{Text, MessageDescriptor, messages_of_list}
+use Rattle.protobuf_parse_model.specs.Descriptors.{FieldDescriptor, OneofDescriptor}
+use Rattle.protobuf_parse_model.specs.Descriptors.{EnumDescriptor, ServiceDescriptor}
+use Rattle.protobuf_parse_model.specs.BuiltinOptions.{where_any}
+use Rattle.protobuf_parse_model.specs.Faults.{Among, here, there}
+use Rattle.protobuf_parse_model.specs.Statements.{group_body, message_body, oneof_fields}
+use Rattle.protobuf_parse_model.specs.Declarations.{Scope}
+use Rattle.protobuf_parse_model.specs.Environment.{Environment, Customs, env_inside, customs_bytes}
+use Rattle.protobuf_parse_model.specs.OptionsSet.{message_options}
+use Rattle.protobuf_parse_model.specs.Fields.{FieldPlace, plain, field_of, field_statement_of}
+use Rattle.protobuf_parse_model.specs.Enums.{enum_values, options_of_enum, value_of, enum_of}
+use Rattle.protobuf_parse_model.specs.Services.{methods_in, options_of_service, options_of_method}
+use Rattle.protobuf_parse_model.specs.Services.{method_of, service_of}
+use Rattle.protobuf_parse_model.specs.Messages as messages
+use Rattle.protobuf_parse_model.specs.Messages.{entries_of, messages_behind, own_oneof}
+use Rattle.protobuf_parse_model.specs.Messages.{has_own_oneof, oneof_of, options_in_oneof}
+use Rattle.protobuf_parse_model.specs.Messages.{in_oneof, fields_of, fields_from, extending}
+use Rattle.protobuf_parse_model.specs.Messages.{options_of_body, message_from, nested_of, nested_in}
+use Rattle.protobuf_parse_model.specs.Messages.{message_of, oneofs_of}
+use Rattle.protobuf_parse_model.specs.FileDescriptor as files
+use Rattle.protobuf_parse_model.specs.FileDescriptor.{options_of_statements, environment}
+use Rattle.protobuf_parse_model.specs.FileDescriptor.{file_messages_of, services_of, file_of}
+use Rattle.protobuf_parse_model.specs.OptionSets.{OptionSet, a_set, sets_in_group, field_sets}
+use Rattle.protobuf_parse_model.specs.OptionSets.{oneof_sets, extend_sets, value_set, enum_sets}
+use Rattle.protobuf_parse_model.specs.OptionSets.{message_sets, method_set, service_sets}
+use Rattle.protobuf_parse_model.specs.OptionSets.{sets_of, sets_in, statement_sets, option_sets}
+use Rattle.protobuf_parse_run.specs.StandingBytes.{IsStated, HeldBytes, held, held_in_field}
+use Rattle.protobuf_parse_run.specs.StandingBytes.{held_in_oneof, held_in_value, held_in_enum}
+use Rattle.protobuf_parse_run.specs.StandingBytes.{held_in_message, held_in_messages}
+use Rattle.protobuf_parse_run.specs.StandingBytes.{held_in_method, held_in_service, held_in_file}
+use Rattle.protobuf_parse_run.specs.StandingBytes.{held_by_set, OptionsStand, NoOthersStand}
+use Rattle.protobuf_parse_model.proofs.Blaming.{among_left, among_right}
+use Rattle.protobuf_parse_run.proofs.StandingBytes.{in_none, among_parts}
+
+-- ---- lists of what is held
+
+-- the same stands in both
+record Alike (hs ks : List HeldBytes) : Type 0 where
+  goes : {h : HeldBytes} → Among hs h → Among ks h
+  comes : {h : HeldBytes} → Among ks h → Among hs h
+
+alike_by : (hs ks : List HeldBytes) → hs ≡ ks → Alike hs ks
+alike_by hs ks e =
+    record {
+      goes = λ {h} a. subst (λ (z : List HeldBytes). Among z h) e a;
+      comes = λ {h} a. subst (λ (z : List HeldBytes). Among z h) (sym e) a;
+    }
+
+-- the second part before the first
+alike_turned : (hs ks : List HeldBytes) → Alike (hs ++ ks) (ks ++ hs)
+alike_turned hs ks =
+    record {
+      goes = λ h. elim (among_parts hs ks h) [
+        | inl w ↦ among_right ks w
+        | inr w ↦ among_left hs w
+      ];
+      comes = λ h. elim (among_parts ks hs h) [
+        | inl w ↦ among_right hs w
+        | inr w ↦ among_left ks w
+      ];
+    }
+
+-- the first part behind the second
+alike_second : (hs ks ls : List HeldBytes) → Alike (hs ++ (ks ++ ls)) (ks ++ hs ++ ls)
+alike_second hs ks ls =
+    record {
+      goes = λ h. elim (among_parts hs (ks ++ ls) h) [
+        | inl w ↦ among_left ls (among_right ks w)
+        | inr w ↦ elim (among_parts ks ls w) [
+          | inl v ↦ among_left ls (among_left hs v)
+          | inr v ↦ among_right (ks ++ hs) v
+        ]
+      ];
+      comes = λ h. elim (among_parts (ks ++ hs) ls h) [
+        | inl w ↦ elim (among_parts ks hs w) [
+          | inl v ↦ among_right hs (among_left ls v)
+          | inr v ↦ among_left (ks ++ ls) v
+        ]
+        | inr w ↦ among_right hs (among_right ks w)
+      ];
+    }
+
+alike_back : {hs ks : List HeldBytes} → Alike hs ks → Alike ks hs
+alike_back a = record { goes = a.comes; comes = a.goes }
+
+-- Parts of two lists: the first parts together and the last parts together, or those of each list.
+alike_sorted : (hs ks fore more last : List HeldBytes) → Alike fore (hs ++ ks)
+    → Alike (fore ++ (more ++ last)) ((hs ++ more) ++ (ks ++ last))
+alike_sorted hs ks fore more last k =
+    record {
+      goes = λ h. elim (among_parts fore (more ++ last) h) [
+        | inl w ↦ elim (among_parts hs ks (k.goes w)) [
+          | inl v ↦ among_left (ks ++ last) (among_left more v)
+          | inr v ↦ among_right (hs ++ more) (among_left last v)
+        ]
+        | inr w ↦ elim (among_parts more last w) [
+          | inl v ↦ among_left (ks ++ last) (among_right hs v)
+          | inr v ↦ among_right (hs ++ more) (among_right ks v)
+        ]
+      ];
+      comes = λ h. elim (among_parts (hs ++ more) (ks ++ last) h) [
+        | inl w ↦ elim (among_parts hs more w) [
+          | inl v ↦ among_left (more ++ last) (k.comes (among_left ks v))
+          | inr v ↦ among_right fore (among_left last v)
+        ]
+        | inr w ↦ elim (among_parts ks last w) [
+          | inl v ↦ among_left (more ++ last) (k.comes (among_right hs v))
+          | inr v ↦ among_right fore (among_right more v)
+        ]
+      ];
+    }
+
+-- where each has four parts, or five
+four_sorted : (xs bs cs ds es fs gs hs : List HeldBytes)
+    → Alike ((xs ++ es) ++ (bs ++ fs) ++ (cs ++ gs) ++ (ds ++ hs))
+    ((xs ++ bs ++ cs ++ ds) ++ (es ++ fs ++ gs ++ hs))
+four_sorted xs bs cs ds es fs gs hs =
+    alike_sorted (xs ++ bs ++ cs) (es ++ fs ++ gs) ((xs ++ es) ++ (bs ++ fs) ++ (cs ++ gs)) ds hs
+    (alike_sorted (xs ++ bs) (es ++ fs) ((xs ++ es) ++ (bs ++ fs)) cs gs
+    (alike_sorted xs es (xs ++ es) bs fs (alike_by (xs ++ es) (xs ++ es) refl)))
+
+five_sorted : (xs bs cs ds is es fs gs hs js : List HeldBytes)
+    → Alike ((xs ++ es) ++ (bs ++ fs) ++ (cs ++ gs) ++ (ds ++ hs) ++ (is ++ js))
+    ((xs ++ bs ++ cs ++ ds ++ is) ++ (es ++ fs ++ gs ++ hs ++ js))
+five_sorted xs bs cs ds is es fs gs hs js =
+    alike_sorted (xs ++ bs ++ cs ++ ds) (es ++ fs ++ gs ++ hs)
+    ((xs ++ es) ++ (bs ++ fs) ++ (cs ++ gs) ++ (ds ++ hs)) is js
+    (four_sorted xs bs cs ds es fs gs hs)
+
+-- what the options of the whole hold, before its parts
+message_parted : (own fs os es xs ms : List HeldBytes)
+    → own ++ (fs ++ os ++ es ++ xs ++ ms) ≡ own ++ fs ++ os ++ es ++ xs ++ ms
+message_parted own fs os es xs ms = simp append_assoc refl
+
+file_parted : (own ms es vs xs : List HeldBytes)
+    → own ++ (ms ++ es ++ vs ++ xs) ≡ own ++ ms ++ es ++ vs ++ xs
+file_parted own ms es vs xs = simp append_assoc refl
+
+-- In the message of a group there are fields alone.
+group_parted : (hs : List HeldBytes) → hs ≡ hs ++ [] ++ [] ++ [] ++ [] ++ []
+group_parted hs = simp append-nil refl
+
+-- what a statement becomes, among all parts
+field_parted : (one own behind : List HeldBytes) → own ≡ []
+    → one ++ behind ≡ (one ++ []) ++ own ++ [] ++ [] ++ behind
+field_parted one own behind e = simp (e, append-nil) refl
+
+oneof_parted : (ones own behind : List HeldBytes)
+    → ones ++ own ++ behind ≡ ones ++ (own ++ []) ++ [] ++ [] ++ behind
+oneof_parted ones own behind = simp append-nil refl
+
+enum_parted : (hs : List HeldBytes) → hs ≡ (hs ++ []) ++ [] ++ []
+enum_parted hs = simp append-nil refl
+
+first_parted : (hs : List HeldBytes) → hs ≡ (hs ++ []) ++ [] ++ [] ++ []
+first_parted hs = simp append-nil refl
+
+service_parted : (hs : List HeldBytes) → hs ≡ (hs ++ []) ++ []
+service_parted hs = simp append-nil refl
+
+extend_parted : (hs ks : List HeldBytes) → hs ++ ks ≡ hs ++ [] ++ [] ++ ks
+extend_parted hs ks = simp append-nil refl
+
+-- ---- what is held for sets
+
+module _ (customs : Customs) where
+  -- these are held for just these sets
+  record HeldFor (sets : List OptionSet) (hs : List HeldBytes) : Type 0 where
+    stands : (s : OptionSet) → Among sets s → IsStated s → Among hs (held_by_set customs s)
+    others : (h : HeldBytes) → Among hs h → (h.bytes ≡ [])
+        ⊎ ((s : OptionSet) × Among sets s × IsStated s × (h ≡ held_by_set customs s))
+
+  none_held : HeldFor [] []
+  none_held =
+      record {
+        stands = λ s a stated. absurd (in_none a);
+        others = λ h a. absurd (in_none a);
+      }
+
+  -- what is held for some and what is held for others
+  both_held : (xs ys : List OptionSet) (hs ks : List HeldBytes) → HeldFor xs hs → HeldFor ys ks
+      → HeldFor (xs ++ ys) (hs ++ ks)
+  both_held xs ys hs ks a b =
+      record {
+        stands = λ s w stated. elim (among_parts xs ys w) [
+          | inl v ↦ among_left ks (a.stands s v stated)
+          | inr v ↦ among_right hs (b.stands s v stated)
+        ];
+        others = λ h w. elim (among_parts hs ks w) [
+          | inl v ↦ elim (a.others h v) [
+            | inl empty ↦ inl empty
+            | inr f ↦ inr (f.0, among_left ys f.1, f.2, f.3)
+          ]
+          | inr v ↦ elim (b.others h v) [
+            | inl empty ↦ inl empty
+            | inr f ↦ inr (f.0, among_right xs f.1, f.2, f.3)
+          ]
+        ];
+      }
+
+  -- in whatever order
+  alike_held : (sets : List OptionSet) (hs ks : List HeldBytes) → Alike hs ks → HeldFor sets hs
+      → HeldFor sets ks
+  alike_held sets hs ks k a =
+      record {
+        stands = λ s w stated. k.goes (a.stands s w stated);
+        others = λ h w. a.others h (k.comes w);
+      }
+
+  turned_held : (sets : List OptionSet) (hs ks ls : List HeldBytes) → hs ++ ks ≡ ls
+      → HeldFor sets (ks ++ hs) → HeldFor sets ls
+  turned_held sets hs ks ls e a =
+      alike_held sets (hs ++ ks) ls (alike_by (hs ++ ks) ls e)
+      (alike_held sets (ks ++ hs) (hs ++ ks) (alike_turned ks hs) a)
+
+  equal_held : (sets : List OptionSet) (hs ks : List HeldBytes) → hs ≡ ks → HeldFor sets hs
+      → HeldFor sets ks
+  equal_held sets hs ks e a = alike_held sets hs ks (alike_by hs ks e) a
+
+  -- by an options message without bytes
+  empty_held : (h : HeldBytes) → h.bytes ≡ [] → HeldFor [] (h ∷ [])
+  empty_held h empty =
+      record {
+        stands = λ s a stated. absurd (in_none a);
+        others = only h empty;
+      }
+    where
+      only : (h : HeldBytes) → h.bytes ≡ [] → (k : HeldBytes) → Among (h ∷ []) k → (k.bytes ≡ [])
+          ⊎ ((s : OptionSet) × Among [] s × IsStated s × (k ≡ held_by_set customs s))
+      only h empty _ here = inl empty
+      only h empty k (there w) = absurd (in_none w)
+
+  -- by the options message that is made where a statement stands
+  set_held : {A : Type 0} (custom : A → Text) (construct : Construct) (scope : Scope)
+      (os : List OptionSyntax) (options : A)
+      → custom options ≡ customs.bytes construct scope os
+      → HeldFor (a_set construct scope os ∷ []) (held custom construct (where_any os options))
+  set_held custom construct scope os options is =
+      record {
+        stands = stood os is;
+        others = only os is;
+      }
+    where
+      stood : (os : List OptionSyntax) → custom options ≡ customs.bytes construct scope os
+          → (s : OptionSet) → Among (a_set construct scope os ∷ []) s → IsStated s
+          → Among (held custom construct (where_any os options)) (held_by_set customs s)
+      stood [] is _ here stated = absurd (stated refl)
+      stood (o ∷ os) is _ here stated = rw (sym is) here
+      stood os is s (there w) stated = absurd (in_none w)
+
+      only : (os : List OptionSyntax) → custom options ≡ customs.bytes construct scope os
+          → (h : HeldBytes) → Among (held custom construct (where_any os options)) h
+          → (h.bytes ≡ [])
+          ⊎ ((s : OptionSet) × Among (a_set construct scope os ∷ []) s × IsStated s
+          × (h ≡ held_by_set customs s))
+      only [] is h w = absurd (in_none w)
+      only (o ∷ os) is _ here =
+          inr (a_set construct scope (o ∷ os), here, (λ none. cc), rw is refl)
+      only (o ∷ os) is h (there w) = absurd (in_none w)
+
+  -- each element becomes one
+  map_held : {X A : Type 0} (sets : X → List OptionSet) (f : X → A) (g : A → List HeldBytes)
+      → ((x : X) → HeldFor (sets x) (g (f x))) → (xs : List X)
+      → HeldFor (flat_map sets xs) (flat_map g (map f xs))
+  map_held sets f g each [] = none_held
+  map_held sets f g each (x ∷ xs) =
+      both_held (sets x) (flat_map sets xs) (g (f x)) (flat_map g (map f xs)) (each x)
+      (map_held sets f g each xs)
+
+  -- and has one set
+  each_held : {X A : Type 0} (set : X → OptionSet) (f : X → A) (g : A → List HeldBytes)
+      → ((x : X) → HeldFor (set x ∷ []) (g (f x))) → (xs : List X)
+      → HeldFor (map set xs) (flat_map g (map f xs))
+  each_held set f g each [] = none_held
+  each_held set f g each (x ∷ xs) =
+      both_held (set x ∷ []) (map set xs) (g (f x)) (flat_map g (map f xs)) (each x)
+      (each_held set f g each xs)
+
+-- ---- fields
+
+field_held : (env : Environment) (p : FieldPlace) (f : FieldSyntax)
+    → HeldFor env.customs (a_set of.Field env.scope f.options ∷ [])
+    (held_in_field (field_of env p f))
+field_held env p f =
+    set_held env.customs (λ (o : FieldOptionsSet). o.custom) of.Field env.scope f.options _ refl
+
+grouped_held : (env : Environment) (s : FieldStatementSyntax)
+    → HeldFor env.customs (sets_in_group env.scope s)
+    (held_in_field (field_statement_of env plain s))
+grouped_held env (field f) = field_held env plain f
+grouped_held env (group at label name number fields) = none_held env.customs
+
+-- the message behind a map holds no bytes
+entries_held : (env : Environment) (name : Text) (t : TypeSyntax)
+    → HeldFor env.customs [] (flat_map held_in_message (entries_of env name t))
+entries_held env name (map_of key value) =
+    empty_held env.customs (record { construct = of.Message; bytes = [] }) refl
+entries_held env name (scalar s) = none_held env.customs
+entries_held env name (named n) = none_held env.customs
+
+-- a field or a group, by its field and by the message behind it
+statement_of_field_held : (env : Environment) (p : FieldPlace) (s : FieldStatementSyntax)
+    → HeldFor env.customs (field_sets env.scope s)
+    (held_in_field (field_statement_of env p s)
+    ++ flat_map held_in_message (messages_behind env s))
+statement_of_field_held env p (field f) =
+    both_held env.customs (a_set of.Field env.scope f.options ∷ []) []
+    (held_in_field (field_of env p f))
+    (flat_map held_in_message (entries_of env f.name f.type_)) (field_held env p f)
+    (entries_held env f.name f.type_)
+statement_of_field_held env p (group at label name number fields) =
+    let hs = flat_map held_in_field (map (field_statement_of env plain) (group_body fields)) in
+    equal_held env.customs (flat_map (sets_in_group env.scope) (group_body fields)) hs _
+    (group_parted hs)
+    (map_held env.customs (sets_in_group env.scope) (field_statement_of env plain) held_in_field
+    (grouped_held env) (group_body fields))
+
+-- several in one place
+fields_held : (env : Environment) (p : FieldPlace) (ss : List FieldStatementSyntax)
+    → HeldFor env.customs (flat_map (field_sets env.scope) ss)
+    (flat_map held_in_field (map (field_statement_of env p) ss)
+    ++ flat_map held_in_message (flat_map (messages_behind env) ss))
+fields_held env p [] = none_held env.customs
+fields_held env p (s ∷ ss) =
+    let one = held_in_field (field_statement_of env p s) in
+    let more = flat_map held_in_field (map (field_statement_of env p) ss) in
+    let behind = flat_map held_in_message (messages_behind env s) in
+    let rest = flat_map held_in_message (flat_map (messages_behind env) ss) in
+    rw (flat_map-append held_in_message (messages_behind env s) (flat_map (messages_behind env) ss))
+    (alike_held env.customs (flat_map (field_sets env.scope) (s ∷ ss))
+    ((one ++ behind) ++ (more ++ rest)) ((one ++ more) ++ (behind ++ rest))
+    (alike_back (alike_sorted one more (one ++ more) behind rest
+    (alike_by (one ++ more) (one ++ more) refl)))
+    (both_held env.customs (field_sets env.scope s) (flat_map (field_sets env.scope) ss)
+    (one ++ behind) (more ++ rest) (statement_of_field_held env p s) (fields_held env p ss)))
+
+-- ---- enums and services
+
+enum_held : (env : Environment) (e : EnumSyntax)
+    → HeldFor env.customs (enum_sets env.scope e) (held_in_enum (enum_of env e))
+enum_held env e =
+    both_held env.customs (a_set of.Enum env.scope (options_of_enum e) ∷ [])
+    (map (value_set env.scope) (flat_map enum_values e.body))
+    (held (λ (o : EnumOptionsSet). o.custom) of.Enum (enum_of env e).options)
+    (flat_map held_in_value (enum_of env e).value)
+    (set_held env.customs (λ (o : EnumOptionsSet). o.custom) of.Enum env.scope
+    (options_of_enum e) _ refl)
+    (each_held env.customs (value_set env.scope) (value_of env) held_in_value
+    (λ (v : EnumValueSyntax). set_held env.customs (λ (o : EnumValueOptionsSet). o.custom)
+    of.EnumValue env.scope v.options _ refl)
+    (flat_map enum_values e.body))
+
+service_held : (env : Environment) (s : ServiceSyntax)
+    → HeldFor env.customs (service_sets env.scope s) (held_in_service (service_of env s))
+service_held env s =
+    both_held env.customs (a_set of.Service env.scope (options_of_service s) ∷ [])
+    (map (method_set env.scope) (flat_map methods_in s.body))
+    (held (λ (o : ServiceOptionsSet). o.custom) of.Service (service_of env s).options)
+    (flat_map held_in_method (service_of env s).method)
+    (set_held env.customs (λ (o : ServiceOptionsSet). o.custom) of.Service env.scope
+    (options_of_service s) _ refl)
+    (each_held env.customs (method_set env.scope) (method_of env) held_in_method
+    (λ (m : MethodSyntax). set_held env.customs (λ (o : MethodOptionsSet). o.custom)
+    of.Method env.scope (options_of_method m) _ refl)
+    (flat_map methods_in s.body))
+
+-- ---- bodies
+
+-- what the parts of a message hold
+abbrev held_in_parts : List FieldDescriptor → List OneofDescriptor → List EnumDescriptor
+    → List FieldDescriptor → List MessageDescriptor → List HeldBytes
+held_in_parts fs os es xs ms = flat_map held_in_field fs ++ flat_map held_in_oneof os
+    ++ flat_map held_in_enum es ++ flat_map held_in_field xs ++ flat_map held_in_message ms
+
+-- part by part of two
+parts_sorted : (fs gs : List FieldDescriptor) (os ps : List OneofDescriptor)
+    (es ds : List EnumDescriptor) (xs ys : List FieldDescriptor) (ms ns : List MessageDescriptor)
+    → Alike (held_in_parts fs os es xs ms ++ held_in_parts gs ps ds ys ns)
+    (held_in_parts (fs ++ gs) (os ++ ps) (es ++ ds) (xs ++ ys) (ms ++ ns))
+parts_sorted fs gs os ps es ds xs ys ms ns =
+    rw (
+      flat_map-append held_in_field fs gs,
+      flat_map-append held_in_oneof os ps,
+      flat_map-append held_in_enum es ds,
+      flat_map-append held_in_field xs ys,
+      flat_map-append held_in_message ms ns,
+    )
+    (alike_back (five_sorted (flat_map held_in_field fs) (flat_map held_in_oneof os)
+    (flat_map held_in_enum es) (flat_map held_in_field xs) (flat_map held_in_message ms)
+    (flat_map held_in_field gs) (flat_map held_in_oneof ps) (flat_map held_in_enum ds)
+    (flat_map held_in_field ys) (flat_map held_in_message ns)))
+
+-- a oneof of a field's own has no options message
+own_oneof_holds : (f : FieldStatementSyntax) (own : Bool)
+    → flat_map held_in_oneof (if own then own_oneof f ∷ [] else []) ≡ []
+own_oneof_holds f true = refl
+own_oneof_holds f false = refl
+
+-- what a statement becomes
+abbrev held_in_statement : Environment → ℕ → MessageStatementSyntax → List HeldBytes
+held_in_statement env index s =
+    held_in_parts (fields_of env index s) (oneofs_of env s) (messages.enums_of env s)
+    (messages.extensions_of env s) (nested_of env s)
+
+-- and a body, with the messages inside it
+abbrev held_in_body : Environment → ℕ → List MessageStatementSyntax → List MessageDescriptor
+    → List HeldBytes
+held_in_body env index ss ms =
+    held_in_parts (fields_from env index ss) (flat_map (oneofs_of env) ss)
+    (flat_map (messages.enums_of env) ss) (flat_map (messages.extensions_of env) ss) ms
+
+-- messages, by their list
+held_in_list : (ms : List MessageDescriptor)
+    → held_in_messages (messages_of_list ms) ≡ flat_map held_in_message ms
+held_in_list [] = refl
+held_in_list (m ∷ ms) = rw (held_in_list ms) refl
+
+-- a message, whose body holds so much
+message_from_held : (env : Environment) (name : Text) (body : List MessageStatementSyntax)
+    (ms : List MessageDescriptor) (sets : List OptionSet)
+    → HeldFor env.customs sets (held_in_body (env_inside env name) 0 body ms)
+    → HeldFor env.customs (a_set of.Message env.scope (options_of_body body) ∷ sets)
+    (held_in_message (message_from env name body ms))
+message_from_held env name body ms sets inside =
+    let own = held (λ (o : MessageOptionsSet). o.custom) of.Message
+    (message_options (customs_bytes env of.Message (options_of_body body))
+    (options_of_body body)) in
+    rw (held_in_list ms)
+    (equal_held env.customs (a_set of.Message env.scope (options_of_body body) ∷ sets)
+    (own ++ held_in_body (env_inside env name) 0 body ms) _
+    (message_parted own _ _ _ _ (flat_map held_in_message ms))
+    (both_held env.customs (a_set of.Message env.scope (options_of_body body) ∷ []) sets
+    own (held_in_body (env_inside env name) 0 body ms)
+    (set_held env.customs (λ (o : MessageOptionsSet). o.custom) of.Message env.scope
+    (options_of_body body) _ refl) inside))
+
+-- a statement and those behind it
+more_held : (env : Environment) (index : ℕ) (s : MessageStatementSyntax)
+    (ss : List MessageStatementSyntax) (ms : List MessageDescriptor)
+    (xs ys : List OptionSet) → HeldFor env.customs xs (held_in_statement env index s)
+    → HeldFor env.customs ys (held_in_body env (index + length (oneofs_of env s)) ss ms)
+    → HeldFor env.customs (xs ++ ys) (held_in_body env index (s ∷ ss) (nested_of env s ++ ms))
+more_held env index s ss ms xs ys a b =
+    alike_held env.customs (xs ++ ys)
+    (held_in_statement env index s
+    ++ held_in_body env (index + length (oneofs_of env s)) ss ms)
+    (held_in_body env index (s ∷ ss) (nested_of env s ++ ms))
+    (parts_sorted (fields_of env index s) _ (oneofs_of env s) _ (messages.enums_of env s) _
+    (messages.extensions_of env s) _ (nested_of env s) ms)
+    (both_held env.customs xs ys _ _ a b)
+
+-- a field of a body
+field_statement_held : (env : Environment) (index : ℕ) (f : FieldStatementSyntax)
+    → HeldFor env.customs (field_sets env.scope f)
+    (held_in_statement env index (message_field f))
+field_statement_held env index f =
+    let p = if has_own_oneof env f then in_oneof index else plain in
+    let one = held_in_field (field_statement_of env p f) in
+    let behind = flat_map held_in_message (messages_behind env f) in
+    equal_held env.customs (field_sets env.scope f) (one ++ behind)
+    (held_in_statement env index (message_field f))
+    (field_parted one (flat_map held_in_oneof (oneofs_of env (message_field f))) behind
+    (own_oneof_holds f (has_own_oneof env f)))
+    (statement_of_field_held env p f)
+
+-- a oneof
+oneof_held : (env : Environment) (index : ℕ) (o : OneofSyntax)
+    → HeldFor env.customs (oneof_sets env.scope o)
+    (held_in_statement env index (message_oneof o))
+oneof_held env index o =
+    let fs = flat_map oneof_fields o.body in
+    let own = held_in_oneof (oneof_of env o) in
+    let ones = flat_map held_in_field (map (field_statement_of env (in_oneof index)) fs) in
+    let behind = flat_map held_in_message (flat_map (messages_behind env) fs) in
+    equal_held env.customs (oneof_sets env.scope o) (ones ++ own ++ behind)
+    (held_in_statement env index (message_oneof o)) (oneof_parted ones own behind)
+    (alike_held env.customs (oneof_sets env.scope o) (own ++ (ones ++ behind))
+    (ones ++ own ++ behind) (alike_second own ones behind)
+    (both_held env.customs (a_set of.Oneof env.scope (options_in_oneof o) ∷ [])
+    (flat_map (field_sets env.scope) fs) own (ones ++ behind)
+    (set_held env.customs (λ (d : OneofOptionsSet). d.custom) of.Oneof env.scope
+    (options_in_oneof o) _ refl)
+    (fields_held env (in_oneof index) fs)))
+
+mutual
+  -- a statement of a body
+  statement_held : (env : Environment) (index : ℕ) (s : MessageStatementSyntax)
+      → HeldFor env.customs (sets_of env.scope s) (held_in_statement env index s)
+  statement_held env index (message_message at name body) =
+      equal_held env.customs _ _ _ (sym (append-nil _))
+      (message_from_held env name (message_body body) (nested_in (env_inside env name) body)
+      (sets_in (env_inside env name).scope body) (body_held (env_inside env name) 0 body))
+  statement_held env index (message_field f) =
+      field_statement_held env index f
+  statement_held env index (message_oneof o) =
+      oneof_held env index o
+  statement_held env index (message_extend e) =
+      fields_held env (extending env e.extendee) e.fields
+  statement_held env index (message_enum e) =
+      equal_held env.customs _ _ _ (enum_parted (held_in_enum (enum_of env e))) (enum_held env e)
+  statement_held env index _ = none_held env.customs
+
+  -- a body
+  body_held : (env : Environment) (index : ℕ) (ss : MessageStatementList)
+      → HeldFor env.customs (sets_in env.scope ss)
+      (held_in_body env index (message_body ss) (nested_in env ss))
+  body_held env index no_statements = none_held env.customs
+  body_held env index (more_statements s ss) =
+      more_held env index s (message_body ss) (nested_in env ss) (sets_of env.scope s)
+      (sets_in env.scope ss) (statement_held env index s)
+      (body_held env (index + length (oneofs_of env s)) ss)
+
+-- the statements of a file's message
+statements_held : (env : Environment) (index : ℕ) (ss : List MessageStatementSyntax)
+    → HeldFor env.customs (flat_map (sets_of env.scope) ss)
+    (held_in_body env index ss (flat_map (nested_of env) ss))
+statements_held env index [] = none_held env.customs
+statements_held env index (s ∷ ss) =
+    more_held env index s ss (flat_map (nested_of env) ss) (sets_of env.scope s)
+    (flat_map (sets_of env.scope) ss) (statement_held env index s)
+    (statements_held env (index + length (oneofs_of env s)) ss)
+
+message_held : (env : Environment) (m : MessageSyntax)
+    → HeldFor env.customs (message_sets env.scope m) (held_in_message (message_of env m))
+message_held env m =
+    message_from_held env m.name m.body (flat_map (nested_of (env_inside env m.name)) m.body)
+    (flat_map (sets_of (env_inside env m.name).scope) m.body)
+    (statements_held (env_inside env m.name) 0 m.body)
+
+-- ---- files
+
+-- what the parts of a file hold
+abbrev held_in_all : List MessageDescriptor → List EnumDescriptor → List ServiceDescriptor
+    → List FieldDescriptor → List HeldBytes
+held_in_all ms es vs xs = flat_map held_in_message ms ++ flat_map held_in_enum es
+    ++ flat_map held_in_service vs ++ flat_map held_in_field xs
+
+all_sorted : (ms ns : List MessageDescriptor) (es ds : List EnumDescriptor)
+    (vs ws : List ServiceDescriptor) (xs ys : List FieldDescriptor)
+    → Alike (held_in_all ms es vs xs ++ held_in_all ns ds ws ys)
+    (held_in_all (ms ++ ns) (es ++ ds) (vs ++ ws) (xs ++ ys))
+all_sorted ms ns es ds vs ws xs ys =
+    rw (
+      flat_map-append held_in_message ms ns,
+      flat_map-append held_in_enum es ds,
+      flat_map-append held_in_service vs ws,
+      flat_map-append held_in_field xs ys,
+    )
+    (alike_back (four_sorted (flat_map held_in_message ms) (flat_map held_in_enum es)
+    (flat_map held_in_service vs) (flat_map held_in_field xs) (flat_map held_in_message ns)
+    (flat_map held_in_enum ds) (flat_map held_in_service ws) (flat_map held_in_field ys)))
+
+abbrev held_in_file_statement : Environment → StatementSyntax → List HeldBytes
+held_in_file_statement env s =
+    held_in_all (file_messages_of env s) (files.file_enums_of env s) (services_of env s)
+    (files.file_extensions_of env s)
+
+file_statement_held : (env : Environment) (s : StatementSyntax)
+    → HeldFor env.customs (statement_sets env.scope s) (held_in_file_statement env s)
+file_statement_held env (file_message m) =
+    equal_held env.customs _ _ _ (first_parted (held_in_message (message_of env m)))
+    (message_held env m)
+file_statement_held env (file_enum e) =
+    equal_held env.customs _ _ _ (enum_parted (held_in_enum (enum_of env e))) (enum_held env e)
+file_statement_held env (file_extend e) =
+    let ones = flat_map held_in_field
+    (map (field_statement_of env (extending env e.extendee)) e.fields) in
+    let behind = flat_map held_in_message (flat_map (messages_behind env) e.fields) in
+    turned_held env.customs (extend_sets env.scope e) behind ones
+    (held_in_file_statement env (file_extend e)) (extend_parted behind ones)
+    (fields_held env (extending env e.extendee) e.fields)
+file_statement_held env (file_service s) =
+    equal_held env.customs _ _ _ (service_parted (held_in_service (service_of env s)))
+    (service_held env s)
+file_statement_held env _ = none_held env.customs
+
+file_statements_held : (env : Environment) (ss : List StatementSyntax)
+    → HeldFor env.customs (flat_map (statement_sets env.scope) ss)
+    (held_in_all (flat_map (file_messages_of env) ss) (flat_map (files.file_enums_of env) ss)
+    (flat_map (services_of env) ss) (flat_map (files.file_extensions_of env) ss))
+file_statements_held env [] = none_held env.customs
+file_statements_held env (s ∷ ss) =
+    alike_held env.customs (flat_map (statement_sets env.scope) (s ∷ ss)) _ _
+    (all_sorted (file_messages_of env s) (flat_map (file_messages_of env) ss)
+    (files.file_enums_of env s) (flat_map (files.file_enums_of env) ss) (services_of env s)
+    (flat_map (services_of env) ss) (files.file_extensions_of env s)
+    (flat_map (files.file_extensions_of env) ss))
+    (both_held env.customs (statement_sets env.scope s)
+    (flat_map (statement_sets env.scope) ss) _ _ (file_statement_held env s)
+    (file_statements_held env ss))
+
+file_held : (seen : List FileSyntax) (customs : Customs) (path : Text) (t : FileSyntax)
+    → HeldFor customs (option_sets t)
+    (held_in_file (file_of (environment seen customs t) path t))
+file_held seen customs path t =
+    let env = environment seen customs t in
+    let own = held (λ (o : FileOptionsSet). o.custom) of.File (file_of env path t).options in
+    equal_held customs (option_sets t)
+    (own ++ held_in_all (file_of env path t).message_type (file_of env path t).enum_type
+    (file_of env path t).service (file_of env path t).extension) _ (file_parted own _ _ _ _)
+    (both_held customs (a_set of.File env.scope (options_of_statements t.statements) ∷ [])
+    (flat_map (statement_sets env.scope) t.statements) own _
+    (set_held customs (λ (o : FileOptionsSet). o.custom) of.File env.scope
+    (options_of_statements t.statements) _ refl)
+    (file_statements_held env t.statements))
+
+pub options_stand : OptionsStand
+options_stand seen customs path t s a stated = (file_held seen customs path t).stands s a stated
+
+pub no_others_stand : NoOthersStand
+no_others_stand seen customs path t h a = (file_held seen customs path t).others h a
