@@ -3,6 +3,7 @@ pub mod Bits
 pub mod Adding
 pub mod Distinct
 pub mod Loop
+pub mod Records
 pub mod Levels
 pub mod Varint
 pub mod Back

@@ -4,6 +4,7 @@ pub mod Trees
 pub mod Wire
 pub mod Declarations
 pub mod Reading
+pub mod Records
 pub mod Law
 pub mod Writing
 pub mod Encoded

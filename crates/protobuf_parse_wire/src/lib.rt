@@ -14,5 +14,5 @@ pub use entry::{Entry, EntryValue};
 pub use fault::ReadFault;
 pub use field::{ReadField, ReadValue};
 pub use kind::Kind;
-pub use law::{one_spelling, spelled_is_read};
+pub use law::{one_spelling, reader_reads_records, spelled_is_read};
 pub use reader::{groups, read_custom};
