@@ -5,6 +5,9 @@ mod front;
 pub mod pure;
 
 pub use front::{FsReader, FsResolver, ParsedAndTypechecked, Parser, fs_resolver, program};
+pub use protobuf_parse_base::names::laws::{
+    into_absolute_undoes_to_root_rel, pop_undoes_push, remove_undoes_concat,
+};
 pub use protobuf_parse_base::names::{
     Components, ProtobufAbsPath, ProtobufAbsPathRef, ProtobufIdent, ProtobufIdentRef,
     ProtobufRelPath, ProtobufRelPathRef,
@@ -19,11 +22,15 @@ pub use protobuf_parse_model::{
     FileOptions, IdempotencyLevel, JSType, Label, MessageOptions, MethodDescriptorProto,
     MethodOptions, OneofDescriptorProto, OneofOptions, OptimizeMode, ReservedRange,
     ServiceDescriptorProto, ServiceOptions, custom_options_are_of_sets, types_are_declared,
+    types_are_looked_up,
 };
+pub use protobuf_parse_options::{extensions_are_looked_up, never_too_deep, options_are_not_read};
 pub use protobuf_parse_run::{
     InputReader, ProtoPathResolver, ReadEntry, ReadInputFault, ReadOutcome, ResolveFault,
     ResolvedProtoFile, RunFault, RunInput, RunLog, custom_bytes_stand, run_inputs, runs_are_stable,
     seen_files_are_reached,
 };
 pub use protobuf_parse_syntax::{ParserError, ParserErrorWithLocation};
-pub use protobuf_parse_wire::{ReadFault, ReadField, ReadValue, read_custom};
+pub use protobuf_parse_wire::{
+    ReadFault, ReadField, ReadValue, read_custom, reader_reads_records, spelled_is_read,
+};

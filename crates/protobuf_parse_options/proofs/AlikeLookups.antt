@@ -33,7 +33,7 @@ use Rattle.protobuf_parse_options.specs.CustomOptions.{items_of_option, denotes}
 use Rattle.protobuf_parse_options.specs.CustomFaults.{value_name_faults, message_value_faults}
 use Rattle.protobuf_parse_options.specs.CustomFaults.{number_faults, field_name_faults}
 use Rattle.protobuf_parse_options.specs.CustomFaults.{extension_name_faults, constant_name_faults}
-use Rattle.protobuf_parse_options.specs.CustomFaults.{value_faults, list_faults, field_faults}
+use Rattle.protobuf_parse_options.specs.CustomFaults.{constant_faults, list_faults, member_faults}
 use Rattle.protobuf_parse_options.specs.CustomFaults.{part_faults, step_faults, path_faults}
 use Rattle.protobuf_parse_options.specs.CustomFaults.{custom_faults, custom_name_faults}
 use Rattle.protobuf_parse_options.specs.CustomFaults.{custom_statement_faults}
@@ -96,22 +96,22 @@ found-alike f g asks each o o' e =
 
 module _ (at : OptionScope) where
   mutual
-    value_faults-bare : (option : Text) (f : FieldDescriptor) (c : ConstantSyntax)
-        → value_faults at option (bare_field f) c ≡ value_faults at option f c
-    value_faults-bare option f (list cs) = list_faults-bare option f cs
-    value_faults-bare option f (dotted name) = refl
-    value_faults-bare option f (fields fs) = refl
-    value_faults-bare option f (integer z) = refl
-    value_faults-bare option f (truth b) = refl
-    value_faults-bare option f (string pieces) = refl
+    constant_faults-bare : (option : Text) (f : FieldDescriptor) (c : ConstantSyntax)
+        → constant_faults at option (bare_field f) c ≡ constant_faults at option f c
+    constant_faults-bare option f (list cs) = list_faults-bare option f cs
+    constant_faults-bare option f (dotted name) = refl
+    constant_faults-bare option f (fields fs) = refl
+    constant_faults-bare option f (integer z) = refl
+    constant_faults-bare option f (truth b) = refl
+    constant_faults-bare option f (string pieces) = refl
 
     list_faults-bare : (option : Text) (f : FieldDescriptor) (cs : ConstantList)
         → list_faults at option (bare_field f) cs ≡ list_faults at option f cs
     list_faults-bare option f no_constants = refl
     list_faults-bare option f (more_constants c cs) =
-        both-same (value_faults at option (bare_field f) c) (value_faults at option f c)
+        both-same (constant_faults at option (bare_field f) c) (constant_faults at option f c)
         (list_faults at option (bare_field f) cs) (list_faults at option f cs)
-        (value_faults-bare option f c) (list_faults-bare option f cs)
+        (constant_faults-bare option f c) (list_faults-bare option f cs)
 
   mutual
     value_items-bare : (c : ConstantSyntax)
@@ -133,11 +133,11 @@ module _ (at : OptionScope) where
 
   -- what is wrong where a value is given to a field
   abbrev given_faults : Text → ConstantSyntax → FieldDescriptor → List Fault
-  given_faults option c g = number_faults g ++ value_faults at option g c
+  given_faults option c g = number_faults g ++ constant_faults at option g c
 
   given-bare : (option : Text) (c : ConstantSyntax) → AsksNoOption (given_faults option c)
   given-bare option c g =
-      ap (λ (xs : List Fault). number_faults g ++ xs) (value_faults-bare option g c)
+      ap (λ (xs : List Fault). number_faults g ++ xs) (constant_faults-bare option g c)
 
 -- an extension that extends the message
 if_extends-bare : (files : List FileDescriptor) (message : Text)
@@ -234,38 +234,38 @@ module _ (at at' : OptionScope) (same : AlikeLookups at at') where
   -- ---- faults of constants
 
   mutual
-    value_faults-same : (option : Text) (f : FieldDescriptor) (c : ConstantSyntax)
-        → value_faults at option f c ≡ value_faults at' option f c
-    value_faults-same option f (dotted name) =
+    constant_faults-same : (option : Text) (f : FieldDescriptor) (c : ConstantSyntax)
+        → constant_faults at option f c ≡ constant_faults at' option f c
+    constant_faults-same option f (dotted name) =
         ap (value_name_faults f.name (type_takes f.type_) name) (same.values (type_name_of f) name)
-    value_faults-same option f (list cs) = list_faults-same option f cs
-    value_faults-same option f (fields fs) =
+    constant_faults-same option f (list cs) = list_faults-same option f cs
+    constant_faults-same option f (fields fs) =
         ap (message_value_faults f.name (type_takes f.type_))
-        (field_faults-same option (type_name_of f) fs)
-    value_faults-same option f (integer z) = refl
-    value_faults-same option f (truth b) = refl
-    value_faults-same option f (string pieces) = refl
+        (member_faults-same option (type_name_of f) fs)
+    constant_faults-same option f (integer z) = refl
+    constant_faults-same option f (truth b) = refl
+    constant_faults-same option f (string pieces) = refl
 
     list_faults-same : (option : Text) (f : FieldDescriptor) (cs : ConstantList)
         → list_faults at option f cs ≡ list_faults at' option f cs
     list_faults-same option f no_constants = refl
     list_faults-same option f (more_constants c cs) =
-        both-same (value_faults at option f c) (value_faults at' option f c)
-        (list_faults at option f cs) (list_faults at' option f cs) (value_faults-same option f c)
+        both-same (constant_faults at option f c) (constant_faults at' option f c)
+        (list_faults at option f cs) (list_faults at' option f cs) (constant_faults-same option f c)
         (list_faults-same option f cs)
 
-    field_faults-same : (option message : Text) (fs : ConstantFieldList)
-        → field_faults at option message fs ≡ field_faults at' option message fs
-    field_faults-same option message no_fields = refl
-    field_faults-same option message (more_fields name c fs) =
-        both-same _ _ (field_faults at option message fs) (field_faults at' option message fs)
+    member_faults-same : (option message : Text) (fs : ConstantFieldList)
+        → member_faults at option message fs ≡ member_faults at' option message fs
+    member_faults-same option message no_fields = refl
+    member_faults-same option message (more_fields name c fs) =
+        both-same _ _ (member_faults at option message fs) (member_faults at' option message fs)
         (both-same (constant_name_faults at message name)
         (constant_name_faults at' message name) _ _ (constant_name-same message name)
         (found-alike (given_faults at option c) (given_faults at' option c) (given-bare at option c)
-        (λ g. ap (λ (xs : List Fault). number_faults g ++ xs) (value_faults-same option g c))
+        (λ g. ap (λ (xs : List Fault). number_faults g ++ xs) (constant_faults-same option g c))
         (constant_field at message name) (constant_field at' message name)
         (constant-alike message name)))
-        (field_faults-same option message fs)
+        (member_faults-same option message fs)
 
   -- ---- faults of paths
 
@@ -278,7 +278,7 @@ module _ (at at' : OptionScope) (same : AlikeLookups at at') where
       (part_faults-same message p)
       (found-alike (given_faults at option value) (given_faults at' option value)
       (given-bare at option value)
-      (λ g. ap (λ (xs : List Fault). number_faults g ++ xs) (value_faults-same option g value))
+      (λ g. ap (λ (xs : List Fault). number_faults g ++ xs) (constant_faults-same option g value))
       (part_field at message p) (part_field at' message p) (part-alike message p))
   path_faults-same option value message (p ∷ q ∷ ps) =
       both-same (part_faults at message p) (part_faults at' message p) _ _

@@ -33,7 +33,7 @@ use Rattle.protobuf_parse_options.specs.CustomOptions.{items_of_option}
 use Rattle.protobuf_parse_options.specs.CustomFaults.{value_name_faults, message_value_faults}
 use Rattle.protobuf_parse_options.specs.CustomFaults.{number_faults, field_name_faults}
 use Rattle.protobuf_parse_options.specs.CustomFaults.{extension_name_faults, constant_name_faults}
-use Rattle.protobuf_parse_options.specs.CustomFaults.{value_faults, list_faults, field_faults}
+use Rattle.protobuf_parse_options.specs.CustomFaults.{constant_faults, list_faults, member_faults}
 use Rattle.protobuf_parse_options.specs.CustomFaults.{part_faults, step_faults, path_faults}
 use Rattle.protobuf_parse_options.specs.CustomFaults.{custom_name_faults}
 use Rattle.protobuf_parse_options.specs.MoreFiles.{KeepsLookups, LookupsKeepMeaning}
@@ -248,15 +248,15 @@ module _ (at at' : OptionScope) (keeps : KeepsLookups at at') where
 
   mutual
     value_kept : (option : Text) (f : FieldDescriptor) (c : ConstantSyntax)
-        → value_faults at option f c ≡ []
-        → Kept (value_faults at' option f c) (value_items at' f c) (value_items at f c)
+        → constant_faults at option f c ≡ []
+        → Kept (constant_faults at' option f c) (value_items at' f c) (value_items at f c)
     value_kept option f (dotted name) h =
         known_kept f name (number_of_value at.files (type_name_of f) name)
         (number_of_value at'.files (type_name_of f) name) (keeps.values (type_name_of f) name) h
     value_kept option f (list cs) h = list_kept option f cs h
     value_kept option f (fields fs) h =
-        message_kept f.name (type_takes f.type_) f (field_faults at option (type_name_of f) fs)
-        (field_faults at' option (type_name_of f) fs) (field_items at' (type_name_of f) fs)
+        message_kept f.name (type_takes f.type_) f (member_faults at option (type_name_of f) fs)
+        (member_faults at' option (type_name_of f) fs) (field_items at' (type_name_of f) fs)
         (field_items at (type_name_of f) fs)
         (λ k. fields_kept option (type_name_of f) fs k) h
     value_kept option f (integer z) h = record { faultless = h; same = refl }
@@ -268,40 +268,41 @@ module _ (at at' : OptionScope) (keeps : KeepsLookups at at') where
         → Kept (list_faults at' option f cs) (list_items at' f cs) (list_items at f cs)
     list_kept option f no_constants h = nothing_kept
     list_kept option f (more_constants c cs) h =
-        both_kept (value_faults at' option f c) (list_faults at' option f cs) (value_items at' f c)
+        both_kept (constant_faults at' option f c) (list_faults at' option f cs)
+        (value_items at' f c)
         (value_items at f c) (list_items at' f cs) (list_items at f cs)
         (value_kept option f c
-        (no_left (value_faults at option f c) (list_faults at option f cs) h))
+        (no_left (constant_faults at option f c) (list_faults at option f cs) h))
         (list_kept option f cs
-        (no_right (value_faults at option f c) (list_faults at option f cs) h))
+        (no_right (constant_faults at option f c) (list_faults at option f cs) h))
 
     fields_kept : (option message : Text) (fs : ConstantFieldList)
-        → field_faults at option message fs ≡ []
-        → Kept (field_faults at' option message fs) (field_items at' message fs)
+        → member_faults at option message fs ≡ []
+        → Kept (member_faults at' option message fs) (field_items at' message fs)
         (field_items at message fs)
     fields_kept option message no_fields h = nothing_kept
     fields_kept option message (more_fields name c fs) h =
         let front = no_left
         (constant_name_faults at message name
-        ++ flat_map (λ (g : FieldDescriptor). number_faults g ++ value_faults at option g c)
-        (option_to_list (constant_field at message name))) (field_faults at option message fs) h
+        ++ flat_map (λ (g : FieldDescriptor). number_faults g ++ constant_faults at option g c)
+        (option_to_list (constant_field at message name))) (member_faults at option message fs) h
         in
         let behind = no_right
         (constant_name_faults at message name
-        ++ flat_map (λ (g : FieldDescriptor). number_faults g ++ value_faults at option g c)
-        (option_to_list (constant_field at message name))) (field_faults at option message fs) h
+        ++ flat_map (λ (g : FieldDescriptor). number_faults g ++ constant_faults at option g c)
+        (option_to_list (constant_field at message name))) (member_faults at option message fs) h
         in
-        both_kept _ (field_faults at' option message fs) _ _ (field_items at' message fs)
+        both_kept _ (member_faults at' option message fs) _ _ (field_items at' message fs)
         (field_items at message fs)
         (found_kept (constant_name_faults at message name) (constant_name_faults at' message name)
         (constant_field at message name) (constant_field at' message name)
-        (λ (g : FieldDescriptor). number_faults g ++ value_faults at option g c)
-        (λ (g : FieldDescriptor). number_faults g ++ value_faults at' option g c)
+        (λ (g : FieldDescriptor). number_faults g ++ constant_faults at option g c)
+        (λ (g : FieldDescriptor). number_faults g ++ constant_faults at' option g c)
         (λ (g : FieldDescriptor). value_items at' g c)
         (λ (g : FieldDescriptor). value_items at g c)
         (constant_meant message name)
-        (λ g. numbered_kept (number_faults g) (value_faults at option g c)
-        (value_faults at' option g c) (value_items at' g c) (value_items at g c)
+        (λ g. numbered_kept (number_faults g) (constant_faults at option g c)
+        (constant_faults at' option g c) (value_items at' g c) (value_items at g c)
         (λ k. value_kept option g c k)) front)
         (fields_kept option message fs behind)
 
@@ -315,13 +316,13 @@ module _ (at at' : OptionScope) (keeps : KeepsLookups at at') where
   path_kept option value message (p ∷ []) h =
       found_kept (part_faults at message p) (part_faults at' message p) (part_field at message p)
       (part_field at' message p)
-      (λ (g : FieldDescriptor). number_faults g ++ value_faults at option g value)
-      (λ (g : FieldDescriptor). number_faults g ++ value_faults at' option g value)
+      (λ (g : FieldDescriptor). number_faults g ++ constant_faults at option g value)
+      (λ (g : FieldDescriptor). number_faults g ++ constant_faults at' option g value)
       (λ (g : FieldDescriptor). value_items at' g value)
       (λ (g : FieldDescriptor). value_items at g value)
       (part_meant message p)
-      (λ g. numbered_kept (number_faults g) (value_faults at option g value)
-      (value_faults at' option g value) (value_items at' g value) (value_items at g value)
+      (λ g. numbered_kept (number_faults g) (constant_faults at option g value)
+      (constant_faults at' option g value) (value_items at' g value) (value_items at g value)
       (value_kept option g value)) h
   path_kept option value message (p ∷ q ∷ ps) h =
       found_kept (part_faults at message p) (part_faults at' message p) (part_field at message p)

@@ -21,7 +21,7 @@ use Rattle.protobuf_parse_options.specs.CustomOptions.{item_of, item_of_message,
 use Rattle.protobuf_parse_options.specs.CustomOptions.{list_items}
 use Rattle.protobuf_parse_options.specs.CustomOptions.{field_items, path_items, named_items}
 use Rattle.protobuf_parse_options.specs.CustomOptions.{items_of_option}
-use Rattle.protobuf_parse_options.specs.OptionDepth.{constant_depth, list_depth, fields_depth}
+use Rattle.protobuf_parse_options.specs.OptionDepth.{message_levels, list_levels, field_levels}
 use Rattle.protobuf_parse_options.specs.OptionDepth.{name_parts, NeverTooDeep}
 
 abbrev levels : List WireItem → ℕ
@@ -52,7 +52,7 @@ item_within f v n le = one_within _ v (kind_of_field_type f.type_) n le
 
 mutual
   value_within : (at : OptionScope) (f : FieldDescriptor) (c : ConstantSyntax)
-      → levels (value_items at f c) ≤ constant_depth c + 1
+      → levels (value_items at f c) ≤ message_levels c + 1
   value_within at f (integer z) = item_within f (trees.number z) 1 (omega arith)
   value_within at f (truth b) = item_within f (trees.truth b) 1 (omega arith)
   value_within at f (dotted name) =
@@ -64,63 +64,63 @@ mutual
   value_within at f (list cs) = list_within at f cs
   value_within at f (fields fs) =
       let inside : levels (field_items at (type_name_of f) fs)
-      ≤ fields_depth fs + 1 = fields_within at (type_name_of f) fs in
+      ≤ field_levels fs + 1 = fields_within at (type_name_of f) fs in
       item_within f (trees.message (entries_of_list (field_items at (type_name_of f) fs)))
-      (constant_depth (fields fs) + 1) (omega arith)
+      (message_levels (fields fs) + 1) (omega arith)
 
   list_within : (at : OptionScope) (f : FieldDescriptor) (cs : ConstantList)
-      → levels (list_items at f cs) ≤ list_depth cs + 1
+      → levels (list_items at f cs) ≤ list_levels cs + 1
   list_within at f no_constants = omega arith
   list_within at f (more_constants c cs) =
-      let first : levels (value_items at f c) ≤ constant_depth c + 1 = value_within at f c in
-      let others : levels (list_items at f cs) ≤ list_depth cs + 1 = list_within at f cs in
-      both_within (value_items at f c) (list_items at f cs) (list_depth (more_constants c cs) + 1)
+      let first : levels (value_items at f c) ≤ message_levels c + 1 = value_within at f c in
+      let others : levels (list_items at f cs) ≤ list_levels cs + 1 = list_within at f cs in
+      both_within (value_items at f c) (list_items at f cs) (list_levels (more_constants c cs) + 1)
       (omega arith) (omega arith)
 
   fields_within : (at : OptionScope) (message : Text) (fs : ConstantFieldList)
-      → levels (field_items at message fs) ≤ fields_depth fs + 1
+      → levels (field_items at message fs) ≤ field_levels fs + 1
   fields_within at message no_fields = omega arith
   fields_within at message (more_fields name c fs) =
       let first : levels
       (flat_map (λ (g : FieldDescriptor). value_items at g c)
-      (option_to_list (constant_field at message name))) ≤ constant_depth c + 1 =
+      (option_to_list (constant_field at message name))) ≤ message_levels c + 1 =
       each_within (λ (g : FieldDescriptor). value_items at g c)
-      (option_to_list (constant_field at message name)) (constant_depth c + 1) (omega arith)
+      (option_to_list (constant_field at message name)) (message_levels c + 1) (omega arith)
       (λ g. value_within at g c) in
       let others : levels (field_items at message fs)
-      ≤ fields_depth fs + 1 = fields_within at message fs in
+      ≤ field_levels fs + 1 = fields_within at message fs in
       both_within
       (flat_map (λ (g : FieldDescriptor). value_items at g c)
       (option_to_list (constant_field at message name))) (field_items at message
-      fs) (fields_depth (more_fields name c fs) + 1) (omega arith) (omega arith)
+      fs) (field_levels (more_fields name c fs) + 1) (omega arith) (omega arith)
 
 path_within : (at : OptionScope) (value : ConstantSyntax) (message : Text) (p : OptionPartSyntax)
     (ps : List OptionPartSyntax)
-    → levels (path_items at value message (p ∷ ps)) ≤ length (p ∷ ps) + constant_depth value
+    → levels (path_items at value message (p ∷ ps)) ≤ length (p ∷ ps) + message_levels value
 path_within at value message p [] =
     each_within (λ (g : FieldDescriptor). value_items at g value)
-    (option_to_list (part_field at message p)) (length (p ∷ []) + constant_depth value)
+    (option_to_list (part_field at message p)) (length (p ∷ []) + message_levels value)
     (omega arith)
     (λ g. let one : levels (value_items at g value)
-    ≤ constant_depth value + 1 = value_within at g value in omega arith)
+    ≤ message_levels value + 1 = value_within at g value in omega arith)
 path_within at value message p (q ∷ ps) =
     each_within
     (λ (g : FieldDescriptor). item_of_message g (path_items at value (type_name_of g) (q ∷ ps)))
-    (option_to_list (part_field at message p)) (length (p ∷ q ∷ ps) + constant_depth value)
+    (option_to_list (part_field at message p)) (length (p ∷ q ∷ ps) + message_levels value)
     (omega arith)
     (λ g. let inside : levels (path_items at value (type_name_of g) (q ∷ ps))
-    ≤ length (q ∷ ps) + constant_depth value = path_within at value (type_name_of g) q ps in
+    ≤ length (q ∷ ps) + message_levels value = path_within at value (type_name_of g) q ps in
     item_within g (trees.message (entries_of_list (path_items at value (type_name_of g) (q ∷ ps))))
-    (length (p ∷ q ∷ ps) + constant_depth value) (omega arith))
+    (length (p ∷ q ∷ ps) + message_levels value) (omega arith))
 
 named_within : (at : OptionScope) (message : Text) (value : ConstantSyntax)
-    (name : OptionNameSyntax) → length (name_parts name) ≤ 100 → constant_depth value ≤ 100
+    (name : OptionNameSyntax) → length (name_parts name) ≤ 100 → message_levels value ≤ 100
     → levels (named_items at message value name) ≤ 200
 named_within at message value (builtin name) few low = omega arith
 named_within at message value (custom []) few low = omega arith
 named_within at message value (custom (p ∷ ps)) few low =
     let inside : levels (path_items at value message (p ∷ ps))
-    ≤ length (p ∷ ps) + constant_depth value = path_within at value message p ps in
+    ≤ length (p ∷ ps) + message_levels value = path_within at value message p ps in
     omega arith
 
 pub never_too_deep : NeverTooDeep

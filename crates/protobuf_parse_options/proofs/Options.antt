@@ -51,7 +51,7 @@ use Rattle.protobuf_parse_options.specs.CustomFaults.{integer_faults, truth_faul
 use Rattle.protobuf_parse_options.specs.CustomFaults.{value_name_faults}
 use Rattle.protobuf_parse_options.specs.CustomFaults.{string_value_faults, message_value_faults}
 use Rattle.protobuf_parse_options.specs.CustomFaults.{number_faults, constant_name_faults}
-use Rattle.protobuf_parse_options.specs.CustomFaults.{value_faults, list_faults, field_faults}
+use Rattle.protobuf_parse_options.specs.CustomFaults.{constant_faults, list_faults, member_faults}
 use Rattle.protobuf_parse_options.specs.CustomFaults.{part_faults, step_faults, path_faults}
 use Rattle.protobuf_parse_options.specs.CustomFaults.{custom_faults, custom_name_faults}
 use Rattle.protobuf_parse_options.specs.CustomFaults.{custom_statement_faults}
@@ -395,7 +395,7 @@ constant_among at r message (url_name name) f e = absurd cc
 mutual
   value_suits : (at : OptionScope) → IsReadable at → (option message : Text) (f : FieldDescriptor)
       → Among (fields_at at.files message) f → number_faults f ≡ [] → (c : ConstantSyntax)
-      → value_faults at option f c ≡ []
+      → constant_faults at option f c ≡ []
       → Suits at.files (fields_at at.files message) (value_items at f c)
   value_suits at r option message f a n (integer z) e =
       number_suits at.files (fields_at at.files message) f
@@ -414,7 +414,7 @@ mutual
   value_suits at r option message f a n (fields fs) e =
       message_suits at.files (fields_at at.files message) f
       (used (fields_at at.files message) f a n) f.type_ refl
-      (field_faults at option (type_name_of f) fs) (field_items at (type_name_of f) fs) e
+      (member_faults at option (type_name_of f) fs) (field_items at (type_name_of f) fs) e
       (λ s h. held_inside at r message f a (field_items at (type_name_of f) fs) s
       (field_suits at r option (type_name_of f) fs h))
 
@@ -426,12 +426,12 @@ mutual
   list_suits at r option message f a n (more_constants c cs) e =
       suit_append at.files (fields_at at.files message) (value_items at f c) (list_items at f cs)
       (value_suits at r option message f a n c
-      (no_left (value_faults at option f c) (list_faults at option f cs) e))
+      (no_left (constant_faults at option f c) (list_faults at option f cs) e))
       (list_suits at r option message f a n cs
-      (no_right (value_faults at option f c) (list_faults at option f cs) e))
+      (no_right (constant_faults at option f c) (list_faults at option f cs) e))
 
   field_suits : (at : OptionScope) → IsReadable at
-      → (option message : Text) (fs : ConstantFieldList) → field_faults at option message fs ≡ []
+      → (option message : Text) (fs : ConstantFieldList) → member_faults at option message fs ≡ []
       → Suits at.files (fields_at at.files message) (field_items at message fs)
   field_suits at r option message no_fields e = tt
   field_suits at r option message (more_fields name c fs) e =
@@ -439,22 +439,22 @@ mutual
       (flat_map (λ (g : FieldDescriptor). value_items at g c)
       (option_to_list (constant_field at message name))) (field_items at message fs)
       (suit_found at.files (fields_at at.files message)
-      (λ (g : FieldDescriptor). number_faults g ++ value_faults at option g c)
+      (λ (g : FieldDescriptor). number_faults g ++ constant_faults at option g c)
       (λ (g : FieldDescriptor). value_items at g c) (constant_field at message name)
       (λ g h k. value_suits at r option message g (constant_among at r message name g h)
-      (no_left (number_faults g) (value_faults at option g c) k) c
-      (no_right (number_faults g) (value_faults at option g c) k))
+      (no_left (number_faults g) (constant_faults at option g c) k) c
+      (no_right (number_faults g) (constant_faults at option g c) k))
       (no_right (constant_name_faults at message name)
-      (flat_map (λ (g : FieldDescriptor). number_faults g ++ value_faults at option g c)
+      (flat_map (λ (g : FieldDescriptor). number_faults g ++ constant_faults at option g c)
       (option_to_list (constant_field at message name))) (no_left
       (constant_name_faults at message name
-      ++ flat_map (λ (g : FieldDescriptor). number_faults g ++ value_faults at option g c)
-      (option_to_list (constant_field at message name))) (field_faults at option message fs)
+      ++ flat_map (λ (g : FieldDescriptor). number_faults g ++ constant_faults at option g c)
+      (option_to_list (constant_field at message name))) (member_faults at option message fs)
       e)))
       (field_suits at r option message fs
       (no_right (constant_name_faults at message name
-      ++ flat_map (λ (g : FieldDescriptor). number_faults g ++ value_faults at option g c)
-      (option_to_list (constant_field at message name))) (field_faults at option message fs) e))
+      ++ flat_map (λ (g : FieldDescriptor). number_faults g ++ constant_faults at option g c)
+      (option_to_list (constant_field at message name))) (member_faults at option message fs) e))
 
 -- ---- names
 
@@ -471,11 +471,11 @@ path_suits : (at : OptionScope) → IsReadable at
 path_suits at r option value message [] e = tt
 path_suits at r option value message (p ∷ []) e =
     suit_found at.files (fields_at at.files message)
-    (λ (g : FieldDescriptor). number_faults g ++ value_faults at option g value)
+    (λ (g : FieldDescriptor). number_faults g ++ constant_faults at option g value)
     (λ (g : FieldDescriptor). value_items at g value) (part_field at message p)
     (λ g h k. value_suits at r option message g (part_among at r message p g h)
-    (no_left (number_faults g) (value_faults at option g value) k) value
-    (no_right (number_faults g) (value_faults at option g value) k))
+    (no_left (number_faults g) (constant_faults at option g value) k) value
+    (no_right (number_faults g) (constant_faults at option g value) k))
     (no_right (part_faults at message p) _ e)
 path_suits at r option value message (p ∷ q ∷ ps) e =
     suit_found at.files (fields_at at.files message)

@@ -16,7 +16,7 @@ use Rattle.protobuf_parse_syntax.proofs.Views.{views_list, views_fields}
 use Rattle.protobuf_parse_model.specs.declared.error.ElabFailure.{ElabFailure}
 use Rattle.protobuf_parse_model.specs.Faults.{Elaborates, Fault}
 use Rattle.protobuf_parse_model.specs.Descriptors.{Text, FieldDescriptor}
-use Rattle.protobuf_parse_options.specs.CustomFaults.{value_faults, list_faults, field_faults}
+use Rattle.protobuf_parse_options.specs.CustomFaults.{constant_faults, list_faults, member_faults}
 use Rattle.protobuf_parse_options.specs.CustomFaults.{message_value_faults, part_faults}
 use Rattle.protobuf_parse_options.specs.CustomFaults.{path_faults}
 use Rattle.protobuf_parse_options.specs.CustomOptions.{value_items, list_items, field_items}
@@ -29,9 +29,9 @@ use Rattle.protobuf_parse_wire.specs.Views.{WireItem}
 
 pub list_faults_are : (at : OptionScope) (option : Text) (f : FieldDescriptor)
     (cs : List ConstantSyntax) → list_faults at option f (constants cs) ≡ flat_map
-    (value_faults at option f) cs
+    (constant_faults at option f) cs
 list_faults_are at option f [] = refl
-list_faults_are at option f (c ∷ cs) = ap (λ xs. value_faults at option f c ++ xs)
+list_faults_are at option f (c ∷ cs) = ap (λ xs. constant_faults at option f c ++ xs)
     (list_faults_are at option f cs)
 
 pub list_items_are : (at : OptionScope) (f : FieldDescriptor) (cs : List ConstantSyntax)
@@ -40,7 +40,7 @@ list_items_are at f [] = refl
 list_items_are at f (c ∷ cs) = ap (λ xs. value_items at f c ++ xs) (list_items_are at f cs)
 
 pub field_faults_are : (at : OptionScope) (option message : Text) (fs : List ConstantFieldSyntax)
-    → field_faults at option message (constant_fields fs) ≡ flat_map
+    → member_faults at option message (constant_fields fs) ≡ flat_map
     (field_faults_of at option message) fs
 field_faults_are at option message [] = refl
 field_faults_are at option message (f ∷ fs) = ap
@@ -58,22 +58,23 @@ pub list_given : {X : Type 0} (view : X → List WireItem) (r : Result X ElabFai
     (at : OptionScope) (option : Text) (f : FieldDescriptor) (c : ProtobufConstant)
     (v : Vec ProtobufConstant) (xs : List ProtobufConstant) (old : List WireItem)
     → c ≡ Constants v → xs ≡ v.items
-    → Elaborates view r (flat_map (value_faults at option f) (map constant_view xs))
+    → Elaborates view r (flat_map (constant_faults at option f) (map constant_view xs))
     (old ++ flat_map (value_items at f) (map constant_view xs))
-    → Elaborates view r (value_faults at option f (constant_view c))
+    → Elaborates view r (constant_faults at option f (constant_view c))
     (old ++ value_items at f (constant_view c))
 list_given view r at option f c v xs old is same h =
     let cs = map constant_view v.items in
     let e : constant_view c ≡ list (constants cs) = ap constant_view is ∙ views_list v in
-    let fs : flat_map (value_faults at option f) cs ≡ value_faults at option f
-    (constant_view c) = sym (ap (value_faults at option f) e
+    let fs : flat_map (constant_faults at option f) cs ≡ constant_faults at option f
+    (constant_view c) = sym (ap (constant_faults at option f) e
     ∙ list_faults_are at option f cs) in
     let vs : flat_map (value_items at f) cs ≡ value_items at f (constant_view c) = sym
     (ap (value_items at f) e ∙ list_items_are at f cs) in
     let all = subst (λ (ys : List ProtobufConstant). Elaborates view r
-    (flat_map (value_faults at option f) (map constant_view ys))
+    (flat_map (constant_faults at option f) (map constant_view ys))
     (old ++ flat_map (value_items at f) (map constant_view ys))) same h in
-    subst (λ (items : List WireItem). Elaborates view r (value_faults at option f (constant_view c))
+    subst (λ (items : List WireItem). Elaborates view r
+    (constant_faults at option f (constant_view c))
     (old ++ items)) vs
     (subst (λ (faults : List Fault). Elaborates view r faults
     (old ++ flat_map (value_items at f) cs)) fs all)
@@ -86,15 +87,15 @@ pub message_given : {X : Type 0} (view : X → List WireItem) (r : Result X Elab
     (flat_map (field_faults_of at option (type_name_of f)) (map constant_field_view xs)))
     (old ++ item_of_message f (flat_map (given_field_items at (type_name_of f))
     (map constant_field_view xs)))
-    → Elaborates view r (value_faults at option f (constant_view c))
+    → Elaborates view r (constant_faults at option f (constant_view c))
     (old ++ value_items at f (constant_view c))
 message_given view r at option f c v xs old is same h =
     let cs = map constant_field_view v.items in
     let name = type_name_of f in
     let e : constant_view c ≡ fields (constant_fields cs) = ap constant_view is ∙ views_fields v in
     let fs : message_value_faults f.name (type_takes f.type_)
-    (flat_map (field_faults_of at option name) cs) ≡ value_faults at option f
-    (constant_view c) = sym (ap (value_faults at option f) e ∙ ap
+    (flat_map (field_faults_of at option name) cs) ≡ constant_faults at option f
+    (constant_view c) = sym (ap (constant_faults at option f) e ∙ ap
     (message_value_faults f.name (type_takes f.type_)) (field_faults_are at option name cs)) in
     let vs : item_of_message f (flat_map (given_field_items at name) cs) ≡ value_items at f
     (constant_view c) = sym (ap (value_items at f) e ∙ ap (item_of_message f)
@@ -104,7 +105,8 @@ message_given view r at option f c v xs old is same h =
     (flat_map (field_faults_of at option name) (map constant_field_view ys)))
     (old ++ item_of_message f (flat_map (given_field_items at name)
     (map constant_field_view ys)))) same h in
-    subst (λ (items : List WireItem). Elaborates view r (value_faults at option f (constant_view c))
+    subst (λ (items : List WireItem). Elaborates view r
+    (constant_faults at option f (constant_view c))
     (old ++ items)) vs
     (subst (λ (faults : List Fault). Elaborates view r faults
     (old ++ item_of_message f (flat_map (given_field_items at name) cs))) fs all)

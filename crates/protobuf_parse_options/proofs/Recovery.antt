@@ -24,7 +24,7 @@ use Rattle.protobuf_parse_options.specs.OptionLaw.{IsEntered, HasSmallValues, Is
 use Rattle.protobuf_parse_options.specs.OptionFields.{OptionScope, options_message, names_message}
 use Rattle.protobuf_parse_options.specs.OptionFields.{extension_meant, part_field}
 use Rattle.protobuf_parse_options.specs.CustomFaults.{extension_name_faults, number_faults}
-use Rattle.protobuf_parse_options.specs.CustomFaults.{value_faults}
+use Rattle.protobuf_parse_options.specs.CustomFaults.{constant_faults}
 use Rattle.protobuf_parse_options.specs.CustomFaults.{path_faults, custom_faults}
 use Rattle.protobuf_parse_options.specs.CustomFaults.{custom_name_faults}
 use Rattle.protobuf_parse_options.specs.CustomFaults.{custom_statement_faults}
@@ -85,7 +85,7 @@ first_extends : (at : OptionScope) (option : Text) (value : ConstantSyntax) (mes
 first_extends at option value message name [] h =
     extends_one at.files message name (extension_meant at name)
     (no_left (extension_name_faults at.files message name (extension_meant at name))
-    (flat_map (λ (g : FieldDescriptor). number_faults g ++ value_faults at option g value)
+    (flat_map (λ (g : FieldDescriptor). number_faults g ++ constant_faults at option g value)
     (option_to_list (part_field at message (extension name)))) h)
 first_extends at option value message name (q ∷ ps) h =
     extends_one at.files message name (extension_meant at name)

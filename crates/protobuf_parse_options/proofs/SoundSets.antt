@@ -32,7 +32,7 @@ use Rattle.protobuf_parse_model.specs.OptionSets.{OptionSet, sets_in_group, fiel
 use Rattle.protobuf_parse_model.specs.OptionSets.{extend_sets, value_set, enum_sets, sets_of}
 use Rattle.protobuf_parse_model.specs.OptionSets.{sets_in, message_sets, method_set, service_sets}
 use Rattle.protobuf_parse_model.specs.OptionSets.{statement_sets, option_sets}
-use Rattle.protobuf_parse_options.specs.OptionDepth.{constant_depth, list_depth, fields_depth}
+use Rattle.protobuf_parse_options.specs.OptionDepth.{message_levels, list_levels, field_levels}
 use Rattle.protobuf_parse_options.specs.OptionDepth.{OptionIsShallow}
 use Rattle.protobuf_parse_options.proofs.Sound.{SoundOption, SoundOptionStatement, SoundField}
 use Rattle.protobuf_parse_options.proofs.Sound.{SoundFields, SoundOneofStatement, SoundOneof}
@@ -48,7 +48,7 @@ less a b c d h k = omega (arith, h, k)
 
 mutual
   -- here lists count too
-  depth_less : (c : ConstantSyntax) → constant_depth c ≤ nesting.constant_depth c
+  depth_less : (c : ConstantSyntax) → message_levels c ≤ nesting.constant_depth c
   depth_less (tree.integer z) = omega arith
   depth_less (tree.truth b) = omega arith
   depth_less (tree.dotted n) = omega arith
@@ -56,16 +56,16 @@ mutual
   depth_less (tree.list cs) = let l = list_less cs in omega (arith, l)
   depth_less (tree.fields fs) = let l = fields_less fs in omega (arith, l)
 
-  list_less : (cs : ConstantList) → list_depth cs ≤ nesting.constants_depth cs
+  list_less : (cs : ConstantList) → list_levels cs ≤ nesting.constants_depth cs
   list_less tree.no_constants = omega arith
   list_less (tree.more_constants c cs) =
-      less (constant_depth c) (list_depth cs) (nesting.constant_depth c)
+      less (message_levels c) (list_levels cs) (nesting.constant_depth c)
       (nesting.constants_depth cs) (depth_less c) (list_less cs)
 
-  fields_less : (fs : ConstantFieldList) → fields_depth fs ≤ nesting.constant_fields_depth fs
+  fields_less : (fs : ConstantFieldList) → field_levels fs ≤ nesting.constant_fields_depth fs
   fields_less tree.no_fields = omega arith
   fields_less (tree.more_fields name c fs) =
-      less (constant_depth c) (fields_depth fs) (nesting.constant_depth c)
+      less (message_levels c) (field_levels fs) (nesting.constant_depth c)
       (nesting.constant_fields_depth fs) (depth_less c) (fields_less fs)
 
 -- ---- lists

@@ -39,7 +39,7 @@ use Rattle.protobuf_parse_options.specs.CustomFaults.{integer_faults, truth_faul
 use Rattle.protobuf_parse_options.specs.CustomFaults.{value_name_faults}
 use Rattle.protobuf_parse_options.specs.CustomFaults.{string_value_faults, message_value_faults}
 use Rattle.protobuf_parse_options.specs.CustomFaults.{number_faults, constant_name_faults}
-use Rattle.protobuf_parse_options.specs.CustomFaults.{value_faults, list_faults, field_faults}
+use Rattle.protobuf_parse_options.specs.CustomFaults.{constant_faults, list_faults, member_faults}
 use Rattle.protobuf_parse_options.specs.CustomFaults.{part_faults, step_faults, path_faults}
 use Rattle.protobuf_parse_options.specs.CustomFaults.{table_of}
 use Rattle.protobuf_parse_options.specs.CustomFaults.{option_names_in, builtin_step_faults}
@@ -144,7 +144,8 @@ value_name_fit name value _ n o small e = absurd cc
 
 mutual
   value_fit : (at : OptionScope) → HasSmallValues at.files
-      → (option : Text) (f : FieldDescriptor) (c : ConstantSyntax) → value_faults at option f c ≡ []
+      → (option : Text) (f : FieldDescriptor) (c : ConstantSyntax)
+      → constant_faults at option f c ≡ []
       → AreFit (value_items at f c)
   value_fit at small option f (integer z) e = number_fit f.name f.type_ _ z e
   value_fit at small option f (truth b) e = truth_fit f.name f.type_ _ b e
@@ -154,7 +155,7 @@ mutual
   value_fit at small option f (string pieces) e = string_fit option f.name f.type_ _ pieces _ e
   value_fit at small option f (list cs) e = list_fit at small option f cs e
   value_fit at small option f (fields fs) e =
-      message_fit f.name f.type_ _ (field_faults at option (type_name_of f) fs)
+      message_fit f.name f.type_ _ (member_faults at option (type_name_of f) fs)
       (field_items at (type_name_of f) fs) e (λ h. field_fit at small option (type_name_of f) fs h)
 
   list_fit : (at : OptionScope) → HasSmallValues at.files
@@ -164,34 +165,34 @@ mutual
   list_fit at small option f (more_constants c cs) e =
       fit_append (value_items at f c) (list_items at f cs)
       (value_fit at small option f c
-      (no_left (value_faults at option f c) (list_faults at option f cs) e))
+      (no_left (constant_faults at option f c) (list_faults at option f cs) e))
       (list_fit at small option f cs
-      (no_right (value_faults at option f c) (list_faults at option f cs) e))
+      (no_right (constant_faults at option f c) (list_faults at option f cs) e))
 
   field_fit : (at : OptionScope) → HasSmallValues at.files
-      → (option message : Text) (fs : ConstantFieldList) → field_faults at option message fs ≡ []
+      → (option message : Text) (fs : ConstantFieldList) → member_faults at option message fs ≡ []
       → AreFit (field_items at message fs)
   field_fit at small option message no_fields e = tt
   field_fit at small option message (more_fields name c fs) e =
       let front = no_left
       (constant_name_faults at message name
-      ++ flat_map (λ (g : FieldDescriptor). number_faults g ++ value_faults at option g c)
-      (option_to_list (constant_field at message name))) (field_faults at option message fs) e
+      ++ flat_map (λ (g : FieldDescriptor). number_faults g ++ constant_faults at option g c)
+      (option_to_list (constant_field at message name))) (member_faults at option message fs) e
       in
       fit_append
       (flat_map (λ (g : FieldDescriptor). value_items at g c)
       (option_to_list (constant_field at message name))) (field_items at message fs)
-      (fit_each (λ (g : FieldDescriptor). number_faults g ++ value_faults at option g c)
+      (fit_each (λ (g : FieldDescriptor). number_faults g ++ constant_faults at option g c)
       (λ (g : FieldDescriptor). value_items at g c)
       (λ g h. value_fit at small option g c (no_right (number_faults g) _ h))
       (option_to_list (constant_field at message name))
       (no_right (constant_name_faults at message name)
-      (flat_map (λ (g : FieldDescriptor). number_faults g ++ value_faults at option g c)
+      (flat_map (λ (g : FieldDescriptor). number_faults g ++ constant_faults at option g c)
       (option_to_list (constant_field at message name))) front))
       (field_fit at small option message fs
       (no_right (constant_name_faults at message name
-      ++ flat_map (λ (g : FieldDescriptor). number_faults g ++ value_faults at option g c)
-      (option_to_list (constant_field at message name))) (field_faults at option message fs) e))
+      ++ flat_map (λ (g : FieldDescriptor). number_faults g ++ constant_faults at option g c)
+      (option_to_list (constant_field at message name))) (member_faults at option message fs) e))
 
 -- ---- names
 
@@ -200,7 +201,7 @@ path_fit : (at : OptionScope) → HasSmallValues at.files
     → path_faults at option value message parts ≡ [] → AreFit (path_items at value message parts)
 path_fit at small option value message [] e = tt
 path_fit at small option value message (p ∷ []) e =
-    fit_each (λ (g : FieldDescriptor). number_faults g ++ value_faults at option g value)
+    fit_each (λ (g : FieldDescriptor). number_faults g ++ constant_faults at option g value)
     (λ (g : FieldDescriptor). value_items at g value)
     (λ g h. value_fit at small option g value (no_right (number_faults g) _ h)) _
     (no_right (part_faults at message p) _ e)

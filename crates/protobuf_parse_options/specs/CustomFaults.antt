@@ -114,30 +114,30 @@ constant_name_faults at message (url_name name) = fault TypeUrlInConstant (brack
 
 abbrev mutual
   -- of the constant that the option of that name gives to a field
-  pub value_faults : OptionScope → Text → FieldDescriptor → ConstantSyntax → List Fault
-  value_faults at option f (integer z) = integer_faults f.name (type_takes f.type_) z
-  value_faults at option f (truth b) = truth_faults f.name (type_takes f.type_)
-  value_faults at option f (dotted name) =
+  pub constant_faults : OptionScope → Text → FieldDescriptor → ConstantSyntax → List Fault
+  constant_faults at option f (integer z) = integer_faults f.name (type_takes f.type_) z
+  constant_faults at option f (truth b) = truth_faults f.name (type_takes f.type_)
+  constant_faults at option f (dotted name) =
       value_name_faults f.name (type_takes f.type_) name
       (number_of_value at.files (type_name_of f) name)
-  value_faults at option f (string pieces) =
+  constant_faults at option f (string pieces) =
       string_value_faults option f.name (type_takes f.type_) pieces
-  value_faults at option f (list cs) = list_faults at option f cs
-  value_faults at option f (fields fs) =
-      message_value_faults f.name (type_takes f.type_) (field_faults at option (type_name_of f) fs)
+  constant_faults at option f (list cs) = list_faults at option f cs
+  constant_faults at option f (fields fs) =
+      message_value_faults f.name (type_takes f.type_) (member_faults at option (type_name_of f) fs)
 
   pub list_faults : OptionScope → Text → FieldDescriptor → ConstantList → List Fault
   list_faults at option f no_constants = []
   list_faults at option f (more_constants c cs) =
-      value_faults at option f c ++ list_faults at option f cs
+      constant_faults at option f c ++ list_faults at option f cs
 
-  pub field_faults : OptionScope → Text → Text → ConstantFieldList → List Fault
-  field_faults at option message no_fields = []
-  field_faults at option message (more_fields name c fs) =
+  pub member_faults : OptionScope → Text → Text → ConstantFieldList → List Fault
+  member_faults at option message no_fields = []
+  member_faults at option message (more_fields name c fs) =
       constant_name_faults at message name
-      ++ flat_map (λ (g : FieldDescriptor). number_faults g ++ value_faults at option g c)
+      ++ flat_map (λ (g : FieldDescriptor). number_faults g ++ constant_faults at option g c)
       (option_to_list (constant_field at message name))
-      ++ field_faults at option message fs
+      ++ member_faults at option message fs
 
 -- ---- names
 
@@ -158,7 +158,7 @@ abbrev pub path_faults : OptionScope → Text → ConstantSyntax → Text → Li
 path_faults at option value message [] = []
 path_faults at option value message (p ∷ []) =
     part_faults at message p
-    ++ flat_map (λ (g : FieldDescriptor). number_faults g ++ value_faults at option g value)
+    ++ flat_map (λ (g : FieldDescriptor). number_faults g ++ constant_faults at option g value)
     (option_to_list (part_field at message p))
 path_faults at option value message (p ∷ q ∷ ps) =
     part_faults at message p

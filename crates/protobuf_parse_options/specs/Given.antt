@@ -12,7 +12,7 @@ use Rattle.protobuf_parse_model.specs.Faults.{Fault}
 use Rattle.protobuf_parse_options.specs.declared.fields.OptionPlace.{OptionPlace}
 use Rattle.protobuf_parse_options.specs.CustomFaults.{constant_name_faults, number_faults}
 use Rattle.protobuf_parse_options.specs.CustomFaults.{path_faults}
-use Rattle.protobuf_parse_options.specs.CustomFaults.{step_faults, value_faults}
+use Rattle.protobuf_parse_options.specs.CustomFaults.{step_faults, constant_faults}
 use Rattle.protobuf_parse_options.specs.CustomOptions.{item_of_message, path_items, value_items}
 use Rattle.protobuf_parse_options.specs.Holding.{files_seen}
 use Rattle.protobuf_parse_options.specs.OptionFields.{OptionScope, constant_field, type_takes}
@@ -32,7 +32,7 @@ path_said parts = option_path_text (map option_part_view parts)
 
 -- of a value for the field that a name means
 abbrev pub given_faults : OptionScope → Text → ConstantSyntax → FieldDescriptor → List Fault
-given_faults at option c g = number_faults g ++ value_faults at option g c
+given_faults at option c g = number_faults g ++ constant_faults at option g c
 
 abbrev pub field_faults_of : OptionScope → Text → Text → ConstantFieldSyntax → List Fault
 field_faults_of at option message f = constant_name_faults at message f.name ++ flat_map

@@ -16,18 +16,18 @@ use Rattle.protobuf_parse_options.specs.CustomOptions.{denotes}
 
 abbrev mutual
   -- how many message constants stand inside one another, the outer one too
-  pub constant_depth : ConstantSyntax → ℕ
-  constant_depth (list cs) = list_depth cs
-  constant_depth (fields fs) = suc (fields_depth fs)
-  constant_depth _ = 0
+  pub message_levels : ConstantSyntax → ℕ
+  message_levels (list cs) = list_levels cs
+  message_levels (fields fs) = suc (field_levels fs)
+  message_levels _ = 0
 
-  pub list_depth : ConstantList → ℕ
-  list_depth no_constants = 0
-  list_depth (more_constants c cs) = max (constant_depth c) (list_depth cs)
+  pub list_levels : ConstantList → ℕ
+  list_levels no_constants = 0
+  list_levels (more_constants c cs) = max (message_levels c) (list_levels cs)
 
-  pub fields_depth : ConstantFieldList → ℕ
-  fields_depth no_fields = 0
-  fields_depth (more_fields name c fs) = max (constant_depth c) (fields_depth fs)
+  pub field_levels : ConstantFieldList → ℕ
+  field_levels no_fields = 0
+  field_levels (more_fields name c fs) = max (message_levels c) (field_levels fs)
 
 abbrev pub name_parts : OptionNameSyntax → List OptionPartSyntax
 name_parts (builtin name) = []
@@ -36,7 +36,7 @@ name_parts (custom parts) = parts
 -- The name has at most 100 parts, and at most 100 message constants stand inside one another.
 pub record OptionIsShallow (o : OptionSyntax) : Type 0 where
   pub name : length (name_parts o.name) ≤ 100
-  pub value : constant_depth o.value ≤ 100
+  pub value : message_levels o.value ≤ 100
 
 -- What such statements denote has at most 200 messages inside one another, so that the reader never
 -- meets too many.

@@ -9,7 +9,7 @@ ghost use Rattle.protobuf_parse_model.specs.Faults.{Elaborates};
 ghost use Rattle.protobuf_parse_wire.specs.Trees as trees;
 ghost use Rattle.protobuf_parse_options.specs.CustomFaults.{integer_faults, message_value_faults};
 ghost use Rattle.protobuf_parse_options.specs.CustomFaults.{string_value_faults, truth_faults};
-ghost use Rattle.protobuf_parse_options.specs.CustomFaults.{value_faults};
+ghost use Rattle.protobuf_parse_options.specs.CustomFaults.{constant_faults};
 ghost use Rattle.protobuf_parse_options.specs.CustomOptions.{item_of, item_of_message, value_items};
 ghost use Rattle.protobuf_parse_options.specs.Given.{field_faults_of, given_field_items};
 ghost use Rattle.protobuf_parse_options.specs.Given.{given_faults};
@@ -41,7 +41,7 @@ pub fn push_value(
     ensures { let s = option_place_view at.now in let f = field_view field.now in
         let c = constant_view value.now in
         Elaborates (λ u. map entry_view entries.new.items) result
-        (value_faults s (path_said option.now) f c)
+        (constant_faults s (path_said option.now) f c)
         (map entry_view entries.old.items ++ value_items s f c) }
 {
     match value {
@@ -101,7 +101,7 @@ fn push_value_name(
     ensures { let s = option_place_view at.now in let f = field_view field.now in
         let c = dotted name.now in
         Elaborates (λ u. map entry_view entries.new.items) result
-        (value_faults s (path_said option.now) f c)
+        (constant_faults s (path_said option.now) f c)
         (map entry_view entries.old.items ++ value_items s f c) }
 {
     let number = lookup::number_of_value(at.known, type_name_of(field), name);
@@ -144,7 +144,7 @@ fn push_list(
     ensures { let s = option_place_view at.now in let f = field_view field.now in
         let cs = map constant_view items.now in
         Elaborates (λ u. map entry_view entries.new.items) result
-        (flat_map (value_faults s (path_said option.now) f) cs)
+        (flat_map (constant_faults s (path_said option.now) f) cs)
         (map entry_view entries.old.items ++ flat_map (value_items s f) cs) }
 {
     'items: for item in items {

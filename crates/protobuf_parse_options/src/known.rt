@@ -180,7 +180,7 @@ fn add_enums<'a>(
 // ---- extensions
 
 /// The extensions of the file, which has these messages.
-pub fn extensions_of<'a>(
+pub fn extensions_declared<'a>(
     alloc: Global,
     file: &'a FileDescriptorProto,
     messages: &[Known<&'a DescriptorProto>],

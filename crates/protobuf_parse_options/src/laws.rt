@@ -54,10 +54,11 @@ pub fn any_order()
     ensures { OrderMakesNoDifference }
 {}
 
-/// By files that are the same but for options the same bytes are read as the same, numbers of fields
-/// are distinct alike, and custom options denote the same and are wrong alike. Custom options change nothing in descriptors but
-/// options, so which ones a file sets itself makes no difference to what is read by its descriptor,
-/// nor to what custom options mean. It does nothing when called.
+/// By files that are the same but for options the same bytes are read as the same, numbers of
+/// fields are distinct alike, and custom options denote the same and are wrong alike. Custom
+/// options change nothing in descriptors but options, so which ones a file sets itself makes no
+/// difference to what is read by its descriptor, nor to what custom options mean. It does nothing
+/// when called.
 pub fn options_are_not_read()
     ensures reading { ReadingIgnoresOptions }
     ensures numbers { NumbersIgnoreOptions }

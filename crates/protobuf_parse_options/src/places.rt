@@ -67,7 +67,7 @@ impl DeclaredPlaces {
     {
         let messages = known::messages_of(alloc, descriptor)?;
         let enums = known::enums_of(alloc, descriptor, &messages)?;
-        let extensions = known::extensions_of(alloc, descriptor, &messages)?;
+        let extensions = known::extensions_declared(alloc, descriptor, &messages)?;
         read_enums(&enums);
         put_all(&mut self.messages, alloc, file, &messages)?;
         put_all(&mut self.enums, alloc, file, &enums)?;

@@ -13,9 +13,11 @@ use Rattle.protobuf_parse_model.specs.Linking.{before_others, link_faults}
 use Rattle.protobuf_parse_model.proofs.Orders.{SameMembers, first-among, just-same, link-none}
 use Rattle.protobuf_parse_model.proofs.Orders.{link-told, types-same}
 use Rattle.protobuf_parse_options.specs.OptionBytes.{known_customs}
-use Rattle.protobuf_parse_run.specs.Walks.{Trees, Reaches, HandsOn, Sees, sees_itself, by_import, among}
-use Rattle.protobuf_parse_run.specs.Run.{Files, HasTrees, HaveTrees, IsTree, customs_of, environment_of}
-use Rattle.protobuf_parse_run.specs.Run.{faults_in, plain_of, plains_at, text_for}
+use Rattle.protobuf_parse_run.specs.Walks.{Trees, Reaches, HandsOn, Sees, sees_itself, by_import}
+use Rattle.protobuf_parse_run.specs.Walks.{among}
+use Rattle.protobuf_parse_run.specs.Run.{Files, HasTrees, HaveTrees, IsTree, customs_of}
+use Rattle.protobuf_parse_run.specs.Run.{environment_of}
+use Rattle.protobuf_parse_run.specs.Run.{faults_at, plain_of, plains_at, text_for}
 use Rattle.protobuf_parse_run.specs.Stability.{AgreeOn, DeclaresOnce, IsAlike, WereRead}
 use Rattle.protobuf_parse_run.proofs.Keeping.{or_right}
 use Rattle.protobuf_parse_run.proofs.Knowing.{public-imported, sees-reaches}
@@ -213,8 +215,8 @@ module _ (old new : Files) (p : Text) (was : WereRead old) (is : WereRead new)
         ∙ ap (λ (c : Customs). others_by (trees_at old.trees (old.seen p)) c t)
         (same-customs none)
 
-    faults-some : (f : Fault) → Among (faults_in old p (Some t)) f
-        → Among (faults_in new p (Some t)) f
+    faults-some : (f : Fault) → Among (faults_at old p (Some t)) f
+        → Among (faults_at new p (Some t)) f
     faults-some f m =
         elim (which-told linked (others old p t) f m) [
           | inl w ↦ told-before relinked (others new p t) f (link-stays f w)
@@ -222,14 +224,14 @@ module _ (old new : Files) (p : Text) (was : WereRead old) (is : WereRead new)
               (subst (λ (fs : List Fault). Among fs f) (sym (others-same w.0)) w.1)
         ]
 
-  faults-at : (o : Option FileSyntax) (f : Fault) → Among (faults_in old p o) f
-      → Among (faults_in new p o) f
+  faults-at : (o : Option FileSyntax) (f : Fault) → Among (faults_at old p o) f
+      → Among (faults_at new p o) f
   faults-at None f m = m
   faults-at (Some t) f m = faults-some t f m
 
-  pub faults-stay : (f : Fault) → Among (faults_in old p (old.trees p)) f
-      → Among (faults_in new p (new.trees p)) f
-  faults-stay f m = subst (λ (o : Option FileSyntax). Among (faults_in new p o) f)
+  pub faults-stay : (f : Fault) → Among (faults_at old p (old.trees p)) f
+      → Among (faults_at new p (new.trees p)) f
+  faults-stay f m = subst (λ (o : Option FileSyntax). Among (faults_at new p o) f)
       (sym (agree p (stays p))) (faults-at (old.trees p) f m)
 
 pub alike : (old new : Files) (p : Text) → WereRead old → WereRead new

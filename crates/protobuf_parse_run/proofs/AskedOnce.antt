@@ -16,15 +16,18 @@ use Rattle.protobuf_parse_run.specs.declared.log.ReadEntry.{ReadEntry}
 use Rattle.protobuf_parse_run.specs.declared.log.ReadOutcome.{ReadOutcome}
 use Rattle.protobuf_parse_run.specs.Walks.{Asked, the_resolver, the_reader, Input, named, at, Event}
 use Rattle.protobuf_parse_run.specs.Walks.{cycle, long, load, check, elab, has, keep, among, Trees}
-use Rattle.protobuf_parse_run.specs.Walks.{import_paths, walks_joined, events_inside, walk, FileRead}
+use Rattle.protobuf_parse_run.specs.Walks.{import_paths, walks_joined, events_inside, walk}
+use Rattle.protobuf_parse_run.specs.Walks.{FileRead}
 use Rattle.protobuf_parse_run.specs.Walks.{reads_in, checks}
 use Rattle.protobuf_parse_run.specs.Walks.{input_walk, events_after, events, until}
 use Rattle.protobuf_parse_run.specs.Run.{AreAnswered, AreAskedOnce, RunEnds, Files, IsAskedOnce}
 use Rattle.protobuf_parse_run.specs.Run.{RunsAsTold}
-use Rattle.protobuf_parse_run.specs.Run.{fails, if_placed, if_reader, placed, placed_reads, resolved_in}
+use Rattle.protobuf_parse_run.specs.Run.{fails, if_placed, if_reader, placed, placed_reads}
+use Rattle.protobuf_parse_run.specs.Run.{resolved_in}
 use Rattle.protobuf_parse_run.specs.Loading.{Legal}
 use Rattle.protobuf_parse_run.proofs.Following.{AllFollow, all-follow, follows-front}
-use Rattle.protobuf_parse_run.proofs.Keeping.{bool_cases, has-last, keep-fresh, has-left, never_both}
+use Rattle.protobuf_parse_run.proofs.Keeping.{bool_cases, has-last, keep-fresh, has-left}
+use Rattle.protobuf_parse_run.proofs.Keeping.{never_both}
 use Rattle.protobuf_parse_run.proofs.Keeping.{reads_in-append, text-true}
 use Rattle.protobuf_parse_run.proofs.Listed.{have-lists}
 use Rattle.protobuf_parse_run.proofs.Steps.{has-asked}

@@ -6,7 +6,8 @@ use Rattle.std.specs.Prelude.{option_to_list}
 use Rattle.std.proofs.lemmas.List.{length-map, map-append}
 use Rattle.protobuf_parse_model.specs.Descriptors.{FileDescriptor}
 use Rattle.protobuf_parse_options.specs.Holding.{Holds}
-use Rattle.protobuf_parse_run.specs.Loading.{IndexBegins, LoadedEntry, IsWhole, picked_plains, plain_in}
+use Rattle.protobuf_parse_run.specs.Loading.{IndexBegins, LoadedEntry, IsWhole, picked_plains}
+use Rattle.protobuf_parse_run.specs.Loading.{plain_in}
 use Rattle.protobuf_parse_run.specs.Loading.{plains_with}
 use Rattle.protobuf_parse_run.specs.declared.tables.RunPlaces.{RunPlaces}
 

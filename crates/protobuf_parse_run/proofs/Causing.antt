@@ -11,9 +11,11 @@ use Rattle.protobuf_parse_run.specs.declared.fault.ResolveFault.{ResolveFault}
 use Rattle.protobuf_parse_run.specs.declared.fault.ReadInputFault.{ReadInputFault}
 use Rattle.protobuf_parse_run.specs.declared.log.ReadOutcome.{ReadOutcome}
 use Rattle.protobuf_parse_run.specs.declared.log.ReadOutcome.TheVariants as outcome
-use Rattle.protobuf_parse_run.specs.Walks.{Asked, the_resolver, the_reader, Event, cycle, long, load}
+use Rattle.protobuf_parse_run.specs.Walks.{Asked, the_resolver, the_reader, Event, cycle, long}
+use Rattle.protobuf_parse_run.specs.Walks.{load}
 use Rattle.protobuf_parse_run.specs.Walks.{check, elab, FileRead, reads_in}
-use Rattle.protobuf_parse_run.specs.Run.{AreAnswered, RunEnds, Files, IsCaused, RunIsRefused, MayAnswer}
+use Rattle.protobuf_parse_run.specs.Run.{AreAnswered, RunEnds, Files, IsCaused, RunIsRefused}
+use Rattle.protobuf_parse_run.specs.Run.{MayAnswer}
 use Rattle.protobuf_parse_run.specs.Run.{MayRead}
 use Rattle.protobuf_parse_run.specs.Run.{MayResolve, Resolved, StandsAtEvent, WasRead, answer_at}
 use Rattle.protobuf_parse_run.specs.Run.{answer_for}

@@ -12,14 +12,16 @@ use Rattle.protobuf_parse_run.specs.declared.log.ReadEntry.{ReadEntry}
 use Rattle.protobuf_parse_run.specs.declared.log.ReadOutcome.{ReadOutcome}
 use Rattle.protobuf_parse_run.specs.Walks.{the_resolver, the_reader, Event, load, check, elab, has}
 use Rattle.protobuf_parse_run.specs.Walks.{among, at, checks, FileRead, reads_in}
-use Rattle.protobuf_parse_run.specs.Run.{Files, AreAnswered, StandsInCheck, answer_at, are_same_bytes}
+use Rattle.protobuf_parse_run.specs.Run.{Files, AreAnswered, StandsInCheck, answer_at}
+use Rattle.protobuf_parse_run.specs.Run.{are_same_bytes}
 use Rattle.protobuf_parse_run.specs.Run.{fails, first_read, text_for, text_given}
 use Rattle.protobuf_parse_run.specs.Loading.{Legal, LoadedEntry, file_at, read_paths, Goes, GoesOn}
 use Rattle.protobuf_parse_run.specs.Loading.{Good}
 use Rattle.protobuf_parse_run.specs.Loading.{Stops}
 use Rattle.protobuf_parse_run.specs.Run.{OrMemory}
 use Rattle.protobuf_parse_run.proofs.Keeping.{text-same, or_left, has-in, has-left, has-one}
-use Rattle.protobuf_parse_run.proofs.Keeping.{reads_in-append, elab_paths-append, among-in, find-none}
+use Rattle.protobuf_parse_run.proofs.Keeping.{reads_in-append, elab_paths-append, among-in}
+use Rattle.protobuf_parse_run.proofs.Keeping.{find-none}
 use Rattle.protobuf_parse_run.proofs.Steps.{read_paths-append, answers-more, get-seam, get-grown}
 use Rattle.protobuf_parse_run.proofs.Steps.{loaded-more, loaded-at, all-into}
 use Rattle.protobuf_parse_run.proofs.Walking.{settled-more}

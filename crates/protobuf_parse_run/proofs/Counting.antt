@@ -5,7 +5,8 @@ use Rattle.std.proofs.Common.{Result, sym, ◌∙◌, ap, subst, append-nil, app
 use Rattle.protobuf_parse_syntax.specs.Trees.{FileSyntax}
 use Rattle.protobuf_parse_model.specs.Descriptors.{Text}
 use Rattle.protobuf_parse_run.specs.declared.fault.RunFault.{RunFault}
-use Rattle.protobuf_parse_run.specs.Walks.{Asked, the_resolver, Event, Input, cycle, long, load, check}
+use Rattle.protobuf_parse_run.specs.Walks.{Asked, the_resolver, Event, Input, cycle, long, load}
+use Rattle.protobuf_parse_run.specs.Walks.{check}
 use Rattle.protobuf_parse_run.specs.Walks.{elab, has, keep, at, named, Trees, checks, import_paths}
 use Rattle.protobuf_parse_run.specs.Walks.{input_walk, events, events_after, reads_in}
 use Rattle.protobuf_parse_run.specs.Walks.{import_statements}

@@ -12,7 +12,8 @@ use Rattle.std.proofs.lemmas.Map.Text.{btree_map_updates_text}
 use Rattle.protobuf_parse_model.specs.Descriptors.{Text}
 use Rattle.protobuf_parse_run.specs.Loading.{LoadedEntry, file_at}
 use Rattle.protobuf_parse_run.specs.Loaded.{HasNumbers, LoadedList, number_in}
-use Rattle.protobuf_parse_run.proofs.Keeping.{text-true, text-same, bool_cases, some_same, none_some}
+use Rattle.protobuf_parse_run.proofs.Keeping.{text-true, text-same, bool_cases, some_same}
+use Rattle.protobuf_parse_run.proofs.Keeping.{none_some}
 use Rattle.protobuf_parse_run.proofs.Keeping.{never_both, not_true}
 
 -- ** a file that is found

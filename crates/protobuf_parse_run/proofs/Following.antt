@@ -8,7 +8,8 @@ use Rattle.protobuf_parse_syntax.specs.Trees.{FileSyntax}
 use Rattle.protobuf_parse_model.specs.Descriptors.{Text}
 use Rattle.protobuf_parse_run.specs.declared.log.ReadEntry.{ReadEntry}
 use Rattle.protobuf_parse_run.specs.declared.log.ReadOutcome.{ReadOutcome}
-use Rattle.protobuf_parse_run.specs.Walks.{Asked, the_resolver, Input, named, at, Event, cycle, long}
+use Rattle.protobuf_parse_run.specs.Walks.{Asked, the_resolver, Input, named, at, Event, cycle}
+use Rattle.protobuf_parse_run.specs.Walks.{long}
 use Rattle.protobuf_parse_run.specs.Walks.{load, check, elab, has, keep, among, Trees, import_paths}
 use Rattle.protobuf_parse_run.specs.Walks.{walks_joined, events_inside, walk, FileRead, reads_in}
 use Rattle.protobuf_parse_run.specs.Walks.{checks, input_name}

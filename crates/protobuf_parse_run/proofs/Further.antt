@@ -11,21 +11,24 @@ use Rattle.protobuf_parse_model.specs.FileDescriptor.{file_faults, file_of}
 use Rattle.protobuf_parse_model.specs.FilesByPath.{leads, stays, trees_at}
 use Rattle.protobuf_parse_model.specs.Linking.{link_faults}
 use Rattle.protobuf_parse_model.specs.declared.descriptor.FileDescriptorProto.{FileDescriptorProto}
-use Rattle.protobuf_parse_run.specs.Walks.{Asked, the_resolver, Input, named, at, Event, cycle, long}
+use Rattle.protobuf_parse_run.specs.Walks.{Asked, the_resolver, Input, named, at, Event, cycle}
+use Rattle.protobuf_parse_run.specs.Walks.{long}
 use Rattle.protobuf_parse_run.specs.Walks.{load, check, elab, same_event, has, keep, among, Trees}
 use Rattle.protobuf_parse_run.specs.Walks.{Reaches}
 use Rattle.protobuf_parse_run.specs.Walks.{import_paths, walks_joined, events_inside, walk, checks}
 use Rattle.protobuf_parse_run.specs.Walks.{input_walk}
 use Rattle.protobuf_parse_run.specs.Walks.{events_after, events, elab_paths, input_name, asked_of}
 use Rattle.protobuf_parse_run.specs.Walks.{reads_in}
-use Rattle.protobuf_parse_run.specs.Run.{Files, AreDescriptors, environment_of, fails, faults_in}
+use Rattle.protobuf_parse_run.specs.Run.{Files, AreDescriptors, environment_of, fails, faults_at}
 use Rattle.protobuf_parse_run.specs.Run.{is_nothing}
 use Rattle.protobuf_parse_run.specs.Loading.{Within}
 use Rattle.protobuf_parse_run.specs.Stability.{AgreeOn, DeclaresOnce, WereRead, IsAlike, IsClean}
 use Rattle.protobuf_parse_run.specs.Stability.{IsFileOfRun, order}
 use Rattle.protobuf_parse_run.proofs.Keeping.{bool_cases, clean-has, cycle-same, elab_paths-append}
-use Rattle.protobuf_parse_run.proofs.Keeping.{has-elab, has-here, has-in, has-last, has-left, has-like}
-use Rattle.protobuf_parse_run.proofs.Keeping.{has-one, has-right, keep-extends, long-same, never_both}
+use Rattle.protobuf_parse_run.proofs.Keeping.{has-elab, has-here, has-in, has-last, has-left}
+use Rattle.protobuf_parse_run.proofs.Keeping.{has-like}
+use Rattle.protobuf_parse_run.proofs.Keeping.{has-one, has-right, keep-extends, long-same}
+use Rattle.protobuf_parse_run.proofs.Keeping.{never_both}
 use Rattle.protobuf_parse_run.proofs.Keeping.{or_cases, or_left, or_right, some_same, text-same}
 use Rattle.protobuf_parse_run.proofs.Keeping.{text-true}
 use Rattle.protobuf_parse_run.proofs.Walking.{walk-load, walk-no_room, walk-on_chain}
@@ -436,14 +439,14 @@ module _ (files : Files) (inputs : List Input) (clean : IsClean files inputs) wh
 
   -- no fault stands in them
   pub faultless-file : (p : Text) (t : FileSyntax) → files.trees p ≡ Some t
-      → IsFileOfRun files.trees inputs p → faults_in files p (Some t) ≡ []
+      → IsFileOfRun files.trees inputs p → faults_at files p (Some t) ≡ []
   faultless-file p t is h =
       elim (bool_cases (fails files (elab p))) [
         | inl w ↦ absurd
             (never_both _ (has-elab p all ∙ h)
             (clean-has (fails files) all (elab p) (elab-same p) clean w))
-        | inr w ↦ nothing-there (faults_in files p (Some t))
-            (subst (λ (o : Option FileSyntax). not (is_nothing (faults_in files p o)) ≡ false)
+        | inr w ↦ nothing-there (faults_at files p (Some t))
+            (subst (λ (o : Option FileSyntax). not (is_nothing (faults_at files p o)) ≡ false)
             is w)
       ]
 

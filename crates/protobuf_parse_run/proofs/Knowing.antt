@@ -11,10 +11,13 @@ use Rattle.protobuf_parse_model.specs.Descriptors.{Text}
 use Rattle.protobuf_parse_model.specs.FilesByPath.{AreDistinct, Leads, leads, stays}
 use Rattle.protobuf_parse_model.specs.Tables.{TableTells}
 use Rattle.protobuf_parse_run.specs.declared.tables.Tables.{Tables}
-use Rattle.protobuf_parse_run.specs.Walks.{Trees, Reaches, HandsOn, Sees, sees_itself, by_import, among}
+use Rattle.protobuf_parse_run.specs.Walks.{Trees, Reaches, HandsOn, Sees, sees_itself, by_import}
+use Rattle.protobuf_parse_run.specs.Walks.{among}
 use Rattle.protobuf_parse_run.specs.Walks.{import_paths, public_path, public_paths, public_paths_of}
-use Rattle.protobuf_parse_run.specs.Loading.{Agrees, AllHold, AreKnown, FilesAreNumbered, AreNumbersOf}
-use Rattle.protobuf_parse_run.specs.Loading.{AreUnloaded, IndexBegins, LoadedEntry, Grows, IsAddedOver}
+use Rattle.protobuf_parse_run.specs.Loading.{Agrees, AllHold, AreKnown, FilesAreNumbered}
+use Rattle.protobuf_parse_run.specs.Loading.{AreNumbersOf}
+use Rattle.protobuf_parse_run.specs.Loading.{AreUnloaded, IndexBegins, LoadedEntry, Grows}
+use Rattle.protobuf_parse_run.specs.Loading.{IsAddedOver}
 use Rattle.protobuf_parse_run.specs.Loading.{IsMetAt}
 use Rattle.protobuf_parse_run.specs.Loading.{Named, file_at, held, named_trees, paths_in, plain_in}
 use Rattle.protobuf_parse_run.specs.Loading.{read_paths, trees_of, with_next}

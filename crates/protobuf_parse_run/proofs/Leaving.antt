@@ -17,7 +17,8 @@ use Rattle.protobuf_parse_run.specs.declared.loader.Placed.{Placed}
 use Rattle.protobuf_parse_run.specs.declared.log.ReadEntry.{ReadEntry}
 use Rattle.protobuf_parse_run.specs.declared.log.ReadOutcome.{ReadOutcome}
 use Rattle.protobuf_parse_run.specs.Walks.{Asked, Event, load, keep, among, walk}
-use Rattle.protobuf_parse_run.specs.Run.{Files, IsTheTree, StandsAtEvent, StandsInCycle, StandsInLong}
+use Rattle.protobuf_parse_run.specs.Run.{Files, IsTheTree, StandsAtEvent, StandsInCycle}
+use Rattle.protobuf_parse_run.specs.Run.{StandsInLong}
 use Rattle.protobuf_parse_run.specs.Run.{StandsInLoad, StandsInElab, text_given, is_nothing}
 use Rattle.protobuf_parse_run.specs.Loading.{Legal, LoadedEntry, IsElabFault, file_at, Grows, Good}
 use Rattle.protobuf_parse_run.specs.Loading.{Stops}

@@ -8,7 +8,8 @@ use Rattle.protobuf_parse_syntax.specs.Trees.{FileSyntax}
 use Rattle.protobuf_parse_model.specs.Descriptors.{Text}
 use Rattle.protobuf_parse_model.specs.FilesByPath.{AreJust, leads, stays}
 use Rattle.protobuf_parse_model.proofs.Closing.{closed}
-use Rattle.protobuf_parse_run.specs.Walks.{Trees, Reaches, HandsOn, Sees, sees_itself, by_import, among}
+use Rattle.protobuf_parse_run.specs.Walks.{Trees, Reaches, HandsOn, Sees, sees_itself, by_import}
+use Rattle.protobuf_parse_run.specs.Walks.{among}
 use Rattle.protobuf_parse_run.specs.Walks.{import_paths, public_paths}
 use Rattle.protobuf_parse_run.specs.Run.{HasTrees, HaveLists, IsTree, text_read}
 use Rattle.protobuf_parse_run.specs.Loading.{read_paths}

@@ -15,7 +15,8 @@ use Rattle.protobuf_parse_run.specs.Run.{Files}
 use Rattle.protobuf_parse_run.specs.Loading.{Legal, LoadedEntry, GoesOn, Good, Grows, IsPlaced}
 use Rattle.protobuf_parse_run.specs.Loading.{ReadsTree}
 use Rattle.protobuf_parse_run.specs.Loading.{Stops, file_at}
-use Rattle.protobuf_parse_run.specs.Frames.{IsNew, IsSame, Meets, StandsMet, done_in, owed, frame_path}
+use Rattle.protobuf_parse_run.specs.Frames.{IsNew, IsSame, Meets, StandsMet, done_in, owed}
+use Rattle.protobuf_parse_run.specs.Frames.{frame_path}
 use Rattle.protobuf_parse_run.proofs.Keeping.{has-last, keep-fresh}
 use Rattle.protobuf_parse_run.proofs.Walking.{settled-nil}
 use Rattle.protobuf_parse_run.proofs.Steps.{breaks-now, fresh-load, get-seam, good-load, has-asked}

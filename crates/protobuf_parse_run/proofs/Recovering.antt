@@ -34,8 +34,9 @@ use Rattle.protobuf_parse_options.proofs.WithoutOptions.{customs_are_options}
 use Rattle.protobuf_parse_options.proofs.WithoutOptions.{customs_make_no_difference}
 use Rattle.protobuf_parse_options.proofs.WithoutOptions.{meaning_ignores_options}
 use Rattle.protobuf_parse_run.specs.Walks.{Asked, Input, Reaches, elab_paths, events}
-use Rattle.protobuf_parse_run.specs.Run.{Files, FilesAreListed, RunEnds, HasTrees, IsTree, RunsAsTold}
-use Rattle.protobuf_parse_run.specs.Run.{environment_of, faults_in, plain_environments, plains_at}
+use Rattle.protobuf_parse_run.specs.Run.{Files, FilesAreListed, RunEnds, HasTrees, IsTree}
+use Rattle.protobuf_parse_run.specs.Run.{RunsAsTold}
+use Rattle.protobuf_parse_run.specs.Run.{environment_of, faults_at, plain_environments, plains_at}
 use Rattle.protobuf_parse_run.specs.Run.{text_read}
 use Rattle.protobuf_parse_run.specs.Recovered.{HoldsOptions, IsReadBack, OptionsAreHeld, bytes_in}
 use Rattle.protobuf_parse_run.specs.Recovered.{AreFilesTogether, AreNumberedApart}

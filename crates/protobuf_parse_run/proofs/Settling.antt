@@ -26,17 +26,20 @@ use Rattle.protobuf_parse_model.proofs.Orders.{SameMembers, just-same, link-none
 use Rattle.protobuf_parse_model.proofs.Orders.{types-same}
 use Rattle.protobuf_parse_model.proofs.Picks.{Rises, rises}
 use Rattle.protobuf_parse_options.specs.OptionBytes.{known_customs}
-use Rattle.protobuf_parse_run.specs.Walks.{Trees, Reaches, HandsOn, Sees, sees_itself, by_import, among}
+use Rattle.protobuf_parse_run.specs.Walks.{Trees, Reaches, HandsOn, Sees, sees_itself, by_import}
+use Rattle.protobuf_parse_run.specs.Walks.{among}
 use Rattle.protobuf_parse_run.specs.Walks.{import_paths}
 use Rattle.protobuf_parse_run.specs.Run.{Files, FilesAreListed, StandsInElab, customs_of}
 use Rattle.protobuf_parse_run.specs.Run.{environment_of}
-use Rattle.protobuf_parse_run.specs.Run.{faults_in, origin_given, plain_of, plains_at}
+use Rattle.protobuf_parse_run.specs.Run.{faults_at, origin_given, plain_of, plains_at}
 use Rattle.protobuf_parse_run.specs.Loading.{Agrees, AreJoined, AreKnown, FilesAreNumbered}
 use Rattle.protobuf_parse_run.specs.Loading.{AreNumbersOf}
 use Rattle.protobuf_parse_run.specs.Loading.{LoadedEntry, IsLoaded, IsNumbered, Named}
 use Rattle.protobuf_parse_run.specs.Loading.{Settles}
-use Rattle.protobuf_parse_run.specs.Loading.{SettlesOver, customs_over, faults_over, file_at, file_over}
-use Rattle.protobuf_parse_run.specs.Loading.{named_trees, paths_in, picked_plains, plain_in, plain_over}
+use Rattle.protobuf_parse_run.specs.Loading.{SettlesOver, customs_over, faults_over, file_at}
+use Rattle.protobuf_parse_run.specs.Loading.{file_over}
+use Rattle.protobuf_parse_run.specs.Loading.{named_trees, paths_in, picked_plains, plain_in}
+use Rattle.protobuf_parse_run.specs.Loading.{plain_over}
 use Rattle.protobuf_parse_run.specs.Loading.{plains_next, trees_of, with_next}
 use Rattle.protobuf_parse_run.specs.declared.fault.RunFault.{RunFault}
 use Rattle.protobuf_parse_run.specs.declared.fault.RunFault.TheVariants as fault
@@ -45,7 +48,8 @@ use Rattle.protobuf_parse_run.specs.declared.log.ReadEntry.{ReadEntry}
 use Rattle.protobuf_parse_run.specs.declared.reach.Held.TheVariants as held_as
 use Rattle.protobuf_parse_run.proofs.Keeping.{or_cases, or_left, or_right, among-append, text-same}
 use Rattle.protobuf_parse_run.proofs.Keeping.{text-true}
-use Rattle.protobuf_parse_run.proofs.Knowing.{agrees-push, next-trees, leads-out, once-push, sees-out}
+use Rattle.protobuf_parse_run.proofs.Knowing.{agrees-push, next-trees, leads-out, once-push}
+use Rattle.protobuf_parse_run.proofs.Knowing.{sees-out}
 use Rattle.protobuf_parse_run.proofs.Knowing.{sees-reaches}
 use Rattle.protobuf_parse_run.proofs.Numbers.{numbers-joined, only-one}
 use Rattle.protobuf_parse_run.proofs.Reordering.{HavePackages, customs-same}
@@ -437,7 +441,7 @@ module _ (files : Files) (loaded : List LoadedEntry) (tables : Tables) (log : Li
   over-linked h = none-before linked others_over (sym over-is ∙ h)
 
   pub over-faultless : faults_over (with_next loaded t) plains reach sight t ≡ []
-      → faults_in files p (Some t) ≡ []
+      → faults_at files p (Some t) ≡ []
   over-faultless h =
       let first = over-linked h in
       no-others linked_in (others files p t) (link-again first)
@@ -458,7 +462,7 @@ module _ (files : Files) (loaded : List LoadedEntry) (tables : Tables) (log : Li
 
   pub over-told : (f : elaborating.Fault)
       → Among (faults_over (with_next loaded t) plains reach sight t) f
-      → Among (faults_in files p (Some t)) f
+      → Among (faults_at files p (Some t)) f
   over-told f m =
       elim (which-told linked others_over f
       (subst (λ (fs : List elaborating.Fault). Among fs f) over-is m)) [
@@ -514,7 +518,7 @@ settled-in files loaded new tables after p t height read below public log (Err f
       | inl w ↦
           inl (stands-more (origin_given p (Some e.outcome))
           (faults_over (with_next loaded t) (plains_next loaded w.1 p t) w.0 w.1 t)
-          (faults_in files p (Some t)) f
+          (faults_at files p (Some t)) f
           (λ g m. over-told files loaded tables log p t below n w.0 w.1 w.2 w.3 g m) w.4)
       | inr w ↦ inr w
     ]

@@ -23,7 +23,8 @@ use Rattle.protobuf_parse_run.specs.declared.loader.Placed.{Placed}
 use Rattle.protobuf_parse_run.specs.Walks.{Event, Trees, public_path, public_paths_of}
 use Rattle.protobuf_parse_run.specs.Loading.{chain_texts}
 use Rattle.protobuf_parse_run.specs.Frames.{AreWaiting, IsWaiting, Joined, chain_of, first_path}
-use Rattle.protobuf_parse_run.specs.Frames.{imports_in, later_in, left_in, left_over, owed, frame_path}
+use Rattle.protobuf_parse_run.specs.Frames.{imports_in, later_in, left_in, left_over, owed}
+use Rattle.protobuf_parse_run.specs.Frames.{frame_path}
 use Rattle.protobuf_parse_run.specs.Frames.{public_in, to_meet, todo, weight}
 
 -- ** one frame more

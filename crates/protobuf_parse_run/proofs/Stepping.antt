@@ -18,20 +18,24 @@ use Rattle.protobuf_parse_run.specs.declared.frame.LoadFrame.{LoadFrame}
 use Rattle.protobuf_parse_run.specs.declared.loader.Placed.{Placed}
 use Rattle.protobuf_parse_run.specs.declared.log.ReadEntry.{ReadEntry}
 use Rattle.protobuf_parse_run.specs.declared.log.ReadOutcome.{ReadOutcome}
-use Rattle.protobuf_parse_run.specs.Walks.{Asked, the_resolver, Event, load, elab, keep, among, Trees}
+use Rattle.protobuf_parse_run.specs.Walks.{Asked, the_resolver, Event, load, elab, keep, among}
+use Rattle.protobuf_parse_run.specs.Walks.{Trees}
 use Rattle.protobuf_parse_run.specs.Walks.{import_paths, walks_joined, import_statements, walk}
-use Rattle.protobuf_parse_run.specs.Run.{Files, StandsInElab, environment_of, faults_in, first_read}
+use Rattle.protobuf_parse_run.specs.Run.{Files, StandsInElab, environment_of, faults_at, first_read}
 use Rattle.protobuf_parse_run.specs.Run.{origin_given, plain_of}
 use Rattle.protobuf_parse_run.specs.Loading.{Legal, AreKnown, FilesAreNumbered, LoadedEntry, GoesOn}
 use Rattle.protobuf_parse_run.specs.Loading.{Good, Grows}
-use Rattle.protobuf_parse_run.specs.Loading.{IsAdded, IsLoaded, Leaves, Settled, Settles, SettlesOver}
+use Rattle.protobuf_parse_run.specs.Loading.{IsAdded, IsLoaded, Leaves, Settled, Settles}
+use Rattle.protobuf_parse_run.specs.Loading.{SettlesOver}
 use Rattle.protobuf_parse_run.specs.Loading.{Stops, Within, file_at, path_shape, imports_shape}
 use Rattle.protobuf_parse_run.specs.Loading.{named_trees}
-use Rattle.protobuf_parse_run.specs.Frames.{IsHeld, IsNew, IsOpened, IsRunning, IsSame, IsTaken, Joined}
+use Rattle.protobuf_parse_run.specs.Frames.{IsHeld, IsNew, IsOpened, IsRunning, IsSame, IsTaken}
+use Rattle.protobuf_parse_run.specs.Frames.{Joined}
 use Rattle.protobuf_parse_run.specs.Frames.{chain_of, done_in, imports_in, later_in, left_in, owed}
 use Rattle.protobuf_parse_run.specs.Frames.{frame_path, to_meet, todo}
 use Rattle.protobuf_parse_run.proofs.Keeping.{among-last, has-left, keep-append, keep-fresh}
-use Rattle.protobuf_parse_run.proofs.Walking.{joined-append, settled-join, settled-more, settled-same}
+use Rattle.protobuf_parse_run.proofs.Walking.{joined-append, settled-join, settled-more}
+use Rattle.protobuf_parse_run.proofs.Walking.{settled-same}
 use Rattle.protobuf_parse_run.proofs.Walking.{walk-load}
 use Rattle.protobuf_parse_run.proofs.Steps.{breaks-now, get-grown, good-elab, halts-at, room-is}
 use Rattle.protobuf_parse_run.proofs.Steps.{stops-more}
@@ -425,12 +429,12 @@ module _ (legal : Legal) (files : Files) (kept events : List Event) (i : Text) (
           elim (settles r.held.entry r.held.found r.held.named) [
             | inl stands ↦
                 let here : StandsInElab (origin_given p (first_read p files.reads))
-                (faults_in files p (files.trees p)) f =
+                (faults_at files p (files.trees p)) f =
                 subst (λ (o : Option ReadOutcome). StandsInElab (origin_given p o)
-                (faults_in files p (files.trees p)) f) (sym r.held.first) (subst
+                (faults_at files p (files.trees p)) f) (sym r.held.first) (subst
                 (λ (o : Option FileSyntax). StandsInElab
                 (origin_given p (Some r.held.entry.outcome))
-                (faults_in files p o) f) (sym r.held.is) stands) in
+                (faults_at files p o) f) (sym r.held.is) stands) in
                 inl (halts-at legal files r.now loaded log (chain_of [] stack ++ p ∷ []) _
                 (elab p) f r.good (stands-failing _ _ f here) refl refl here)
             | inr memory ↦ inr

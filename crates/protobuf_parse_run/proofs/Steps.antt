@@ -18,13 +18,16 @@ use Rattle.protobuf_parse_run.specs.declared.log.ReadEntry.{ReadEntry}
 use Rattle.protobuf_parse_run.specs.declared.log.ReadOutcome.{ReadOutcome}
 use Rattle.protobuf_parse_run.specs.Walks.{Asked, the_resolver, Event, cycle, long, load, elab, has}
 use Rattle.protobuf_parse_run.specs.Walks.{keep, among, import_paths, walk, FileRead, reads_in}
-use Rattle.protobuf_parse_run.specs.Run.{Files, HasTrees, faults_in, IsTree, IsTheTree, text_given}
+use Rattle.protobuf_parse_run.specs.Run.{Files, HasTrees, faults_at, IsTree, IsTheTree, text_given}
 use Rattle.protobuf_parse_run.specs.Run.{first_read, fails, AreAnswered, StandsAtEvent}
-use Rattle.protobuf_parse_run.specs.Loading.{Legal, LoadedEntry, paths_of, file_at, read_paths, Grows}
-use Rattle.protobuf_parse_run.specs.Loading.{Settled, path_shape, imports_shape, IsLoaded, Good, Halts}
+use Rattle.protobuf_parse_run.specs.Loading.{Legal, LoadedEntry, paths_of, file_at, read_paths}
+use Rattle.protobuf_parse_run.specs.Loading.{Grows}
+use Rattle.protobuf_parse_run.specs.Loading.{Settled, path_shape, imports_shape, IsLoaded, Good}
+use Rattle.protobuf_parse_run.specs.Loading.{Halts}
 use Rattle.protobuf_parse_run.specs.Loading.{Stops}
 use Rattle.protobuf_parse_run.specs.Run.{OrMemory}
-use Rattle.protobuf_parse_run.proofs.Keeping.{never_both, false_true, some_same, none_some, text-true}
+use Rattle.protobuf_parse_run.proofs.Keeping.{never_both, false_true, some_same, none_some}
+use Rattle.protobuf_parse_run.proofs.Keeping.{text-true}
 use Rattle.protobuf_parse_run.proofs.Keeping.{text-same, cycle-same, long-same, or_left, bool_cases}
 use Rattle.protobuf_parse_run.proofs.Keeping.{not_true, has-append, has-in, has-left, has-right}
 use Rattle.protobuf_parse_run.proofs.Keeping.{has-one, has-last, has-like, keep-extends, keep-all}
@@ -230,7 +233,7 @@ module _ (legal : Legal) (files : Files) where
       (chain : List Text) (p : Text) (t : FileSyntax) (h : ℕ) (n : LoadedEntry)
       → Good legal files kept loaded log (chain ++ p ∷ []) → among p chain ≡ false
       → has (load the_resolver p) kept ≡ true → files.trees p ≡ Some t
-      → faults_in files p (Some t) ≡ []
+      → faults_at files p (Some t) ≡ []
       → Settled kept h (imports_shape files.trees (import_paths t)) → string_bytes n.0 ≡ p
       → n.1.height ≡ suc h → IsLoaded files log p n.1
       → Good legal files (kept ++ elab p ∷ []) (loaded ++ n ∷ []) log chain

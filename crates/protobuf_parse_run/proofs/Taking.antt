@@ -22,7 +22,8 @@ use Rattle.protobuf_parse_run.specs.Loading.{Grows}
 use Rattle.protobuf_parse_run.specs.Loading.{IsNumbered, MoreLoaded, Named, SettlesOver, file_at}
 use Rattle.protobuf_parse_run.specs.Loading.{named_trees, read_paths}
 use Rattle.protobuf_parse_run.specs.Frames.{IsOpened, IsTaken, Joined, done_in, imports_in}
-use Rattle.protobuf_parse_run.specs.Frames.{is_public_at, number_if, frame_path, public_done, public_in}
+use Rattle.protobuf_parse_run.specs.Frames.{is_public_at, number_if, frame_path, public_done}
+use Rattle.protobuf_parse_run.specs.Frames.{public_in}
 use Rattle.protobuf_parse_run.proofs.Keeping.{among-in, among-left, among-last}
 use Rattle.protobuf_parse_run.proofs.Knowing.{known-push, met-push, read-since, unloaded-push}
 use Rattle.protobuf_parse_run.proofs.Numbers.{are-append, are-more, name_of}

@@ -13,7 +13,8 @@ use Rattle.protobuf_parse_run.specs.declared.log.ReadEntry.{ReadEntry}
 use Rattle.protobuf_parse_run.specs.declared.log.ReadOutcome.{ReadOutcome}
 use Rattle.protobuf_parse_run.specs.Walks.{the_resolver, Event, Input, named, events, until}
 use Rattle.protobuf_parse_run.specs.Run.{Files, AreDescriptors, HasTrees, IsAccepted, IsCaused}
-use Rattle.protobuf_parse_run.specs.Run.{RunIsRefused, IsBroken, MayRead, MayResolve, fails, shipped}
+use Rattle.protobuf_parse_run.specs.Run.{RunIsRefused, IsBroken, MayRead, MayResolve, fails}
+use Rattle.protobuf_parse_run.specs.Run.{shipped}
 use Rattle.protobuf_parse_run.specs.Run.{HaveTrees, RunsAsTold, MayAnswer}
 use Rattle.protobuf_parse_run.specs.Shipped.{IsNeverAsked, RunsByResolver, RunsWithShipped}
 use Rattle.protobuf_parse_run.specs.Loading.{Legal, LoadedEntry, Good, Stops, IsLoaded, paths_of}

@@ -7,7 +7,8 @@ use Rattle.protobuf_parse_syntax.specs.Trees.{FileSyntax}
 use Rattle.protobuf_parse_model.specs.Descriptors.{Text}
 use Rattle.protobuf_parse_run.specs.Walks.{Asked, the_resolver, Event, cycle, long, load, elab}
 use Rattle.protobuf_parse_run.specs.Walks.{same_event}
-use Rattle.protobuf_parse_run.specs.Walks.{has, among, Trees, import_paths, walks_joined, events_inside}
+use Rattle.protobuf_parse_run.specs.Walks.{has, among, Trees, import_paths, walks_joined}
+use Rattle.protobuf_parse_run.specs.Walks.{events_inside}
 use Rattle.protobuf_parse_run.specs.Walks.{walk}
 use Rattle.protobuf_parse_run.specs.Loading.{Within, Apart, Settled, WalkShape, path_shape}
 use Rattle.protobuf_parse_run.specs.Loading.{imports_shape}

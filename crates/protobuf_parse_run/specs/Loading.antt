@@ -47,8 +47,9 @@ use Rattle.protobuf_parse_run.specs.declared.log.ReadOutcome.TheVariants as outc
 use Rattle.protobuf_parse_run.specs.declared.source.Sources.{Sources}
 use Rattle.protobuf_parse_run.specs.Run.{Files, MayAnswer, MayRead, MayResolve, FilesAreListed}
 use Rattle.protobuf_parse_run.specs.Run.{HasTrees, OrMemory}
-use Rattle.protobuf_parse_run.specs.Run.{faults_in, IsTheTree, text_read, environment_of, plain_of}
-use Rattle.protobuf_parse_run.specs.Run.{first_read, fails, said, text_given, origin_given, AreAnswered}
+use Rattle.protobuf_parse_run.specs.Run.{faults_at, IsTheTree, text_read, environment_of, plain_of}
+use Rattle.protobuf_parse_run.specs.Run.{first_read, fails, fault_said, text_given, origin_given}
+use Rattle.protobuf_parse_run.specs.Run.{AreAnswered}
 use Rattle.protobuf_parse_run.specs.Run.{StandsAtEvent, StandsInLoad, StandsInElab, IsUnparsed}
 
 -- the answers that who is asked for a path may give
@@ -347,7 +348,8 @@ IsUnreadable own given (fault.CouldNotReadFile path why) = (string_bytes path �
 IsUnreadable own given _ = ⊥
 
 abbrev pub IsUnresolved : Text → ResolveFault → RunFault → Type 0
-IsUnresolved p given (fault.Resolver path why) = (string_bytes path ≡ p) × (said why ≡ said given)
+IsUnresolved p given (fault.Resolver path why) = (string_bytes path ≡ p)
+    × (fault_said why ≡ fault_said given)
 IsUnresolved p given _ = ⊥
 
 abbrev pub IsParseFault : Text → Text → RunFault → Type 0
@@ -392,7 +394,7 @@ pub record IsAdded (files : Files) (path : Text) (tree : FileSyntax) (height rea
   pub tree_is : file_view file.tree ≡ tree
   pub height_is : file.height ≡ height
   pub read_is : file.read ≡ read
-  pub faultless : faults_in files path (Some tree) ≡ []
+  pub faultless : faults_at files path (Some tree) ≡ []
   pub descriptor : described.file_view file.descriptor
       ≡ file_of (environment_of files path tree) path tree
   pub plain : plain_or file.plain file.descriptor ≡ plain_of files path tree
@@ -441,7 +443,7 @@ Settles files path tree height read log old new (Ok placed) = file_at path old �
 Settles files path tree height read log old new (Err f) = (e : ReadEntry)
     → slice_get log read ≡ Some e → path_buf_text e.path ≡ path
     → OrMemory f
-    (StandsInElab (origin_given path (Some e.outcome)) (faults_in files path (Some tree)) f)
+    (StandsInElab (origin_given path (Some e.outcome)) (faults_at files path (Some tree)) f)
 
 -- the trees of the loaded files, and behind them that of the next
 abbrev pub with_next : List LoadedEntry → FileSyntax → List FileSyntax

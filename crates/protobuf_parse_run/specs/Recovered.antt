@@ -23,7 +23,8 @@ use Rattle.protobuf_parse_options.specs.Recovery.{HasCustom, HaveDistinctNumbers
 use Rattle.protobuf_parse_wire.specs.Trees.{Entries}
 use Rattle.protobuf_parse_wire.specs.Wire.{Spells}
 use Rattle.protobuf_parse_run.specs.Walks.{Input}
-use Rattle.protobuf_parse_run.specs.Run.{Files, FilesAreListed, HasTrees, customs_of, environment_of}
+use Rattle.protobuf_parse_run.specs.Run.{Files, FilesAreListed, HasTrees, customs_of}
+use Rattle.protobuf_parse_run.specs.Run.{environment_of}
 use Rattle.protobuf_parse_run.specs.Stability.{order}
 use Rattle.protobuf_parse_run.specs.declared.fault.RunFault.{RunFault}
 use Rattle.protobuf_parse_run.specs.declared.log.ReadEntry.{ReadEntry}
@@ -72,7 +73,8 @@ pub record HoldsOptions (files : Files) (run : List Text) (p : Text) (s : Option
   -- in which at most 200 messages stand inside one another
   pub shallow : depth (denoted_in files p s) ≤ 200
   -- Where one is set they are read back by the files that p reaches, and so by those that any other
-  -- file of the run reaches which reaches p. Asked for is that numbers of fields are distinct there.
+  -- file of the run reaches which reaches p. Asked for is that numbers of fields are distinct
+  -- there.
   pub read : HasCustom s.statements → (q : Text) → among q run ≡ true
       → among p (files.reached q) ≡ true → AreNumberedApart files (files.reached q)
       → IsReadBack files (files.reached q) p s

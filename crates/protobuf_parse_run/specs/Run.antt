@@ -168,12 +168,12 @@ environment_of files p t =
 
 -- the faults that stand in a file: names that are declared twice in the files that it reaches, or
 -- else its own, or else those of its custom options
-abbrev pub faults_in : Files → Text → Option FileSyntax → List elaborating.Fault
-faults_in files p (Some t) =
+abbrev pub faults_at : Files → Text → Option FileSyntax → List elaborating.Fault
+faults_at files p (Some t) =
     elaboration_faults (trees_at files.trees (files.reached p))
     (trees_at files.trees (files.seen p))
     (plains_at files (files.reached p)) (plains_at files (files.seen p)) t
-faults_in files p None = []
+faults_at files p None = []
 
 -- the bytes of the read with this number, which an input's own path was read by
 abbrev pub content_at : Files → ℕ → Option Text
@@ -184,7 +184,7 @@ fails files (cycle p) = true
 fails files (long i) = true
 fails files (load a p) = not (is_some (files.trees p))
 fails files (check n f p) = not (are_same_bytes (content_at files n) (text_for files p))
-fails files (elab p) = not (is_nothing (faults_in files p (files.trees p)))
+fails files (elab p) = not (is_nothing (faults_at files p (files.trees p)))
 
 -- ---- which fault stands where an event fails
 
@@ -199,10 +199,10 @@ pub data ResolverSays : Type 0 where
   unreadable : Text → ResolverSays
   refuses : Text → ResolverSays
 
-abbrev pub said : ResolveFault → ResolverSays
-said refused.Memory = no_memory
-said (refused.CouldNotRead path) = unreadable (string_bytes path)
-said (refused.Refused reason) = refuses (string_bytes reason)
+abbrev pub fault_said : ResolveFault → ResolverSays
+fault_said refused.Memory = no_memory
+fault_said (refused.CouldNotRead path) = unreadable (string_bytes path)
+fault_said (refused.Refused reason) = refuses (string_bytes reason)
 
 -- the fault of a path that was asked so, whose answer and text are these
 abbrev pub StandsInLoad : Asked → Text → Option ReadOutcome → Option Text → RunFault → Type 0
@@ -214,7 +214,7 @@ StandsInLoad asked p answer text (fault.CouldNotReadFile path why) =
     (asked ≡ the_reader (string_bytes path)) × (answer ≡ Some (outcome.ReaderFault why))
 StandsInLoad asked p answer text (fault.Resolver path why) =
     (string_bytes path ≡ p) × (given : ResolveFault) × (answer ≡ Some (outcome.ResolverFault given))
-    × (said why ≡ said given)
+    × (fault_said why ≡ fault_said given)
 StandsInLoad asked p answer text (fault.Parse file error) =
     (string_bytes file ≡ origin_given p answer) × (bytes : Text) × (text ≡ Some bytes)
     × IsUtf8 bytes × IsUnparsed bytes error
@@ -248,7 +248,7 @@ StandsAtEvent files (long i) = StandsInLong i
 StandsAtEvent files (load asked p) = StandsInLoad asked p (answer_for files p) (text_for files p)
 StandsAtEvent files (check n own p) = StandsInCheck own p (answer_at files n)
 StandsAtEvent files (elab p) =
-    StandsInElab (origin_given p (answer_for files p)) (faults_in files p (files.trees p))
+    StandsInElab (origin_given p (answer_for files p)) (faults_at files p (files.trees p))
 
 -- ---- which answers are legal
 
@@ -338,7 +338,7 @@ OrMemory f P = P ⊎ (f ≡ fault.Memory)
 abbrev pub IsCaused : MayResolve → MayRead → RunFault → Type 0
 IsCaused resolve read (fault.Resolver path why) =
     (given : ResolveFault) × Resolved resolve (string_bytes path) (outcome.ResolverFault given)
-    × (said why ≡ said given)
+    × (fault_said why ≡ fault_said given)
 IsCaused resolve read (fault.CouldNotReadFile path why) =
     WasRead read (string_bytes path) (outcome.ReaderFault why)
 IsCaused resolve read _ = Unit {0}

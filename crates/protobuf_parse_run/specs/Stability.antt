@@ -10,7 +10,7 @@ use Rattle.protobuf_parse_model.specs.Linking.{link_faults}
 use Rattle.protobuf_parse_model.specs.declared.descriptor.FileDescriptorProto.{FileDescriptorProto}
 use Rattle.protobuf_parse_run.specs.Walks.{Input, Trees, Reaches, among, elab_paths, events}
 use Rattle.protobuf_parse_run.specs.Run.{Files, AreDescriptors, FilesAreListed, HasTrees, HaveTrees}
-use Rattle.protobuf_parse_run.specs.Run.{environment_of, fails, faults_in, text_for}
+use Rattle.protobuf_parse_run.specs.Run.{environment_of, fails, faults_at, text_for}
 
 -- these paths have the same trees, or none, in both
 abbrev pub AgreeOn : (Text → Type 0) → Trees → Trees → Type 0
@@ -37,10 +37,10 @@ DeclaresOnce files p = link_faults (trees_at files.trees (files.reached p)) ≡ 
 -- becomes the same.
 pub record IsAlike (old new : Files) (p : Text) : Type 0 where
   pub tree : new.trees p ≡ old.trees p
-  pub stay : (f : Fault) → Among (faults_in old p (old.trees p)) f
-      → Among (faults_in new p (new.trees p)) f
-  pub only : (f : Fault) → Among (faults_in new p (new.trees p)) f
-      → Among (faults_in old p (old.trees p)) f
+  pub stay : (f : Fault) → Among (faults_at old p (old.trees p)) f
+      → Among (faults_at new p (new.trees p)) f
+  pub only : (f : Fault) → Among (faults_at new p (new.trees p)) f
+      → Among (faults_at old p (old.trees p)) f
   pub becomes : (t : FileSyntax) → DeclaresOnce old p
       → file_of (environment_of new p t) p t ≡ file_of (environment_of old p t) p t
 

@@ -8,8 +8,9 @@ ghost use Rattle.protobuf_parse_base.specs.PathViews.{path_buf_text};
 ghost use Rattle.protobuf_parse_syntax.specs.Parsing.{HasTree};
 ghost use Rattle.protobuf_parse_syntax.specs.Trees.{FileSyntax, file_view};
 ghost use Rattle.protobuf_parse_run.specs.Walks.{the_resolver, the_reader};
-ghost use Rattle.protobuf_parse_run.specs.Run.{Resolved, WasRead, StandsInLoad, origin_given, row_of};
-ghost use Rattle.protobuf_parse_run.specs.Run.{rows, said, text_given, IsTheTree};
+ghost use Rattle.protobuf_parse_run.specs.Run.{Resolved, WasRead, StandsInLoad, origin_given};
+ghost use Rattle.protobuf_parse_run.specs.Run.{row_of};
+ghost use Rattle.protobuf_parse_run.specs.Run.{rows, fault_said, text_given, IsTheTree};
 ghost use Rattle.protobuf_parse_run.specs.Loading.{asked_by, legal_by, CanGive, IsUnreadable};
 ghost use Rattle.protobuf_parse_run.specs.Run.{OrMemory};
 ghost use Rattle.protobuf_parse_run.specs.Loading.{IsUnfound, IsUnresolved, IsParseFault};
@@ -179,7 +180,7 @@ fn unresolved(alloc: Global, path: &str, fault: &ResolveFault) -> RunFault
 }
 
 fn copy_of(alloc: Global, fault: &ResolveFault) -> Result<ResolveFault, AllocError>
-    ensures { IfOk result (λ copy. said copy ≡ said fault.now) }
+    ensures { IfOk result (λ copy. fault_said copy ≡ fault_said fault.now) }
 {
     match fault {
         ResolveFault::Memory => Ok(ResolveFault::Memory),

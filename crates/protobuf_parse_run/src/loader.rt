@@ -16,21 +16,25 @@ ghost use Rattle.protobuf_parse_model.specs.Tables.{TableTells};
 ghost use Rattle.protobuf_parse_run.specs.declared.fault.RunFault.TheVariants.{Memory};
 ghost use Rattle.protobuf_parse_run.specs.declared.log.ReadEntry.{ReadEntry};
 ghost use Rattle.protobuf_parse_model.specs.Descriptors.{Text};
-ghost use Rattle.protobuf_parse_run.specs.Walks.{Event, among, at, checks, events, input_walk, keep};
+ghost use Rattle.protobuf_parse_run.specs.Walks.{Event, among, at, checks, events, input_walk};
+ghost use Rattle.protobuf_parse_run.specs.Walks.{keep};
 ghost use Rattle.protobuf_parse_run.specs.Walks.{import_statements, walk};
 ghost use Rattle.protobuf_parse_run.specs.Run.{Files, IsCounted, are_same_bytes, input_view};
 ghost use Rattle.protobuf_parse_run.specs.Run.{StandsInCheck, StandsInCycle, StandsInElab};
 ghost use Rattle.protobuf_parse_run.specs.Run.{StandsInLong, origin_given, rows, text_given};
-ghost use Rattle.protobuf_parse_run.specs.Loading.{AreKnown, AreJoined, FilesAreNumbered, IndexBegins};
+ghost use Rattle.protobuf_parse_run.specs.Loading.{AreKnown, AreJoined, FilesAreNumbered};
+ghost use Rattle.protobuf_parse_run.specs.Loading.{IndexBegins};
 ghost use Rattle.protobuf_parse_run.specs.Loading.{Describes};
-ghost use Rattle.protobuf_parse_run.specs.Loading.{Goes, GoesOn, Good, Grows, IsDecided, IsElabFault};
+ghost use Rattle.protobuf_parse_run.specs.Loading.{Goes, GoesOn, Good, Grows, IsDecided};
+ghost use Rattle.protobuf_parse_run.specs.Loading.{IsElabFault};
 ghost use Rattle.protobuf_parse_run.specs.Loading.{IsPlaced, IsReaders, IsShadowed};
 ghost use Rattle.protobuf_parse_run.specs.Run.{OrMemory};
 ghost use Rattle.protobuf_parse_run.specs.Loading.{ReadsTree, SettlesOver, asked_by, faults_over};
 ghost use Rattle.protobuf_parse_run.specs.Loading.{legal_by, named_trees, plain_in, plain_or};
 ghost use Rattle.protobuf_parse_run.specs.Loading.{plains_over, plains_with, chain_texts, trees_of};
 ghost use Rattle.protobuf_parse_run.specs.Loading.{with_next};
-ghost use Rattle.protobuf_parse_run.specs.Frames.{Joined, Meets, is_public_at, number_if, StandsMet};
+ghost use Rattle.protobuf_parse_run.specs.Frames.{Joined, Meets, is_public_at, number_if};
+ghost use Rattle.protobuf_parse_run.specs.Frames.{StandsMet};
 ghost use Rattle.protobuf_parse_run.specs.Frames.{frame_path};
 
 use crate::asking::{answer, content, opened, origin, unreadable};
@@ -395,7 +399,7 @@ fn meet<R: ProtoPathResolver, I: InputReader>(
     if is_on_chain(&loader.chain, text) {
         return Err(cycle(alloc, text));
     }
-    if let Some(placed) = place_of(&loader.loaded, text) {
+    if let Some(placed) = placed_at(&loader.loaded, text) {
         if placed.height > LIMIT - loader.chain.len() {
             return Err(too_long(alloc, input));
         }
@@ -533,7 +537,7 @@ fn is_on_chain(chain: &[String], path: &str) -> bool
 }
 
 /// Where the file of this path stands, if it is loaded.
-fn place_of(loaded: &LoadedFiles, path: &str) -> Option<Placed>
+fn placed_at(loaded: &LoadedFiles, path: &str) -> Option<Placed>
     ensures { IsPlaced path.now loaded.now.entries result }
 {
     match loaded.find(path) {

@@ -26,7 +26,7 @@ use Rattle.protobuf_parse_wire.specs.Reading.{◌>>=◌, WireRead, Inner, Fields
 use Rattle.protobuf_parse_wire.specs.Reading.{varint_at, part_at, delimited_at, eight_at, four_at}
 use Rattle.protobuf_parse_wire.specs.Reading.{word_at, decoded, payload_at, typed_at, value_at}
 use Rattle.protobuf_parse_wire.specs.Reading.{record_at, records, message_at}
-use Rattle.protobuf_parse_wire.specs.Records.{IsRecord, AreRecords, StopsAt, RecordsAreJoined}
+use Rattle.protobuf_parse_wire.specs.Records.{IsRecord, AreRecords, BreaksOff, RecordsAreJoined}
 use Rattle.protobuf_parse_wire.specs.Records.{FaultsStandBehindRecords, FrontIsLongest}
 use Rattle.protobuf_parse_wire.proofs.Varint.{part_again}
 
@@ -238,7 +238,7 @@ is_record inner numbers bs f rest e =
 
 abbrev Outcome : Inner → FieldsByNumber → List ℕ → WireRead (List Field) → Type 0
 Outcome inner numbers bs (Ok fs) = AreRecords inner numbers bs fs
-Outcome inner numbers bs (Err e) = StopsAt inner numbers bs e
+Outcome inner numbers bs (Err e) = BreaksOff inner numbers bs e
 
 one_more : (inner : Inner) (numbers : FieldsByNumber) (bs part rest : List ℕ) (f : Field)
     → bs ≡ part ++ rest → IsRecord inner numbers part f → (r : WireRead (List Field))
@@ -346,7 +346,7 @@ fault_first inner numbers e zero (b ∷ bs) le some fault = absurd (omega arith)
 fault_first inner numbers e (suc n) (b ∷ bs) le some fault = rw fault refl
 
 records_err : (inner : Inner) (numbers : FieldsByNumber) (bs : List ℕ) (e : ReadFault)
-    → StopsAt inner numbers bs e → records inner numbers (length bs) bs ≡ Err e
+    → BreaksOff inner numbers bs e → records inner numbers (length bs) bs ≡ Err e
 records_err inner numbers bs e stops =
     ap (λ (z : List ℕ). records inner numbers (length z) z) stops.parts
     ∙ records_behind inner numbers stops.rest (Err e)
@@ -425,7 +425,7 @@ faults_stand_behind_records enter levels name bs e =
     told : (w : WireRead FieldsByNumber) → enter name ≡ w
         → (w >>= λ (numbers : FieldsByNumber). records inner numbers (length bs) bs) ≡ Err e
         → (enter name ≡ Err e) ⊎ ((numbers : FieldsByNumber) × (enter name ≡ Ok numbers)
-        × StopsAt inner numbers bs e)
+        × BreaksOff inner numbers bs e)
     told (Err f) is h = let same : f ≡ e = cc in inl (is ∙ ap (λ (z : ReadFault). Err z) same)
     told (Ok numbers) is h =
         inr (
@@ -439,7 +439,7 @@ faults_stand_behind_records enter levels name bs e =
     none_entered is = rw is refl
 
     stopped : (numbers : FieldsByNumber) × (enter name ≡ Ok numbers)
-        × StopsAt inner numbers bs e
+        × BreaksOff inner numbers bs e
         → message_at enter (suc levels) name bs ≡ Err e
     stopped h = rw h.1 (records_err inner h.0 bs e h.2)
 

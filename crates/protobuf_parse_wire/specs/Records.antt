@@ -22,7 +22,7 @@ abbrev pub AreRecords : Inner → FieldsByNumber → List ℕ → List Field →
 AreRecords inner numbers bs fs = Many (IsRecord inner numbers) bs fs
 
 -- The bytes begin with records, none or more, and are wrong at what stands behind these.
-pub record StopsAt (inner : Inner) (numbers : FieldsByNumber) (bs : List ℕ)
+pub record BreaksOff (inner : Inner) (numbers : FieldsByNumber) (bs : List ℕ)
     (e : ReadFault) : Type 0 where
   pub front : List ℕ
   pub rest : List ℕ
@@ -51,11 +51,11 @@ FaultsStandBehindRecords = (enter : Option Text → WireRead FieldsByNumber) (le
     (name : Option Text) (bs : List ℕ) (e : ReadFault)
     → (message_at enter (suc levels) name bs ≡ Err e)
     ↔ ((enter name ≡ Err e) ⊎ ((numbers : FieldsByNumber) × (enter name ≡ Ok numbers)
-    × StopsAt (message_at enter levels) numbers bs e))
+    × BreaksOff (message_at enter levels) numbers bs e))
 
 -- No longer front of the bytes than the one before the fault is records.
 abbrev pub FrontIsLongest : Type 0
 FrontIsLongest = (inner : Inner) (numbers : FieldsByNumber) (bs : List ℕ) (e : ReadFault)
-    (stop : StopsAt inner numbers bs e) (front rest : List ℕ) (fs : List Field)
+    (stop : BreaksOff inner numbers bs e) (front rest : List ℕ) (fs : List Field)
     → bs ≡ front ++ rest → AreRecords inner numbers front fs
     → length front ≤ length stop.front

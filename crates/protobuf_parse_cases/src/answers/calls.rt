@@ -2,8 +2,8 @@
 
 use anyhow::{Result, bail};
 use protobuf_parse::{
-    ProtobufAbsPath, ProtobufAbsPathRef, ProtobufIdent, ProtobufIdentRef, ProtobufRelPath,
-    ProtobufRelPathRef,
+    ProtoPath, ProtobufAbsPath, ProtobufAbsPathRef, ProtobufIdent, ProtobufIdentRef,
+    ProtobufRelPath, ProtobufRelPathRef,
 };
 use std::alloc::Global;
 
@@ -13,6 +13,10 @@ pub fn called(alloc: Global, text: &str) -> Result<String> {
     let words = text.split_whitespace().collect::<Vec<_>>(alloc)?;
     match words.as_slice() {
         [call, ident] if call.ends_with("_identifier") => of_identifier(alloc, call, ident),
+        ["own_path", path] => {
+            let owned = ProtoPath::new(path)?.to_proto_path_buf(alloc)?;
+            Ok(format!(in alloc; "{owned}")?)
+        }
         [call, path] => match ProtobufAbsPathRef::try_new(path) {
             Some(absolute) => of_absolute(alloc, call, absolute),
             None => of_relative(alloc, call, relative(path)?),
@@ -44,6 +48,11 @@ fn of_identifier(alloc: Global, call: &str, ident: &str) -> Result<String> {
 fn of_absolute(alloc: Global, call: &str, path: ProtobufAbsPathRef<'_>) -> Result<String> {
     match call {
         "to_owned" => shown(alloc, &path.to_owned(alloc)?),
+        "new_path" => shown(alloc, &ProtobufAbsPath::new(alloc, path.as_str())?),
+        "maybe_dot" if !path.is_root() => shown(
+            alloc,
+            &ProtobufAbsPath::from_path_maybe_dot(alloc, path.as_str())?,
+        ),
         "to_root_rel" => Ok(format!(in alloc; "{}", path.to_owned(alloc)?.to_root_rel(alloc)?)?),
         "self_and_parents" => {
             let mut text = String::new(alloc);
@@ -62,7 +71,6 @@ fn shown(alloc: Global, path: &ProtobufAbsPath) -> Result<String> {
 
 fn of_relative(alloc: Global, call: &str, path: ProtobufRelPathRef<'_>) -> Result<String> {
     match call {
-        "to_owned" => Ok(format!(in alloc; "{}", path.to_owned(alloc)?)?),
         "to_absolute" => shown(alloc, &path.to_absolute(alloc)?),
         "into_absolute" => shown(alloc, &path.to_owned(alloc)?.into_absolute(alloc)?),
         "new_from_rel" => shown(alloc, &ProtobufAbsPath::new_from_rel(alloc, path.as_str())?),
@@ -78,16 +86,25 @@ fn of_relative(alloc: Global, call: &str, path: ProtobufRelPathRef<'_>) -> Resul
             alloc,
             &ProtobufAbsPath::from_path_maybe_dot(alloc, path.as_str())?,
         ),
-        "from_components" => {
-            let idents = path.components().collect::<Vec<_>>(alloc)?;
-            Ok(format!(in alloc; "{}", ProtobufRelPath::from_components(alloc, &idents)?)?)
-        }
         "self_and_parents" => {
             let mut text = String::new(alloc);
             for front in path.self_and_parents(alloc)? {
                 write!(text, "{front};")?;
             }
             Ok(text)
+        }
+        _ => Ok(format!(in alloc; "{}", relative_of(alloc, call, path)?)?),
+    }
+}
+
+/// The relative path that a call gives for one.
+fn relative_of(alloc: Global, call: &str, path: ProtobufRelPathRef<'_>) -> Result<ProtobufRelPath> {
+    match call {
+        "to_owned" => Ok(path.to_owned(alloc)?),
+        "new_path" => Ok(ProtobufRelPath::new(alloc, path.as_str())?),
+        "from_components" => {
+            let idents = path.components().collect::<Vec<_>>(alloc)?;
+            Ok(ProtobufRelPath::from_components(alloc, &idents)?)
         }
         _ => bail!("no such call"),
     }

@@ -1,7 +1,7 @@
 use Rattle.std.proofs.Common.{◌≡◌, ◌++◌, [], map, flat_map, take}
 use Rattle.protobuf_parse_syntax.specs.Trees.{constant_field_view, constant_view}
 use Rattle.protobuf_parse_model.specs.Descriptors.{field_view}
-use Rattle.protobuf_parse_options.specs.CustomFaults.{value_faults}
+use Rattle.protobuf_parse_options.specs.CustomFaults.{constant_faults}
 use Rattle.protobuf_parse_options.specs.CustomOptions.{value_items}
 use Rattle.protobuf_parse_options.specs.Given.{field_faults_of, given_field_items}
 use Rattle.protobuf_parse_options.specs.Given.{option_place_view}
@@ -14,7 +14,7 @@ invariant-push_list-items l =
     let s = option_place_view l.at in
     let cs = map constant_view (take l.item-index l.items) in
     record {
-      no_fault : flat_map (value_faults s (path_said l.option) (field_view l.field)) cs ≡ [];
+      no_fault : flat_map (constant_faults s (path_said l.option) (field_view l.field)) cs ≡ [];
       all : map entry_view l.entries.items ≡ map entry_view l.fn.entries.items ++ flat_map
           (value_items s (field_view l.field)) cs;
     }

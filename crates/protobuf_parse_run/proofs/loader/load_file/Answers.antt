@@ -13,7 +13,8 @@ use Rattle.protobuf_parse_run.specs.declared.log.ReadEntry.{ReadEntry}
 use Rattle.protobuf_parse_run.specs.Walks.{walk}
 use Rattle.protobuf_parse_run.specs.Run.{rows}
 use Rattle.protobuf_parse_run.specs.Loading.{legal_by, Grows, MoreLoaded, asked_by, chain_texts}
-use Rattle.protobuf_parse_run.specs.Frames.{IsAgain, IsOpened, Joined, chain_of, imports_in, later_in}
+use Rattle.protobuf_parse_run.specs.Frames.{IsAgain, IsOpened, Joined, chain_of, imports_in}
+use Rattle.protobuf_parse_run.specs.Frames.{later_in}
 use Rattle.protobuf_parse_run.specs.Frames.{left_in, frame_path, to_meet}
 use Rattle.protobuf_parse_run.proofs.Keeping.{among-last}
 use Rattle.protobuf_parse_run.proofs.Steps.{Grows-trans}
@@ -22,16 +23,20 @@ use Rattle.protobuf_parse_run.proofs.Deciding.{decided-same}
 use Rattle.protobuf_parse_run.proofs.Knowing.{known-grows}
 use Rattle.protobuf_parse_run.proofs.Counting.{count-grows}
 use Rattle.protobuf_parse_run.proofs.Stacks.{at_get, chain_of-push, first_path-push, frames-pop}
-use Rattle.protobuf_parse_run.proofs.Stacks.{frames-push, imports_in-shorter, left-import, left-joined}
+use Rattle.protobuf_parse_run.proofs.Stacks.{frames-push, imports_in-shorter, left-import}
+use Rattle.protobuf_parse_run.proofs.Stacks.{left-joined}
 use Rattle.protobuf_parse_run.proofs.Stacks.{left-other, length-chain_of, less-close, less-new}
-use Rattle.protobuf_parse_run.proofs.Stacks.{less-next, none-left, none-texts, none_of, to_meet-push}
+use Rattle.protobuf_parse_run.proofs.Stacks.{less-next, none-left, none-texts, none_of}
+use Rattle.protobuf_parse_run.proofs.Stacks.{to_meet-push}
 use Rattle.protobuf_parse_run.proofs.Stacks.{waiting-pop, waiting-push}
 use Rattle.protobuf_parse_run.proofs.Taking.{all_taken-more, closed-is, taken-joined, taken-more}
 use Rattle.protobuf_parse_run.proofs.Taking.{taken-new, taken-other, unloaded-enter, unloaded-first}
 use Rattle.protobuf_parse_run.proofs.Meeting.{first-meets, first-stands}
-use Rattle.protobuf_parse_run.proofs.Stepping.{closed-breaks, counted-end, counted-next, counted-now}
+use Rattle.protobuf_parse_run.proofs.Stepping.{closed-breaks, counted-end, counted-next}
+use Rattle.protobuf_parse_run.proofs.Stepping.{counted-now}
 use Rattle.protobuf_parse_run.proofs.Stepping.{known-breaks, running-breaks, running-close}
-use Rattle.protobuf_parse_run.proofs.Stepping.{running-closes, running-end, running-known, running-new}
+use Rattle.protobuf_parse_run.proofs.Stepping.{running-closes, running-end, running-known}
+use Rattle.protobuf_parse_run.proofs.Stepping.{running-new}
 use Rattle.protobuf_parse_run.proofs.Stepping.{running-other, running-refused, running-start}
 use Rattle.protobuf_parse_run.proofs.Stepping.{running-stops}
 use Rattle.protobuf_parse_run.proofs.loader.load_file.Goals as goal

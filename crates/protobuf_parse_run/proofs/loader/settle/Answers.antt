@@ -4,7 +4,8 @@ use Rattle.std.proofs.lemmas.Result.{err_from_is_err_and}
 use Rattle.protobuf_parse_syntax.specs.Trees.{FileSyntax, file_view}
 use Rattle.protobuf_parse_model.specs.Descriptors.{FileDescriptor, Text}
 use Rattle.protobuf_parse_run.specs.Run.{StandsInElab, origin_given}
-use Rattle.protobuf_parse_run.specs.Loading.{IndexBegins, Describes, Named, faults_over, named_trees}
+use Rattle.protobuf_parse_run.specs.Loading.{IndexBegins, Describes, Named, faults_over}
+use Rattle.protobuf_parse_run.specs.Loading.{named_trees}
 use Rattle.protobuf_parse_run.specs.Loading.{plain_in, plains_next, trees_of, with_next}
 use Rattle.protobuf_parse_run.specs.declared.loader.LoadedFile.{LoadedFile}
 use Rattle.protobuf_parse_run.proofs.Catching.{plains-push}

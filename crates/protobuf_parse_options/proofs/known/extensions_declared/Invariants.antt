@@ -1,7 +1,7 @@
 use Rattle.std.proofs.Common.{◌≡◌, ◌++◌, drop}
 use Rattle.protobuf_parse_options.specs.Holding.{extensions_placed, messages_placed}
 use Rattle.protobuf_parse_options.specs.Places.{field_name, extensions_inside, placed_inside}
-use Rattle.protobuf_parse_options.proofs.known.extensions_of.Given as goal
+use Rattle.protobuf_parse_options.proofs.known.extensions_declared.Given as goal
 
 abbrev pub invariant-messages : goal.invariant-messages
 invariant-messages l =

@@ -1,7 +1,7 @@
 use Rattle.std.proofs.Common.{refl, sym}
 use Rattle.protobuf_parse_run.proofs.Finding.{numbered}
 use Rattle.protobuf_parse_run.proofs.Numbers.{numbered-at}
-use Rattle.protobuf_parse_run.proofs.loader.place_of.Goals as goal
+use Rattle.protobuf_parse_run.proofs.loader.placed_at.Goals as goal
 
 pub returns-in-Some : goal.returns-in-Some
 returns-in-Some c =
