@@ -17,9 +17,10 @@ use Rattle.protobuf_parse_model.specs.OptionNumbers.{file_numbers, message_numbe
 use Rattle.protobuf_parse_model.specs.OptionNumbers.{field_numbers, oneof_numbers, enum_numbers}
 use Rattle.protobuf_parse_model.specs.OptionNumbers.{enum_value_numbers, service_numbers}
 use Rattle.protobuf_parse_model.specs.OptionNumbers.{method_numbers}
-use Rattle.protobuf_parse_model.specs.OptionsSet.{file_options, message_options, field_options}
-use Rattle.protobuf_parse_model.specs.OptionsSet.{oneof_options, enum_options, enum_value_options}
-use Rattle.protobuf_parse_model.specs.OptionsSet.{service_options, method_options}
+use Rattle.protobuf_parse_model.specs.OptionMessages.{file_options, message_options, field_options}
+use Rattle.protobuf_parse_model.specs.OptionMessages.{oneof_options, enum_options}
+use Rattle.protobuf_parse_model.specs.OptionMessages.{enum_value_options}
+use Rattle.protobuf_parse_model.specs.OptionMessages.{service_options, method_options}
 use Rattle.protobuf_parse_listing.specs.Listing.{Setting, setting_line, setting_lines, custom_line}
 use Rattle.protobuf_parse_listing.specs.Listing.{truth_setting, optimize_for_word, ctype_word}
 use Rattle.protobuf_parse_listing.specs.Listing.{jstype_word}

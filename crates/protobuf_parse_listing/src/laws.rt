@@ -8,10 +8,10 @@ ghost use Rattle.protobuf_parse_model.specs.OptionNumbers.{enum_numbers, enum_va
 ghost use Rattle.protobuf_parse_model.specs.OptionNumbers.{field_numbers, file_numbers};
 ghost use Rattle.protobuf_parse_model.specs.OptionNumbers.{message_numbers, method_numbers};
 ghost use Rattle.protobuf_parse_model.specs.OptionNumbers.{oneof_numbers, service_numbers};
-ghost use Rattle.protobuf_parse_model.specs.OptionsSet.{enum_options, enum_value_options};
-ghost use Rattle.protobuf_parse_model.specs.OptionsSet.{field_options, file_options};
-ghost use Rattle.protobuf_parse_model.specs.OptionsSet.{message_options, method_options};
-ghost use Rattle.protobuf_parse_model.specs.OptionsSet.{oneof_options, service_options};
+ghost use Rattle.protobuf_parse_model.specs.OptionMessages.{enum_options, enum_value_options};
+ghost use Rattle.protobuf_parse_model.specs.OptionMessages.{field_options, file_options};
+ghost use Rattle.protobuf_parse_model.specs.OptionMessages.{message_options, method_options};
+ghost use Rattle.protobuf_parse_model.specs.OptionMessages.{oneof_options, service_options};
 ghost use Rattle.protobuf_parse_listing.specs.Listing.{enum_option_lines, enum_value_option_lines};
 ghost use Rattle.protobuf_parse_listing.specs.Listing.{field_option_lines, file_option_lines};
 ghost use Rattle.protobuf_parse_listing.specs.Listing.{message_option_lines, method_option_lines};

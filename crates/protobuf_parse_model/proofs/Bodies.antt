@@ -19,8 +19,8 @@ use Rattle.protobuf_parse_model.specs.Descriptors.{message_view, oneof_view, ser
 use Rattle.protobuf_parse_model.specs.Environment.{Environment}
 use Rattle.protobuf_parse_model.specs.Faults.{Elaborates, Fault}
 use Rattle.protobuf_parse_model.specs.Fields.{FieldPlace, field_statement_of}
-use Rattle.protobuf_parse_model.specs.Messages.{enums_of, extending, extensions_of, fields_of}
-use Rattle.protobuf_parse_model.specs.Messages.{has_own_oneof, in_oneof, message_of, nested_of}
+use Rattle.protobuf_parse_model.specs.Messages.{enums_of, extending, extended_of, fields_of}
+use Rattle.protobuf_parse_model.specs.Messages.{has_own_oneof, at_oneof, message_of, nested_of}
 use Rattle.protobuf_parse_model.specs.Messages.{oneof_of, oneofs_of, own_oneof, own_oneof_of}
 use Rattle.protobuf_parse_model.specs.Statements.{field_statement_name, oneof_fields}
 use Rattle.protobuf_parse_model.specs.FileParts.{parts_view, with_file_statement}
@@ -43,7 +43,7 @@ module _ (env : Environment) (old new : Body) (index : ℕ) (one : OneofDescript
   place_is = same ∙ sym (length-map old.oneof_decl.items oneof_view)
 
   pub with_oneof : (o : OneofSyntax) (d : FieldsAndMessages)
-      → d ≡ fields_declared env (in_oneof index) (flat_map oneof_fields o.body)
+      → d ≡ fields_declared env (at_oneof index) (flat_map oneof_fields o.body)
       → one ≡ oneof_of env o → map field_view new.field.items ≡ map field_view old.field.items
       ++ d.fields → map message_view new.nested_type.items ≡ map message_view old.nested_type.items
       ++ d.behind → body_view new ≡ with_body_statement env (body_view old) (message_oneof o)
@@ -62,7 +62,7 @@ module _ (env : Environment) (old new : Body) (index : ℕ) (one : OneofDescript
       ) refl
 
   pub with_own : (s : FieldStatementSyntax) (d : FieldAndMessage) → has_own_oneof env s ≡ true
-      → d ≡ field_declared_by env (in_oneof index) s → one ≡ own_oneof_of d.field.name
+      → d ≡ field_declared_by env (at_oneof index) s → one ≡ own_oneof_of d.field.name
       → map field_view new.field.items ≡ map field_view old.field.items ++ d.field ∷ []
       → map message_view new.nested_type.items ≡ map message_view old.nested_type.items ++ d.behind
       → body_view new ≡ with_body_statement env (body_view old) (message_field s)
@@ -75,7 +75,7 @@ module _ (env : Environment) (old new : Body) (index : ℕ) (one : OneofDescript
         extensions,
         one_is,
         is,
-        name_is env (in_oneof index) s,
+        name_is env (at_oneof index) s,
         own,
         place_is,
         append-nil (map enum_view old.enum_type.items),
@@ -135,12 +135,12 @@ body_more env ss s =
       flat_map-append (oneofs_of env) ss (s ∷ []),
       flat_map-append (nested_of env) ss (s ∷ []),
       flat_map-append (enums_of env) ss (s ∷ []),
-      flat_map-append (extensions_of env) ss (s ∷ []),
+      flat_map-append (extended_of env) ss (s ∷ []),
       append-nil (fields_of env n s),
       append-nil (oneofs_of env s),
       append-nil (nested_of env s),
       append-nil (enums_of env s),
-      append-nil (extensions_of env s),
+      append-nil (extended_of env s),
     ) refl
 
 -- no statement has more than one oneof

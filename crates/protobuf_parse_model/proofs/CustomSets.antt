@@ -14,7 +14,7 @@ use Rattle.protobuf_parse_model.specs.Messages.{message_name}
 use Rattle.protobuf_parse_model.specs.FileDescriptor as files
 use Rattle.protobuf_parse_model.specs.FileDescriptor.{options_of_statements, environment}
 use Rattle.protobuf_parse_model.specs.FileDescriptor.{file_messages_of, services_of}
-use Rattle.protobuf_parse_model.specs.FileDescriptor.{statement_faults}
+use Rattle.protobuf_parse_model.specs.FileDescriptor.{file_faults_of}
 use Rattle.protobuf_parse_model.specs.FileDescriptor.{file_duplicates, file_faults}
 use Rattle.protobuf_parse_model.specs.OptionSets.{OptionSet, statement_sets, option_sets}
 use Rattle.protobuf_parse_model.specs.CustomSets.{faults_of_set, faults_of_sets, FaultsAreOfSets}
@@ -33,7 +33,7 @@ use Rattle.protobuf_parse_model.proofs.MessageSets.{message-adds}
 module _ (customs : Customs) where
   -- a statement of a file
   statement-adds : (env : Environment) (s : StatementSyntax)
-      → Adds customs (statement_faults (with_customs customs env) s) (statement_faults (bare env) s)
+      → Adds customs (file_faults_of (with_customs customs env) s) (file_faults_of (bare env) s)
       (statement_sets env.scope s)
   statement-adds env (file_message m) = message-adds customs env m
   statement-adds env (file_enum e) = enum-adds customs env e
@@ -76,7 +76,7 @@ module _ (customs : Customs) where
       adds-both customs
       (adds-both customs (duplicates-add env t)
       (adds-options customs env of.File file_table (options_of_statements t.statements)))
-      (adds-flat customs (statement_faults (with_customs customs env)) (statement_faults (bare env))
+      (adds-flat customs (file_faults_of (with_customs customs env)) (file_faults_of (bare env))
       (statement_sets env.scope) t.statements (statement-adds env))
 
 -- ---- the laws

@@ -2,7 +2,7 @@
 use Rattle.std.proofs.Common.{◌≡◌, List, [], ◌∷◌, ◌++◌, map, flat_map, sym, subst}
 use Rattle.protobuf_parse_model.specs.Descriptors.{Text}
 use Rattle.protobuf_parse_model.specs.Faults.{Among, here, there}
-use Rattle.protobuf_parse_model.specs.Declarations.{DeclaredType, TypeKind, a_message, an_enum}
+use Rattle.protobuf_parse_model.specs.Declarations.{DeclaredType, MessageOrEnum, a_message, an_enum}
 use Rattle.protobuf_parse_model.specs.NamedTypes.{if_message, declared_message_name}
 use Rattle.protobuf_parse_model.proofs.Blaming.{among_left, among_right}
 
@@ -26,7 +26,7 @@ pub message-told : (ds : List DeclaredType) (n : Text) → Among (flat_map decla
 message-told [] n h = elim h [ ]
 message-told (d ∷ ds) n h = at d.what h (message-told ds n)
   where
-    at : (k : TypeKind) → Among (if_message k d.name ++ flat_map declared_message_name ds) n
+    at : (k : MessageOrEnum) → Among (if_message k d.name ++ flat_map declared_message_name ds) n
         → (Among (flat_map declared_message_name ds) n
         → Among (map (λ (x : DeclaredType). x.name) ds) n)
         → Among (map (λ (x : DeclaredType). x.name) (d ∷ ds)) n
@@ -41,5 +41,5 @@ pub message-from : (ds : List DeclaredType) (d : DeclaredType) → Among ds d �
 message-from [] d h e = elim h [ ]
 message-from (d ∷ ds) _ here e =
     among_left (flat_map declared_message_name ds)
-    (subst (λ (k : TypeKind). Among (if_message k d.name) d.name) (sym e) here)
+    (subst (λ (k : MessageOrEnum). Among (if_message k d.name) d.name) (sym e) here)
 message-from (x ∷ ds) d (there h) e = among_right (declared_message_name x) (message-from ds d h e)

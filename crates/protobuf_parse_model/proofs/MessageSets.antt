@@ -44,8 +44,8 @@ module _ (customs : Customs) where
       (oneofs_of (bare env)) body (oneofs-names customs no_customs env)))))
       (adds-none customs
       (ap duplicates
-      (flat-named (λ f. f.name) (messages.extensions_of (with_customs customs env))
-      (messages.extensions_of (bare env)) body (extensions-names customs no_customs env)))))
+      (flat-named (λ f. f.name) (messages.extended_of (with_customs customs env))
+      (messages.extended_of (bare env)) body (extensions-names customs no_customs env)))))
       (adds-none customs
       (ap duplicates
       (flat-named (λ e. e.name) (messages.enums_of (with_customs customs env))

@@ -26,7 +26,7 @@ use Rattle.protobuf_parse_model.specs.Faults.{Among, Fault}
 use Rattle.protobuf_parse_model.specs.Duplicates.{fault_when, duplicates}
 use Rattle.protobuf_parse_model.specs.Statements.{group_body, message_body, entry_name, is_map}
 use Rattle.protobuf_parse_model.specs.Statements.{oneof_fields}
-use Rattle.protobuf_parse_model.specs.Declarations.{Scope, full_name, DeclaredType, TypeKind}
+use Rattle.protobuf_parse_model.specs.Declarations.{Scope, full_name, DeclaredType, MessageOrEnum}
 use Rattle.protobuf_parse_model.specs.Declarations.{a_message, an_enum, generated_by, generated_of}
 use Rattle.protobuf_parse_model.specs.Declarations.{generated_in, statement_generated}
 use Rattle.protobuf_parse_model.specs.Declarations.{file_generated}
@@ -37,7 +37,7 @@ use Rattle.protobuf_parse_model.specs.BuiltinOptions.{oneof_table, service_table
 use Rattle.protobuf_parse_model.specs.BuiltinOptions.{file_table}
 use Rattle.protobuf_parse_model.specs.ConstructOptions.{construct_faults}
 use Rattle.protobuf_parse_model.specs.declared.customs.Construct.TheVariants as of
-use Rattle.protobuf_parse_model.specs.OptionsSet.{entry_options}
+use Rattle.protobuf_parse_model.specs.OptionMessages.{entry_options}
 use Rattle.protobuf_parse_model.specs.Fields.{kind_of_scalar, kind_of_type, FieldTypeOf}
 use Rattle.protobuf_parse_model.specs.Fields.{type_of_meaning, type_of, inner_type_faults}
 use Rattle.protobuf_parse_model.specs.Fields.{type_faults, faults_of_options, FieldPlace, plain}
@@ -48,7 +48,7 @@ use Rattle.protobuf_parse_model.specs.Fields.{extension_faults}
 use Rattle.protobuf_parse_model.specs.Messages as messages
 use Rattle.protobuf_parse_model.specs.Messages.{message_with, entry_field, entries_of}
 use Rattle.protobuf_parse_model.specs.Messages.{messages_behind, has_own_oneof, options_in_oneof}
-use Rattle.protobuf_parse_model.specs.Messages.{oneofs_of, in_oneof, fields_of, fields_from}
+use Rattle.protobuf_parse_model.specs.Messages.{oneofs_of, at_oneof, fields_of, fields_from}
 use Rattle.protobuf_parse_model.specs.Messages.{extending, extend_fields, extension_faults_of}
 use Rattle.protobuf_parse_model.specs.Messages.{extend_faults, message_from, nested_of, nested_in}
 use Rattle.protobuf_parse_model.specs.Messages.{message_of, whole_faults, oneof_faults, faults_in}
@@ -60,7 +60,8 @@ use Rattle.protobuf_parse_model.specs.FileDescriptor as files
 use Rattle.protobuf_parse_model.specs.FileDescriptor.{options_of_statements, types_of_files}
 use Rattle.protobuf_parse_model.specs.FileDescriptor.{environment, file_messages_of, services_of}
 use Rattle.protobuf_parse_model.specs.FileDescriptor.{file_of, file_duplicates, file_faults}
-use Rattle.protobuf_parse_model.specs.NamedTypes.{in_message, in_messages, fields_in, extensions_in}
+use Rattle.protobuf_parse_model.specs.NamedTypes.{down_from, down_from_all, fields_in}
+use Rattle.protobuf_parse_model.specs.NamedTypes.{extended_in}
 use Rattle.protobuf_parse_model.specs.NamedTypes.{names_of_field, names_of_method, names_of_service}
 use Rattle.protobuf_parse_model.specs.NamedTypes.{type_names_in, has_name, names_declared}
 use Rattle.protobuf_parse_model.specs.NamedTypes.{messages_declared}
@@ -83,7 +84,7 @@ scalar-plain word.Int32 = refl
 scalar-plain _ = refl
 
 -- a message and an enum have one
-kind-named : (k : TypeKind) → true ≡ has_name (kind_of_type k)
+kind-named : (k : MessageOrEnum) → true ≡ has_name (kind_of_type k)
 kind-named a_message = refl
 kind-named an_enum = refl
 
@@ -119,7 +120,7 @@ full-stands n None h = absurd cc
 full-stands n (Some d) h = refl
 
 -- only of a message is the kind so
-message-kind : (k : TypeKind) → kind_of_type k ≡ kind.Message → k ≡ a_message
+message-kind : (k : MessageOrEnum) → kind_of_type k ≡ kind.Message → k ≡ a_message
 message-kind a_message e = refl
 message-kind an_enum e = absurd cc
 
@@ -149,8 +150,8 @@ module _ (P M : Text → Type 0) (any : (name : Text) → M name → P name) (cu
 
   -- the same of all fields and extensions of a message
   record MessageIsNamed (m : MessageDescriptor) : Type 0 where
-    fields : AllByRecursion FieldIsNamed (in_message (λ (p : MessageParts). p.field) m)
-    extensions : AllByRecursion ExtensionIsNamed (in_message (λ (p : MessageParts). p.extension) m)
+    fields : AllByRecursion FieldIsNamed (down_from (λ (p : MessageParts). p.field) m)
+    extensions : AllByRecursion ExtensionIsNamed (down_from (λ (p : MessageParts). p.extension) m)
 
   -- what a method takes and returns has the property
   abbrev MethodIsNamed : MethodDescriptor → Type 0
@@ -163,7 +164,7 @@ module _ (P M : Text → Type 0) (any : (name : Text) → M name → P name) (cu
   -- all of this of a file
   record FileIsNamed (f : FileDescriptor) : Type 0 where
     fields : AllByRecursion FieldIsNamed (fields_in f)
-    extensions : AllByRecursion ExtensionIsNamed (extensions_in f)
+    extensions : AllByRecursion ExtensionIsNamed (extended_in f)
     services : AllByRecursion P (flat_map names_of_service f.service)
 
   -- the full name of a type has the property, and that of a message the other too
@@ -421,7 +422,7 @@ module _ (P M : Text → Type 0) (any : (name : Text) → M name → P name) (cu
 
   -- a field of a message extends nothing
   no-extendee : (b : Bool) (index : ℕ)
-      → AllByRecursion P (option_to_list (if b then in_oneof index else plain).extendee)
+      → AllByRecursion P (option_to_list (if b then at_oneof index else plain).extendee)
   no-extendee true index = tt
   no-extendee false index = tt
 
@@ -440,12 +441,12 @@ module _ (P M : Text → Type 0) (any : (name : Text) → M name → P name) (cu
       → StatementIsClean env s → AllByRecursion FieldIsNamed (fields_of (with_customs env) index s)
   fields-of env known index (message_field f) c = (
     statement-named env known
-        (if has_own_oneof (with_customs env) f then in_oneof index else plain) f
+        (if has_own_oneof (with_customs env) f then at_oneof index else plain) f
         (no-extendee (has_own_oneof (with_customs env) f) index) c.each (own-none env f c.none),
     tt,
   )
   fields-of env known index (message_oneof o) c =
-      fields-named env known (in_oneof index) (flat_map oneof_fields o.body) tt
+      fields-named env known (at_oneof index) (flat_map oneof_fields o.body) tt
       (oneof-clean env o c.none c.each)
   fields-of env known index _ c = tt
 
@@ -463,7 +464,7 @@ module _ (P M : Text → Type 0) (any : (name : Text) → M name → P name) (cu
   -- the extensions of a statement
   extensions-of : (env : Environment) → Known env → (s : MessageStatementSyntax)
       → StatementIsClean env s
-      → AllByRecursion ExtensionIsNamed (messages.extensions_of (with_customs env) s)
+      → AllByRecursion ExtensionIsNamed (messages.extended_of (with_customs env) s)
   extensions-of env known (message_extend e) c = extend-named env known e c.none c.each
   extensions-of env known _ c = tt
 
@@ -472,21 +473,21 @@ module _ (P M : Text → Type 0) (any : (name : Text) → M name → P name) (cu
   -- the fields of messages inside another
   nested-fields : (ms : List MessageDescriptor) → AllByRecursion MessageIsNamed ms
       → AllByRecursion FieldIsNamed
-      (in_messages (λ (p : MessageParts). p.field) (messages_of_list ms))
+      (down_from_all (λ (p : MessageParts). p.field) (messages_of_list ms))
   nested-fields [] h = tt
   nested-fields (m ∷ ms) h =
-      all-both FieldIsNamed (in_message (λ (p : MessageParts). p.field) m)
-      (in_messages (λ (p : MessageParts). p.field) (messages_of_list ms)) h.0.fields
+      all-both FieldIsNamed (down_from (λ (p : MessageParts). p.field) m)
+      (down_from_all (λ (p : MessageParts). p.field) (messages_of_list ms)) h.0.fields
       (nested-fields ms h.1)
 
   -- their extensions
   nested-extensions : (ms : List MessageDescriptor) → AllByRecursion MessageIsNamed ms
       → AllByRecursion ExtensionIsNamed
-      (in_messages (λ (p : MessageParts). p.extension) (messages_of_list ms))
+      (down_from_all (λ (p : MessageParts). p.extension) (messages_of_list ms))
   nested-extensions [] h = tt
   nested-extensions (m ∷ ms) h =
-      all-both ExtensionIsNamed (in_message (λ (p : MessageParts). p.extension) m)
-      (in_messages (λ (p : MessageParts). p.extension) (messages_of_list ms)) h.0.extensions
+      all-both ExtensionIsNamed (down_from (λ (p : MessageParts). p.extension) m)
+      (down_from_all (λ (p : MessageParts). p.extension) (messages_of_list ms)) h.0.extensions
       (nested-extensions ms h.1)
 
   -- a message, by its statements and the messages inside it
@@ -497,12 +498,12 @@ module _ (P M : Text → Type 0) (any : (name : Text) → M name → P name) (cu
       → MessageIsNamed (message_from (with_customs env) name body ms)
   message-named env known name body ms h k = record {
     fields = all-both FieldIsNamed (fields_from (with_customs (env_inside env name)) 0 body)
-        (in_messages (λ (p : MessageParts). p.field) (messages_of_list ms))
+        (down_from_all (λ (p : MessageParts). p.field) (messages_of_list ms))
         (fields-from (env_inside env name) known 0 body h) (nested-fields ms k);
     extensions = all-both ExtensionIsNamed
-        (flat_map (messages.extensions_of (with_customs (env_inside env name))) body)
-        (in_messages (λ (p : MessageParts). p.extension) (messages_of_list ms))
-        (all-flat ExtensionIsNamed (messages.extensions_of (with_customs (env_inside env name)))
+        (flat_map (messages.extended_of (with_customs (env_inside env name))) body)
+        (down_from_all (λ (p : MessageParts). p.extension) (messages_of_list ms))
+        (all-flat ExtensionIsNamed (messages.extended_of (with_customs (env_inside env name)))
         (StatementIsClean (env_inside env name))
         (extensions-of (env_inside env name) known) body h) (nested-extensions ms k);
   }
@@ -615,7 +616,7 @@ module _ (P M : Text → Type 0) (any : (name : Text) → M name → P name) (cu
   -- a statement of a file
   abbrev FileStatementIsClean : Environment → StatementSyntax → Type 0
   FileStatementIsClean env s =
-      IsClean (files.statement_faults env) M (statement_generated env.scope) s
+      IsClean (files.file_faults_of env) M (statement_generated env.scope) s
 
   -- the messages of a statement
   messages-of : (env : Environment) → Known env → (s : StatementSyntax) → FileStatementIsClean env s
@@ -644,22 +645,22 @@ module _ (P M : Text → Type 0) (any : (name : Text) → M name → P name) (cu
       → FileIsNamed (file_of (with_customs env) path t)
   file-named env known path t h g =
       let options = construct_faults env of.File file_table (options_of_statements t.statements) in
-      let inner = flat_map (files.statement_faults env) t.statements in
+      let inner = flat_map (files.file_faults_of env) t.statements in
       let none : inner ≡ [] = no-right (file_duplicates env t ++ options) inner h in
       let clean : AllByRecursion (FileStatementIsClean env) t.statements =
-      clean-each (files.statement_faults env) M
+      clean-each (files.file_faults_of env) M
       (statement_generated env.scope) t.statements none g in
       let ms = flat_map (file_messages_of (with_customs env)) t.statements in
       let all : AllByRecursion MessageIsNamed ms =
       all-flat MessageIsNamed (file_messages_of (with_customs env)) (FileStatementIsClean env)
       (messages-of env known) t.statements clean in
       record {
-        fields = all-flat FieldIsNamed (in_message (λ (p : MessageParts). p.field)) MessageIsNamed
+        fields = all-flat FieldIsNamed (down_from (λ (p : MessageParts). p.field)) MessageIsNamed
             (λ (m : MessageDescriptor) (k : MessageIsNamed m). k.fields) ms all;
         extensions = all-both ExtensionIsNamed
-            (flat_map (in_message (λ (p : MessageParts). p.extension)) ms)
+            (flat_map (down_from (λ (p : MessageParts). p.extension)) ms)
             (flat_map (files.file_extensions_of (with_customs env)) t.statements)
-            (all-flat ExtensionIsNamed (in_message (λ (p : MessageParts). p.extension))
+            (all-flat ExtensionIsNamed (down_from (λ (p : MessageParts). p.extension))
             MessageIsNamed (λ (m : MessageDescriptor) (k : MessageIsNamed m). k.extensions) ms
             all)
             (all-flat ExtensionIsNamed (files.file_extensions_of (with_customs env))
@@ -675,7 +676,7 @@ module _ (P M : Text → Type 0) (any : (name : Text) → M name → P name) (cu
   names-each : (f : FileDescriptor) → FileIsNamed f → AllByRecursion P (type_names_in f)
   names-each f h =
       let fields = flat_map names_of_field (fields_in f) in
-      let extensions = flat_map names_of_field (extensions_in f) in
+      let extensions = flat_map names_of_field (extended_in f) in
       let services = flat_map names_of_service f.service in
       all-both P (fields ++ extensions) services
       (all-both P fields extensions
@@ -683,7 +684,7 @@ module _ (P M : Text → Type 0) (any : (name : Text) → M name → P name) (cu
       (fields_in f) h.fields)
       (all-flat P names_of_field ExtensionIsNamed
       (λ (d : FieldDescriptor) (k : ExtensionIsNamed d). k.is_field.each)
-      (extensions_in f) h.extensions))
+      (extended_in f) h.extensions))
       h.services
 
 -- ---- the laws
@@ -744,15 +745,15 @@ names_are_declared seen checked customs path t name h k =
 field-is : (seen : List FileSyntax) (checked customs : Customs) (path : Text) (t : FileSyntax)
     (f : FieldDescriptor) → file_faults (environment seen checked t) t ≡ []
     → Among (fields_in (file_of (environment seen customs t) path t)
-    ++ extensions_in (file_of (environment seen customs t) path t)) f → IsField seen t customs f
+    ++ extended_in (file_of (environment seen customs t) path t)) f → IsField seen t customs f
 field-is seen checked customs path t f h k =
     let file = file_of (environment seen customs t) path t in
     let s : IsNamed seen t customs file = sound seen checked customs path t h in
-    let extensions : AllByRecursion (IsField seen t customs) (extensions_in file) =
-    each (extensions_in file) s.extensions in
-    let all : AllByRecursion (IsField seen t customs) (fields_in file ++ extensions_in file) =
+    let extensions : AllByRecursion (IsField seen t customs) (extended_in file) =
+    each (extended_in file) s.extensions in
+    let all : AllByRecursion (IsField seen t customs) (fields_in file ++ extended_in file) =
     all-both (IsField seen t customs) (fields_in file)
-    (extensions_in file) s.fields extensions in
+    (extended_in file) s.fields extensions in
     all-among (IsField seen t customs) k all
   where
     each : (fs : List FieldDescriptor) → AllByRecursion (IsExtension seen t customs) fs

@@ -33,7 +33,7 @@ use Rattle.protobuf_parse_model.specs.Descriptors.{MethodDescriptor, Text, Field
 use Rattle.protobuf_parse_model.specs.Descriptors.{OneofDescriptor, MessageDescriptor, MessageParts}
 use Rattle.protobuf_parse_model.specs.Descriptors.{a_message, messages_list}
 use Rattle.protobuf_parse_model.specs.Environment.{Environment, no_customs}
-use Rattle.protobuf_parse_model.specs.OptionsSet.{entry_options}
+use Rattle.protobuf_parse_model.specs.OptionMessages.{entry_options}
 use Rattle.protobuf_parse_model.specs.Fields.{plain, field_of, field_faults, names_of_fields}
 use Rattle.protobuf_parse_model.specs.Enums.{enum_of}
 use Rattle.protobuf_parse_model.specs.Messages as messages

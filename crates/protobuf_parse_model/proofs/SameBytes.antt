@@ -21,7 +21,7 @@ use Rattle.protobuf_parse_model.specs.Services.{methods_in, options_of_service, 
 use Rattle.protobuf_parse_model.specs.Services.{service_of}
 use Rattle.protobuf_parse_model.specs.Messages as messages
 use Rattle.protobuf_parse_model.specs.Messages.{entries_of, messages_behind, has_own_oneof}
-use Rattle.protobuf_parse_model.specs.Messages.{options_in_oneof, oneof_of, oneofs_of, in_oneof}
+use Rattle.protobuf_parse_model.specs.Messages.{options_in_oneof, oneof_of, oneofs_of, at_oneof}
 use Rattle.protobuf_parse_model.specs.Messages.{fields_of, fields_from, extending, extend_fields}
 use Rattle.protobuf_parse_model.specs.Messages.{options_of_body, message_from, nested_of, nested_in}
 use Rattle.protobuf_parse_model.specs.Messages.{message_of}
@@ -180,9 +180,9 @@ module _ (one other : Customs) where
       → fields_of (by_one env) index s ≡ fields_of (by_other env) index s
   fields-of-same env index (message_field f) h =
       ap (λ d. d ∷ [])
-      (statement-same env (if has_own_oneof env f then in_oneof index else plain) f h)
+      (statement-same env (if has_own_oneof env f then at_oneof index else plain) f h)
   fields-of-same env index (message_oneof o) h =
-      fields-same env (in_oneof index) (flat_map oneof_fields o.body) (λ s k. h s (there k))
+      fields-same env (at_oneof index) (flat_map oneof_fields o.body) (λ s k. h s (there k))
   fields-of-same env index _ h = refl
 
   -- its oneofs
@@ -201,7 +201,7 @@ module _ (one other : Customs) where
 
   -- its extensions
   extensions-same : (env : Environment) (s : MessageStatementSyntax) → Same (sets_of env.scope s)
-      → messages.extensions_of (by_one env) s ≡ messages.extensions_of (by_other env) s
+      → messages.extended_of (by_one env) s ≡ messages.extended_of (by_other env) s
   extensions-same env (message_extend e) h = fields-same env (extending env e.extendee) e.fields h
   extensions-same env _ h = refl
 
@@ -234,8 +234,8 @@ module _ (one other : Customs) where
       let enums = flat-same sets (messages.enums_of (by_one (env_inside env name)))
       (messages.enums_of (by_other (env_inside env name))) (enums-same (env_inside env name)) body
       h in
-      let extensions = flat-same sets (messages.extensions_of (by_one (env_inside env name)))
-      (messages.extensions_of (by_other (env_inside env name)))
+      let extensions = flat-same sets (messages.extended_of (by_one (env_inside env name)))
+      (messages.extended_of (by_other (env_inside env name)))
       (extensions-same (env_inside env name)) body h in
       rw (fields, oneofs, enums, extensions, own, same) refl
 

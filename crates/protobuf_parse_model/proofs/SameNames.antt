@@ -15,7 +15,7 @@ use Rattle.protobuf_parse_model.specs.Fields.{FieldPlace, plain, field_statement
 use Rattle.protobuf_parse_model.specs.Fields.{names_of_fields}
 use Rattle.protobuf_parse_model.specs.Messages as messages
 use Rattle.protobuf_parse_model.specs.Messages.{entries_of, messages_behind, has_own_oneof}
-use Rattle.protobuf_parse_model.specs.Messages.{oneofs_of, in_oneof, fields_of, fields_from}
+use Rattle.protobuf_parse_model.specs.Messages.{oneofs_of, at_oneof, fields_of, fields_from}
 use Rattle.protobuf_parse_model.specs.Messages.{extending, message_name, names_of_messages}
 use Rattle.protobuf_parse_model.specs.Messages.{names_of_oneofs, names_of_enums, nested_of}
 use Rattle.protobuf_parse_model.specs.Messages.{nested_in}
@@ -65,10 +65,10 @@ module _ (one other : Customs) where
       → names_of_fields (fields_of (with_customs one env) i s)
       ≡ names_of_fields (fields_of (with_customs other env) j s)
   fields-of-names env i j (message_field f) =
-      rw (field-name env (if has_own_oneof env f then in_oneof i else plain)
-      (if has_own_oneof env f then in_oneof j else plain) f) refl
+      rw (field-name env (if has_own_oneof env f then at_oneof i else plain)
+      (if has_own_oneof env f then at_oneof j else plain) f) refl
   fields-of-names env i j (message_oneof o) =
-      fields-names env (in_oneof i) (in_oneof j) (flat_map oneof_fields o.body)
+      fields-names env (at_oneof i) (at_oneof j) (flat_map oneof_fields o.body)
   fields-of-names env i j _ = refl
 
   -- those of a body
@@ -96,8 +96,8 @@ module _ (one other : Customs) where
 
   -- its extensions
   pub extensions-names : (env : Environment) (s : MessageStatementSyntax)
-      → names_of_fields (messages.extensions_of (with_customs one env) s)
-      ≡ names_of_fields (messages.extensions_of (with_customs other env) s)
+      → names_of_fields (messages.extended_of (with_customs one env) s)
+      ≡ names_of_fields (messages.extended_of (with_customs other env) s)
   extensions-names env (message_extend e) =
       fields-names env (extending env e.extendee) (extending env e.extendee) e.fields
   extensions-names env _ = refl

@@ -36,18 +36,18 @@ module _ (name : Text) where
       → meant (option_or (type_kind (declaration_kind d.what)) rest) ≡ Some d
   means d rest e = at d.what refl
     where
-      named : declarations.TypeKind → Text → DeclaredType
+      named : declarations.MessageOrEnum → Text → DeclaredType
       named k text = record { name = text; what = k }
 
-      at : (k : declarations.TypeKind) → d.what ≡ k
+      at : (k : declarations.MessageOrEnum) → d.what ≡ k
           → meant (option_or (type_kind (declaration_kind d.what)) rest) ≡ Some d
       at a_message is =
-          ap (λ (k : declarations.TypeKind). meant
+          ap (λ (k : declarations.MessageOrEnum). meant
           (option_or (type_kind (declaration_kind k)) rest)) is
           ∙ ap (λ text. Some (named a_message text)) (sym e)
           ∙ ap (λ k. Some (named k d.name)) (sym is)
       at an_enum is =
-          ap (λ (k : declarations.TypeKind). meant
+          ap (λ (k : declarations.MessageOrEnum). meant
           (option_or (type_kind (declaration_kind k)) rest)) is
           ∙ ap (λ text. Some (named an_enum text)) (sym e)
           ∙ ap (λ k. Some (named k d.name)) (sym is)

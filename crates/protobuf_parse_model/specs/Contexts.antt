@@ -20,7 +20,7 @@ use Rattle.protobuf_parse_model.specs.declared.convert.field.FieldSaid.{FieldSai
 use Rattle.protobuf_parse_model.specs.declared.descriptor.FieldType.{FieldType}
 use Rattle.protobuf_parse_model.specs.declared.convert.statement.DeclaredField.{DeclaredField}
 use Rattle.protobuf_parse_model.specs.Messages.{messages_behind, oneofs_of, fields_of, fields_from}
-use Rattle.protobuf_parse_model.specs.Messages.{nested_of, enums_of, extensions_of}
+use Rattle.protobuf_parse_model.specs.Messages.{nested_of, enums_of, extended_of}
 use Rattle.protobuf_parse_model.specs.Messages.{extension_ranges, reserves, options_of_body}
 use Rattle.protobuf_parse_model.specs.Messages.{exclusive, names_of_oneofs, names_of_enums}
 use Rattle.protobuf_parse_model.specs.Messages.{names_of_messages}
@@ -42,7 +42,7 @@ use Rattle.protobuf_parse_syntax.specs.declared.tree.declaration.Reserved.{Reser
 use Rattle.protobuf_parse_syntax.specs.declared.tree.declaration.EnumValue.{EnumValue}
 use Rattle.protobuf_parse_model.specs.Options.{FieldOptionsSet, MessageOptionsSet}
 use Rattle.protobuf_parse_model.specs.Options.{field_options_view, message_options_view}
-use Rattle.protobuf_parse_model.specs.OptionsSet.{field_options, message_options}
+use Rattle.protobuf_parse_model.specs.OptionMessages.{field_options, message_options}
 use Rattle.protobuf_parse_model.specs.Fields.{FieldTypeOf}
 use Rattle.protobuf_parse_model.specs.Declarations.{DeclaredType}
 use Rattle.protobuf_parse_model.specs.declared.customs.Construct.TheVariants as of
@@ -128,7 +128,7 @@ with_body_statement env b s =
       nested_type = b.nested_type ++ nested_of env s;
       enum_type =
           b.enum_type ++ enums_of env s;
-      extension = b.extension ++ extensions_of env s;
+      extension = b.extension ++ extended_of env s;
     }
 
 -- with a message more
@@ -151,7 +151,7 @@ body_of env ss =
           flat_map (nested_of env) ss;
       enum_type = flat_map (enums_of env) ss;
       extension =
-          flat_map (extensions_of env) ss;
+          flat_map (extended_of env) ss;
     }
 
 -- E1 for two of a kind that have one name

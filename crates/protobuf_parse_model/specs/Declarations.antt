@@ -44,12 +44,12 @@ file_scope t = relative_idents (unwrap_or (package_of t) [])
 
 -- ---- messages and enums
 
-pub data TypeKind : Type 0 where
-  a_message : TypeKind
-  an_enum : TypeKind
+pub data MessageOrEnum : Type 0 where
+  a_message : MessageOrEnum
+  an_enum : MessageOrEnum
 
 abbrev pub DeclaredType : Type 0
-DeclaredType = Declared TypeKind
+DeclaredType = Declared MessageOrEnum
 
 abbrev mutual
   -- what a statement of a body declares

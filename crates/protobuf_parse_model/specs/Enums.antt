@@ -14,7 +14,7 @@ use Rattle.protobuf_parse_model.specs.declared.customs.Construct.TheVariants as 
 use Rattle.protobuf_parse_model.specs.Environment.{Environment, customs_bytes}
 use Rattle.protobuf_parse_model.specs.BuiltinOptions.{enum_table, enum_value_table}
 use Rattle.protobuf_parse_model.specs.ConstructOptions.{construct_faults}
-use Rattle.protobuf_parse_model.specs.OptionsSet.{enum_options, enum_value_options}
+use Rattle.protobuf_parse_model.specs.OptionMessages.{enum_options, enum_value_options}
 
 -- ---- what is reserved, in enums and messages
 

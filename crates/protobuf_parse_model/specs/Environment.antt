@@ -12,7 +12,7 @@ use Rattle.protobuf_parse_model.specs.Descriptors.{Text}
 use Rattle.protobuf_parse_model.specs.Faults.{Fault}
 use Rattle.protobuf_parse_model.specs.Duplicates.{fault}
 use Rattle.protobuf_parse_model.specs.Declarations as names
-use Rattle.protobuf_parse_model.specs.Declarations.{Scope, Declared, DeclaredType, TypeKind}
+use Rattle.protobuf_parse_model.specs.Declarations.{Scope, Declared, DeclaredType, MessageOrEnum}
 use Rattle.protobuf_parse_model.specs.Lookup.{Meanings, begins_with_dot, meant}
 
 -- what is wrong in the custom options among the statements of a construct, seen from a scope
@@ -38,7 +38,7 @@ no_customs = spelled_so (λ construct scope options. [])
 pub record Environment : Type 0 where
   pub syntax : Syntax
   -- the messages and the enums that the file sees, by full name
-  pub types : Meanings TypeKind
+  pub types : Meanings MessageOrEnum
   -- the package and the messages around the construct
   pub scope : Scope
   pub customs : Customs

@@ -33,7 +33,8 @@ use Rattle.protobuf_parse_model.specs.declared.error.ElabErrorKind.TheVariants.{
 use Rattle.protobuf_parse_model.specs.Descriptors.{Text, FieldDescriptor}
 use Rattle.protobuf_parse_model.specs.Faults.{Fault}
 use Rattle.protobuf_parse_model.specs.Statements.{group_body, group_field_name, entry_name, is_map}
-use Rattle.protobuf_parse_model.specs.Declarations.{full_name, DeclaredType, TypeKind, a_message}
+use Rattle.protobuf_parse_model.specs.Declarations.{full_name, DeclaredType, MessageOrEnum}
+use Rattle.protobuf_parse_model.specs.Declarations.{a_message}
 use Rattle.protobuf_parse_model.specs.Declarations.{an_enum}
 use Rattle.protobuf_parse_model.specs.Duplicates.{fault, fault_when, duplicates}
 use Rattle.protobuf_parse_model.specs.declared.customs.Construct.TheVariants as of
@@ -41,7 +42,7 @@ use Rattle.protobuf_parse_model.specs.Environment.{Environment, customs_bytes, c
 use Rattle.protobuf_parse_model.specs.Environment.{type_named, type_missing}
 use Rattle.protobuf_parse_model.specs.BuiltinOptions.{values_named, string_faults, builtin_faults}
 use Rattle.protobuf_parse_model.specs.BuiltinOptions.{field_table}
-use Rattle.protobuf_parse_model.specs.OptionsSet.{field_options}
+use Rattle.protobuf_parse_model.specs.OptionMessages.{field_options}
 
 -- ---- types
 
@@ -62,7 +63,7 @@ kind_of_scalar word.Bytes = kind.Bytes
 kind_of_scalar word.Float = kind.Float
 kind_of_scalar word.Double = kind.Double
 
-abbrev pub kind_of_type : TypeKind → FieldType
+abbrev pub kind_of_type : MessageOrEnum → FieldType
 kind_of_type a_message = kind.Message
 kind_of_type an_enum = kind.Enum
 

@@ -23,7 +23,7 @@ use Rattle.protobuf_parse_model.specs.declared.customs.Construct.TheVariants as 
 use Rattle.protobuf_parse_model.specs.Environment.{Environment, Customs, customs_bytes}
 use Rattle.protobuf_parse_model.specs.BuiltinOptions.{file_table}
 use Rattle.protobuf_parse_model.specs.ConstructOptions.{construct_faults}
-use Rattle.protobuf_parse_model.specs.OptionsSet.{file_options}
+use Rattle.protobuf_parse_model.specs.OptionMessages.{file_options}
 use Rattle.protobuf_parse_model.specs.Fields.{names_of_fields}
 use Rattle.protobuf_parse_model.specs.Enums.{enum_of, enum_faults}
 use Rattle.protobuf_parse_model.specs.Messages.{messages_behind, message_of, message_faults}
@@ -98,12 +98,12 @@ file_of env path t = record {
 
 -- ---- faults
 
-abbrev pub statement_faults : Environment → StatementSyntax → List Fault
-statement_faults env (file_message m) = message_faults env m
-statement_faults env (file_enum e) = enum_faults env e
-statement_faults env (file_extend e) = extend_faults env e
-statement_faults env (file_service s) = service_faults env s
-statement_faults env _ = []
+abbrev pub file_faults_of : Environment → StatementSyntax → List Fault
+file_faults_of env (file_message m) = message_faults env m
+file_faults_of env (file_enum e) = enum_faults env e
+file_faults_of env (file_extend e) = extend_faults env e
+file_faults_of env (file_service s) = service_faults env s
+file_faults_of env _ = []
 
 abbrev pub names_of_services : List ServiceDescriptor → List Text
 names_of_services services = map (λ (s : ServiceDescriptor). s.name) services
@@ -121,4 +121,4 @@ abbrev pub file_faults : Environment → FileSyntax → List Fault
 file_faults env t =
     file_duplicates env t
     ++ construct_faults env of.File file_table (options_of_statements t.statements)
-    ++ flat_map (statement_faults env) t.statements
+    ++ flat_map (file_faults_of env) t.statements

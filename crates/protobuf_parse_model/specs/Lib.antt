@@ -8,7 +8,7 @@ pub mod Duplicates
 pub mod Environment
 pub mod BuiltinOptions
 pub mod OptionNumbers
-pub mod OptionsSet
+pub mod OptionMessages
 pub mod ConstructOptions
 pub mod Fields
 pub mod OptionViews

@@ -36,7 +36,7 @@ use Rattle.protobuf_parse_model.specs.Environment.{Environment, customs_bytes, e
 use Rattle.protobuf_parse_model.specs.Environment.{type_full_name, type_missing}
 use Rattle.protobuf_parse_model.specs.BuiltinOptions.{message_table, oneof_table}
 use Rattle.protobuf_parse_model.specs.ConstructOptions.{construct_faults}
-use Rattle.protobuf_parse_model.specs.OptionsSet.{message_options, entry_options, oneof_options}
+use Rattle.protobuf_parse_model.specs.OptionMessages.{message_options, entry_options, oneof_options}
 use Rattle.protobuf_parse_model.specs.Fields.{FieldTypeOf, type_of, says_optional, FieldPlace}
 use Rattle.protobuf_parse_model.specs.Fields.{plain, field_statement_of, names_of_fields}
 use Rattle.protobuf_parse_model.specs.Fields.{fields_of_group, field_statement_faults}
@@ -141,15 +141,15 @@ oneofs_of env _ = []
 -- ---- fields
 
 -- in the oneof at that place
-abbrev pub in_oneof : ℕ → FieldPlace
-in_oneof index = record { extendee = None; oneof_index = Some index }
+abbrev pub at_oneof : ℕ → FieldPlace
+at_oneof index = record { extendee = None; oneof_index = Some index }
 
 -- the fields of a statement before which so many oneofs stand
 abbrev pub fields_of : Environment → ℕ → MessageStatementSyntax → List FieldDescriptor
 fields_of env index (message_field f) =
-    field_statement_of env (if has_own_oneof env f then in_oneof index else plain) f ∷ []
+    field_statement_of env (if has_own_oneof env f then at_oneof index else plain) f ∷ []
 fields_of env index (message_oneof o) =
-    map (field_statement_of env (in_oneof index)) (flat_map oneof_fields o.body)
+    map (field_statement_of env (at_oneof index)) (flat_map oneof_fields o.body)
 fields_of env index _ = []
 
 abbrev pub fields_from : Environment → ℕ → List MessageStatementSyntax → List FieldDescriptor
@@ -172,9 +172,9 @@ extension_faults_of env extendee f = type_missing env extendee ++ extension_faul
 abbrev pub extend_faults : Environment → ExtendSyntax → List Fault
 extend_faults env e = flat_map (extension_faults_of env e.extendee) e.fields
 
-abbrev pub extensions_of : Environment → MessageStatementSyntax → List FieldDescriptor
-extensions_of env (message_extend e) = extend_fields env e
-extensions_of env _ = []
+abbrev pub extended_of : Environment → MessageStatementSyntax → List FieldDescriptor
+extended_of env (message_extend e) = extend_fields env e
+extended_of env _ = []
 
 -- ---- ranges, names, enums and options
 
@@ -216,7 +216,7 @@ message_from env name body nested = a_message (record {
   field = fields_from (env_inside env name) 0 body;
   oneof_decl = flat_map (oneofs_of (env_inside env name)) body;
   enum_type = flat_map (enums_of (env_inside env name)) body;
-  extension = flat_map (extensions_of (env_inside env name)) body;
+  extension = flat_map (extended_of (env_inside env name)) body;
   extension_range = map exclusive (flat_map extension_ranges body);
   reserved_range = map exclusive (flat_map ranges_reserved (flat_map reserves body));
   reserved_name = flat_map names_reserved (flat_map reserves body);
@@ -265,7 +265,7 @@ abbrev pub body_duplicates : Environment → List MessageStatementSyntax → Lis
 body_duplicates env body nested =
     duplicates (names_of_fields (fields_from env 0 body))
     ++ duplicates (names_of_oneofs (flat_map (oneofs_of env) body))
-    ++ duplicates (names_of_fields (flat_map (extensions_of env) body))
+    ++ duplicates (names_of_fields (flat_map (extended_of env) body))
     ++ duplicates (names_of_enums (flat_map (enums_of env) body))
     ++ duplicates (names_of_messages nested)
 

@@ -15,7 +15,7 @@ use Rattle.protobuf_parse_model.specs.Descriptors.{no_messages, messages, Method
 use Rattle.protobuf_parse_model.specs.Descriptors.{ServiceDescriptor, FileDescriptor}
 use Rattle.protobuf_parse_model.specs.Faults.{Among}
 use Rattle.protobuf_parse_model.specs.Declarations as declarations
-use Rattle.protobuf_parse_model.specs.Declarations.{DeclaredType, TypeKind, file_generated}
+use Rattle.protobuf_parse_model.specs.Declarations.{DeclaredType, MessageOrEnum, file_generated}
 use Rattle.protobuf_parse_model.specs.Environment.{Customs}
 use Rattle.protobuf_parse_model.specs.FileDescriptor.{types_of_files, environment, file_of}
 use Rattle.protobuf_parse_model.specs.FileDescriptor.{file_faults}
@@ -24,20 +24,20 @@ use Rattle.protobuf_parse_model.specs.FileDescriptor.{file_faults}
 
 abbrev mutual
   -- those in one of the lists of a message, and in that of each message inside it
-  pub in_message : (MessageParts → List FieldDescriptor) → MessageDescriptor → List FieldDescriptor
-  in_message list (a_message parts inside) = list parts ++ in_messages list inside
+  pub down_from : (MessageParts → List FieldDescriptor) → MessageDescriptor → List FieldDescriptor
+  down_from list (a_message parts inside) = list parts ++ down_from_all list inside
 
-  pub in_messages : (MessageParts → List FieldDescriptor) → MessageDescriptors
+  pub down_from_all : (MessageParts → List FieldDescriptor) → MessageDescriptors
       → List FieldDescriptor
-  in_messages list no_messages = []
-  in_messages list (messages m ms) = in_message list m ++ in_messages list ms
+  down_from_all list no_messages = []
+  down_from_all list (messages m ms) = down_from list m ++ down_from_all list ms
 
 -- also those of the messages behind maps and groups
 abbrev pub fields_in : FileDescriptor → List FieldDescriptor
-fields_in f = flat_map (in_message (λ (m : MessageParts). m.field)) f.message_type
+fields_in f = flat_map (down_from (λ (m : MessageParts). m.field)) f.message_type
 
-abbrev pub extensions_in : FileDescriptor → List FieldDescriptor
-extensions_in f = flat_map (in_message (λ (m : MessageParts). m.extension)) f.message_type
+abbrev pub extended_in : FileDescriptor → List FieldDescriptor
+extended_in f = flat_map (down_from (λ (m : MessageParts). m.extension)) f.message_type
     ++ f.extension
 
 -- ---- the names
@@ -53,7 +53,7 @@ abbrev pub names_of_service : ServiceDescriptor → List Text
 names_of_service s = flat_map names_of_method s.method
 
 abbrev pub type_names_in : FileDescriptor → List Text
-type_names_in f = flat_map names_of_field (fields_in f) ++ flat_map names_of_field (extensions_in f)
+type_names_in f = flat_map names_of_field (fields_in f) ++ flat_map names_of_field (extended_in f)
     ++ flat_map names_of_service f.service
 
 -- the types of which a field says the name, and not the kind alone
@@ -70,7 +70,7 @@ has_name _ = false
 abbrev pub names_declared : List FileSyntax → List Text
 names_declared files = map (λ (d : DeclaredType). d.name) (types_of_files files)
 
-abbrev pub if_message : TypeKind → Text → List Text
+abbrev pub if_message : MessageOrEnum → Text → List Text
 if_message declarations.a_message name = name ∷ []
 if_message declarations.an_enum name = []
 
@@ -96,7 +96,7 @@ TypesAreNamed = (seen : List FileSyntax) (checked customs : Customs) (path : Tex
     (f : FieldDescriptor)
     → file_faults (environment seen checked t) t ≡ []
     → Among (fields_in (file_of (environment seen customs t) path t)
-    ++ extensions_in (file_of (environment seen customs t) path t)) f
+    ++ extended_in (file_of (environment seen customs t) path t)) f
     → is_some f.type_name ≡ has_name f.type_
 
 -- Each extension says what it extends.
@@ -104,7 +104,7 @@ abbrev pub ExtendeesAreNamed : Type 0
 ExtendeesAreNamed = (seen : List FileSyntax) (checked customs : Customs) (path : Text)
     (t : FileSyntax) (f : FieldDescriptor)
     → file_faults (environment seen checked t) t ≡ []
-    → Among (extensions_in (file_of (environment seen customs t) path t)) f
+    → Among (extended_in (file_of (environment seen customs t) path t)) f
     → IsSome f.extendee
 
 -- What says that its type is a message names a message, and no enum.
@@ -113,6 +113,6 @@ MessagesAreNamed = (seen : List FileSyntax) (checked customs : Customs) (path : 
     (t : FileSyntax) (f : FieldDescriptor) (name : Text)
     → file_faults (environment seen checked t) t ≡ []
     → Among (fields_in (file_of (environment seen customs t) path t)
-    ++ extensions_in (file_of (environment seen customs t) path t)) f
+    ++ extended_in (file_of (environment seen customs t) path t)) f
     → f.type_ ≡ kind.Message → f.type_name ≡ Some name
     → Among (messages_declared seen ++ file_generated t) name

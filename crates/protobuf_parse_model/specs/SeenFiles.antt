@@ -23,7 +23,7 @@ use Rattle.protobuf_parse_model.specs.Environment.{Environment, Customs}
 abbrev pub name_texts : List (Bor (List ℕ)) → List Text
 name_texts names = map (λ (s : Bor (List ℕ)). s.now) names
 
-abbrev pub kind_view : TypeKind → declared.TypeKind
+abbrev pub kind_view : TypeKind → declared.MessageOrEnum
 kind_view kind.Message = a_message
 kind_view kind.Enum = an_enum
 

@@ -14,7 +14,7 @@ use Rattle.protobuf_parse_model.specs.Environment.{Environment, customs_bytes, t
 use Rattle.protobuf_parse_model.specs.Environment.{type_missing}
 use Rattle.protobuf_parse_model.specs.BuiltinOptions.{service_table, method_table}
 use Rattle.protobuf_parse_model.specs.ConstructOptions.{construct_faults}
-use Rattle.protobuf_parse_model.specs.OptionsSet.{service_options, method_options}
+use Rattle.protobuf_parse_model.specs.OptionMessages.{service_options, method_options}
 
 abbrev pub methods_in : ServiceStatementSyntax → List MethodSyntax
 methods_in (service_method m) = m ∷ []

@@ -28,7 +28,7 @@ use Rattle.protobuf_parse_model.specs.SeenFiles.{declared_as}
 abbrev pub Entry : Type 0
 Entry = Declared DeclarationKind
 
-abbrev pub declaration_kind : declared.TypeKind → DeclarationKind
+abbrev pub declaration_kind : declared.MessageOrEnum → DeclarationKind
 declaration_kind a_message = kind.Message
 declaration_kind an_enum = kind.Enum
 

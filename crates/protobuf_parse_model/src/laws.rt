@@ -1,6 +1,6 @@
 //! Laws of the definitions of look-up and of the elaboration. The functions do nothing.
 
-ghost use Rattle.protobuf_parse_model.specs.Declarations.{TypeKind};
+ghost use Rattle.protobuf_parse_model.specs.Declarations.{MessageOrEnum};
 ghost use Rattle.protobuf_parse_model.specs.Lookup.{MeansTheLongest, MeansNothing, MeansItself};
 ghost use Rattle.protobuf_parse_model.specs.NamedTypes.{NamesAreDeclared, TypesAreNamed};
 ghost use Rattle.protobuf_parse_model.specs.NamedTypes.{ExtendeesAreNamed, MessagesAreNamed};
@@ -11,9 +11,9 @@ ghost use Rattle.protobuf_parse_model.specs.CustomSets.{BytesAreOfSets, OptionsA
 /// that name; a name that means nothing is declared in no front; a name with a first dot means the
 /// type of just that full name.
 pub fn types_are_looked_up()
-    ensures longest { MeansTheLongest TypeKind }
-    ensures nothing { MeansNothing TypeKind }
-    ensures itself { MeansItself TypeKind }
+    ensures longest { MeansTheLongest MessageOrEnum }
+    ensures nothing { MeansNothing MessageOrEnum }
+    ensures itself { MeansItself MessageOrEnum }
 {}
 
 /// Where no fault stands in a file, every name of a type in its descriptor is the full name of a

@@ -77,16 +77,16 @@ scope_inside scope name = absolute_text-append scope (name ∷ [])
 in_message : (env : Environment) (name : Text) (body : List MessageStatementSyntax)
     (ns : List MessageDescriptor) (d : Declared FieldDescriptor)
     → Placed (absolute_text (names.inside env.scope name))
-    (flat_map (bodies.extensions_of (env_inside env name)) body) ns d
+    (flat_map (bodies.extended_of (env_inside env name)) body) ns d
     → Among (extensions_by
     (declared_message (absolute_text env.scope) (message_from env name body ns))) d
 in_message env name body ns d p =
-    at (subst (λ (s : Text). Placed s (flat_map (bodies.extensions_of (env_inside env name)) body)
+    at (subst (λ (s : Text). Placed s (flat_map (bodies.extended_of (env_inside env name)) body)
     ns d)
     (scope_inside env.scope name) p)
   where
     at : Placed (name_within (absolute_text env.scope) name)
-        (flat_map (bodies.extensions_of (env_inside env name)) body) ns d
+        (flat_map (bodies.extended_of (env_inside env name)) body) ns d
         → Among (extensions_by
         (declared_message (absolute_text env.scope) (message_from env name body ns))) d
     at (its_own h) =
@@ -96,7 +96,7 @@ in_message env name body ns d p =
     at (in_one m a h) =
         among_right
         (extensions_within (name_within (absolute_text env.scope) name)
-        (flat_map (bodies.extensions_of (env_inside env name)) body)) (in_nested
+        (flat_map (bodies.extended_of (env_inside env name)) body)) (in_nested
         (name_within (absolute_text env.scope) name) ns m d a h)
 
 in_extend : (env : Environment) (extendee : Text) (fs : List FieldStatementSyntax)
@@ -119,24 +119,24 @@ either : (env : Environment) (s : MessageStatementSyntax) (ss : MessageStatement
     (e : DeclaredExtension)
     → SplitAmong (names.extensions_of env.scope s) (names.extensions_in env.scope ss) e
     → (Among (names.extensions_of env.scope s) e
-    → InBody env (bodies.extensions_of env s) (nested_of env s) e)
+    → InBody env (bodies.extended_of env s) (nested_of env s) e)
     → (Among (names.extensions_in env.scope ss) e
-    → InBody env (flat_map (bodies.extensions_of env) (message_body ss)) (nested_in env ss) e)
-    → InBody env (flat_map (bodies.extensions_of env) (message_body (more_statements s ss)))
+    → InBody env (flat_map (bodies.extended_of env) (message_body ss)) (nested_in env ss) e)
+    → InBody env (flat_map (bodies.extended_of env) (message_body (more_statements s ss)))
     (nested_in env (more_statements s ss)) e
 either env s ss e (left k) first others =
-    placed_left (absolute_text env.scope) (bodies.extensions_of env s)
-    (flat_map (bodies.extensions_of env) (message_body ss)) (nested_of env s) (nested_in env ss)
+    placed_left (absolute_text env.scope) (bodies.extended_of env s)
+    (flat_map (bodies.extended_of env) (message_body ss)) (nested_of env s) (nested_in env ss)
     (described env e) (first k)
 either env s ss e (right k) first others =
-    placed_right (absolute_text env.scope) (bodies.extensions_of env s)
-    (flat_map (bodies.extensions_of env) (message_body ss)) (nested_of env s) (nested_in env ss)
+    placed_right (absolute_text env.scope) (bodies.extended_of env s)
+    (flat_map (bodies.extended_of env) (message_body ss)) (nested_of env s) (nested_in env ss)
     (described env e) (others k)
 
 mutual
   of_statement : (env : Environment) (s : MessageStatementSyntax) (e : DeclaredExtension)
       → Among (names.extensions_of env.scope s) e
-      → InBody env (bodies.extensions_of env s) (nested_of env s) e
+      → InBody env (bodies.extended_of env s) (nested_of env s) e
   of_statement env (message_extend x) e h = its_own (in_extend env x.extendee x.fields e h)
   of_statement env (message_message place name body) e h =
       in_one (message_from env name (message_body body) (nested_in (env_inside env name) body)) here
@@ -147,7 +147,7 @@ mutual
 
   of_list : (env : Environment) (ss : MessageStatementList) (e : DeclaredExtension)
       → Among (names.extensions_in env.scope ss) e
-      → InBody env (flat_map (bodies.extensions_of env) (message_body ss)) (nested_in env ss) e
+      → InBody env (flat_map (bodies.extended_of env) (message_body ss)) (nested_in env ss) e
   of_list env no_statements e h = elim h [ ]
   of_list env (more_statements s ss) e h =
       either env s ss e
@@ -183,7 +183,7 @@ of_file_statement env (file_message m) e h =
     (in_message env m.name m.body (flat_map (nested_of (env_inside env m.name)) m.body)
     (described env e)
     (of_each (env_inside env m.name) (names.extensions_of (names.inside env.scope m.name))
-    (bodies.extensions_of (env_inside env m.name)) (nested_of (env_inside env m.name))
+    (bodies.extended_of (env_inside env m.name)) (nested_of (env_inside env m.name))
     (of_statement (env_inside env m.name)) m.body e h))
 of_file_statement env _ e h = elim h [ ]
 

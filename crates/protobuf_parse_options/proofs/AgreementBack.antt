@@ -151,21 +151,21 @@ out_of_message : (env : Environment) (name : Text) (body : List MessageStatement
     → Among (extensions_by
     (declared_message (absolute_text env.scope) (message_from env name body ns))) d
     → Placed (absolute_text (names.inside env.scope name))
-    (flat_map (bodies.extensions_of (env_inside env name)) body) ns d
+    (flat_map (bodies.extended_of (env_inside env name)) body) ns d
 out_of_message env name body ns d h =
-    subst (λ (s : Text). Placed s (flat_map (bodies.extensions_of (env_inside env name)) body) ns d)
+    subst (λ (s : Text). Placed s (flat_map (bodies.extended_of (env_inside env name)) body) ns d)
     (sym (scope_inside env.scope name))
     (at (split_among
     (extensions_within (name_within (absolute_text env.scope) name)
-    (flat_map (bodies.extensions_of (env_inside env name)) body)) (extensions_by
+    (flat_map (bodies.extended_of (env_inside env name)) body)) (extensions_by
     (declared_messages (name_within (absolute_text env.scope) name) (messages_of_list ns))) d h))
   where
     at : SplitAmong
         (extensions_within (name_within (absolute_text env.scope) name)
-        (flat_map (bodies.extensions_of (env_inside env name)) body)) (extensions_by
+        (flat_map (bodies.extended_of (env_inside env name)) body)) (extensions_by
         (declared_messages (name_within (absolute_text env.scope) name) (messages_of_list ns))) d
         → Placed (name_within (absolute_text env.scope) name)
-        (flat_map (bodies.extensions_of (env_inside env name)) body) ns d
+        (flat_map (bodies.extended_of (env_inside env name)) body) ns d
     at (left k) = its_own k
     at (right k) =
         let o = held_by (name_within (absolute_text env.scope) name) ns d
@@ -185,7 +185,7 @@ Stands env own nested d = Placed (absolute_text env.scope) own nested d
 
 mutual
   from_statement : (env : Environment) (s : MessageStatementSyntax) (d : Declared FieldDescriptor)
-      → Stands env (bodies.extensions_of env s) (nested_of env s) d
+      → Stands env (bodies.extended_of env s) (nested_of env s) d
       → Comes env (names.extensions_of env.scope s) d
   from_statement env (message_extend x) d (its_own h) = from_extend env x.extendee x.fields d h
   from_statement env (message_extend x) d (in_one m a h) =
@@ -206,14 +206,14 @@ mutual
   from_statement env _ d (in_one m a h) = elim a [ ]
 
   from_list : (env : Environment) (ss : MessageStatementList) (d : Declared FieldDescriptor)
-      → Stands env (flat_map (bodies.extensions_of env) (message_body ss)) (nested_in env ss) d
+      → Stands env (flat_map (bodies.extended_of env) (message_body ss)) (nested_in env ss) d
       → Comes env (names.extensions_in env.scope ss) d
   from_list env no_statements d (its_own h) = elim h [ ]
   from_list env no_statements d (in_one m a h) = elim a [ ]
   from_list env (more_statements s ss) d p =
       joined env (names.extensions_of env.scope s) (names.extensions_in env.scope ss) d _ _
-      (split_placed (absolute_text env.scope) (bodies.extensions_of env s)
-      (flat_map (bodies.extensions_of env) (message_body ss)) (nested_of env s)
+      (split_placed (absolute_text env.scope) (bodies.extended_of env s)
+      (flat_map (bodies.extended_of env) (message_body ss)) (nested_of env s)
       (nested_in env ss) d p)
       (λ k. from_statement env s d k) (λ k. from_list env ss d k)
 
@@ -240,7 +240,7 @@ from_file_statement env (file_extend x) d (in_one m a h) =
 from_file_statement env (file_message m) d (its_own h) = elim h [ ]
 from_file_statement env (file_message m) d (in_one _ here h) =
     let c = from_each (env_inside env m.name) (names.extensions_of (names.inside env.scope m.name))
-    (bodies.extensions_of (env_inside env m.name)) (nested_of (env_inside env m.name))
+    (bodies.extended_of (env_inside env m.name)) (nested_of (env_inside env m.name))
     (from_statement (env_inside env m.name)) m.body d
     (out_of_message env m.name m.body (flat_map (nested_of (env_inside env m.name)) m.body) d h) in
     record { extension = c.extension; among = c.among; is = c.is }

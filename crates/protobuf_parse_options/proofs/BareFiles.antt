@@ -20,7 +20,7 @@ use Rattle.protobuf_parse_model.specs.Enums.{enum_values, value_of, enum_of}
 use Rattle.protobuf_parse_model.specs.Services.{methods_in, method_of, service_of}
 use Rattle.protobuf_parse_model.specs.Messages as bodies
 use Rattle.protobuf_parse_model.specs.Messages.{message_with, entries_of, messages_behind}
-use Rattle.protobuf_parse_model.specs.Messages.{has_own_oneof, oneofs_of, in_oneof, fields_of}
+use Rattle.protobuf_parse_model.specs.Messages.{has_own_oneof, oneofs_of, at_oneof, fields_of}
 use Rattle.protobuf_parse_model.specs.Messages.{fields_from, extending, message_from, nested_of}
 use Rattle.protobuf_parse_model.specs.Messages.{nested_in, message_of}
 use Rattle.protobuf_parse_model.specs.FileDescriptor as files
@@ -114,9 +114,9 @@ module _ (one other : Customs) where
       → map bare_field (fields_of (by_one env) i s) ≡ map bare_field (fields_of (by_other env) i s)
   fields-of-alike env i (message_field f) =
       ap (λ (d : FieldDescriptor). d ∷ [])
-      (field-alike env (if has_own_oneof env f then in_oneof i else plain) f)
+      (field-alike env (if has_own_oneof env f then at_oneof i else plain) f)
   fields-of-alike env i (message_oneof o) =
-      fields-alike env (in_oneof i) (flat_map oneof_fields o.body)
+      fields-alike env (at_oneof i) (flat_map oneof_fields o.body)
   fields-of-alike env i _ = refl
 
   oneofs-alike : (env : Environment) (s : MessageStatementSyntax)
@@ -146,8 +146,8 @@ module _ (one other : Customs) where
       ∙ fields-from-alike env (i + length (oneofs_of (by_other env) s)) ss)
 
   extensions-alike : (env : Environment) (s : MessageStatementSyntax)
-      → map bare_field (bodies.extensions_of (by_one env) s)
-      ≡ map bare_field (bodies.extensions_of (by_other env) s)
+      → map bare_field (bodies.extended_of (by_one env) s)
+      ≡ map bare_field (bodies.extended_of (by_other env) s)
   extensions-alike env (message_extend e) = fields-alike env (extending env e.extendee) e.fields
   extensions-alike env _ = refl
 
@@ -194,8 +194,8 @@ module _ (one other : Customs) where
       (oneofs_of (by_other (env_inside env name))) (oneofs-alike (env_inside env name)) body in
       let enums = all-alike bare_enum (bodies.enums_of (by_one (env_inside env name)))
       (bodies.enums_of (by_other (env_inside env name))) (enums-alike (env_inside env name)) body in
-      let extensions = all-alike bare_field (bodies.extensions_of (by_one (env_inside env name)))
-      (bodies.extensions_of (by_other (env_inside env name)))
+      let extensions = all-alike bare_field (bodies.extended_of (by_one (env_inside env name)))
+      (bodies.extended_of (by_other (env_inside env name)))
       (extensions-alike (env_inside env name)) body in
       rw (fields, oneofs, enums, extensions, nested) refl
 

@@ -19,7 +19,8 @@ use Rattle.protobuf_parse_model.specs.Declarations.{file_generated}
 use Rattle.protobuf_parse_model.specs.Environment.{no_customs}
 use Rattle.protobuf_parse_model.specs.FileDescriptor.{types_of_files}
 use Rattle.protobuf_parse_model.specs.NamedTypes as model
-use Rattle.protobuf_parse_model.specs.NamedTypes.{in_message, in_messages, declared_message_name}
+use Rattle.protobuf_parse_model.specs.NamedTypes.{down_from, down_from_all}
+use Rattle.protobuf_parse_model.specs.NamedTypes.{declared_message_name}
 use Rattle.protobuf_parse_model.specs.NamedTypes.{messages_declared, has_name}
 use Rattle.protobuf_parse_model.specs.FilesByPath.{Trees, among, trees_at}
 use Rattle.protobuf_parse_model.specs.Linking.{type_names, occurrences}
@@ -156,33 +157,33 @@ named_among n (x ∷ ds) d (there h) e = later (bytes_eq n x.name) (named_among 
 mutual
   -- of a message and those inside it
   listed_in : (list : MessageParts → List FieldDescriptor) (scope : Text) (m : MessageDescriptor)
-      → flat_map (λ (d : Declaration). list d.parts) (declared_message scope m) ≡ in_message list m
+      → flat_map (λ (d : Declaration). list d.parts) (declared_message scope m) ≡ down_from list m
   listed_in list scope (a_message parts inside) =
       ap (λ fs. list parts ++ fs) (listed_all list (name_within scope parts.name) inside)
 
   listed_all : (list : MessageParts → List FieldDescriptor) (scope : Text) (ms : MessageDescriptors)
       → flat_map (λ (d : Declaration). list d.parts) (declared_messages scope ms)
-      ≡ in_messages list ms
+      ≡ down_from_all list ms
   listed_all list scope no_messages = refl
   listed_all list scope (messages m ms) =
       flat_map-append (λ (d : Declaration). list d.parts) (declared_message scope m)
       (declared_messages scope ms)
       ∙ ap (λ fs. fs ++ flat_map (λ (d : Declaration). list d.parts) (declared_messages scope ms))
       (listed_in list scope m)
-      ∙ ap (λ fs. in_message list m ++ fs) (listed_all list scope ms)
+      ∙ ap (λ fs. down_from list m ++ fs) (listed_all list scope ms)
 
 -- of several
 listed_each : (list : MessageParts → List FieldDescriptor) (scope : Text)
     (ms : List MessageDescriptor)
     → flat_map (λ (d : Declaration). list d.parts) (flat_map (declared_message scope) ms)
-    ≡ flat_map (in_message list) ms
+    ≡ flat_map (down_from list) ms
 listed_each list scope [] = refl
 listed_each list scope (m ∷ ms) =
     flat_map-append (λ (d : Declaration). list d.parts) (declared_message scope m)
     (flat_map (declared_message scope) ms)
     ∙ ap (λ fs. fs ++ flat_map (λ (d : Declaration). list d.parts)
     (flat_map (declared_message scope) ms)) (listed_in list scope m)
-    ∙ ap (λ fs. in_message list m ++ fs) (listed_each list scope ms)
+    ∙ ap (λ fs. down_from list m ++ fs) (listed_each list scope ms)
 
 -- a field of a message of the file is one of the file
 field_of_file : (file : FileDescriptor) (d : Declaration) (f : FieldDescriptor)
@@ -215,7 +216,7 @@ unnamed_all (d ∷ ds) =
 
 -- the extensions of a file are those that its descriptor has
 extensions_are : (file : FileDescriptor) → wire.extensions_declared_in file
-    ≡ model.extensions_in file
+    ≡ model.extended_in file
 extensions_are file =
     let inner : List (Declared FieldDescriptor) =
     flat_map (λ (d : Declaration). extensions_within d.name d.parts.extension)
@@ -226,7 +227,7 @@ extensions_are file =
     ∙ ap (λ fs. fs ++ map (λ (e : Declared FieldDescriptor). e.what)
     (extensions_within scope file.extension)) (unnamed_all (messages_declared_in file)
     ∙ listed_each (λ (m : MessageParts). m.extension) scope file.message_type)
-    ∙ ap (λ fs. flat_map (in_message (λ (m : MessageParts). m.extension)) file.message_type ++ fs)
+    ∙ ap (λ fs. flat_map (down_from (λ (m : MessageParts). m.extension)) file.message_type ++ fs)
     (unnamed scope file.extension)
 
 -- ---- files by their paths
@@ -479,10 +480,10 @@ module _ (trees : Trees) (sees : Text → List Text) (reached : List Text)
     listed : among path reached ≡ true
     has_tree : trees path ≡ Some tree
     stands : Among (model.fields_in (described_at (plainly trees sees) path tree)
-        ++ model.extensions_in (described_at (plainly trees sees) path tree)) f
+        ++ model.extended_in (described_at (plainly trees sees) path tree)) f
 
   of_file : (file : FileDescriptor) (f : FieldDescriptor) → Among files file
-      → Among (model.fields_in file ++ model.extensions_in file) f → IsOfFile f
+      → Among (model.fields_in file ++ model.extended_in file) f → IsOfFile f
   of_file file f h k =
       let d = described trees (plainly trees sees) reached file h in
       record {
@@ -491,7 +492,7 @@ module _ (trees : Trees) (sees : Text → List Text) (reached : List Text)
         listed = d.listed;
         has_tree = d.has_tree;
         stands =
-            subst (λ (x : FileDescriptor). Among (model.fields_in x ++ model.extensions_in x) f)
+            subst (λ (x : FileDescriptor). Among (model.fields_in x ++ model.extended_in x) f)
             (sym d.is) k;
       }
 
@@ -506,7 +507,7 @@ module _ (trees : Trees) (sees : Text → List Text) (reached : List Text)
       let inside : Among d.one.parts.field f =
       subst (λ (m : MessageParts). Among m.field f) (sym d.is) parts.inside in
       of_file file.one f file.stands
-      (among_left (model.extensions_in file.one)
+      (among_left (model.extended_in file.one)
       (field_of_file file.one d.one f file.inside inside))
 
   extension_of_one : (message : Text) (f : FieldDescriptor)

@@ -49,11 +49,11 @@ message-names : (env : Environment) (name : Text) (body : List MessageStatementS
     (ns : List MessageDescriptor)
     → messages_within (absolute_text env.scope) (message_from env name body ns ∷ [])
     ≡ fields_within (absolute_text (names.inside env.scope name))
-    (flat_map (bodies.extensions_of (env_inside env name)) body)
+    (flat_map (bodies.extended_of (env_inside env name)) body)
     ++ messages_within (absolute_text (names.inside env.scope name)) ns
 message-names env name body ns =
     let inner : Text = name_within (absolute_text env.scope) name in
-    let own : List FieldDescriptor = flat_map (bodies.extensions_of (env_inside env name)) body in
+    let own : List FieldDescriptor = flat_map (bodies.extended_of (env_inside env name)) body in
     ap (flat_map names_of)
     (append-nil (declared_message (absolute_text env.scope) (message_from env name body ns)))
     ∙ ap (λ (ds : List Declaration). fields_within inner own ++ flat_map names_of ds)
@@ -152,11 +152,11 @@ module _ (n : Text) where
   message-alike : (env : Environment) (name : Text) (body : List MessageStatementSyntax)
       (told : List DeclaredExtension) (ns : List MessageDescriptor)
       → Alike (absolute_text (names.inside env.scope name)) told
-      (flat_map (bodies.extensions_of (env_inside env name)) body) ns
+      (flat_map (bodies.extended_of (env_inside env name)) body) ns
       → Alike (absolute_text env.scope) told [] (message_from env name body ns ∷ [])
   message-alike env name body told ns h =
       let s : Text = absolute_text (names.inside env.scope name) in
-      let own : List FieldDescriptor = flat_map (bodies.extensions_of (env_inside env name)) body in
+      let own : List FieldDescriptor = flat_map (bodies.extended_of (env_inside env name)) body in
       sums _ _ _ _
       (ap (occurrences n) (message-names env name body ns)
       ∙ count-append n (fields_within s own) (messages_within s ns))
@@ -168,7 +168,7 @@ module _ (n : Text) where
   mutual
     statement-alike : (env : Environment) (s : MessageStatementSyntax)
         → Alike (absolute_text env.scope) (names.extensions_of env.scope s)
-        (bodies.extensions_of env s) (nested_of env s)
+        (bodies.extended_of env s) (nested_of env s)
     statement-alike env (message_message place name body) =
         message-alike env name (message_body body)
         (names.extensions_in (names.inside env.scope name) body)
@@ -185,12 +185,12 @@ module _ (n : Text) where
 
     list-alike : (env : Environment) (ss : MessageStatementList)
         → Alike (absolute_text env.scope) (names.extensions_in env.scope ss)
-        (flat_map (bodies.extensions_of env) (message_body ss)) (nested_in env ss)
+        (flat_map (bodies.extended_of env) (message_body ss)) (nested_in env ss)
     list-alike env no_statements = refl
     list-alike env (more_statements s ss) =
         both-alike (absolute_text env.scope) (names.extensions_of env.scope s)
-        (names.extensions_in env.scope ss) (bodies.extensions_of env s)
-        (flat_map (bodies.extensions_of env) (message_body ss)) (nested_of env s) (nested_in env ss)
+        (names.extensions_in env.scope ss) (bodies.extended_of env s)
+        (flat_map (bodies.extended_of env) (message_body ss)) (nested_of env s) (nested_in env ss)
         (statement-alike env s) (list-alike env ss)
 
   -- of each of a list
@@ -212,7 +212,7 @@ module _ (n : Text) where
       (flat_map (nested_of (env_inside env m.name)) m.body)
       (each-alike (absolute_text (names.inside env.scope m.name))
       (names.extensions_of (names.inside env.scope m.name))
-      (bodies.extensions_of (env_inside env m.name)) (nested_of (env_inside env m.name))
+      (bodies.extended_of (env_inside env m.name)) (nested_of (env_inside env m.name))
       (statement-alike (env_inside env m.name)) m.body)
   file_statement-alike env (file_extend e) = extend-alike env e
   file_statement-alike env _ = refl

@@ -25,7 +25,7 @@ use Rattle.protobuf_parse_model.specs.Faults.{Among, here, there}
 use Rattle.protobuf_parse_model.specs.Statements.{group_body, message_body, oneof_fields}
 use Rattle.protobuf_parse_model.specs.Declarations.{Scope}
 use Rattle.protobuf_parse_model.specs.Environment.{Environment, Customs, env_inside, customs_bytes}
-use Rattle.protobuf_parse_model.specs.OptionsSet.{message_options}
+use Rattle.protobuf_parse_model.specs.OptionMessages.{message_options}
 use Rattle.protobuf_parse_model.specs.Fields.{FieldPlace, plain, field_of, field_statement_of}
 use Rattle.protobuf_parse_model.specs.Enums.{enum_values, options_of_enum, value_of, enum_of}
 use Rattle.protobuf_parse_model.specs.Services.{methods_in, options_of_service, options_of_method}
@@ -33,7 +33,7 @@ use Rattle.protobuf_parse_model.specs.Services.{method_of, service_of}
 use Rattle.protobuf_parse_model.specs.Messages as messages
 use Rattle.protobuf_parse_model.specs.Messages.{entries_of, messages_behind, own_oneof}
 use Rattle.protobuf_parse_model.specs.Messages.{has_own_oneof, oneof_of, options_in_oneof}
-use Rattle.protobuf_parse_model.specs.Messages.{in_oneof, fields_of, fields_from, extending}
+use Rattle.protobuf_parse_model.specs.Messages.{at_oneof, fields_of, fields_from, extending}
 use Rattle.protobuf_parse_model.specs.Messages.{options_of_body, message_from, nested_of, nested_in}
 use Rattle.protobuf_parse_model.specs.Messages.{message_of, oneofs_of}
 use Rattle.protobuf_parse_model.specs.FileDescriptor as files
@@ -419,14 +419,14 @@ own_oneof_holds f false = refl
 abbrev held_in_statement : Environment → ℕ → MessageStatementSyntax → List HeldBytes
 held_in_statement env index s =
     held_in_parts (fields_of env index s) (oneofs_of env s) (messages.enums_of env s)
-    (messages.extensions_of env s) (nested_of env s)
+    (messages.extended_of env s) (nested_of env s)
 
 -- and a body, with the messages inside it
 abbrev held_in_body : Environment → ℕ → List MessageStatementSyntax → List MessageDescriptor
     → List HeldBytes
 held_in_body env index ss ms =
     held_in_parts (fields_from env index ss) (flat_map (oneofs_of env) ss)
-    (flat_map (messages.enums_of env) ss) (flat_map (messages.extensions_of env) ss) ms
+    (flat_map (messages.enums_of env) ss) (flat_map (messages.extended_of env) ss) ms
 
 -- messages, by their list
 held_in_list : (ms : List MessageDescriptor)
@@ -465,7 +465,7 @@ more_held env index s ss ms xs ys a b =
     ++ held_in_body env (index + length (oneofs_of env s)) ss ms)
     (held_in_body env index (s ∷ ss) (nested_of env s ++ ms))
     (parts_sorted (fields_of env index s) _ (oneofs_of env s) _ (messages.enums_of env s) _
-    (messages.extensions_of env s) _ (nested_of env s) ms)
+    (messages.extended_of env s) _ (nested_of env s) ms)
     (both_held env.customs xs ys _ _ a b)
 
 -- a field of a body
@@ -473,7 +473,7 @@ field_statement_held : (env : Environment) (index : ℕ) (f : FieldStatementSynt
     → HeldFor env.customs (field_sets env.scope f)
     (held_in_statement env index (message_field f))
 field_statement_held env index f =
-    let p = if has_own_oneof env f then in_oneof index else plain in
+    let p = if has_own_oneof env f then at_oneof index else plain in
     let one = held_in_field (field_statement_of env p f) in
     let behind = flat_map held_in_message (messages_behind env f) in
     equal_held env.customs (field_sets env.scope f) (one ++ behind)
@@ -489,7 +489,7 @@ oneof_held : (env : Environment) (index : ℕ) (o : OneofSyntax)
 oneof_held env index o =
     let fs = flat_map oneof_fields o.body in
     let own = held_in_oneof (oneof_of env o) in
-    let ones = flat_map held_in_field (map (field_statement_of env (in_oneof index)) fs) in
+    let ones = flat_map held_in_field (map (field_statement_of env (at_oneof index)) fs) in
     let behind = flat_map held_in_message (flat_map (messages_behind env) fs) in
     equal_held env.customs (oneof_sets env.scope o) (ones ++ own ++ behind)
     (held_in_statement env index (message_oneof o)) (oneof_parted ones own behind)
@@ -499,7 +499,7 @@ oneof_held env index o =
     (flat_map (field_sets env.scope) fs) own (ones ++ behind)
     (set_held env.customs (λ (d : OneofOptionsSet). d.custom) of.Oneof env.scope
     (options_in_oneof o) _ refl)
-    (fields_held env (in_oneof index) fs)))
+    (fields_held env (at_oneof index) fs)))
 
 mutual
   -- a statement of a body

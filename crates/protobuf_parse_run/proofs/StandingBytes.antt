@@ -28,7 +28,7 @@ use Rattle.protobuf_parse_model.specs.Services.{methods_in, options_of_service, 
 use Rattle.protobuf_parse_model.specs.Services.{method_of, service_of}
 use Rattle.protobuf_parse_model.specs.Messages as messages
 use Rattle.protobuf_parse_model.specs.Messages.{entries_of, messages_behind}
-use Rattle.protobuf_parse_model.specs.Messages.{options_in_oneof, oneofs_of, in_oneof}
+use Rattle.protobuf_parse_model.specs.Messages.{options_in_oneof, oneofs_of, at_oneof}
 use Rattle.protobuf_parse_model.specs.Messages.{fields_of, fields_from, extending, options_of_body}
 use Rattle.protobuf_parse_model.specs.Messages.{message_from, nested_of, nested_in, message_of}
 use Rattle.protobuf_parse_model.specs.FileDescriptor as files
@@ -259,8 +259,8 @@ module _ (one other : Customs) where
       → length (fields_of (by_one env) index s) ≡ length (fields_of (by_other env) index s)
   fields_length env index (message_field f) = refl
   fields_length env index (message_oneof o) =
-      map_length (field_statement_of (by_one env) (in_oneof index))
-      (field_statement_of (by_other env) (in_oneof index)) (flat_map oneof_fields o.body)
+      map_length (field_statement_of (by_one env) (at_oneof index))
+      (field_statement_of (by_other env) (at_oneof index)) (flat_map oneof_fields o.body)
   fields_length env index _ = refl
 
   oneofs_length : (env : Environment) (s : MessageStatementSyntax)
@@ -275,8 +275,8 @@ module _ (one other : Customs) where
   enums_length env _ = refl
 
   extensions_length : (env : Environment) (s : MessageStatementSyntax)
-      → length (messages.extensions_of (by_one env) s)
-      ≡ length (messages.extensions_of (by_other env) s)
+      → length (messages.extended_of (by_one env) s)
+      ≡ length (messages.extended_of (by_other env) s)
   extensions_length env (message_extend e) =
       map_length (field_statement_of (by_one env) (extending env e.extendee))
       (field_statement_of (by_other env) (extending env e.extendee)) e.fields
@@ -307,8 +307,8 @@ module _ (one other : Customs) where
     oneof_is : flat_map (oneofs_of (by_one env)) ss ≡ flat_map (oneofs_of (by_other env)) ss
     enum_is : flat_map (messages.enums_of (by_one env)) ss
         ≡ flat_map (messages.enums_of (by_other env)) ss
-    extension_is : flat_map (messages.extensions_of (by_one env)) ss
-        ≡ flat_map (messages.extensions_of (by_other env)) ss
+    extension_is : flat_map (messages.extended_of (by_one env)) ss
+        ≡ flat_map (messages.extended_of (by_other env)) ss
     nested_is : ms ≡ ns
 
   -- what a statement becomes is the same
@@ -316,7 +316,7 @@ module _ (one other : Customs) where
     field_is : fields_of (by_one env) index s ≡ fields_of (by_other env) index s
     oneof_is : oneofs_of (by_one env) s ≡ oneofs_of (by_other env) s
     enum_is : messages.enums_of (by_one env) s ≡ messages.enums_of (by_other env) s
-    extension_is : messages.extensions_of (by_one env) s ≡ messages.extensions_of (by_other env) s
+    extension_is : messages.extended_of (by_one env) s ≡ messages.extended_of (by_other env) s
     nested_is : nested_of (by_one env) s ≡ nested_of (by_other env) s
 
   -- the first statement of a body
@@ -393,7 +393,7 @@ module _ (one other : Customs) where
         (flat_map (field_sets env.scope) (flat_map oneof_fields o.body))
         (λ stated. made_with (λ o. o.custom) _ _ (options_in_oneof o) stated
         (ap (λ (d : OneofDescriptor). d.options) (first_same h.oneof_is)))
-        (fields_told env (in_oneof index) (flat_map oneof_fields o.body) h.field_is h.nested_is)
+        (fields_told env (at_oneof index) (flat_map oneof_fields o.body) h.field_is h.nested_is)
     statement_told env index (message_extend e) h =
         fields_told env (extending env e.extendee) e.fields h.extension_is h.nested_is
     statement_told env index (message_enum e) h = enum_told env e (first_same h.enum_is)

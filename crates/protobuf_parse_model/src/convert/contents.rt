@@ -8,7 +8,7 @@ ghost use Rattle.protobuf_parse_syntax.specs.Trees.{extend_view, file_extend, st
 ghost use Rattle.protobuf_parse_model.specs.Contexts.{environment_in};
 ghost use Rattle.protobuf_parse_model.specs.Descriptors as described;
 ghost use Rattle.protobuf_parse_model.specs.Faults.{Elaborates};
-ghost use Rattle.protobuf_parse_model.specs.FileDescriptor.{statement_faults};
+ghost use Rattle.protobuf_parse_model.specs.FileDescriptor.{file_faults_of};
 ghost use Rattle.protobuf_parse_model.specs.FileParts.{parts_faults, parts_of_file, parts_view};
 ghost use Rattle.protobuf_parse_model.specs.FileParts.{file_with, with_file_statement};
 ghost use Rattle.protobuf_parse_model.specs.Messages.{extend_faults};
@@ -97,7 +97,7 @@ pub fn contents_of<C: CustomOptions>(
     ensures { let env = environment_in (C.customs custom.now) context.now in
         let ss = map statement_view statements.now in
         Elaborates parts_view result
-        (parts_faults (parts_of_file env ss) ++ flat_map (statement_faults env) ss)
+        (parts_faults (parts_of_file env ss) ++ flat_map (file_faults_of env) ss)
         (parts_of_file env ss) }
 {
     let contents = declared(alloc, context, custom, statements)?;
@@ -127,7 +127,7 @@ fn declared<C: CustomOptions>(
     requires few { sum_by statement_count (map statement_view statements.now) ≤ 2147483647 }
     ensures { let env = environment_in (C.customs custom.now) context.now in
         let ss = map statement_view statements.now in
-        Elaborates parts_view result (flat_map (statement_faults env) ss) (parts_of_file env ss) }
+        Elaborates parts_view result (flat_map (file_faults_of env) ss) (parts_of_file env ss) }
 {
     let mut contents = Contents {
         message_type: Vec::new(alloc),
@@ -152,7 +152,7 @@ fn add_statement<C: CustomOptions>(
     requires few { statement_count (statement_view statement.now) ≤ 2147483647 }
     ensures { let env = environment_in (C.customs custom.now) context.now in
         let s = statement_view statement.now in
-        Elaborates (λ _. parts_view contents.new) result (statement_faults env s)
+        Elaborates (λ _. parts_view contents.new) result (file_faults_of env s)
         (with_file_statement env (parts_view contents.old) s) }
 {
     match statement {

@@ -12,7 +12,7 @@ ghost use Rattle.protobuf_parse_model.specs.Faults.{Elaborates};
 ghost use Rattle.protobuf_parse_model.specs.Environment.{customs_bytes};
 ghost use Rattle.protobuf_parse_model.specs.declared.customs.Construct.TheVariants as of;
 ghost use Rattle.protobuf_parse_model.specs.Options.{enum_options_view};
-ghost use Rattle.protobuf_parse_model.specs.OptionsSet as sets;
+ghost use Rattle.protobuf_parse_model.specs.OptionMessages as sets;
 
 use crate::convert::names::check_unlike;
 use crate::convert::options::{

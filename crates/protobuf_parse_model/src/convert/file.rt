@@ -13,7 +13,7 @@ ghost use Rattle.protobuf_parse_model.specs.FileDescriptor.{file_faults, file_of
 ghost use Rattle.protobuf_parse_model.specs.FileDescriptor.{options_of_statements};
 ghost use Rattle.protobuf_parse_model.specs.Environment.{customs_bytes};
 ghost use Rattle.protobuf_parse_model.specs.Options.{file_options_view};
-ghost use Rattle.protobuf_parse_model.specs.OptionsSet as sets;
+ghost use Rattle.protobuf_parse_model.specs.OptionMessages as sets;
 ghost use Rattle.protobuf_parse_model.specs.declared.customs.Construct.TheVariants as of;
 
 use crate::convert::contents::contents_of;

@@ -12,7 +12,7 @@ ghost use Rattle.protobuf_parse_model.specs.Descriptors as described;
 ghost use Rattle.protobuf_parse_model.specs.Faults.{Elaborates};
 ghost use Rattle.protobuf_parse_model.specs.Messages as messages;
 ghost use Rattle.protobuf_parse_model.specs.Options.{oneof_options_view};
-ghost use Rattle.protobuf_parse_model.specs.OptionsSet as sets;
+ghost use Rattle.protobuf_parse_model.specs.OptionMessages as sets;
 ghost use Rattle.protobuf_parse_model.specs.Statements as statements;
 
 use crate::convert::field::says_optional;

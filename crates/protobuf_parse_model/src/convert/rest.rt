@@ -13,7 +13,7 @@ ghost use Rattle.protobuf_parse_model.specs.Messages as messages;
 ghost use Rattle.protobuf_parse_model.specs.Environment.{customs_bytes};
 ghost use Rattle.protobuf_parse_model.specs.declared.customs.Construct.TheVariants as of;
 ghost use Rattle.protobuf_parse_model.specs.Options.{message_options_view};
-ghost use Rattle.protobuf_parse_model.specs.OptionsSet as sets;
+ghost use Rattle.protobuf_parse_model.specs.OptionMessages as sets;
 
 use crate::convert::options::{checked_customs, message_options, options_in};
 use crate::convert::reserved::{

@@ -14,7 +14,7 @@ ghost use Rattle.protobuf_parse_model.specs.declared.customs.Construct.TheVarian
 ghost use Rattle.protobuf_parse_model.specs.Faults.{Elaborates};
 ghost use Rattle.protobuf_parse_model.specs.OptionViews.{options_seen};
 ghost use Rattle.protobuf_parse_model.specs.Options.{method_options_view, service_options_view};
-ghost use Rattle.protobuf_parse_model.specs.OptionsSet as sets;
+ghost use Rattle.protobuf_parse_model.specs.OptionMessages as sets;
 ghost use Rattle.protobuf_parse_model.specs.Services as services;
 
 use crate::convert::names::check_unlike;

@@ -13,9 +13,9 @@ use Rattle.protobuf_parse_model.specs.Contexts.{environment_in}
 use Rattle.protobuf_parse_model.specs.Descriptors as described
 use Rattle.protobuf_parse_model.specs.Faults.{Blames}
 use Rattle.protobuf_parse_model.specs.FileDescriptor.{file_duplicates, file_faults, file_of}
-use Rattle.protobuf_parse_model.specs.FileDescriptor.{options_of_statements, statement_faults}
+use Rattle.protobuf_parse_model.specs.FileDescriptor.{options_of_statements, file_faults_of}
 use Rattle.protobuf_parse_model.specs.FileParts.{parts_faults, parts_of_file}
-use Rattle.protobuf_parse_model.specs.OptionsSet.{file_options}
+use Rattle.protobuf_parse_model.specs.OptionMessages.{file_options}
 use Rattle.protobuf_parse_model.proofs.Files.{blames_around, faultless, same_file, tells}
 use Rattle.protobuf_parse_model.proofs.convert.file.descriptor_in.Goals as goal
 
@@ -41,15 +41,15 @@ returns-in_err-contents g c =
     let t = file_view c.args.tree.now in
     let env = environment_in (g.C.CustomOptions.customs c.args.custom.now) c.args.context.now in
     let e = c.in_err-contents.field-0.0 in
-    let told : Blames e (file_duplicates env t ++ flat_map (statement_faults env) t.statements) =
+    let told : Blames e (file_duplicates env t ++ flat_map (file_faults_of env) t.statements) =
     subst (λ z.
     Blames e (parts_faults (parts_of_file env (map statement_view z))
-    ++ flat_map (statement_faults env) (map statement_view z))) c.deref.ensures.value
+    ++ flat_map (file_faults_of env) (map statement_view z))) c.deref.ensures.value
     c.in_err-contents.ensures in
     let whole : Blames e (file_faults env t) =
     blames_around e (file_duplicates env t)
     (construct_faults env of.File file_table (options_of_statements t.statements))
-    (flat_map (statement_faults env) t.statements) told in
+    (flat_map (file_faults_of env) t.statements) told in
     tells described.file_view c.from_residual.result e (file_faults env t)
     (file_of env c.args.name.now t) c.from_residual.ensures whole
 
@@ -58,9 +58,9 @@ unfolding dependencies_of
 returns g c =
     let t = file_view c.args.tree.now in
     let env = environment_in (g.C.CustomOptions.customs c.args.custom.now) c.args.context.now in
-    let no_parts : file_duplicates env t ++ flat_map (statement_faults env) t.statements
+    let no_parts : file_duplicates env t ++ flat_map (file_faults_of env) t.statements
     ≡ [] = ap (λ z. parts_faults (parts_of_file env (map statement_view z))
-    ++ flat_map (statement_faults env) (map statement_view z)) (sym c.deref.ensures.value)
+    ++ flat_map (file_faults_of env) (map statement_view z)) (sym c.deref.ensures.value)
     ∙ c.in_ok-contents.ensures.0 in
     let no_options : construct_faults env of.File file_table (options_of_statements t.statements)
     ≡ [] = ap
@@ -77,7 +77,7 @@ returns g c =
     let heading = c.in_ok-heading.ensures in (
       faultless (file_duplicates env t)
           (construct_faults env of.File file_table (options_of_statements t.statements))
-          (flat_map (statement_faults env) t.statements) no_parts no_options,
+          (flat_map (file_faults_of env) t.statements) no_parts no_options,
       c.into_file.ensures
           ∙ same_file heading.name heading.package_name heading.syntax lists parts options,
     )
