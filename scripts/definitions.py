@@ -113,6 +113,7 @@ def exported(crate):
     names = set()
     for found in re.finditer(r"pub use [\w:]+?(?:::\{([^}]*)\}|::(\w+));", text):
         names |= {n.strip() for n in (found.group(1) or found.group(2)).split(",") if n.strip()}
+    names |= set(re.findall(r"(?m)^pub fn (\w+)", text))
     return names, set(re.findall(r"pub mod (\w+)", text))
 
 
