@@ -70,7 +70,7 @@ pub record HoldsOptions (files : Files) (run : List Text) (p : Text) (s : Option
   pub spelled : Spells (denoted_in files p s) (bytes_in files p s)
   -- none, where no custom option is set
   pub nothing : (HasCustom s.statements → ⊥) → bytes_in files p s ≡ []
-  -- in which at most 200 messages stand inside one another
+  -- What they denote has at most 200 messages inside one another, as any reader goes that deep.
   pub shallow : depth (denoted_in files p s) ≤ 200
   -- Where one is set they are read back by the files that p reaches, and so by those that any other
   -- file of the run reaches which reaches p. Asked for is that numbers of fields are distinct
