@@ -7,7 +7,7 @@ use Rattle.protobuf_parse_syntax.specs.Trees.{FileSyntax}
 use Rattle.protobuf_parse_model.specs.Descriptors.{Text}
 use Rattle.protobuf_parse_model.specs.Declarations.{DeclaredType, file_types, file_generated}
 use Rattle.protobuf_parse_model.specs.Environment.{no_customs}
-use Rattle.protobuf_parse_model.specs.Faults.{Among, here, there}
+use Rattle.protobuf_parse_model.specs.Faults.{Among}
 use Rattle.protobuf_parse_model.specs.FilesByPath.{among, trees_at}
 use Rattle.protobuf_parse_model.specs.FileDescriptor.{types_of_files}
 use Rattle.protobuf_parse_model.specs.NamedTypes.{names_declared}
@@ -18,16 +18,7 @@ use Rattle.protobuf_parse_run.specs.Run.{customs_of}
 use Rattle.protobuf_parse_run.specs.TypeNames.{IsDeclaredInReach, NamesAreReached}
 use Rattle.protobuf_parse_run.proofs.Knowing.{sees-reaches}
 use Rattle.protobuf_parse_run.proofs.Recovering.{own-faultless}
-
--- what stands among two lists joined stands among one of them
-in-parts : {A : Type 0} {x : A} (xs ys : List A) → Among (xs ++ ys) x
-    → Among xs x ⊎ Among ys x
-in-parts [] ys h = inr h
-in-parts (z ∷ xs) ys here = inl here
-in-parts (z ∷ xs) ys (there h) = elim (in-parts xs ys h) [
-  | inl w ↦ inl (there w)
-  | inr w ↦ inr w
-]
+use Rattle.protobuf_parse_run.proofs.StandingBytes.{among_parts}
 
 abbrev name_of_type : DeclaredType → Text
 name_of_type d = d.name
@@ -37,7 +28,7 @@ first-or-rest : (u : FileSyntax) (us : List FileSyntax) (name : Text)
     → Among (names_declared (u ∷ us)) name
     → Among (names_declared (u ∷ [])) name ⊎ Among (names_declared us) name
 first-or-rest u us name h =
-    elim (in-parts (map name_of_type (file_types u)) (map name_of_type (types_of_files us))
+    elim (among_parts (map name_of_type (file_types u)) (map name_of_type (types_of_files us))
     (subst (λ (ns : List Text). Among ns name)
     (map-append name_of_type (file_types u) (types_of_files us)) h)) [
       | inl w ↦ inl (subst (λ (ds : List DeclaredType). Among (map name_of_type ds) name)
@@ -87,7 +78,7 @@ declared-at trees (p ∷ paths) name h =
 
 pub names_are_reached : NamesAreReached
 names_are_reached files inputs read clean p t m is name h =
-    elim (in-parts (names_declared (trees_at files.trees (files.seen p))) (file_generated t)
+    elim (among_parts (names_declared (trees_at files.trees (files.seen p))) (file_generated t)
     (names_are_declared (trees_at files.trees (files.seen p)) no_customs (customs_of files p) p t
     name (own-faultless files inputs clean read p t is m) h)) [
       | inl w ↦
