@@ -6,11 +6,11 @@ use Rattle.protobuf_parse_syntax.specs.Text.{Bytes}
 use Rattle.protobuf_parse_syntax.specs.Parsing.{HasTree}
 use Rattle.protobuf_parse_syntax.specs.Trees.{FileSyntax}
 use Rattle.protobuf_parse_model.specs.Descriptors.{Text}
-use Rattle.protobuf_parse_model.specs.Faults.{Among, Fault}
+use Rattle.protobuf_parse_model.specs.Faults.{Among}
 use Rattle.protobuf_parse_model.specs.Environment.{no_customs}
 use Rattle.protobuf_parse_model.specs.FileDescriptor.{environment, file_faults}
 use Rattle.protobuf_parse_model.specs.FilesByPath.{among, leads, stays, trees_at}
-use Rattle.protobuf_parse_model.specs.Linking.{before_others, link_faults}
+use Rattle.protobuf_parse_model.specs.Linking.{link_faults}
 use Rattle.protobuf_parse_model.specs.OptionSets.{OptionSet, option_sets}
 use Rattle.protobuf_parse_model.specs.declared.descriptor.FileDescriptorProto.{FileDescriptorProto}
 use Rattle.protobuf_parse_options.specs.CustomFaults.{custom_option_faults}
@@ -33,10 +33,10 @@ use Rattle.protobuf_parse_options.proofs.Sound.{text_sound}
 use Rattle.protobuf_parse_options.proofs.WithoutOptions.{customs_are_options}
 use Rattle.protobuf_parse_options.proofs.WithoutOptions.{customs_make_no_difference}
 use Rattle.protobuf_parse_options.proofs.WithoutOptions.{meaning_ignores_options}
-use Rattle.protobuf_parse_run.specs.Walks.{Asked, Input, Reaches, elab_paths, events}
-use Rattle.protobuf_parse_run.specs.Run.{Files, FilesAreListed, RunEnds, HasTrees, IsTree}
+use Rattle.protobuf_parse_run.specs.Walks.{Asked, Input, Reaches}
+use Rattle.protobuf_parse_run.specs.Run.{Files, IsTree}
 use Rattle.protobuf_parse_run.specs.Run.{RunsAsTold}
-use Rattle.protobuf_parse_run.specs.Run.{environment_of, faults_at, plain_environments, plains_at}
+use Rattle.protobuf_parse_run.specs.Run.{environment_of, plain_environments, plains_at}
 use Rattle.protobuf_parse_run.specs.Run.{text_read}
 use Rattle.protobuf_parse_run.specs.Recovered.{HoldsOptions, IsReadBack, OptionsAreHeld, bytes_in}
 use Rattle.protobuf_parse_run.specs.Recovered.{AreFilesTogether, AreNumberedApart}

@@ -1,6 +1,6 @@
 -- What custom options add to a file: faults beside its others, and bytes in its descriptor.
-use Rattle.std.proofs.Common.{◌≡◌, inl, inr, ℕ, List, [], ◌∷◌, flat_map, Option, Some, None, Result}
-use Rattle.std.proofs.Common.{Ok, Err, refl, sym, ◌∙◌, ap, subst}
+use Rattle.std.proofs.Common.{◌≡◌, inl, inr, ℕ, List, [], ◌∷◌, flat_map, Some, None}
+use Rattle.std.proofs.Common.{Ok, Err, refl, ◌∙◌, ap, subst}
 use Rattle.protobuf_parse_syntax.specs.Trees.{FileSyntax, OptionSyntax}
 use Rattle.protobuf_parse_model.specs.Descriptors.{Text, FileDescriptor}
 use Rattle.protobuf_parse_model.specs.Environment.{Customs, no_customs, no_extensions}
@@ -27,7 +27,6 @@ use Rattle.protobuf_parse_run.specs.Loading.{Describes, LoadedEntry, customs_ove
 use Rattle.protobuf_parse_run.specs.Loading.{plain_over}
 use Rattle.protobuf_parse_run.specs.Loading.{plains_over}
 use Rattle.protobuf_parse_run.specs.Run.{Files, customs_of}
-use Rattle.protobuf_parse_run.specs.declared.describe.Described.{Described}
 
 -- ** the faults of a file but those of names that are declared twice
 

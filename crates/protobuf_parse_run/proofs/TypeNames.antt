@@ -1,5 +1,5 @@
 -- Each name of a type in the descriptors of an accepted run is declared by a file that is reached.
-use Rattle.std.proofs.Common.{◌≡◌, ◌⊎◌, inl, inr, true, List, [], ◌∷◌, ◌++◌, map, flat_map, Option}
+use Rattle.std.proofs.Common.{◌≡◌, ◌⊎◌, inl, inr, true, List, [], ◌∷◌, ◌++◌, map, Option}
 use Rattle.std.proofs.Common.{Some, None, option_to_list, refl, subst, bytes_eq, sym}
 use Rattle.std.proofs.lemmas.Bool.{or_right}
 use Rattle.std.proofs.lemmas.List.{map-append, append-nil}
@@ -15,7 +15,7 @@ use Rattle.protobuf_parse_model.proofs.NamedTypes.{names_are_declared}
 use Rattle.protobuf_parse_model.proofs.Orders.{first-among}
 use Rattle.protobuf_parse_run.specs.Walks.{Trees}
 use Rattle.protobuf_parse_run.specs.Run.{customs_of}
-use Rattle.protobuf_parse_run.specs.TypeNames.{IsDeclaredInReach, NamesAreReached}
+use Rattle.protobuf_parse_run.specs.TypeNames.{NamesAreReached}
 use Rattle.protobuf_parse_run.proofs.Knowing.{sees-reaches}
 use Rattle.protobuf_parse_run.proofs.Recovering.{own-faultless}
 use Rattle.protobuf_parse_run.proofs.StandingBytes.{among_parts}
