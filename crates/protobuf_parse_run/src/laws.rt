@@ -35,8 +35,9 @@ pub fn seen_files_are_reached()
 /// message of its kind of construct holds its bytes (`stand`). Each options message holds no bytes,
 /// or those of such a set of its kind of construct (`others`). And where a file becomes the same by
 /// two ways to write custom options, each of its sets that has a statement becomes the same bytes
-/// by both (`told`). So what `run_inputs` says of these bytes it says of what it hands out. That a
-/// descriptor depends on no other bytes of custom options is the law
+/// by both (`told`). So what `run_inputs` says of these bytes it says of bytes that it hands out;
+/// which of several options messages of one kind holds them, the definition of what a file becomes
+/// says. That a descriptor depends on no other bytes of custom options is the law
 /// [`custom_options_are_of_sets`](protobuf_parse_model::custom_options_are_of_sets).
 pub fn custom_bytes_stand()
     ensures stand { OptionsStand }
