@@ -5,12 +5,13 @@ use Rattle.std.specs.List.{list_any}
 use Rattle.std.specs.Str.{chars}
 use Rattle.std.specs.Char.{to_ascii_uppercase, to_ascii_lowercase, is_ascii_uppercase}
 use Rattle.unicode.specs.Binary.{is_lowercase}
+use Rattle.protobuf_parse_base.specs.Characters as char
 
 -- the characters without the underscores, each that directly followed one in ASCII upper case;
 -- `raise` says that the first that remains is put in upper case too
 abbrev pub joined_words : Bool → List ℕ → List ℕ
 joined_words raise [] = []
-joined_words raise (c ∷ cs) = if c == 95 then joined_words true cs
+joined_words raise (c ∷ cs) = if c == char.underscore then joined_words true cs
     else (if raise then to_ascii_uppercase c else c) ∷ joined_words false cs
 
 -- `foo_bar` is `FooBar`
@@ -26,7 +27,7 @@ json_name_of cs = joined_words false cs
 abbrev pub split_words : Bool → List ℕ → List ℕ
 split_words after_lower [] = []
 split_words after_lower (c ∷ cs) =
-    (if after_lower && is_ascii_uppercase c then 95 ∷ [] else [])
+    (if after_lower && is_ascii_uppercase c then char.underscore ∷ [] else [])
     ++ (to_ascii_lowercase c ∷ split_words (is_lowercase c) cs)
 
 -- `fooBar` is `foo_bar`
@@ -35,7 +36,7 @@ snake_case_of cs = split_words false cs
 
 -- whether an underscore is among the characters
 abbrev pub has_underscore : List ℕ → Bool
-has_underscore cs = list_any (λ c. c == 95) cs
+has_underscore cs = list_any (λ c. c == char.underscore) cs
 
 -- the same spellings on the bytes of texts
 abbrev pub camel_case_text : List ℕ → List ℕ

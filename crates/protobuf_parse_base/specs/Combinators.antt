@@ -72,7 +72,8 @@ module _ {Tok Mark A : Type 0} (says : Tok → Option A) where
         used = [];
         parts = refl;
         again =
-            λ other h a us f. let g : run_one says other ≡ stuck other = rw (same_end m other h) refl in
+            λ other h a us f.
+            let g : run_one says other ≡ stuck other = rw (same_end m other h) refl in
             stuck_not_read (run_one says other) other a us g f;
       }
   one-local (token t ts) = one-local-at t ts (says t) refl

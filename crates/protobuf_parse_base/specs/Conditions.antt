@@ -277,8 +277,10 @@ module _ {Tok Mark Class A B : Type 0} {L : Lexicon Tok Mark Class} {R : List To
         used = l.used;
         parts = l.parts;
         again =
-            λ other h b us e. let x = bind_read (p.run (onto l.used other))
-            (λ a vs. meaning (onto l.used other) (means a) vs) b us e in l.again other h x.0 x.1 x.2;
+            λ other h b us e.
+            let x = bind_read (p.run (onto l.used other))
+            (λ a vs. meaning (onto l.used other) (means a) vs) b us e in
+            l.again other h x.0 x.1 x.2;
       }
   meant-local-at ts (wrong rest) l = l
   meant-local-at ts deep l = tt
@@ -367,4 +369,7 @@ abbrev pub separated : {Tok Mark Class A B : Type 0} {L : Lexicon Tok Mark Class
     {S : List Tok → B → Type 0} {R : List Tok → A → Type 0} {s t : Shape Class}
     (separator : Reader L S s) → s.empty ≡ false → (p : Reader L R t)
     → Reader L (Separated S R) (separated_shape L s t)
-separated {s = s} {t = t} separator some p = do first ← p; others ← many (do separator; p) (first_empty s.empty t.empty some); give (first ∷ others)
+separated {s = s} {t = t} separator some p = do
+  first ← p
+  others ← many (do separator; p) (first_empty s.empty t.empty some)
+  give (first ∷ others)

@@ -2,25 +2,35 @@
 use Rattle.std.specs.Prelude.{ℕ, ◌==◌, ◌&&◌, ◌+◌, ◌-◌, ◌*◌, ◌/◌, ◌%◌, nat_le, Bool, List, [], ◌∷◌}
 use Rattle.std.specs.Prelude.{if◌then◌else◌}
 use Rattle.std.specs.List.{flat_map}
+use Rattle.protobuf_parse_base.specs.Characters as char
 
 -- a backslash and one more character
 abbrev pub short_escape : ℕ → List ℕ
-short_escape c = 92 ∷ c ∷ []
+short_escape c = char.backslash ∷ c ∷ []
+
+-- the character of a digit from 0 to 7
+abbrev pub octal_digit : ℕ → ℕ
+octal_digit value = char.zero + value
 
 -- a backslash and three octal digits
 abbrev pub octal_escape : ℕ → List ℕ
-octal_escape b = 92 ∷ (48 + b / 64) ∷ (48 + b / 8 % 8) ∷ (48 + b % 8) ∷ []
+octal_escape b =
+    char.backslash ∷ octal_digit (b / 64) ∷ octal_digit (b / 8 % 8) ∷ octal_digit (b % 8) ∷ []
+
+-- a printable ASCII character
+abbrev pub is_printable : ℕ → Bool
+is_printable b = nat_le char.space b && nat_le b char.tilde
 
 -- how one byte is written: `\n`, `\r`, `\t`, `\"`, `\'` and `\\`, a printable ASCII byte as it is,
 -- any other in octal
 abbrev pub escaped_byte : ℕ → List ℕ
-escaped_byte b = if b == 10 then short_escape 110
-    else if b == 13 then short_escape 114
-    else if b == 9 then short_escape 116
-    else if b == 34 then short_escape 34
-    else if b == 39 then short_escape 39
-    else if b == 92 then short_escape 92
-    else if nat_le 32 b && nat_le b 126 then b ∷ []
+escaped_byte b = if b == char.newline then short_escape char.small_n
+    else if b == char.carriage_return then short_escape char.small_r
+    else if b == char.tab then short_escape char.small_t
+    else if b == char.quote then short_escape char.quote
+    else if b == char.apostrophe then short_escape char.apostrophe
+    else if b == char.backslash then short_escape char.backslash
+    else if is_printable b then b ∷ []
     else octal_escape b
 
 abbrev pub escaped_bytes : List ℕ → List ℕ
@@ -37,22 +47,27 @@ pub data Reading : Type 0 where
   two_digits : ℕ → Reading
 
 abbrev pub is_octal_digit : ℕ → Bool
-is_octal_digit c = nat_le 48 c && nat_le c 55
+is_octal_digit c = nat_le char.zero c && nat_le c char.seven
+
+-- the value of such a digit
+abbrev pub digit_of : ℕ → ℕ
+digit_of c = c - char.zero
 
 -- the byte of a backslash and one more character
 abbrev pub short_byte : ℕ → ℕ
-short_byte c = if c == 110 then 10
-    else if c == 114 then 13
-    else if c == 116 then 9
+short_byte c = if c == char.small_n then char.newline
+    else if c == char.small_r then char.carriage_return
+    else if c == char.small_t then char.tab
     else c
 
 abbrev pub said_from : Reading → List ℕ → List ℕ
 said_from state [] = []
-said_from outside (c ∷ cs) = if c == 92 then said_from backslash cs else c ∷ said_from outside cs
-said_from backslash (c ∷ cs) = if is_octal_digit c then said_from (one_digit (c - 48)) cs
+said_from outside (c ∷ cs) =
+    if c == char.backslash then said_from backslash cs else c ∷ said_from outside cs
+said_from backslash (c ∷ cs) = if is_octal_digit c then said_from (one_digit (digit_of c)) cs
     else short_byte c ∷ said_from outside cs
-said_from (one_digit value) (c ∷ cs) = said_from (two_digits (8 * value + (c - 48))) cs
-said_from (two_digits value) (c ∷ cs) = (8 * value + (c - 48)) ∷ said_from outside cs
+said_from (one_digit value) (c ∷ cs) = said_from (two_digits (8 * value + digit_of c)) cs
+said_from (two_digits value) (c ∷ cs) = (8 * value + digit_of c) ∷ said_from outside cs
 
 -- The bytes that an escaped text says. The language reads more escapes than these; a definition of
 -- the bytes of any string literal agrees with this one on escaped texts if it reads each

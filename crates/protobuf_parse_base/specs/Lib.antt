@@ -1,3 +1,4 @@
+pub mod Characters
 pub mod Names
 pub mod NameViews
 pub mod Undo

@@ -4,10 +4,12 @@
 use Rattle.std.specs.Prelude.{ℕ, ◌==◌, ◌&&◌, ◌||◌, ◌≡◌, not, nat_lt, Bool, true, List, [], ◌∷◌}
 use Rattle.std.specs.Prelude.{◌++◌, length, map, IsTrue}
 use Rattle.std.specs.List.{list_all, slice_split}
+use Rattle.protobuf_parse_base.specs.Characters as char
 
 -- a byte that an identifier may hold: any but `/`, `.`, `:`, `(` and `)`
 abbrev pub is_ident_byte : ℕ → Bool
-is_ident_byte b = not (b == 47 || b == 46 || b == 58 || b == 40 || b == 41)
+is_ident_byte b = not (b == char.slash || b == char.dot || b == char.colon || b == char.open_paren
+    || b == char.close_paren)
 
 -- an identifier: a nonempty text of such bytes
 abbrev pub is_ident : List ℕ → Bool
@@ -20,7 +22,7 @@ are_idents ids = list_all is_ident ids
 -- the text of an absolute path
 abbrev pub absolute_text : List (List ℕ) → List ℕ
 absolute_text [] = []
-absolute_text (id ∷ ids) = 46 ∷ (id ++ absolute_text ids)
+absolute_text (id ∷ ids) = char.dot ∷ (id ++ absolute_text ids)
 
 -- the text of a relative path
 abbrev pub relative_text : List (List ℕ) → List ℕ
@@ -36,7 +38,7 @@ IsRelative text = (ids : List (List ℕ)) × (IsTrue (are_idents ids)) × (text 
 
 -- what stands between the dots of a text
 abbrev pub dotted_parts : List ℕ → List (List ℕ)
-dotted_parts text = slice_split (λ b. b == 46) text
+dotted_parts text = slice_split (λ b. b == char.dot) text
 
 -- the identifiers of a text that is a relative path
 abbrev pub relative_idents : List ℕ → List (List ℕ)
@@ -54,12 +56,12 @@ is_relative text = are_idents (relative_idents text)
 
 abbrev pub is_absolute : List ℕ → Bool
 is_absolute [] = true
-is_absolute (b ∷ bs) = (b == 46) && are_idents (dotted_parts bs)
+is_absolute (b ∷ bs) = (b == char.dot) && are_idents (dotted_parts bs)
 
 -- the weak test: a text is empty, or begins with a dot and goes on
 abbrev pub looks_absolute : List ℕ → Bool
 looks_absolute [] = true
-looks_absolute (b ∷ bs) = (b == 46) && nat_lt 0 (length bs)
+looks_absolute (b ∷ bs) = (b == char.dot) && nat_lt 0 (length bs)
 
 -- every front of a list once, the whole list first and the empty one last
 abbrev pub fronts : {X : Type 0} → List X → List (List X)

@@ -170,7 +170,10 @@ abbrev pub separated : {Tok Mark Class A B : Type 0} {L : Lexicon Tok Mark Class
     {S : List Tok → B → Type 0} {R R' : List Tok → A → Type 0} {s t : Shape Class} {k : ℕ}
     (separator : Reader L S s) → s.nests ≡ false → s.empty ≡ false → (p : Pair L R R' t k)
     → Pair L (Separated S R) (Separated S R') (separated_shape L s t) k
-separated {s = s} {t = t} separator flat some p = do first ← p; others ← many (do same separator flat; p) (first_empty s.empty t.empty some); give (first ∷ others)
+separated {s = s} {t = t} separator flat some p = do
+  first ← p
+  others ← many (do same separator flat; p) (first_empty s.empty t.empty some)
+  give (first ∷ others)
 
 -- ---- a reader for each depth
 

@@ -4,30 +4,31 @@ use Rattle.std.specs.Prelude.{ℕ, ◌==◌, ◌&&◌, ◌||◌, ◌≡◌, not,
 use Rattle.std.specs.Prelude.{IsTrue, Option, Some, None, if◌then◌else◌, filter}
 use Rattle.std.specs.List.{list_all, list_any, slice_split, join_with_byte}
 use Rattle.std.specs.Str.{bytes_eq}
+use Rattle.protobuf_parse_base.specs.Characters as char
 use Rattle.protobuf_parse_base.specs.declared.proto_path.error.PathError.{PathError}
 use Rattle.protobuf_parse_base.specs.declared.proto_path.error.PathError.TheVariants as fault
 
 -- the parts `.` and `..`
 abbrev pub is_dot : List ℕ → Bool
-is_dot part = bytes_eq part (46 ∷ [])
+is_dot part = bytes_eq part (char.dot ∷ [])
 
 abbrev pub is_dot_dot : List ℕ → Bool
-is_dot_dot part = bytes_eq part (46 ∷ 46 ∷ [])
+is_dot_dot part = bytes_eq part (char.dot ∷ char.dot ∷ [])
 
 abbrev pub is_empty : List ℕ → Bool
 is_empty text = length text == 0
 
 abbrev pub has_backslash : List ℕ → Bool
-has_backslash text = list_any (λ b. b == 92) text
+has_backslash text = list_any (λ b. b == char.backslash) text
 
 -- a part: nonempty, without `\` and `/`, and neither `.` nor `..`
 abbrev pub is_part : List ℕ → Bool
 is_part part = not (is_empty part) && not (is_dot part) && not (is_dot_dot part)
-    && list_all (λ b. not (b == 92 || b == 47)) part
+    && list_all (λ b. not (b == char.backslash || b == char.slash)) part
 
 -- parts with slashes between them
 abbrev pub joined : List (List ℕ) → List ℕ
-joined parts = join_with_byte 47 parts
+joined parts = join_with_byte char.slash parts
 
 -- a text is a proto path if it is one or more parts with slashes between them
 abbrev pub IsProtoPath : List ℕ → Type 0
@@ -36,7 +37,7 @@ IsProtoPath text = (parts : List (List ℕ)) × IsTrue (not (length parts == 0))
 
 -- what stands between the slashes of a text
 abbrev pub slash_parts : List ℕ → List (List ℕ)
-slash_parts text = slice_split (λ b. b == 47) text
+slash_parts text = slice_split (λ b. b == char.slash) text
 
 -- what is wrong with one part
 abbrev pub part_fault : List ℕ → Option PathError
@@ -70,7 +71,7 @@ kept_parts text = kept_of (slash_parts text)
 -- whether a text begins with a slash
 abbrev pub starts_with_slash : List ℕ → Bool
 starts_with_slash [] = false
-starts_with_slash (b ∷ bs) = b == 47
+starts_with_slash (b ∷ bs) = b == char.slash
 
 -- why a path of the host is no proto path, if it is none
 abbrev pub host_path_fault : List ℕ → Option PathError

@@ -1,3 +1,4 @@
+-- No public clause rests on this file.
 -- A reader of a relation looks one token ahead and never back, and its laws come with it.
 use Rattle.std.proofs.Common.{◌≡◌, ℕ, suc, List, [], ◌∷◌, ◌++◌}
 use Rattle.std.proofs.Common.{Bool, true, false, not, ◌&&◌, ◌||◌, Result, Ok, Err, refl, sym}
@@ -338,7 +339,8 @@ local-same run run' ts (read a rest) same l =
       used = l.used;
       parts = l.parts;
       again =
-          λ other h. same (onto l.used other) (next-onto l.used rest other h ∙ ap next (sym l.parts))
+          λ other h.
+          same (onto l.used other) (next-onto l.used rest other h ∙ ap next (sym l.parts))
           ∙ l.again other h;
     }
 local-same run run' ts (stuck rest) same l =
@@ -347,7 +349,8 @@ local-same run run' ts (stuck rest) same l =
       parts = l.parts;
       again =
           λ other h a us e. l.again other h a us
-          (sym (same (onto l.used other) (next-onto l.used rest other h ∙ ap next (sym l.parts))) ∙ e);
+          (sym (same (onto l.used other) (next-onto l.used rest other h ∙ ap next (sym l.parts)))
+          ∙ e);
     }
 local-same run run' ts (wrong rest) same l = l
 local-same run run' ts deep same l = tt

@@ -1,6 +1,7 @@
 //! Texts that are joined from parts.
 ghost use Rattle.std.specs.Prelude.{◌≡◌, ◌==◌, ◌<◌, ◌∷◌, ◌++◌, IfOk, OnOk, length, if◌then◌else◌};
 ghost use Rattle.std.specs.String.{string_bytes};
+ghost use Rattle.protobuf_parse_base.specs.Characters as char;
 
 use std::alloc::{AllocError, Global};
 
@@ -20,7 +21,7 @@ pub(crate) fn push_part(text: &mut String, separator: char, part: &str) -> Resul
 
 /// The text of `front`, a dot and `back`, in one allocation.
 pub(crate) fn join_at_dot(alloc: Global, front: &str, back: &str) -> Result<String, AllocError>
-    ensures { IfOk result (λ joined. string_bytes joined ≡ front.now ++ 46 ∷ back.now) }
+    ensures { IfOk result (λ joined. string_bytes joined ≡ front.now ++ char.dot ∷ back.now) }
 {
     let mut joined = String::with_capacity(alloc, front.len() + back.len() + 1)?;
     joined.push_str(front)?;

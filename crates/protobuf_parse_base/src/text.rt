@@ -4,6 +4,7 @@ ghost use Rattle.std.specs.Prelude.{encode_utf8_all, if◌then◌else◌};
 ghost use Rattle.std.specs.Char.{is_ascii_uppercase, to_ascii_lowercase, to_ascii_uppercase};
 ghost use Rattle.std.specs.String.{string_bytes};
 ghost use Rattle.std.specs.Str.{chars};
+ghost use Rattle.protobuf_parse_base.specs.Characters as char;
 ghost use Rattle.protobuf_parse_base.specs.Cases.{camel_case_text, json_name_text, snake_case_text};
 ghost use Rattle.protobuf_parse_base.specs.Cases.{joined_words, has_underscore};
 ghost use Rattle.protobuf_parse_base.specs.Escapes.{escaped_byte, escaped_bytes, said_bytes};
@@ -132,7 +133,7 @@ fn escape_byte(escaped: &mut String, byte: u8) -> Result<(), AllocError>
 /// The character of an octal digit.
 fn octal_digit(digit: u8) -> char
     requires { digit < 8 }
-    ensures { result ≡ 48 + digit }
+    ensures { result ≡ char.zero + digit }
 {
     char::from(b'0' + digit)
 }

@@ -16,8 +16,9 @@ use Rattle.protobuf_parse_syntax.specs.Decoding.{RefusesText}
 use Rattle.protobuf_parse_syntax.specs.Trees.{Pieces}
 use Rattle.protobuf_parse_syntax.specs.Readings.{finding}
 use Rattle.protobuf_parse_syntax.specs.Grammar.{StandsFor, SaysVersion, SaysPath, name_of}
-use Rattle.protobuf_parse_syntax.specs.Decoder.{text_of, text-to, text-from, version_of, version-to}
-use Rattle.protobuf_parse_syntax.specs.Decoder.{version-from, path_of, path-to, path-from}
+use Rattle.protobuf_parse_syntax.specs.Decoder.{text_of, version_of, path_of}
+use Rattle.protobuf_parse_syntax.specs.DecoderLaws.{text-to, text-from, version-to, version-from}
+use Rattle.protobuf_parse_syntax.specs.DecoderLaws.{path-to, path-from}
 use Rattle.protobuf_parse_syntax.specs.Productions.{str, piece, reserved_name, version, path}
 use Rattle.protobuf_parse_syntax.specs.Classes.{text as string_token}
 use Rattle.protobuf_parse_syntax.specs.ClassLaws.{lexicon}

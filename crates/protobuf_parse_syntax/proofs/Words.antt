@@ -9,7 +9,7 @@ use Rattle.protobuf_parse_base.specs.Readers.{starts-append}
 use Rattle.protobuf_parse_syntax.specs.Text.{Bytes}
 use Rattle.protobuf_parse_syntax.specs.Tokens.{Lexeme}
 use Rattle.protobuf_parse_syntax.specs.Classes.{Class, symbol, word, ident, integer, float, text}
-use Rattle.protobuf_parse_syntax.specs.Classes.{sees, sees_at, is_ident, words}
+use Rattle.protobuf_parse_syntax.specs.Classes.{sees, sees_at, is_ident_token, words}
 use Rattle.protobuf_parse_syntax.specs.ClassLaws.{lexicon}
 use Rattle.protobuf_parse_syntax.specs.Grammar.{any_ident, lookup, table_words, word_of}
 use Rattle.protobuf_parse_syntax.specs.Productions.{one_of}
@@ -46,7 +46,7 @@ signs (word v ∷ cs) = signs cs
 signs (ident vs ∷ cs) = signs cs
 signs (c ∷ cs) = c ∷ signs cs
 
-other_seen : (cs : List Class) (t : Lexeme) → is_ident t.kind ≡ false
+other_seen : (cs : List Class) (t : Lexeme) → is_ident_token t.kind ≡ false
     → seen sees cs t ≡ seen sees (signs cs) t
 other_seen [] t h = refl
 other_seen (word v ∷ cs) t h = rw h (other_seen cs t h)
@@ -63,7 +63,7 @@ unfolding starts
 signs_start cs (end m) e = refl
 signs_start cs (token t rest) e = other_seen cs t (go t.kind e)
   where
-    go : (k : TokenKind) → None ≡ any_ident (record t { kind = k }) → is_ident k ≡ false
+    go : (k : TokenKind) → None ≡ any_ident (record t { kind = k }) → is_ident_token k ≡ false
     go kind.Ident e = absurd cc
     go (kind.Integer n) e = refl
     go kind.Float e = refl

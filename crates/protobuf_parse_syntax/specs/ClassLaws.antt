@@ -10,7 +10,7 @@ use Rattle.protobuf_parse_base.specs.Readers.{not_true}
 use Rattle.protobuf_parse_syntax.specs.Text.{Bytes}
 use Rattle.protobuf_parse_syntax.specs.Tokens.{Lexeme}
 use Rattle.protobuf_parse_syntax.specs.Classes.{Class, symbol, word, ident, integer, float, text}
-use Rattle.protobuf_parse_syntax.specs.Classes.{is_among, is_ident}
+use Rattle.protobuf_parse_syntax.specs.Classes.{is_among, is_ident_token}
 use Rattle.protobuf_parse_syntax.specs.Classes.{sees_at, sees}
 use Rattle.protobuf_parse_syntax.specs.declared.lexer.token.Place.{Place}
 use Rattle.protobuf_parse_syntax.specs.declared.lexer.token.TokenKind.{TokenKind}
@@ -66,16 +66,16 @@ apart_same-law (symbol c) (symbol d) (kind.Symbol x) w h e f =
     let q : x ≡ d = eqb-true x d f in
     let r : eqb c d ≡ true = eq-eqb c d (sym p ∙ q) in absurd cc
 apart_same-law (word u) (word v) k w h e f =
-    let p : w ≡ u = (bytes_eq-Decides w u).0 (and_right (is_ident k) (bytes_eq w u) e) in
-    let q : bytes_eq w v ≡ true = and_right (is_ident k) (bytes_eq w v) f in
+    let p : w ≡ u = (bytes_eq-Decides w u).0 (and_right (is_ident_token k) (bytes_eq w u) e) in
+    let q : bytes_eq w v ≡ true = and_right (is_ident_token k) (bytes_eq w v) f in
     no_both (bytes_eq u v) h (subst (λ x. bytes_eq x v ≡ true) p q)
 apart_same-law (word u) (ident vs) k w h e f =
-    let p : w ≡ u = (bytes_eq-Decides w u).0 (and_right (is_ident k) (bytes_eq w u) e) in
-    let q : not (is_among w vs) ≡ true = and_right (is_ident k) (not (is_among w vs)) f in
+    let p : w ≡ u = (bytes_eq-Decides w u).0 (and_right (is_ident_token k) (bytes_eq w u) e) in
+    let q : not (is_among w vs) ≡ true = and_right (is_ident_token k) (not (is_among w vs)) f in
     not_both (is_among u vs) h (subst (λ x. not (is_among x vs) ≡ true) p q)
 apart_same-law (ident us) (word v) k w h e f =
-    let p : w ≡ v = (bytes_eq-Decides w v).0 (and_right (is_ident k) (bytes_eq w v) f) in
-    let q : not (is_among w us) ≡ true = and_right (is_ident k) (not (is_among w us)) e in
+    let p : w ≡ v = (bytes_eq-Decides w v).0 (and_right (is_ident_token k) (bytes_eq w v) f) in
+    let q : not (is_among w us) ≡ true = and_right (is_ident_token k) (not (is_among w us)) e in
     not_both (is_among v us) h (subst (λ x. not (is_among x us) ≡ true) p q)
 apart_same-law c d k w h e f = absurd cc
 
@@ -121,11 +121,11 @@ within-law (word v) (word w) t h e = rw (← (bytes_eq-Decides v w).0 h) e
 within-law (word v) (ident ws) t h e =
     let p : t.text ≡ v = (bytes_eq-Decides t.text v).0 (and_right _ _ e) in
     let q : not (is_among t.text ws) ≡ true = rw p h in
-    let r : is_ident t.kind ≡ true = and_left _ _ e in rw (r, q) refl
+    let r : is_ident_token t.kind ≡ true = and_left _ _ e in rw (r, q) refl
 within-law (ident vs) (ident ws) t h e =
     let n : is_among t.text vs ≡ false = not_true _ (and_right _ _ e) in
     let q : is_among t.text ws ≡ false = are_among-law t.text ws vs h n in
-    let r : is_ident t.kind ≡ true = and_left _ _ e in rw (r, q) refl
+    let r : is_ident_token t.kind ≡ true = and_left _ _ e in rw (r, q) refl
 within-law integer integer t h e = e
 within-law float float t h e = e
 within-law text text t h e = e
@@ -146,7 +146,7 @@ but-rest c d t h e = go (within c d) refl
 pub but-law : (c d : Class) (t : Lexeme) → sees c t ≡ true → sees d t ≡ false
     → seen sees (but c d) t ≡ true
 but-law (ident vs) (word w) t h e =
-    let r : is_ident t.kind ≡ true = and_left _ _ h in
+    let r : is_ident_token t.kind ≡ true = and_left _ _ h in
     let n : is_among t.text vs ≡ false = not_true _ (and_right _ _ h) in
     let q : bytes_eq t.text w ≡ false = rw r at e in rw (r, q, n) refl
 but-law (symbol c) d t h e = but-rest (symbol c) d t h e

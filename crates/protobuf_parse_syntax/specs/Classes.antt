@@ -20,13 +20,13 @@ abbrev pub is_among : Bytes → List Bytes → Bool
 is_among w [] = false
 is_among w (v ∷ vs) = bytes_eq w v || is_among w vs
 
-abbrev pub is_ident : TokenKind → Bool
-is_ident kind.Ident = true
-is_ident _ = false
+abbrev pub is_ident_token : TokenKind → Bool
+is_ident_token kind.Ident = true
+is_ident_token _ = false
 
-abbrev pub is_symbol : ℕ → TokenKind → Bool
-is_symbol c (kind.Symbol d) = eqb d c
-is_symbol c _ = false
+abbrev pub is_symbol_token : ℕ → TokenKind → Bool
+is_symbol_token c (kind.Symbol d) = eqb d c
+is_symbol_token c _ = false
 
 abbrev pub is_integer : TokenKind → Bool
 is_integer (kind.Integer n) = true
@@ -41,9 +41,9 @@ is_string kind.Str = true
 is_string _ = false
 
 abbrev pub sees_at : Class → TokenKind → Bytes → Bool
-sees_at (symbol c) k w = is_symbol c k
-sees_at (word v) k w = is_ident k && bytes_eq w v
-sees_at (ident vs) k w = is_ident k && not (is_among w vs)
+sees_at (symbol c) k w = is_symbol_token c k
+sees_at (word v) k w = is_ident_token k && bytes_eq w v
+sees_at (ident vs) k w = is_ident_token k && not (is_among w vs)
 sees_at integer k w = is_integer k
 sees_at float k w = is_float k
 sees_at text k w = is_string k

@@ -3,6 +3,7 @@
 use Rattle.std.specs.Prelude.{◌≡◌, ◌⊎◌, Bool, true, false, Option, None, List, [], ◌∷◌, map}
 use Rattle.std.specs.Prelude.{Result, Ok, Err}
 use Rattle.std.proofs.Common.{ap, ◌∙◌, refl}
+use Rattle.protobuf_parse_base.specs.Characters as char
 use Rattle.protobuf_parse_base.specs.Readers.{Rest, end, token, onto, Read, read, stuck, wrong}
 use Rattle.protobuf_parse_base.specs.Readers.{deep, bind}
 use Rattle.protobuf_parse_base.specs.Whole.{whole}
@@ -74,7 +75,8 @@ next_ident (token t rest) = any_ident t
 
 -- a sign comes next, and a float, `inf` or `nan` second
 abbrev pub SignedFloat : Rest Lexeme Place → Type 0
-SignedFloat (token t (token u rest)) = (is_one_of (symbol 43 ∷ symbol 45 ∷ []) t ≡ true)
+SignedFloat (token t (token u rest)) =
+    (is_one_of (symbol char.plus ∷ symbol char.minus ∷ []) t ≡ true)
     × (is_floating u ≡ true)
 SignedFloat _ = ⊥
 
@@ -85,7 +87,7 @@ SaysNot e after = (pieces : Pieces) × (rest : Rest Lexeme Place)
 
 -- the first token of a part of an option's name comes next
 abbrev pub begins_part : Rest Lexeme Place → Bool
-begins_part after = comes (ident [] ∷ symbol 40 ∷ []) after
+begins_part after = comes (ident [] ∷ symbol char.open_paren ∷ []) after
 
 -- what a fault at the next token says of it
 abbrev pub Stands : ParserError → Rest Lexeme Place → Type 0

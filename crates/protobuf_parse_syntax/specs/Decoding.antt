@@ -4,6 +4,7 @@ use Rattle.std.specs.Prelude.{slice_range, encode_utf8, Result, MatchResult}
 use Rattle.std.specs.Char.{IsScalar}
 use Rattle.std.specs.Str.{IsUtf8}
 use Rattle.std.specs.Str.Parse.{digits_value}
+use Rattle.protobuf_parse_base.specs.Characters as char
 use Rattle.protobuf_parse_syntax.specs.Text.{Bytes, AllIn}
 use Rattle.protobuf_parse_syntax.specs.Tokens.{IsDigits, IsEscape, Decodes, DecodesAll}
 use Rattle.protobuf_parse_syntax.specs.declared.lexer.bytes.ByteClass.{ByteClass}
@@ -52,14 +53,14 @@ HasNoEscape z = (n : ℕ) (w : Bytes) → IsEscape z n w → ⊥
 pub record IsPart (z : Bytes) (n : ℕ) (w : Bytes) : Type 0 where
   pub some : 0 < n
   pub within : n ≤ length z
-  pub is : ((slice_index z 0 ≡ 92) × IsEscape z n w)
-      ⊎ ((slice_index z 0 ≡ 92 → ⊥) × (n ≡ 1) × (w ≡ slice_index z 0 ∷ []))
+  pub is : ((slice_index z 0 ≡ char.backslash) × IsEscape z n w)
+      ⊎ ((slice_index z 0 ≡ char.backslash → ⊥) × (n ≡ 1) × (w ≡ slice_index z 0 ∷ []))
 
 abbrev pub HasPart : Bytes → Part → Type 0
 HasPart z p = IsPart z p.len (meaning_bytes p.meaning)
 
 abbrev pub HasNoPart : Bytes → Type 0
-HasNoPart z = (slice_index z 0 ≡ 92) × HasNoEscape z
+HasNoPart z = (slice_index z 0 ≡ char.backslash) × HasNoEscape z
 
 -- what a piece stands for comes behind the bytes, or it stands for nothing
 abbrev pub PushesPiece : Bytes → Bytes → Bytes → Result (Unit {0}) StrLitDecodeError → Type 0

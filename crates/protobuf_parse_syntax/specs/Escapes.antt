@@ -1,4 +1,6 @@
--- One escape stands at the front of a text.
+-- No public clause rests on this file.
+-- The escapes of a string literal (of a letter, of octal or hexadecimal digits, of the number of a
+-- character) are told apart by the byte behind the backslash, so that at most one stands there.
 use Rattle.std.proofs.Common.{◌≡◌, ℕ, ◌+◌, ◌-◌, ◌<◌, ◌≤◌, Bool, true, false, cond, eqb, ◌||◌, List}
 use Rattle.std.proofs.Common.{[], ◌∷◌, length, slice_index, slice_range, Option, Some, None}
 use Rattle.std.proofs.Common.{MatchOption, refl, sym, ap, ◌∙◌, subst, inl, inr, ⊎_elim, ◌⊎◌, arith}
@@ -7,6 +9,7 @@ use Rattle.std.specs.Char.{digit_value}
 use Rattle.std.specs.Str.Parse.{digits_value}
 use Rattle.std.proofs.lemmas.Bool.Decides.{nat_tests}
 use Rattle.std.proofs.lemmas.Bool.{false≢true, cases_lt, or_cases, eqb-true}
+use Rattle.protobuf_parse_base.specs.Characters as char
 use Rattle.protobuf_parse_syntax.specs.Text.{Bytes, is_in, AllIn}
 use Rattle.protobuf_parse_syntax.specs.Tokens.{letter_byte, IsDigits, IsEscape, letter, octal, hex}
 use Rattle.protobuf_parse_syntax.specs.Tokens.{short, long}
@@ -32,7 +35,8 @@ in_range z i n each order within k small =
 
 sort_of : ℕ → ℕ
 sort_of b = cond (is_in class.Octal b) 0
-    (cond (eqb b 120 || eqb b 88) 1 (cond (eqb b 117) 2 (cond (eqb b 85) 3 4)))
+    (cond (eqb b char.small_x || eqb b char.capital_x) 1
+    (cond (eqb b char.small_u) 2 (cond (eqb b char.capital_u) 3 4)))
 
 at_byte : (b k s : ℕ) → eqb b k ≡ true → sort_of k ≡ s → sort_of b ≡ s
 unfolding sort_of
@@ -40,61 +44,13 @@ at_byte b k s e h = subst (λ x. sort_of x ≡ s) (sym (eqb-true b k e)) h
 
 letter_sort : (b v : ℕ) → letter_byte b ≡ Some v → sort_of b ≡ 4
 unfolding sort_of
-letter_sort b v e =
-    elim (chosen (eqb b 97) (Some 7) _ _ e) [
-      | inl h ↦ at_byte b 97 4 h.0 refl
-      | inr h ↦
-          elim (chosen (eqb b 98) (Some 8) _ _ h.1) [
-            | inl h ↦ at_byte b 98 4 h.0 refl
-            | inr h ↦
-                elim (chosen (eqb b 102) (Some 12) _ _ h.1) [
-                  | inl h ↦ at_byte b 102 4 h.0 refl
-                  | inr h ↦
-                      elim (chosen (eqb b 110) (Some 10) _ _ h.1) [
-                        | inl h ↦ at_byte b 110 4 h.0 refl
-                        | inr h ↦
-                            elim (chosen (eqb b 114) (Some 13) _ _ h.1) [
-                              | inl h ↦ at_byte b 114 4 h.0 refl
-                              | inr h ↦
-                                  elim (chosen (eqb b 116) (Some 9) _ _ h.1) [
-                                    | inl h ↦ at_byte b 116 4 h.0 refl
-                                    | inr h ↦
-                                        elim (chosen (eqb b 118) (Some 11) _ _ h.1) [
-                                          | inl h ↦ at_byte b 118 4 h.0 refl
-                                          | inr h ↦
-                                              elim (chosen
-                                              (eqb b 92 || eqb b 39 || eqb b 34 || eqb b 63)
-                                              (Some b) None _ h.1) [
-                                                | inl h ↦ elim
-                                                    (or_cases (eqb b 92 || eqb b 39 || eqb b 34)
-                                                    (eqb b 63) h.0) [
-                                                      | inl g ↦ elim
-                                                          (or_cases (eqb b 92 || eqb b 39) (eqb b 34) g) [
-                                                            | inl f ↦ elim
-                                                                (or_cases (eqb b 92) (eqb b 39) f) [
-                                                                  | inl d ↦ at_byte b 92 4 d refl
-                                                                  | inr d ↦
-                                                                      at_byte b 39 4 d refl
-                                                                ]
-                                                            | inr f ↦ at_byte b 34 4 f refl
-                                                          ]
-                                                      | inr g ↦ at_byte b 63 4 g refl
-                                                    ]
-                                                | inr h ↦ let bad = h.1 in cc
-                                              ]
-                                        ]
-                                  ]
-                            ]
-                      ]
-                ]
-          ]
-    ]
+letter_sort b v e = grind (arith, nat_tests, e)
 
 octal_sort : (b : ℕ) → is_in class.Octal b ≡ true → sort_of b ≡ 0
 unfolding sort_of
 octal_sort b h = rw h refl
 
-hex_sort : (b : ℕ) → (b ≡ 120) ⊎ (b ≡ 88) → sort_of b ≡ 1
+hex_sort : (b : ℕ) → (b ≡ char.small_x) ⊎ (b ≡ char.capital_x) → sort_of b ≡ 1
 unfolding sort_of
 hex_sort b (inl e) = subst (λ x. sort_of x ≡ 1) (sym e) refl
 hex_sort b (inr e) = subst (λ x. sort_of x ≡ 1) (sym e) refl
@@ -107,13 +63,13 @@ first_digit : (c : ByteClass) (z : Bytes) (from limit n : ℕ) → IsDigits c z 
     → is_in c (slice_index z from) ≡ true
 first_digit c z from limit n d = d.each from (omega arith) d.some
 
-short_sort : (b : ℕ) → b ≡ 117 → sort_of b ≡ 2
+short_sort : (b : ℕ) → b ≡ char.small_u → sort_of b ≡ 2
 unfolding sort_of
-short_sort b e = number_sort b 117 2 e refl
+short_sort b e = number_sort b char.small_u 2 e refl
 
-long_sort : (b : ℕ) → b ≡ 85 → sort_of b ≡ 3
+long_sort : (b : ℕ) → b ≡ char.capital_u → sort_of b ≡ 3
 unfolding sort_of
-long_sort b e = number_sort b 85 3 e refl
+long_sort b e = number_sort b char.capital_u 3 e refl
 
 -- the sort of an escape that stands there
 abbrev kind_of : {z : Bytes} {n : ℕ} {w : Bytes} → IsEscape z n w → ℕ
@@ -273,7 +229,8 @@ octal_none {z} at bad (short u l e s) =
 octal_none {z} at bad (long u l e s) =
     omega (arith, octal_sort (slice_index z 1) at, long_sort (slice_index z 1) u)
 
-hex_none : {z : Bytes} {n : ℕ} {w : Bytes} → (slice_index z 1 ≡ 120) ⊎ (slice_index z 1 ≡ 88)
+hex_none : {z : Bytes} {n : ℕ} {w : Bytes}
+    → (slice_index z 1 ≡ char.small_x) ⊎ (slice_index z 1 ≡ char.capital_x)
     → NamesNoByte class.Hex 16 2 z → IsEscape z n w → ⊥
 hex_none {z} at bad (letter b e) =
     omega (arith, hex_sort (slice_index z 1) at, letter_sort (slice_index z 1) b e)
@@ -289,7 +246,7 @@ hex_none {z} at bad (short u l e s) =
 hex_none {z} at bad (long u l e s) =
     omega (arith, hex_sort (slice_index z 1) at, long_sort (slice_index z 1) u)
 
-short_none : {z : Bytes} {n : ℕ} {w : Bytes} → slice_index z 1 ≡ 117 → NamesNoChar 6 z
+short_none : {z : Bytes} {n : ℕ} {w : Bytes} → slice_index z 1 ≡ char.small_u → NamesNoChar 6 z
     → IsEscape z n w → ⊥
 short_none {z} at bad (letter b e) =
     omega (arith, short_sort (slice_index z 1) at, letter_sort (slice_index z 1) b e)
@@ -305,7 +262,7 @@ short_none {z} at bad (short u l e s) = bad l e s
 short_none {z} at bad (long u l e s) =
     omega (arith, short_sort (slice_index z 1) at, long_sort (slice_index z 1) u)
 
-long_none : {z : Bytes} {n : ℕ} {w : Bytes} → slice_index z 1 ≡ 85 → NamesNoChar 10 z
+long_none : {z : Bytes} {n : ℕ} {w : Bytes} → slice_index z 1 ≡ char.capital_u → NamesNoChar 10 z
     → IsEscape z n w → ⊥
 long_none {z} at bad (letter b e) =
     omega (arith, long_sort (slice_index z 1) at, letter_sort (slice_index z 1) b e)
@@ -322,8 +279,9 @@ long_none {z} at bad (short u l e s) =
 long_none {z} at bad (long u l e s) = bad l e s
 
 letter_none : {z : Bytes} {n : ℕ} {w : Bytes} → is_in class.Octal (slice_index z 1) ≡ false
-    → ((slice_index z 1 ≡ 120) ⊎ (slice_index z 1 ≡ 88) → ⊥) → (slice_index z 1 ≡ 117 → ⊥)
-    → (slice_index z 1 ≡ 85 → ⊥) →
+    → ((slice_index z 1 ≡ char.small_x) ⊎ (slice_index z 1 ≡ char.capital_x) → ⊥)
+    → (slice_index z 1 ≡ char.small_u → ⊥)
+    → (slice_index z 1 ≡ char.capital_u → ⊥) →
     letter_byte (slice_index z 1) ≡ None → IsEscape z n w → ⊥
 letter_none {z} no_octal no_hex no_short no_long bad (letter b e) = cc
 letter_none {z} no_octal no_hex no_short no_long bad (octal n d s) =
@@ -338,26 +296,28 @@ pub octal_front : (z : Bytes) (r : Option Part) → is_in class.Octal (slice_ind
 octal_front z (Some e) at h = subst (HasEscape z) (sym h.is) (octal h.end h.digits h.small)
 octal_front z None at bad = λ n w e. octal_none at bad e
 
-pub hex_front : (z : Bytes) (r : Option Part) → (slice_index z 1 ≡ 120) ⊎ (slice_index z 1 ≡ 88)
+pub hex_front : (z : Bytes) (r : Option Part)
+    → (slice_index z 1 ≡ char.small_x) ⊎ (slice_index z 1 ≡ char.capital_x)
     → MatchOption r (NamesNoByte class.Hex 16 2 z) (NamesByte class.Hex 16 2 z)
     → MatchOption r (HasNoEscape z) (HasEscape z)
 hex_front z (Some e) at h = subst (HasEscape z) (sym h.is) (hex h.end at h.digits)
 hex_front z None at bad = λ n w e. hex_none at bad e
 
-pub short_front : (z : Bytes) (r : Option Part) → slice_index z 1 ≡ 117
+pub short_front : (z : Bytes) (r : Option Part) → slice_index z 1 ≡ char.small_u
     → MatchOption r (NamesNoChar 6 z) (NamesChar 6 z) → MatchOption r (HasNoEscape z) (HasEscape z)
 short_front z (Some e) at h = subst (HasEscape z) (sym h.is) (short at h.within h.each h.scalar)
 short_front z None at bad = λ n w e. short_none at bad e
 
-pub long_front : (z : Bytes) (r : Option Part) → slice_index z 1 ≡ 85
+pub long_front : (z : Bytes) (r : Option Part) → slice_index z 1 ≡ char.capital_u
     → MatchOption r (NamesNoChar 10 z) (NamesChar 10 z)
     → MatchOption r (HasNoEscape z) (HasEscape z)
 long_front z (Some e) at h = subst (HasEscape z) (sym h.is) (long at h.within h.each h.scalar)
 long_front z None at bad = λ n w e. long_none at bad e
 
 pub no_letter : (z : Bytes) → is_in class.Octal (slice_index z 1) ≡ false
-    → (slice_index z 1 ≡ 120 → ⊥) → (slice_index z 1 ≡ 88 → ⊥) → (slice_index z 1 ≡ 117 → ⊥)
-    → (slice_index z 1 ≡ 85 → ⊥) →
+    → (slice_index z 1 ≡ char.small_x → ⊥) → (slice_index z 1 ≡ char.capital_x → ⊥)
+    → (slice_index z 1 ≡ char.small_u → ⊥)
+    → (slice_index z 1 ≡ char.capital_u → ⊥) →
     letter_byte (slice_index z 1) ≡ None → HasNoEscape z
 no_letter z o x y u v bad n w e = letter_none o (λ h. ⊎_elim x y h) u v bad e
 
@@ -375,7 +335,7 @@ escape_bounds (hex n x d) = (omega (arith, d.some), d.within)
 escape_bounds (short u l e s) = (omega arith, l)
 escape_bounds (long u l e s) = (omega arith, l)
 
-pub escape_part : (z : Bytes) (r : Option Part) → slice_index z 0 ≡ 92
+pub escape_part : (z : Bytes) (r : Option Part) → slice_index z 0 ≡ char.backslash
     → MatchOption r (HasNoEscape z) (HasEscape z) → MatchOption r (HasNoPart z) (HasPart z)
 escape_part z (Some p) is e = let bounds = escape_bounds e in
     record { some = bounds.0; within = bounds.1; is = inl (is, e) }

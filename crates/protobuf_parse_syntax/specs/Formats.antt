@@ -9,6 +9,7 @@ use Rattle.std.specs.Prelude.{ℕ, ◌==◌, ◌&&◌, Bool, true, false, not, L
 use Rattle.std.specs.Prelude.{flat_map, codes, if◌then◌else◌}
 use Rattle.std.specs.Fmt.{signed_decimal}
 use Rattle.std.specs.List.{join_with_byte}
+use Rattle.protobuf_parse_base.specs.Characters as char
 use Rattle.protobuf_parse_syntax.specs.Text.{Bytes}
 use Rattle.protobuf_parse_syntax.specs.Trees.{Pieces, ConstantNameSyntax, regular_name}
 use Rattle.protobuf_parse_syntax.specs.Trees.{extension_name, url_name, ConstantSyntax, integer}
@@ -28,20 +29,20 @@ name_text (url_name n) = codes "[" ++ n ++ codes "]"
 
 -- what stands before a byte, where `taken` says that a backslash takes it
 abbrev pub escape_before : Bool → ℕ → Bytes
-escape_before taken b = if b == 34 && not taken then 92 ∷ [] else []
+escape_before taken b = if b == char.quote && not taken then char.backslash ∷ [] else []
 
 -- With a backslash before each `"` that no backslash takes. A backslash takes the next byte, unless
 -- one takes it; `taken` says that one takes the first byte.
 abbrev pub quotes_escaped : Bool → Bytes → Bytes
 quotes_escaped taken [] = []
 quotes_escaped taken (b ∷ bs) =
-    escape_before taken b ++ b ∷ quotes_escaped (b == 92 && not taken) bs
+    escape_before taken b ++ b ∷ quotes_escaped (b == char.backslash && not taken) bs
 
 abbrev pub piece_text : Bytes → Bytes
 piece_text piece = codes "\"" ++ quotes_escaped false piece ++ codes "\""
 
 abbrev pub string_text : Pieces → Bytes
-string_text pieces = join_with_byte 32 (map piece_text pieces)
+string_text pieces = join_with_byte char.space (map piece_text pieces)
 
 abbrev pub is_message : ConstantSyntax → Bool
 is_message (fields fs) = true
@@ -59,7 +60,7 @@ unfoldable mutual
   format (truth b) = truth_word b
   format (dotted n) = n
   format (string pieces) = string_text pieces
-  format (list cs) = codes "[" ++ join_with_byte 44 (formats cs) ++ codes "]"
+  format (list cs) = codes "[" ++ join_with_byte char.comma (formats cs) ++ codes "]"
   format (fields fs) = codes "{ " ++ all_fields_text fs ++ codes "}"
 
   pub formats : ConstantList → List Bytes
@@ -75,7 +76,7 @@ constant_field_text f = field_text f.name f.value (format f.value)
 
 -- the same over lists
 abbrev pub items_text : List ConstantSyntax → Bytes
-items_text cs = join_with_byte 44 (map format cs)
+items_text cs = join_with_byte char.comma (map format cs)
 
 abbrev pub list_text : List ConstantSyntax → Bytes
 list_text cs = codes "[" ++ items_text cs ++ codes "]"

@@ -14,7 +14,7 @@ use Rattle.protobuf_parse_base.specs.Relations.{◌>>◌}
 use Rattle.protobuf_parse_base.specs.Relations.{AtSomeDepth}
 use Rattle.protobuf_parse_base.specs.Paths.{IsProtoPath}
 use Rattle.protobuf_parse_syntax.specs.Text.{Bytes}
-use Rattle.protobuf_parse_syntax.specs.Characters as char
+use Rattle.protobuf_parse_base.specs.Characters as char
 use Rattle.protobuf_parse_syntax.specs.Tokens.{Lexeme, DecodesAll, unquoted}
 use Rattle.protobuf_parse_syntax.specs.Trees as tree
 use Rattle.protobuf_parse_syntax.specs.Trees.{Pieces, ConstantNameSyntax, ConstantSyntax}
@@ -29,7 +29,7 @@ use Rattle.protobuf_parse_syntax.specs.Trees.{MethodSyntax, ServiceStatementSynt
 use Rattle.protobuf_parse_syntax.specs.Trees.{ImportSyntax, PackageSyntax, StatementSyntax}
 use Rattle.protobuf_parse_syntax.specs.Trees.{FileSyntax}
 use Rattle.protobuf_parse_syntax.specs.Classes.{Class, sees, symbol, word, ident, integer}
-use Rattle.protobuf_parse_syntax.specs.Classes.{text as string_token, is_ident, is_one_of, words}
+use Rattle.protobuf_parse_syntax.specs.Classes.{text as string_token, is_ident_token, is_one_of, words}
 use Rattle.protobuf_parse_syntax.specs.declared.lexer.token.Place.{Place}
 use Rattle.protobuf_parse_syntax.specs.declared.lexer.token.TokenKind.{TokenKind}
 use Rattle.protobuf_parse_syntax.specs.declared.lexer.token.TokenKind.TheVariants as kind
@@ -68,7 +68,7 @@ lookup (e ∷ es) w = cond (bytes_eq w e.0) (Some e.1) (lookup es w)
 
 -- a word of the table, which says what is beside it
 abbrev pub word_of : {A : Type 0} → List (Bytes × A) → Lexeme → Option A
-word_of table t = cond (is_ident t.kind) (lookup table t.text) None
+word_of table t = cond (is_ident_token t.kind) (lookup table t.text) None
 
 abbrev pub IsWordOf : {A : Type 0} → List (Bytes × A) → Rel Lexeme A
 IsWordOf table = One (word_of table)

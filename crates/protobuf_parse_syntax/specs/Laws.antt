@@ -8,6 +8,7 @@ use Rattle.protobuf_parse_syntax.specs.Tokens.{Lexeme, unquoted, Decodes, Decode
 use Rattle.protobuf_parse_syntax.specs.Grammar.{StandsFor}
 use Rattle.protobuf_parse_syntax.specs.Decoder.{decode, text_of}
 use Rattle.protobuf_parse_syntax.specs.Cut.{Cuts, mark_len}
+use Rattle.protobuf_parse_base.specs.Characters as char
 use Rattle.protobuf_parse_base.specs.Escapes.{escaped_bytes}
 use Rattle.protobuf_parse_syntax.specs.declared.error.ParserError.{ParserError}
 use Rattle.protobuf_parse_syntax.specs.declared.lexer.token.Place.{Place}
@@ -48,11 +49,11 @@ TextIsExact =
 
 -- the line behind these characters: one more than the line feeds among them
 abbrev pub line_after : List ℕ → ℕ
-line_after cs = 1 + count_by (λ c. c == 10) cs
+line_after cs = 1 + count_by (λ c. c == char.newline) cs
 
 -- the column behind these characters: one more than the characters after the last line feed
 abbrev pub column_after : List ℕ → ℕ
-column_after cs = 1 + length (take_while (λ c. not (c == 10)) (reverse cs))
+column_after cs = 1 + length (take_while (λ c. not (c == char.newline)) (reverse cs))
 
 -- the place behind a text counts its characters
 abbrev pub PlacesCountCharacters : Type 0
@@ -80,6 +81,7 @@ StringsAreQuoted =
 abbrev pub EscapedBytesDecode : Type 0
 EscapedBytesDecode =
     (bytes rest : Bytes) → All (λ b. b < 256) bytes →
-    IsToken (34 ∷ (escaped_bytes bytes ++ 34 ∷ rest)) (length (escaped_bytes bytes) + 2) kind.Str
-    × (unquoted (34 ∷ (escaped_bytes bytes ++ 34 ∷ [])) ≡ escaped_bytes bytes)
+    IsToken (char.quote ∷ (escaped_bytes bytes ++ char.quote ∷ rest))
+    (length (escaped_bytes bytes) + 2) kind.Str
+    × (unquoted (char.quote ∷ (escaped_bytes bytes ++ char.quote ∷ [])) ≡ escaped_bytes bytes)
     × Decodes (escaped_bytes bytes) bytes

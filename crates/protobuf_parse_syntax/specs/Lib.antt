@@ -1,5 +1,4 @@
 pub mod Text
-pub mod Characters
 pub mod Scan
 pub mod Place
 pub mod Tokens
@@ -18,6 +17,7 @@ pub mod Dependencies
 pub mod Parsing
 pub mod Readings
 pub mod Decoder
+pub mod DecoderLaws
 pub mod Productions
 pub mod NestedFields
 pub mod Nested

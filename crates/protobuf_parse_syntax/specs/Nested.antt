@@ -2,6 +2,7 @@
 -- A pair of readers for each production in which parts nest.
 use Rattle.std.proofs.Common.{◌≡◌, ℕ, suc, ◌≤◌, List, [], ◌∷◌, ◌++◌, None, true}
 use Rattle.std.proofs.Common.{false, codes, refl, ap, ◌∙◌, ◌-◌, arith}
+use Rattle.protobuf_parse_base.specs.Characters as char
 use Rattle.protobuf_parse_base.specs.Readers.{Rest, deep, Shape, nested}
 use Rattle.protobuf_parse_base.specs.Depth.{Near}
 use Rattle.protobuf_parse_base.specs.Pairs.{same, less, give, behind, choose, shaped}
@@ -73,7 +74,8 @@ no_oneof_words = codes "map" ∷ table_words labels ++ statement_words
 
 abbrev pub oneof_field_shape : Shape Class
 oneof_field_shape =
-    field_shape (symbol_class 46 ∷ ident_class (codes "map" ∷ table_words labels ++ statement_words)
+    field_shape (symbol_class char.dot
+    ∷ ident_class (codes "map" ∷ table_words labels ++ statement_words)
     ∷ [])
 
 unfoldable pub oneof_field : (s : Syntax) (n : ℕ)
@@ -85,16 +87,19 @@ oneof_field s n = shaped oneof_field_shape (at (λ place.
 
 abbrev pub oneof_statement_shape : Shape Class
 oneof_statement_shape =
-    nested (word_class (codes "option") ∷ symbol_class 46
+    nested (word_class (codes "option") ∷ symbol_class char.dot
     ∷ ident_class (codes "map" ∷ table_words labels ++ statement_words) ∷ []) false []
 
 unfoldable pub oneof_statement : (s : Syntax) (n : ℕ)
     → Parts (IsOneofStatement s n) (IsOneofStatement s (suc n)) oneof_statement_shape n
 unfolding IsOneofStatement
-oneof_statement s n = shaped oneof_statement_shape (choose (do o ← option n; give (tree.oneof_option o)) refl (do f ← oneof_field s n; give (tree.oneof_field f))) refl
+oneof_statement s n =
+    shaped oneof_statement_shape
+    (choose (do o ← option n; give (tree.oneof_option o)) refl
+    (do f ← oneof_field s n; give (tree.oneof_field f))) refl
 
 abbrev pub oneof_firsts : List Class
-oneof_firsts = symbol_class 59 ∷ word_class (codes "option") ∷ symbol_class 46
+oneof_firsts = symbol_class char.semicolon ∷ word_class (codes "option") ∷ symbol_class char.dot
     ∷ ident_class (codes "map" ∷ table_words labels ++ statement_words) ∷ []
 
 unfoldable pub oneof_item : (s : Syntax) (n : ℕ)
@@ -114,7 +119,11 @@ unfolding IsOneof
 oneof_pair s n = shaped (nested (word_class (codes "oneof") ∷ []) false []) (at (λ place. do
   same (word (codes "oneof")) refl
   name ← same ident refl
-  body ← (do same (symbol 123) refl; body ← oneof_items s n; same (symbol 125) refl; give body)
+  body ← (do
+    same (symbol char.open_brace) refl
+    body ← oneof_items s n
+    same (symbol char.close_brace) refl
+    give body)
   give (record { place = place; name = name; body = body })) refl) refl
 
 pub oneof-same : (s : Syntax) (n : ℕ) (ts : Rest Lexeme Place)
@@ -131,7 +140,7 @@ oneof s = steady (oneof_pair s) (oneof-same s)
 -- "{" { ";" | field } "}"
 unfoldable pub extend_body : (s : Syntax) (n : ℕ)
     → Parts (Braced (IsField s n)) (Braced (IsField s (suc n)))
-    (nested (symbol_class 123 ∷ []) false []) n
+    (nested (symbol_class char.open_brace ∷ []) false []) n
 extend_body s n = field_block_of s (fields s n)
 
 unfoldable pub extend_pair : (s : Syntax) (n : ℕ)
@@ -159,19 +168,19 @@ extend s = steady (extend_pair s) (extend-same s)
 
 abbrev pub enum_value_shape : Shape Class
 enum_value_shape = nested (ident_class (codes "reserved" ∷ codes "option" ∷ []) ∷ []) false
-    (symbol_class 91 ∷ [])
+    (symbol_class char.open_bracket ∷ [])
 
 unfoldable pub enum_value : (n : ℕ) → Parts (IsEnumValue n) (IsEnumValue (suc n)) enum_value_shape n
 unfolding IsEnumValue
 enum_value n = shaped enum_value_shape (at (λ place. do
   name ← same value_name refl
-  same (symbol 61) refl
+  same (symbol char.equals) refl
   number ← same enum_number refl
   options ← options n
   give (record { place = place; name = name; number = number; options = options })) refl) refl
 
 abbrev pub enum_statement_shape : Shape Class
-enum_statement_shape = nested (ident_class [] ∷ []) false (symbol_class 91 ∷ [])
+enum_statement_shape = nested (ident_class [] ∷ []) false (symbol_class char.open_bracket ∷ [])
 
 unfoldable pub enum_statement : (n : ℕ)
     → Parts (IsEnumStatement n) (IsEnumStatement (suc n)) enum_statement_shape n
@@ -182,18 +191,18 @@ enum_statement n = shaped enum_statement_shape
     (do v ← enum_value n; give (tree.enum_value v)))) refl
 
 abbrev pub enum_firsts : List Class
-enum_firsts = symbol_class 59 ∷ ident_class [] ∷ []
+enum_firsts = symbol_class char.semicolon ∷ ident_class [] ∷ []
 
 unfoldable pub enum_item : (n : ℕ)
     → Parts (Item (IsEnumStatement n)) (Item (IsEnumStatement (suc n)))
-    (nested enum_firsts false (symbol_class 91 ∷ [])) n
-enum_item n = shaped (nested enum_firsts false (symbol_class 91 ∷ []))
+    (nested enum_firsts false (symbol_class char.open_bracket ∷ [])) n
+enum_item n = shaped (nested enum_firsts false (symbol_class char.open_bracket ∷ []))
     (item (enum_statement n)) refl
 
 unfoldable pub enum_items : (n : ℕ)
     → Parts (Statements (IsEnumStatement n)) (Statements (IsEnumStatement (suc n)))
-    (nested enum_firsts true (symbol_class 91 ∷ enum_firsts)) n
-enum_items n = shaped (nested enum_firsts true (symbol_class 91 ∷ enum_firsts))
+    (nested enum_firsts true (symbol_class char.open_bracket ∷ enum_firsts)) n
+enum_items n = shaped (nested enum_firsts true (symbol_class char.open_bracket ∷ enum_firsts))
     (statements (enum_item n) refl) refl
 
 unfoldable pub enumeration_pair : (n : ℕ)
@@ -202,7 +211,11 @@ unfolding IsEnum
 enumeration_pair n = shaped (nested (word_class (codes "enum") ∷ []) false []) (at (λ place. do
   same (word (codes "enum")) refl
   name ← same ident refl
-  body ← (do same (symbol 123) refl; body ← enum_items n; same (symbol 125) refl; give body)
+  body ← (do
+    same (symbol char.open_brace) refl
+    body ← enum_items n
+    same (symbol char.close_brace) refl
+    give body)
   give (record { place = place; name = name; body = body })) refl) refl
 
 pub enumeration-same : (n : ℕ) (ts : Rest Lexeme Place)
@@ -223,11 +236,12 @@ abbrev pub statement_firsts : Syntax → List Class
 statement_firsts Proto2 =
     words (codes "reserved" ∷ codes "oneof" ∷ codes "extend" ∷ codes "message" ∷ codes "enum"
     ∷ codes "extensions" ∷ codes "option" ∷ codes "map" ∷ table_words labels)
-statement_firsts Proto3 = symbol_class 46 ∷ ident_class (codes "required" ∷ codes "extensions" ∷ [])
+statement_firsts Proto3 = symbol_class char.dot
+    ∷ ident_class (codes "required" ∷ codes "extensions" ∷ [])
     ∷ []
 
 abbrev pub statement_goes : Syntax → List Class
-statement_goes Proto2 = symbol_class 44 ∷ word_class (codes "to") ∷ []
+statement_goes Proto2 = symbol_class char.comma ∷ word_class (codes "to") ∷ []
 statement_goes Proto3 = []
 
 unfoldable pub message_statement_of : (s : Syntax) (n k : ℕ) → k ≤ n
@@ -259,18 +273,20 @@ message_statement_of Proto3 n k h m =
 unfoldable pub message_item_of : (s : Syntax) (n k : ℕ) → k ≤ n
     → {M M' : List Lexeme → MessageSyntax → Type 0} → Parts M M' message_shape k
     → Parts (Item (MessageStatementOf s n M)) (Item (MessageStatementOf s (suc n) M'))
-    (nested (symbol_class 59 ∷ statement_firsts s) false (statement_goes s)) k
+    (nested (symbol_class char.semicolon ∷ statement_firsts s) false (statement_goes s)) k
 message_item_of Proto2 n k h m =
-    shaped (nested (symbol_class 59 ∷ statement_firsts Proto2) false (statement_goes Proto2))
+    shaped (nested (symbol_class char.semicolon ∷ statement_firsts Proto2) false
+    (statement_goes Proto2))
     (item (message_statement_of Proto2 n k h m)) refl
 message_item_of Proto3 n k h m =
-    shaped (nested (symbol_class 59 ∷ statement_firsts Proto3) false (statement_goes Proto3))
+    shaped (nested (symbol_class char.semicolon ∷ statement_firsts Proto3) false
+    (statement_goes Proto3))
     (item (message_statement_of Proto3 n k h m)) refl
 
 abbrev pub message_items_shape : Syntax → Shape Class
 message_items_shape s =
-    nested (symbol_class 59 ∷ statement_firsts s) true
-    (statement_goes s ++ symbol_class 59 ∷ statement_firsts s)
+    nested (symbol_class char.semicolon ∷ statement_firsts s) true
+    (statement_goes s ++ symbol_class char.semicolon ∷ statement_firsts s)
 
 unfoldable pub message_items_of : (s : Syntax) (n k : ℕ) → k ≤ n
     → {M M' : List Lexeme → MessageSyntax → Type 0} → Parts M M' message_shape k
@@ -285,14 +301,24 @@ unfoldable pub message_of : (s : Syntax) (n k : ℕ) → k ≤ n
     → (M M' : List Lexeme → MessageSyntax → Type 0) → Parts M M' message_shape k
     → Parts (MessageOf s n M) (MessageOf s (suc n) M') message_shape (suc k)
 unfolding MessageOf
-message_of Proto2 n k h M M' m = shaped message_shape (at (λ place. behind (word (codes "message")) refl refl (do
-  name ← same ident refl
-  body ← (do same (symbol 123) refl; body ← message_items_of Proto2 n k h m; same (symbol 125) refl; give body)
-  give (record { place = place; name = name; body = body }))) refl) refl
-message_of Proto3 n k h M M' m = shaped message_shape (at (λ place. behind (word (codes "message")) refl refl (do
-  name ← same ident refl
-  body ← (do same (symbol 123) refl; body ← message_items_of Proto3 n k h m; same (symbol 125) refl; give body)
-  give (record { place = place; name = name; body = body }))) refl) refl
+message_of Proto2 n k h M M' m =
+    shaped message_shape (at (λ place. behind (word (codes "message")) refl refl (do
+      name ← same ident refl
+      body ← (do
+        same (symbol char.open_brace) refl
+        body ← message_items_of Proto2 n k h m
+        same (symbol char.close_brace) refl
+        give body)
+      give (record { place = place; name = name; body = body }))) refl) refl
+message_of Proto3 n k h M M' m =
+    shaped message_shape (at (λ place. behind (word (codes "message")) refl refl (do
+      name ← same ident refl
+      body ← (do
+        same (symbol char.open_brace) refl
+        body ← message_items_of Proto3 n k h m
+        same (symbol char.close_brace) refl
+        give body)
+      give (record { place = place; name = name; body = body }))) refl) refl
 
 abbrev pub message : (s : Syntax) (n : ℕ) → Parses (IsMessage s n) message_shape
 message s = level refl (message_of s)
@@ -322,7 +348,7 @@ message_items s n = message_items_of s n 0 (none-le refl (message_of s) n) (both
 abbrev pub message_item : (s : Syntax) (n : ℕ)
     → Parts (Item (MessageStatementOf s n (IsMessage s n)))
     (Item (MessageStatementOf s (suc n) (IsMessage s n)))
-    (nested (symbol_class 59 ∷ statement_firsts s) false (statement_goes s)) 0
+    (nested (symbol_class char.semicolon ∷ statement_firsts s) false (statement_goes s)) 0
 message_item s n = message_item_of s n 0 (none-le refl (message_of s) n) (both (message s n))
 
 abbrev pub message_statement : (s : Syntax) (n : ℕ)
@@ -345,15 +371,23 @@ message_more s n ts h =
 
 unfoldable pub option_body : (n : ℕ)
     → Parts (Braced (IsOption n)) (Braced (IsOption (suc n)))
-    (nested (symbol_class 123 ∷ []) false []) n
-option_body n = shaped (nested (symbol_class 123 ∷ []) false []) (do same (symbol 123) refl; options ← option_items n; same (symbol 125) refl; give options) refl
+    (nested (symbol_class char.open_brace ∷ []) false []) n
+option_body n =
+    shaped (nested (symbol_class char.open_brace ∷ []) false [])
+    (do
+      same (symbol char.open_brace) refl
+      options ← option_items n
+      same (symbol char.close_brace) refl
+      give options) refl
 
 abbrev pub method_end_shape : Shape Class
-method_end_shape = nested (symbol_class 59 ∷ symbol_class 123 ∷ []) false []
+method_end_shape = nested (symbol_class char.semicolon ∷ symbol_class char.open_brace ∷ []) false []
 
 unfoldable pub method_end : (n : ℕ) → Parts (IsMethodEnd n) (IsMethodEnd (suc n)) method_end_shape n
 unfolding IsMethodEnd
-method_end n = shaped method_end_shape (choose (do same (symbol 59) refl; give []) refl (option_body n)) refl
+method_end n =
+    shaped method_end_shape (choose (do same (symbol char.semicolon) refl; give []) refl
+    (option_body n)) refl
 
 unfoldable pub rpc : (n : ℕ)
     → Parts (IsRpc n) (IsRpc (suc n)) (nested (word_class (codes "rpc") ∷ []) false []) n
@@ -382,11 +416,11 @@ unfolding IsStream
 stream n = shaped (nested (word_class (codes "stream") ∷ []) false []) (at (λ place. do
   same (word (codes "stream")) refl
   method ← same ident refl
-  same (symbol 40) refl
+  same (symbol char.open_paren) refl
   input ← same name refl
-  same (symbol 44) refl
+  same (symbol char.comma) refl
   output ← same name refl
-  same (symbol 41) refl
+  same (symbol char.close_paren) refl
   options ← method_end n
   give (record {
     place = place;
@@ -418,38 +452,51 @@ service_statement Proto3 n = shaped (nested (service_firsts Proto3) false [])
 
 unfoldable pub service_item : (s : Syntax) (n : ℕ)
     → Parts (Item (IsServiceStatement s n)) (Item (IsServiceStatement s (suc n)))
-    (nested (symbol_class 59 ∷ service_firsts s) false []) n
+    (nested (symbol_class char.semicolon ∷ service_firsts s) false []) n
 service_item Proto2 n =
-    shaped (nested (symbol_class 59 ∷ service_firsts Proto2) false [])
+    shaped (nested (symbol_class char.semicolon ∷ service_firsts Proto2) false [])
     (item (service_statement Proto2 n)) refl
 service_item Proto3 n =
-    shaped (nested (symbol_class 59 ∷ service_firsts Proto3) false [])
+    shaped (nested (symbol_class char.semicolon ∷ service_firsts Proto3) false [])
     (item (service_statement Proto3 n)) refl
 
 unfoldable pub service_items : (s : Syntax) (n : ℕ)
     → Parts (Statements (IsServiceStatement s n)) (Statements (IsServiceStatement s (suc n)))
-    (nested (symbol_class 59 ∷ service_firsts s) true (symbol_class 59 ∷ service_firsts s)) n
+    (nested (symbol_class char.semicolon ∷ service_firsts s) true
+    (symbol_class char.semicolon ∷ service_firsts s)) n
 service_items Proto2 n =
-    shaped (nested (symbol_class 59 ∷ service_firsts Proto2) true
-    (symbol_class 59 ∷ service_firsts Proto2)) (statements (service_item Proto2 n) refl) refl
+    shaped (nested (symbol_class char.semicolon ∷ service_firsts Proto2) true
+    (symbol_class char.semicolon ∷ service_firsts Proto2))
+    (statements (service_item Proto2 n) refl) refl
 service_items Proto3 n =
-    shaped (nested (symbol_class 59 ∷ service_firsts Proto3) true
-    (symbol_class 59 ∷ service_firsts Proto3)) (statements (service_item Proto3 n) refl) refl
+    shaped (nested (symbol_class char.semicolon ∷ service_firsts Proto3) true
+    (symbol_class char.semicolon ∷ service_firsts Proto3))
+    (statements (service_item Proto3 n) refl) refl
 
 unfoldable pub service_pair : (s : Syntax) (n : ℕ)
     → Parts (IsService s n) (IsService s (suc n))
     (nested (word_class (codes "service") ∷ []) false []) n
 unfolding IsService
-service_pair Proto2 n = shaped (nested (word_class (codes "service") ∷ []) false []) (at (λ place. do
-  same (word (codes "service")) refl
-  name ← same ident refl
-  body ← (do same (symbol 123) refl; body ← service_items Proto2 n; same (symbol 125) refl; give body)
-  give (record { place = place; name = name; body = body })) refl) refl
-service_pair Proto3 n = shaped (nested (word_class (codes "service") ∷ []) false []) (at (λ place. do
-  same (word (codes "service")) refl
-  name ← same ident refl
-  body ← (do same (symbol 123) refl; body ← service_items Proto3 n; same (symbol 125) refl; give body)
-  give (record { place = place; name = name; body = body })) refl) refl
+service_pair Proto2 n =
+    shaped (nested (word_class (codes "service") ∷ []) false []) (at (λ place. do
+      same (word (codes "service")) refl
+      name ← same ident refl
+      body ← (do
+        same (symbol char.open_brace) refl
+        body ← service_items Proto2 n
+        same (symbol char.close_brace) refl
+        give body)
+      give (record { place = place; name = name; body = body })) refl) refl
+service_pair Proto3 n =
+    shaped (nested (word_class (codes "service") ∷ []) false []) (at (λ place. do
+      same (word (codes "service")) refl
+      name ← same ident refl
+      body ← (do
+        same (symbol char.open_brace) refl
+        body ← service_items Proto3 n
+        same (symbol char.close_brace) refl
+        give body)
+      give (record { place = place; name = name; body = body })) refl) refl
 
 pub service-same : (s : Syntax) (n : ℕ) (ts : Rest Lexeme Place)
     → (service_pair s n).high.run ts ≡ (service_pair s (suc n)).low.run ts
@@ -485,20 +532,22 @@ file_statement s n = shaped (nested file_firsts false [])
 
 unfoldable pub file_item : (s : Syntax) (n : ℕ)
     → Parts (Item (IsFileStatement s n)) (Item (IsFileStatement s (suc n)))
-    (nested (symbol_class 59 ∷ file_firsts) false []) n
-file_item s n = shaped (nested (symbol_class 59 ∷ file_firsts) false [])
+    (nested (symbol_class char.semicolon ∷ file_firsts) false []) n
+file_item s n = shaped (nested (symbol_class char.semicolon ∷ file_firsts) false [])
     (item (file_statement s n)) refl
 
 unfoldable pub file_items : (s : Syntax) (n : ℕ)
     → Parts (Statements (IsFileStatement s n)) (Statements (IsFileStatement s (suc n)))
-    (nested (symbol_class 59 ∷ file_firsts) true (symbol_class 59 ∷ file_firsts)) n
+    (nested (symbol_class char.semicolon ∷ file_firsts) true
+    (symbol_class char.semicolon ∷ file_firsts)) n
 file_items s n =
-    shaped (nested (symbol_class 59 ∷ file_firsts) true (symbol_class 59 ∷ file_firsts))
+    shaped (nested (symbol_class char.semicolon ∷ file_firsts) true
+    (symbol_class char.semicolon ∷ file_firsts))
     (statements (file_item s n) refl) refl
 
 abbrev pub file_shape : Shape Class
-file_shape = nested (word_class (codes "syntax") ∷ symbol_class 59 ∷ file_firsts) true
-    (word_class (codes "syntax") ∷ symbol_class 59 ∷ file_firsts)
+file_shape = nested (word_class (codes "syntax") ∷ symbol_class char.semicolon ∷ file_firsts) true
+    (word_class (codes "syntax") ∷ symbol_class char.semicolon ∷ file_firsts)
 
 unfoldable pub file : (n : ℕ) → Parts (IsFileOf n) (IsFileOf (suc n)) file_shape n
 unfolding IsFileOf

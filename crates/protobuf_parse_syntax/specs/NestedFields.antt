@@ -2,6 +2,7 @@
 -- The readers of what nests, each one level deep and one deeper: constants, types, options, fields.
 use Rattle.std.proofs.Common.{◌≡◌, ℕ, suc, ◌≤◌, List, [], ◌∷◌, ◌++◌, Option, Some, None, true}
 use Rattle.std.proofs.Common.{false, codes, refl, ap, ◌∙◌, ◌-◌, arith}
+use Rattle.protobuf_parse_base.specs.Characters as char
 use Rattle.protobuf_parse_base.specs.Relations.{Rel, Then, Either, Many, Unless, Separated}
 use Rattle.protobuf_parse_base.specs.Relations.{somes, Nothing}
 use Rattle.protobuf_parse_base.specs.Readers.{Rest, deep, read, Shape, nested, shape}
@@ -46,26 +47,32 @@ Parts = Pair lexicon
 -- ---- constants
 
 abbrev pub constant_firsts : List Class
-constant_firsts = symbol_class 123 ∷ symbol_class 91 ∷ ident_class [] ∷ integer ∷ symbol_class 43
-    ∷ symbol_class 45 ∷ text ∷ []
+constant_firsts = symbol_class char.open_brace ∷ symbol_class char.open_bracket ∷ ident_class []
+    ∷ integer ∷ symbol_class char.plus
+    ∷ symbol_class char.minus ∷ text ∷ []
 
 abbrev pub constant_shape : Shape Class
-constant_shape = nested constant_firsts false (symbol_class 46 ∷ text ∷ [])
+constant_shape = nested constant_firsts false (symbol_class char.dot ∷ text ∷ [])
 
 abbrev pub constant_field_shape : Shape Class
 constant_field_shape =
-    nested (ident_class [] ∷ symbol_class 91 ∷ []) false
-    (symbol_class 46 ∷ text ∷ symbol_class 44 ∷ symbol_class 59 ∷ [])
+    nested (ident_class [] ∷ symbol_class char.open_bracket ∷ []) false
+    (symbol_class char.dot ∷ text ∷ symbol_class char.comma ∷ symbol_class char.semicolon ∷ [])
 
 -- the value of a field: ":" constant | msgconst, with the constants inside by C
 abbrev pub ValueOf : Rel Lexeme ConstantSyntax → Rel Lexeme ConstantSyntax
-ValueOf C = Either (Then (IsSymbol 58) (λ u. C)) (Unless (is_one_of other_constants) C)
+ValueOf C = Either (Then (IsSymbol char.colon) (λ u. C)) (Unless (is_one_of other_constants) C)
 
 unfoldable pub value_of : {R R' : List Lexeme → ConstantSyntax → Type 0} {k : ℕ}
     → Parts R R' constant_shape k
     → Parts (ValueOf R) (ValueOf R')
-    (nested (symbol_class 58 ∷ symbol_class 123 ∷ []) false (symbol_class 46 ∷ text ∷ [])) k
-value_of p = shaped (nested (symbol_class 58 ∷ symbol_class 123 ∷ []) false (symbol_class 46 ∷ text ∷ [])) (choose (do same (symbol 58) refl; p) refl (begun (unless other_constants p refl) refl)) refl
+    (nested (symbol_class char.colon ∷ symbol_class char.open_brace ∷ []) false
+    (symbol_class char.dot ∷ text ∷ [])) k
+value_of p =
+    shaped (nested (symbol_class char.colon ∷ symbol_class char.open_brace ∷ []) false
+    (symbol_class char.dot ∷ text ∷ []))
+    (choose (do same (symbol char.colon) refl; p) refl (begun (unless other_constants p refl) refl))
+    refl
 
 unfoldable pub constant_field_of : {R R' : List Lexeme → ConstantSyntax → Type 0} {k : ℕ}
     → Parts R R' constant_shape k
@@ -79,8 +86,9 @@ constant_field_of p = shaped constant_field_shape (do
 
 abbrev pub constant_fields_shape : Shape Class
 constant_fields_shape =
-    nested (ident_class [] ∷ symbol_class 91 ∷ []) true
-    (ident_class [] ∷ symbol_class 91 ∷ symbol_class 46 ∷ text ∷ symbol_class 44 ∷ symbol_class 59
+    nested (ident_class [] ∷ symbol_class char.open_bracket ∷ []) true
+    (ident_class [] ∷ symbol_class char.open_bracket ∷ symbol_class char.dot ∷ text
+    ∷ symbol_class char.comma ∷ symbol_class char.semicolon
     ∷ [])
 
 unfoldable pub constant_fields_of : {R R' : List Lexeme → ConstantSyntax → Type 0} {k : ℕ}
@@ -90,30 +98,36 @@ constant_fields_of p = shaped constant_fields_shape (many (constant_field_of p) 
 
 unfoldable pub message_constant_of : {R R' : List Lexeme → ConstantSyntax → Type 0} {k : ℕ}
     → Parts R R' constant_shape k
-    → Parts (MessageConstantOf R) (MessageConstantOf R') (nested (symbol_class 123 ∷ []) false [])
+    → Parts (MessageConstantOf R) (MessageConstantOf R')
+    (nested (symbol_class char.open_brace ∷ []) false [])
     (suc k)
 unfolding MessageConstantOf
-message_constant_of p = shaped (nested (symbol_class 123 ∷ []) false []) (behind (symbol 123) refl refl (do
-  fields ← constant_fields_of p
-  same (symbol 125) refl
-  give (tree.fields (tree.constant_fields fields)))) refl
+message_constant_of p =
+    shaped (nested (symbol_class char.open_brace ∷ []) false [])
+    (behind (symbol char.open_brace) refl refl (do
+      fields ← constant_fields_of p
+      same (symbol char.close_brace) refl
+      give (tree.fields (tree.constant_fields fields)))) refl
 
 unfoldable pub constants_of : {R R' : List Lexeme → ConstantSyntax → Type 0} {k : ℕ}
     → Parts R R' constant_shape k
     → Parts (Separated IsComma R) (Separated IsComma R')
-    (nested constant_firsts false (symbol_class 46 ∷ text ∷ symbol_class 44 ∷ [])) k
+    (nested constant_firsts false (symbol_class char.dot ∷ text ∷ symbol_class char.comma ∷ [])) k
 constants_of p =
-    shaped (nested constant_firsts false (symbol_class 46 ∷ text ∷ symbol_class 44 ∷ []))
-    (separated (symbol 44) refl refl p) refl
+    shaped (nested constant_firsts false
+    (symbol_class char.dot ∷ text ∷ symbol_class char.comma ∷ []))
+    (separated (symbol char.comma) refl refl p) refl
 
 unfoldable pub list_of : {R R' : List Lexeme → ConstantSyntax → Type 0} {k : ℕ}
     → Parts R R' constant_shape k
-    → Parts (ListOf R) (ListOf R') (nested (symbol_class 91 ∷ []) false []) (suc k)
+    → Parts (ListOf R) (ListOf R') (nested (symbol_class char.open_bracket ∷ []) false []) (suc k)
 unfolding ListOf
-list_of p = shaped (nested (symbol_class 91 ∷ []) false []) (behind (symbol 91) refl refl (do
-  items ← choose (constants_of p) refl (give [])
-  same (symbol 93) refl
-  give (tree.list (tree.constants items)))) refl
+list_of p =
+    shaped (nested (symbol_class char.open_bracket ∷ []) false [])
+    (behind (symbol char.open_bracket) refl refl (do
+      items ← choose (constants_of p) refl (give [])
+      same (symbol char.close_bracket) refl
+      give (tree.list (tree.constants items)))) refl
 
 unfoldable pub constant_of : (n k : ℕ) → k ≤ n → (R R' : List Lexeme → ConstantSyntax → Type 0)
     → Parts R R' constant_shape k → Parts (ConstantOf R) (ConstantOf R') constant_shape (suc k)
@@ -155,18 +169,20 @@ constants n = record { low = constant n; high = constant (suc n); near = near_co
 -- ---- types
 
 abbrev pub type_shape : Shape Class
-type_shape = nested (symbol_class 46 ∷ ident_class [] ∷ []) false (symbol_class 46 ∷ [])
+type_shape = nested (symbol_class char.dot ∷ ident_class [] ∷ []) false (symbol_class char.dot ∷ [])
 
 unfoldable pub map_of : {R R' : List Lexeme → TypeSyntax → Type 0} {k : ℕ} → Parts R R' type_shape k
     → Parts (MapOf R) (MapOf R') (nested (word_class (codes "map") ∷ []) false []) (suc k)
 unfolding MapOf
-map_of p = shaped (nested (word_class (codes "map") ∷ []) false []) (behind (word (codes "map")) refl refl (do
-  same (symbol 60) refl
-  key ← p
-  same (symbol 44) refl
-  value ← p
-  same (symbol 62) refl
-  give (tree.map_of key value))) refl
+map_of p =
+    shaped (nested (word_class (codes "map") ∷ []) false [])
+    (behind (word (codes "map")) refl refl (do
+      same (symbol char.less) refl
+      key ← p
+      same (symbol char.comma) refl
+      value ← p
+      same (symbol char.greater) refl
+      give (tree.map_of key value))) refl
 
 unfoldable pub type_of : (n k : ℕ) → k ≤ n → (R R' : List Lexeme → TypeSyntax → Type 0)
     → Parts R R' type_shape k → Parts (TypeOf R) (TypeOf R') type_shape (suc k)
@@ -174,7 +190,9 @@ unfolding TypeOf
 type_of n k h R R' p = shaped type_shape
     (choose (do s ← same (one_of scalars) refl; give (tree.scalar s)) refl
     (choose (map_of p) refl
-    (do name ← unless (words (codes "map" ∷ table_words scalars)) (same name refl) refl; give (tree.named name)))) refl
+    (do
+      name ← unless (words (codes "map" ∷ table_words scalars)) (same name refl) refl
+      give (tree.named name)))) refl
 
 abbrev pub type_ : (n : ℕ) → Parses (IsType n) type_shape
 type_ = level refl type_of
@@ -191,13 +209,15 @@ types n = record { low = type_ n; high = type_ (suc n); near = near_type n }
 abbrev pub item_shape : Shape Class → Shape Class
 item_shape s =
     either_shape lexicon
-    (then_shape lexicon (shape (symbol_class 59 ∷ []) false []) (shape [] true []))
+    (then_shape lexicon (shape (symbol_class char.semicolon ∷ []) false []) (shape [] true []))
     (then_shape lexicon s (shape [] true []))
 
 -- such a statement, or nothing at a semicolon
 abbrev pub item : {A : Type 0} {R R' : List Lexeme → A → Type 0} {s : Shape Class} {k : ℕ}
     → Parts R R' s k → Parts (Item R) (Item R') (item_shape s) k
-item p = choose (do same (symbol 59) refl; give None) refl (do statement ← p; give (Some statement))
+item p =
+    choose (do same (symbol char.semicolon) refl; give None) refl
+    (do statement ← p; give (Some statement))
 
 abbrev pub items_shape : Shape Class → Shape Class
 items_shape s = then_shape lexicon (many_shape lexicon s) (shape [] true [])
@@ -211,15 +231,15 @@ statements p some = do items ← many p some; give (somes items)
 -- ---- options
 
 abbrev pub assignment_shape : Shape Class
-assignment_shape = nested (ident_class [] ∷ symbol_class 40 ∷ []) false
-    (symbol_class 46 ∷ text ∷ [])
+assignment_shape = nested (ident_class [] ∷ symbol_class char.open_paren ∷ []) false
+    (symbol_class char.dot ∷ text ∷ [])
 
 unfoldable pub assignment : (n : ℕ)
     → Parts (IsAssignment n) (IsAssignment (suc n)) assignment_shape n
 unfolding IsAssignment
 assignment n = shaped assignment_shape (do
   name ← same option_name refl
-  same (symbol 61) refl
+  same (symbol char.equals) refl
   value ← constants n
   give (record { name = name; value = value })) refl
 
@@ -231,7 +251,7 @@ unfolding IsOption
 option_parts n = shaped option_shape (at (λ place. do
   same (word (codes "option")) refl
   option ← assignment n
-  same (symbol 59) refl
+  same (symbol char.semicolon) refl
   give (record { place = place; option = option })) refl) refl
 
 -- wrong from the word `option` on, if something in it is
@@ -247,13 +267,13 @@ abbrev pub option : (n : ℕ) → Parts (IsOption n) (IsOption (suc n)) option_s
 option = steady option_pair option-same
 
 abbrev pub comma_shape : Shape Class
-comma_shape = nested (symbol_class 44 ∷ []) false (symbol_class 46 ∷ text ∷ [])
+comma_shape = nested (symbol_class char.comma ∷ []) false (symbol_class char.dot ∷ text ∷ [])
 
 -- "," and an option
 abbrev pub comma_parts : (n : ℕ)
     → Parts (Then IsComma (λ u. IsAssignment n)) (Then IsComma (λ u. IsAssignment (suc n)))
     comma_shape n
-comma_parts n = shaped comma_shape (do same (symbol 44) refl; assignment n) refl
+comma_parts n = shaped comma_shape (do same (symbol char.comma) refl; assignment n) refl
 
 -- wrong from the comma on, if something in it is
 abbrev pub comma_assignment : (n : ℕ)
@@ -262,8 +282,8 @@ abbrev pub comma_assignment : (n : ℕ)
 comma_assignment n = from_start (comma_parts n)
 
 abbrev pub assignments_shape : Shape Class
-assignments_shape = nested (ident_class [] ∷ symbol_class 40 ∷ []) false
-    (symbol_class 46 ∷ text ∷ symbol_class 44 ∷ [])
+assignments_shape = nested (ident_class [] ∷ symbol_class char.open_paren ∷ []) false
+    (symbol_class char.dot ∷ text ∷ symbol_class char.comma ∷ [])
 
 unfoldable pub assignments : (n : ℕ)
     → Parts (Separated (IsComma) (IsAssignment n)) (Separated (IsComma) (IsAssignment (suc n)))
@@ -282,19 +302,19 @@ unfolding assignments run_many
 assignments_first n ts us a e = rw e refl
 
 abbrev pub bracketed_shape : Shape Class
-bracketed_shape = nested (symbol_class 91 ∷ []) false []
+bracketed_shape = nested (symbol_class char.open_bracket ∷ []) false []
 
 -- "[" options "]"
 abbrev pub Bracketed : ℕ → Rel Lexeme (List OptionSyntax)
-Bracketed n = Then (IsSymbol 91) (λ u. Then (Separated IsComma (IsAssignment n))
-    (λ options. Then (IsSymbol 93) (λ v. Nothing options)))
+Bracketed n = Then (IsSymbol char.open_bracket) (λ u. Then (Separated IsComma (IsAssignment n))
+    (λ options. Then (IsSymbol char.close_bracket) (λ v. Nothing options)))
 
 unfoldable pub bracket_parts : (n : ℕ)
     → Parts (Bracketed n) (Bracketed (suc n)) bracketed_shape n
 bracket_parts n = shaped bracketed_shape (do
-  same (symbol 91) refl
+  same (symbol char.open_bracket) refl
   options ← assignments n
-  same (symbol 93) refl
+  same (symbol char.close_bracket) refl
   give options) refl
 
 -- wrong from the bracket on, if something in them is
@@ -303,7 +323,8 @@ abbrev pub bracketed_options : (n : ℕ)
 bracketed_options n = from_start (bracket_parts n)
 
 abbrev pub options_shape : Shape Class
-options_shape = nested (symbol_class 91 ∷ []) true (symbol_class 91 ∷ [])
+options_shape =
+    nested (symbol_class char.open_bracket ∷ []) true (symbol_class char.open_bracket ∷ [])
 
 unfoldable pub options_pair : (n : ℕ) → Parts (AreOptions n) (AreOptions (suc n)) options_shape n
 unfolding AreOptions
@@ -318,11 +339,11 @@ abbrev pub options : (n : ℕ) → Parts (AreOptions n) (AreOptions (suc n)) opt
 options = steady options_pair options-same
 
 abbrev pub option_items_shape : Shape Class
-option_items_shape = nested (symbol_class 59 ∷ word_class (codes "option") ∷ []) true
-    (symbol_class 59 ∷ word_class (codes "option") ∷ [])
+option_items_shape = nested (symbol_class char.semicolon ∷ word_class (codes "option") ∷ []) true
+    (symbol_class char.semicolon ∷ word_class (codes "option") ∷ [])
 
 abbrev pub option_item_shape : Shape Class
-option_item_shape = nested (symbol_class 59 ∷ word_class (codes "option") ∷ []) false []
+option_item_shape = nested (symbol_class char.semicolon ∷ word_class (codes "option") ∷ []) false []
 
 unfoldable pub option_item : (n : ℕ)
     → Parts (Item (IsOption n)) (Item (IsOption (suc n))) option_item_shape n
@@ -342,9 +363,10 @@ field_shape firsts = nested firsts false []
 abbrev pub AfterType : ℕ → Place → Option Label → TypeSyntax → Rel Lexeme FieldStatementSyntax
 AfterType n place label type_ =
     relation.◌>>=◌ grammar.IsIdent
-    (λ name. relation.◌>>◌ (grammar.IsSymbol 61)
+    (λ name. relation.◌>>◌ (grammar.IsSymbol char.equals)
     (relation.◌>>=◌ grammar.IsFieldNumber
-    (λ number. relation.◌>>=◌ (AreOptions n) (λ options. relation.◌>>◌ (grammar.IsSymbol 59)
+    (λ number. relation.◌>>=◌ (AreOptions n)
+    (λ options. relation.◌>>◌ (grammar.IsSymbol char.semicolon)
     (relation.Nothing
     (tree.field
     (record {
@@ -361,10 +383,10 @@ unfoldable pub after_type : (n : ℕ) (place : Place) (label : Option Label) (ty
     (field_shape (ident_class [] ∷ [])) n
 after_type n place label type_ = shaped (field_shape (ident_class [] ∷ [])) (do
   name ← same ident refl
-  same (symbol 61) refl
+  same (symbol char.equals) refl
   number ← same field_number refl
   options ← options n
-  same (symbol 59) refl
+  same (symbol char.semicolon) refl
   give (tree.field
       (record {
         place = place;
@@ -379,11 +401,12 @@ after_type n place label type_ = shaped (field_shape (ident_class [] ∷ [])) (d
 unfoldable pub plain_field : (n : ℕ) (place : Place) (label : Option Label)
     → Parts (PlainFieldOf n (Unless (is_one_of (words (codes "group" ∷ []))) (IsType n)) place
     label) (PlainFieldOf (suc n) (Unless (is_one_of (words (codes "group" ∷ []))) (IsType (suc n)))
-    place label) (field_shape (symbol_class 46 ∷ ident_class (codes "group" ∷ []) ∷ [])) n
+    place label) (field_shape (symbol_class char.dot ∷ ident_class (codes "group" ∷ []) ∷ [])) n
 unfolding PlainFieldOf
-plain_field n place label = shaped (field_shape (symbol_class 46 ∷ ident_class (codes "group" ∷ []) ∷ [])) (do
-  type_ ← unless (words (codes "group" ∷ [])) (types n) refl
-  after_type n place label type_) refl
+plain_field n place label =
+    shaped (field_shape (symbol_class char.dot ∷ ident_class (codes "group" ∷ []) ∷ [])) (do
+      type_ ← unless (words (codes "group" ∷ [])) (types n) refl
+      after_type n place label type_) refl
 
 unfoldable pub map_field : (n : ℕ) (place : Place)
     → Parts (PlainFieldOf (suc n) (MapOf (IsType n)) place None)
@@ -396,14 +419,15 @@ map_field n place = shaped (field_shape (word_class (codes "map") ∷ [])) (do
 
 abbrev pub field_firsts : Syntax → List Class
 field_firsts Proto2 = words (table_words labels ++ codes "map" ∷ [])
-field_firsts Proto3 = symbol_class 46 ∷ ident_class (codes "required" ∷ statement_words) ∷ []
+field_firsts Proto3 = symbol_class char.dot ∷ ident_class (codes "required" ∷ statement_words) ∷ []
 
 abbrev pub field_items_shape : Syntax → Shape Class
 field_items_shape s =
-    nested (symbol_class 59 ∷ field_firsts s) true (symbol_class 59 ∷ field_firsts s)
+    nested (symbol_class char.semicolon ∷ field_firsts s) true
+    (symbol_class char.semicolon ∷ field_firsts s)
 
 abbrev pub field_item_shape : Syntax → Shape Class
-field_item_shape s = nested (symbol_class 59 ∷ field_firsts s) false []
+field_item_shape s = nested (symbol_class char.semicolon ∷ field_firsts s) false []
 
 unfoldable pub field_item_of : (s : Syntax) {R R' : List Lexeme → FieldStatementSyntax → Type 0}
     {k : ℕ} → Parts R R' (field_shape (field_firsts s)) k
@@ -423,26 +447,44 @@ field_items_of Proto3 p =
 -- "{" { ";" | field } "}"
 unfoldable pub field_block_of : (s : Syntax) {R R' : List Lexeme → FieldStatementSyntax → Type 0}
     {k : ℕ} → Parts R R' (field_shape (field_firsts s)) k
-    → Parts (Braced R) (Braced R') (nested (symbol_class 123 ∷ []) false []) k
-field_block_of Proto2 p = shaped (nested (symbol_class 123 ∷ []) false []) (do same (symbol 123) refl; fields ← field_items_of Proto2 p; same (symbol 125) refl; give fields) refl
-field_block_of Proto3 p = shaped (nested (symbol_class 123 ∷ []) false []) (do same (symbol 123) refl; fields ← field_items_of Proto3 p; same (symbol 125) refl; give fields) refl
+    → Parts (Braced R) (Braced R') (nested (symbol_class char.open_brace ∷ []) false []) k
+field_block_of Proto2 p =
+    shaped (nested (symbol_class char.open_brace ∷ []) false [])
+    (do
+      same (symbol char.open_brace) refl
+      fields ← field_items_of Proto2 p
+      same (symbol char.close_brace) refl
+      give fields) refl
+field_block_of Proto3 p =
+    shaped (nested (symbol_class char.open_brace ∷ []) false [])
+    (do
+      same (symbol char.open_brace) refl
+      fields ← field_items_of Proto3 p
+      same (symbol char.close_brace) refl
+      give fields) refl
 
 unfoldable pub group_of : (s : Syntax) {R R' : List Lexeme → FieldStatementSyntax → Type 0} {k : ℕ}
     (place : Place) (label : Option Label) → Parts R R' (field_shape (field_firsts s)) k
     → Parts (GroupOf R place label) (GroupOf R' place label)
     (field_shape (word_class (codes "group") ∷ [])) (suc k)
 unfolding GroupOf
-group_of s place label p = shaped (field_shape (word_class (codes "group") ∷ [])) (behind (word (codes "group")) refl refl (do
-  name ← same capital refl
-  same (symbol 61) refl
-  number ← same field_number refl
-  fields ← field_block_of s p
-  give (tree.group_of
-      (record { place = place; label = label; name = name; number = number; fields = fields }))))
-    refl
+group_of s place label p =
+    shaped (field_shape (word_class (codes "group") ∷ []))
+    (behind (word (codes "group")) refl refl (do
+      name ← same capital refl
+      same (symbol char.equals) refl
+      number ← same field_number refl
+      fields ← field_block_of s p
+      give (tree.group_of (record {
+        place = place;
+        label = label;
+        name = name;
+        number = number;
+        fields = fields;
+      })))) refl
 
 abbrev pub after_label_shape : Shape Class
-after_label_shape = field_shape (symbol_class 46 ∷ ident_class [] ∷ [])
+after_label_shape = field_shape (symbol_class char.dot ∷ ident_class [] ∷ [])
 
 -- a plain field of n levels, or a group with fields of j levels
 unfoldable pub after_label : (s : Syntax) {R R' : List Lexeme → FieldStatementSyntax → Type 0}
@@ -470,10 +512,14 @@ unfoldable pub field_of : (s : Syntax) (n k : ℕ) → k ≤ n
     → Parts (FieldOf s n R) (FieldOf s (suc n) R') (field_shape (field_firsts s)) (suc k)
 unfolding FieldOf
 field_of Proto2 n k h R R' p = shaped (field_shape (field_firsts Proto2)) (at (λ place.
-    choose (do l ← same (one_of labels) refl; after_label Proto2 (suc n) k (suc k) (up k n h) (self (suc k)) place (Some l) p) refl
+    choose (do
+      l ← same (one_of labels) refl
+      after_label Proto2 (suc n) k (suc k) (up k n h) (self (suc k)) place (Some l) p) refl
     (less (suc n) (suc k) (up k n h) (map_field n place))) refl) refl
 field_of Proto3 n k h R R' p = shaped (field_shape (field_firsts Proto3)) (at (λ place.
-    choose (do l ← same (one_of labels3) refl; after_label Proto3 (suc n) k (suc k) (up k n h) (self (suc k)) place (Some l) p) refl
+    choose (do
+      l ← same (one_of labels3) refl
+      after_label Proto3 (suc n) k (suc k) (up k n h) (self (suc k)) place (Some l) p) refl
     (unless (words (table_words labels ++ statement_words))
     (after_label Proto3 (suc n) k (suc k) (up k n h) (self (suc k)) place None p) refl)) refl)
     refl

@@ -5,7 +5,7 @@ use Rattle.protobuf_parse_base.specs.Paths.{path_fault}
 use Rattle.protobuf_parse_base.specs.Relations.{Rel, Many, BeginsOtherwise, ◌>>◌}
 use Rattle.protobuf_parse_base.specs.Relations.{StopsAt}
 use Rattle.protobuf_parse_syntax.specs.Text.{Bytes}
-use Rattle.protobuf_parse_syntax.specs.Characters as char
+use Rattle.protobuf_parse_base.specs.Characters as char
 use Rattle.protobuf_parse_syntax.specs.Tokens.{Lexeme}
 use Rattle.protobuf_parse_syntax.specs.Cut.{Stream, HasTokens, IsRefused, out_of_memory, located}
 use Rattle.protobuf_parse_syntax.specs.Trees.{Pieces, OptionPartSyntax, FileSyntax}

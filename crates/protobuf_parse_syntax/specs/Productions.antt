@@ -4,6 +4,7 @@ use Rattle.std.proofs.Common.{◌≡◌, ℕ, zero, suc, ℤ, pos, List, [], ◌
 use Rattle.std.proofs.Common.{Bool, true, false, ◌||◌, cond, bytes_eq, slice_index, codes, refl}
 use Rattle.std.proofs.Common.{sym, ap, ◌∙◌}
 use Rattle.std.proofs.lemmas.List.{append-nil}
+use Rattle.protobuf_parse_base.specs.Characters as char
 use Rattle.protobuf_parse_base.specs.Relations.{Rel, Then, Nothing, Either, One, Separated, Meant}
 use Rattle.protobuf_parse_base.specs.Relations.{Unless}
 use Rattle.protobuf_parse_base.specs.Readers.{Rest, end, token, read, bind, starts}
@@ -22,7 +23,7 @@ use Rattle.protobuf_parse_syntax.specs.Trees as tree
 use Rattle.protobuf_parse_syntax.specs.Trees.{Pieces, OptionPartSyntax}
 use Rattle.protobuf_parse_syntax.specs.Classes.{Class, sees, symbol as symbol_class}
 use Rattle.protobuf_parse_syntax.specs.Classes.{word as word_class, ident as ident_class, integer}
-use Rattle.protobuf_parse_syntax.specs.Classes.{text, is_ident, words, floatings}
+use Rattle.protobuf_parse_syntax.specs.Classes.{text, is_ident_token, words, floatings}
 use Rattle.protobuf_parse_syntax.specs.ClassLaws.{lexicon}
 use Rattle.protobuf_parse_syntax.specs.Classes.{is_floating, is_one_of}
 use Rattle.protobuf_parse_syntax.specs.Grammar as grammar
@@ -41,8 +42,9 @@ use Rattle.protobuf_parse_syntax.specs.Grammar.{SaysPath, IsVersion, IsPath, IsR
 use Rattle.protobuf_parse_syntax.specs.Grammar.{IsSyntax, IsImport, AreReserved, IsReserved}
 use Rattle.protobuf_parse_syntax.specs.Readings.{for, from_first, too_many, finding, none-to}
 use Rattle.protobuf_parse_syntax.specs.Readings.{none-from, more-to, more-from}
-use Rattle.protobuf_parse_syntax.specs.Decoder.{version_of, version-to, version-from, path_of}
-use Rattle.protobuf_parse_syntax.specs.Decoder.{path-to, path-from, text_of, text-to, text-from}
+use Rattle.protobuf_parse_syntax.specs.Decoder.{version_of, path_of, text_of}
+use Rattle.protobuf_parse_syntax.specs.DecoderLaws.{version-to, version-from, path-to, path-from}
+use Rattle.protobuf_parse_syntax.specs.DecoderLaws.{text-to, text-from}
 use Rattle.protobuf_parse_syntax.specs.declared.tree.ImportVis.TheVariants as visible
 use Rattle.protobuf_parse_syntax.specs.declared.tree.Syntax.TheVariants.{Proto2}
 use Rattle.protobuf_parse_syntax.specs.declared.lexer.token.Place.{Place}
@@ -94,7 +96,8 @@ capital-law t a e = go (grammar.is_capital (slice_index t.text 0)) e
 abbrev pub capital : Reader lexicon (One capital_ident) (shape (ident_class [] ∷ []) false [])
 capital = one capital_ident (ident_class [] ∷ []) capital-law
 
-lookup-seen : {A : Type 0} (table : List (Bytes × A)) (t : Lexeme) (a : A) → is_ident t.kind ≡ true
+lookup-seen : {A : Type 0} (table : List (Bytes × A)) (t : Lexeme) (a : A)
+    → is_ident_token t.kind ≡ true
     → lookup table t.text ≡ Some a → seen sees (words (table_words table)) t ≡ true
 lookup-seen [] t a k e = absurd cc
 lookup-seen (p ∷ ps) t a k e = go (bytes_eq t.text p.0) refl e (lookup-seen ps t a k)
@@ -107,9 +110,9 @@ lookup-seen (p ∷ ps) t a k e = go (bytes_eq t.text p.0) refl e (lookup-seen ps
 
 pub word_of-law : {A : Type 0} (table : List (Bytes × A)) (t : Lexeme) (a : A)
     → word_of table t ≡ Some a → seen sees (words (table_words table)) t ≡ true
-word_of-law table t a e = go (is_ident t.kind) refl e
+word_of-law table t a e = go (is_ident_token t.kind) refl e
   where
-    go : (b : Bool) → is_ident t.kind ≡ b → cond b (lookup table t.text) None ≡ Some a
+    go : (b : Bool) → is_ident_token t.kind ≡ b → cond b (lookup table t.text) None ≡ Some a
         → seen sees (words (table_words table)) t ≡ true
     go true h e = lookup-seen table t a h e
     go false h e = absurd cc
@@ -173,12 +176,12 @@ unfolding IsStr
 str = shaped str_shape (one_or_more piece refl) refl
 
 -- "." ident
-abbrev pub dot_ident : Reader lexicon (Then (IsSymbol 46) (λ u. IsIdent))
-    (shape (symbol_class 46 ∷ []) false [])
-dot_ident = shaped (shape (symbol_class 46 ∷ []) false []) (do symbol 46; ident) refl
+abbrev pub dot_ident : Reader lexicon (Then (IsSymbol char.dot) (λ u. IsIdent))
+    (shape (symbol_class char.dot ∷ []) false [])
+dot_ident = shaped (shape (symbol_class char.dot ∷ []) false []) (do symbol char.dot; ident) refl
 
 abbrev pub dotted_shape : Shape Class
-dotted_shape = shape (ident_class [] ∷ []) false (symbol_class 46 ∷ [])
+dotted_shape = shape (ident_class [] ∷ []) false (symbol_class char.dot ∷ [])
 
 unfoldable pub dotted : Parses IsDotted dotted_shape
 unfolding IsDotted
@@ -187,12 +190,15 @@ dotted = shaped dotted_shape (do
   others ← many dot_ident refl
   give (first ++ dots others)) refl
 
-unfoldable pub root : Parses IsRoot (shape (symbol_class 46 ∷ []) true (symbol_class 46 ∷ []))
+unfoldable pub root : Parses IsRoot
+    (shape (symbol_class char.dot ∷ []) true (symbol_class char.dot ∷ []))
 unfolding IsRoot
-root = shaped (shape (symbol_class 46 ∷ []) true (symbol_class 46 ∷ [])) (choose (do symbol 46; give (46 ∷ [])) refl (give [])) refl
+root =
+    shaped (shape (symbol_class char.dot ∷ []) true (symbol_class char.dot ∷ []))
+    (choose (do symbol char.dot; give (char.dot ∷ [])) refl (give [])) refl
 
 abbrev pub name_shape : Shape Class
-name_shape = shape (symbol_class 46 ∷ ident_class [] ∷ []) false (symbol_class 46 ∷ [])
+name_shape = shape (symbol_class char.dot ∷ ident_class [] ∷ []) false (symbol_class char.dot ∷ [])
 
 unfoldable pub name : Parses IsName name_shape
 unfolding IsName
@@ -204,7 +210,7 @@ name = shaped name_shape (do
 -- ---- constants
 
 abbrev pub integer_shape : Shape Class
-integer_shape = shape (integer ∷ symbol_class 43 ∷ symbol_class 45 ∷ []) false []
+integer_shape = shape (integer ∷ symbol_class char.plus ∷ symbol_class char.minus ∷ []) false []
 
 -- what the token says of a number, and None for a float, `inf` or `nan`
 abbrev pub found : Option ℕ → Option (Option ℕ)
@@ -313,18 +319,19 @@ module _ (c : ℕ) (says : Lexeme → Option ℕ) (f : ℕ → ℤ)
   signed_by = for signed-to signed-from (meant sign_and (said_of f))
 
 abbrev pub plus : Reader lexicon (SignedBy 43 grammar.number pos)
-    (shape (symbol_class 43 ∷ []) false [])
-plus = shaped (shape (symbol_class 43 ∷ []) false [])
+    (shape (symbol_class char.plus ∷ []) false [])
+plus = shaped (shape (symbol_class char.plus ∷ []) false [])
     (signed_by 43 grammar.number pos number-law) refl
 
 abbrev pub minus : Reader lexicon (SignedBy 45 (small_number 9223372036854775808) negative)
-    (shape (symbol_class 45 ∷ []) false [])
-minus = shaped (shape (symbol_class 45 ∷ []) false [])
+    (shape (symbol_class char.minus ∷ []) false [])
+minus = shaped (shape (symbol_class char.minus ∷ []) false [])
     (signed_by 45 (small_number 9223372036854775808) negative (small-law 9223372036854775808)) refl
 
 unfoldable pub signed : Parses IsInteger integer_shape
 unfolding IsInteger
-signed = shaped integer_shape (choose (do n ← number; give (pos n)) refl (choose plus refl minus)) refl
+signed =
+    shaped integer_shape (choose (do n ← number; give (pos n)) refl (choose plus refl minus)) refl
 
 -- an integer as a constant
 unfoldable pub integer_constant : Parses
@@ -332,36 +339,44 @@ unfoldable pub integer_constant : Parses
 integer_constant = shaped integer_shape (do n ← signed; give (tree.integer n)) refl
 
 abbrev pub slash_shape : Shape Class
-slash_shape = shape (symbol_class 47 ∷ []) true (symbol_class 47 ∷ symbol_class 46 ∷ [])
+slash_shape =
+    shape (symbol_class char.slash ∷ []) true (symbol_class char.slash ∷ symbol_class char.dot ∷ [])
 
 unfoldable pub after_slash : (first : Bytes) → Parses (AfterSlash first) slash_shape
 unfolding AfterSlash
-after_slash first = shaped slash_shape (choose (do symbol 47; rest ← name; give (tree.url_name (first ++ 47 ∷ rest))) refl (give (tree.extension_name first))) refl
+after_slash first =
+    shaped slash_shape (choose
+    (do symbol char.slash; rest ← name; give (tree.url_name (first ++ char.slash ∷ rest))) refl
+    (give (tree.extension_name first))) refl
 
-unfoldable pub bracketed_name : Parses IsBracketedName (shape (symbol_class 91 ∷ []) false [])
+unfoldable pub bracketed_name : Parses IsBracketedName
+    (shape (symbol_class char.open_bracket ∷ []) false [])
 unfolding IsBracketedName
-bracketed_name = shaped (shape (symbol_class 91 ∷ []) false []) (do
-  symbol 91
+bracketed_name = shaped (shape (symbol_class char.open_bracket ∷ []) false []) (do
+  symbol char.open_bracket
   first ← name
   found ← after_slash first
-  symbol 93
+  symbol char.close_bracket
   give found) refl
 
 abbrev pub constant_name_shape : Shape Class
-constant_name_shape = shape (ident_class [] ∷ symbol_class 91 ∷ []) false []
+constant_name_shape = shape (ident_class [] ∷ symbol_class char.open_bracket ∷ []) false []
 
 unfoldable pub constant_name : Parses IsConstantName constant_name_shape
 unfolding IsConstantName
-constant_name = shaped constant_name_shape (choose (do name ← ident; give (tree.regular_name name)) refl bracketed_name) refl
+constant_name =
+    shaped constant_name_shape
+    (choose (do name ← ident; give (tree.regular_name name)) refl bracketed_name) refl
 
 abbrev pub field_end_shape : Shape Class
-field_end_shape = shape (symbol_class 44 ∷ symbol_class 59 ∷ []) true
-    (symbol_class 44 ∷ symbol_class 59 ∷ [])
+field_end_shape = shape (symbol_class char.comma ∷ symbol_class char.semicolon ∷ []) true
+    (symbol_class char.comma ∷ symbol_class char.semicolon ∷ [])
 
 unfoldable pub field_end : Parses IsFieldEnd field_end_shape
 unfolding IsFieldEnd
 field_end =
-    shaped field_end_shape (choose (symbol 44) refl (choose (symbol 59) refl (give tt))) refl
+    shaped field_end_shape
+    (choose (symbol char.comma) refl (choose (symbol char.semicolon) refl (give tt))) refl
 
 unfoldable pub word_constant : Parses IsWordConstant dotted_shape
 unfolding IsWordConstant
@@ -392,27 +407,34 @@ word_constant_name ts h i = rw (h, i, neither_word (codes "true") (codes "false"
 -- ---- options
 
 abbrev pub option_part_firsts : List Class
-option_part_firsts = ident_class [] ∷ symbol_class 40 ∷ []
+option_part_firsts = ident_class [] ∷ symbol_class char.open_paren ∷ []
 
 abbrev pub option_part_shape : Shape Class
 option_part_shape = shape option_part_firsts false []
 
 unfoldable pub option_part : Parses IsOptionPart option_part_shape
 unfolding IsOptionPart
-option_part = shaped option_part_shape (choose (do name ← ident; give (tree.direct name)) refl (do symbol 40; name ← name; symbol 41; give (tree.extension name))) refl
+option_part =
+    shaped option_part_shape (choose (do name ← ident; give (tree.direct name)) refl
+    (do symbol char.open_paren; name ← name; symbol char.close_paren; give (tree.extension name)))
+    refl
 
 -- ---- numbers and ranges
 
 unfoldable pub field_number : Parses IsFieldNumber (shape (integer ∷ []) false [])
 unfolding IsFieldNumber
-field_number = shaped (shape (integer ∷ []) false []) (do n ← number_up_to 2147483647; give (pos n)) refl
+field_number =
+    shaped (shape (integer ∷ []) false []) (do n ← number_up_to 2147483647; give (pos n)) refl
 
 abbrev pub range_end_shape : Shape Class
 range_end_shape = shape (word_class (codes "to") ∷ []) true (word_class (codes "to") ∷ [])
 
 unfoldable pub range_end : (from : ℤ) → Parses (IsRangeEnd from) range_end_shape
 unfolding IsRangeEnd
-range_end from = shaped range_end_shape (choose (do word (codes "to"); choose field_number refl (do word (codes "max"); give (pos 536870911))) refl (give from)) refl
+range_end from =
+    shaped range_end_shape (choose
+    (do word (codes "to"); choose field_number refl (do word (codes "max"); give (pos 536870911)))
+    refl (give from)) refl
 
 abbrev pub range_shape : Shape Class
 range_shape = shape (integer ∷ []) false (word_class (codes "to") ∷ [])
@@ -425,15 +447,17 @@ range = shaped range_shape (do
   give (record { from = from; to = to })) refl
 
 -- "," range
-abbrev pub comma_range : Reader lexicon (Then (IsSymbol 44) (λ u. IsRange))
-    (shape (symbol_class 44 ∷ []) false (word_class (codes "to") ∷ []))
-comma_range = shaped (shape (symbol_class 44 ∷ []) false (word_class (codes "to") ∷ [])) (do symbol 44; range) refl
+abbrev pub comma_range : Reader lexicon (Then (IsSymbol char.comma) (λ u. IsRange))
+    (shape (symbol_class char.comma ∷ []) false (word_class (codes "to") ∷ []))
+comma_range =
+    shaped (shape (symbol_class char.comma ∷ []) false (word_class (codes "to") ∷ []))
+    (do symbol char.comma; range) refl
 
 abbrev pub ranges_shape : Shape Class
-ranges_shape = shape (integer ∷ []) false (word_class (codes "to") ∷ symbol_class 44 ∷ [])
+ranges_shape = shape (integer ∷ []) false (word_class (codes "to") ∷ symbol_class char.comma ∷ [])
 
-unfoldable pub ranges : Parses (Separated (IsSymbol 44) IsRange) ranges_shape
-ranges = shaped ranges_shape (separated (symbol 44) refl range) refl
+unfoldable pub ranges : Parses (Separated (IsSymbol char.comma) IsRange) ranges_shape
+ranges = shaped ranges_shape (separated (symbol char.comma) refl range) refl
 
 -- behind the first of them
 pub ranges_first : (ts us : Rest Lexeme Place) (a : tree.RangeSyntax) → range.run ts ≡ read a us
@@ -444,7 +468,7 @@ ranges_first ts us a e = rw e refl
 
 abbrev pub extensions_shape : Shape Class
 extensions_shape = shape (word_class (codes "extensions") ∷ []) false
-    (word_class (codes "to") ∷ symbol_class 44 ∷ [])
+    (word_class (codes "to") ∷ symbol_class char.comma ∷ [])
 
 unfoldable pub extensions : Parses IsExtensions extensions_shape
 unfolding IsExtensions
@@ -453,9 +477,13 @@ extensions = shaped extensions_shape (at (λ place. do
   ranges ← ranges
   give (record { place = place; ranges = ranges })) refl) refl
 
-unfoldable pub enum_number : Parses IsEnumNumber (shape (integer ∷ symbol_class 45 ∷ []) false [])
+unfoldable pub enum_number : Parses IsEnumNumber
+    (shape (integer ∷ symbol_class char.minus ∷ []) false [])
 unfolding IsEnumNumber
-enum_number = shaped (shape (integer ∷ symbol_class 45 ∷ []) false []) (choose field_number refl (do symbol 45; n ← number_up_to 2147483648; give (negative n))) refl
+enum_number =
+    shaped (shape (integer ∷ symbol_class char.minus ∷ []) false [])
+    (choose field_number refl
+    (do symbol char.minus; n ← number_up_to 2147483648; give (negative n))) refl
 
 -- with what a statement of an enum begins that is no value
 abbrev pub other_statements : List Class
@@ -468,12 +496,13 @@ value_name = shaped (shape (ident_class (codes "reserved" ∷ codes "option" ∷
 
 -- ---- services and files
 
-unfoldable pub streamed : Parses IsStreamed (shape (symbol_class 40 ∷ []) false [])
+unfoldable pub streamed : Parses IsStreamed (shape (symbol_class char.open_paren ∷ []) false [])
 unfolding IsStreamed
-streamed = shaped (shape (symbol_class 40 ∷ []) false []) (do
-  symbol 40
-  type_ ← choose (do word (codes "stream"); name ← name; give (true, name)) refl (do name ← unless (words (codes "stream" ∷ [])) name refl; give (false, name))
-  symbol 41
+streamed = shaped (shape (symbol_class char.open_paren ∷ []) false []) (do
+  symbol char.open_paren
+  type_ ← choose (do word (codes "stream"); name ← name; give (true, name)) refl
+      (do name ← unless (words (codes "stream" ∷ [])) name refl; give (false, name))
+  symbol char.close_paren
   give type_) refl
 
 unfoldable pub package_name : Parses IsPackage (shape (word_class (codes "package") ∷ []) false [])
@@ -481,29 +510,35 @@ unfolding IsPackage
 package_name = shaped (shape (word_class (codes "package") ∷ []) false []) (at (λ place. do
   word (codes "package")
   name ← dotted
-  symbol 59
+  symbol char.semicolon
   give (record { place = place; name = name })) refl) refl
 
 -- ---- the name of an option
 
 abbrev pub parts_shape : Shape Class
-parts_shape = shape (symbol_class 46 ∷ []) true (symbol_class 46 ∷ [])
+parts_shape = shape (symbol_class char.dot ∷ []) true (symbol_class char.dot ∷ [])
 
-unfoldable pub next_part : Parses IsNextPart (shape (symbol_class 46 ∷ []) false [])
+unfoldable pub next_part : Parses IsNextPart (shape (symbol_class char.dot ∷ []) false [])
 unfolding IsNextPart
-next_part = shaped (shape (symbol_class 46 ∷ []) false []) (do symbol 46; option_part) refl
+next_part =
+    shaped (shape (symbol_class char.dot ∷ []) false []) (do symbol char.dot; option_part) refl
 
 -- At most so many parts, each behind a dot, and no dot behind them. They are wrong from one too
 -- many on.
 unfoldable pub parts_up_to : (limit : ℕ) → Parses (AtMost limit IsNextPart) parts_shape
 parts_up_to zero = for (none-to IsNextPart) (none-from IsNextPart)
     (shaped parts_shape
-    (choose (too_many (List OptionPartSyntax) lexicon option_part_firsts (symbol_class 46 ∷ []))
+    (choose (too_many (List OptionPartSyntax) lexicon option_part_firsts
+    (symbol_class char.dot ∷ []))
     refl (give [])) refl)
-parts_up_to (suc k) = for (more-to IsNextPart k) (more-from IsNextPart k) (shaped parts_shape (choose (do first ← next_part; others ← parts_up_to k; give (first ∷ others)) refl (give [])) refl)
+parts_up_to (suc k) =
+    for (more-to IsNextPart k) (more-from IsNextPart k)
+    (shaped parts_shape (choose
+    (do first ← next_part; others ← parts_up_to k; give (first ∷ others)) refl (give [])) refl)
 
 abbrev pub option_name_shape : Shape Class
-option_name_shape = shape (ident_class [] ∷ symbol_class 40 ∷ []) false (symbol_class 46 ∷ [])
+option_name_shape =
+    shape (ident_class [] ∷ symbol_class char.open_paren ∷ []) false (symbol_class char.dot ∷ [])
 
 unfoldable pub option_name_parts : Parses IsOptionName option_name_shape
 unfolding IsOptionName
@@ -534,9 +569,9 @@ unfoldable pub syntax_parts : Parses IsSyntax (shape (word_class (codes "syntax"
 unfolding IsSyntax
 syntax_parts = shaped (shape (word_class (codes "syntax") ∷ []) false []) (do
   word (codes "syntax")
-  symbol 61
+  symbol char.equals
   syntax ← version
-  symbol 59
+  symbol char.semicolon
   give syntax) refl
 
 -- wrong from the word `syntax` on, if its string is
@@ -557,7 +592,9 @@ visibility_shape = shape (words (codes "weak" ∷ codes "public" ∷ [])) true
 -- [ "weak" | "public" ]
 unfoldable pub visibility : Parses IsVisibility visibility_shape
 unfolding IsVisibility
-visibility = shaped visibility_shape (choose (do word (codes "weak"); give visible.Weak) refl (choose (do word (codes "public"); give visible.Public) refl (give visible.Default))) refl
+visibility =
+    shaped visibility_shape (choose (do word (codes "weak"); give visible.Weak) refl
+    (choose (do word (codes "public"); give visible.Public) refl (give visible.Default))) refl
 
 unfoldable pub import_parts : Parses IsImport (shape (word_class (codes "import") ∷ []) false [])
 unfolding IsImport
@@ -565,7 +602,7 @@ import_parts = shaped (shape (word_class (codes "import") ∷ []) false []) (at 
   word (codes "import")
   vis ← visibility
   path ← path
-  symbol 59
+  symbol char.semicolon
   give (record { place = place; vis = vis; path = path })) refl) refl
 
 -- wrong from the word `import` on, if its string is
@@ -574,16 +611,18 @@ imported = from_first import_parts
 
 abbrev pub reserved_shape : Shape Class
 reserved_shape = shape (text ∷ integer ∷ []) false
-    (text ∷ symbol_class 44 ∷ word_class (codes "to") ∷ [])
+    (text ∷ symbol_class char.comma ∷ word_class (codes "to") ∷ [])
 
 -- "," and a text, wrong from the comma on
-abbrev pub comma_name : Reader lexicon (Then (IsSymbol 44) (λ u. IsReservedName))
-    (shape (symbol_class 44 ∷ []) false (text ∷ []))
-comma_name = from_first (shaped (shape (symbol_class 44 ∷ []) false (text ∷ [])) (do symbol 44; reserved_name) refl)
+abbrev pub comma_name : Reader lexicon (Then (IsSymbol char.comma) (λ u. IsReservedName))
+    (shape (symbol_class char.comma ∷ []) false (text ∷ []))
+comma_name =
+    from_first (shaped (shape (symbol_class char.comma ∷ []) false (text ∷ []))
+    (do symbol char.comma; reserved_name) refl)
 
-unfoldable pub names : Parses (Separated (IsSymbol 44) IsReservedName)
-    (shape (text ∷ []) false (text ∷ symbol_class 44 ∷ []))
-names = shaped (shape (text ∷ []) false (text ∷ symbol_class 44 ∷ [])) (do
+unfoldable pub names : Parses (Separated (IsSymbol char.comma) IsReservedName)
+    (shape (text ∷ []) false (text ∷ symbol_class char.comma ∷ []))
+names = shaped (shape (text ∷ []) false (text ∷ symbol_class char.comma ∷ [])) (do
   first ← reserved_name
   others ← many comma_name refl
   give (first ∷ others)) refl
@@ -597,7 +636,9 @@ names_first ts us a e = rw e refl
 
 unfoldable pub reserved_items : Parses AreReserved reserved_shape
 unfolding AreReserved
-reserved_items = shaped reserved_shape (choose (do names ← names; give (tree.reserved_names names)) refl (do ranges ← ranges; give (tree.reserved_ranges ranges))) refl
+reserved_items =
+    shaped reserved_shape (choose (do names ← names; give (tree.reserved_names names)) refl
+    (do ranges ← ranges; give (tree.reserved_ranges ranges))) refl
 
 unfoldable pub reserved_parts : Parses IsReserved
     (shape (word_class (codes "reserved") ∷ []) false [])
@@ -605,7 +646,7 @@ unfolding IsReserved
 reserved_parts = shaped (shape (word_class (codes "reserved") ∷ []) false []) (at (λ place. do
   word (codes "reserved")
   reserved ← reserved_items
-  symbol 59
+  symbol char.semicolon
   give (record { place = place; reserved = reserved })) refl) refl
 
 -- wrong from the word `reserved` on, if a string is

@@ -4,6 +4,7 @@ use Rattle.std.specs.Prelude.{◌≡◌, ◌≤◌, ◌<◌, ◌⊎◌, ℕ, ◌
 use Rattle.std.specs.Prelude.{◌||◌, if◌then◌else◌, ◌==◌, List, [], ◌∷◌, length, slice_index, Option}
 use Rattle.std.specs.Prelude.{Some, None}
 use Rattle.std.specs.Int.{w64, trailing_zeros}
+use Rattle.protobuf_parse_base.specs.Characters as char
 use Rattle.protobuf_parse_syntax.specs.Text.{Bytes, is_in, AllIn, RunStopsAt, IsBlank, IsToken}
 use Rattle.protobuf_parse_syntax.specs.Text.{IsFault}
 use Rattle.protobuf_parse_syntax.specs.declared.lexer.bytes.ByteClass.TheVariants as class
@@ -16,21 +17,23 @@ use Rattle.protobuf_parse_syntax.specs.declared.lexer.front.Piece.TheVariants as
 -- backslash takes the first byte.
 abbrev pub closing : ℕ → Bool → ℕ → List ℕ → Option ℕ
 closing quote is_escaped at [] = None
-closing quote true at (b ∷ z) = if b == 10 || b == 0 then None else closing quote false (at + 1) z
+closing quote true at (b ∷ z) =
+    if b == char.newline || b == char.nul then None else closing quote false (at + 1) z
 closing quote false at (b ∷ z) =
-    if b == 10 || b == 0 then None
-    else (if b == quote then Some (at + 1) else closing quote (b == 92) (at + 1) z)
+    if b == char.newline || b == char.nul then None
+    else (if b == quote then Some (at + 1) else closing quote (b == char.backslash) (at + 1) z)
 
 -- the longest fraction after the digits up to `whole` ends at `point`
 pub record EndsFraction (z : Bytes) (whole point : ℕ) : Type 0 where
   pub within : point ≤ length z
-  pub ends : ((point ≡ whole) × (slice_index z whole ≡ 46 → ⊥))
-      ⊎ ((slice_index z whole ≡ 46) × (whole + 1 ≤ point) × AllIn class.Digit z (whole + 1) point
+  pub ends : ((point ≡ whole) × (slice_index z whole ≡ char.dot → ⊥))
+      ⊎ ((slice_index z whole ≡ char.dot) × (whole + 1 ≤ point)
+      × AllIn class.Digit z (whole + 1) point
       × RunStopsAt class.Digit z point)
 
 abbrev pub BeginsNumber : Bytes → Type 0
 BeginsNumber z = (is_in class.Digit (slice_index z 0) ≡ true)
-    ⊎ ((slice_index z 0 ≡ 46) × (is_in class.Digit (slice_index z 1) ≡ true))
+    ⊎ ((slice_index z 0 ≡ char.dot) × (is_in class.Digit (slice_index z 1) ≡ true))
 
 -- the bytes from i up to n pass the test
 abbrev pub AllPass : (ℕ → Bool) → Bytes → ℕ → ℕ → Type 0
@@ -48,7 +51,7 @@ first_set mask n = if mask == 0 then n else trailing_zeros w64 mask
 
 -- no line feed, and no byte of a longer character
 abbrev pub is_plain : ℕ → Bool
-is_plain b = nat_lt b 128 && not (b == 10)
+is_plain b = nat_lt b 128 && not (b == char.newline)
 
 -- a token's bytes, which are plain unless it is a string or a float
 abbrev pub IsPlain : TokenKind → Bytes → Type 0

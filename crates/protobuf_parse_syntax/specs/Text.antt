@@ -13,6 +13,7 @@ use Rattle.protobuf_parse_syntax.specs.declared.error.ParserError.TheVariants as
 use Rattle.protobuf_parse_syntax.specs.declared.lexer.token.TokenKind.{TokenKind}
 use Rattle.protobuf_parse_syntax.specs.declared.lexer.token.TokenKind.TheVariants as kind
 use Rattle.std.specs.Prelude.{Option, Some, None}
+use Rattle.protobuf_parse_base.specs.Characters as char
 
 abbrev pub Bytes : Type 0
 Bytes = List ℕ
@@ -22,11 +23,11 @@ Bytes = List ℕ
 -- space, tab, line feed, vertical tab, form feed, carriage return; a byte of a line; a letter,
 -- digit or underscore; a digit; an octal digit; a hexadecimal digit
 abbrev pub is_in : ByteClass → ℕ → Bool
-is_in class.Blank b = b == 32 || (nat_le 9 b && nat_le b 13)
-is_in class.Line b = not (b == 10)
-is_in class.Ident b = is_ascii_alphanumeric b || b == 95
+is_in class.Blank b = b == char.space || (nat_le char.tab b && nat_le b char.carriage_return)
+is_in class.Line b = not (b == char.newline)
+is_in class.Ident b = is_ascii_alphanumeric b || b == char.underscore
 is_in class.Digit b = is_ascii_digit b
-is_in class.Octal b = nat_le 48 b && nat_le b 55
+is_in class.Octal b = nat_le char.zero b && nat_le b char.seven
 is_in class.Hex b = is_ascii_hexdigit b
 
 -- the bytes from i up to n are of the class
@@ -48,8 +49,8 @@ pub record IsSpaces (z : Bytes) (n : ℕ) : Type 0 where
 
 -- `//` to the end of its line
 pub record IsLine (z : Bytes) (n : ℕ) : Type 0 where
-  pub first : slice_index z 0 ≡ 47
-  pub second : slice_index z 1 ≡ 47
+  pub first : slice_index z 0 ≡ char.slash
+  pub second : slice_index z 1 ≡ char.slash
   pub some : 2 ≤ n
   pub within : n ≤ length z
   pub each : AllIn class.Line z 2 n
@@ -57,12 +58,12 @@ pub record IsLine (z : Bytes) (n : ℕ) : Type 0 where
 
 -- `*/` stands at k
 abbrev pub Closes : Bytes → ℕ → Type 0
-Closes z k = (slice_index z k ≡ 42) × (slice_index z (k + 1) ≡ 47)
+Closes z k = (slice_index z k ≡ char.star) × (slice_index z (k + 1) ≡ char.slash)
 
 -- `/*` to the next `*/`
 pub record IsBlock (z : Bytes) (n : ℕ) : Type 0 where
-  pub first : slice_index z 0 ≡ 47
-  pub second : slice_index z 1 ≡ 42
+  pub first : slice_index z 0 ≡ char.slash
+  pub second : slice_index z 1 ≡ char.star
   pub some : 4 ≤ n
   pub within : n ≤ length z
   pub closes : Closes z (n - 2)
@@ -82,7 +83,7 @@ pub record IsIdentText (z : Bytes) (n : ℕ) : Type 0 where
 -- ---- strings: a quote, characters and escapes, and the same quote
 
 abbrev pub IsQuote : ℕ → Type 0
-IsQuote b = (b ≡ 34) ⊎ (b ≡ 39)
+IsQuote b = (b ≡ char.quote) ⊎ (b ≡ char.apostrophe)
 
 abbrev pub is_empty : Bytes → Bool
 is_empty [] = true
@@ -93,10 +94,11 @@ is_empty (b ∷ z) = false
 -- the first.
 abbrev pub is_rest : ℕ → Bool → Bytes → Bool
 is_rest quote is_escaped [] = false
-is_rest quote true (b ∷ z) = if b == 10 || b == 0 then false else is_rest quote false z
+is_rest quote true (b ∷ z) =
+    if b == char.newline || b == char.nul then false else is_rest quote false z
 is_rest quote false (b ∷ z) =
-    if b == 10 || b == 0 then false
-    else (if b == quote then is_empty z else is_rest quote (b == 92) z)
+    if b == char.newline || b == char.nul then false
+    else (if b == quote then is_empty z else is_rest quote (b == char.backslash) z)
 
 pub record IsString (z : Bytes) (n : ℕ) : Type 0 where
   pub some : 0 < n
@@ -111,21 +113,21 @@ pub record IsDecimal (z : Bytes) (n : ℕ) : Type 0 where
   pub some : 0 < n
   pub within : n ≤ length z
   pub each : AllIn class.Digit z 0 n
-  pub zero_alone : slice_index z 0 ≡ 48 → n ≡ 1
+  pub zero_alone : slice_index z 0 ≡ char.zero → n ≡ 1
 
 -- `0x` or `0X` and hexadecimal digits
 pub record IsHex (z : Bytes) (n : ℕ) : Type 0 where
   pub some : 3 ≤ n
   pub within : n ≤ length z
-  pub first : slice_index z 0 ≡ 48
-  pub second : (slice_index z 1 ≡ 120) ⊎ (slice_index z 1 ≡ 88)
+  pub first : slice_index z 0 ≡ char.zero
+  pub second : (slice_index z 1 ≡ char.small_x) ⊎ (slice_index z 1 ≡ char.capital_x)
   pub each : AllIn class.Hex z 2 n
 
 -- `0` and octal digits
 pub record IsOctal (z : Bytes) (n : ℕ) : Type 0 where
   pub some : 2 ≤ n
   pub within : n ≤ length z
-  pub first : slice_index z 0 ≡ 48
+  pub first : slice_index z 0 ≡ char.zero
   pub each : AllIn class.Octal z 1 n
 
 -- an integer of n bytes, whose number is v
@@ -139,10 +141,10 @@ IsIntegerText z n v =
 -- ]
 
 abbrev pub IsLetterE : ℕ → Type 0
-IsLetterE b = (b ≡ 101) ⊎ (b ≡ 69)
+IsLetterE b = (b ≡ char.small_e) ⊎ (b ≡ char.capital_e)
 
 abbrev pub IsSign : ℕ → Type 0
-IsSign b = (b ≡ 43) ⊎ (b ≡ 45)
+IsSign b = (b ≡ char.plus) ⊎ (b ≡ char.minus)
 
 -- an exponent from the byte j up to n
 pub record IsExponent (j : ℕ) (z : Bytes) (n : ℕ) : Type 0 where
@@ -161,7 +163,8 @@ pub record IsFloat (z : Bytes) (n : ℕ) : Type 0 where
   pub digits : AllIn class.Digit z 0 whole
   pub fraction :
       (point ≡ whole)
-      ⊎ ((slice_index z whole ≡ 46) × (whole + 1 ≤ point) × AllIn class.Digit z (whole + 1) point)
+      ⊎ ((slice_index z whole ≡ char.dot) × (whole + 1 ≤ point)
+      × AllIn class.Digit z (whole + 1) point)
   pub exponent : (n ≡ point) ⊎ IsExponent point z n
   -- some digit stands before the exponent
   pub some : (0 < whole) ⊎ (whole + 1 < point)
@@ -192,11 +195,15 @@ IsLongest z n = (m : ℕ) → IsLiteral z m → m ≤ n
 
 -- no comment begins there, closed or not
 abbrev pub HasNoComment : Bytes → Type 0
-HasNoComment z = slice_index z 0 ≡ 47 → (slice_index z 1 ≡ 47 → ⊥) × (slice_index z 1 ≡ 42 → ⊥)
+HasNoComment z =
+    slice_index z 0 ≡ char.slash
+    → (slice_index z 1 ≡ char.slash → ⊥) × (slice_index z 1 ≡ char.star → ⊥)
 
 -- a visible ASCII character that is no quote
 abbrev pub is_symbol : ℕ → Bool
-is_symbol b = nat_le 33 b && nat_le b 126 && not (b == 34) && not (b == 39)
+is_symbol b =
+    nat_le char.exclamation b && nat_le b char.tilde && not (b == char.quote)
+    && not (b == char.apostrophe)
 
 -- The token of the kind has n bytes there: the longest literal, which for a number no identifier's
 -- character follows, else one symbol.
@@ -214,7 +221,7 @@ IsToken z n (kind.Symbol b) =
 -- identifier's character, any other integer that is too large, or a character that begins no token.
 abbrev pub IsFault : Bytes → ParserError → Type 0
 IsFault z error.UnterminatedComment =
-    (slice_index z 0 ≡ 47) × (slice_index z 1 ≡ 42) × NoFront IsBlock z
+    (slice_index z 0 ≡ char.slash) × (slice_index z 1 ≡ char.star) × NoFront IsBlock z
 IsFault z error.UnterminatedString = IsQuote (slice_index z 0) × NoFront IsLiteral z
 IsFault z error.BadNumber =
     (n : ℕ) × IsNumberText z n × IsLongest z n × (n < length z)

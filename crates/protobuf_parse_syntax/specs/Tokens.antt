@@ -7,6 +7,7 @@ use Rattle.std.specs.Prelude.{slice_range, slice_get, take, drop, count_by, enco
 use Rattle.std.specs.Prelude.{Some, None}
 use Rattle.std.specs.Char.{IsScalar}
 use Rattle.std.specs.Str.Parse.{digits_value}
+use Rattle.protobuf_parse_base.specs.Characters as char
 use Rattle.protobuf_parse_syntax.specs.Text.{Bytes, AllIn, RunStopsAt}
 use Rattle.protobuf_parse_syntax.specs.declared.lexer.bytes.ByteClass.{ByteClass}
 use Rattle.protobuf_parse_syntax.specs.declared.lexer.bytes.ByteClass.TheVariants as class
@@ -28,12 +29,12 @@ lexeme t = record { kind = t.kind; text = t.text.now; place = t.place }
 
 -- `{`, `[` or `<`
 abbrev pub is_opening : TokenKind → Bool
-is_opening (kind.Symbol c) = c == 123 || c == 91 || c == 60
+is_opening (kind.Symbol c) = c == char.open_brace || c == char.open_bracket || c == char.less
 is_opening _ = false
 
 -- `}`, `]` or `>`
 abbrev pub is_closing : TokenKind → Bool
-is_closing (kind.Symbol c) = c == 125 || c == 93 || c == 62
+is_closing (kind.Symbol c) = c == char.close_brace || c == char.close_bracket || c == char.greater
 is_closing _ = false
 
 abbrev pub opened : List Lexeme → ℕ
@@ -63,7 +64,7 @@ pub record DeepensAt (ts : List Lexeme) (at : Place) : Type 0 where
 -- ---- strings
 
 abbrev pub is_quote : ℕ → Bool
-is_quote b = b == 34 || b == 39
+is_quote b = b == char.quote || b == char.apostrophe
 
 -- what stands between the quotes at the ends of a text
 abbrev pub unquoted : Bytes → Bytes
@@ -71,13 +72,22 @@ unquoted z =
     if nat_le 2 (length z) && is_quote (slice_index z 0) && is_quote (slice_index z (length z - 1))
     then slice_range z 1 (length z - 1) else []
 
--- what a backslash and this byte stand for: \a \b \f \n \r \t \v \\ \' \" \?
+-- behind a backslash these characters stand for themselves: \\ \' \" \?
+abbrev pub stands_for_itself : ℕ → Bool
+stands_for_itself c =
+    c == char.backslash || c == char.apostrophe || c == char.quote || c == char.question
+
+-- what a backslash and this character stand for: the same, or one of \a \b \f \n \r \t \v
 abbrev pub letter_byte : ℕ → Option ℕ
 letter_byte c =
-    if c == 97 then Some 7 else (if c == 98 then Some 8 else (if c == 102 then Some 12
-    else (if c == 110 then Some 10 else (if c == 114 then Some 13 else (if c == 116 then Some 9
-    else (if c == 118 then Some 11
-    else (if c == 92 || c == 39 || c == 34 || c == 63 then Some c else None)))))))
+    if c == char.small_a then Some char.bell
+    else (if c == char.small_b then Some char.backspace
+    else (if c == char.small_f then Some char.form_feed
+    else (if c == char.small_n then Some char.newline
+    else (if c == char.small_r then Some char.carriage_return
+    else (if c == char.small_t then Some char.tab
+    else (if c == char.small_v then Some char.vertical_tab
+    else (if stands_for_itself c then Some c else None)))))))
 
 -- digits of the class from `from` up to n, as many as stand there, at most up to `limit`
 pub record IsDigits (c : ByteClass) (z : Bytes) (from limit n : ℕ) : Type 0 where
@@ -87,33 +97,37 @@ pub record IsDigits (c : ByteClass) (z : Bytes) (from limit n : ℕ) : Type 0 wh
   pub each : AllIn c z from n
   pub stops : n < limit → RunStopsAt c z n
 
+abbrev pub after_backslash : Bytes → ℕ
+after_backslash z = slice_index z 1
+
 -- The n bytes at the front of z, of which the first is a backslash, are an escape and stand for
 -- these bytes: of a letter; of one to three octal digits, up to 377; of \x and one or two
 -- hexadecimal digits; of \u and four or \U and eight, which name a character.
 pub data IsEscape : Bytes → ℕ → Bytes → Type 0 where
-  letter : {z : Bytes} (b : ℕ) → letter_byte (slice_index z 1) ≡ Some b → IsEscape z 2 (b ∷ [])
+  letter : {z : Bytes} (b : ℕ) → letter_byte (after_backslash z) ≡ Some b → IsEscape z 2 (b ∷ [])
   octal :
       {z : Bytes} (n : ℕ) → IsDigits class.Octal z 1 4 n →
       digits_value 8 (slice_range z 1 n) ≤ 255 →
       IsEscape z n (digits_value 8 (slice_range z 1 n) ∷ [])
   hex :
-      {z : Bytes} (n : ℕ) → (slice_index z 1 ≡ 120) ⊎ (slice_index z 1 ≡ 88) →
+      {z : Bytes} (n : ℕ) →
+      (after_backslash z ≡ char.small_x) ⊎ (after_backslash z ≡ char.capital_x) →
       IsDigits class.Hex z 2 4 n → IsEscape z n (digits_value 16 (slice_range z 2 n) ∷ [])
   short :
-      {z : Bytes} → slice_index z 1 ≡ 117 → 6 ≤ length z → AllIn class.Hex z 2 6 →
+      {z : Bytes} → after_backslash z ≡ char.small_u → 6 ≤ length z → AllIn class.Hex z 2 6 →
       IsScalar (digits_value 16 (slice_range z 2 6)) →
       IsEscape z 6 (encode_utf8 (digits_value 16 (slice_range z 2 6)))
   long :
-      {z : Bytes} → slice_index z 1 ≡ 85 → 10 ≤ length z → AllIn class.Hex z 2 10 →
+      {z : Bytes} → after_backslash z ≡ char.capital_u → 10 ≤ length z → AllIn class.Hex z 2 10 →
       IsScalar (digits_value 16 (slice_range z 2 10)) →
       IsEscape z 10 (encode_utf8 (digits_value 16 (slice_range z 2 10)))
 
 -- the text between a string's quotes stands for these bytes
 pub data Decodes : Bytes → Bytes → Type 0 where
   done : Decodes [] []
-  plain : {z v : Bytes} (b : ℕ) → (b ≡ 92 → ⊥) → Decodes z v → Decodes (b ∷ z) (b ∷ v)
+  plain : {z v : Bytes} (b : ℕ) → (b ≡ char.backslash → ⊥) → Decodes z v → Decodes (b ∷ z) (b ∷ v)
   escape :
-      {z v : Bytes} (n : ℕ) (w : Bytes) → slice_index z 0 ≡ 92 → IsEscape z n w →
+      {z v : Bytes} (n : ℕ) (w : Bytes) → slice_index z 0 ≡ char.backslash → IsEscape z n w →
       Decodes (drop n z) v → Decodes z (w ++ v)
 
 -- several pieces, one after the other

@@ -35,9 +35,10 @@ use std::alloc::Global;
 
 /// The tree of a file's text, by the Protocol Buffers Language Specifications (proto2 and proto3).
 ///
-/// A text without a tree is refused with its first fault, at a line and a column that count from 1,
-/// the column in characters. Want of memory is [`ParserError::Memory`](crate::ParserError::Memory)
-/// at 0:0.
+/// A text without a tree is refused with a fault and the place where it stands, a line and a column
+/// that count from 1, the column in characters. A fault of the tokens comes before any of the
+/// grammar; it is not promised that no other fault of the grammar stands before the one that is
+/// named. Want of memory is [`ParserError::Memory`](crate::ParserError::Memory) at 0:0.
 pub fn parse_file(alloc: Global, text: &str) -> Result<FileTree, ParserErrorWithLocation>
     // What is read is the one tree of the text.
     ensures found { IfOk result (λ t. HasTree text.now (file_view t)) }

@@ -1,6 +1,7 @@
 //! Texts and their dots.
 ghost use Rattle.std.specs.Prelude.{◌≡◌, [], ◌∷◌, ◌++◌, MatchOption};
 ghost use Rattle.std.specs.List.{list_all};
+ghost use Rattle.protobuf_parse_base.specs.Characters as char;
 ghost use Rattle.protobuf_parse_base.specs.Names.{is_ident_byte, are_idents, dotted_parts};
 
 use super::ident::ProtobufIdentRef;
@@ -29,7 +30,7 @@ pub(super) fn parts_are_idents(text: &str) -> bool
 /// What stands before and after the first dot.
 pub(super) fn cut_first(text: &str) -> Option<(&str, &str)>
     ensures { MatchOption result (dotted_parts text.now ≡ text.now ∷ [])
-        (λ parts. (text.now ≡ parts.0.now ++ 46 ∷ parts.1.now)
+        (λ parts. (text.now ≡ parts.0.now ++ char.dot ∷ parts.1.now)
         × (dotted_parts parts.0.now ≡ parts.0.now ∷ [])) }
 {
     text.split_once('.')
@@ -38,7 +39,7 @@ pub(super) fn cut_first(text: &str) -> Option<(&str, &str)>
 /// What stands before and after the last dot.
 pub(super) fn cut_last(text: &str) -> Option<(&str, &str)>
     ensures { MatchOption result (dotted_parts text.now ≡ text.now ∷ [])
-        (λ parts. (text.now ≡ parts.0.now ++ 46 ∷ parts.1.now)
+        (λ parts. (text.now ≡ parts.0.now ++ char.dot ∷ parts.1.now)
         × (dotted_parts parts.1.now ≡ parts.1.now ∷ [])) }
 {
     text.rsplit_once('.')

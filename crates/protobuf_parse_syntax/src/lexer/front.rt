@@ -2,6 +2,7 @@
 
 ghost use Rattle.std.specs.Prelude.{◌≡◌, ◌≢◌, ℕ, ◌<◌, ◌≤◌, length, slice_index, true, false};
 ghost use Rattle.std.specs.Prelude.{MatchOption};
+ghost use Rattle.protobuf_parse_base.specs.Characters as char;
 ghost use Rattle.protobuf_parse_syntax.specs.Text.{is_in, IsBlock, IsQuote, IsString, IsIdentText};
 ghost use Rattle.protobuf_parse_syntax.specs.Text.{HasNoComment, Longest, NoFront};
 ghost use Rattle.protobuf_parse_syntax.specs.Scan as scan;
@@ -24,8 +25,8 @@ pub enum Piece {
 
 /// The end of a comment that begins with `/*`.
 fn block_end(text: &[u8]) -> Option<usize>
-    requires first { slice_index text.now 0 ≡ 47 }
-    requires second { slice_index text.now 1 ≡ 42 }
+    requires first { slice_index text.now 0 ≡ char.slash }
+    requires second { slice_index text.now 1 ≡ char.star }
     requires within { 2 ≤ length text.now }
     ensures { MatchOption result (NoFront IsBlock text.now) (λ n. IsBlock text.now n) }
 {

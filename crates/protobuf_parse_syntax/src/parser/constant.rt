@@ -1,6 +1,7 @@
 //! Constants.
 
 ghost use Rattle.std.specs.Prelude.{◌≡◌, ◌≤◌, ◌∷◌, [], map, string_bytes, OnOk, pos};
+ghost use Rattle.protobuf_parse_base.specs.Characters as char;
 ghost use Rattle.protobuf_parse_base.specs.Readers.{starts};
 ghost use Rattle.protobuf_parse_base.specs.Pairs.{both};
 ghost use Rattle.protobuf_parse_syntax.specs.Classes as class;
@@ -109,7 +110,7 @@ fn begins_constant(tokens: &Cursor<'_, '_>) -> bool
 
 #[tactic(auto, using(crate::proofs::Left::starts_more))]
 fn begins_integer(tokens: &Cursor<'_, '_>) -> bool
-    ensures { result ≡ starts lexicon (class.integer ∷ class.symbol 43 ∷ class.symbol 45 ∷ [])
+    ensures { result ≡ starts lexicon (class.integer ∷ class.symbol char.plus ∷ class.symbol char.minus ∷ [])
         (left tokens.now) }
 {
     tokens.sees_integer() || tokens.sees_symbol('+') || tokens.sees_symbol('-')
@@ -310,7 +311,7 @@ fn field_end(tokens: &mut Cursor<'_, '_>) -> Result<(), Refusal>
 
 #[tactic(auto, using(crate::proofs::Left::starts_more))]
 fn begins_constant_name(tokens: &Cursor<'_, '_>) -> bool
-    ensures { result ≡ starts lexicon (class.ident [] ∷ class.symbol 91 ∷ []) (left tokens.now) }
+    ensures { result ≡ starts lexicon (class.ident [] ∷ class.symbol char.open_bracket ∷ []) (left tokens.now) }
 {
     tokens.sees_ident() || tokens.sees_symbol('[')
 }

@@ -1,6 +1,7 @@
 //! Options.
 
 ghost use Rattle.std.specs.Prelude.{◌≡◌, ◌≤◌, ◌∷◌, [], map, string_bytes, codes, OnOk};
+ghost use Rattle.protobuf_parse_base.specs.Characters as char;
 ghost use Rattle.protobuf_parse_base.specs.Readers.{starts};
 ghost use Rattle.protobuf_parse_base.specs.Combinators.{with_first};
 ghost use Rattle.protobuf_parse_syntax.specs.Classes as class;
@@ -253,7 +254,7 @@ fn option_statements(
 
 #[tactic(auto, using(crate::proofs::Left::starts_more))]
 fn begins_option_item(tokens: &Cursor<'_, '_>) -> bool
-    ensures { result ≡ starts lexicon (class.symbol 59 ∷ class.word (codes "option") ∷ [])
+    ensures { result ≡ starts lexicon (class.symbol char.semicolon ∷ class.word (codes "option") ∷ [])
         (left tokens.now) }
 {
     tokens.sees_symbol(';') || tokens.sees_word("option")

@@ -1,6 +1,7 @@
 //! The words of the language, and why no statement begins with a token.
 
 ghost use Rattle.std.specs.Prelude.{◌≡◌, ◌∷◌};
+ghost use Rattle.protobuf_parse_base.specs.Characters as char;
 ghost use Rattle.protobuf_parse_base.specs.Readers.{starts};
 ghost use Rattle.protobuf_parse_syntax.specs.Classes as class;
 ghost use Rattle.protobuf_parse_syntax.specs.ClassLaws.{lexicon};
@@ -94,7 +95,7 @@ pub fn begins_field(tokens: &Cursor<'_, '_>, syntax: Syntax) -> bool
 /// Whether a field of a message, a group or an `extend`, or a semicolon, comes next.
 #[tactic(auto, using(crate::proofs::Words::semicolon_or))]
 pub fn begins_field_item(tokens: &Cursor<'_, '_>, syntax: Syntax) -> bool
-    ensures { result ≡ starts lexicon (class.symbol 59 ∷ nest.field_firsts syntax)
+    ensures { result ≡ starts lexicon (class.symbol char.semicolon ∷ nest.field_firsts syntax)
         (left tokens.now) }
 {
     tokens.sees_symbol(';') || begins_field(tokens, syntax)
@@ -149,7 +150,7 @@ fn word_begins_message_statement(word: &str, syntax: Syntax) -> bool
 /// Whether a statement of a message begins with the next token.
 #[tactic(auto, using(crate::proofs::Words::signs_start, crate::proofs::Words::either_starts))]
 pub fn begins_message_statement(tokens: &Cursor<'_, '_>, syntax: Syntax) -> bool
-    ensures { result ≡ starts lexicon (class.symbol 59 ∷ nest.statement_firsts syntax)
+    ensures { result ≡ starts lexicon (class.symbol char.semicolon ∷ nest.statement_firsts syntax)
         (left tokens.now) }
 {
     match tokens.next_word() {
@@ -174,7 +175,7 @@ fn word_begins_service_statement(word: &str, syntax: Syntax) -> bool
 /// Whether a statement of a service begins with the next token.
 #[tactic(auto, using(crate::proofs::Words::signs_start))]
 pub fn begins_service_statement(tokens: &Cursor<'_, '_>, syntax: Syntax) -> bool
-    ensures { result ≡ starts lexicon (class.symbol 59 ∷ nest.service_firsts syntax)
+    ensures { result ≡ starts lexicon (class.symbol char.semicolon ∷ nest.service_firsts syntax)
         (left tokens.now) }
 {
     match tokens.next_word() {
@@ -196,7 +197,7 @@ fn word_begins_file_statement(word: &str) -> bool
 /// Whether a statement of a file begins with the next token.
 #[tactic(auto, using(crate::proofs::Words::signs_start))]
 pub fn begins_file_statement(tokens: &Cursor<'_, '_>) -> bool
-    ensures { result ≡ starts lexicon (class.symbol 59 ∷ nest.file_firsts) (left tokens.now) }
+    ensures { result ≡ starts lexicon (class.symbol char.semicolon ∷ nest.file_firsts) (left tokens.now) }
 {
     match tokens.next_word() {
         Some(word) => word_begins_file_statement(word),

@@ -5,6 +5,7 @@ ghost use Rattle.std.specs.Prelude.{flat_map, not, encode_utf8, if◌then◌else
 ghost use Rattle.std.specs.Fmt.{DisplaysOnOk};
 ghost use Rattle.std.specs.List.{join_with_byte};
 ghost use Rattle.std.specs.String.{string_bytes};
+ghost use Rattle.protobuf_parse_base.specs.Characters as char;
 ghost use Rattle.protobuf_parse_syntax.specs.Formats as spec;
 ghost use Rattle.protobuf_parse_syntax.specs.Trees.{constant_view, constant_field_view};
 ghost use Rattle.protobuf_parse_syntax.specs.Trees.{constant_name_view, pieces_of};
@@ -219,7 +220,7 @@ fn write_escaped<W: fmt::Write>(f: &mut fmt::Formatter<W>, piece: &str) -> fmt::
 
 /// Whether a character of a piece takes the next one with it.
 fn takes_next(taken: bool, character: char) -> bool
-    ensures { result ≡ (character == 92 && not taken) }
+    ensures { result ≡ (character == char.backslash && not taken) }
 {
     character == '\\' && !taken
 }

@@ -1,5 +1,5 @@
 -- The two directions of each law.
-use Rattle.protobuf_parse_syntax.specs.Decoder.{decode-from, decode-to, text-from, text-to}
+use Rattle.protobuf_parse_syntax.specs.DecoderLaws.{decode-from, decode-to, text-from, text-to}
 use Rattle.protobuf_parse_syntax.proofs.lexer.laws.strings_are_decoded.Goals as goal
 
 pub returns-clause-bytes : goal.returns-clause-bytes
