@@ -2,6 +2,7 @@ pub mod Text
 pub mod Characters
 pub mod Scan
 pub mod Place
+pub mod Kinds
 pub mod Tokens
 pub mod Decoding
 pub mod Escapes
