@@ -12,6 +12,7 @@ use Rattle.protobuf_parse_base.specs.Whole.{whole}
 use Rattle.protobuf_parse_base.specs.Conditions.{meaning}
 use Rattle.protobuf_parse_syntax.specs.Tokens.{Lexeme, lexeme}
 use Rattle.protobuf_parse_syntax.specs.Text.{Bytes}
+use Rattle.protobuf_parse_syntax.specs.Kinds.{kind_of}
 use Rattle.protobuf_parse_syntax.specs.Classes.{sees, symbol as symbol_class, integer, float, text}
 use Rattle.protobuf_parse_syntax.specs.Classes.{is_one_of, is_floating, is_string}
 use Rattle.protobuf_parse_syntax.specs.ClassLaws.{lexicon}
@@ -48,11 +49,11 @@ no_float k w p e n i =
     rw (e, x, y) refl
 
 pub other_second : (ts : List Token) (m : Place) (d : Token) → 2 ≤ length ts
-    → (get_or ts 1 d).kind ≡ kind.Ident → ((get_or ts 1 d).text.now ≡ codes "nan" → ⊥)
+    → kind_of (get_or ts 1 d).text.now ≡ kind.Ident → ((get_or ts 1 d).text.now ≡ codes "nan" → ⊥)
     → ((get_or ts 1 d).text.now ≡ codes "inf" → ⊥) → false ≡ floats_second (whole (map lexeme ts) m)
 other_second [] m d h e n i = absurd (omega (arith, h))
 other_second (t ∷ []) m d h e n i = absurd (omega (arith, h))
-other_second (t ∷ u ∷ ts) m d h e n i = no_float u.kind u.text.now u.place e n i
+other_second (t ∷ u ∷ ts) m d h e n i = no_float (kind_of u.text.now) u.text.now u.place e n i
 
 -- ---- signs
 

@@ -24,6 +24,8 @@ use Rattle.protobuf_parse_syntax.specs.declared.lexer.token.TokenKind.{TokenKind
 use Rattle.protobuf_parse_syntax.specs.declared.lexer.token.TokenKind.TheVariants as kind
 use Rattle.protobuf_parse_syntax.specs.Escapes.{chosen}
 use Rattle.protobuf_parse_syntax.proofs.Front.{octal_hex}
+use Rattle.protobuf_parse_syntax.proofs.TextKinds.{token_kind}
+use Rattle.protobuf_parse_syntax.specs.Kinds.{kind_of}
 use lib.Utf8.{encode}
 use Rattle.protobuf_parse_syntax.specs.Text.{Bytes, is_in, IsSpaces, IsLine, IsBlock, IsBlank}
 use Rattle.protobuf_parse_syntax.specs.Text.{IsQuote, IsString, IsFloat, IsIntegerText, is_rest}
@@ -214,12 +216,14 @@ blank_step n p at q z piece rest r ts is e f g c =
 
 pub token_step : (n : ℕ) (k : TokenKind) (p at q : Place) (z word rest r : Bytes) (ts : List Lexeme)
     → IsToken z n k → word ≡ take n z → rest ≡ drop n z → at ≡ after p word → Cut at rest ts q r →
-    Cut p z (record { kind = k; text = word; place = p } ∷ ts) q r
+    Cut p z (record { kind = kind_of word; text = word; place = p } ∷ ts) q r
 token_step n k p at q z word rest r ts is e f g c =
-    subst (λ t. Cut p z (record { kind = k; text = t; place = p } ∷ ts) q r) (sym e)
+    subst (λ t. Cut p z (record { kind = kind_of t; text = t; place = p } ∷ ts) q r) (sym e)
+    (subst (λ j. Cut p z (record { kind = j; text = take n z; place = p } ∷ ts) q r)
+    (sym (token_kind z n k is))
     (token n k is
     (subst (λ a. Cut a (drop n z) ts q r) (g ∙ ap (after p) e)
-    (subst (λ x. Cut at x ts q r) f c)))
+    (subst (λ x. Cut at x ts q r) f c))))
 
 pub push_step : (ts : List Token) (t : Token) (more : List Lexeme)
     → map lexeme (ts ++ t ∷ []) ++ more ≡ map lexeme ts ++ (lexeme t ∷ more)

@@ -35,29 +35,29 @@ module _ (xs : List Token) (i : ℕ) (d : Token) (within : i < length xs) where
   token_at : get_or (map lexeme xs) i (lexeme d) ≡ lexeme (get_or xs i d)
   token_at = get_or-map lexeme xs i d (lexeme d) within
 
-  kind_at : (test : TokenKind → Bool) (b : Bool) → test (get_or xs i d).kind ≡ b
+  kind_at : (test : TokenKind → Bool) (b : Bool) → test (lexeme (get_or xs i d)).kind ≡ b
       → test (get_or (map lexeme xs) i (lexeme d)).kind ≡ b
   kind_at test b e = ap (λ (t : Lexeme). test t.kind) token_at ∙ e
 
-  yes : (test : TokenKind → Bool) → test (get_or xs i d).kind ≡ true
+  yes : (test : TokenKind → Bool) → test (lexeme (get_or xs i d)).kind ≡ true
       → count_by (λ (t : Lexeme). test t.kind) (take (i + 1) (map lexeme xs))
       ≡ count_by (λ (t : Lexeme). test t.kind) (take i (map lexeme xs)) + 1
   yes test e = count_by_more_yes (λ (t : Lexeme). test t.kind) (map lexeme xs) i (lexeme d) inside
       (kind_at test true e)
 
-  no : (test : TokenKind → Bool) → test (get_or xs i d).kind ≡ false
+  no : (test : TokenKind → Bool) → test (lexeme (get_or xs i d)).kind ≡ false
       → count_by (λ (t : Lexeme). test t.kind) (take (i + 1) (map lexeme xs))
       ≡ count_by (λ (t : Lexeme). test t.kind) (take i (map lexeme xs))
   no test e = count_by_more_no (λ (t : Lexeme). test t.kind) (map lexeme xs) i (lexeme d) inside
       (kind_at test false e)
 
   pub next : (o c o' c' : ℕ) → o ≡ opened (take i (map lexeme xs))
-      → c ≡ closed (take i (map lexeme xs)) → Counts (get_or xs i d).kind o c o' c' →
+      → c ≡ closed (take i (map lexeme xs)) → Counts (lexeme (get_or xs i d)).kind o c o' c' →
       (o' ≡ opened (take (i + 1) (map lexeme xs))) × (c' ≡ closed (take (i + 1) (map lexeme xs)))
   next o c o' c' p q (inl h) = (
     h.1 ∙ ap (λ n. n + 1) p ∙ sym (yes is_opening h.0),
     h.2 ∙ q
-        ∙ sym (no is_closing (opening_is_no_closing (get_or xs i d).kind h.0)),
+        ∙ sym (no is_closing (opening_is_no_closing (lexeme (get_or xs i d)).kind h.0)),
   )
   next o c o' c' p q (inr (inl h)) =
       (h.2 ∙ p ∙ sym (no is_opening h.0), h.3 ∙ ap (λ n. n + 1) q ∙ sym (yes is_closing h.1))
@@ -71,7 +71,7 @@ module _ (xs : List Token) (i : ℕ) (d : Token) (within : i < length xs) where
   deep_there o c p q more = omega arith
 
   pub deepens : (o c o' c' : ℕ) → o ≡ opened (take i (map lexeme xs))
-      → c ≡ closed (take i (map lexeme xs)) → Counts (get_or xs i d).kind o c o' c' → 100 < o' - c'
+      → c ≡ closed (take i (map lexeme xs)) → Counts (lexeme (get_or xs i d)).kind o c o' c' → 100 < o' - c'
       →
       ((n : ℕ) → n ≤ i → IsDeep (take n (map lexeme xs)) → ⊥)
       → DeepensAt (map lexeme xs) (get_or xs i d).place
@@ -87,7 +87,7 @@ module _ (xs : List Token) (i : ℕ) (d : Token) (within : i < length xs) where
       }
 
   pub still_shallow : (o c o' c' : ℕ) → o ≡ opened (take i (map lexeme xs))
-      → c ≡ closed (take i (map lexeme xs)) → Counts (get_or xs i d).kind o c o' c' → o' - c' ≤ 100
+      → c ≡ closed (take i (map lexeme xs)) → Counts (lexeme (get_or xs i d)).kind o c o' c' → o' - c' ≤ 100
       →
       ((n : ℕ) → n ≤ i → IsDeep (take n (map lexeme xs)) → ⊥) → (n : ℕ) → n ≤ i + 1
       → IsDeep (take n (map lexeme xs)) → ⊥
@@ -117,10 +117,10 @@ pub record Kept (xs : List Token) (i o c : ℕ) : Type 0 where
   pub shallow : (n : ℕ) → n ≤ i → IsDeep (take n (map lexeme xs)) → ⊥
 
 pub kept : (xs : List Token) (i : ℕ) (d : Token) (o c o' c' : ℕ) → i < length xs → Kept xs i o c
-    → Counts (get_or xs i d).kind o c o' c' → o' - c' ≤ 100 → Kept xs (i + 1) o' c'
+    → Counts (lexeme (get_or xs i d)).kind o c o' c' → o' - c' ≤ 100 → Kept xs (i + 1) o' c'
 kept xs i d o c o' c' within was counts few =
     let now = next xs i d within o c o' c' was.opened was.closed counts in
-    let small = few_more (get_or xs i d).kind i o c o' c' was.few_opened was.few_closed counts in
+    let small = few_more (lexeme (get_or xs i d)).kind i o c o' c' was.few_opened was.few_closed counts in
     record {
       opened = now.0;
       closed = now.1;

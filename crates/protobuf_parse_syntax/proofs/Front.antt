@@ -76,7 +76,7 @@ point_no_quote b e (inl q) = omega arith
 point_no_quote b e (inr q) = omega arith
 
 -- the byte after the first digits of a float
-after_whole : (z : Bytes) (n : ℕ) (f : IsFloat z n)
+pub after_whole : (z : Bytes) (n : ℕ) (f : IsFloat z n)
     → (slice_index z f.whole ≡ 46) ⊎ IsLetterE (slice_index z f.whole)
 after_whole z n f =
     elim f.fraction [
@@ -166,21 +166,25 @@ x_no_mark b (inl e) (inr (inr g)) = omega arith
 x_no_mark b (inr e) (inr (inl g)) = omega arith
 x_no_mark b (inr e) (inr (inr g)) = omega arith
 
-pub hex_no_float : (z : Bytes) (m n : ℕ) → IsFloat z n → IsHex z m → ⊥
-hex_no_float z m n f h =
+pub x_no_float : (z : Bytes) (n : ℕ) → IsFloat z n → slice_index z 0 ≡ 48
+    → (slice_index z 1 ≡ 120) ⊎ (slice_index z 1 ≡ 88) → ⊥
+x_no_float z n f zero_first x =
     elim (cases_lt 1 f.whole) [
-      | inl more ↦ x_no_digit (slice_index z 1) h.second (f.digits 1 (omega arith) more)
+      | inl more ↦ x_no_digit (slice_index z 1) x (f.digits 1 (omega arith) more)
       | inr less ↦ elim (cases_lt 0 f.whole) [
         | inl one ↦ let is : f.whole ≡ 1 = omega arith in
-            x_no_mark (slice_index z 1) h.second
+            x_no_mark (slice_index z 1) x
             (subst (λ k. (slice_index z k ≡ 46) ⊎ IsLetterE (slice_index z k)) is
             (after_whole z n f))
         | inr none ↦ let is : f.whole ≡ 0 = omega arith in
             mark_no_digit z 0
             (subst (λ k. (slice_index z k ≡ 46) ⊎ IsLetterE (slice_index z k)) is
-            (after_whole z n f)) (zero_is_digit _ h.first)
+            (after_whole z n f)) (zero_is_digit _ zero_first)
       ]
     ]
+
+pub hex_no_float : (z : Bytes) (m n : ℕ) → IsFloat z n → IsHex z m → ⊥
+hex_no_float z m n f h = x_no_float z n f h.first h.second
 
 -- ---- the longest of one kind is the longest of all
 

@@ -1,6 +1,7 @@
 mod File
 mod LongNames
 pub mod Front
+pub mod TextKinds
 pub mod Cuts
 pub mod Unique
 pub mod Refusals

@@ -137,19 +137,19 @@ digit_sort z some h =
     (ap (λ u. u && eqb (get_or z 1 0) 42) t.1) (number_begins z h)
 
 -- where no number begins
-not_true : (t : Bool) → (t ≡ true → ⊥) → t ≡ false
+pub not_true : (t : Bool) → (t ≡ true → ⊥) → t ≡ false
 not_true true h = absurd (h refl)
 not_true false h = refl
 
-or_true : (s t : Bool) → (s || t) ≡ true → (s ≡ true) ⊎ (t ≡ true)
+pub or_true : (s t : Bool) → (s || t) ≡ true → (s ≡ true) ⊎ (t ≡ true)
 or_true true t h = inl refl
 or_true false t h = inr h
 
-and_true : (s t : Bool) → (s && t) ≡ true → (s ≡ true) × (t ≡ true)
+pub and_true : (s t : Bool) → (s && t) ≡ true → (s ≡ true) × (t ≡ true)
 and_true true t h = (refl, h)
 and_true false t h = absurd (false≢true h)
 
-same_byte : (b c : ℕ) → eqb b c ≡ true → b ≡ c
+pub same_byte : (b c : ℕ) → eqb b c ≡ true → b ≡ c
 same_byte b c h = grind (arith, nat_tests)
 
 is_number_begins : (z : Bytes) → is_number z ≡ true → BeginsNumber z
@@ -191,7 +191,7 @@ one_each : (c : ByteClass) (z : Bytes) → is_in c (get_or z 0 0) ≡ true → A
 one_each c z h k after before = let zero_is : 0 ≡ k = omega arith in
     subst (λ i. is_in c (get_or z i 0) ≡ true) zero_is h
 
-no_digit : (z : Bytes) → 0 < length z → NoFront IsLiteral z
+pub no_digit : (z : Bytes) → 0 < length z → NoFront IsLiteral z
     → is_in class.Digit (get_or z 0 0) ≡ false
 no_digit z some none =
     not_true _
@@ -210,7 +210,7 @@ no_number z some none =
     (λ g. ⊎_elim (λ a. false≢true (sym (no_digit z some none) ∙ a))
     (λ a. none 2 (inr (inr (inr (inr (inr (point_float z a.0 a.1))))))) (is_number_begins z g))
 
-no_ident : (z : Bytes) → 0 < length z → NoFront IsLiteral z
+pub no_ident : (z : Bytes) → 0 < length z → NoFront IsLiteral z
     → is_in class.Ident (get_or z 0 0) ≡ false
 no_ident z some none =
     not_true _
@@ -230,7 +230,7 @@ no_comment z h = (
   not_true _ (λ e. let p = and_bytes (get_or z 0 0) (get_or z 1 0) 47 42 e in (h p.0).1 p.1),
 )
 
-symbol_tests : (b : ℕ) → is_symbol b ≡ true
+pub symbol_tests : (b : ℕ) → is_symbol b ≡ true
     → (is_in class.Blank b ≡ false) × ((eqb b 34 || eqb b 39) ≡ false)
 symbol_tests b h = (grind (arith, nat_tests), grind (arith, nat_tests))
 

@@ -9,6 +9,7 @@ use Rattle.std.specs.Char.{IsScalar}
 use Rattle.std.specs.Str.Parse.{digits_value}
 use Rattle.protobuf_parse_base.specs.Characters as char
 use Rattle.protobuf_parse_syntax.specs.Text.{Bytes, AllIn, RunStopsAt}
+use Rattle.protobuf_parse_syntax.specs.Kinds.{kind_of}
 use Rattle.protobuf_parse_syntax.specs.declared.lexer.bytes.ByteClass.{ByteClass}
 use Rattle.protobuf_parse_syntax.specs.declared.lexer.bytes.ByteClass.TheVariants as class
 use Rattle.protobuf_parse_syntax.specs.declared.lexer.token.TokenKind.{TokenKind}
@@ -16,14 +17,14 @@ use Rattle.protobuf_parse_syntax.specs.declared.lexer.token.TokenKind.TheVariant
 use Rattle.protobuf_parse_syntax.specs.declared.lexer.token.Place.{Place}
 use Rattle.protobuf_parse_syntax.specs.declared.lexer.token.Token.{Token}
 
--- a token without where it lies in memory
+-- a token without where it lies in memory, and with its kind, which its text tells
 pub record Lexeme : Type 0 where
   pub kind : TokenKind
   pub text : Bytes
   pub place : Place
 
 abbrev pub lexeme : Token → Lexeme
-lexeme t = record { kind = t.kind; text = t.text.now; place = t.place }
+lexeme t = record { kind = kind_of t.text.now; text = t.text.now; place = t.place }
 
 -- ---- depth
 

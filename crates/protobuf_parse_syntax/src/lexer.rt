@@ -10,6 +10,7 @@ ghost use Rattle.protobuf_parse_syntax.specs.Cut.{out_of_memory};
 mod bytes;
 mod depth;
 mod front;
+mod kind;
 mod lanes;
 pub mod laws;
 mod number;
@@ -58,11 +59,7 @@ fn cut<'a>(alloc: Global, text: &'a str) -> Result<TokenStream<'a>, ParserErrorW
             }
             Piece::Token(len, kind) => {
                 let (word, after) = rest.split_at(len);
-                tokens.push(Token {
-                    kind,
-                    text: word,
-                    place,
-                })?;
+                tokens.push(Token { text: word, place })?;
                 place = place_past(place, kind, word.as_bytes());
                 rest = after;
             }

@@ -19,7 +19,7 @@ pub fn tokens(alloc: Global, text: &str) -> Result<String, AllocError> {
     for token in &stream.tokens {
         let line = token.place.line;
         let col = token.place.col;
-        let kind = token.kind;
+        let kind = token.kind();
         let word = token.text;
         write!(&mut out, "{line}:{col} {kind:?} {word}; ")?;
     }

@@ -1,10 +1,12 @@
 //! How deep brackets nest.
 
 ghost use Rattle.std.specs.Prelude.{◌≡◌, map, MatchOption};
+ghost use Rattle.protobuf_parse_syntax.specs.Kinds.{kind_of};
 ghost use Rattle.protobuf_parse_syntax.specs.Tokens as tokens;
 ghost use Rattle.protobuf_parse_syntax.specs.Tokens.{lexeme, IsShallow, DeepensAt};
 
-use crate::lexer::token::{Place, Token, TokenKind};
+use crate::lexer::bytes::byte_at;
+use crate::lexer::token::{Place, Token};
 
 /// The deepest nesting that a text may have.
 const MAX_DEPTH: usize = 100;
@@ -17,32 +19,30 @@ pub fn too_deep(list: &[Token]) -> Option<Place>
     let mut opened: usize = 0;
     let mut closed: usize = 0;
     for token in list {
-        if is_opening(token.kind) {
+        if is_opening(token) {
             opened += 1;
             if opened.saturating_sub(closed) > MAX_DEPTH {
                 return Some(token.place);
             }
-        } else if is_closing(token.kind) {
+        } else if is_closing(token) {
             closed += 1;
         }
     }
     None
 }
 
-fn is_opening(kind: TokenKind) -> bool
-    ensures { result ≡ tokens.is_opening kind }
+#[tactic(auto, using(crate::proofs::TextKinds::opening_first))]
+fn is_opening(token: &Token) -> bool
+    ensures { result ≡ tokens.is_opening (kind_of token.now.text.now) }
 {
-    match kind {
-        TokenKind::Symbol(symbol) => symbol == '{' || symbol == '[' || symbol == '<',
-        _ => false,
-    }
+    let first = byte_at(token.text.as_bytes(), 0);
+    first == b'{' || first == b'[' || first == b'<'
 }
 
-fn is_closing(kind: TokenKind) -> bool
-    ensures { result ≡ tokens.is_closing kind }
+#[tactic(auto, using(crate::proofs::TextKinds::closing_first))]
+fn is_closing(token: &Token) -> bool
+    ensures { result ≡ tokens.is_closing (kind_of token.now.text.now) }
 {
-    match kind {
-        TokenKind::Symbol(symbol) => symbol == '}' || symbol == ']' || symbol == '>',
-        _ => false,
-    }
+    let first = byte_at(token.text.as_bytes(), 0);
+    first == b'}' || first == b']' || first == b'>'
 }

@@ -1,5 +1,10 @@
 //! Tokens and places.
 
+ghost use Rattle.std.specs.Prelude.{◌≡◌};
+ghost use Rattle.protobuf_parse_syntax.specs.Kinds as kinds;
+
+use crate::lexer::kind::kind_of;
+
 /// A line and a column, both from 1. A column counts characters.
 #[derive(Clone, Copy, Debug, PartialEq, Eq)]
 pub struct Place {
@@ -25,11 +30,20 @@ pub enum TokenKind {
 /// A token of a text.
 #[derive(Clone, Copy)]
 pub struct Token<'a> {
-    pub kind: TokenKind,
     /// The part of the text that the token is; a string's has its quotes.
     pub text: &'a str,
     /// Where its first character stands.
     pub place: Place,
+}
+
+impl<'a> Token<'a> {
+    /// What the token is, as its text tells.
+    #[inline]
+    pub fn kind(&self) -> TokenKind
+        ensures { result ≡ kinds.kind_of self.now.text.now }
+    {
+        kind_of(self.text.as_bytes())
+    }
 }
 
 /// The tokens of a text.

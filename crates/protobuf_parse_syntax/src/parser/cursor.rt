@@ -59,7 +59,7 @@ impl<'t, 'text> Cursor<'t, 'text> {
         ensures { result ≡ starts lexicon (class.symbol symbol ∷ []) (left self.now) }
     {
         match self.rest {
-            [token, ..] => match token.kind {
+            [token, ..] => match token.kind() {
                 TokenKind::Symbol(other) => other == symbol,
                 _ => false,
             },
@@ -82,7 +82,7 @@ impl<'t, 'text> Cursor<'t, 'text> {
             ((read.symbol symbol).run (left self.old)) }
     {
         match self.rest {
-            [token, rest @ ..] => match token.kind {
+            [token, rest @ ..] => match token.kind() {
                 TokenKind::Symbol(other) if other == symbol => {
                     self.rest = rest;
                     Ok(())
@@ -99,7 +99,7 @@ impl<'t, 'text> Cursor<'t, 'text> {
         ensures { result ≡ starts lexicon (class.word word.now ∷ []) (left self.now) }
     {
         match self.rest {
-            [token, ..] => match token.kind {
+            [token, ..] => match token.kind() {
                 TokenKind::Ident => token.text == word,
                 _ => false,
             },
@@ -113,7 +113,7 @@ impl<'t, 'text> Cursor<'t, 'text> {
             ((read.word word.now).run (left self.old)) }
     {
         match self.rest {
-            [token, rest @ ..] => match token.kind {
+            [token, rest @ ..] => match token.kind() {
                 TokenKind::Ident if token.text == word => {
                     self.rest = rest;
                     Ok(())
@@ -130,7 +130,7 @@ impl<'t, 'text> Cursor<'t, 'text> {
         ensures { result ≡ starts lexicon (class.ident [] ∷ []) (left self.now) }
     {
         match self.rest {
-            [token, ..] => matches!(token.kind, TokenKind::Ident),
+            [token, ..] => matches!(token.kind(), TokenKind::Ident),
             [] => false,
         }
     }
@@ -140,7 +140,7 @@ impl<'t, 'text> Cursor<'t, 'text> {
         ensures { seen_by (λ z. z.now) result ≡ next_ident (left self.now) }
     {
         match self.rest {
-            [token, ..] => match token.kind {
+            [token, ..] => match token.kind() {
                 TokenKind::Ident => Some(token.text),
                 _ => None,
             },
@@ -162,7 +162,7 @@ impl<'t, 'text> Cursor<'t, 'text> {
         ensures { Gives (λ z. z.now) result (left self.new) (read.ident.run (left self.old)) }
     {
         match self.rest {
-            [token, rest @ ..] => match token.kind {
+            [token, rest @ ..] => match token.kind() {
                 TokenKind::Ident => {
                     self.rest = rest;
                     Ok(token.text)
@@ -205,7 +205,7 @@ impl<'t, 'text> Cursor<'t, 'text> {
         ensures { result ≡ starts lexicon (class.integer ∷ []) (left self.now) }
     {
         match self.rest {
-            [token, ..] => matches!(token.kind, TokenKind::Integer(_)),
+            [token, ..] => matches!(token.kind(), TokenKind::Integer(_)),
             [] => false,
         }
     }
@@ -215,7 +215,7 @@ impl<'t, 'text> Cursor<'t, 'text> {
         ensures { Gives (λ n. n) result (left self.new) (read.number.run (left self.old)) }
     {
         match self.rest {
-            [token, rest @ ..] => match token.kind {
+            [token, rest @ ..] => match token.kind() {
                 TokenKind::Integer(number) => {
                     self.rest = rest;
                     Ok(number)
@@ -233,7 +233,7 @@ impl<'t, 'text> Cursor<'t, 'text> {
             ((read.number_up_to limit).run (left self.old)) }
     {
         match self.rest {
-            [token, rest @ ..] => match token.kind {
+            [token, rest @ ..] => match token.kind() {
                 TokenKind::Integer(number) => {
                     if number > limit {
                         return Err(Refusal::Next(ParserError::IntegerOverflow));
@@ -263,7 +263,7 @@ impl<'t, 'text> Cursor<'t, 'text> {
         ensures { result ≡ starts lexicon (class.text ∷ []) (left self.now) }
     {
         match self.rest {
-            [token, ..] => matches!(token.kind, TokenKind::Str),
+            [token, ..] => matches!(token.kind(), TokenKind::Str),
             [] => false,
         }
     }
@@ -273,7 +273,7 @@ impl<'t, 'text> Cursor<'t, 'text> {
         ensures { Gives string_bytes result (left self.new) (read.piece.run (left self.old)) }
     {
         match self.rest {
-            [token, rest @ ..] => match token.kind {
+            [token, rest @ ..] => match token.kind() {
                 TokenKind::Str => {
                     let piece = String::from_str(alloc, unquoted(token.text))?;
                     self.rest = rest;
@@ -291,7 +291,7 @@ impl<'t, 'text> Cursor<'t, 'text> {
         ensures { result ≡ starts lexicon (class.float ∷ []) (left self.now) }
     {
         match self.rest {
-            [token, ..] => matches!(token.kind, TokenKind::Float),
+            [token, ..] => matches!(token.kind(), TokenKind::Float),
             [] => false,
         }
     }
@@ -301,7 +301,7 @@ impl<'t, 'text> Cursor<'t, 'text> {
         ensures { result ≡ floats_second (left self.now) }
     {
         match self.rest {
-            [_, token, ..] => match token.kind {
+            [_, token, ..] => match token.kind() {
                 TokenKind::Float => true,
                 TokenKind::Ident => matches!(token.text, "inf" | "nan"),
                 _ => false,

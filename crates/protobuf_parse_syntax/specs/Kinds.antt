@@ -1,0 +1,33 @@
+-- What kind of token a text is, told by its bytes alone. Of a text that is no token it is some kind
+-- or other: that each token of a text has its kind is what `IsToken` says in a cut.
+use Rattle.std.specs.Prelude.{ℕ, ◌^◌, ◌&&◌, ◌||◌, ◌==◌, if◌then◌else◌, nat_le, nat_lt, length}
+use Rattle.std.specs.Prelude.{slice_index, drop}
+use Rattle.std.specs.List.{list_all}
+use Rattle.std.specs.Str.Parse.{digits_value}
+use Rattle.protobuf_parse_syntax.specs.Text.{Bytes, is_in}
+use Rattle.protobuf_parse_syntax.specs.declared.lexer.bytes.ByteClass.{ByteClass}
+use Rattle.protobuf_parse_syntax.specs.declared.lexer.bytes.ByteClass.TheVariants as class
+use Rattle.protobuf_parse_syntax.specs.declared.lexer.token.TokenKind.{TokenKind}
+use Rattle.protobuf_parse_syntax.specs.declared.lexer.token.TokenKind.TheVariants as kind
+
+-- the integer that digits of the class spell, if it fits; else a float
+abbrev pub integer_kind : ByteClass → ℕ → Bytes → TokenKind
+integer_kind c radix digits =
+    if list_all (is_in c) digits && nat_lt (digits_value radix digits) (2 ^ 64)
+    then kind.Integer (digits_value radix digits) else kind.Float
+
+-- a text that begins with a digit: `0x` or `0X` and digits, `0` and digits, or digits
+unfoldable pub number_kind : Bytes → TokenKind
+number_kind w =
+    if slice_index w 0 == 48 && nat_le 2 (length w)
+    then (if slice_index w 1 == 120 || slice_index w 1 == 88
+    then integer_kind class.Hex 16 (drop 2 w) else integer_kind class.Octal 8 (drop 1 w))
+    else integer_kind class.Digit 10 w
+
+unfoldable pub kind_of : Bytes → TokenKind
+kind_of w =
+    if is_in class.Digit (slice_index w 0) then number_kind w
+    else (if is_in class.Ident (slice_index w 0) then kind.Ident
+    else (if slice_index w 0 == 34 || slice_index w 0 == 39 then kind.Str
+    else (if slice_index w 0 == 46 && is_in class.Digit (slice_index w 1) then kind.Float
+    else kind.Symbol (slice_index w 0))))
