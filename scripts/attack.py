@@ -211,47 +211,56 @@ FIVE_FIELDS = """  optional int32 first_field = 1;
 """
 
 
-def with_options(n, statements):
-    """n messages of five fields, each with these statements."""
+def declared_options():
+    """Five options of messages, and the types that they have."""
     yield OPTIONS + "enum Level { LOW = 0; HIGH = 1; }\n"
     yield "message Tags { optional string name = 1; repeated int32 ids = 2; }\n"
     yield "extend google.protobuf.MessageOptions {\n"
     yield "  optional int32 weight = 50000; optional string owner = 50001;\n"
     yield "  optional bool shown = 50002; optional Level level = 50003;\n"
     yield "  optional Tags tags = 50004;\n}\n"
+
+
+def messages_with(n, statements):
+    """n messages of five fields, each with these statements."""
     for i in range(n):
         yield f"message Message{i} {{\n"
         yield from (f"  option {it};\n" for it in statements(i))
         yield FIVE_FIELDS + "}\n"
 
 
+def custom_statements(i):
+    """Five custom options."""
+    return [
+        f"(weight) = {i}",
+        f'(owner) = "team number {i}"',
+        "(shown) = true",
+        "(level) = HIGH",
+        '(tags) = { name: "some name" ids: [1, 2, 3] }',
+    ]
+
+
+def builtin_statements(_):
+    """Five statements of built-in options."""
+    return [
+        "deprecated = true",
+        "message_set_wire_format = false",
+        "no_standard_descriptor_accessor = true",
+        "map_entry = false",
+        "deprecated = false",
+    ]
+
+
 def customs(n):
     """n messages of five fields, each with five custom options."""
-    tags = '(tags) = { name: "some name" ids: [1, 2, 3] }'
-    yield from with_options(
-        n,
-        lambda i: [
-            f"(weight) = {i}",
-            f'(owner) = "team number {i}"',
-            "(shown) = true",
-            "(level) = HIGH",
-            tags,
-        ],
-    )
+    yield from declared_options()
+    yield from messages_with(n, custom_statements)
 
 
 def builtins(n):
     """The same messages with five statements of built-in options each."""
-    yield from with_options(
-        n,
-        lambda i: [
-            "deprecated = true",
-            "message_set_wire_format = false",
-            "no_standard_descriptor_accessor = true",
-            "map_entry = false",
-            "deprecated = false",
-        ],
-    )
+    yield from declared_options()
+    yield from messages_with(n, builtin_statements)
 
 
 def imports(n):
@@ -354,7 +363,10 @@ HELPERS = (
     word,
     colliding_front,
     colliding,
-    with_options,
+    declared_options,
+    messages_with,
+    custom_statements,
+    builtin_statements,
 )
 ATTACKS = {
     name: it for name, it in list(globals().items()) if callable(it) and it not in HELPERS

@@ -2,9 +2,14 @@
 use Rattle.std.proofs.Common.{◌≡◌, ℕ, zero, suc, ◌+◌, ◌<◌, List, [], ◌∷◌, ◌++◌, Bool, true, false}
 use Rattle.std.proofs.Common.{not, ◌&&◌, cond, if◌then◌else◌, refl, sym, ap, ◌∙◌, bytes_eq, map}
 use Rattle.std.proofs.Common.{filter, flat_map, length, length-append, get_or, subst, arith, nat_eq}
-use Rattle.std.proofs.Common.{Result, Ok, Err, ◌⊎◌, inl, inr}
+use Rattle.std.proofs.Common.{Result, Ok, Err, ◌⊎◌, inl, inr, None, Some}
+use Rattle.std.proofs.lemmas.Bool.Decides.{Decides-eqb}
+use Rattle.std.proofs.lemmas.Cmp.{nat_eq_equiv}
+use Rattle.std.proofs.lemmas.Map.Views.{list_any-from_Contains}
+use Rattle.protobuf_parse_model.specs.Tables.{listed_files, reached_faults}
+use Rattle.protobuf_parse_model.proofs.Tables.{same_number}
 use Rattle.std.specs.Prelude.{nat_lt, Contains, String}
-use Rattle.std.specs.BTreeMap.{btree_map_len, is_at}
+use Rattle.std.specs.BTreeMap.{is_at}
 use Rattle.std.specs.Global.{Global, Vec}
 use Rattle.std.specs.List.{list_any}
 use Rattle.std.specs.Map.{lookup}
@@ -40,25 +45,6 @@ use Rattle.protobuf_parse_model.specs.Tables.{times, times_declared, type_entry}
 use Rattle.protobuf_parse_model.proofs.Blaming.{among_left, among_right}
 use Rattle.protobuf_parse_model.proofs.FileOrder.{contains_number}
 use Rattle.protobuf_parse_model.proofs.Picks.{among, picked_among}
-
--- ---- where no name is listed
-
-no_items : {A : Type 0} (xs : List A) → length xs ≡ 0 → xs ≡ []
-no_items [] h = refl
-no_items (x ∷ xs) h = cc
-
-none_listed_at : (seen : Seen) → seen.declarations.now.repeated.entries ≡ []
-    → (file : ℕ) → listed_faults seen file ≡ []
-none_listed_at seen none file =
-    ap (λ (es : List (ℕ × Vec (String Global))).
-    flat_map (name_faults seen) (name_list (lookup (is_at (nat_cmp file)) es))) none
-
-pub none_listed : (seen : Seen) → btree_map_len seen.declarations.now.repeated ≡ 0
-    → (files : List ℕ) → flat_map (listed_faults seen) files ≡ []
-none_listed seen none [] = refl
-none_listed seen none (file ∷ files) =
-    rw (none_listed_at seen (no_items seen.declarations.now.repeated.entries none) file)
-    (none_listed seen none files)
 
 -- ---- how often a name is declared
 
@@ -382,10 +368,13 @@ module _ (seen : Seen) (files : List FileSyntax)
       (fault_when (nat_lt 1 (times_declared false seen name)) TypeDeclaredTwice name)
       (fault_when (nat_lt 1 (times_declared true seen name)) ExtensionDeclaredTwice name) e)
 
-  once : flat_map (listed_faults seen) seen.reach.now ≡ []
-      → (extension : Bool) (name : Text)
+  -- none of the names that are listed for files that are reached is declared twice
+  abbrev NoneTwice : Type 0
+  NoneTwice = (file : ℕ) → Contains seen.reach.now file → listed_faults seen file ≡ []
+
+  once : NoneTwice → (extension : Bool) (name : Text)
       → nat_lt 1 (occurrences name (names_reached extension)) ≡ false
-  once e extension name = ap (nat_lt 1) (sym (times_are extension name))
+  once none extension name = ap (nat_lt 1) (sym (times_are extension name))
       ∙ at (nat_lt 1 (times_declared extension seen name)) refl
     where
       at : (b : Bool) → nat_lt 1 (times_declared extension seen name) ≡ b
@@ -395,13 +384,13 @@ module _ (seen : Seen) (files : List FileSyntax)
           let one = is_listed extension name h in
           faults_none extension name
           (no_fault_at (name_faults seen) (listed_names seen.declarations.now one.0.file) name
-          (no_fault_at (listed_faults seen) seen.reach.now one.0.file e one.1) one.2)
+          (none one.0.file one.1) one.2)
 
-  faultless : flat_map (listed_faults seen) seen.reach.now ≡ [] → link_faults reached ≡ []
-  faultless e =
+  faultless : NoneTwice → link_faults reached ≡ []
+  faultless none =
       ap (λ fs. fs ++ flat_map (fault ExtensionDeclaredTwice) (repeated (names_reached true)))
-      (none_told TypeDeclaredTwice (names_reached false) (once e false) (names_reached false))
-      ∙ none_told ExtensionDeclaredTwice (names_reached true) (once e true) (names_reached true)
+      (none_told TypeDeclaredTwice (names_reached false) (once none false) (names_reached false))
+      ∙ none_told ExtensionDeclaredTwice (names_reached true) (once none true) (names_reached true)
 
   one_told : (extension : Bool) (kind : ElabErrorKind) (name : Text) (f : Fault) (b : Bool)
       → nat_lt 1 (times_declared extension seen name) ≡ b → Among (fault_when b kind name) f
@@ -444,10 +433,68 @@ module _ (seen : Seen) (files : List FileSyntax)
         | inr g ↦ files_told xs f g
       ]
 
+  -- gone through by the files that are reached
   pub links : (r : Result (Unit {0}) ElabFailure)
       → Elaborates {X = Unit {0}} {Y = Unit {0}} (λ u. u) r
       (flat_map (listed_faults seen) seen.reach.now) tt
       → Elaborates {X = Unit {0}} {Y = Unit {0}} (λ u. u) r (link_faults reached) tt
-  links (Ok u) h = (faultless h.0, h.1)
+  links (Ok u) h = (faultless (λ file member.
+      no_fault_at (listed_faults seen) seen.reach.now file h.0 member), h.1)
   links (Err failure.Memory) h = tt
   links (Err (failure.Fault e)) h = files_told seen.reach.now _ h
+
+  -- gone through by the files for which names are listed
+  in_reach : (file : ℕ) → Contains seen.reach.now file → list_any (nat_eq file) seen.reach.now ≡ true
+  in_reach file member = list_any-from_Contains nat_eq_equiv file seen.reach.now member
+
+  if_reached : (file : ℕ) (b : Bool) → b ≡ true
+      → (if b then listed_faults seen file else []) ≡ [] → listed_faults seen file ≡ []
+  if_reached file true is none = none
+  if_reached file false is none = absurd cc
+
+  at_entry : (file : ℕ) (es : List (ℕ × Vec (String Global)))
+      → flat_map (reached_faults seen) (map (λ (e : ℕ × Vec (String Global)). e.0) es) ≡ []
+      → (lookup (is_at (nat_cmp file)) es ≡ None) ⊎ (reached_faults seen file ≡ [])
+  at_entry file [] none = inl refl
+  at_entry file (e ∷ es) none = at (is_at (nat_cmp file) e.0) refl (at_entry file es
+      (append_nil_right (reached_faults seen e.0) _ none))
+    where
+      at : (b : Bool) → is_at (nat_cmp file) e.0 ≡ b
+          → (lookup (is_at (nat_cmp file)) es ≡ None) ⊎ (reached_faults seen file ≡ [])
+          → (cond b (Some e.1) (lookup (is_at (nat_cmp file)) es) ≡ None)
+          ⊎ (reached_faults seen file ≡ [])
+      at false h more = more
+      at true h more = inr (ap (reached_faults seen)
+          ((Decides-eqb file e.0).0 (sym (same_number file e.0) ∙ h))
+          ∙ append_nil_left (reached_faults seen e.0) _ none)
+
+  none_twice : flat_map (reached_faults seen) (listed_files seen.declarations.now) ≡ []
+      → NoneTwice
+  none_twice none file member =
+      elim (at_entry file seen.declarations.now.repeated.entries none) [
+        | inl e ↦ ap (λ o. flat_map (name_faults seen) (name_list o)) e
+        | inr e ↦ if_reached file (list_any (nat_eq file) seen.reach.now)
+            (in_reach file member) e
+      ]
+
+  listed_told : (files : List ℕ) (f : Fault) → Among (flat_map (reached_faults seen) files) f
+      → Among (link_faults reached) f
+  listed_told [] f h = elim h [ ]
+  listed_told (x ∷ xs) f h =
+      elim (among_cases (reached_faults seen x) (flat_map (reached_faults seen) xs) h) [
+        | inl g ↦ of_one (list_any (nat_eq x) seen.reach.now) g
+        | inr g ↦ listed_told xs f g
+      ]
+    where
+      of_one : (b : Bool) → Among (if b then listed_faults seen x else []) f
+          → Among (link_faults reached) f
+      of_one true g = names_told (listed_names seen.declarations.now x) f g
+      of_one false g = elim g [ ]
+
+  pub links_listed : (r : Result (Unit {0}) ElabFailure)
+      → Elaborates {X = Unit {0}} {Y = Unit {0}} (λ u. u) r
+      (flat_map (reached_faults seen) (listed_files seen.declarations.now)) tt
+      → Elaborates {X = Unit {0}} {Y = Unit {0}} (λ u. u) r (link_faults reached) tt
+  links_listed (Ok u) h = (faultless (none_twice h.0), h.1)
+  links_listed (Err failure.Memory) h = tt
+  links_listed (Err (failure.Fault e)) h = listed_told (listed_files seen.declarations.now) _ h

@@ -77,7 +77,7 @@ module _ (old new : BTreeMap (String Global) (Vec Declaration)) (name : String G
 
 -- ---- names that are declared more than once
 
-same_number : (x y : ℕ) → is_eq (nat_cmp x y) ≡ nat_eq x y
+pub same_number : (x y : ℕ) → is_eq (nat_cmp x y) ≡ nat_eq x y
 same_number x y = unsigned_tied x y
 
 module _ (old new : BTreeMap ℕ (Vec (String Global))) (file : ℕ)

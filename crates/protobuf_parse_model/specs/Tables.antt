@@ -5,7 +5,7 @@ use Rattle.std.specs.Prelude.{option_to_list, slice_get, if◌then◌else◌, Co
 use Rattle.std.specs.Prelude.{Option, Some, None, String}
 use Rattle.std.specs.List.{list_any}
 use Rattle.std.specs.Global.{Global, Vec}
-use Rattle.std.specs.BTreeMap.{BTreeMap, get}
+use Rattle.std.specs.BTreeMap.{BTreeMap, get, keys}
 use Rattle.std.specs.Ordering.{nat_cmp}
 use Rattle.protobuf_parse_syntax.specs.Trees.{FileSyntax}
 use Rattle.protobuf_parse_model.specs.declared.error.ElabErrorKind.TheVariants.{TypeDeclaredTwice}
@@ -145,3 +145,12 @@ name_faults seen name =
 -- the same for the names that are listed for a file
 abbrev pub listed_faults : Seen → ℕ → List Fault
 listed_faults seen file = flat_map (name_faults seen) (listed_names seen.declarations.now file)
+
+-- the files for which names are listed
+abbrev pub listed_files : Declarations → List ℕ
+listed_files table = keys table.repeated
+
+-- the same, if that file is reached
+abbrev pub reached_faults : Seen → ℕ → List Fault
+reached_faults seen file =
+    if list_any (nat_eq file) seen.reach.now then listed_faults seen file else []

@@ -8,7 +8,8 @@ ghost use Rattle.protobuf_parse_model.specs.declared.scope.seen.Declaration as d
 ghost use Rattle.protobuf_parse_model.specs.Faults.{Elaborates};
 ghost use Rattle.protobuf_parse_model.specs.FileOrder.{FilesAscend};
 ghost use Rattle.protobuf_parse_model.specs.Linking.{link_faults};
-ghost use Rattle.protobuf_parse_model.specs.Tables.{TableTells, is_of, listed_faults, listed_names};
+ghost use Rattle.protobuf_parse_model.specs.Tables.{TableTells, is_of, listed_faults, listed_files};
+ghost use Rattle.protobuf_parse_model.specs.Tables.{listed_names, reached_faults};
 ghost use Rattle.protobuf_parse_model.specs.Tables.{name_faults, picked, times};
 
 use crate::convert::refuse::fault;
@@ -28,26 +29,41 @@ pub fn link(alloc: Global, seen: &Seen<'_>) -> Result<(), ElabFailure>
     ensures { (files : List FileSyntax) → TableTells seen.now.declarations.now files →
         Elaborates (λ u. u) result (link_faults (picked files seen.now.reach.now)) tt }
 {
-    check_files(alloc, seen, seen.reach)
-}
-
-/// Refuses the first of the full names that are listed for these files that the files that are
-/// reached declare more than once.
-fn check_files(alloc: Global, seen: &Seen<'_>, files: &[u32]) -> Result<(), ElabFailure>
-    ensures { Elaborates (λ u. u) result (flat_map (listed_faults seen.now) files.now) tt }
-{
-    if seen.declarations.repeated.is_empty() {
-        return Ok(());
+    if seen.declarations.repeated.len() < seen.reach.len() {
+        return check_each_listed(alloc, seen);
     }
-    check_each_file(alloc, seen, files)
+    check_each_reached(alloc, seen)
 }
 
-/// The same, file by file.
+/// Refuses the first of the full names that are listed that the files that are reached declare more
+/// than once: goes through the files for which names are listed.
 #[tactic(auto, using(crate::proofs::Blaming::blames_one))]
-fn check_each_file(alloc: Global, seen: &Seen<'_>, files: &[u32]) -> Result<(), ElabFailure>
-    ensures { Elaborates (λ u. u) result (flat_map (listed_faults seen.now) files.now) tt }
+fn check_each_listed(alloc: Global, seen: &Seen<'_>) -> Result<(), ElabFailure>
+    ensures { Elaborates (λ u. u) result
+        (flat_map (reached_faults seen.now) (listed_files seen.now.declarations.now)) tt }
 {
-    for file in files {
+    for file in seen.declarations.repeated.keys() {
+        check_if_reached(alloc, seen, *file)?;
+    }
+    Ok(())
+}
+
+/// As [`check_file`], if that file is reached.
+fn check_if_reached(alloc: Global, seen: &Seen<'_>, file: u32) -> Result<(), ElabFailure>
+    ensures { Elaborates (λ u. u) result (reached_faults seen.now file) tt }
+{
+    if is_reached(seen, file) {
+        return check_file(alloc, seen, file);
+    }
+    Ok(())
+}
+
+/// The same as [`check_each_listed`]: goes through the files that are reached.
+#[tactic(auto, using(crate::proofs::Blaming::blames_one))]
+fn check_each_reached(alloc: Global, seen: &Seen<'_>) -> Result<(), ElabFailure>
+    ensures { Elaborates (λ u. u) result (flat_map (listed_faults seen.now) seen.now.reach.now) tt }
+{
+    for file in seen.reach {
         check_file(alloc, seen, *file)?;
     }
     Ok(())

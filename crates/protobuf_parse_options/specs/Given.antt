@@ -9,7 +9,7 @@ use Rattle.protobuf_parse_model.specs.SeenFiles.{name_texts}
 use Rattle.protobuf_parse_model.specs.Descriptors.{Text, FieldDescriptor}
 use Rattle.protobuf_parse_model.specs.Environment.{part_text, option_path_text}
 use Rattle.protobuf_parse_model.specs.Faults.{Fault}
-use Rattle.protobuf_parse_options.specs.declared.fields.OptionPlace.{OptionPlace}
+use Rattle.protobuf_parse_options.specs.declared.option_place.OptionPlace.{OptionPlace}
 use Rattle.protobuf_parse_options.specs.CustomFaults.{constant_name_faults, number_faults}
 use Rattle.protobuf_parse_options.specs.CustomFaults.{path_faults}
 use Rattle.protobuf_parse_options.specs.CustomFaults.{step_faults, constant_faults}

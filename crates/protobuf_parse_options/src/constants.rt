@@ -18,8 +18,9 @@ ghost use Rattle.protobuf_parse_options.specs.Holding.{files_seen};
 ghost use Rattle.protobuf_parse_options.specs.OptionFields.{type_takes, type_name_of};
 ghost use Rattle.protobuf_parse_wire.specs.Views.{entry_view};
 
-use crate::fields::{OptionPlace, constant_field, type_name_of};
+use crate::fields::{constant_field, type_name_of};
 use crate::lookup;
+use crate::option_place::OptionPlace;
 use crate::refuse::fault;
 use crate::strings::bytes_given;
 use crate::values::{check_integer, check_number, check_truth, check_value_name, push_item};

@@ -15,20 +15,12 @@ ghost use Rattle.protobuf_parse_options.specs.OptionFields.{constant_field, exte
 ghost use Rattle.protobuf_parse_options.specs.OptionFields.{extension_meant, extension_named};
 ghost use Rattle.protobuf_parse_options.specs.OptionFields.{field_named, part_field, type_name_of};
 
-use crate::known_files::KnownFiles;
 use crate::lookup;
+use crate::option_place::OptionPlace;
 use crate::refuse::fault;
 use protobuf_parse_model::{ElabErrorKind, ElabFailure, FieldDescriptorProto};
 use protobuf_parse_syntax::{ConstantFieldName, ProtobufOptionNamePart};
 use std::alloc::{AllocError, Global};
-
-/// From where options are seen.
-#[derive(Clone, Copy)]
-pub struct OptionPlace<'p, 'a> {
-    pub known: &'p KnownFiles<'a>,
-    /// The names of the package and of the messages around the construct, the outermost first.
-    pub scope: &'p [&'p str],
-}
 
 /// The full name of the field's message or enum.
 pub fn type_name_of(field: &FieldDescriptorProto) -> &str
@@ -73,21 +65,21 @@ fn named_extension<'a>(
     let Some(field) = lookup::extension_meant(alloc, at.known, at.scope, name)? else {
         return Err(fault(alloc, ElabErrorKind::ExtensionNotFound, name));
     };
-    if !extends_message(at.known, message, field) {
+    if !extends_message(at, message, field) {
         return Err(fault(alloc, ElabErrorKind::WrongExtensionType, name));
     }
     Ok(field)
 }
 
 /// Whether the field extends the message of that full name.
-fn extends_message(known: &KnownFiles<'_>, message: &str, field: &FieldDescriptorProto) -> bool
-    ensures { result ≡ extends_message (files_seen known.now.reach) message.now
+fn extends_message(at: &OptionPlace<'_, '_>, message: &str, field: &FieldDescriptorProto) -> bool
+    ensures { result ≡ extends_message (files_seen at.now.known.now.reach) message.now
         (field_view field.now) }
 {
     let Some(extendee) = &field.extendee else {
         return false;
     };
-    message == extendee.as_str() && lookup::is_message(known, message)
+    message == extendee.as_str() && at.is_message(message)
 }
 
 /// The field of the message that a part of an option's name means.

@@ -12,10 +12,10 @@ ghost use Rattle.protobuf_parse_options.specs.OptionFields.{field_named, number_
 ghost use Rattle.protobuf_parse_options.specs.OptionLaw.{HasSmallValues};
 ghost use Rattle.protobuf_parse_options.specs.Places.{extensions_inside, messages_inside};
 
-use crate::fields::OptionPlace;
+use crate::option_place::OptionPlace;
 use crate::picked_files::PickedFiles;
 use crate::places::DeclaredPlaces;
-use crate::statements::bytes_of;
+use crate::statements::{are_several, bytes_of, options_message};
 use protobuf_parse_model::{Construct, CustomOptions, ElabFailure};
 use protobuf_parse_syntax::ProtobufOption;
 use std::alloc::Global;
@@ -73,7 +73,8 @@ impl CustomOptions for KnownFiles<'_> {
         scope: &[&str],
         options: &[&ProtobufOption],
     ) -> Result<Vec<u8>, ElabFailure> {
-        let at = OptionPlace { known: self, scope };
+        let message = options_message(construct);
+        let at = OptionPlace::new(self, scope, message, are_several(options));
         bytes_of(alloc, &at, construct, options)
     }
 }

@@ -8,6 +8,7 @@ mod known_files;
 mod laws;
 mod lookup;
 mod members;
+mod option_place;
 mod paths;
 mod picked_files;
 mod places;

@@ -14,7 +14,8 @@ ghost use Rattle.protobuf_parse_options.specs.OptionFields.{messages, part_field
 ghost use Rattle.protobuf_parse_wire.specs.Views.{entry_view};
 
 use crate::constants::push_given;
-use crate::fields::{OptionPlace, part_field, type_name_of};
+use crate::fields::{part_field, type_name_of};
+use crate::option_place::OptionPlace;
 use crate::refuse::fault;
 use crate::values::{check_number, push_item};
 use protobuf_parse_model::{ElabErrorKind, ElabFailure, FieldDescriptorProto, FieldType};

@@ -14,7 +14,7 @@ ghost use Rattle.protobuf_parse_options.specs.Given.{option_place_view};
 ghost use Rattle.protobuf_parse_options.specs.OptionFields.{options_message};
 ghost use Rattle.protobuf_parse_wire.specs.Views.{entry_view};
 
-use crate::fields::OptionPlace;
+use crate::option_place::OptionPlace;
 use crate::paths::push_path;
 use crate::refuse::fault;
 use protobuf_parse_model::{Construct, ElabErrorKind, ElabFailure, has_builtin_option};
@@ -122,7 +122,7 @@ fn plain_first(alloc: Global, construct: Construct, name: &str) -> ElabFailure
 }
 
 /// The full name of the message that holds the options of the construct.
-fn options_message(construct: Construct) -> &'static str
+pub fn options_message(construct: Construct) -> &'static str
     ensures { result.now ≡ options_message construct }
 {
     match construct {
@@ -135,4 +135,18 @@ fn options_message(construct: Construct) -> &'static str
         Construct::Service => ".google.protobuf.ServiceOptions",
         Construct::Method => ".google.protobuf.MethodOptions",
     }
+}
+
+/// Whether more than one of the options is a custom one.
+pub fn are_several(options: &[&ProtobufOption]) -> bool {
+    let mut has_one = false;
+    for option in options {
+        if let ProtobufOptionName::Custom(_) = option.name {
+            if has_one {
+                return true;
+            }
+            has_one = true;
+        }
+    }
+    false
 }

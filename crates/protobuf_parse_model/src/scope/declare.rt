@@ -195,8 +195,40 @@ pub fn add_name(
     put(table, alloc, name, declaration)
 }
 
-/// Adds a declaration of that full name, which is listed where it has one already.
+/// Adds a declaration of that full name.
 fn put(
+    table: &mut Declarations,
+    alloc: Global,
+    name: String,
+    declaration: Declaration,
+) -> Result<(), AllocError>
+    ensures { OnOk result (AddsOne table.old table.new (string_bytes name) declaration) }
+{
+    if declarations_of(table, &name).is_empty() {
+        return put_first(table, alloc, name, declaration);
+    }
+    put_again(table, alloc, name, declaration)
+}
+
+/// Adds the first declaration of that full name.
+fn put_first(
+    table: &mut Declarations,
+    alloc: Global,
+    name: String,
+    declaration: Declaration,
+) -> Result<(), AllocError>
+    requires { declared_as table.old (string_bytes name) ≡ [] }
+    ensures { OnOk result (AddsOne table.old table.new (string_bytes name) declaration) }
+{
+    let in_order = table.in_order;
+    table.in_order = false;
+    add_last(&mut table.by_name, alloc, name, declaration)?;
+    table.in_order = in_order;
+    Ok(())
+}
+
+/// Adds a declaration of that full name, which is listed where it has one already.
+fn put_again(
     table: &mut Declarations,
     alloc: Global,
     name: String,

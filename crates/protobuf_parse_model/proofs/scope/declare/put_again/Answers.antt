@@ -6,7 +6,7 @@ use Rattle.protobuf_parse_model.specs.FileOrder.{FilesAscend, listed}
 use Rattle.protobuf_parse_model.specs.SeenFiles.{declared_as}
 use Rattle.protobuf_parse_model.specs.Tables.{ListsOne}
 use Rattle.protobuf_parse_model.proofs.Tables.{adds_one}
-use Rattle.protobuf_parse_model.proofs.scope.declare.put.Goals as goal
+use Rattle.protobuf_parse_model.proofs.scope.declare.put_again.Goals as goal
 
 pub invariant_of-table-2 : goal.invariant_of-table-2
 invariant_of-table-2 c =
