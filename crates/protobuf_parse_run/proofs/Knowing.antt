@@ -6,7 +6,7 @@ use Rattle.std.specs.Prelude.{bytes_eq, slice_get, string_bytes}
 use Rattle.std.proofs.lemmas.List.{map-append}
 use Rattle.protobuf_parse_base.specs.PathViews.{path_buf_text}
 use Rattle.protobuf_parse_syntax.specs.Dependencies.{imported, imports}
-use Rattle.protobuf_parse_syntax.specs.Trees.{FileSyntax, ImportSyntax, StatementSyntax, file_view}
+use Rattle.protobuf_parse_syntax.specs.Trees.{FileSyntax, ImportSyntax, StatementSyntax}
 use Rattle.protobuf_parse_model.specs.Descriptors.{Text}
 use Rattle.protobuf_parse_model.specs.FilesByPath.{AreDistinct, Leads, leads, stays}
 use Rattle.protobuf_parse_model.specs.Tables.{TableTells}
@@ -20,7 +20,7 @@ use Rattle.protobuf_parse_run.specs.Loading.{AreUnloaded, IndexBegins, LoadedEnt
 use Rattle.protobuf_parse_run.specs.Loading.{IsAddedOver}
 use Rattle.protobuf_parse_run.specs.Loading.{IsMetAt}
 use Rattle.protobuf_parse_run.specs.Loading.{Named, file_at, held, named_trees, paths_in, plain_in}
-use Rattle.protobuf_parse_run.specs.Loading.{read_paths, trees_of, with_next}
+use Rattle.protobuf_parse_run.specs.Loading.{read_paths, tree_in, trees_of, with_next}
 use Rattle.protobuf_parse_run.specs.declared.loader.Placed.{Placed}
 use Rattle.protobuf_parse_run.specs.declared.log.ReadEntry.{ReadEntry}
 use Rattle.protobuf_parse_run.specs.declared.reach.Held.{Held}
@@ -215,7 +215,7 @@ module _ (path : Text) (tree : FileSyntax) (height read : ℕ) (imports public :
   x = (a.key, a.file)
 
   name-is : name_of x ≡ (path, tree)
-  name-is = ap (λ (z : Text). (z, file_view a.file.tree)) a.named
+  name-is = ap (λ (z : Text). (z, tree_in a.file)) a.named
       ∙ ap (λ (z : FileSyntax). (path, z)) a.tree_is
 
   module _ (trees : Trees) (agrees : Agrees trees (named_trees old ++ (path, tree) ∷ [])) where

@@ -7,11 +7,11 @@ use Rattle.std.proofs.lemmas.List.{flat_map_more, take_more, map-append, length-
 use Rattle.std.proofs.lemmas.List.Elements.{Contains-append_left, Contains-append_right}
 use Rattle.std.proofs.lemmas.List.Elements.{Contains-append_cases, Contains-push}
 use Rattle.std.proofs.lemmas.Option.{slice_get-map}
-use Rattle.protobuf_parse_syntax.specs.Trees.{FileSyntax, file_view}
+use Rattle.protobuf_parse_syntax.specs.Trees.{FileSyntax}
 use Rattle.protobuf_parse_model.specs.Descriptors.{Text}
 use Rattle.protobuf_parse_run.specs.Walks.{among}
 use Rattle.protobuf_parse_run.specs.Loading.{AreJoined, FilesAreNumbered, AreNumbersOf, LoadedEntry}
-use Rattle.protobuf_parse_run.specs.Loading.{IsNumbered}
+use Rattle.protobuf_parse_run.specs.Loading.{IsNumbered, tree_in}
 use Rattle.protobuf_parse_run.specs.Loading.{Named, held, held_at, named_trees}
 use Rattle.protobuf_parse_run.specs.declared.reach.Held.{Held}
 use Rattle.protobuf_parse_run.proofs.Keeping.{bool_cases, or_left, text-same, text-true}
@@ -20,7 +20,7 @@ use Rattle.protobuf_parse_run.proofs.Steps.{get-more, get-seam}
 -- ** names and trees of loaded files
 
 abbrev pub name_of : LoadedEntry → Named
-name_of e = (string_bytes e.0, file_view e.1.tree)
+name_of e = (string_bytes e.0, tree_in e.1)
 
 pub named-push : (loaded : List LoadedEntry) (x : LoadedEntry)
     → named_trees (loaded ++ x ∷ []) ≡ named_trees loaded ++ name_of x ∷ []
@@ -54,9 +54,9 @@ pub numbered-at : (loaded : List LoadedEntry) (n : ℕ) (e : LoadedEntry) (p : T
     → slice_get loaded n ≡ Some e
     → string_bytes e.0 ≡ p → IsNumbered (named_trees loaded) n p
 numbered-at loaded n e p there is = (
-  file_view e.1.tree,
+  tree_in e.1,
   name-at loaded n e there
-      ∙ ap (λ (z : Text). Some (z, file_view e.1.tree)) is,
+      ∙ ap (λ (z : Text). Some (z, tree_in e.1)) is,
 )
 
 pub numbered-more : (files more : List Named) (n : ℕ) (q : Text) → IsNumbered files n q

@@ -6,7 +6,6 @@ use Rattle.std.specs.Global.{Vec}
 use Rattle.std.specs.List.{AllByRecursion}
 use Rattle.protobuf_parse_model.specs.Descriptors.{Text}
 use Rattle.protobuf_parse_model.specs.declared.descriptor.FileDescriptorProto.{FileDescriptorProto}
-use Rattle.protobuf_parse_syntax.specs.Trees.{file_view}
 use Rattle.protobuf_parse_run.specs.declared.fault.RunFault.{RunFault}
 use Rattle.protobuf_parse_run.specs.declared.fault.RunFault.TheVariants as fault
 use Rattle.protobuf_parse_run.specs.declared.log.ReadEntry.{ReadEntry}
@@ -18,6 +17,7 @@ use Rattle.protobuf_parse_run.specs.Run.{shipped}
 use Rattle.protobuf_parse_run.specs.Run.{HaveTrees, RunsAsTold, MayAnswer}
 use Rattle.protobuf_parse_run.specs.Shipped.{IsNeverAsked, RunsByResolver, RunsWithShipped}
 use Rattle.protobuf_parse_run.specs.Loading.{Legal, LoadedEntry, Good, Stops, IsLoaded, paths_of}
+use Rattle.protobuf_parse_run.specs.Loading.{tree_in}
 use Rattle.protobuf_parse_base.specs.PathViews.{path_buf_text}
 use Rattle.protobuf_parse_base.specs.declared.proto_path.path.ProtoPathBuf.{ProtoPathBuf}
 use Rattle.protobuf_parse_run.proofs.AskedOnce.{all-asked-once, paths-named, told-of}
@@ -53,7 +53,7 @@ module _ (legal : Legal) (files : Files) (told : List Event) where
       → AreDescriptors files (paths_of loaded) (map (λ (e : LoadedEntry). e.1.descriptor) loaded)
   are-descriptors log [] h = tt
   are-descriptors log (e ∷ loaded) h =
-      ((file_view e.1.tree, h.0.is, h.0.descriptor), are-descriptors log loaded h.1)
+      ((tree_in e.1, h.0.is, h.0.descriptor), are-descriptors log loaded h.1)
 
   pub accepted : (loaded : List LoadedEntry) (ds : List FileDescriptorProto)
       → Good legal files told loaded files.reads []

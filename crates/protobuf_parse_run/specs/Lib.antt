@@ -3,6 +3,7 @@ pub mod Run
 pub mod Loading
 pub mod Loaded
 pub mod Frames
+pub mod Calls
 pub mod Stability
 pub mod Recovered
 pub mod Shipped

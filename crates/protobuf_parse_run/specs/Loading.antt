@@ -107,12 +107,16 @@ pub record IndexBegins (places : RunPlaces) (plains : List FileDescriptor) : Typ
 
 -- ---- the numbers of loaded files
 
+-- the tree that a loaded file had
+abbrev pub tree_in : LoadedFile → FileSyntax
+tree_in file = file_view file.tree.value
+
 -- the paths and the trees of the loaded files, in their order
 abbrev pub Named : Type 0
 Named = Text × FileSyntax
 
 abbrev pub named_trees : List LoadedEntry → List Named
-named_trees loaded = map (λ (e : LoadedEntry). (string_bytes e.0, file_view e.1.tree)) loaded
+named_trees loaded = map (λ (e : LoadedEntry). (string_bytes e.0, tree_in e.1)) loaded
 
 abbrev pub trees_of : List Named → List FileSyntax
 trees_of files = map (λ (f : Named). f.1) files
@@ -263,14 +267,14 @@ abbrev pub imports_shape : Trees → List Text → WalkShape
 imports_shape trees paths =
     λ i a room chain. walks_joined (walk trees i the_resolver room chain) paths
 
--- a loaded file has the tree of its path, and is what that becomes
+-- a loaded file had the tree of its path, and is what that becomes
 pub record IsLoaded (files : Files) (log : List ReadEntry) (path : Text)
     (file : LoadedFile) : Type 0 where
   pub low : file.height ≤ 100
-  pub is : files.trees path ≡ Some (file_view file.tree)
+  pub is : files.trees path ≡ Some (tree_in file)
   pub descriptor : described.file_view file.descriptor
-      ≡ file_of (environment_of files path (file_view file.tree)) path (file_view file.tree)
-  pub plain : plain_or file.plain file.descriptor ≡ plain_of files path (file_view file.tree)
+      ≡ file_of (environment_of files path (tree_in file)) path (tree_in file)
+  pub plain : plain_or file.plain file.descriptor ≡ plain_of files path (tree_in file)
   pub entry : ReadEntry
   pub read : slice_get log file.read ≡ Some entry
   pub named : path_buf_text entry.path ≡ path
@@ -383,7 +387,7 @@ abbrev pub Goes : Legal → Files → List Event → List LoadedEntry → List R
 Goes legal files events loaded log (Ok _) = Good legal files events loaded log []
 Goes legal files events loaded log (Err f) = Stops legal files events log f
 
--- A file was added for this path: it has this tree, in which no fault stands, and is what that
+-- A file was added for this path: it had this tree, in which no fault stands, and is what that
 -- becomes.
 pub record IsAdded (files : Files) (path : Text) (tree : FileSyntax) (height read : ℕ)
     (old new : List LoadedEntry) (placed : Placed) : Type 0 where
@@ -391,7 +395,7 @@ pub record IsAdded (files : Files) (path : Text) (tree : FileSyntax) (height rea
   pub file : LoadedFile
   pub entries : new ≡ old ++ (key, file) ∷ []
   pub named : string_bytes key ≡ path
-  pub tree_is : file_view file.tree ≡ tree
+  pub tree_is : tree_in file ≡ tree
   pub height_is : file.height ≡ height
   pub read_is : file.read ≡ read
   pub faultless : faults_at files path (Some tree) ≡ []
@@ -463,7 +467,7 @@ pub record IsAddedOver (path : Text) (tree : FileSyntax) (height read : ℕ) (im
   pub sight : List ℕ
   pub entries : new ≡ old ++ (key, file) ∷ []
   pub named : string_bytes key ≡ path
-  pub tree_is : file_view file.tree ≡ tree
+  pub tree_is : tree_in file ≡ tree
   pub height_is : file.height ≡ height
   pub read_is : file.read ≡ read
   pub reaches : AreJoined held_as.Reach old imports file.reach.items

@@ -144,11 +144,18 @@ checks kept (at p own) = if has (load the_resolver p) kept then check (length (r
 abbrev pub input_walk : Trees → Input → List Event
 input_walk trees i = walk trees (input_name i) (asked_of i) 100 [] (input_name i)
 
--- what is kept after the walks of these inputs in turn, each from the empty chain
+-- what is kept after the check of this input
+abbrev pub with_check : Input → Trees → List Event → List Event
+with_check i trees kept = kept ++ checks kept i
+
+-- and after its walk, from the empty chain
+abbrev pub with_input : Input → Trees → List Event → List Event
+with_input i trees kept = keep (with_check i trees kept) (input_walk trees i)
+
+-- what is kept after these inputs in turn
 unfoldable pub events_after : Trees → List Event → List Input → List Event
 events_after trees kept [] = kept
-events_after trees kept (i ∷ inputs) =
-    events_after trees (keep (kept ++ checks kept i) (input_walk trees i)) inputs
+events_after trees kept (i ∷ inputs) = events_after trees (with_input i trees kept) inputs
 
 -- the events of a run
 abbrev pub events : Trees → List Input → List Event

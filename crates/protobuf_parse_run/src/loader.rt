@@ -51,6 +51,7 @@ use protobuf_parse_model::{ElabError, ElabFailure, FileDescriptorProto};
 use protobuf_parse_syntax::{FileStatement, FileTree, ImportVis};
 use std::alloc::{AllocError, Global};
 use std::mem;
+use std::snapshot::Snapshot;
 
 /// How many files an import chain may have.
 pub const LIMIT: usize = 100;
@@ -58,7 +59,8 @@ pub const LIMIT: usize = 100;
 /// A file whose imports are loaded, and which became a descriptor.
 #[derive(Drop)]
 pub struct LoadedFile {
-    pub tree: FileTree,
+    /// Its tree, for clauses alone: it has no bytes here.
+    pub tree: Snapshot<FileTree>,
     /// How many files the longest import chain from it has, itself counted.
     pub height: usize,
     /// The numbers of the files that it reaches, its own among them, ascending.
@@ -113,19 +115,11 @@ pub fn load_inputs<R: ProtoPathResolver, I: InputReader>(
     requires reads { loader.old.reads.items ≡ [] }
     requires chain { loader.old.chain.items ≡ [] }
     requires meets { loader.old.meets ≡ 0 }
-    ensures goes { (files : Files)
-        → let legal = legal_by R.may_answer I.may_read sources.now in
-        GoesOn files (rows sources.now.bundled.now) loader.new.reads.items
-        → Goes legal files (events files.trees (map input_view inputs.now))
-        loader.new.loaded.entries loader.new.reads.items result }
-    ensures count { (files : Files)
-        → GoesOn files (rows sources.now.bundled.now) loader.new.reads.items
-        → IsCounted loader.new.meets
-        (length inputs.now + import_statements files.trees
-        (events files.trees (map input_view inputs.now))) result }
+    ensures goes { GoesThrough R.may_answer I.may_read sources.now (map input_view inputs.now)
+        loader.new result }
+    ensures count { CountsThrough sources.now (map input_view inputs.now) loader.new result }
     ensures decided { IsDecided (rows sources.now.bundled.now) loader.new.reads.items }
-    ensures known { OnOk result
-        (AreKnown loader.new.loaded.entries loader.new.tables loader.new.reads.items) }
+    ensures known { OnOk result (KnowsFiles loader.new) }
 {
     for input in inputs {
         load_input(alloc, loader, sources, input)?;
@@ -141,32 +135,17 @@ fn load_input<R: ProtoPathResolver, I: InputReader>(
     input: &RunInput,
 ) -> Result<(), RunFault>
     requires chain { loader.old.chain.items ≡ [] }
-    requires known { AreKnown loader.old.loaded.entries loader.old.tables loader.old.reads.items }
-    requires room { loader.old.meets + 1 ≤ 2 ^ 65 + length loader.old.reads.items * 2 ^ 64 }
+    requires known { KnowsFiles loader.old }
+    requires room { CanMeet loader.old }
     ensures grows { Grows loader.old.reads.items loader.new.reads.items }
     ensures chain { OnOk result (loader.new.chain.items ≡ []) }
-    ensures bound { OnOk result (loader.new.meets + length loader.old.reads.items * 2 ^ 64
-        ≤ loader.old.meets + 1 + length loader.new.reads.items * 2 ^ 64) }
-    ensures goes { (files : Files) (kept : List Event)
-        → let legal = legal_by R.may_answer I.may_read sources.now in
-        GoesOn files (rows sources.now.bundled.now) loader.new.reads.items
-        → Good legal files kept loader.old.loaded.entries loader.old.reads.items []
-        → Goes legal files
-        (keep (kept ++ checks kept (input_view input.now))
-        (input_walk files.trees (input_view input.now))) loader.new.loaded.entries
-        loader.new.reads.items result }
-    ensures count { (files : Files) (kept : List Event)
-        → let legal = legal_by R.may_answer I.may_read sources.now in
-        GoesOn files (rows sources.now.bundled.now) loader.new.reads.items
-        → Good legal files kept loader.old.loaded.entries loader.old.reads.items []
-        → IsCounted (loader.new.meets + import_statements files.trees kept)
-        (loader.old.meets + 1 + import_statements files.trees
-        (keep (kept ++ checks kept (input_view input.now))
-        (input_walk files.trees (input_view input.now)))) result }
-    ensures decided { IsDecided (rows sources.now.bundled.now) loader.old.reads.items
-        → IsDecided (rows sources.now.bundled.now) loader.new.reads.items }
-    ensures known { OnOk result
-        (AreKnown loader.new.loaded.entries loader.new.tables loader.new.reads.items) }
+    ensures bound { OnOk result (MeetsFew loader.old loader.new) }
+    ensures goes { GoesTo R.may_answer I.may_read sources.now (with_input (input_view input.now))
+        loader.old loader.new result }
+    ensures count { CountsTo R.may_answer I.may_read sources.now (with_input (input_view input.now))
+        loader.old loader.new result }
+    ensures decided { StaysDecided sources.now loader.old loader.new }
+    ensures known { OnOk result (KnowsFiles loader.new) }
 {
     match input {
         RunInput::Named(name) => load_file(alloc, loader, sources, name, None),
@@ -186,21 +165,16 @@ fn check_loaded<R: ProtoPathResolver, I: InputReader>(
     name: &ProtoPathBuf,
     fs_path: &str,
 ) -> Result<(), RunFault>
-    requires known { AreKnown loader.old.loaded.entries loader.old.tables loader.old.reads.items }
+    requires known { KnowsFiles loader.old }
     ensures chain { loader.new.chain ≡ loader.old.chain }
     ensures loaded { loader.new.loaded ≡ loader.old.loaded }
     ensures names { loader.new.tables ≡ loader.old.tables }
     ensures meets { loader.new.meets ≡ loader.old.meets }
     ensures grows { Grows loader.old.reads.items loader.new.reads.items }
     ensures more { length loader.old.reads.items ≤ length loader.new.reads.items }
-    ensures goes { (files : Files) (kept : List Event)
-        → let legal = legal_by R.may_answer I.may_read sources.now in
-        GoesOn files (rows sources.now.bundled.now) loader.new.reads.items
-        → Good legal files kept loader.old.loaded.entries loader.old.reads.items []
-        → Goes legal files (kept ++ checks kept (at (path_buf_text name.now) fs_path.now))
-        loader.new.loaded.entries loader.new.reads.items result }
-    ensures decided { IsDecided (rows sources.now.bundled.now) loader.old.reads.items
-        → IsDecided (rows sources.now.bundled.now) loader.new.reads.items }
+    ensures goes { GoesTo R.may_answer I.may_read sources.now
+        (with_check (at (path_buf_text name.now) fs_path.now)) loader.old loader.new result }
+    ensures decided { StaysDecided sources.now loader.old loader.new }
 {
     let read = match loader.loaded.find(name.as_path().to_str()) {
         Some((_, file)) => file.read,
@@ -306,32 +280,17 @@ fn load_file<R: ProtoPathResolver, I: InputReader>(
     fs_path: Option<&str>,
 ) -> Result<(), RunFault>
     requires chain { loader.old.chain.items ≡ [] }
-    requires known { AreKnown loader.old.loaded.entries loader.old.tables loader.old.reads.items }
-    requires room { loader.old.meets + 1 ≤ 2 ^ 65 + length loader.old.reads.items * 2 ^ 64 }
+    requires known { KnowsFiles loader.old }
+    requires room { CanMeet loader.old }
     ensures grows { Grows loader.old.reads.items loader.new.reads.items }
     ensures chain { OnOk result (loader.new.chain.items ≡ []) }
-    ensures bound { OnOk result (loader.new.meets + length loader.old.reads.items * 2 ^ 64
-        ≤ loader.old.meets + 1 + length loader.new.reads.items * 2 ^ 64) }
-    ensures goes { (files : Files) (kept : List Event)
-        → let legal = legal_by R.may_answer I.may_read sources.now in
-        let p = path_buf_text input.now in
-        GoesOn files (rows sources.now.bundled.now) loader.new.reads.items
-        → Good legal files kept loader.old.loaded.entries loader.old.reads.items []
-        → Goes legal files
-        (keep kept (walk files.trees p (asked_by fs_path.entry) LIMIT [] p))
-        loader.new.loaded.entries loader.new.reads.items result }
-    ensures count { (files : Files) (kept : List Event)
-        → let legal = legal_by R.may_answer I.may_read sources.now in
-        let p = path_buf_text input.now in
-        GoesOn files (rows sources.now.bundled.now) loader.new.reads.items
-        → Good legal files kept loader.old.loaded.entries loader.old.reads.items []
-        → IsCounted (loader.new.meets + import_statements files.trees kept)
-        (loader.old.meets + 1 + import_statements files.trees
-        (keep kept (walk files.trees p (asked_by fs_path.entry) LIMIT [] p))) result }
-    ensures decided { IsDecided (rows sources.now.bundled.now) loader.old.reads.items
-        → IsDecided (rows sources.now.bundled.now) loader.new.reads.items }
-    ensures known { OnOk result
-        (AreKnown loader.new.loaded.entries loader.new.tables loader.new.reads.items) }
+    ensures bound { OnOk result (MeetsFew loader.old loader.new) }
+    ensures goes { GoesTo R.may_answer I.may_read sources.now
+        (with_file (asked_by fs_path.entry) (path_buf_text input.now)) loader.old loader.new result }
+    ensures count { CountsTo R.may_answer I.may_read sources.now
+        (with_file (asked_by fs_path.entry) (path_buf_text input.now)) loader.old loader.new result }
+    ensures decided { StaysDecided sources.now loader.old loader.new }
+    ensures known { OnOk result (KnowsFiles loader.new) }
 {
     let first = meet(alloc, loader, sources, input, input, fs_path)?;
     let mut top = match first {
@@ -380,19 +339,12 @@ fn meet<R: ProtoPathResolver, I: InputReader>(
     ensures names { loader.new.tables ≡ loader.old.tables }
     ensures meets { loader.new.meets ≡ loader.old.meets + 1 }
     ensures grows { Grows loader.old.reads.items loader.new.reads.items }
-    ensures decided { IsDecided (rows sources.now.bundled.now) loader.old.reads.items
-        → IsDecided (rows sources.now.bundled.now) loader.new.reads.items }
+    ensures decided { StaysDecided sources.now loader.old loader.new }
     ensures stands { StandsMet (chain_texts loader.old.chain.items)
         (path_buf_text path.now) loader.old.loaded.entries loader.old.reads.items
         (chain_texts loader.new.chain.items) loader.new.reads.items result }
-    ensures leaves { (files : Files) (kept : List Event)
-        → let legal = legal_by R.may_answer I.may_read sources.now in
-        GoesOn files (rows sources.now.bundled.now) loader.new.reads.items
-        → Good legal files kept loader.old.loaded.entries loader.old.reads.items
-        (chain_texts loader.old.chain.items)
-        → Meets legal files kept (path_buf_text input.now) (asked_by fs_path.entry)
-        (chain_texts loader.old.chain.items)
-        (path_buf_text path.now) loader.old.loaded.entries loader.new.reads.items result }
+    ensures leaves { MeetsAt R.may_answer I.may_read sources.now (path_buf_text input.now)
+        (asked_by fs_path.entry) (path_buf_text path.now) loader.old loader.new result }
 {
     loader.meets += 1;
     let text = path.as_path().to_str();
@@ -443,20 +395,7 @@ fn is_public_next(statements: &[FileStatement], number: usize) -> bool
     ensures { result ≡ is_public_at (slice_get statements.now number) }
 {
     match statements.get(number) {
-        Some(statement) => imports_publicly(statement),
-        None => false,
-    }
-}
-
-/// Whether a statement is a public import.
-fn imports_publicly(statement: &FileStatement) -> bool
-    ensures { result ≡ is_public_at (Some statement.now) }
-{
-    match statement {
-        FileStatement::Import(import) => match import.vis {
-            ImportVis::Public => true,
-            ImportVis::Default | ImportVis::Weak => false,
-        },
+        Some(FileStatement::Import(import)) => matches!(import.vis, ImportVis::Public),
         _ => false,
     }
 }
@@ -637,7 +576,7 @@ fn settle(
         ..
     } = sights;
     let file = LoadedFile {
-        tree,
+        tree: Snapshot::of(&tree),
         height,
         reach,
         handed_on,
