@@ -4,6 +4,7 @@ use Rattle.std.specs.Prelude.{ℕ, ◌^◌, ◌&&◌, ◌||◌, ◌==◌, if◌t
 use Rattle.std.specs.Prelude.{slice_index, drop}
 use Rattle.std.specs.List.{list_all}
 use Rattle.std.specs.Str.Parse.{digits_value}
+use Rattle.protobuf_parse_base.specs.Characters as char
 use Rattle.protobuf_parse_syntax.specs.Text.{Bytes, is_in}
 use Rattle.protobuf_parse_syntax.specs.declared.lexer.bytes.ByteClass.{ByteClass}
 use Rattle.protobuf_parse_syntax.specs.declared.lexer.bytes.ByteClass.TheVariants as class
@@ -19,8 +20,8 @@ integer_kind c radix digits =
 -- a text that begins with a digit: `0x` or `0X` and digits, `0` and digits, or digits
 unfoldable pub number_kind : Bytes → TokenKind
 number_kind w =
-    if slice_index w 0 == 48 && nat_le 2 (length w)
-    then (if slice_index w 1 == 120 || slice_index w 1 == 88
+    if slice_index w 0 == char.zero && nat_le 2 (length w)
+    then (if slice_index w 1 == char.small_x || slice_index w 1 == char.capital_x
     then integer_kind class.Hex 16 (drop 2 w) else integer_kind class.Octal 8 (drop 1 w))
     else integer_kind class.Digit 10 w
 
@@ -28,6 +29,6 @@ unfoldable pub kind_of : Bytes → TokenKind
 kind_of w =
     if is_in class.Digit (slice_index w 0) then number_kind w
     else (if is_in class.Ident (slice_index w 0) then kind.Ident
-    else (if slice_index w 0 == 34 || slice_index w 0 == 39 then kind.Str
-    else (if slice_index w 0 == 46 && is_in class.Digit (slice_index w 1) then kind.Float
+    else (if slice_index w 0 == char.quote || slice_index w 0 == char.apostrophe then kind.Str
+    else (if slice_index w 0 == char.dot && is_in class.Digit (slice_index w 1) then kind.Float
     else kind.Symbol (slice_index w 0))))
