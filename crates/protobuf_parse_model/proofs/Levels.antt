@@ -1,20 +1,15 @@
 -- One level of what nests: a body's statements one after another, and a message inside another as a
 -- message.
-use Rattle.std.proofs.Common.{Option, Some, None, ◌≡◌, ℕ, ◌+◌, List, [], ◌∷◌, ◌++◌, flat_map}
+use Rattle.std.proofs.Common.{◌≡◌, ℕ, ◌+◌, List, [], ◌∷◌, ◌++◌, flat_map}
 use Rattle.std.proofs.Common.{length, length-append, refl, sym, ap, ◌∙◌, arith, append_assoc}
-use Rattle.std.specs.List.{last_or}
-use Rattle.std.proofs.lemmas.Grind.{flat_map-append}
-use Rattle.std.proofs.lemmas.List.{append-nil}
-use Rattle.protobuf_parse_syntax.specs.Trees.{OptionSyntax, MessageStatementSyntax, MessageSyntax}
+use Rattle.protobuf_parse_syntax.specs.Trees.{MessageStatementSyntax, MessageSyntax}
 use Rattle.protobuf_parse_syntax.specs.Trees.{message_statements, nested_message}
-use Rattle.protobuf_parse_model.specs.Descriptors.{Text}
 use Rattle.protobuf_parse_model.specs.Statements.{message_body_is}
 use Rattle.protobuf_parse_model.specs.Declarations.{Scope, types_of, types_in, message_types}
 use Rattle.protobuf_parse_model.specs.Declarations.{extensions_of, extensions_in, generated_of}
 use Rattle.protobuf_parse_model.specs.Declarations.{generated_in, inside}
 use Rattle.protobuf_parse_model.specs.Environment as environment
 use Rattle.protobuf_parse_model.specs.Environment.{Environment}
-use Rattle.protobuf_parse_model.specs.BuiltinOptions.{value_if_named, values_named, last_value}
 use Rattle.protobuf_parse_model.specs.Messages.{oneofs_of, fields_of, fields_from, nested_of}
 use Rattle.protobuf_parse_model.specs.Messages.{nested_in, message_of, statement_faults, faults_in}
 use Rattle.protobuf_parse_model.specs.Messages.{message_faults}

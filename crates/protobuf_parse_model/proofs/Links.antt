@@ -438,14 +438,17 @@ module _ (seen : Seen) (files : List FileSyntax)
       → Elaborates {X = Unit {0}} {Y = Unit {0}} (λ u. u) r
       (flat_map (listed_faults seen) seen.reach.now) tt
       → Elaborates {X = Unit {0}} {Y = Unit {0}} (λ u. u) r (link_faults reached) tt
-  links (Ok u) h = (faultless (λ file member.
-      no_fault_at (listed_faults seen) seen.reach.now file h.0 member), h.1)
+  links (Ok u) h = (
+    faultless (λ file member.
+        no_fault_at (listed_faults seen) seen.reach.now file h.0 member),
+    h.1,
+  )
   links (Err failure.Memory) h = tt
   links (Err (failure.Fault e)) h = files_told seen.reach.now _ h
 
   -- gone through by the files for which names are listed
-  in_reach : (file : ℕ) → Contains seen.reach.now file → list_any (nat_eq file) seen.reach.now ≡ true
-  in_reach file member = list_any-from_Contains nat_eq_equiv file seen.reach.now member
+  among_reached : (file : ℕ) → Contains seen.reach.now file → list_any (nat_eq file) seen.reach.now ≡ true
+  among_reached file member = list_any-from_Contains nat_eq_equiv file seen.reach.now member
 
   if_reached : (file : ℕ) (b : Bool) → b ≡ true
       → (if b then listed_faults seen file else []) ≡ [] → listed_faults seen file ≡ []
@@ -474,7 +477,7 @@ module _ (seen : Seen) (files : List FileSyntax)
       elim (at_entry file seen.declarations.now.repeated.entries none) [
         | inl e ↦ ap (λ o. flat_map (name_faults seen) (name_list o)) e
         | inr e ↦ if_reached file (list_any (nat_eq file) seen.reach.now)
-            (in_reach file member) e
+            (among_reached file member) e
       ]
 
   listed_told : (files : List ℕ) (f : Fault) → Among (flat_map (reached_faults seen) files) f
