@@ -2,6 +2,7 @@
 use Rattle.std.specs.Prelude.{◌≡◌, ◌||◌, List, [], ◌∷◌, ◌++◌, Contains, Option, Some, None, Result}
 use Rattle.std.specs.Prelude.{Ok, Err, nat_eq, if◌then◌else◌, string_bytes}
 use Rattle.std.specs.List.{ends_with}
+use Rattle.protobuf_parse_base.specs.Characters as char
 use Rattle.protobuf_parse_base.specs.Paths.{is_empty}
 use Rattle.protobuf_parse_model.specs.Descriptors.{Text}
 use Rattle.protobuf_parse_run.specs.declared.fault.ResolveFault.{ResolveFault}
@@ -12,9 +13,9 @@ use Rattle.protobuf_parse_run.specs.declared.source.ResolvedProtoFile.{ResolvedP
 -- adds nothing, and a `/` at its end isn't doubled.
 abbrev pub path_tried : Text → Text → Text
 path_tried include path =
-    if is_empty include || ends_with nat_eq include (47 ∷ [])
+    if is_empty include || ends_with nat_eq include (char.slash ∷ [])
     then include ++ path
-    else include ++ 47 ∷ path
+    else include ++ char.slash ∷ path
 
 -- what may be answered where one path is tried: a file there or a fault of that file, or no such
 -- file

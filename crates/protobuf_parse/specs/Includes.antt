@@ -3,6 +3,7 @@ use Rattle.std.specs.Prelude.{◌≡◌, Bool, true, false, not, ℕ, List, [], 
 use Rattle.std.specs.Prelude.{map, Option, Some, None, option_map, find, if◌then◌else◌, bytes_eq}
 use Rattle.std.specs.Prelude.{string_bytes}
 use Rattle.std.specs.Borrow.{Bor}
+use Rattle.protobuf_parse_base.specs.Characters as char
 use Rattle.protobuf_parse_base.specs.Paths.{joined, kept_parts, starts_with_slash, host_path_fault}
 use Rattle.protobuf_parse_base.specs.declared.proto_path.error.PathError.{PathError}
 use Rattle.protobuf_parse_model.specs.Descriptors.{Text}
@@ -68,7 +69,7 @@ rest_parts_view rest = option_map (λ (r : Bor (List (Bor (List ℕ)))). part_vi
 
 -- a part behind another
 abbrev pub part_behind : Text → Text
-part_behind part = 47 ∷ part
+part_behind part = char.slash ∷ part
 
 -- ---- as faults list includes: `["a", "b"]`, each as it was given
 

@@ -4,6 +4,7 @@ use Rattle.std.specs.Prelude.{ℕ, ℤ, pos, negsuc, ◌+◌, ◌*◌, ◌==◌,
 use Rattle.std.specs.Prelude.{◌∷◌, ◌++◌, flat_map, codes, replicate, Option, Some, None, option_map}
 use Rattle.std.specs.Fmt.{signed_decimal}
 use Rattle.hex.specs.Hex.{encode_lower}
+use Rattle.protobuf_parse_base.specs.Characters as char
 use Rattle.protobuf_parse_base.specs.Escapes.{escaped_bytes}
 use Rattle.protobuf_parse_syntax.specs.declared.tree.field.Label.{Label}
 use Rattle.protobuf_parse_syntax.specs.declared.tree.field.Label.TheVariants.{Optional, Required}
@@ -38,11 +39,11 @@ use Rattle.protobuf_parse_model.specs.Descriptors.{FileDescriptor}
 
 -- a line so many levels in, with its line feed
 abbrev pub line : ℕ → Text → Text
-line level words = replicate (2 * level) 32 ++ words ++ 10 ∷ []
+line level words = replicate (2 * level) char.space ++ words ++ char.newline ∷ []
 
 -- in double quotes, with the bytes escaped as in a string of the language
 unfoldable pub quoted : Text → Text
-quoted bytes = 34 ∷ (escaped_bytes bytes ++ 34 ∷ [])
+quoted bytes = char.quote ∷ (escaped_bytes bytes ++ char.quote ∷ [])
 
 -- an absent text prints as nothing
 abbrev pub text_or_nothing : Option Text → Text

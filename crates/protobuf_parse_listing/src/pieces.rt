@@ -4,6 +4,7 @@ ghost use Rattle.std.specs.Prelude.{◌≡◌, ◌+◌, ◌*◌, ◌++◌, IfOk,
 ghost use Rattle.std.specs.Prelude.{replicate};
 ghost use Rattle.std.specs.List.{list_all};
 ghost use Rattle.std.specs.String.{string_bytes};
+ghost use Rattle.protobuf_parse_base.specs.Characters as char;
 ghost use Rattle.protobuf_parse_base.specs.Escapes.{escaped_bytes};
 ghost use Rattle.protobuf_parse_listing.specs.Listing as spec;
 ghost use Rattle.protobuf_parse_listing.specs.Plain as plain;
@@ -77,7 +78,7 @@ pub fn put_range_line(
 /// Two spaces for each level.
 pub fn put_indent(text: &mut String, level: usize) -> Result<(), AllocError>
     ensures { OnOk result
-        (string_bytes text.new ≡ string_bytes text.old ++ replicate (2 * level) 32) }
+        (string_bytes text.new ≡ string_bytes text.old ++ replicate (2 * level) char.space) }
 {
     for done in 0..level {
         text.push_str("  ")?;

@@ -7,8 +7,8 @@ use Rattle.std.proofs.lemmas.Str.{IsUtf8-string_bytes}
 use Rattle.protobuf_parse_syntax.specs.Text.{Bytes}
 use Rattle.protobuf_parse_syntax.specs.Tokens.{DecodesAll}
 use Rattle.protobuf_parse_syntax.specs.Decoding.{RefusesBytes, RefusesText}
-use Rattle.protobuf_parse_syntax.specs.Decoder.{decode, decode-to, decode-from, text_of, text-to}
-use Rattle.protobuf_parse_syntax.specs.Decoder.{text-from}
+use Rattle.protobuf_parse_syntax.specs.Decoder.{decode, text_of}
+use Rattle.protobuf_parse_syntax.specs.DecoderLaws.{decode-to, decode-from, text-to, text-from}
 use Rattle.protobuf_parse_syntax.specs.Grammar.{StandsFor}
 use Rattle.protobuf_parse_syntax.specs.declared.lexer.str_lit.StrLitDecodeError.{StrLitDecodeError}
 use Rattle.protobuf_parse_syntax.specs.declared.lexer.str_lit.StrLitDecodeError.TheVariants.{Memory}

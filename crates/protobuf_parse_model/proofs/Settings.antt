@@ -15,8 +15,7 @@ use Rattle.protobuf_parse_syntax.specs.declared.tree.constant.ProtobufConstant.T
 use Rattle.protobuf_parse_syntax.specs.declared.tree.option.ProtobufOption.{ProtobufOption}
 use Rattle.protobuf_parse_model.specs.Descriptors.{Text}
 use Rattle.protobuf_parse_model.specs.BuiltinOptions.{value_if_named, values_named, last_value}
-use Rattle.protobuf_parse_model.specs.BuiltinOptions.{Words, word_said, where_any}
-use Rattle.protobuf_parse_model.specs.OptionViews.{options_seen}
+use Rattle.protobuf_parse_model.specs.BuiltinOptions.{Words, word_said, where_any, options_seen}
 use Rattle.protobuf_parse_model.proofs.TreeViews.{views_ident}
 
 last_or-append : {A : Type 0} (o : Option A) (xs ys : List A)

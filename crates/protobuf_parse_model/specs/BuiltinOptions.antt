@@ -8,9 +8,12 @@
 -- "Options" (https://protobuf.dev).
 use Rattle.std.specs.Prelude.{Bool, List, [], ◌∷◌, ◌++◌, map, flat_map, codes, bytes_eq, Option}
 use Rattle.std.specs.Prelude.{Some, None, option_map, if◌then◌else◌}
+use Rattle.std.specs.Borrow.{Bor}
 use Rattle.std.specs.List.{find, last_or}
 use Rattle.protobuf_parse_syntax.specs.Trees.{ConstantSyntax, truth, dotted, string}
 use Rattle.protobuf_parse_syntax.specs.Trees.{OptionNameSyntax, builtin, custom, OptionSyntax}
+use Rattle.protobuf_parse_syntax.specs.Trees.{option_view}
+use Rattle.protobuf_parse_syntax.specs.declared.tree.option.ProtobufOption.{ProtobufOption}
 use Rattle.protobuf_parse_syntax.specs.Decoder.{text_of}
 use Rattle.protobuf_parse_model.specs.declared.error.ElabErrorKind.TheVariants.{StrLitDecode}
 use Rattle.protobuf_parse_model.specs.declared.error.ElabErrorKind.TheVariants.{BuiltinOptionNotFound}
@@ -35,6 +38,10 @@ use Rattle.protobuf_parse_model.specs.Faults.{Fault}
 use Rattle.protobuf_parse_model.specs.Duplicates.{fault, stands_in}
 
 -- ---- statements
+
+-- statements without where they lie in memory
+abbrev pub options_seen : List (Bor ProtobufOption) → List OptionSyntax
+options_seen os = map (λ (o : Bor ProtobufOption). option_view o.now) os
 
 -- the values that statements give to the built-in option of that name, in order
 abbrev pub value_if_named : Text → ConstantSyntax → OptionNameSyntax → List ConstantSyntax

@@ -208,7 +208,8 @@ rest_of env body =
       reserved_name =
           flat_map names_reserved (flat_map reserves body);
       options =
-          message_options (customs_bytes env of.Message (options_of_body body)) (options_of_body body);
+          message_options (customs_bytes env of.Message (options_of_body body))
+          (options_of_body body);
     }
 
 -- what the options of a field say

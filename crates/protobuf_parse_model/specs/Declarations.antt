@@ -4,6 +4,7 @@
 -- and Name Resolution", "Extensions", "Maps"; Protocol Buffers Language Specification, "Package",
 -- "Group field", "Map field", "Extend" (https://protobuf.dev).
 use Rattle.std.specs.Prelude.{List, [], ◌∷◌, ◌++◌, map, flat_map, unwrap_or, if◌then◌else◌}
+use Rattle.protobuf_parse_base.specs.Characters as char
 use Rattle.protobuf_parse_base.specs.Names.{absolute_text, relative_idents}
 use Rattle.protobuf_parse_syntax.specs.Trees.{FieldStatementSyntax, field, group}
 use Rattle.protobuf_parse_syntax.specs.Trees.{MessageStatementSyntax, message_oneof, message_extend}
@@ -28,7 +29,7 @@ inside scope name = scope ++ (name ∷ [])
 
 -- the full name of what has the name in the scope
 abbrev pub full_name : Scope → Text → Text
-full_name scope name = absolute_text scope ++ (46 ∷ name)
+full_name scope name = absolute_text scope ++ (char.dot ∷ name)
 
 -- something that is declared, by its full name
 pub record Declared (A : Type 0) : Type 0 where

@@ -86,6 +86,10 @@ mutual
     no_messages : MessageDescriptors
     messages : MessageDescriptor → MessageDescriptors → MessageDescriptors
 
+-- a message without those inside it
+abbrev pub parts_seen : MessageDescriptor → MessageParts
+parts_seen (a_message parts nested) = parts
+
 -- such messages as a list, and back
 abbrev pub messages_list : MessageDescriptors → List MessageDescriptor
 messages_list no_messages = []

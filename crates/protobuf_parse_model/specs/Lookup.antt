@@ -9,6 +9,7 @@ use Rattle.std.specs.Prelude.{◌≡◌, ◌==◌, Bool, true, false, List, [], 
 use Rattle.std.specs.Prelude.{bytes_eq, if◌then◌else◌, All}
 use Rattle.std.specs.List.{find}
 use Rattle.std.specs.Option.{option_or}
+use Rattle.protobuf_parse_base.specs.Characters as char
 use Rattle.protobuf_parse_base.specs.Names.{fronts}
 use Rattle.protobuf_parse_model.specs.Descriptors.{Text}
 use Rattle.protobuf_parse_model.specs.Faults.{Among}
@@ -16,7 +17,7 @@ use Rattle.protobuf_parse_model.specs.Declarations.{Scope, full_name, Declared}
 
 abbrev pub begins_with_dot : Text → Bool
 begins_with_dot [] = false
-begins_with_dot (b ∷ bs) = b == 46
+begins_with_dot (b ∷ bs) = b == char.dot
 
 -- the first declaration of the full name
 abbrev pub declared : {A : Type 0} → List (Declared A) → Text → Option (Declared A)
@@ -29,10 +30,12 @@ Meanings A = Text → Option (Declared A)
 -- the declaration of the name in the first of the scopes that has one
 abbrev pub declared_in_first : {A : Type 0} → Meanings A → Text → List Scope → Option (Declared A)
 declared_in_first of name [] = None
-declared_in_first of name (scope ∷ scopes) = option_or (of (full_name scope name)) (declared_in_first of name scopes)
+declared_in_first of name (scope ∷ scopes) =
+    option_or (of (full_name scope name)) (declared_in_first of name scopes)
 
 abbrev pub meant : {A : Type 0} → Meanings A → Scope → Text → Option (Declared A)
-meant of scope name = if begins_with_dot name then of name else declared_in_first of name (fronts scope)
+meant of scope name =
+    if begins_with_dot name then of name else declared_in_first of name (fronts scope)
 
 abbrev pub meaning : {A : Type 0} → List (Declared A) → Scope → Text → Option (Declared A)
 meaning ds scope name = meant (declared ds) scope name

@@ -1,19 +1,16 @@
--- Options and their tables as the code holds them.
+-- No public clause rests on this file.
+-- Constants and tables of options as the code holds them.
 use Rattle.std.specs.Prelude.{◌≡◌, ℕ, List, map, Option, option_map, String, string_bytes}
 use Rattle.std.specs.Borrow.{Bor}
 use Rattle.std.specs.Global.{Global}
-use Rattle.protobuf_parse_syntax.specs.Trees.{ConstantSyntax, constant_view, OptionSyntax}
-use Rattle.protobuf_parse_syntax.specs.Trees.{option_view}
+use Rattle.protobuf_parse_syntax.specs.Trees.{ConstantSyntax, constant_view}
 use Rattle.protobuf_parse_syntax.specs.declared.tree.constant.ProtobufConstant.{ProtobufConstant}
 use Rattle.protobuf_parse_syntax.specs.declared.tree.option.ProtobufOption.{ProtobufOption}
 use Rattle.protobuf_parse_model.specs.declared.convert.options.tables.BuiltinKind.{BuiltinKind}
 use Rattle.protobuf_parse_model.specs.declared.convert.options.tables.BuiltinKind.TheVariants as kind
 use Rattle.protobuf_parse_model.specs.BuiltinOptions as spec
-use Rattle.protobuf_parse_model.specs.BuiltinOptions.{Words, a_text, a_truth, a_word, Table}
+use Rattle.protobuf_parse_model.specs.BuiltinOptions.{options_seen, Words, a_text, a_truth, a_word, Table}
 use Rattle.protobuf_parse_model.specs.Descriptors.{Text}
-
-abbrev pub options_seen : List (Bor ProtobufOption) → List OptionSyntax
-options_seen os = map (λ (o : Bor ProtobufOption). option_view o.now) os
 
 abbrev pub constant_seen : Bor ProtobufConstant → ConstantSyntax
 constant_seen c = constant_view c.now

@@ -7,7 +7,7 @@ ghost use Rattle.protobuf_parse_model.specs.Environment.{Customs, no_customs, no
 ghost use Rattle.protobuf_parse_model.specs.Environment.{part_text, option_path_text};
 ghost use Rattle.protobuf_parse_model.specs.Environment.{unknown_option};
 ghost use Rattle.protobuf_parse_model.specs.Faults.{Elaborates};
-ghost use Rattle.protobuf_parse_model.specs.OptionViews.{options_seen};
+ghost use Rattle.protobuf_parse_model.specs.BuiltinOptions.{options_seen};
 
 use crate::convert::refuse::fault;
 use crate::error::{ElabErrorKind, ElabFailure};

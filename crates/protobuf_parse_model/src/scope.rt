@@ -4,6 +4,7 @@ ghost use Rattle.std.specs.Prelude.{◌≡◌, ◌+◌, ◌<◌, ◌∷◌, ◌+
 ghost use Rattle.std.specs.Prelude.{true, option_map, string_bytes, IfOk, OnOk};
 ghost use Rattle.std.specs.Borrow.{Bor};
 ghost use Rattle.std.specs.List.{list_any};
+ghost use Rattle.protobuf_parse_base.specs.Characters as char;
 ghost use Rattle.protobuf_parse_model.specs.Declarations as names;
 ghost use Rattle.protobuf_parse_model.specs.Environment.{type_named};
 ghost use Rattle.protobuf_parse_model.specs.Contexts.{names_of_context};
@@ -120,10 +121,10 @@ pub fn type_named(
 /// where the last name of the scope is `last`.
 fn move_outward(text: &mut String, last: &str, name: &str) -> Result<(), AllocError>
     requires { (front : List ℕ)
-        × (string_bytes text.old ≡ front ++ 46 ∷ (last.now ++ 46 ∷ name.now)) }
+        × (string_bytes text.old ≡ front ++ char.dot ∷ (last.now ++ char.dot ∷ name.now)) }
     ensures { OnOk result ((front : List ℕ) →
-        string_bytes text.old ≡ front ++ 46 ∷ (last.now ++ 46 ∷ name.now) →
-        string_bytes text.new ≡ front ++ 46 ∷ name.now) }
+        string_bytes text.old ≡ front ++ char.dot ∷ (last.now ++ char.dot ∷ name.now) →
+        string_bytes text.new ≡ front ++ char.dot ∷ name.now) }
 {
     let kept = text.len() - name.len() - last.len() - 2;
     text.truncate(kept);

@@ -13,11 +13,10 @@ use Rattle.std.proofs.lemmas.List.Folds.{find-append}
 use Rattle.std.proofs.lemmas.Slice.Eq.{bytes_eq-Decides}
 use Rattle.protobuf_parse_model.specs.Declarations.{Declared}
 use Rattle.protobuf_parse_model.specs.Descriptors.{Text, FieldDescriptor, EnumDescriptor}
-use Rattle.protobuf_parse_model.specs.Descriptors.{MessageDescriptor}
+use Rattle.protobuf_parse_model.specs.Descriptors.{MessageDescriptor, parts_seen}
 use Rattle.protobuf_parse_model.specs.Lookup.{declared}
 use Rattle.protobuf_parse_options.specs.ByName.{fields_of_all, first, named, values_of_all}
 use Rattle.protobuf_parse_wire.specs.Declarations.{Declaration, messages_named}
-use Rattle.protobuf_parse_wire.specs.Indexed.{parts_seen}
 use Rattle.protobuf_parse_options.specs.Known.{extension_under_name, field_among, field_seen}
 use Rattle.protobuf_parse_options.specs.Known.{number_among}
 use Rattle.protobuf_parse_options.specs.Known.{values_among}

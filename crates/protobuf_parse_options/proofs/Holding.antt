@@ -27,7 +27,7 @@ use Rattle.protobuf_parse_options.specs.Holding.{spot_in, spot_known, spot_view,
 use Rattle.protobuf_parse_options.specs.Holding.{spots_known}
 use Rattle.protobuf_parse_options.specs.Holding.{spots_of, spots_under}
 use Rattle.protobuf_parse_wire.specs.Groups.{group}
-use Rattle.protobuf_parse_wire.specs.Indexed.{parts_seen}
+use Rattle.protobuf_parse_model.specs.Descriptors.{parts_seen}
 use Rattle.protobuf_parse_options.specs.Places.{Inside, Placed, one_inside, placed_messages}
 use Rattle.protobuf_parse_wire.proofs.Adding.{messages_named-append}
 use Rattle.protobuf_parse_options.proofs.Found.{mapped_rest}

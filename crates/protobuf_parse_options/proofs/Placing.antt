@@ -6,7 +6,7 @@ use Rattle.std.proofs.Common.{append_assoc}
 use Rattle.std.specs.List.{AllByRecursion}
 use Rattle.std.proofs.lemmas.List.{map-append}
 use Rattle.protobuf_parse_model.specs.Declarations.{Declared}
-use Rattle.protobuf_parse_model.specs.Descriptors.{Text, FileDescriptor, MessageParts}
+use Rattle.protobuf_parse_model.specs.Descriptors.{Text, FileDescriptor, MessageParts, parts_seen}
 use Rattle.protobuf_parse_model.specs.Descriptors.{MessageDescriptor, MessageDescriptors, a_message}
 use Rattle.protobuf_parse_model.specs.Descriptors.{no_messages, messages, messages_of_list}
 use Rattle.protobuf_parse_model.specs.Descriptors.{messages_list}
@@ -18,7 +18,6 @@ use Rattle.protobuf_parse_wire.specs.Declarations.{Declaration, declared_extensi
 use Rattle.protobuf_parse_wire.specs.Declarations.{messages_declared_in}
 use Rattle.protobuf_parse_wire.specs.Declarations.{declared_message, declared_messages}
 use Rattle.protobuf_parse_wire.specs.Declarations.{package_scope, name_within}
-use Rattle.protobuf_parse_wire.specs.Indexed.{parts_seen}
 use Rattle.protobuf_parse_options.specs.OptionFields.{declared_enums}
 use Rattle.protobuf_parse_options.specs.Places.{Inside, Placed, down, enum_name, enums_inside}
 use Rattle.protobuf_parse_options.specs.Places.{extensions_inside, field_name, inside_file}

@@ -6,7 +6,7 @@ use Rattle.std.specs.Prelude.{option_to_list, IfSome}
 use Rattle.std.specs.List.{AllByRecursion, find, list_any}
 use Rattle.std.specs.Option.{option_or}
 use Rattle.std.proofs.lemmas.List.{length-map}
-use Rattle.protobuf_parse_model.specs.Descriptors.{Text, FileDescriptor}
+use Rattle.protobuf_parse_model.specs.Descriptors.{Text, FileDescriptor, parts_seen}
 use Rattle.protobuf_parse_model.specs.Descriptors.{EnumDescriptor}
 use Rattle.protobuf_parse_model.specs.Descriptors.{MessageDescriptor}
 use Rattle.protobuf_parse_options.specs.declared.picked_files.PickedFiles.{PickedFiles}
@@ -15,7 +15,6 @@ use Rattle.protobuf_parse_options.specs.Holding.{Picks, Spot, at_spot, at_spots,
 use Rattle.protobuf_parse_options.specs.Holding.{found_by}
 use Rattle.protobuf_parse_options.specs.Holding.{inside_of, number_there, spot_in}
 use Rattle.protobuf_parse_options.specs.Holding.{spots_in, spots_of}
-use Rattle.protobuf_parse_wire.specs.Indexed.{parts_seen}
 use Rattle.protobuf_parse_options.specs.Known.{field_among, number_among}
 use Rattle.protobuf_parse_options.specs.Places.{Inside, Placed, enums_inside, field_name}
 use Rattle.protobuf_parse_options.specs.Places.{messages_inside, one_inside}

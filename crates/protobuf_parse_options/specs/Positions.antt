@@ -4,7 +4,7 @@ use Rattle.std.specs.Prelude.{ℕ, suc, ℤ, List, [], ◌∷◌, length, map, b
 use Rattle.std.specs.Prelude.{None, option_map, slice_get, if◌then◌else◌}
 use Rattle.protobuf_parse_model.specs.Descriptors.{Text, FieldDescriptor, EnumDescriptor}
 use Rattle.protobuf_parse_model.specs.Descriptors.{EnumValueDescriptor, MessageDescriptor}
-use Rattle.protobuf_parse_wire.specs.Indexed.{parts_seen}
+use Rattle.protobuf_parse_model.specs.Descriptors.{parts_seen}
 use Rattle.protobuf_parse_options.specs.Known.{field_among, number_among}
 use Rattle.protobuf_parse_options.specs.Places.{field_name}
 

@@ -6,7 +6,7 @@ ghost use Rattle.protobuf_parse_options.specs.ByName.{named};
 ghost use Rattle.protobuf_parse_wire.specs.Declarations.{declared_extensions, messages_with_name};
 ghost use Rattle.protobuf_parse_options.specs.Holding.{Knows, at_spots, field_there, files_seen};
 ghost use Rattle.protobuf_parse_options.specs.Holding.{found_by, number_there, spots_under};
-ghost use Rattle.protobuf_parse_wire.specs.Indexed.{parts_seen};
+ghost use Rattle.protobuf_parse_model.specs.Descriptors.{parts_seen};
 ghost use Rattle.protobuf_parse_options.specs.OptionBytes.{known_customs};
 ghost use Rattle.protobuf_parse_options.specs.OptionFields.{field_named, number_of_value};
 ghost use Rattle.protobuf_parse_options.specs.OptionLaw.{HasSmallValues};

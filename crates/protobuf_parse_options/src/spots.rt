@@ -2,7 +2,7 @@
 
 ghost use Rattle.std.specs.Prelude.{◌≡◌, map, option_map, slice_get};
 ghost use Rattle.protobuf_parse_model.specs.Descriptors.{enum_value_view, enum_view, field_view};
-ghost use Rattle.protobuf_parse_model.specs.Descriptors.{message_view};
+ghost use Rattle.protobuf_parse_model.specs.Descriptors.{message_view, parts_seen};
 ghost use Rattle.protobuf_parse_options.specs.Holding.{at_spot, at_spots, enum_seen, field_there};
 ghost use Rattle.protobuf_parse_options.specs.Holding.{file_numbered, file_seen, found_by};
 ghost use Rattle.protobuf_parse_options.specs.Holding.{inside_of};
@@ -10,7 +10,6 @@ ghost use Rattle.protobuf_parse_options.specs.Holding.{members_view, message_see
 ghost use Rattle.protobuf_parse_options.specs.Holding.{option_join, spot_view};
 ghost use Rattle.protobuf_parse_options.specs.Known.{field_seen};
 ghost use Rattle.protobuf_parse_options.specs.ByName.{first};
-ghost use Rattle.protobuf_parse_wire.specs.Indexed.{parts_seen};
 ghost use Rattle.protobuf_parse_options.specs.Places.{enums_inside, extensions_inside};
 ghost use Rattle.protobuf_parse_options.specs.Places.{messages_inside};
 ghost use Rattle.protobuf_parse_options.specs.Positions.{field_by, number_by, value_number};

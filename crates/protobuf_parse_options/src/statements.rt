@@ -4,7 +4,7 @@ ghost use Rattle.std.specs.Prelude.{◌≡◌, ◌++◌, flat_map, map};
 ghost use Rattle.protobuf_parse_syntax.specs.Trees.{constant_view, option_part_view, option_view};
 ghost use Rattle.protobuf_parse_model.specs.Faults.{Blames, Elaborates};
 ghost use Rattle.protobuf_parse_model.specs.OptionTables.{table_of};
-ghost use Rattle.protobuf_parse_model.specs.OptionViews.{options_seen};
+ghost use Rattle.protobuf_parse_model.specs.BuiltinOptions.{options_seen};
 ghost use Rattle.protobuf_parse_options.specs.CustomFaults.{builtin_step_faults, custom_faults};
 ghost use Rattle.protobuf_parse_options.specs.CustomFaults.{custom_name_faults};
 ghost use Rattle.protobuf_parse_options.specs.CustomFaults.{custom_statement_faults};

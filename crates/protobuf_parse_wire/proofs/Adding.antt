@@ -14,7 +14,7 @@ use Rattle.protobuf_parse_model.specs.declared.descriptor.DescriptorProto.{out-D
 use Rattle.protobuf_parse_model.specs.Descriptors.{Text, FileDescriptor, FieldDescriptor}
 use Rattle.protobuf_parse_model.specs.Descriptors.{MessageParts, MessageDescriptor, a_message}
 use Rattle.protobuf_parse_model.specs.Descriptors.{messages_of_list, message_parts, message_view}
-use Rattle.protobuf_parse_model.specs.Descriptors.{message_view_is, field_view}
+use Rattle.protobuf_parse_model.specs.Descriptors.{message_view_is, field_view, parts_seen}
 use Rattle.protobuf_parse_model.specs.Declarations.{Declared}
 use Rattle.protobuf_parse_wire.specs.declared.reader.index.Index.{Index}
 use Rattle.protobuf_parse_wire.specs.Groups.{group}
@@ -26,7 +26,7 @@ use Rattle.protobuf_parse_wire.specs.Declarations.{package_scope}
 use Rattle.protobuf_parse_wire.specs.Declarations.{extensions_within, messages_named}
 use Rattle.protobuf_parse_wire.specs.Declarations.{messages_with_name}
 use Rattle.protobuf_parse_wire.specs.Declarations.{extends, extensions_extending}
-use Rattle.protobuf_parse_wire.specs.Indexed.{parts_seen, indexed_messages, indexed_extensions}
+use Rattle.protobuf_parse_wire.specs.Indexed.{indexed_messages, indexed_extensions}
 use Rattle.protobuf_parse_wire.specs.Indexed.{IndexAdds}
 use Rattle.protobuf_parse_wire.specs.Indexed.{AddsMessages, Indexes}
 

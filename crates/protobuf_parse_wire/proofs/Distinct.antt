@@ -20,7 +20,7 @@ use Rattle.std.proofs.lemmas.List.Folds.{find-append, list_any-append}
 use Rattle.protobuf_parse_model.specs.declared.descriptor.FieldDescriptorProto.{FieldDescriptorProto}
 use Rattle.protobuf_parse_model.specs.Descriptors.{Text, FileDescriptor, FieldDescriptor}
 use Rattle.protobuf_parse_model.specs.Descriptors.{MessageDescriptor, message_view, message_view_is}
-use Rattle.protobuf_parse_model.specs.Descriptors.{field_view}
+use Rattle.protobuf_parse_model.specs.Descriptors.{field_view, parts_seen}
 use Rattle.protobuf_parse_model.specs.declared.descriptor.DescriptorProto.{DescriptorProto}
 use Rattle.protobuf_parse_model.specs.declared.descriptor.DescriptorProto.{out-DescriptorProto}
 use Rattle.protobuf_parse_wire.specs.declared.fault.ReadFault.TheVariants.{AmbiguousNumber}
@@ -28,7 +28,7 @@ use Rattle.protobuf_parse_wire.specs.Declarations.{field_numbered, have_distinct
 use Rattle.protobuf_parse_wire.specs.Reading.{FieldsByNumber, by_number, entered}
 use Rattle.protobuf_parse_wire.specs.Groups.{group}
 use Rattle.protobuf_parse_wire.specs.declared.reader.index.Index.{Index}
-use Rattle.protobuf_parse_wire.specs.Indexed.{parts_seen, entered_by, numbered, IsByNumber, Indexes}
+use Rattle.protobuf_parse_wire.specs.Indexed.{entered_by, numbered, IsByNumber, Indexes}
 
 abbrev has : ℤ → FieldDescriptor → Bool
 has n f = int_eq n f.number

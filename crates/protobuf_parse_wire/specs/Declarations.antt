@@ -7,6 +7,7 @@ use Rattle.std.specs.List.{flat_map, list_any}
 use Rattle.std.specs.Option.{option_map_or}
 use Rattle.std.specs.Ordering.{int_eq}
 use Rattle.std.specs.Str.{bytes_eq}
+use Rattle.protobuf_parse_base.specs.Characters as char
 use Rattle.protobuf_parse_model.specs.Declarations.{Declared}
 use Rattle.protobuf_parse_model.specs.Descriptors.{Text, FileDescriptor, FieldDescriptor}
 use Rattle.protobuf_parse_model.specs.Descriptors.{MessageParts, MessageDescriptor}
@@ -20,7 +21,7 @@ pub record Declaration : Type 0 where
 
 -- the name inside the scope, after a dot
 abbrev pub name_within : Text → Text → Text
-name_within scope name = scope ++ (46 ∷ name)
+name_within scope name = scope ++ (char.dot ∷ name)
 
 abbrev mutual
   -- the message and those inside it

@@ -1,3 +1,4 @@
+-- No public clause rests on this file.
 -- What the reader's indexes say: by name the messages and the extensions of files, by number the
 -- fields of a message.
 use Rattle.std.specs.Prelude.{◌≡◌, ℕ, ◌^◌, ◌≤◌, nat_lt, if◌then◌else◌, ℤ, pos, true, List, ◌++◌}
@@ -9,7 +10,7 @@ use Rattle.std.specs.BTreeMap.{BTreeMap, get, get_by_text}
 use Rattle.protobuf_parse_model.specs.declared.descriptor.DescriptorProto.{DescriptorProto}
 use Rattle.protobuf_parse_model.specs.declared.descriptor.FieldDescriptorProto.{FieldDescriptorProto}
 use Rattle.protobuf_parse_model.specs.Descriptors.{Text, FileDescriptor, FieldDescriptor}
-use Rattle.protobuf_parse_model.specs.Descriptors.{MessageParts, MessageDescriptor, a_message}
+use Rattle.protobuf_parse_model.specs.Descriptors.{MessageParts, parts_seen}
 use Rattle.protobuf_parse_model.specs.Descriptors.{message_view, field_view}
 use Rattle.protobuf_parse_wire.specs.declared.fault.ReadFault.TheVariants.{UnknownMessage}
 use Rattle.protobuf_parse_wire.specs.declared.reader.index.Index.{Index}
@@ -19,10 +20,6 @@ use Rattle.protobuf_parse_wire.specs.Declarations.{Declaration, messages_named, 
 use Rattle.protobuf_parse_wire.specs.Declarations.{extends, extensions_extending}
 use Rattle.protobuf_parse_wire.specs.Declarations.{have_distinct_numbers}
 use Rattle.protobuf_parse_wire.specs.Reading.{WireRead, FieldsByNumber, only_one}
-
--- a message without those inside it
-abbrev pub parts_seen : MessageDescriptor → MessageParts
-parts_seen (a_message parts nested) = parts
 
 -- what the index has under a name
 abbrev pub indexed_messages : Index → Text → List MessageParts

@@ -7,7 +7,7 @@ ghost use Rattle.protobuf_parse_syntax.specs.Trees.{field_view, group_view, opti
 ghost use Rattle.protobuf_parse_model.specs.Contexts.{environment_in, field_place_view};
 ghost use Rattle.protobuf_parse_model.specs.Contexts.{resolved_view};
 ghost use Rattle.protobuf_parse_model.specs.Contexts.{said_by, said_view, names_of_context};
-ghost use Rattle.protobuf_parse_model.specs.OptionViews.{options_seen};
+ghost use Rattle.protobuf_parse_model.specs.BuiltinOptions.{options_seen};
 ghost use Rattle.protobuf_parse_model.specs.Descriptors as described;
 ghost use Rattle.protobuf_parse_model.specs.Faults.{Elaborates};
 ghost use Rattle.protobuf_parse_model.specs.Fields as fields;

@@ -11,7 +11,7 @@ mod texts;
 
 ghost use Rattle.std.specs.Prelude.{◌≡◌, map, IfOk};
 ghost use Rattle.protobuf_parse_syntax.specs.Trees.{option_view};
-ghost use Rattle.protobuf_parse_model.specs.OptionViews.{options_seen};
+ghost use Rattle.protobuf_parse_model.specs.BuiltinOptions.{options_seen};
 
 pub use builtin::has_builtin_option;
 pub use check::{checked_customs, checked_field_customs};

@@ -13,7 +13,8 @@ ghost use Rattle.protobuf_parse_model.specs.Environment.{customs_bytes, customs_
 ghost use Rattle.protobuf_parse_model.specs.Faults.{Elaborates};
 ghost use Rattle.protobuf_parse_model.specs.Fields.{field_option_faults, field_options_faults};
 ghost use Rattle.protobuf_parse_model.specs.OptionTables.{table_of};
-ghost use Rattle.protobuf_parse_model.specs.OptionViews.{entry_seen, kind_seen, options_seen};
+ghost use Rattle.protobuf_parse_model.specs.BuiltinOptions.{options_seen};
+ghost use Rattle.protobuf_parse_model.specs.OptionViews.{entry_seen, kind_seen};
 ghost use Rattle.protobuf_parse_model.specs.OptionViews.{table_seen};
 
 use crate::convert::options::builtin::table_of;

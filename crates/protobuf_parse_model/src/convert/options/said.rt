@@ -6,7 +6,8 @@ ghost use Rattle.std.specs.List.{find};
 ghost use Rattle.protobuf_parse_syntax.specs.Trees.{constant_view, option_view};
 ghost use Rattle.protobuf_parse_model.specs.BuiltinOptions as spec;
 ghost use Rattle.protobuf_parse_model.specs.Fields.{first_value};
-ghost use Rattle.protobuf_parse_model.specs.OptionViews.{constant_seen, options_seen, words_seen};
+ghost use Rattle.protobuf_parse_model.specs.BuiltinOptions.{options_seen};
+ghost use Rattle.protobuf_parse_model.specs.OptionViews.{constant_seen, words_seen};
 
 use crate::convert::options::strings::text_of;
 use protobuf_parse_syntax::{ProtobufConstant, ProtobufOption, ProtobufOptionName};

@@ -5,7 +5,8 @@
 ghost use Rattle.std.specs.Prelude.{◌≡◌, codes, option_map, IfOk};
 ghost use Rattle.protobuf_parse_model.specs.Options as seen;
 ghost use Rattle.protobuf_parse_model.specs.OptionMessages as spec;
-ghost use Rattle.protobuf_parse_model.specs.OptionViews.{IsTextOption, options_seen};
+ghost use Rattle.protobuf_parse_model.specs.BuiltinOptions.{options_seen};
+ghost use Rattle.protobuf_parse_model.specs.OptionViews.{IsTextOption};
 
 use crate::convert::options::said::{text_option, truth_option, word_option};
 use crate::descriptor::{

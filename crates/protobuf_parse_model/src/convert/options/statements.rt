@@ -6,7 +6,7 @@ ghost use Rattle.protobuf_parse_syntax.specs.Trees.{OptionSyntax};
 ghost use Rattle.protobuf_parse_model.specs.Enums.{options_in_enum};
 ghost use Rattle.protobuf_parse_model.specs.FileDescriptor.{options_in_file};
 ghost use Rattle.protobuf_parse_model.specs.Messages.{options_in_message};
-ghost use Rattle.protobuf_parse_model.specs.OptionViews.{options_seen};
+ghost use Rattle.protobuf_parse_model.specs.BuiltinOptions.{options_seen};
 ghost use Rattle.protobuf_parse_model.specs.Services.{options_in_service, statement_option};
 ghost use Rattle.protobuf_parse_model.specs.Statements.{oneof_statement_options};
 

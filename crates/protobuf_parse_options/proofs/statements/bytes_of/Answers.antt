@@ -1,5 +1,5 @@
 use Rattle.std.proofs.Common.{◌∙◌, ap, subst, sym}
-use Rattle.protobuf_parse_model.specs.OptionViews.{options_seen}
+use Rattle.protobuf_parse_model.specs.BuiltinOptions.{options_seen}
 use Rattle.protobuf_parse_wire.specs.Encoded.{encoded}
 use Rattle.protobuf_parse_options.specs.Given.{option_place_view}
 use Rattle.protobuf_parse_wire.specs.Writing.{AreWritable}

@@ -1,5 +1,5 @@
 use Rattle.std.proofs.Common.{◌≡◌, ◌++◌, [], map, flat_map, take}
-use Rattle.protobuf_parse_model.specs.OptionViews.{options_seen}
+use Rattle.protobuf_parse_model.specs.BuiltinOptions.{options_seen}
 use Rattle.protobuf_parse_options.specs.CustomFaults.{custom_statement_faults}
 use Rattle.protobuf_parse_options.specs.CustomOptions.{items_of_option}
 use Rattle.protobuf_parse_options.specs.Given.{option_place_view}

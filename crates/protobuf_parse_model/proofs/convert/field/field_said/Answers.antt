@@ -3,7 +3,7 @@ use Rattle.protobuf_parse_syntax.specs.Trees.{OptionSyntax}
 use Rattle.protobuf_parse_model.specs.Contexts.{environment_in, said_by, said_view}
 use Rattle.protobuf_parse_model.specs.Faults.{Elaborates}
 use Rattle.protobuf_parse_model.specs.Fields.{faults_of_options}
-use Rattle.protobuf_parse_model.specs.OptionViews.{options_seen}
+use Rattle.protobuf_parse_model.specs.BuiltinOptions.{options_seen}
 use Rattle.protobuf_parse_model.proofs.convert.field.field_said.Goals as goal
 
 pub returns : goal.returns

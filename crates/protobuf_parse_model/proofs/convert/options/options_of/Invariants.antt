@@ -1,6 +1,6 @@
 use Rattle.std.proofs.Common.{◌≡◌, map, take}
 use Rattle.protobuf_parse_syntax.specs.Trees.{option_view}
-use Rattle.protobuf_parse_model.specs.OptionViews.{options_seen}
+use Rattle.protobuf_parse_model.specs.BuiltinOptions.{options_seen}
 use Rattle.protobuf_parse_model.proofs.convert.options.options_of.Given as goal
 
 abbrev pub invariant-loop-option : goal.invariant-loop-option

@@ -1,10 +1,9 @@
 use Rattle.std.proofs.Common.{◌∙◌, List, ap, flat_map, map, subst, sym}
-use Rattle.protobuf_parse_model.specs.Descriptors.{FileDescriptor, Text}
+use Rattle.protobuf_parse_model.specs.Descriptors.{FileDescriptor, Text, parts_seen}
 use Rattle.protobuf_parse_options.specs.ByName.{fields_of_all, values_of_all}
 use Rattle.protobuf_parse_wire.specs.Declarations.{declared_extensions}
 use Rattle.protobuf_parse_options.specs.Holding.{at_spots, field_there, files_seen, found_by}
 use Rattle.protobuf_parse_options.specs.Holding.{number_there, spots_of}
-use Rattle.protobuf_parse_wire.specs.Indexed.{parts_seen}
 use Rattle.protobuf_parse_options.specs.Known.{field_among, number_among}
 use Rattle.protobuf_parse_options.specs.OptionFields.{declared_enums}
 use Rattle.protobuf_parse_options.specs.OptionLaw.{HasSmallValues}

@@ -1,6 +1,6 @@
 use Rattle.std.proofs.Common.{◌≡◌, [], take}
-use Rattle.protobuf_parse_model.specs.BuiltinOptions.{options_faults}
-use Rattle.protobuf_parse_model.specs.OptionViews.{options_seen, table_seen}
+use Rattle.protobuf_parse_model.specs.BuiltinOptions.{options_faults, options_seen}
+use Rattle.protobuf_parse_model.specs.OptionViews.{table_seen}
 use Rattle.protobuf_parse_model.proofs.convert.options.check.check_options.Given as goal
 
 abbrev pub invariant-loop-option : goal.invariant-loop-option

@@ -1,6 +1,6 @@
 use Rattle.std.proofs.Common.{◌≡◌, drop}
 use Rattle.protobuf_parse_model.specs.Fields.{first_value}
-use Rattle.protobuf_parse_model.specs.OptionViews.{options_seen}
+use Rattle.protobuf_parse_model.specs.BuiltinOptions.{options_seen}
 use Rattle.protobuf_parse_model.proofs.convert.options.said.first_value.Given as goal
 
 abbrev pub invariant-loop-option : goal.invariant-loop-option

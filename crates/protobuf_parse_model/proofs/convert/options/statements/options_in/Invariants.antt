@@ -1,5 +1,5 @@
 use Rattle.std.proofs.Common.{◌≡◌, flat_map, take}
-use Rattle.protobuf_parse_model.specs.OptionViews.{options_seen}
+use Rattle.protobuf_parse_model.specs.BuiltinOptions.{options_seen}
 use Rattle.protobuf_parse_model.proofs.convert.options.statements.options_in.Given as goal
 
 abbrev pub invariant-loop-statement : goal.invariant-loop-statement
