@@ -8,7 +8,7 @@ use Rattle.std.proofs.Common.{get_or-take, get_or-drop, length-take, length-drop
 use Rattle.std.specs.Char.{digit_value}
 use Rattle.std.specs.Str.Parse.{digits_value}
 use Rattle.std.proofs.lemmas.Bool.Decides.{nat_tests}
-use Rattle.std.proofs.lemmas.Bool.{false≢true, cases_lt, or_cases, eqb-true}
+use Rattle.std.proofs.lemmas.Bool.{false≢true, cases_lt}
 use Rattle.protobuf_parse_base.specs.Characters as char
 use Rattle.protobuf_parse_syntax.specs.Text.{Bytes, is_in, AllIn}
 use Rattle.protobuf_parse_syntax.specs.Tokens.{letter_byte, IsDigits, IsEscape, letter, octal, hex}
@@ -37,10 +37,6 @@ sort_of : ℕ → ℕ
 sort_of b = cond (is_in class.Octal b) 0
     (cond (eqb b char.small_x || eqb b char.capital_x) 1
     (cond (eqb b char.small_u) 2 (cond (eqb b char.capital_u) 3 4)))
-
-at_byte : (b k s : ℕ) → eqb b k ≡ true → sort_of k ≡ s → sort_of b ≡ s
-unfolding sort_of
-at_byte b k s e h = subst (λ x. sort_of x ≡ s) (sym (eqb-true b k e)) h
 
 letter_sort : (b v : ℕ) → letter_byte b ≡ Some v → sort_of b ≡ 4
 unfolding sort_of

@@ -318,15 +318,16 @@ module _ (c : ℕ) (says : Lexeme → Option ℕ) (f : ℕ → ℤ)
   unfoldable pub signed_by : Reader lexicon (SignedBy c says f) sign_shape
   signed_by = for signed-to signed-from (meant sign_and (said_of f))
 
-abbrev pub plus : Reader lexicon (SignedBy 43 grammar.number pos)
+abbrev pub plus : Reader lexicon (SignedBy char.plus grammar.number pos)
     (shape (symbol_class char.plus ∷ []) false [])
 plus = shaped (shape (symbol_class char.plus ∷ []) false [])
-    (signed_by 43 grammar.number pos number-law) refl
+    (signed_by char.plus grammar.number pos number-law) refl
 
-abbrev pub minus : Reader lexicon (SignedBy 45 (small_number 9223372036854775808) negative)
+abbrev pub minus : Reader lexicon (SignedBy char.minus (small_number 9223372036854775808) negative)
     (shape (symbol_class char.minus ∷ []) false [])
 minus = shaped (shape (symbol_class char.minus ∷ []) false [])
-    (signed_by 45 (small_number 9223372036854775808) negative (small-law 9223372036854775808)) refl
+    (signed_by char.minus (small_number 9223372036854775808) negative
+    (small-law 9223372036854775808)) refl
 
 unfoldable pub signed : Parses IsInteger integer_shape
 unfolding IsInteger

@@ -98,6 +98,7 @@ pub record IsDigits (c : ByteClass) (z : Bytes) (from limit n : ℕ) : Type 0 wh
   pub each : AllIn c z from n
   pub stops : n < limit → RunStopsAt c z n
 
+-- the byte behind a backslash at the front
 abbrev pub after_backslash : Bytes → ℕ
 after_backslash z = slice_index z 1
 
