@@ -4,6 +4,7 @@ use Rattle.std.specs.Prelude.{Some, reverse, count_by, take_while, take, drop, s
 use Rattle.std.specs.Str.{IsUtf8, chars}
 use Rattle.protobuf_parse_syntax.specs.Text.{Bytes, IsToken, IsFault}
 use Rattle.protobuf_parse_syntax.specs.Place.{start, after}
+use Rattle.protobuf_parse_syntax.specs.Kinds.{kind_of}
 use Rattle.protobuf_parse_syntax.specs.Tokens.{Lexeme, unquoted, Decodes, DecodesAll}
 use Rattle.protobuf_parse_syntax.specs.Grammar.{StandsFor}
 use Rattle.protobuf_parse_syntax.specs.Decoder.{decode, text_of}
@@ -12,6 +13,7 @@ use Rattle.protobuf_parse_base.specs.Characters as char
 use Rattle.protobuf_parse_base.specs.Escapes.{escaped_bytes}
 use Rattle.protobuf_parse_syntax.specs.declared.error.ParserError.{ParserError}
 use Rattle.protobuf_parse_syntax.specs.declared.lexer.token.Place.{Place}
+use Rattle.protobuf_parse_syntax.specs.declared.lexer.token.TokenKind.{TokenKind}
 use Rattle.protobuf_parse_syntax.specs.declared.lexer.token.TokenKind.TheVariants as kind
 
 -- what ends a cut: the end of the text, or a fault
@@ -27,6 +29,10 @@ IsOneCut =
 -- one fault begins there
 abbrev pub IsOneFault : Type 0
 IsOneFault = (rest : Bytes) (e f : ParserError) → IsFault rest e → IsFault rest f → e ≡ f
+
+-- a token's text tells its kind
+abbrev pub TextsTellKinds : Type 0
+TextsTellKinds = (z : Bytes) (n : ℕ) (k : TokenKind) → IsToken z n k → kind_of (take n z) ≡ k
 
 -- pieces of a string stand for one list of bytes
 abbrev pub IsOneDecoding : Type 0

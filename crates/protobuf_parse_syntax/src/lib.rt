@@ -11,7 +11,7 @@ pub use dependencies::{Dependencies, imports_of, parse_dependencies};
 pub use error::{ParserError, ParserErrorWithLocation};
 pub use lexer::laws::{
     cuts_are_unique, decoding_is_unique, escaped_bytes_decode, places_count_characters,
-    strings_are_decoded, strings_are_quoted,
+    strings_are_decoded, strings_are_quoted, texts_tell_kinds,
 };
 pub use lexer::str_lit::{StrLit, StrLitDecodeError, unquoted};
 pub use lexer::token::{Place, Token, TokenKind, TokenStream};

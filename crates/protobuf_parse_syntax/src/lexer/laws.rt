@@ -1,6 +1,7 @@
 //! Laws of the definitions that the lexer's contracts cite. The functions do nothing.
 
 ghost use Rattle.protobuf_parse_syntax.specs.Laws.{IsOneCut, IsOneFault, IsOneDecoding};
+ghost use Rattle.protobuf_parse_syntax.specs.Laws.{TextsTellKinds};
 ghost use Rattle.protobuf_parse_syntax.specs.Laws.{PlacesCountCharacters, TokensStandInTheText};
 ghost use Rattle.protobuf_parse_syntax.specs.Laws.{StringsAreQuoted, EscapedBytesDecode};
 ghost use Rattle.protobuf_parse_syntax.specs.Laws.{DecodeIsExact, TextIsExact};
@@ -9,6 +10,12 @@ ghost use Rattle.protobuf_parse_syntax.specs.Laws.{DecodeIsExact, TextIsExact};
 pub fn cuts_are_unique()
     ensures cut { IsOneCut }
     ensures fault { IsOneFault }
+{}
+
+/// A token's text tells its kind.
+#[tactic(auto, using(crate::proofs::TextKinds::token_kind))]
+pub fn texts_tell_kinds()
+    ensures { TextsTellKinds }
 {}
 
 /// The pieces of a string stand for one list of bytes.
