@@ -85,7 +85,7 @@ pub fn snake_case(alloc: Global, name: &str) -> Result<String, AllocError>
 /// character with the property Lowercase.
 fn push_lowered(split: &mut String, after_lower: bool, character: char) -> Result<(), AllocError>
     ensures { OnOk result (string_bytes split.new ≡ string_bytes split.old ++ encode_utf8_all
-        ((if after_lower && is_ascii_uppercase character then 95 ∷ [] else [])
+        ((if after_lower && is_ascii_uppercase character then char.underscore ∷ [] else [])
         ++ to_ascii_lowercase character ∷ [])) }
 {
     if after_lower && character.is_ascii_uppercase() {
