@@ -11,7 +11,7 @@ use Rattle.std.proofs.lemmas.Option.{slice_get-map}
 use Rattle.std.proofs.lemmas.List.{map-append}
 use Rattle.std.proofs.lemmas.List.Elements.{Contains-append_left, Contains-append_right}
 use Rattle.std.proofs.lemmas.List.Elements.{Contains-append_cases}
-use Rattle.protobuf_parse_syntax.specs.Trees.{FileSyntax, file_view}
+use Rattle.protobuf_parse_syntax.specs.Trees.{FileSyntax}
 use Rattle.protobuf_parse_model.specs.Descriptors.{Text, FileDescriptor}
 use Rattle.protobuf_parse_model.specs.Declarations.{DeclaredType, file_scope}
 use Rattle.protobuf_parse_model.specs.Environment.{Customs, Environment, no_customs}
@@ -40,7 +40,7 @@ use Rattle.protobuf_parse_run.specs.Loading.{SettlesOver, customs_over, faults_o
 use Rattle.protobuf_parse_run.specs.Loading.{file_over}
 use Rattle.protobuf_parse_run.specs.Loading.{named_trees, paths_in, picked_plains, plain_in}
 use Rattle.protobuf_parse_run.specs.Loading.{plain_over}
-use Rattle.protobuf_parse_run.specs.Loading.{plains_next, trees_of, with_next}
+use Rattle.protobuf_parse_run.specs.Loading.{plains_next, tree_in, trees_of, with_next}
 use Rattle.protobuf_parse_run.specs.declared.fault.RunFault.{RunFault}
 use Rattle.protobuf_parse_run.specs.declared.fault.RunFault.TheVariants as fault
 use Rattle.protobuf_parse_run.specs.declared.loader.Placed.{Placed}
@@ -132,7 +132,7 @@ pub plains-made : (files : Files) (log : List ReadEntry) (loaded : List LoadedEn
 plains-made files log [] made = refl
 plains-made files log (e ∷ loaded) made =
     ap (λ d. d ∷ map plain_in loaded) made.0.plain
-    ∙ ap (λ ds. plain_of files (string_bytes e.0) (file_view e.1.tree) ∷ ds)
+    ∙ ap (λ ds. plain_of files (string_bytes e.0) (tree_in e.1) ∷ ds)
     (plains-made files log loaded made.1)
 
 -- ** each of them once
@@ -529,8 +529,8 @@ pub agrees-made : (files : Files) (log : List ReadEntry) (loaded : List LoadedEn
     → Agrees files.trees (named_trees loaded)
 agrees-made files log [] made n q u h = cc
 agrees-made files log (e ∷ loaded) made zero q u h =
-    let same : (string_bytes e.0, file_view e.1.tree)
-    ≡ (q, u) = some_is (string_bytes e.0, file_view e.1.tree) (q, u) h in
+    let same : (string_bytes e.0, tree_in e.1)
+    ≡ (q, u) = some_is (string_bytes e.0, tree_in e.1) (q, u) h in
     subst (λ (f : Named). files.trees f.0 ≡ Some f.1) same made.0.is
   where
     some_is : (a b : Named) → Some a ≡ Some b → a ≡ b

@@ -1,6 +1,6 @@
 //! Loading: each file once, its imports first.
 
-ghost use Rattle.std.specs.Prelude.{◌≡◌, true, false, ◌≤◌, ◌<◌, ◌+◌, ◌-◌, ◌*◌, ◌^◌, ◌++◌, ◌∷◌, []};
+ghost use Rattle.std.specs.Prelude.{◌≡◌, true, false, ◌≤◌, ◌<◌, ◌+◌, ◌^◌, ◌++◌, ◌∷◌, []};
 ghost use Rattle.std.specs.Prelude.{ℕ, List, map, length, Result, Ok, Option, Some, option_map};
 ghost use Rattle.std.specs.Prelude.{IfOk, IfErr, OnOk, OnErr, String, slice_get, string_bytes};
 ghost use Rattle.std.specs.Borrow.{Bor};
@@ -16,26 +16,20 @@ ghost use Rattle.protobuf_parse_model.specs.Tables.{TableTells};
 ghost use Rattle.protobuf_parse_run.specs.declared.fault.RunFault.TheVariants.{Memory};
 ghost use Rattle.protobuf_parse_run.specs.declared.log.ReadEntry.{ReadEntry};
 ghost use Rattle.protobuf_parse_model.specs.Descriptors.{Text};
-ghost use Rattle.protobuf_parse_run.specs.Walks.{Event, among, at, checks, events, input_walk};
-ghost use Rattle.protobuf_parse_run.specs.Walks.{keep};
-ghost use Rattle.protobuf_parse_run.specs.Walks.{import_statements, walk};
-ghost use Rattle.protobuf_parse_run.specs.Run.{Files, IsCounted, are_same_bytes, input_view};
-ghost use Rattle.protobuf_parse_run.specs.Run.{StandsInCheck, StandsInCycle, StandsInElab};
-ghost use Rattle.protobuf_parse_run.specs.Run.{StandsInLong, origin_given, rows, text_given};
-ghost use Rattle.protobuf_parse_run.specs.Loading.{AreKnown, AreJoined, FilesAreNumbered};
-ghost use Rattle.protobuf_parse_run.specs.Loading.{IndexBegins};
-ghost use Rattle.protobuf_parse_run.specs.Loading.{Describes};
-ghost use Rattle.protobuf_parse_run.specs.Loading.{Goes, GoesOn, Good, Grows, IsDecided};
-ghost use Rattle.protobuf_parse_run.specs.Loading.{IsElabFault};
-ghost use Rattle.protobuf_parse_run.specs.Loading.{IsPlaced, IsReaders, IsShadowed};
-ghost use Rattle.protobuf_parse_run.specs.Run.{OrMemory};
-ghost use Rattle.protobuf_parse_run.specs.Loading.{ReadsTree, SettlesOver, asked_by, faults_over};
-ghost use Rattle.protobuf_parse_run.specs.Loading.{legal_by, named_trees, plain_in, plain_or};
-ghost use Rattle.protobuf_parse_run.specs.Loading.{plains_over, plains_with, chain_texts, trees_of};
-ghost use Rattle.protobuf_parse_run.specs.Loading.{with_next};
-ghost use Rattle.protobuf_parse_run.specs.Frames.{Joined, Meets, is_public_at, number_if};
-ghost use Rattle.protobuf_parse_run.specs.Frames.{StandsMet};
-ghost use Rattle.protobuf_parse_run.specs.Frames.{frame_path};
+ghost use Rattle.protobuf_parse_run.specs.Walks.{among, at, with_check, with_input};
+ghost use Rattle.protobuf_parse_run.specs.Run.{OrMemory, StandsInCheck, StandsInCycle};
+ghost use Rattle.protobuf_parse_run.specs.Run.{StandsInElab, StandsInLong, are_same_bytes};
+ghost use Rattle.protobuf_parse_run.specs.Run.{input_view, origin_given, rows, text_given};
+ghost use Rattle.protobuf_parse_run.specs.Loading.{Describes, Grows, IndexBegins, IsDecided};
+ghost use Rattle.protobuf_parse_run.specs.Loading.{IsElabFault, IsPlaced, IsReaders, IsShadowed};
+ghost use Rattle.protobuf_parse_run.specs.Loading.{ReadsTree, SettlesOver, asked_by, chain_texts};
+ghost use Rattle.protobuf_parse_run.specs.Loading.{faults_over, legal_by, named_trees, plain_in};
+ghost use Rattle.protobuf_parse_run.specs.Loading.{plain_or, plains_over, plains_with, trees_of};
+ghost use Rattle.protobuf_parse_run.specs.Frames.{Joined, StandsMet, frame_path, is_public_at};
+ghost use Rattle.protobuf_parse_run.specs.Frames.{number_if};
+ghost use Rattle.protobuf_parse_run.specs.Calls.{CanMeet, CountsThrough, CountsTo, GoesThrough};
+ghost use Rattle.protobuf_parse_run.specs.Calls.{GoesTo, KnowsFiles, MeetsAt, MeetsFew};
+ghost use Rattle.protobuf_parse_run.specs.Calls.{StaysDecided, with_file};
 
 use crate::asking::{answer, content, opened, origin, unreadable};
 use crate::describe::{Described, elaborated};
@@ -286,9 +280,9 @@ fn load_file<R: ProtoPathResolver, I: InputReader>(
     ensures chain { OnOk result (loader.new.chain.items ≡ []) }
     ensures bound { OnOk result (MeetsFew loader.old loader.new) }
     ensures goes { GoesTo R.may_answer I.may_read sources.now
-        (with_file (asked_by fs_path.entry) (path_buf_text input.now)) loader.old loader.new result }
+        (with_file (path_buf_text input.now) fs_path.entry) loader.old loader.new result }
     ensures count { CountsTo R.may_answer I.may_read sources.now
-        (with_file (asked_by fs_path.entry) (path_buf_text input.now)) loader.old loader.new result }
+        (with_file (path_buf_text input.now) fs_path.entry) loader.old loader.new result }
     ensures decided { StaysDecided sources.now loader.old loader.new }
     ensures known { OnOk result (KnowsFiles loader.new) }
 {

@@ -1,5 +1,5 @@
 use Rattle.std.proofs.Common.{◌≡◌, [], ap, refl, map, take, arith}
-use Rattle.std.proofs.lemmas.List.{take_all}
+use Rattle.std.proofs.lemmas.List.{length-map, take_all}
 use Rattle.std.proofs.lemmas.Result.{err_from_is_err_and}
 use Rattle.protobuf_parse_run.specs.Walks.{events, import_statements}
 use Rattle.protobuf_parse_run.specs.Run.{input_view, rows}
@@ -42,10 +42,11 @@ returns-in_err-load_input g c = record {
       let good = c.loop-input.invariant.inside files back in
       let is = split-at input_view xs c.loop-input.input-index c.input-item.result
       (omega arith) c.input-item.is in
+      let all = length-map xs input_view in
       let p = err_from_is_err_and c.from_residual.result c.from_residual.ensures.1 in
       rw p.1 (count-inputs-stop
       (legal_by g.R.ProtoPathResolver.may_answer g.I.InputReader.may_read c.args.sources.now)
-      files _ _ _ _ _ _ _ _ is (omega arith) (c.loop-input.invariant.count files back)
+      files _ _ _ _ _ _ _ _ is (omega (arith, all)) (c.loop-input.invariant.count files back)
       (c.in_err-load_input.ensures.count files _ go good));
 }
 
@@ -90,5 +91,5 @@ returns g c = record {
       let h = c.loop-input.invariant.count files go in
       let e = ap (λ z. import_statements files.trees (events files.trees (map input_view z)))
       whole in
-      omega (arith, h, e);
+      omega (arith, h, e, length-map c.args.inputs.now input_view);
 }

@@ -3,7 +3,6 @@ use Rattle.protobuf_parse_run.specs.Walks.{events}
 use Rattle.protobuf_parse_run.specs.Run.{MayAnswer, input_view, rows}
 use Rattle.protobuf_parse_run.proofs.AskedOnce.{all-asked-once}
 use Rattle.protobuf_parse_run.proofs.Causing.{caused}
-use Rattle.std.proofs.lemmas.List.{length-map}
 use Rattle.protobuf_parse_run.proofs.Deciding.{goes-on, have-trees, run-files}
 use Rattle.protobuf_parse_run.proofs.Listed.{have-lists}
 use Rattle.protobuf_parse_run.proofs.Following.{all-follow}
@@ -58,11 +57,8 @@ returns-clause-meets g c trees has =
     let l = have-lists table log trees has in
     let files = run-files table log trees l.0 l.1 in
     let go = goes-on table log trees l.0 l.1 has l.2 in
-    let same = length-map c.args.inputs.now input_view in
     elim c.match-outcome.branch [
-      | in-Ok+in-Ok-descriptors w ↦ rw w.result-is
-          (omega (arith, same, w.in-Ok.ensures.count files go))
-      | in-Ok+in-Err-descriptors w ↦ rw w.result-is
-          (omega (arith, same, w.in-Ok.ensures.count files go))
-      | in-Err w ↦ rw w.result-is (omega (arith, same, w.in-Err.ensures.count files go))
+      | in-Ok+in-Ok-descriptors w ↦ rw w.result-is (omega (arith, w.in-Ok.ensures.count files go))
+      | in-Ok+in-Err-descriptors w ↦ rw w.result-is (omega (arith, w.in-Ok.ensures.count files go))
+      | in-Err w ↦ rw w.result-is (omega (arith, w.in-Err.ensures.count files go))
     ]
