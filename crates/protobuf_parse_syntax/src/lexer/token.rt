@@ -2,7 +2,9 @@
 
 ghost use Rattle.std.specs.Prelude.{◌≡◌};
 ghost use Rattle.protobuf_parse_syntax.specs.Kinds as kinds;
+ghost use Rattle.protobuf_parse_syntax.specs.Classes as class;
 
+use crate::lexer::bytes::{ByteClass, byte_at, is_in};
 use crate::lexer::kind::kind_of;
 
 /// A line and a column, both from 1. A column counts characters.
@@ -43,6 +45,43 @@ impl<'a> Token<'a> {
         ensures { result ≡ kinds.kind_of self.now.text.now }
     {
         kind_of(self.text.as_bytes())
+    }
+
+    /// Whether the token is an identifier.
+    #[inline]
+    #[tactic(auto, using(crate::proofs::TextKinds::ident_by_first))]
+    pub fn is_ident(&self) -> bool
+        ensures { result ≡ class.is_ident (kinds.kind_of self.now.text.now) }
+    {
+        let first = byte_at(self.text.as_bytes(), 0);
+        is_in(ByteClass::Ident, first) && !is_in(ByteClass::Digit, first)
+    }
+
+    /// Whether the token is a string.
+    #[inline]
+    #[tactic(auto, using(crate::proofs::TextKinds::string_by_first))]
+    pub fn is_str(&self) -> bool
+        ensures { result ≡ class.is_string (kinds.kind_of self.now.text.now) }
+    {
+        let first = byte_at(self.text.as_bytes(), 0);
+        first == b'"' || first == b'\''
+    }
+
+    /// Whether the token is this symbol.
+    #[inline]
+    #[tactic(auto, using(crate::proofs::TextKinds::symbol_by_first, crate::proofs::TextKinds::plain_symbol))]
+    pub fn is_symbol(&self, symbol: char) -> bool
+        ensures { result ≡ class.is_symbol symbol (kinds.kind_of self.now.text.now) }
+    {
+        let bytes = self.text.as_bytes();
+        let first = byte_at(bytes, 0);
+        if char::from(first) != symbol || first == b'"' || first == b'\'' {
+            false
+        } else if first == b'.' {
+            !is_in(ByteClass::Digit, byte_at(bytes, 1))
+        } else {
+            !is_in(ByteClass::Ident, first)
+        }
     }
 }
 

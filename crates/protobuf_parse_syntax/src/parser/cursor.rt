@@ -59,10 +59,7 @@ impl<'t, 'text> Cursor<'t, 'text> {
         ensures { result ≡ starts lexicon (class.symbol symbol ∷ []) (left self.now) }
     {
         match self.rest {
-            [token, ..] => match token.kind() {
-                TokenKind::Symbol(other) => other == symbol,
-                _ => false,
-            },
+            [token, ..] => token.is_symbol(symbol),
             [] => false,
         }
     }
@@ -82,14 +79,11 @@ impl<'t, 'text> Cursor<'t, 'text> {
             ((read.symbol symbol).run (left self.old)) }
     {
         match self.rest {
-            [token, rest @ ..] => match token.kind() {
-                TokenKind::Symbol(other) if other == symbol => {
-                    self.rest = rest;
-                    Ok(())
-                }
-                _ => Err(Refusal::Next(fault)),
-            },
-            [] => Err(Refusal::Next(fault)),
+            [token, rest @ ..] if token.is_symbol(symbol) => {
+                self.rest = rest;
+                Ok(())
+            }
+            _ => Err(Refusal::Next(fault)),
         }
     }
 
@@ -99,10 +93,7 @@ impl<'t, 'text> Cursor<'t, 'text> {
         ensures { result ≡ starts lexicon (class.word word.now ∷ []) (left self.now) }
     {
         match self.rest {
-            [token, ..] => match token.kind() {
-                TokenKind::Ident => token.text == word,
-                _ => false,
-            },
+            [token, ..] => token.is_ident() && token.text == word,
             [] => false,
         }
     }
@@ -113,14 +104,11 @@ impl<'t, 'text> Cursor<'t, 'text> {
             ((read.word word.now).run (left self.old)) }
     {
         match self.rest {
-            [token, rest @ ..] => match token.kind() {
-                TokenKind::Ident if token.text == word => {
-                    self.rest = rest;
-                    Ok(())
-                }
-                _ => Err(Refusal::Next(ParserError::IncorrectInput)),
-            },
-            [] => Err(Refusal::Next(ParserError::IncorrectInput)),
+            [token, rest @ ..] if token.is_ident() && token.text == word => {
+                self.rest = rest;
+                Ok(())
+            }
+            _ => Err(Refusal::Next(ParserError::IncorrectInput)),
         }
     }
 
@@ -130,7 +118,7 @@ impl<'t, 'text> Cursor<'t, 'text> {
         ensures { result ≡ starts lexicon (class.ident [] ∷ []) (left self.now) }
     {
         match self.rest {
-            [token, ..] => matches!(token.kind(), TokenKind::Ident),
+            [token, ..] => token.is_ident(),
             [] => false,
         }
     }
@@ -140,11 +128,8 @@ impl<'t, 'text> Cursor<'t, 'text> {
         ensures { seen_by (λ z. z.now) result ≡ next_ident (left self.now) }
     {
         match self.rest {
-            [token, ..] => match token.kind() {
-                TokenKind::Ident => Some(token.text),
-                _ => None,
-            },
-            [] => None,
+            [token, ..] if token.is_ident() => Some(token.text),
+            _ => None,
         }
     }
 
@@ -162,14 +147,11 @@ impl<'t, 'text> Cursor<'t, 'text> {
         ensures { Gives (λ z. z.now) result (left self.new) (read.ident.run (left self.old)) }
     {
         match self.rest {
-            [token, rest @ ..] => match token.kind() {
-                TokenKind::Ident => {
-                    self.rest = rest;
-                    Ok(token.text)
-                }
-                _ => Err(Refusal::Next(ParserError::IncorrectInput)),
-            },
-            [] => Err(Refusal::Next(ParserError::IncorrectInput)),
+            [token, rest @ ..] if token.is_ident() => {
+                self.rest = rest;
+                Ok(token.text)
+            }
+            _ => Err(Refusal::Next(ParserError::IncorrectInput)),
         }
     }
 
@@ -263,7 +245,7 @@ impl<'t, 'text> Cursor<'t, 'text> {
         ensures { result ≡ starts lexicon (class.text ∷ []) (left self.now) }
     {
         match self.rest {
-            [token, ..] => matches!(token.kind(), TokenKind::Str),
+            [token, ..] => token.is_str(),
             [] => false,
         }
     }
@@ -273,15 +255,12 @@ impl<'t, 'text> Cursor<'t, 'text> {
         ensures { Gives string_bytes result (left self.new) (read.piece.run (left self.old)) }
     {
         match self.rest {
-            [token, rest @ ..] => match token.kind() {
-                TokenKind::Str => {
-                    let piece = String::from_str(alloc, unquoted(token.text))?;
-                    self.rest = rest;
-                    Ok(piece)
-                }
-                _ => Err(Refusal::Next(ParserError::IncorrectInput)),
-            },
-            [] => Err(Refusal::Next(ParserError::IncorrectInput)),
+            [token, rest @ ..] if token.is_str() => {
+                let piece = String::from_str(alloc, unquoted(token.text))?;
+                self.rest = rest;
+                Ok(piece)
+            }
+            _ => Err(Refusal::Next(ParserError::IncorrectInput)),
         }
     }
 
