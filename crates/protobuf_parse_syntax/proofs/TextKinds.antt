@@ -18,7 +18,7 @@ use Rattle.protobuf_parse_syntax.specs.Text.{Bytes, is_in, AllIn, IsQuote, IsFlo
 use Rattle.protobuf_parse_syntax.specs.Text.{IsIntegerText, IsToken, is_symbol}
 use Rattle.protobuf_parse_syntax.specs.Kinds.{integer_kind, number_kind, kind_of}
 use Rattle.protobuf_parse_syntax.specs.Tokens.{is_opening, is_closing}
-use Rattle.protobuf_parse_syntax.specs.Classes.{is_ident, is_string, is_symbol as is_symbol_of}
+use Rattle.protobuf_parse_syntax.specs.Classes.{is_ident_token, is_string, is_symbol_token}
 use Rattle.protobuf_parse_syntax.proofs.Front.{number_first, octal_digits, after_whole, x_no_float}
 use Rattle.protobuf_parse_syntax.proofs.Front.{x_no_digit}
 use Rattle.protobuf_parse_syntax.proofs.Unique.{no_digit, no_ident, symbol_tests, not_true}
@@ -507,8 +507,8 @@ closing_first w =
 
 -- ---- identifiers, strings and symbols
 
-ident_by : (d w q p : Bool) (k : TokenKind) (b : ℕ) → is_ident k ≡ false
-    → is_ident (kind_by d w q p k b) ≡ (w && not d)
+ident_by : (d w q p : Bool) (k : TokenKind) (b : ℕ) → is_ident_token k ≡ false
+    → is_ident_token (kind_by d w q p k b) ≡ (w && not d)
 ident_by true w q p k b none = none ∙ sym (and_no w false refl)
 ident_by false true q p k b none = refl
 ident_by false false true p k b none = refl
@@ -522,8 +522,8 @@ string_by false true p k b none = refl
 string_by false false true k b none = refl
 string_by false false false k b none = refl
 
-symbol_by : (c : ℕ) (d w q p : Bool) (k : TokenKind) (b : ℕ) → is_symbol_of c k ≡ false
-    → (d ≡ true → w ≡ true) → is_symbol_of c (kind_by d w q p k b)
+symbol_by : (c : ℕ) (d w q p : Bool) (k : TokenKind) (b : ℕ) → is_symbol_token c k ≡ false
+    → (d ≡ true → w ≡ true) → is_symbol_token c (kind_by d w q p k b)
     ≡ (eqb b c && (not w && (not q && not p)))
 symbol_by c true true q p k b none word = none ∙ sym (and_no (eqb b c) false refl)
 symbol_by c true false q p k b none word = absurd (false≢true (word refl))
@@ -544,13 +544,13 @@ number_alone test integer float w =
 digit_is_ident : (b : ℕ) → is_in class.Digit b ≡ true → is_in class.Ident b ≡ true
 digit_is_ident b h = grind (arith, nat_tests)
 
-pub ident_by_first : (w : Bytes) → is_ident (kind_of w)
+pub ident_by_first : (w : Bytes) → is_ident_token (kind_of w)
     ≡ (is_in class.Ident (get_or w 0 0) && not (is_in class.Digit (get_or w 0 0)))
 unfolding kind_of
 ident_by_first w =
     ident_by (is_in class.Digit (get_or w 0 0)) (is_in class.Ident (get_or w 0 0))
     (is_quoted (get_or w 0 0)) (is_pointed w) (number_kind w) (get_or w 0 0)
-    (number_alone is_ident (λ n. refl) refl w)
+    (number_alone is_ident_token (λ n. refl) refl w)
 
 quoted_is : (b : ℕ) → is_quoted b ≡ true → IsQuote b
 quoted_is b h =
@@ -579,7 +579,7 @@ string_by_first w =
       | inr h ↦ string_no w h ∙ sym h
     ]
 
-pub symbol_by_first : (c : ℕ) (w : Bytes) → is_symbol_of c (kind_of w)
+pub symbol_by_first : (c : ℕ) (w : Bytes) → is_symbol_token c (kind_of w)
     ≡ (eqb (get_or w 0 0) c && (not (is_in class.Ident (get_or w 0 0))
     && (not (eqb (get_or w 0 0) 34 || eqb (get_or w 0 0) 39)
     && not (eqb (get_or w 0 0) 46 && is_in class.Digit (get_or w 1 0)))))
@@ -587,7 +587,7 @@ unfolding kind_of
 symbol_by_first c w =
     symbol_by c (is_in class.Digit (get_or w 0 0)) (is_in class.Ident (get_or w 0 0))
     (is_quoted (get_or w 0 0)) (is_pointed w) (number_kind w) (get_or w 0 0)
-    (number_alone (is_symbol_of c) (λ n. refl) refl w) (digit_is_ident (get_or w 0 0))
+    (number_alone (is_symbol_token c) (λ n. refl) refl w) (digit_is_ident (get_or w 0 0))
 
 not_byte : (b k : ℕ) → (b ≡ k → ⊥) → eqb b k ≡ false
 not_byte b k h = not_true (eqb b k) (λ e. h (same_byte b k e))
@@ -599,7 +599,7 @@ by_tests s w q r p d hs hq hr hp = rw (hs, hq, hr, hp) (and_yes w)
 -- a byte that begins no string and is no point
 pub plain_symbol : (c : ℕ) (w : Bytes) → get_or w 0 0 ≡ c → (get_or w 0 0 ≡ 34 → ⊥)
     → (get_or w 0 0 ≡ 39 → ⊥) → (get_or w 0 0 ≡ 46 → ⊥)
-    → not (is_in class.Ident (get_or w 0 0)) ≡ is_symbol_of c (kind_of w)
+    → not (is_in class.Ident (get_or w 0 0)) ≡ is_symbol_token c (kind_of w)
 plain_symbol c w e a b p =
     sym (symbol_by_first c w
     ∙ by_tests (eqb (get_or w 0 0) c) (not (is_in class.Ident (get_or w 0 0)))

@@ -51,7 +51,7 @@ impl<'a> Token<'a> {
     #[inline]
     #[tactic(auto, using(crate::proofs::TextKinds::ident_by_first))]
     pub fn is_ident(&self) -> bool
-        ensures { result ≡ class.is_ident (kinds.kind_of self.now.text.now) }
+        ensures { result ≡ class.is_ident_token (kinds.kind_of self.now.text.now) }
     {
         let first = byte_at(self.text.as_bytes(), 0);
         is_in(ByteClass::Ident, first) && !is_in(ByteClass::Digit, first)
@@ -71,7 +71,7 @@ impl<'a> Token<'a> {
     #[inline]
     #[tactic(auto, using(crate::proofs::TextKinds::symbol_by_first, crate::proofs::TextKinds::plain_symbol))]
     pub fn is_symbol(&self, symbol: char) -> bool
-        ensures { result ≡ class.is_symbol symbol (kinds.kind_of self.now.text.now) }
+        ensures { result ≡ class.is_symbol_token symbol (kinds.kind_of self.now.text.now) }
     {
         let bytes = self.text.as_bytes();
         let first = byte_at(bytes, 0);
