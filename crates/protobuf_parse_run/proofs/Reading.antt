@@ -12,7 +12,6 @@ use Rattle.protobuf_parse_run.specs.declared.fault.RunFault.{RunFault}
 use Rattle.protobuf_parse_run.specs.declared.fault.RunFault.TheVariants as fault
 use Rattle.protobuf_parse_run.specs.declared.log.ReadEntry.{ReadEntry}
 use Rattle.protobuf_parse_run.specs.declared.log.ReadOutcome.{ReadOutcome}
-use Rattle.protobuf_parse_run.specs.declared.log.ReadOutcome.TheVariants as outcome
 use Rattle.protobuf_parse_run.specs.Walks.{Asked}
 use Rattle.protobuf_parse_run.specs.Run.{IsTheTree, StandsInLoad}
 use Rattle.protobuf_parse_run.specs.Run.{text_given}

@@ -1,7 +1,7 @@
 -- No public clause rests on this file.
 -- What a call of the loader does, whatever is loaded: `old` is the loader before it, `new` the
 -- loader after it.
-use Rattle.std.specs.Prelude.{◌≤◌, ◌+◌, ◌*◌, ◌^◌, ℕ, List, [], length, Option, Result}
+use Rattle.std.specs.Prelude.{◌≤◌, ◌+◌, ◌*◌, ◌^◌, ℕ, List, [], length, map, Option, Result}
 use Rattle.std.specs.Borrow.{Bor}
 use Rattle.protobuf_parse_model.specs.Descriptors.{Text}
 use Rattle.protobuf_parse_run.specs.declared.fault.RunFault.{RunFault}
@@ -11,8 +11,8 @@ use Rattle.protobuf_parse_run.specs.declared.source.Sources.{Sources}
 use Rattle.protobuf_parse_run.specs.Walks.{Asked, Event, Input, Trees, events, import_statements}
 use Rattle.protobuf_parse_run.specs.Walks.{keep, walk}
 use Rattle.protobuf_parse_run.specs.Run.{Files, IsCounted, MayRead, MayResolve, rows}
-use Rattle.protobuf_parse_run.specs.Loading.{AreKnown, GoesOn, Goes, Good, IsDecided, chain_texts}
-use Rattle.protobuf_parse_run.specs.Loading.{asked_by, legal_by}
+use Rattle.protobuf_parse_run.specs.Loading.{AreKnown, GoesOn, Goes, Good, IndexBegins}
+use Rattle.protobuf_parse_run.specs.Loading.{IsDecided, asked_by, chain_texts, legal_by, plain_in}
 use Rattle.protobuf_parse_run.specs.Frames.{Meets}
 
 -- ---- which events are kept after a call, by those that were
@@ -71,6 +71,10 @@ CountsThrough sources inputs new result =
 -- What is to be known of loaded files is known of these.
 abbrev pub KnowsFiles : Loader → Type 0
 KnowsFiles loader = AreKnown loader.loaded.entries loader.tables loader.reads.items
+
+-- The index of what custom options name has the first of the loaded files.
+abbrev pub HasIndex : Loader → Type 0
+HasIndex loader = IndexBegins loader.tables.places (map plain_in loader.loaded.entries)
 
 -- Where each text that was read had one tree or none, so has each that is read by now.
 abbrev pub StaysDecided : {R I : Type 0} → Sources R I → Loader → Loader → Type 0

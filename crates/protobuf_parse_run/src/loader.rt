@@ -23,13 +23,13 @@ ghost use Rattle.protobuf_parse_run.specs.Run.{input_view, origin_given, rows, t
 ghost use Rattle.protobuf_parse_run.specs.Loading.{Describes, Grows, IndexBegins, IsDecided};
 ghost use Rattle.protobuf_parse_run.specs.Loading.{IsElabFault, IsPlaced, IsReaders, IsShadowed};
 ghost use Rattle.protobuf_parse_run.specs.Loading.{ReadsTree, SettlesOver, asked_by, chain_texts};
-ghost use Rattle.protobuf_parse_run.specs.Loading.{faults_over, legal_by, named_trees, plain_in};
-ghost use Rattle.protobuf_parse_run.specs.Loading.{plain_or, plains_over, plains_with, trees_of};
+ghost use Rattle.protobuf_parse_run.specs.Loading.{faults_over, legal_by, named_trees, plain_or};
+ghost use Rattle.protobuf_parse_run.specs.Loading.{plains_over, plains_with, trees_of};
 ghost use Rattle.protobuf_parse_run.specs.Frames.{Joined, StandsMet, frame_path, is_public_at};
 ghost use Rattle.protobuf_parse_run.specs.Frames.{number_if};
 ghost use Rattle.protobuf_parse_run.specs.Calls.{CanMeet, CountsThrough, CountsTo, GoesThrough};
-ghost use Rattle.protobuf_parse_run.specs.Calls.{GoesTo, KnowsFiles, MeetsAt, MeetsFew};
-ghost use Rattle.protobuf_parse_run.specs.Calls.{StaysDecided, with_file};
+ghost use Rattle.protobuf_parse_run.specs.Calls.{GoesTo, HasIndex, KnowsFiles, MeetsAt};
+ghost use Rattle.protobuf_parse_run.specs.Calls.{MeetsFew, StaysDecided, with_file};
 
 use crate::asking::{answer, content, opened, origin, unreadable};
 use crate::describe::{Described, elaborated};
@@ -408,7 +408,7 @@ fn push_if(numbers: &mut Vec<u32>, public: bool, number: u32) -> Result<(), Allo
 fn close(alloc: Global, loader: &mut Loader, frame: LoadFrame) -> Result<Placed, RunFault>
     requires low { frame.height < LIMIT }
     requires few { statements_in (file_view frame.tree) ≤ 2147483647 }
-    requires begins { IndexBegins loader.old.tables.places (map plain_in loader.old.loaded.entries) }
+    requires begins { HasIndex loader.old }
     ensures reads { loader.new.reads ≡ loader.old.reads }
     ensures meets { loader.new.meets ≡ loader.old.meets }
     ensures chain { (chain : List Text) → chain_texts loader.old.chain.items
@@ -548,7 +548,7 @@ fn settle(
     read: usize,
 ) -> Result<Placed, RunFault>
     requires few { statements_in (file_view tree) ≤ 2147483647 }
-    requires begins { IndexBegins loader.old.tables.places (map plain_in loader.old.loaded.entries) }
+    requires begins { HasIndex loader.old }
     ensures reads { loader.new.reads ≡ loader.old.reads }
     ensures chain { loader.new.chain ≡ loader.old.chain }
     ensures meets { loader.new.meets ≡ loader.old.meets }
@@ -606,7 +606,7 @@ fn descriptor_of(
     requires few { statements_in (file_view tree.now) ≤ 2147483647 }
     requires reach { IsStrictlyIncreasing sights.now.reach.items }
     requires sight { IsStrictlyIncreasing sights.now.sight.items }
-    requires begins { IndexBegins loader.old.tables.places (map plain_in loader.old.loaded.entries) }
+    requires begins { HasIndex loader.old }
     ensures loaded { loader.new.loaded ≡ loader.old.loaded }
     ensures names { loader.new.tables.names ≡ loader.old.tables.names }
     ensures reads { loader.new.reads ≡ loader.old.reads }

@@ -1,9 +1,9 @@
-use Rattle.std.proofs.Common.{◌≡◌, ap}
+use Rattle.std.proofs.Common.{ap}
 use Rattle.std.proofs.lemmas.Result.{err_from_is_err_and}
 use Rattle.protobuf_parse_syntax.specs.Trees.{file_view}
 use Rattle.protobuf_parse_model.specs.Descriptors as described
 use Rattle.protobuf_parse_model.specs.Descriptors.{FileDescriptor}
-use Rattle.protobuf_parse_run.specs.Loading.{customs_over, plains_over, plains_with}
+use Rattle.protobuf_parse_run.specs.Loading.{customs_over, plains_with}
 use Rattle.protobuf_parse_run.proofs.Catching.{whole-begins}
 use Rattle.protobuf_parse_run.proofs.Spelling.{customs-told, own-told, some-set}
 use Rattle.protobuf_parse_run.proofs.describe.with_customs.Goals as goal

@@ -1,7 +1,7 @@
 use Rattle.std.proofs.Common.{◌≡◌, ◌∙◌, refl, sym, inl, inr, ap, subst, List, Some, Ok, length, map}
 use Rattle.std.proofs.lemmas.List.{length-map}
 use Rattle.std.proofs.lemmas.Result.{err_from_is_err_and}
-use Rattle.protobuf_parse_syntax.specs.Trees.{FileSyntax, file_view}
+use Rattle.protobuf_parse_syntax.specs.Trees.{file_view}
 use Rattle.protobuf_parse_model.specs.Descriptors.{FileDescriptor, Text}
 use Rattle.protobuf_parse_run.specs.Run.{StandsInElab, origin_given}
 use Rattle.protobuf_parse_run.specs.Loading.{IndexBegins, Describes, Named, faults_over}
