@@ -29,5 +29,4 @@ kind_of w =
     if is_in class.Digit (slice_index w 0) then number_kind w
     else (if is_in class.Ident (slice_index w 0) then kind.Ident
     else (if slice_index w 0 == 34 || slice_index w 0 == 39 then kind.Str
-    else (if slice_index w 0 == 46 && is_in class.Digit (slice_index w 1) then kind.Float
-    else kind.Symbol (slice_index w 0))))
+    else (if length w == 1 then kind.Symbol (slice_index w 0) else kind.Float)))
