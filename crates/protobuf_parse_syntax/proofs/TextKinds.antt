@@ -8,7 +8,7 @@ use Rattle.std.specs.List.{list_all}
 use Rattle.std.specs.Str.Parse.{digits_value}
 use Rattle.std.proofs.lemmas.Bool.{false≢true, cases_lt, lt-ltb}
 use Rattle.std.proofs.lemmas.Bool.Decides.{nat_tests}
-use Rattle.std.proofs.lemmas.List.{get_or_past, drop-take, length-take-le}
+use Rattle.std.proofs.lemmas.List.{drop-take, length-take-le}
 use Rattle.std.proofs.lemmas.List.Folds.{list_all_at}
 use Rattle.protobuf_parse_syntax.specs.declared.lexer.bytes.ByteClass.{ByteClass}
 use Rattle.protobuf_parse_syntax.specs.declared.lexer.bytes.ByteClass.TheVariants as class
@@ -30,7 +30,7 @@ abbrev kind_by : Bool → Bool → Bool → Bool → TokenKind → ℕ → Token
 kind_by d w q p number b =
     if d then number
     else (if w then kind.Ident
-    else (if q then kind.Str else (if p then kind.Float else kind.Symbol b)))
+    else (if q then kind.Str else (if p then kind.Symbol b else kind.Float)))
 
 by_digit : (d w q p : Bool) (k : TokenKind) (b : ℕ) → d ≡ true → kind_by d w q p k b ≡ k
 by_digit d w q p k b hd = rw hd refl
@@ -43,50 +43,50 @@ by_quote : (d w q p : Bool) (k : TokenKind) (b : ℕ) → d ≡ false → w ≡ 
     → kind_by d w q p k b ≡ kind.Str
 by_quote d w q p k b hd hw hq = rw (hd, hw, hq) refl
 
-by_point : (d w q p : Bool) (k : TokenKind) (b : ℕ) → d ≡ false → w ≡ false → q ≡ false → p ≡ true
+by_point : (d w q p : Bool) (k : TokenKind) (b : ℕ) → d ≡ false → w ≡ false → q ≡ false → p ≡ false
     → kind_by d w q p k b ≡ kind.Float
 by_point d w q p k b hd hw hq hp = rw (hd, hw, hq, hp) refl
 
 by_symbol : (d w q p : Bool) (k : TokenKind) (b : ℕ) → d ≡ false → w ≡ false → q ≡ false
-    → p ≡ false → kind_by d w q p k b ≡ kind.Symbol b
+    → p ≡ true → kind_by d w q p k b ≡ kind.Symbol b
 by_symbol d w q p k b hd hw hq hp = rw (hd, hw, hq, hp) refl
 
 abbrev is_quoted : ℕ → Bool
 is_quoted b = eqb b 34 || eqb b 39
 
-abbrev is_pointed : Bytes → Bool
-is_pointed w = eqb (get_or w 0 0) 46 && is_in class.Digit (get_or w 1 0)
+abbrev is_single : Bytes → Bool
+is_single w = eqb (length w) 1
 
 module _ (w : Bytes) where
   digit_kind : is_in class.Digit (get_or w 0 0) ≡ true → kind_of w ≡ number_kind w
   unfolding kind_of
   digit_kind = by_digit (is_in class.Digit (get_or w 0 0)) (is_in class.Ident (get_or w 0 0))
-      (is_quoted (get_or w 0 0)) (is_pointed w) (number_kind w) (get_or w 0 0)
+      (is_quoted (get_or w 0 0)) (is_single w) (number_kind w) (get_or w 0 0)
 
   ident_kind : is_in class.Digit (get_or w 0 0) ≡ false → is_in class.Ident (get_or w 0 0) ≡ true
       → kind_of w ≡ kind.Ident
   unfolding kind_of
   ident_kind = by_ident (is_in class.Digit (get_or w 0 0)) (is_in class.Ident (get_or w 0 0))
-      (is_quoted (get_or w 0 0)) (is_pointed w) (number_kind w) (get_or w 0 0)
+      (is_quoted (get_or w 0 0)) (is_single w) (number_kind w) (get_or w 0 0)
 
   quote_kind : is_in class.Digit (get_or w 0 0) ≡ false → is_in class.Ident (get_or w 0 0) ≡ false
       → is_quoted (get_or w 0 0) ≡ true → kind_of w ≡ kind.Str
   unfolding kind_of
   quote_kind = by_quote (is_in class.Digit (get_or w 0 0)) (is_in class.Ident (get_or w 0 0))
-      (is_quoted (get_or w 0 0)) (is_pointed w) (number_kind w) (get_or w 0 0)
+      (is_quoted (get_or w 0 0)) (is_single w) (number_kind w) (get_or w 0 0)
 
   point_kind : is_in class.Digit (get_or w 0 0) ≡ false → is_in class.Ident (get_or w 0 0) ≡ false
-      → is_quoted (get_or w 0 0) ≡ false → is_pointed w ≡ true → kind_of w ≡ kind.Float
+      → is_quoted (get_or w 0 0) ≡ false → is_single w ≡ false → kind_of w ≡ kind.Float
   unfolding kind_of
   point_kind = by_point (is_in class.Digit (get_or w 0 0)) (is_in class.Ident (get_or w 0 0))
-      (is_quoted (get_or w 0 0)) (is_pointed w) (number_kind w) (get_or w 0 0)
+      (is_quoted (get_or w 0 0)) (is_single w) (number_kind w) (get_or w 0 0)
 
   symbol_kind : is_in class.Digit (get_or w 0 0) ≡ false → is_in class.Ident (get_or w 0 0) ≡ false
-      → is_quoted (get_or w 0 0) ≡ false → is_pointed w ≡ false
+      → is_quoted (get_or w 0 0) ≡ false → is_single w ≡ true
       → kind_of w ≡ kind.Symbol (get_or w 0 0)
   unfolding kind_of
   symbol_kind = by_symbol (is_in class.Digit (get_or w 0 0)) (is_in class.Ident (get_or w 0 0))
-      (is_quoted (get_or w 0 0)) (is_pointed w) (number_kind w) (get_or w 0 0)
+      (is_quoted (get_or w 0 0)) (is_single w) (number_kind w) (get_or w 0 0)
 
 -- ---- integers
 
@@ -164,6 +164,9 @@ module _ (w : Bytes) where
       (integer_kind class.Octal 8 (drop 1 w)) (integer_kind class.Digit 10 w)
 
 -- ---- the text of a token
+
+not_one : (n : ℕ) → 1 < n → eqb n 1 ≡ false
+not_one n h = grind (arith, nat_tests)
 
 and_both : (a b : Bool) → a ≡ true → b ≡ true → (a && b) ≡ true
 and_both a b p q = rw (p, q) refl
@@ -376,9 +379,7 @@ module _ (z : Bytes) (n : ℕ) (within : n ≤ length z) where
             point_kind (take n z) (tested (is_in class.Digit) false 0 (omega arith) t.0)
             (tested (is_in class.Ident) false 0 (omega arith) t.1)
             (tested is_quoted false 0 (omega arith) t.2)
-            (and_both (eqb (get_or (take n z) 0 0) 46) (is_in class.Digit (get_or (take n z) 1 0))
-            (tested (λ b. eqb b 46) true 0 (omega arith) t.3)
-            (tested (is_in class.Digit) true 1 two p.1))
+            (not_one (length (take n z)) (omega (arith, len)))
       ]
 
 -- a token's text tells its kind
@@ -397,25 +398,24 @@ token_kind z n (kind.Symbol b) t =
     let some : 0 < n = omega (arith, t.0) in
     let within : n ≤ length z = omega (arith, t.0, t.1) in
     let q = symbol_tests (get_or z 0 0) (subst (λ x. is_symbol x ≡ true) t.2 t.3) in
-    let one : length (take n z) ≤ 1 = omega (arith, t.0, len z n within) in
+    let one : length (take n z) ≡ 1 = len z n within ∙ t.0 in
     symbol_kind (take n z)
     (tested z n within (is_in class.Digit) false 0 some (no_digit z t.1 t.4))
     (tested z n within (is_in class.Ident) false 0 some (no_ident z t.1 t.4))
     (tested z n within is_quoted false 0 some q.1)
-    (and_no (eqb (get_or (take n z) 0 0) 46) (is_in class.Digit (get_or (take n z) 1 0))
-    (ap (is_in class.Digit) (get_or_past (take n z) 1 0 one)))
+    (ap (λ m. eqb m 1) one)
     ∙ ap (λ x. kind.Symbol x) (at z n within 0 some ∙ sym t.2)
 
 -- ---- brackets
 
 symbols_alone : (test : TokenKind → Bool) (d w q p : Bool) (k : TokenKind) (b : ℕ) → test k ≡ false
     → test kind.Ident ≡ false → test kind.Str ≡ false → test kind.Float ≡ false
-    → test (kind.Symbol b) ≡ false → test (kind_by d w q p k b) ≡ false
+    → (p && test (kind.Symbol b)) ≡ false → test (kind_by d w q p k b) ≡ false
 symbols_alone test true w q p k b n i s f y = n
 symbols_alone test false true q p k b n i s f y = i
 symbols_alone test false false true p k b n i s f y = s
-symbols_alone test false false false true k b n i s f y = f
-symbols_alone test false false false false k b n i s f y = y
+symbols_alone test false false false true k b n i s f y = y
+symbols_alone test false false false false k b n i s f y = f
 
 either : (test : TokenKind → Bool) (a : Bool) (d : ℕ) → test (kind.Integer d) ≡ false
     → test kind.Float ≡ false → test (if a then kind.Integer d else kind.Float) ≡ false
@@ -439,19 +439,19 @@ number_tested test none false x w = none class.Digit 10 w
 symbol_first : (test : TokenKind → Bool) (w : Bytes)
     → ((c : ByteClass) (r : ℕ) (ds : Bytes) → test (integer_kind c r ds) ≡ false)
     → test kind.Ident ≡ false → test kind.Str ≡ false → test kind.Float ≡ false
-    → test (kind.Symbol (get_or w 0 0)) ≡ false → test (kind_of w) ≡ false
+    → (is_single w && test (kind.Symbol (get_or w 0 0))) ≡ false → test (kind_of w) ≡ false
 unfolding kind_of number_kind
 symbol_first test w none i s f y =
     symbols_alone test (is_in class.Digit (get_or w 0 0)) (is_in class.Ident (get_or w 0 0))
-    (is_quoted (get_or w 0 0)) (is_pointed w) (number_kind w) (get_or w 0 0)
+    (is_quoted (get_or w 0 0)) (is_single w) (number_kind w) (get_or w 0 0)
     (number_tested test none (has_zero w) (has_x w) w) i s f y
 
-by_first : (w : Bytes) (b : ℕ) → get_or w 0 0 ≡ b → is_in class.Digit b ≡ false
-    → is_in class.Ident b ≡ false → is_quoted b ≡ false → eqb b 46 ≡ false
+by_first : (w : Bytes) (b : ℕ) → is_single w ≡ true → get_or w 0 0 ≡ b
+    → is_in class.Digit b ≡ false → is_in class.Ident b ≡ false → is_quoted b ≡ false
     → kind_of w ≡ kind.Symbol b
-by_first w b e d i q p =
+by_first w b p e d i q =
     symbol_kind w (ap (is_in class.Digit) e ∙ d) (ap (is_in class.Ident) e ∙ i) (ap is_quoted e ∙ q)
-    (ap (λ x. x && is_in class.Digit (get_or w 1 0)) (ap (λ x. eqb x 46) e ∙ p))
+    p
     ∙ ap (λ x. kind.Symbol x) e
 
 three_cases : (x i j k : ℕ) → (eqb x i || eqb x j || eqb x k) ≡ true
@@ -468,37 +468,44 @@ opens b = b == 123 || b == 91 || b == 60
 abbrev closes : ℕ → Bool
 closes b = b == 125 || b == 93 || b == 62
 
-opening_yes : (w : Bytes) → opens (get_or w 0 0) ≡ true → is_opening (kind_of w) ≡ true
-opening_yes w h =
+opening_yes : (w : Bytes) → is_single w ≡ true → opens (get_or w 0 0) ≡ true
+    → is_opening (kind_of w) ≡ true
+opening_yes w p h =
     elim (three_cases (get_or w 0 0) 123 91 60 h) [
-      | inl e ↦ ap is_opening (by_first w 123 e refl refl refl refl)
-      | inr (inl e) ↦ ap is_opening (by_first w 91 e refl refl refl refl)
-      | inr (inr e) ↦ ap is_opening (by_first w 60 e refl refl refl refl)
+      | inl e ↦ ap is_opening (by_first w 123 p e refl refl refl)
+      | inr (inl e) ↦ ap is_opening (by_first w 91 p e refl refl refl)
+      | inr (inr e) ↦ ap is_opening (by_first w 60 p e refl refl refl)
     ]
 
-closing_yes : (w : Bytes) → closes (get_or w 0 0) ≡ true → is_closing (kind_of w) ≡ true
-closing_yes w h =
+closing_yes : (w : Bytes) → is_single w ≡ true → closes (get_or w 0 0) ≡ true
+    → is_closing (kind_of w) ≡ true
+closing_yes w p h =
     elim (three_cases (get_or w 0 0) 125 93 62 h) [
-      | inl e ↦ ap is_closing (by_first w 125 e refl refl refl refl)
-      | inr (inl e) ↦ ap is_closing (by_first w 93 e refl refl refl refl)
-      | inr (inr e) ↦ ap is_closing (by_first w 62 e refl refl refl refl)
+      | inl e ↦ ap is_closing (by_first w 125 p e refl refl refl)
+      | inr (inl e) ↦ ap is_closing (by_first w 93 p e refl refl refl)
+      | inr (inr e) ↦ ap is_closing (by_first w 62 p e refl refl refl)
     ]
 
--- a text is an opening bracket just where it begins with one
-pub opening_first : (w : Bytes) → is_opening (kind_of w) ≡ opens (get_or w 0 0)
+-- a text is an opening bracket just where it is one byte
+pub opening_first : (w : Bytes) → is_opening (kind_of w) ≡ (eqb (length w) 1 && opens (get_or w 0 0))
 opening_first w =
-    elim (true_or_false (opens (get_or w 0 0))) [
-      | inl h ↦ opening_yes w h ∙ sym h
+    elim (true_or_false (is_single w && opens (get_or w 0 0))) [
+      | inl h ↦
+          let p = and_true (is_single w) (opens (get_or w 0 0)) h in
+          opening_yes w p.0 p.1 ∙ sym h
       | inr h ↦
           symbol_first is_opening w
           (λ c r ds. either is_opening (list_all (is_in c) ds && nat_lt (digits_value r ds) (2 ^ 64))
           (digits_value r ds) refl refl) refl refl refl h ∙ sym h
     ]
 
-pub closing_first : (w : Bytes) → is_closing (kind_of w) ≡ closes (get_or w 0 0)
+-- a text is a closing bracket just where it is one byte
+pub closing_first : (w : Bytes) → is_closing (kind_of w) ≡ (eqb (length w) 1 && closes (get_or w 0 0))
 closing_first w =
-    elim (true_or_false (closes (get_or w 0 0))) [
-      | inl h ↦ closing_yes w h ∙ sym h
+    elim (true_or_false (is_single w && closes (get_or w 0 0))) [
+      | inl h ↦
+          let p = and_true (is_single w) (closes (get_or w 0 0)) h in
+          closing_yes w p.0 p.1 ∙ sym h
       | inr h ↦
           symbol_first is_closing w
           (λ c r ds. either is_closing (list_all (is_in c) ds && nat_lt (digits_value r ds) (2 ^ 64))
@@ -524,13 +531,16 @@ string_by false false false k b none = refl
 
 symbol_by : (c : ℕ) (d w q p : Bool) (k : TokenKind) (b : ℕ) → is_symbol_token c k ≡ false
     → (d ≡ true → w ≡ true) → is_symbol_token c (kind_by d w q p k b)
-    ≡ (eqb b c && (not w && (not q && not p)))
-symbol_by c true true q p k b none word = none ∙ sym (and_no (eqb b c) false refl)
+    ≡ (p && (eqb b c && (not w && not q)))
+symbol_by c true true q true k b none word = none ∙ sym (and_no (eqb b c) false refl)
+symbol_by c true true q false k b none word = none
 symbol_by c true false q p k b none word = absurd (false≢true (word refl))
-symbol_by c false true q p k b none word = sym (and_no (eqb b c) false refl)
-symbol_by c false false true p k b none word = sym (and_no (eqb b c) false refl)
-symbol_by c false false false true k b none word = sym (and_no (eqb b c) false refl)
-symbol_by c false false false false k b none word = sym (and_yes (eqb b c))
+symbol_by c false true q true k b none word = sym (and_no (eqb b c) false refl)
+symbol_by c false true q false k b none word = refl
+symbol_by c false false true true k b none word = sym (and_no (eqb b c) false refl)
+symbol_by c false false true false k b none word = refl
+symbol_by c false false false true k b none word = sym (and_yes (eqb b c))
+symbol_by c false false false false k b none word = refl
 
 number_alone : (test : TokenKind → Bool)
     → ((n : ℕ) → test (kind.Integer n) ≡ false) → test kind.Float ≡ false → (w : Bytes) →
@@ -549,7 +559,7 @@ pub ident_by_first : (w : Bytes) → is_ident_token (kind_of w)
 unfolding kind_of
 ident_by_first w =
     ident_by (is_in class.Digit (get_or w 0 0)) (is_in class.Ident (get_or w 0 0))
-    (is_quoted (get_or w 0 0)) (is_pointed w) (number_kind w) (get_or w 0 0)
+    (is_quoted (get_or w 0 0)) (is_single w) (number_kind w) (get_or w 0 0)
     (number_alone is_ident_token (λ n. refl) refl w)
 
 quoted_is : (b : ℕ) → is_quoted b ≡ true → IsQuote b
@@ -558,11 +568,11 @@ quoted_is b h =
     (or_true (eqb b 34) (eqb b 39) h)
 
 string_not : (w : Bytes) (q : Bool) → q ≡ false → is_string
-    (kind_by (is_in class.Digit (get_or w 0 0)) (is_in class.Ident (get_or w 0 0)) q (is_pointed w)
+    (kind_by (is_in class.Digit (get_or w 0 0)) (is_in class.Ident (get_or w 0 0)) q (is_single w)
     (number_kind w) (get_or w 0 0)) ≡ false
 string_not w true e = absurd (false≢true (sym e))
 string_not w false e =
-    string_by (is_in class.Digit (get_or w 0 0)) (is_in class.Ident (get_or w 0 0)) (is_pointed w)
+    string_by (is_in class.Digit (get_or w 0 0)) (is_in class.Ident (get_or w 0 0)) (is_single w)
     (number_kind w) (get_or w 0 0) (number_alone is_string (λ n. refl) refl w)
 
 string_no : (w : Bytes) → is_quoted (get_or w 0 0) ≡ false → is_string (kind_of w) ≡ false
@@ -580,29 +590,10 @@ string_by_first w =
     ]
 
 pub symbol_by_first : (c : ℕ) (w : Bytes) → is_symbol_token c (kind_of w)
-    ≡ (eqb (get_or w 0 0) c && (not (is_in class.Ident (get_or w 0 0))
-    && (not (eqb (get_or w 0 0) 34 || eqb (get_or w 0 0) 39)
-    && not (eqb (get_or w 0 0) 46 && is_in class.Digit (get_or w 1 0)))))
+    ≡ (eqb (length w) 1 && (eqb (get_or w 0 0) c && (not (is_in class.Ident (get_or w 0 0))
+    && not (eqb (get_or w 0 0) 34 || eqb (get_or w 0 0) 39))))
 unfolding kind_of
 symbol_by_first c w =
     symbol_by c (is_in class.Digit (get_or w 0 0)) (is_in class.Ident (get_or w 0 0))
-    (is_quoted (get_or w 0 0)) (is_pointed w) (number_kind w) (get_or w 0 0)
+    (is_quoted (get_or w 0 0)) (is_single w) (number_kind w) (get_or w 0 0)
     (number_alone (is_symbol_token c) (λ n. refl) refl w) (digit_is_ident (get_or w 0 0))
-
-not_byte : (b k : ℕ) → (b ≡ k → ⊥) → eqb b k ≡ false
-not_byte b k h = not_true (eqb b k) (λ e. h (same_byte b k e))
-
-by_tests : (s w q r p d : Bool) → s ≡ true → q ≡ false → r ≡ false → p ≡ false
-    → (s && (w && (not (q || r) && not (p && d)))) ≡ w
-by_tests s w q r p d hs hq hr hp = rw (hs, hq, hr, hp) (and_yes w)
-
--- a byte that begins no string and is no point
-pub plain_symbol : (c : ℕ) (w : Bytes) → get_or w 0 0 ≡ c → (get_or w 0 0 ≡ 34 → ⊥)
-    → (get_or w 0 0 ≡ 39 → ⊥) → (get_or w 0 0 ≡ 46 → ⊥)
-    → not (is_in class.Ident (get_or w 0 0)) ≡ is_symbol_token c (kind_of w)
-plain_symbol c w e a b p =
-    sym (symbol_by_first c w
-    ∙ by_tests (eqb (get_or w 0 0) c) (not (is_in class.Ident (get_or w 0 0)))
-    (eqb (get_or w 0 0) 34) (eqb (get_or w 0 0) 39) (eqb (get_or w 0 0) 46)
-    (is_in class.Digit (get_or w 1 0)) (grind (arith, nat_tests)) (not_byte _ 34 a)
-    (not_byte _ 39 b) (not_byte _ 46 p))

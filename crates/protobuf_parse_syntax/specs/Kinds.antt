@@ -25,10 +25,10 @@ number_kind w =
     then integer_kind class.Hex 16 (drop 2 w) else integer_kind class.Octal 8 (drop 1 w))
     else integer_kind class.Digit 10 w
 
--- the kind of a token with this text
+-- the kind of a token with this text; a float may begin with a point
 unfoldable pub kind_of : Bytes → TokenKind
 kind_of w = if is_in class.Digit (slice_index w 0) then number_kind w
     else if is_in class.Ident (slice_index w 0) then kind.Ident
     else if slice_index w 0 == char.quote || slice_index w 0 == char.apostrophe then kind.Str
-    else if slice_index w 0 == char.dot && is_in class.Digit (slice_index w 1) then kind.Float
-    else kind.Symbol (slice_index w 0)
+    else if length w == 1 then kind.Symbol (slice_index w 0)
+    else kind.Float

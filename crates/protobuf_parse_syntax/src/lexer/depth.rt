@@ -5,7 +5,6 @@ ghost use Rattle.protobuf_parse_syntax.specs.Kinds.{kind_of};
 ghost use Rattle.protobuf_parse_syntax.specs.Tokens as tokens;
 ghost use Rattle.protobuf_parse_syntax.specs.Tokens.{lexeme, IsShallow, DeepensAt};
 
-use crate::lexer::bytes::byte_at;
 use crate::lexer::token::{Place, Token};
 
 /// The deepest nesting that a text may have.
@@ -35,14 +34,12 @@ pub fn too_deep(list: &[Token]) -> Option<Place>
 fn is_opening(token: &Token) -> bool
     ensures { result ≡ tokens.is_opening (kind_of token.now.text.now) }
 {
-    let first = byte_at(token.text.as_bytes(), 0);
-    first == b'{' || first == b'[' || first == b'<'
+    matches!(token.text.as_bytes(), [b'{' | b'[' | b'<'])
 }
 
 #[tactic(auto, using(crate::proofs::TextKinds::closing_first))]
 fn is_closing(token: &Token) -> bool
     ensures { result ≡ tokens.is_closing (kind_of token.now.text.now) }
 {
-    let first = byte_at(token.text.as_bytes(), 0);
-    first == b'}' || first == b']' || first == b'>'
+    matches!(token.text.as_bytes(), [b'}' | b']' | b'>'])
 }

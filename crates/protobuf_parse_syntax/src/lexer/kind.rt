@@ -52,9 +52,9 @@ pub fn kind_of(text: &[u8]) -> TokenKind
         TokenKind::Ident
     } else if first == b'"' || first == b'\'' {
         TokenKind::Str
-    } else if first == b'.' && is_in(ByteClass::Digit, byte_at(text, 1)) {
-        TokenKind::Float
-    } else {
+    } else if text.len() == 1 {
         TokenKind::Symbol(char::from(first))
+    } else {
+        TokenKind::Float
     }
 }

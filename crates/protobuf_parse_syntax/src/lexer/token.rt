@@ -69,18 +69,18 @@ impl<'a> Token<'a> {
 
     /// Whether the token is this symbol.
     #[inline]
-    #[tactic(auto, using(crate::proofs::TextKinds::symbol_by_first, crate::proofs::TextKinds::plain_symbol))]
+    #[tactic(auto, using(crate::proofs::TextKinds::symbol_by_first))]
     pub fn is_symbol(&self, symbol: char) -> bool
         ensures { result ≡ class.is_symbol_token symbol (kinds.kind_of self.now.text.now) }
     {
-        let bytes = self.text.as_bytes();
-        let first = byte_at(bytes, 0);
-        if char::from(first) != symbol || first == b'"' || first == b'\'' {
-            false
-        } else if first == b'.' {
-            !is_in(ByteClass::Digit, byte_at(bytes, 1))
-        } else {
-            !is_in(ByteClass::Ident, first)
+        match self.text.as_bytes() {
+            [first] => {
+                char::from(*first) == symbol
+                    && !is_in(ByteClass::Ident, *first)
+                    && *first != b'"'
+                    && *first != b'\''
+            }
+            _ => false,
         }
     }
 }
