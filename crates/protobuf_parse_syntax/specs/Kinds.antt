@@ -25,7 +25,8 @@ number_kind w =
     then integer_kind class.Hex 16 (drop 2 w) else integer_kind class.Octal 8 (drop 1 w))
     else integer_kind class.Digit 10 w
 
--- the kind of a token with this text; a float may begin with a point
+-- The kind of a token with this text. What is longer than a byte and none of the first three is a
+-- float that begins with its point.
 unfoldable pub kind_of : Bytes → TokenKind
 kind_of w = if is_in class.Digit (slice_index w 0) then number_kind w
     else if is_in class.Ident (slice_index w 0) then kind.Ident

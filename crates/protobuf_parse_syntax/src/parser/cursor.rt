@@ -93,7 +93,7 @@ impl<'t, 'text> Cursor<'t, 'text> {
         ensures { result ≡ starts lexicon (class.word word.now ∷ []) (left self.now) }
     {
         match self.rest {
-            [token, ..] => token.is_ident() && token.text == word,
+            [token, ..] => token.text == word && token.is_ident(),
             [] => false,
         }
     }
@@ -104,7 +104,7 @@ impl<'t, 'text> Cursor<'t, 'text> {
             ((read.word word.now).run (left self.old)) }
     {
         match self.rest {
-            [token, rest @ ..] if token.is_ident() && token.text == word => {
+            [token, rest @ ..] if token.text == word && token.is_ident() => {
                 self.rest = rest;
                 Ok(())
             }
