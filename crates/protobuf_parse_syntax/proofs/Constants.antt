@@ -12,7 +12,7 @@ use Rattle.protobuf_parse_base.specs.Whole.{whole}
 use Rattle.protobuf_parse_base.specs.Conditions.{meaning}
 use Rattle.protobuf_parse_syntax.specs.Tokens.{Lexeme, lexeme}
 use Rattle.protobuf_parse_syntax.specs.Text.{Bytes}
-use Rattle.protobuf_parse_syntax.specs.Kinds.{kind_of}
+use Rattle.protobuf_parse_syntax.specs.TokenKinds.{kind_of}
 use Rattle.protobuf_parse_syntax.specs.Classes.{sees, symbol as symbol_class, integer, float, text}
 use Rattle.protobuf_parse_syntax.specs.Classes.{is_one_of, is_floating, is_string}
 use Rattle.protobuf_parse_syntax.specs.ClassLaws.{lexicon}

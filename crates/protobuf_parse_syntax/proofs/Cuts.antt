@@ -25,7 +25,7 @@ use Rattle.protobuf_parse_syntax.specs.declared.lexer.token.TokenKind.TheVariant
 use Rattle.protobuf_parse_syntax.specs.Escapes.{chosen}
 use Rattle.protobuf_parse_syntax.proofs.Front.{octal_hex}
 use Rattle.protobuf_parse_syntax.proofs.TextKinds.{token_kind}
-use Rattle.protobuf_parse_syntax.specs.Kinds.{kind_of}
+use Rattle.protobuf_parse_syntax.specs.TokenKinds.{kind_of}
 use lib.Utf8.{encode}
 use Rattle.protobuf_parse_syntax.specs.Text.{Bytes, is_in, IsSpaces, IsLine, IsBlock, IsBlank}
 use Rattle.protobuf_parse_syntax.specs.Text.{IsQuote, IsString, IsFloat, IsIntegerText, is_rest}

@@ -16,7 +16,7 @@ use Rattle.protobuf_parse_syntax.specs.declared.lexer.token.TokenKind.{TokenKind
 use Rattle.protobuf_parse_syntax.specs.declared.lexer.token.TokenKind.TheVariants as kind
 use Rattle.protobuf_parse_syntax.specs.Text.{Bytes, is_in, AllIn, IsQuote, IsFloat, IsLetterE}
 use Rattle.protobuf_parse_syntax.specs.Text.{IsIntegerText, IsToken, is_symbol}
-use Rattle.protobuf_parse_syntax.specs.Kinds.{integer_kind, number_kind, kind_of}
+use Rattle.protobuf_parse_syntax.specs.TokenKinds.{integer_kind, number_kind, kind_of}
 use Rattle.protobuf_parse_syntax.specs.Tokens.{is_opening, is_closing}
 use Rattle.protobuf_parse_syntax.specs.Classes.{is_ident_token, is_string, is_symbol_token}
 use Rattle.protobuf_parse_syntax.proofs.Front.{number_first, octal_digits, after_whole, x_no_float}

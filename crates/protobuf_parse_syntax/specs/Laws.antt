@@ -4,7 +4,7 @@ use Rattle.std.specs.Prelude.{Some, reverse, count_by, take_while, take, drop, s
 use Rattle.std.specs.Str.{IsUtf8, chars}
 use Rattle.protobuf_parse_syntax.specs.Text.{Bytes, IsToken, IsFault}
 use Rattle.protobuf_parse_syntax.specs.Place.{start, after}
-use Rattle.protobuf_parse_syntax.specs.Kinds.{kind_of}
+use Rattle.protobuf_parse_syntax.specs.TokenKinds.{kind_of}
 use Rattle.protobuf_parse_syntax.specs.Tokens.{Lexeme, unquoted, Decodes, DecodesAll}
 use Rattle.protobuf_parse_syntax.specs.Grammar.{StandsFor}
 use Rattle.protobuf_parse_syntax.specs.Decoder.{decode, text_of}

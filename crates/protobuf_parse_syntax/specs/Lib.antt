@@ -1,7 +1,7 @@
 pub mod Text
 pub mod Scan
 pub mod Place
-pub mod Kinds
+pub mod TokenKinds
 pub mod Tokens
 pub mod Decoding
 pub mod Escapes

@@ -1,7 +1,7 @@
 //! How deep brackets nest.
 
 ghost use Rattle.std.specs.Prelude.{◌≡◌, map, MatchOption};
-ghost use Rattle.protobuf_parse_syntax.specs.Kinds.{kind_of};
+ghost use Rattle.protobuf_parse_syntax.specs.TokenKinds.{kind_of};
 ghost use Rattle.protobuf_parse_syntax.specs.Tokens as tokens;
 ghost use Rattle.protobuf_parse_syntax.specs.Tokens.{lexeme, IsShallow, DeepensAt};
 

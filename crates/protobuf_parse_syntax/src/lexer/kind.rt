@@ -2,7 +2,7 @@
 
 ghost use Rattle.std.specs.Prelude.{◌≡◌, ◌≤◌, ℕ, true};
 ghost use Rattle.protobuf_parse_syntax.specs.Text.{is_in};
-ghost use Rattle.protobuf_parse_syntax.specs.Kinds as kinds;
+ghost use Rattle.protobuf_parse_syntax.specs.TokenKinds as kinds;
 
 use crate::lexer::bytes::{ByteClass, byte_at, is_in, run_end};
 use crate::lexer::number::digits_value;
@@ -24,7 +24,7 @@ fn integer_kind(class: ByteClass, radix: u64, digits: &[u8]) -> TokenKind
 }
 
 /// The kind of a token that begins with a digit.
-#[tactic(auto, unfolding(crate::specs::Kinds::number_kind))]
+#[tactic(auto, unfolding(crate::specs::TokenKinds::number_kind))]
 fn number_kind(text: &[u8]) -> TokenKind
     ensures { result ≡ kinds.number_kind text.now }
 {
@@ -41,7 +41,7 @@ fn number_kind(text: &[u8]) -> TokenKind
 
 /// The kind of a token with this text.
 #[inline]
-#[tactic(auto, unfolding(crate::specs::Kinds::kind_of))]
+#[tactic(auto, unfolding(crate::specs::TokenKinds::kind_of))]
 pub fn kind_of(text: &[u8]) -> TokenKind
     ensures { result ≡ kinds.kind_of text.now }
 {

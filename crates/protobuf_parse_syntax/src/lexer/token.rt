@@ -1,7 +1,7 @@
 //! Tokens and places.
 
 ghost use Rattle.std.specs.Prelude.{◌≡◌};
-ghost use Rattle.protobuf_parse_syntax.specs.Kinds as kinds;
+ghost use Rattle.protobuf_parse_syntax.specs.TokenKinds as kinds;
 ghost use Rattle.protobuf_parse_syntax.specs.Classes as class;
 
 use crate::lexer::bytes::{ByteClass, byte_at, is_in};
