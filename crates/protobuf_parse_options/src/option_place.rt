@@ -29,8 +29,8 @@ impl<'p, 'a> OptionPlace<'p, 'a> {
         message: &'p str,
         several: bool,
     ) -> OptionPlace<'p, 'a>
-        ensures known { result.known ≡ known }
-        ensures scope { result.scope ≡ scope }
+        ensures known { result.known.now ≡ known.now }
+        ensures scope { result.scope.now ≡ scope.now }
     {
         let found = if several && lookup::is_message(known, message) {
             Some(message)
