@@ -1,7 +1,6 @@
-use Rattle.std.proofs.Common.{◌-◌, ◌∙◌, Some, None, sym, ap, arith, option_map, refl, string_bytes}
-use Rattle.std.proofs.Common.{get_or, take, []}
+use Rattle.std.proofs.Common.{◌-◌, ◌∙◌, Some, sym, ap, arith, option_map, refl}
+use Rattle.std.proofs.Common.{take}
 use Rattle.protobuf_parse_base.specs.Names.{absolute_text}
-use Rattle.protobuf_parse_model.specs.Contexts.{meaning_view}
 use Rattle.protobuf_parse_model.specs.SeenFiles.{declared_type, seen_types, name_texts}
 use Rattle.protobuf_parse_model.proofs.Scopes.{found-here, full_name-outward, none-here}
 use Rattle.protobuf_parse_model.proofs.scope.type_named.Goals as goal

@@ -1,4 +1,3 @@
-use Rattle.std.proofs.Common.{◌≡◌}
 use Rattle.std.proofs.lemmas.Result.{err_from_is_err_and}
 use Rattle.protobuf_parse_syntax.specs.Trees.{field_view}
 use Rattle.protobuf_parse_model.specs.Contexts.{field_place_view, resolved_view}

@@ -1,4 +1,4 @@
-use Rattle.std.proofs.Common.{◌∙◌, ◌++◌, List, ap, subst}
+use Rattle.std.proofs.Common.{◌∙◌, List, ap, subst}
 use Rattle.protobuf_parse_syntax.specs.Trees.{file_view}
 use Rattle.protobuf_parse_model.specs.SeenFiles.{seen_types, name_texts}
 use Rattle.protobuf_parse_model.specs.Descriptors as described

@@ -1,7 +1,7 @@
 use Rattle.std.proofs.Common.{◌≡◌, ◌∙◌, ◌+◌, ◌++◌, ◌<◌, ◌≤◌, [], ◌∷◌, ℕ, List, ap, arith, flat_map}
 use Rattle.std.proofs.Common.{length, map, sym, subst, string_bytes, sum_by, take}
 use Rattle.std.proofs.lemmas.Grind.{flat_map-append}
-use Rattle.std.proofs.lemmas.List.{length-map, map_more}
+use Rattle.std.proofs.lemmas.List.{map_more}
 use Rattle.std.proofs.lemmas.Result.{err_from_is_err_and}
 use Rattle.protobuf_parse_syntax.specs.Trees.{MessageStatementSyntax, nested_message}
 use Rattle.protobuf_parse_syntax.specs.Trees.{message_statement_view, message_view}
@@ -17,10 +17,10 @@ use Rattle.protobuf_parse_model.specs.Contexts.{with_body_statement}
 use Rattle.protobuf_parse_model.specs.Declarations.{Scope}
 use Rattle.protobuf_parse_model.specs.Descriptors as described
 use Rattle.protobuf_parse_model.specs.Environment.{Environment}
-use Rattle.protobuf_parse_model.specs.Faults.{Blames, Elaborates, Fault}
+use Rattle.protobuf_parse_model.specs.Faults.{Elaborates, Fault}
 use Rattle.protobuf_parse_model.specs.Messages.{faults_of_body, message_of, message_of_body}
 use Rattle.protobuf_parse_model.specs.Messages.{statement_faults}
-use Rattle.protobuf_parse_model.proofs.Blaming.{blames_left, blames_right}
+use Rattle.protobuf_parse_model.proofs.Blaming.{blames_right}
 use Rattle.protobuf_parse_model.proofs.Bodies.{body_more, few_more, nil-both, with_nested}
 use Rattle.protobuf_parse_model.proofs.Levels.{faults_of_message}
 use Rattle.protobuf_parse_model.proofs.TreeViews.{views_nested}
