@@ -1,14 +1,18 @@
--- Spellings of a name: one turn of each loop, and what a second spelling gives.
+-- Spellings of a name: one turn of each loop, by bytes and by characters, and what a second spelling
+-- gives.
 use Rattle.std.specs.Prelude.{if◌then◌else◌, encode_utf8_all}
-use Rattle.std.proofs.Common.{◌≡◌, ℕ, ◌==◌, ◌<◌, ◌+◌, ◌++◌, ◌&&◌, List, [], ◌∷◌, Bool, true, false}
+use Rattle.std.proofs.Common.{◌≡◌, ℕ, ◌==◌, ◌<◌, ◌≤◌, ◌+◌, ◌++◌, ◌&&◌, List, [], ◌∷◌, Bool, true, false}
 use Rattle.std.proofs.Common.{length, get_or, drop, refl, sym, ap, ◌∙◌, append_assoc, append-nil}
-use Rattle.std.proofs.Common.{arith, inl, inr}
-use Rattle.std.proofs.lemmas.Bool.{cases_Bool, cond-true, cond-false, or_parts, or_from, and_right}
+use Rattle.std.proofs.Common.{arith, inl, inr, suc}
+use Rattle.std.proofs.lemmas.Bool.{cases_Bool, cases_lt, cond-true, cond-false}
+use Rattle.std.proofs.lemmas.Bool.{or_parts, or_from, and_parts, and_from, and_right}
 use Rattle.std.proofs.lemmas.Bool.Decides.{nat_tests}
 use Rattle.std.proofs.lemmas.List.{at_drop_more, drop_all}
 use Rattle.std.proofs.lemmas.List.Folds.{list_any-append}
-use Rattle.std.proofs.lemmas.Str.{encodes-append, chars_from_encodes}
-use Rattle.std.proofs.lemmas.Str.Ascii.{uppercase-uppercase}
+use Rattle.std.proofs.lemmas.Str.{encodes-append, chars_from_encodes, encodes-chars, scalars-chars}
+use Rattle.std.proofs.lemmas.Str.{inside_one, length-encode, len_utf8_bounds, encode_ascii}
+use Rattle.std.proofs.lemmas.Str.Ascii.{uppercase-uppercase, uppercase_ascii}
+use Rattle.std.proofs.Math.Utf8.{scalar, scalars}
 use Rattle.std.specs.Char.{to_ascii_uppercase, to_ascii_lowercase, is_ascii_uppercase, encode_utf8}
 use Rattle.std.specs.List.{list_any}
 use Rattle.std.specs.Str.{chars, IsUtf8}
@@ -28,33 +32,141 @@ joined_words-turn raise cs n c h =
     else (if raise then to_ascii_uppercase d else d)
     ∷ joined_words false (drop (n + 1) cs)) (sym h.1)
 
--- the text so far and the spelling of what is left are the spelling of all
+-- the bytes so far and the spelling of what is left are the spelling of all
 pub joined_words-dropped : (raise : Bool) (cs : List ℕ) (n c : ℕ) (text all : List ℕ)
     → (n < length cs) × (c ≡ get_or cs n c) → (c == 95) ≡ true
-    → text ++ encode_utf8_all (joined_words raise (drop n cs)) ≡ all
-    → text ++ encode_utf8_all (joined_words true (drop (n + 1) cs)) ≡ all
+    → text ++ joined_words raise (drop n cs) ≡ all
+    → text ++ joined_words true (drop (n + 1) cs) ≡ all
 joined_words-dropped raise cs n c text all h underscore before =
-    ap (λ rest. text ++ encode_utf8_all rest)
+    ap (λ rest. text ++ rest)
     (sym (joined_words-turn raise cs n c h ∙ cond-true (c == 95) _ _ underscore)) ∙ before
 
 pub joined_words-kept : (raise : Bool) (cs : List ℕ) (n c d : ℕ) (text next all : List ℕ)
     → (n < length cs) × (c ≡ get_or cs n c) → (c == 95) ≡ false
-    → d ≡ (if raise then to_ascii_uppercase c else c) → next ≡ text ++ encode_utf8 d
-    → text ++ encode_utf8_all (joined_words raise (drop n cs)) ≡ all
-    → next ++ encode_utf8_all (joined_words false (drop (n + 1) cs)) ≡ all
+    → d ≡ (if raise then to_ascii_uppercase c else c) → next ≡ text ++ d ∷ []
+    → text ++ joined_words raise (drop n cs) ≡ all
+    → next ++ joined_words false (drop (n + 1) cs) ≡ all
 joined_words-kept raise cs n c d text next all h other d_is step before =
-    let rest : List ℕ = encode_utf8_all (joined_words false (drop (n + 1) cs)) in
-    ap (λ t. t ++ rest) step ∙ (append_assoc text (encode_utf8 d) rest
-    ∙ (ap (λ e. text ++ (encode_utf8 e ++ rest)) d_is
-    ∙ (ap (λ left. text ++ encode_utf8_all left)
+    let rest : List ℕ = joined_words false (drop (n + 1) cs) in
+    ap (λ t. t ++ rest) step ∙ (append_assoc text (d ∷ []) rest
+    ∙ (ap (λ e. text ++ (e ∷ rest)) d_is
+    ∙ (ap (λ left. text ++ left)
     (sym (joined_words-turn raise cs n c h ∙ cond-false (c == 95) _ _ other)) ∙ before)))
 
-pub joined_words-end : (raise : Bool) (cs : List ℕ) (n : ℕ) (text all : List ℕ) → length cs ≡ n
-    → text ++ encode_utf8_all (joined_words raise (drop n cs)) ≡ all → text ≡ all
+pub joined_words-end : (raise : Bool) (cs : List ℕ) (n : ℕ) (text all : List ℕ) → length cs ≤ n
+    → text ++ joined_words raise (drop n cs) ≡ all → text ≡ all
 joined_words-end raise cs n text all h before =
     sym (append-nil text)
-    ∙ (ap (λ rest. text ++ encode_utf8_all (joined_words raise rest))
-    (sym (drop_all n cs (omega arith))) ∙ before)
+    ∙ (ap (λ rest. text ++ joined_words raise rest) (sym (drop_all n cs h)) ∙ before)
+
+-- ---- the words of a text, by its bytes
+
+-- bytes beyond ASCII are neither an underscore nor letters with a case
+high-other : (b : ℕ) → 128 ≤ b → (b == 95) ≡ false
+high-other b h = grind (arith, nat_tests)
+
+high-same : (raise : Bool) (b : ℕ) → 128 ≤ b → (if raise then to_ascii_uppercase b else b) ≡ b
+high-same true b h = grind (arith, nat_tests)
+high-same false b h = refl
+
+high-kept : (raise : Bool) (b : ℕ) (bs : List ℕ) → 128 ≤ b
+    → joined_words raise (b ∷ bs) ≡ b ∷ joined_words false bs
+high-kept raise b bs h =
+    cond-false (b == 95) _ _ (high-other b h)
+    ∙ ap (λ first. first ∷ joined_words false bs) (high-same raise b h)
+
+joined_words-high : (bs rest : List ℕ) → ((k : ℕ) → k < length bs → 128 ≤ get_or bs k 0)
+    → joined_words false (bs ++ rest) ≡ bs ++ joined_words false rest
+joined_words-high [] rest h = refl
+joined_words-high (b ∷ bs) rest h =
+    high-kept false b (bs ++ rest) (h 0 (omega arith))
+    ∙ ap (λ t. b ∷ t) (joined_words-high bs rest (λ k l. h (suc k) (omega arith)))
+
+joined_words-beyond : (raise : Bool) (bs rest : List ℕ) → 0 < length bs
+    → ((k : ℕ) → k < length bs → 128 ≤ get_or bs k 0)
+    → joined_words raise (bs ++ rest) ≡ bs ++ joined_words false rest
+joined_words-beyond raise [] rest l h = absurd (omega arith)
+joined_words-beyond raise (b ∷ bs) rest l h =
+    high-kept raise b (bs ++ rest) (h 0 (omega arith))
+    ∙ ap (λ t. b ∷ t) (joined_words-high bs rest (λ k l. h (suc k) (omega arith)))
+
+-- each byte of a character beyond ASCII is beyond ASCII
+encode-beyond : (c k : ℕ) → 128 ≤ c → k < length (encode_utf8 c) → 128 ≤ get_or (encode_utf8 c) k 0
+encode-beyond c k h l =
+    elim (cases_lt (get_or (encode_utf8 c) k 0) 128) [
+      | inr high ↦ high
+      | inl low ↦
+          let same = inside_one c [] (encode_utf8 c) k (sym (append-nil (encode_utf8 c))) l low in
+          absurd (omega arith)
+    ]
+
+raised-ascii : (raise : Bool) (c : ℕ) → c < 128
+    → (if raise then to_ascii_uppercase c else c) < 128
+raised-ascii true c h = uppercase_ascii c h
+raised-ascii false c h = h
+
+-- a character beyond ASCII is neither, too
+joined_words-encodes : (raise : Bool) (cs : List ℕ)
+    → joined_words raise (encode_utf8_all cs) ≡ encode_utf8_all (joined_words raise cs)
+joined_words-encodes raise [] = refl
+joined_words-encodes raise (c ∷ cs) =
+    elim (cases_lt c 128) [
+      | inr high ↦
+          joined_words-beyond raise (encode_utf8 c) (encode_utf8_all cs)
+          (rw (length-encode c) ((len_utf8_bounds c).0)) (λ k l. encode-beyond c k high l)
+          ∙ (ap (λ t. encode_utf8 c ++ t) (joined_words-encodes false cs)
+          ∙ ap encode_utf8_all (sym (high-kept raise c cs high)))
+      | inl low ↦
+          ap (λ t. joined_words raise (t ++ encode_utf8_all cs)) (encode_ascii c low)
+          ∙ elim (cases_Bool (c == 95)) [
+            | inl underscore ↦ cond-true (c == 95) _ _ underscore
+                ∙ (joined_words-encodes true cs
+                ∙ ap encode_utf8_all (sym (cond-true (c == 95) _ _ underscore)))
+            | inr other ↦ cond-false (c == 95) _ _ other
+                ∙ (ap (λ t. (if raise then to_ascii_uppercase c else c) ∷ t)
+                (joined_words-encodes false cs)
+                ∙ (ap (λ t. t ++ encode_utf8_all (joined_words false cs))
+                (sym (encode_ascii (if raise then to_ascii_uppercase c else c)
+                (raised-ascii raise c low)))
+                ∙ ap encode_utf8_all (sym (cond-false (c == 95) _ _ other))))
+          ]
+    ]
+
+pub joined_words-text : (raise : Bool) (name : List ℕ) → IsUtf8 name
+    → joined_words raise name ≡ encode_utf8_all (joined_words raise (chars name))
+joined_words-text raise name utf8 =
+    ap (joined_words raise) (sym (encodes-chars name utf8))
+    ∙ joined_words-encodes raise (chars name)
+
+raised-scalar : (raise : Bool) (c : ℕ) → scalar c ≡ true
+    → scalar (if raise then to_ascii_uppercase c else c) ≡ true
+raised-scalar true c h = grind (arith, nat_tests)
+raised-scalar false c h = h
+
+joined_words-scalars : (raise : Bool) (cs : List ℕ) → scalars cs ≡ true
+    → scalars (joined_words raise cs) ≡ true
+joined_words-scalars raise [] h = refl
+joined_words-scalars raise (c ∷ cs) h =
+    let both = and_parts (scalar c) (scalars cs) h in
+    elim (cases_Bool (c == 95)) [
+      | inl underscore ↦ ap scalars (cond-true (c == 95) _ _ underscore)
+          ∙ joined_words-scalars true cs both.1
+      | inr other ↦ ap scalars (cond-false (c == 95) _ _ other)
+          ∙ and_from (scalar (if raise then to_ascii_uppercase c else c))
+          (scalars (joined_words false cs)) (raised-scalar raise c both.0)
+          (joined_words-scalars false cs both.1)
+    ]
+
+-- the bytes of a text, so spelled, are a text
+pub IsUtf8-joined_words : (raise : Bool) (name : List ℕ) → IsUtf8 name
+    → IsUtf8 (joined_words raise name)
+IsUtf8-joined_words raise name utf8 = (
+  joined_words raise (chars name),
+  (
+    joined_words-scalars raise (chars name) (scalars-chars name utf8),
+    sym (joined_words-text raise name utf8),
+  ),
+)
 
 -- ---- camel case of camel case
 

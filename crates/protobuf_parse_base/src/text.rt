@@ -40,27 +40,38 @@ fn join_words(alloc: Global, name: &str, raise: bool) -> Result<String, AllocErr
     ensures { IfOk result
         (λ joined. string_bytes joined ≡ encode_utf8_all (joined_words raise (chars name.now))) }
 {
-    let mut joined = String::with_capacity(alloc, name.len())?;
+    let joined = join_bytes(alloc, name.as_bytes(), raise)?;
+    match String::from_utf8(joined) {
+        Ok(joined) => Ok(joined),
+        Err(_) => unreachable!(),
+    }
+}
+
+/// The same on the bytes of a name, since only those of ASCII are an underscore or change.
+fn join_bytes(alloc: Global, name: &[u8], raise: bool) -> Result<Vec<u8>, AllocError>
+    ensures { IfOk result (λ joined. joined.items ≡ joined_words raise name.now) }
+{
+    let mut joined = Vec::with_capacity(alloc, name.len())?;
     let mut raise_next = raise;
-    for character in name.chars() {
-        if character == '_' {
+    for byte in name {
+        if *byte == b'_' {
             raise_next = true;
         } else {
-            joined.push(raised(character, raise_next))?;
+            joined.push(raised(*byte, raise_next))?;
             raise_next = false;
         }
     }
     Ok(joined)
 }
 
-/// The character, in ASCII upper case if `raise` is set.
-fn raised(character: char, raise: bool) -> char
-    ensures { result ≡ (if raise then to_ascii_uppercase character else character) }
+/// The byte, in ASCII upper case if `raise` is set.
+fn raised(byte: u8, raise: bool) -> u8
+    ensures { result ≡ (if raise then to_ascii_uppercase byte else byte) }
 {
     if raise {
-        character.to_ascii_uppercase()
+        byte.to_ascii_uppercase()
     } else {
-        character
+        byte
     }
 }
 

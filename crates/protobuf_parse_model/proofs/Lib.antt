@@ -2,6 +2,7 @@ pub mod Blaming
 pub mod Naming
 pub mod OrTests
 pub mod Repeats
+pub mod Unlike
 pub mod TreeViews
 pub mod Lookups
 pub mod Scopes

@@ -5,6 +5,7 @@ pub mod Statements
 pub mod Declarations
 pub mod Lookup
 pub mod Duplicates
+pub mod NameKeys
 pub mod Environment
 pub mod BuiltinOptions
 pub mod OptionNumbers

@@ -19,6 +19,7 @@ mod rest;
 mod service;
 mod statement;
 pub mod types;
+mod unlike;
 
 ghost use Rattle.std.specs.Prelude.{List, ◌≤◌};
 ghost use Rattle.protobuf_parse_syntax.specs.Counts.{statements_in};

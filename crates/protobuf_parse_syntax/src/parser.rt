@@ -12,6 +12,7 @@ mod name;
 mod option;
 mod refusal;
 mod service;
+mod tables;
 mod words;
 
 ghost use Rattle.std.specs.Prelude.{◌≡◌, ◌≤◌, ◌⊎◌, IfOk, IfErr};

@@ -5,12 +5,24 @@ ghost use Rattle.std.specs.Borrow.{Bor};
 ghost use Rattle.protobuf_parse_model.specs.Duplicates.{duplicates, fault};
 ghost use Rattle.protobuf_parse_model.specs.Faults.{Blames, Elaborates};
 
+use crate::convert::unlike::have_unlike_keys;
 use crate::error::{ElabError, ElabErrorKind, ElabFailure};
 use std::alloc::Global;
 use std::collections::BTreeSet;
 
 /// Refuses a name that stands among those before it: E1.
 pub fn check_unique(alloc: Global, names: &[&str]) -> Result<(), ElabFailure>
+    ensures { Elaborates (λ u. u) result
+        (duplicates (map (λ (s : Bor (List ℕ)). s.now) names.now)) tt }
+{
+    if have_unlike_keys(alloc, names)? {
+        return Ok(());
+    }
+    check_each(alloc, names)
+}
+
+/// The same, name by name.
+fn check_each(alloc: Global, names: &[&str]) -> Result<(), ElabFailure>
     ensures { Elaborates (λ u. u) result
         (duplicates (map (λ (s : Bor (List ℕ)). s.now) names.now)) tt }
 {

@@ -18,6 +18,7 @@ use crate::error::ParserError;
 use crate::lexer::str_lit::unquoted;
 use crate::lexer::token::{Place, Token, TokenKind};
 use crate::parser::refusal::Refusal;
+use crate::parser::tables::is_same;
 use std::alloc::Global;
 
 /// The tokens that are not read yet. A call that refuses a token leaves the cursor before it.
@@ -93,7 +94,7 @@ impl<'t, 'text> Cursor<'t, 'text> {
         ensures { result ≡ starts lexicon (class.word word.now ∷ []) (left self.now) }
     {
         match self.rest {
-            [token, ..] => token.text == word && token.is_ident(),
+            [token, ..] => is_same(token.text, word) && token.is_ident(),
             [] => false,
         }
     }
@@ -104,7 +105,7 @@ impl<'t, 'text> Cursor<'t, 'text> {
             ((read.word word.now).run (left self.old)) }
     {
         match self.rest {
-            [token, rest @ ..] if token.text == word && token.is_ident() => {
+            [token, rest @ ..] if is_same(token.text, word) && token.is_ident() => {
                 self.rest = rest;
                 Ok(())
             }

@@ -13,17 +13,57 @@ ghost use Rattle.protobuf_parse_syntax.specs.Nested as nest;
 
 use crate::error::ParserError;
 use crate::parser::cursor::Cursor;
+use crate::parser::tables::{beside, is_among, is_same};
 use crate::tree::{Label, Scalar, Syntax};
+
+const LABELS: &[(&str, Label)] = &[
+    ("optional", Label::Optional),
+    ("required", Label::Required),
+    ("repeated", Label::Repeated),
+];
+
+/// In proto3 `required` is no label.
+const LABELS_OF_PROTO3: &[(&str, Label)] = &[
+    ("optional", Label::Optional),
+    ("repeated", Label::Repeated),
+];
+
+const SCALARS: &[(&str, Scalar)] = &[
+    ("int32", Scalar::Int32),
+    ("int64", Scalar::Int64),
+    ("uint32", Scalar::Uint32),
+    ("uint64", Scalar::Uint64),
+    ("sint32", Scalar::Sint32),
+    ("sint64", Scalar::Sint64),
+    ("fixed32", Scalar::Fixed32),
+    ("sfixed32", Scalar::Sfixed32),
+    ("fixed64", Scalar::Fixed64),
+    ("sfixed64", Scalar::Sfixed64),
+    ("bool", Scalar::Bool),
+    ("string", Scalar::String),
+    ("bytes", Scalar::Bytes),
+    ("float", Scalar::Float),
+    ("double", Scalar::Double),
+];
+
+/// The words with which statements of other kinds begin, so that no field does.
+const STATEMENT_WORDS: &[&str] = &[
+    "reserved",
+    "oneof",
+    "extend",
+    "message",
+    "enum",
+    "extensions",
+    "option",
+];
 
 /// The label that a word is. In proto3 `required` is none.
 pub fn label_of(word: &str, syntax: Syntax) -> Option<Label>
     ensures { result ≡ grammar.lookup (labels_in syntax) word.now }
 {
-    match (word, syntax) {
-        ("optional", _) => Some(Label::Optional),
-        ("required", Syntax::Proto2) => Some(Label::Required),
-        ("repeated", _) => Some(Label::Repeated),
-        _ => None,
+    match syntax {
+        Syntax::Proto2 => beside(LABELS, word),
+        Syntax::Proto3 => beside(LABELS_OF_PROTO3, word),
     }
 }
 
@@ -31,41 +71,21 @@ pub fn label_of(word: &str, syntax: Syntax) -> Option<Label>
 pub fn is_label(word: &str) -> bool
     ensures { result ≡ class.is_among word.now (grammar.table_words grammar.labels) }
 {
-    matches!(word, "optional" | "required" | "repeated")
+    is_among(word, &["optional", "required", "repeated"])
 }
 
 /// The scalar type that a word is.
 pub fn scalar_of(word: &str) -> Option<Scalar>
     ensures { result ≡ grammar.lookup grammar.scalars word.now }
 {
-    match word {
-        "int32" => Some(Scalar::Int32),
-        "int64" => Some(Scalar::Int64),
-        "uint32" => Some(Scalar::Uint32),
-        "uint64" => Some(Scalar::Uint64),
-        "sint32" => Some(Scalar::Sint32),
-        "sint64" => Some(Scalar::Sint64),
-        "fixed32" => Some(Scalar::Fixed32),
-        "sfixed32" => Some(Scalar::Sfixed32),
-        "fixed64" => Some(Scalar::Fixed64),
-        "sfixed64" => Some(Scalar::Sfixed64),
-        "bool" => Some(Scalar::Bool),
-        "string" => Some(Scalar::String),
-        "bytes" => Some(Scalar::Bytes),
-        "float" => Some(Scalar::Float),
-        "double" => Some(Scalar::Double),
-        _ => None,
-    }
+    beside(SCALARS, word)
 }
 
 /// Whether a statement of another kind begins with the word, so that no field does.
 pub fn is_statement_word(word: &str) -> bool
     ensures { result ≡ class.is_among word.now grammar.statement_words }
 {
-    matches!(
-        word,
-        "reserved" | "oneof" | "extend" | "message" | "enum" | "extensions" | "option"
-    )
+    is_among(word, STATEMENT_WORDS)
 }
 
 /// Whether a field of a message, a group or an `extend` begins with the word.
@@ -73,8 +93,8 @@ fn word_begins_field(word: &str, syntax: Syntax) -> bool
     ensures { result ≡ takes (nest.field_firsts syntax) word.now }
 {
     match syntax {
-        Syntax::Proto2 => is_label(word) || word == "map",
-        Syntax::Proto3 => word != "required" && !is_statement_word(word),
+        Syntax::Proto2 => is_label(word) || is_same(word, "map"),
+        Syntax::Proto3 => !is_same(word, "required") && !is_statement_word(word),
     }
 }
 
@@ -105,7 +125,7 @@ pub fn begins_field_item(tokens: &Cursor<'_, '_>, syntax: Syntax) -> bool
 fn word_begins_no_oneof_field(word: &str) -> bool
     ensures { result ≡ takes (class.words nest.no_oneof_words) word.now }
 {
-    word == "map" || is_label(word) || is_statement_word(word)
+    is_same(word, "map") || is_label(word) || is_statement_word(word)
 }
 
 /// Whether a word with which no field of a oneof begins comes next.
@@ -123,7 +143,8 @@ pub fn begins_no_oneof_field(tokens: &Cursor<'_, '_>) -> bool
 fn word_begins_oneof_statement(word: &str) -> bool
     ensures { result ≡ takes nest.oneof_firsts word.now }
 {
-    word == "option" || (word != "map" && !is_label(word) && !is_statement_word(word))
+    is_same(word, "option")
+        || (!is_same(word, "map") && !is_label(word) && !is_statement_word(word))
 }
 
 /// Whether a statement of a oneof begins with the next token.
@@ -142,8 +163,8 @@ fn word_begins_message_statement(word: &str, syntax: Syntax) -> bool
     ensures { result ≡ takes (nest.statement_firsts syntax) word.now }
 {
     match syntax {
-        Syntax::Proto2 => is_statement_word(word) || word == "map" || is_label(word),
-        Syntax::Proto3 => word != "required" && word != "extensions",
+        Syntax::Proto2 => is_statement_word(word) || is_same(word, "map") || is_label(word),
+        Syntax::Proto3 => !is_same(word, "required") && !is_same(word, "extensions"),
     }
 }
 

@@ -12,7 +12,7 @@ use Rattle.protobuf_parse_model.specs.declared.error.ElabFailure.TheVariants as 
 use Rattle.protobuf_parse_model.specs.declared.error.ElabErrorKind.TheVariants.{DuplicateName}
 use Rattle.protobuf_parse_model.specs.Duplicates.{stands_in, duplicates, fault, repeats_after}
 use Rattle.protobuf_parse_model.proofs.Blaming.{among_when}
-use Rattle.protobuf_parse_model.proofs.convert.refuse.check_unique.Goals as goal
+use Rattle.protobuf_parse_model.proofs.convert.refuse.check_each.Goals as goal
 
 abbrev texts : List (Bor (List ℕ)) → List (List ℕ)
 texts = map (λ (s : Bor (List ℕ)). s.now)

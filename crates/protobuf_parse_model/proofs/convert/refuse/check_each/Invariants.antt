@@ -4,7 +4,7 @@ use Rattle.std.specs.Cmp.Lexicographic.{slice_cmp}
 use Rattle.std.specs.Ordering.{nat_cmp}
 use Rattle.protobuf_parse_model.specs.Duplicates.{duplicates, repeats_after, stands_in}
 use Rattle.protobuf_parse_model.specs.declared.error.ElabErrorKind.TheVariants.{DuplicateName}
-use Rattle.protobuf_parse_model.proofs.convert.refuse.check_unique.Given as goal
+use Rattle.protobuf_parse_model.proofs.convert.refuse.check_each.Given as goal
 
 abbrev pub invariant-loop-name : goal.invariant-loop-name
 invariant-loop-name l =

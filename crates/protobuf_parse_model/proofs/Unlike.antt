@@ -1,0 +1,77 @@
+-- Names whose keys differ: none stands among those before it.
+use Rattle.std.proofs.Common.{◌≡◌, ℕ, ◌<◌, List, [], ◌∷◌, ◌++◌, false, map, get_or, Bor}
+use Rattle.std.proofs.Common.{refl, sym, ap, subst, ◌∙◌, append_assoc, arith, inl, inr}
+use Rattle.std.proofs.Math.Dec.{eqb}
+use Rattle.std.specs.Prelude.{bytes_eq}
+use Rattle.std.specs.List.{IsDistinct, AllByRecursion}
+use Rattle.std.specs.List.Sorted.{IsStrictlyIncreasing, IsPermutation}
+use Rattle.std.proofs.lemmas.Bool.{cases_Bool, or_from, eqb-false}
+use Rattle.std.proofs.lemmas.Bool.Decides.{nat_tests}
+use Rattle.std.proofs.lemmas.Slice.Eq.{bytes_eq-Decides}
+use Rattle.std.proofs.lemmas.Map.Keys.{IsDistinct-head, IsDistinct-tail, IsDistinct-from_apart}
+use Rattle.std.proofs.lemmas.Map.Keys.{IsDistinct-IsPermutation, below_from_sorted}
+use Rattle.std.proofs.lemmas.Map.Keys.{sorted_from_strictly_increasing}
+use Rattle.std.proofs.lemmas.List.Sorted.{IsPermutation-sym}
+use Rattle.protobuf_parse_model.specs.declared.error.ElabErrorKind.TheVariants.{DuplicateName}
+use Rattle.protobuf_parse_model.specs.Descriptors.{Text}
+use Rattle.protobuf_parse_model.specs.Duplicates.{stands_in, fault_when, repeats_after, duplicates}
+
+-- ---- keys that differ
+
+lt_apart : (a b : ℕ) → a < b → eqb a b ≡ false
+lt_apart a b h = grind (arith, nat_tests)
+
+texts_differ : (key : Text → ℕ) (a b : Text) → eqb (key a) (key b) ≡ false → bytes_eq a b ≡ false
+texts_differ key a b h =
+    elim (cases_Bool (bytes_eq a b)) [
+      | inl same ↦ absurd (eqb-false (key a) (key b) h (ap key ((bytes_eq-Decides a b).0 same)))
+      | inr other ↦ other
+    ]
+
+holds_of : (key : Text → ℕ) (P : ℕ → Type 0) (before xs : List Text) (x : Text)
+    → AllByRecursion P (map key (before ++ x ∷ xs)) → P (key x)
+holds_of key P [] xs x h = h.0
+holds_of key P (b ∷ bs) xs x h = holds_of key P bs xs x h.1
+
+-- a name whose key differs from those before it does not stand among them
+stands_alone : (key : Text → ℕ) (before xs : List Text) (x : Text)
+    → IsDistinct eqb (map key (before ++ x ∷ xs)) → stands_in x before ≡ false
+stands_alone key [] xs x h = refl
+stands_alone key (b ∷ bs) xs x h =
+    or_from (bytes_eq b x) (stands_in x bs)
+    (texts_differ key b x (holds_of key (λ y. eqb (key b) y ≡ false) bs xs x
+    (IsDistinct-head eqb (key b) (map key (bs ++ x ∷ xs)) h)))
+    (stands_alone key bs xs x (IsDistinct-tail eqb (key b) (map key (bs ++ x ∷ xs)) h))
+
+none_again : (key : Text → ℕ) (before xs : List Text)
+    → IsDistinct eqb (map key (before ++ xs)) → repeats_after before DuplicateName xs ≡ []
+none_again key before [] h = refl
+none_again key before (x ∷ xs) h =
+    ap (λ b. fault_when b DuplicateName x ++ repeats_after (before ++ x ∷ []) DuplicateName xs)
+    (stands_alone key before xs x h)
+    ∙ none_again key (before ++ x ∷ []) xs
+    (subst (λ ts. IsDistinct eqb (map key ts)) (sym (append_assoc before (x ∷ []) xs)) h)
+
+-- ---- keys that ascend once they are sorted
+
+eqb_comm : (a b : ℕ) → eqb a b ≡ eqb b a
+eqb_comm a b = grind (arith, nat_tests)
+
+apart : (sorted : List ℕ) → IsStrictlyIncreasing sorted → IsDistinct eqb sorted
+apart sorted h =
+    IsDistinct-from_apart eqb sorted (λ i j d l m. lt_apart (get_or sorted i d) (get_or sorted j d)
+    (below_from_sorted sorted i j d (sorted_from_strictly_increasing sorted h) l m))
+
+now_keys : (key : Text → ℕ) (names : List (Bor Text))
+    → map (λ (s : Bor Text). key s.now) names ≡ map key (map (λ (s : Bor Text). s.now) names)
+now_keys key [] = refl
+now_keys key (s ∷ names) = ap (λ keys. key s.now ∷ keys) (now_keys key names)
+
+pub unlike : (key : Text → ℕ) (names : List (Bor Text)) (keys sorted : List ℕ)
+    → keys ≡ map (λ (s : Bor Text). key s.now) names → IsPermutation keys sorted
+    → IsStrictlyIncreasing sorted → duplicates (map (λ (s : Bor Text). s.now) names) ≡ []
+unlike key names keys sorted e moved ascending =
+    none_again key [] (map (λ (s : Bor Text). s.now) names)
+    (subst (IsDistinct eqb) (e ∙ now_keys key names)
+    (IsDistinct-IsPermutation eqb eqb_comm sorted keys (IsPermutation-sym keys sorted moved)
+    (apart sorted ascending)))
