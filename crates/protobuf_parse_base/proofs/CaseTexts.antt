@@ -1,5 +1,4 @@
--- Spellings of a name: one turn of each loop, by bytes and by characters, and what a second spelling
--- gives.
+-- Spellings of a name: by bytes and by characters, and what a second spelling gives.
 use Rattle.std.specs.Prelude.{if◌then◌else◌, encode_utf8_all}
 use Rattle.std.proofs.Common.{◌≡◌, ℕ, ◌==◌, ◌<◌, ◌≤◌, ◌+◌, ◌++◌, ◌&&◌, List, [], ◌∷◌, Bool, true, false}
 use Rattle.std.proofs.Common.{length, get_or, drop, refl, sym, ap, ◌∙◌, append_assoc, append-nil}
@@ -19,45 +18,6 @@ use Rattle.std.specs.Str.{chars, IsUtf8}
 use Rattle.unicode.specs.Binary.{is_lowercase}
 use Rattle.protobuf_parse_base.specs.Cases.{joined_words, camel_case_of, split_words, snake_case_of}
 use Rattle.protobuf_parse_base.specs.Cases.{has_underscore, camel_case_text, snake_case_text}
-
--- ---- words that are joined
-
-joined_words-turn : (raise : Bool) (cs : List ℕ) (n c : ℕ) → (n < length cs) × (c ≡ get_or cs n c)
-    → joined_words raise (drop n cs)
-    ≡ (if c == 95 then joined_words true (drop (n + 1) cs)
-    else (if raise then to_ascii_uppercase c else c) ∷ joined_words false (drop (n + 1) cs))
-joined_words-turn raise cs n c h =
-    at_drop_more (joined_words raise) cs n c h.0
-    ∙ ap (λ d. if d == 95 then joined_words true (drop (n + 1) cs)
-    else (if raise then to_ascii_uppercase d else d)
-    ∷ joined_words false (drop (n + 1) cs)) (sym h.1)
-
--- the bytes so far and the spelling of what is left are the spelling of all
-pub joined_words-dropped : (raise : Bool) (cs : List ℕ) (n c : ℕ) (text all : List ℕ)
-    → (n < length cs) × (c ≡ get_or cs n c) → (c == 95) ≡ true
-    → text ++ joined_words raise (drop n cs) ≡ all
-    → text ++ joined_words true (drop (n + 1) cs) ≡ all
-joined_words-dropped raise cs n c text all h underscore before =
-    ap (λ rest. text ++ rest)
-    (sym (joined_words-turn raise cs n c h ∙ cond-true (c == 95) _ _ underscore)) ∙ before
-
-pub joined_words-kept : (raise : Bool) (cs : List ℕ) (n c d : ℕ) (text next all : List ℕ)
-    → (n < length cs) × (c ≡ get_or cs n c) → (c == 95) ≡ false
-    → d ≡ (if raise then to_ascii_uppercase c else c) → next ≡ text ++ d ∷ []
-    → text ++ joined_words raise (drop n cs) ≡ all
-    → next ++ joined_words false (drop (n + 1) cs) ≡ all
-joined_words-kept raise cs n c d text next all h other d_is step before =
-    let rest : List ℕ = joined_words false (drop (n + 1) cs) in
-    ap (λ t. t ++ rest) step ∙ (append_assoc text (d ∷ []) rest
-    ∙ (ap (λ e. text ++ (e ∷ rest)) d_is
-    ∙ (ap (λ left. text ++ left)
-    (sym (joined_words-turn raise cs n c h ∙ cond-false (c == 95) _ _ other)) ∙ before)))
-
-pub joined_words-end : (raise : Bool) (cs : List ℕ) (n : ℕ) (text all : List ℕ) → length cs ≤ n
-    → text ++ joined_words raise (drop n cs) ≡ all → text ≡ all
-joined_words-end raise cs n text all h before =
-    sym (append-nil text)
-    ∙ (ap (λ rest. text ++ joined_words raise rest) (sym (drop_all n cs h)) ∙ before)
 
 -- ---- the words of a text, by its bytes
 

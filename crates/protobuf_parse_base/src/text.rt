@@ -1,6 +1,6 @@
 //! Spellings of names, and bytes as the inside of a string literal.
 ghost use Rattle.std.specs.Prelude.{◌≡◌, ◌==◌, ◌&&◌, ◌<◌, ◌+◌, [], ◌∷◌, ◌++◌, false, IfOk, OnOk};
-ghost use Rattle.std.specs.Prelude.{encode_utf8_all, if◌then◌else◌};
+ghost use Rattle.std.specs.Prelude.{encode_utf8_all, if◌then◌else◌, take};
 ghost use Rattle.std.specs.Char.{is_ascii_uppercase, to_ascii_lowercase, to_ascii_uppercase};
 ghost use Rattle.std.specs.String.{string_bytes};
 ghost use Rattle.std.specs.Str.{chars};
@@ -51,17 +51,29 @@ fn join_words(alloc: Global, name: &str, raise: bool) -> Result<String, AllocErr
 fn join_bytes(alloc: Global, name: &[u8], raise: bool) -> Result<Vec<u8>, AllocError>
     ensures { IfOk result (λ joined. joined.items ≡ joined_words raise name.now) }
 {
-    let mut joined = Vec::with_capacity(alloc, name.len())?;
+    let mut joined = Vec::from_slice(alloc, name)?;
+    let kept = join_in_place(&mut joined, raise);
+    joined.truncate(kept);
+    Ok(joined)
+}
+
+/// Moves what the bytes of a name become to their front, and gives its length.
+fn join_in_place(bytes: &mut [u8], raise: bool) -> usize
+    ensures { take result bytes.new ≡ joined_words raise bytes.old }
+{
+    let mut kept = 0;
     let mut raise_next = raise;
-    for byte in name {
-        if *byte == b'_' {
+    for i in 0..bytes.len() {
+        let byte = bytes[i];
+        if byte == b'_' {
             raise_next = true;
         } else {
-            joined.push(raised(*byte, raise_next))?;
+            bytes[kept] = raised(byte, raise_next);
+            kept += 1;
             raise_next = false;
         }
     }
-    Ok(joined)
+    kept
 }
 
 /// The byte, in ASCII upper case if `raise` is set.

@@ -4,7 +4,7 @@
 use Rattle.std.specs.Prelude.{ℕ, List, [], ◌∷◌, ◌++◌, map, flat_map, length, string_bytes}
 use Rattle.std.specs.Prelude.{String, Option, option_map, option_to_list}
 use Rattle.std.specs.Borrow.{Bor}
-use Rattle.std.specs.Global.{Global, Vec}
+use Rattle.std.specs.Global.{Global, Vec, Box}
 use Rattle.protobuf_parse_model.specs.declared.scope.Context.{Context}
 use Rattle.protobuf_parse_model.specs.declared.scope.Meaning.{Meaning}
 use Rattle.protobuf_parse_model.specs.declared.scope.ResolvedType.{ResolvedType}
@@ -18,6 +18,7 @@ use Rattle.protobuf_parse_model.specs.declared.convert.place.FieldPlace.{FieldPl
 use Rattle.protobuf_parse_model.specs.Fields as fields
 use Rattle.protobuf_parse_model.specs.declared.convert.field.FieldSaid.{FieldSaid}
 use Rattle.protobuf_parse_model.specs.declared.descriptor.FieldType.{FieldType}
+use Rattle.protobuf_parse_model.specs.declared.descriptor.DescriptorProto.{DescriptorProto}
 use Rattle.protobuf_parse_model.specs.declared.convert.statement.DeclaredField.{DeclaredField}
 use Rattle.protobuf_parse_model.specs.Messages.{messages_behind, oneofs_of, fields_of, fields_from}
 use Rattle.protobuf_parse_model.specs.Messages.{nested_of, enums_of, extended_of}
@@ -41,7 +42,7 @@ use Rattle.protobuf_parse_syntax.specs.declared.tree.declaration.Method.{Method}
 use Rattle.protobuf_parse_syntax.specs.declared.tree.declaration.Reserved.{Reserved}
 use Rattle.protobuf_parse_syntax.specs.declared.tree.declaration.EnumValue.{EnumValue}
 use Rattle.protobuf_parse_model.specs.Options.{FieldOptionsSet, MessageOptionsSet}
-use Rattle.protobuf_parse_model.specs.Options.{field_options_view, message_options_view}
+use Rattle.protobuf_parse_model.specs.Options.{boxed_options_view, message_options_view}
 use Rattle.protobuf_parse_model.specs.OptionMessages.{field_options, message_options}
 use Rattle.protobuf_parse_model.specs.Fields.{FieldTypeOf}
 use Rattle.protobuf_parse_model.specs.Declarations.{DeclaredType}
@@ -73,9 +74,13 @@ pub record FieldAndMessage : Type 0 where
   pub field : FieldDescriptor
   pub behind : List MessageDescriptor
 
+-- the message behind a field, out of its box
+abbrev pub behind_seen : Option (Box DescriptorProto) → List DescriptorProto
+behind_seen behind = option_to_list (option_map (λ b. b.value) behind)
+
 abbrev pub declared_view : DeclaredField → FieldAndMessage
 declared_view d =
-    record { field = field_view d.field; behind = map message_view (option_to_list d.behind) }
+    record { field = field_view d.field; behind = map message_view (behind_seen d.behind) }
 
 abbrev pub field_declared_by : Environment → fields.FieldPlace → FieldStatementSyntax
     → FieldAndMessage
@@ -224,7 +229,7 @@ said_view s =
       default_value = option_map string_bytes s.default_value;
       json_name =
           string_bytes s.json_name;
-      options = option_map field_options_view s.options;
+      options = option_map boxed_options_view s.options;
     }
 
 abbrev pub said_by : Environment → FieldType → Text → List OptionSyntax → Said

@@ -8,7 +8,7 @@ use Rattle.protobuf_parse_model.specs.Options.{FileOptionsSet, MessageOptionsSet
 use Rattle.protobuf_parse_model.specs.Options.{OneofOptionsSet, EnumOptionsSet, EnumValueOptionsSet}
 use Rattle.protobuf_parse_model.specs.Options.{ServiceOptionsSet, MethodOptionsSet}
 use Rattle.protobuf_parse_model.specs.Options.{file_options_view, message_options_view}
-use Rattle.protobuf_parse_model.specs.Options.{field_options_view, oneof_options_view}
+use Rattle.protobuf_parse_model.specs.Options.{boxed_options_view, oneof_options_view}
 use Rattle.protobuf_parse_model.specs.Options.{enum_options_view, enum_value_options_view}
 use Rattle.protobuf_parse_model.specs.Options.{service_options_view, method_options_view}
 use Rattle.protobuf_parse_model.specs.declared.descriptor.FieldType.{FieldType}
@@ -139,7 +139,7 @@ field_view f = record {
   oneof_index = f.oneof_index;
   json_name = string_bytes f.json_name;
   proto3_optional = f.proto3_optional;
-  options = option_map field_options_view f.options;
+  options = option_map boxed_options_view f.options;
 }
 
 abbrev pub oneof_view : OneofDescriptorProto → OneofDescriptor

@@ -97,6 +97,8 @@ pub struct FieldDescriptorProto {
     pub number: i32,
     pub label: Label,
     pub type_: FieldType,
+    /// Whether the field has the label `optional` in proto3.
+    pub proto3_optional: bool,
     /// The full name of the message, enum or group that the field holds, with its first dot.
     pub type_name: Option<String>,
     /// The full name of the message that an extension extends, with its first dot.
@@ -107,9 +109,8 @@ pub struct FieldDescriptorProto {
     pub oneof_index: Option<i32>,
     /// The name in the JSON mapping.
     pub json_name: String,
-    /// Whether the field has the label `optional` in proto3.
-    pub proto3_optional: bool,
-    pub options: Option<FieldOptions>,
+    /// In a place of their own, since most fields have none.
+    pub options: Option<Box<FieldOptions>>,
 }
 
 /// The type of a field's values: the scalar types, and three that are declared elsewhere.

@@ -1,11 +1,11 @@
 //! The messages that stand behind maps and groups.
 
 ghost use Rattle.std.specs.Prelude.{◌≡◌, ◌++◌, pos, ℤ, List, [], ◌∷◌, map, flat_map, option_map};
-ghost use Rattle.std.specs.Prelude.{option_to_list, string_bytes, IfOk};
+ghost use Rattle.std.specs.Prelude.{string_bytes, IfOk};
 ghost use Rattle.protobuf_parse_syntax.specs.Trees.{field_statement_view, field_view, group_view};
 ghost use Rattle.protobuf_parse_syntax.specs.Trees.{type_view};
 ghost use Rattle.protobuf_parse_model.specs.Contexts.{environment_in, resolved_view};
-ghost use Rattle.protobuf_parse_model.specs.Contexts.{names_of_context};
+ghost use Rattle.protobuf_parse_model.specs.Contexts.{behind_seen, names_of_context};
 ghost use Rattle.protobuf_parse_model.specs.Descriptors as described;
 ghost use Rattle.protobuf_parse_model.specs.Duplicates.{duplicates};
 ghost use Rattle.protobuf_parse_model.specs.Faults.{Elaborates};
@@ -31,15 +31,28 @@ pub fn map_entry(
     context: &Context<'_>,
     name: &str,
     type_: &Type,
-) -> Result<Option<DescriptorProto>, ElabFailure>
+) -> Result<Option<Box<DescriptorProto>>, ElabFailure>
     ensures { let env = names_of_context context.now in
-        Elaborates (λ m. map described.message_view (option_to_list m)) result
+        Elaborates (λ m. map described.message_view (behind_seen m)) result
         (messages.map_entry_faults env name.now (type_view type_.now))
         (messages.entries_of env name.now (type_view type_.now)) }
 {
     match type_ {
-        Type::Map(key, value) => Ok(Some(entry(alloc, context, name, key, value)?)),
+        Type::Map(key, value) => {
+            let entry = entry(alloc, context, name, key, value)?;
+            Ok(Some(boxed(alloc, entry)?))
+        }
         Type::Scalar(_) | Type::Named(_) => Ok(None),
+    }
+}
+
+/// The message in a place of its own.
+pub fn boxed(alloc: Global, message: DescriptorProto) -> Result<Box<DescriptorProto>, AllocError>
+    ensures { IfOk result (λ b. b.value ≡ message) }
+{
+    match Box::new(alloc, message) {
+        Ok(boxed) => Ok(boxed),
+        Err(_) => Err(AllocError),
     }
 }
 

@@ -1,17 +1,18 @@
 //! The statements that declare fields: fields with the messages behind maps, and groups.
 
-ghost use Rattle.std.specs.Prelude.{◌≡◌, [], ◌∷◌, ◌++◌, option_to_list, OnOk};
+ghost use Rattle.std.specs.Prelude.{◌≡◌, [], ◌∷◌, ◌++◌, OnOk};
 ghost use Rattle.protobuf_parse_syntax.specs.Trees as tree;
 ghost use Rattle.protobuf_parse_syntax.specs.Trees.{field_view, field_statement_view, group_of};
 ghost use Rattle.protobuf_parse_syntax.specs.Trees.{group_view};
-ghost use Rattle.protobuf_parse_model.specs.Contexts.{field_declared_by, declared_view};
+ghost use Rattle.protobuf_parse_model.specs.Contexts.{behind_seen, declared_view};
+ghost use Rattle.protobuf_parse_model.specs.Contexts.{field_declared_by};
 ghost use Rattle.protobuf_parse_model.specs.Contexts.{environment_in};
 ghost use Rattle.protobuf_parse_model.specs.Contexts.{field_place_view};
 ghost use Rattle.protobuf_parse_model.specs.Faults.{Elaborates};
 ghost use Rattle.protobuf_parse_model.specs.Fields as fields;
 
 use crate::convert::field::{check_no_map, field_descriptor, group_field};
-use crate::convert::generated::{group_message, map_entry};
+use crate::convert::generated::{boxed, group_message, map_entry};
 use crate::convert::place::FieldPlace;
 use crate::customs::CustomOptions;
 use crate::descriptor::{DescriptorProto, FieldDescriptorProto};
@@ -23,8 +24,9 @@ use std::alloc::{AllocError, Global};
 /// The field that a statement declares.
 pub struct DeclaredField {
     pub field: FieldDescriptorProto,
-    /// The message of a map's entries, or that of a group.
-    pub behind: Option<DescriptorProto>,
+    /// The message of a map's entries, or that of a group. Most fields have none, so it stands in
+    /// a place of its own.
+    pub behind: Option<Box<DescriptorProto>>,
 }
 
 // Written out: what drops it calls this, and need not prove anew how a field is dropped.
@@ -46,7 +48,7 @@ impl DeclaredField {
     ) -> Result<(), AllocError>
         ensures fields { OnOk result (fields.new.items ≡ fields.old.items ++ self.field ∷ []) }
         ensures messages { OnOk result
-            (messages.new.items ≡ messages.old.items ++ option_to_list self.behind) }
+            (messages.new.items ≡ messages.old.items ++ behind_seen self.behind) }
     {
         let DeclaredField { field, behind } = self;
         fields.push(field)?;
@@ -57,12 +59,12 @@ impl DeclaredField {
 /// Adds the message behind a field, if one stands there.
 fn push_behind(
     messages: &mut Vec<DescriptorProto>,
-    behind: Option<DescriptorProto>,
+    behind: Option<Box<DescriptorProto>>,
 ) -> Result<(), AllocError>
-    ensures { OnOk result (messages.new.items ≡ messages.old.items ++ option_to_list behind) }
+    ensures { OnOk result (messages.new.items ≡ messages.old.items ++ behind_seen behind) }
 {
     if let Some(message) = behind {
-        messages.push(message)?;
+        messages.push(Box::into_inner(message))?;
     }
     Ok(())
 }
@@ -160,6 +162,7 @@ fn declared_group<C: CustomOptions>(
         (field_declared_by env (field_place_view place.now) s) }
 {
     let message = group_message(alloc, context, custom, group)?;
+    let message = boxed(alloc, message)?;
     let field = group_field(alloc, context, place, group)?;
     Ok(DeclaredField {
         field,

@@ -40,8 +40,9 @@ pub fn enumeration(
     tokens.word("enum")?;
     let name = tokens.ident(alloc)?;
     tokens.symbol('{')?;
-    let body = enum_statements(alloc, tokens, levels)?;
+    let mut body = enum_statements(alloc, tokens, levels)?;
     tokens.symbol('}')?;
+    body.shrink_to_fit();
     Ok(Enumeration { place, name, body })
 }
 

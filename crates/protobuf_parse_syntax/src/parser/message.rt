@@ -56,9 +56,10 @@ fn message_of(
     tokens.word("message")?;
     let name = tokens.ident(alloc)?;
     tokens.symbol('{')?;
-    let body = message_statements(alloc, tokens, syntax, levels)?;
+    let mut body = message_statements(alloc, tokens, syntax, levels)?;
     let fault = field_fault(tokens, syntax);
     tokens.symbol_or('}', fault)?;
+    body.shrink_to_fit();
     Ok(Message { place, name, body })
 }
 
@@ -151,9 +152,10 @@ fn oneof(
     tokens.word("oneof")?;
     let name = tokens.ident(alloc)?;
     tokens.symbol('{')?;
-    let body = oneof_statements(alloc, tokens, syntax, levels)?;
+    let mut body = oneof_statements(alloc, tokens, syntax, levels)?;
     let fault = oneof_fault(tokens);
     tokens.symbol_or('}', fault)?;
+    body.shrink_to_fit();
     Ok(OneOf { place, name, body })
 }
 

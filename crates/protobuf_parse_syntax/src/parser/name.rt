@@ -55,7 +55,7 @@ pub fn name(alloc: Global, tokens: &mut Cursor<'_, '_>) -> Result<String, Refusa
 pub fn string(alloc: Global, tokens: &mut Cursor<'_, '_>) -> Result<StrLit, Refusal>
     ensures { Gives pieces_of result (left tokens.new) (read.str.run (left tokens.old)) }
 {
-    let mut pieces = Vec::new(alloc);
+    let mut pieces = Vec::with_capacity(alloc, 1)?;
     pieces.push(tokens.piece(alloc)?)?;
     'others: while tokens.sees_str() {
         let piece = tokens.piece(alloc)?;

@@ -83,7 +83,7 @@ fn assignments(
     ensures { GivesOr (LongName (left tokens.old)) (λ v. map view.option_view v.items) result
         (left tokens.new) ((nest.assignments levels).low.run (left tokens.old)) }
 {
-    let mut options = Vec::new(alloc);
+    let mut options = Vec::with_capacity(alloc, 1)?;
     options.push(assignment(alloc, tokens, levels)?)?;
     'others: while tokens.sees_symbol(',') {
         let option = comma_assignment(alloc, tokens, levels)?;
@@ -134,7 +134,7 @@ fn option_name(alloc: Global, tokens: &mut Cursor<'_, '_>) -> Result<ProtobufOpt
     match first {
         ProtobufOptionNamePart::Direct(name) => Ok(ProtobufOptionName::Builtin(name)),
         ProtobufOptionNamePart::Ext(_) => {
-            let mut parts = Vec::new(alloc);
+            let mut parts = Vec::with_capacity(alloc, 1)?;
             parts.push(first)?;
             Ok(ProtobufOptionName::Custom(parts))
         }

@@ -48,10 +48,10 @@ pub struct Field {
     /// The place of the label, or of the type where there is none.
     pub place: Place,
     pub label: Option<Label>,
-    pub type_: Type,
-    pub name: String,
     /// From 0 to 2147483647.
     pub number: i32,
+    pub type_: Type,
+    pub name: String,
     pub options: Vec<ProtobufOption>,
 }
 

@@ -15,7 +15,7 @@ pub others-init : goal.others-init
 others-init c =
     let e : map option_view c.push.new.self.items ≡ [] ++ option_view c.in_ok-assignment.field-0
     ∷ [] = ap (map option_view) (c.in_ok-push.ensures.items
-    ∙ ap (λ (v : List _). v ++ c.in_ok-assignment.field-0 ∷ []) c.new-options.ensures.items) in
+    ∙ ap (λ (v : List _). v ++ c.in_ok-assignment.field-0 ∷ []) c.in_ok-options.ensures.items) in
     assignments_first c.args.levels (left c.args.tokens.now) (left c.assignment.new.tokens)
     (option_view c.in_ok-assignment.field-0) c.in_ok-assignment.ensures
     ∙ ap (λ (v : List OptionSyntax). with_rest (λ (x : List OptionSyntax). x)
@@ -24,7 +24,8 @@ others-init c =
 
 pub returns-in_err-assignment : goal.returns-in_err-assignment
 returns-in_err-assignment c =
-    let p = err_from_is_err_and c.from_residual.result c.from_residual.ensures.1 in
+    let p = err_from_is_err_and c.from_residual-in_err-assignment.result
+    c.from_residual-in_err-assignment.ensures.1 in
     rw (p.1, p.2)
     (fails_first_option c.args.levels c.in_err-assignment.field-0.0 (left c.args.tokens.now)
     (left c.assignment.new.tokens) c.in_err-assignment.ensures)

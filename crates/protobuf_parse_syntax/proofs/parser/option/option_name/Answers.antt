@@ -7,6 +7,7 @@ use Rattle.protobuf_parse_syntax.specs.Grammar.{option_name}
 use Rattle.protobuf_parse_syntax.specs.Code.{left}
 use Rattle.protobuf_parse_syntax.proofs.Parts.{name_of_parts, name_of_one, fails_at_first}
 use Rattle.protobuf_parse_syntax.proofs.Parts.{fails_at_parts}
+use Rattle.protobuf_parse_syntax.specs.declared.tree.option.ProtobufOptionNamePart.TheVariants as part
 use Rattle.protobuf_parse_syntax.proofs.parser.option.option_name.Goals as goal
 
 pub returns-then-sees_symbol : goal.returns-then-sees_symbol
@@ -31,7 +32,8 @@ returns-in_ok-push-in-Ext c =
     let e : map option_part_view c.push.new.self.items ≡ option_part_view c.in_ok-first.first
     ∷ [] = ap (map option_part_view)
     (c.in_ok-push-in-Ext.ensures.items
-    ∙ ap (λ (v : List _). v ++ c.in_ok-first.first ∷ []) c.new-parts.ensures.items) in
+    ∙ ap (λ (v : List _). v ++ part.Ext c.in-Ext.field-0 ∷ []) c.in_ok-parts-in-Ext.ensures.items)
+    ∙ ap (λ p. option_part_view p ∷ []) (sym c.in-Ext.is) in
     name_of_one (left c.args.tokens.now) (left c.option_part.new.tokens)
     (option_part_view c.in_ok-first.first) c.in_ok-first.ensures
     (sym c.sees_symbol.ensures ∙ c.if-sees_symbol.false)
