@@ -96,7 +96,7 @@ fn full_field(alloc: Global) -> Result<FieldDescriptorProto, AllocError> {
         oneof_index: Some(0),
         json_name,
         proto3_optional: true,
-        options: Some(options),
+        options: Some(Box::new(alloc, options)?),
     })
 }
 

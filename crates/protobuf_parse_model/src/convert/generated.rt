@@ -50,10 +50,7 @@ pub fn map_entry(
 pub fn boxed(alloc: Global, message: DescriptorProto) -> Result<Box<DescriptorProto>, AllocError>
     ensures { IfOk result (λ b. b.value ≡ message) }
 {
-    match Box::new(alloc, message) {
-        Ok(boxed) => Ok(boxed),
-        Err(_) => Err(AllocError),
-    }
+    Ok(Box::new(alloc, message)?)
 }
 
 /// The message of the entries of the map of that name.

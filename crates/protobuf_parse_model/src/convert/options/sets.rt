@@ -192,10 +192,7 @@ pub fn field_options(
         debug_redact: truth_option(options, "debug_redact"),
         custom,
     };
-    match Box::new(alloc, set) {
-        Ok(boxed) => Ok(Some(boxed)),
-        Err(_) => Err(AllocError),
-    }
+    Ok(Some(Box::new(alloc, set)?))
 }
 
 /// The options of a oneof.
