@@ -35,10 +35,21 @@ pub appended_all : {X Y : Type 0} (f : Y → List ℕ) (v : X → Y) (xs : List 
 appended_all f v xs k start text le h = h
     ∙ ap (λ z. start ++ flat_map f (map v z)) (take_all k xs le)
 
--- three texts with a space between two of them, and two more behind
-pub appended_spaced : (a b c d e t u v : List ℕ) → t ≡ a ++ 32 ∷ (b ++ 32 ∷ c) → u ≡ t ++ d
-    → v ≡ u ++ e → v ≡ a ++ (32 ∷ []) ++ b ++ (32 ∷ []) ++ c ++ d ++ e
-appended_spaced a b c d e t u v p q r = rw (r, q, p) (simp append_assoc refl)
+pub appended_three : (t a b c : List ℕ) {u v w : List ℕ} → u ≡ t ++ a → v ≡ u ++ b → w ≡ v ++ c
+    → w ≡ t ++ (a ++ b ++ c)
+appended_three t a b c p q r = rw (r, q, p) (simp append_assoc refl)
+
+-- a line of two parts
+pub appended_line : (t blanks a b : List ℕ) {u v w : List ℕ} → u ≡ t ++ blanks ++ a → v ≡ u ++ b
+    → w ≡ v ++ 10 ∷ [] → w ≡ t ++ (blanks ++ (a ++ b) ++ 10 ∷ [])
+appended_line t blanks a b p q r = rw (r, q, p) (simp append_assoc refl)
+
+-- a line that begins with some words and a label, and the lines below it
+pub appended_labelled : (t blanks front label after below : List ℕ) {u v w words : List ℕ}
+    → words ≡ label ++ after → u ≡ t ++ blanks ++ (front ++ label) → v ≡ u ++ (after ++ 10 ∷ [])
+    → w ≡ v ++ below → w ≡ t ++ (blanks ++ (front ++ words) ++ 10 ∷ [] ++ below)
+appended_labelled t blanks front label after below e p q r =
+    rw (r, q, p, e) (simp append_assoc refl)
 
 pub appended_two : (t u v a b : List ℕ) → u ≡ t ++ a → v ≡ u ++ b → v ≡ t ++ (a ++ b)
 appended_two t u v a b p q = q ∙ (ap (λ z. z ++ b) p ∙ append_assoc t a b)

@@ -13,7 +13,8 @@ ghost use Rattle.protobuf_parse_listing.specs.Listing as spec;
 
 use crate::fields::{put_extensions, put_fields, put_words_if};
 use crate::pieces::{
-    put_line, put_line_if_some, put_optional_line, put_range_line, put_reserved_names,
+    begin_line, end_line, put_equals, put_line, put_line_if_some, put_number, put_optional_line,
+    put_range_line, put_reserved_names,
 };
 use crate::settings::{
     put_enum_options, put_enum_value_options, put_file_options, put_message_options,
@@ -219,13 +220,12 @@ fn put_message_back(
         (string_bytes text.new ≡ string_bytes text.old
         ++ spec.message_back level (message_parts message.now)) }
 {
-    put_extension_ranges(alloc, text, level, &message.extension_range)?;
-    put_reserved_ranges(alloc, text, level, &message.reserved_range)?;
+    put_extension_ranges(text, level, &message.extension_range)?;
+    put_reserved_ranges(text, level, &message.reserved_range)?;
     put_reserved_names(alloc, text, level, &message.reserved_name)
 }
 
 fn put_extension_ranges(
-    alloc: Global,
     text: &mut String,
     level: usize,
     ranges: &[ExtensionRange],
@@ -236,13 +236,12 @@ fn put_extension_ranges(
         (map extension_range_view ranges.now)) }
 {
     for range in ranges {
-        put_extension_range(alloc, text, level, range)?;
+        put_extension_range(text, level, range)?;
     }
     Ok(())
 }
 
 fn put_extension_range(
-    alloc: Global,
     text: &mut String,
     level: usize,
     range: &ExtensionRange,
@@ -251,18 +250,10 @@ fn put_extension_range(
         (string_bytes text.new ≡ string_bytes text.old
         ++ spec.range_line level (codes "extension_range ") (extension_range_view range.now)) }
 {
-    put_range_line(
-        alloc,
-        text,
-        level,
-        "extension_range ",
-        &range.start,
-        &range.end,
-    )
+    put_range_line(text, level, "extension_range ", &range.start, &range.end)
 }
 
 fn put_reserved_ranges(
-    alloc: Global,
     text: &mut String,
     level: usize,
     ranges: &[ReservedRange],
@@ -273,13 +264,12 @@ fn put_reserved_ranges(
         (map reserved_range_view ranges.now)) }
 {
     for range in ranges {
-        put_reserved_range(alloc, text, level, range)?;
+        put_reserved_range(text, level, range)?;
     }
     Ok(())
 }
 
 fn put_reserved_range(
-    alloc: Global,
     text: &mut String,
     level: usize,
     range: &ReservedRange,
@@ -288,14 +278,7 @@ fn put_reserved_range(
         (string_bytes text.new ≡ string_bytes text.old
         ++ spec.range_line level (codes "reserved_range ") (reserved_range_view range.now)) }
 {
-    put_range_line(
-        alloc,
-        text,
-        level,
-        "reserved_range ",
-        &range.start,
-        &range.end,
-    )
+    put_range_line(text, level, "reserved_range ", &range.start, &range.end)
 }
 
 fn put_oneofs(
@@ -346,7 +329,7 @@ fn put_enum_parts(
 {
     put_enum_options(alloc, text, level, &of.options)?;
     put_enum_values(alloc, text, level, &of.value)?;
-    put_enum_ranges(alloc, text, level, &of.reserved_range)?;
+    put_enum_ranges(text, level, &of.reserved_range)?;
     put_reserved_names(alloc, text, level, &of.reserved_name)
 }
 
@@ -376,25 +359,28 @@ fn put_enum_value(
         (string_bytes text.new ≡ string_bytes text.old
         ++ spec.enum_value_lines level (enum_value_view value.now)) }
 {
-    let words = enum_value_words(alloc, value)?;
-    put_line(text, level, "value ", &words)?;
+    begin_line(text, level, "value ")?;
+    put_enum_value_words(text, value)?;
+    end_line(text)?;
     put_enum_value_options(alloc, text, level + 1, &value.options)
 }
 
 /// `NAME = NUMBER`.
 #[tactic(auto, unfolding(crate::specs::Listing::enum_value_words))]
-fn enum_value_words(alloc: Global, value: &EnumValueDescriptorProto) -> Result<String, AllocError>
-    ensures { IfOk result
-        (λ s. string_bytes s ≡ spec.enum_value_words (enum_value_view value.now)) }
+fn put_enum_value_words(
+    text: &mut String,
+    value: &EnumValueDescriptorProto,
+) -> Result<(), AllocError>
+    ensures { OnOk result
+        (string_bytes text.new ≡ string_bytes text.old
+        ++ spec.enum_value_words (enum_value_view value.now)) }
 {
-    let mut words = String::from_str(alloc, &value.name)?;
-    let number = value.number;
-    write!(words, " = {number}")?;
-    Ok(words)
+    text.push_str(&value.name)?;
+    put_equals(text)?;
+    put_number(text, value.number)
 }
 
 fn put_enum_ranges(
-    alloc: Global,
     text: &mut String,
     level: usize,
     ranges: &[EnumReservedRange],
@@ -405,13 +391,12 @@ fn put_enum_ranges(
         (map enum_range_view ranges.now)) }
 {
     for range in ranges {
-        put_enum_range(alloc, text, level, range)?;
+        put_enum_range(text, level, range)?;
     }
     Ok(())
 }
 
 fn put_enum_range(
-    alloc: Global,
     text: &mut String,
     level: usize,
     range: &EnumReservedRange,
@@ -420,14 +405,7 @@ fn put_enum_range(
         (string_bytes text.new ≡ string_bytes text.old
         ++ spec.range_line level (codes "reserved_range ") (enum_range_view range.now)) }
 {
-    put_range_line(
-        alloc,
-        text,
-        level,
-        "reserved_range ",
-        &range.start,
-        &range.end,
-    )
+    put_range_line(text, level, "reserved_range ", &range.start, &range.end)
 }
 
 fn put_services(
@@ -487,18 +465,33 @@ fn put_method(
         (string_bytes text.new ≡ string_bytes text.old
         ++ spec.method_lines level (method_view method.now)) }
 {
-    let words = method_words(alloc, method)?;
-    put_line(text, level, "method ", &words)?;
+    begin_line(text, level, "method ")?;
+    put_method_words(text, method)?;
+    end_line(text)?;
     put_method_options(alloc, text, level + 1, &method.options)
 }
 
 /// `NAME INPUT OUTPUT`, and on which side the method streams.
-fn method_words(alloc: Global, method: &MethodDescriptorProto) -> Result<String, AllocError>
-    ensures { IfOk result (λ s. string_bytes s ≡ spec.method_words (method_view method.now)) }
+#[tactic(auto, unfolding(crate::specs::Listing::method_words))]
+fn put_method_words(text: &mut String, method: &MethodDescriptorProto) -> Result<(), AllocError>
+    ensures { OnOk result
+        (string_bytes text.new ≡ string_bytes text.old
+        ++ spec.method_words (method_view method.now)) }
 {
-    let (name, input, output) = (&method.name, &method.input_type, &method.output_type);
-    let mut words = format!(in alloc; "{name} {input} {output}")?;
-    put_words_if(&mut words, method.client_streaming, " client_streaming")?;
-    put_words_if(&mut words, method.server_streaming, " server_streaming")?;
-    Ok(words)
+    put_names(text, &method.name, &method.input_type, &method.output_type)?;
+    put_words_if(text, method.client_streaming, " client_streaming")?;
+    put_words_if(text, method.server_streaming, " server_streaming")
+}
+
+/// Three names with a space between them.
+fn put_names(text: &mut String, name: &str, input: &str, output: &str) -> Result<(), AllocError>
+    ensures { OnOk result
+        (string_bytes text.new ≡ string_bytes text.old
+        ++ (name.now ++ codes " " ++ input.now ++ codes " " ++ output.now)) }
+{
+    text.push_str(name)?;
+    text.push(' ')?;
+    text.push_str(input)?;
+    text.push(' ')?;
+    text.push_str(output)
 }

@@ -1,11 +1,14 @@
 //! The lines of fields and extensions.
 
-ghost use Rattle.std.specs.Prelude.{◌≡◌, ◌++◌, OnOk, flat_map, map, option_map};
+ghost use Rattle.std.specs.Prelude.{◌≡◌, ◌*◌, [], ◌∷◌, ◌++◌, OnOk, codes, flat_map, map};
+ghost use Rattle.std.specs.Prelude.{option_map, replicate};
 ghost use Rattle.std.specs.String.{string_bytes};
+ghost use Rattle.protobuf_parse_base.specs.Characters as char;
 ghost use Rattle.protobuf_parse_model.specs.Descriptors.{field_view};
 ghost use Rattle.protobuf_parse_listing.specs.Listing as spec;
+ghost use Rattle.protobuf_parse_listing.specs.Parts.{after_label, front_after_label};
 
-use crate::pieces::{put_indent, put_quoted};
+use crate::pieces::{begin_line, end_line, put_equals, put_number, put_quoted};
 use crate::settings::put_field_options;
 use protobuf_parse_model::{FieldDescriptorProto, FieldType, Label};
 use std::alloc::{AllocError, Global};
@@ -21,7 +24,7 @@ pub fn put_fields(
         ++ flat_map (spec.field_lines level) (map field_view fields.now)) }
 {
     for field in fields {
-        put_field(alloc, text, level, "field ", field)?;
+        put_field(alloc, text, level, field)?;
     }
     Ok(())
 }
@@ -42,6 +45,23 @@ pub fn put_extensions(
     Ok(())
 }
 
+/// A field's line, and those of its options.
+fn put_field(
+    alloc: Global,
+    text: &mut String,
+    level: usize,
+    field: &FieldDescriptorProto,
+) -> Result<(), AllocError>
+    ensures { OnOk result
+        (string_bytes text.new ≡ string_bytes text.old
+        ++ spec.field_lines level (field_view field.now)) }
+{
+    begin_line(text, level, field_words(field.label))?;
+    put_after_label(alloc, text, field)?;
+    put_field_options(alloc, text, level + 1, &field.options)
+}
+
+/// An extension's line, and those of its options.
 fn put_extension(
     alloc: Global,
     text: &mut String,
@@ -52,65 +72,69 @@ fn put_extension(
         (string_bytes text.new ≡ string_bytes text.old
         ++ spec.extension_lines level (field_view field.now)) }
 {
-    let extendee = match &field.extendee {
-        Some(extendee) => extendee.as_str(),
-        None => "",
-    };
-    let front = format!(in alloc; "extension {extendee} ")?;
-    put_field(alloc, text, level, &front, field)
-}
-
-/// The line of a field, which begins with these words, and those of its options.
-#[tactic(auto, unfolding(crate::specs::Listing::field_lines_after))]
-fn put_field(
-    alloc: Global,
-    text: &mut String,
-    level: usize,
-    front: &str,
-    field: &FieldDescriptorProto,
-) -> Result<(), AllocError>
-    ensures { OnOk result
-        (string_bytes text.new ≡ string_bytes text.old
-        ++ spec.field_lines_after front.now level (field_view field.now)) }
-{
-    put_field_line(alloc, text, level, front, field)?;
+    begin_extension(text, level, field)?;
+    put_after_label(alloc, text, field)?;
     put_field_options(alloc, text, level + 1, &field.options)
 }
 
-fn put_field_line(
-    alloc: Global,
+/// `extension EXTENDEE LABEL `.
+fn begin_extension(
     text: &mut String,
     level: usize,
-    front: &str,
+    field: &FieldDescriptorProto,
+) -> Result<(), AllocError>
+    ensures { OnOk result
+        (string_bytes text.new ≡ string_bytes text.old ++ replicate (2 * level) char.space
+        ++ (spec.extension_front (field_view field.now)
+        ++ (spec.label_word field.now.label ++ codes " "))) }
+{
+    begin_line(text, level, "extension ")?;
+    put_text(text, &field.extendee)?;
+    text.push(' ')?;
+    text.push_str(label_words(field.label))
+}
+
+/// The text, where there is one.
+fn put_text(text: &mut String, part: &Option<String>) -> Result<(), AllocError>
+    ensures { OnOk result
+        (string_bytes text.new ≡ string_bytes text.old
+        ++ spec.text_or_nothing (option_map string_bytes part.now)) }
+{
+    match part {
+        Some(part) => text.push_str(part),
+        None => Ok(()),
+    }
+}
+
+/// `TYPE NAME = NUMBER`, and the rest of the line.
+#[tactic(auto, unfolding(crate::specs::Parts::after_label))]
+fn put_after_label(
+    alloc: Global,
+    text: &mut String,
     field: &FieldDescriptorProto,
 ) -> Result<(), AllocError>
     ensures { OnOk result
         (string_bytes text.new ≡ string_bytes text.old
-        ++ spec.line level (front.now ++ spec.field_words (field_view field.now))) }
+        ++ (after_label (field_view field.now) ++ char.newline ∷ [])) }
 {
-    put_indent(text, level)?;
-    text.push_str(front)?;
     put_field_front(text, field)?;
     put_field_back(alloc, text, field)?;
-    text.push_str("\n")
+    end_line(text)
 }
 
-/// `LABEL TYPE NAME = NUMBER`.
-#[tactic(auto, unfolding(crate::specs::Listing::field_front))]
+/// `TYPE NAME = NUMBER`.
 fn put_field_front(text: &mut String, field: &FieldDescriptorProto) -> Result<(), AllocError>
     ensures { OnOk result
-        (string_bytes text.new ≡ string_bytes text.old ++ spec.field_front (field_view field.now)) }
+        (string_bytes text.new ≡ string_bytes text.old
+        ++ front_after_label (field_view field.now)) }
 {
-    let number = field.number;
-    text.push_str(label_word(field.label))?;
-    text.push_str(" ")?;
     put_type(text, field.type_, &field.type_name)?;
-    text.push_str(" ")?;
     text.push_str(&field.name)?;
-    write!(text, " = {number}")
+    put_equals(text)?;
+    put_number(text, field.number)
 }
 
-/// A type's word, and its name where it is declared elsewhere.
+/// A type's word, its name where it is declared elsewhere, and a space.
 fn put_type(
     text: &mut String,
     type_: FieldType,
@@ -118,17 +142,14 @@ fn put_type(
 ) -> Result<(), AllocError>
     ensures { OnOk result
         (string_bytes text.new ≡ string_bytes text.old
-        ++ spec.type_words type_ (option_map string_bytes type_name.now)) }
+        ++ spec.type_words type_ (option_map string_bytes type_name.now) ++ codes " ") }
 {
     text.push_str(type_word(type_))?;
     if !is_named(type_) {
         return Ok(());
     }
-    text.push_str(" ")?;
-    match type_name {
-        Some(name) => text.push_str(name),
-        None => Ok(()),
-    }
+    put_text(text, type_name)?;
+    text.push(' ')
 }
 
 /// ` json "J"`, and what else is set.
@@ -168,7 +189,10 @@ fn put_oneof_index(text: &mut String, index: Option<i32>) -> Result<(), AllocErr
 {
     match index {
         None => Ok(()),
-        Some(index) => write!(text, " oneof {index}"),
+        Some(index) => {
+            text.push_str(" oneof ")?;
+            put_number(text, index)
+        }
     }
 }
 
@@ -188,37 +212,50 @@ fn is_named(type_: FieldType) -> bool
     )
 }
 
-fn label_word(label: Label) -> &'static str
-    ensures { result.now ≡ spec.label_word label }
+/// The first words of a field's line.
+fn field_words(label: Label) -> &'static str
+    ensures { result.now ≡ codes "field " ++ (spec.label_word label ++ codes " ") }
 {
     match label {
-        Label::Optional => "optional",
-        Label::Required => "required",
-        Label::Repeated => "repeated",
+        Label::Optional => "field optional ",
+        Label::Required => "field required ",
+        Label::Repeated => "field repeated ",
     }
 }
 
+/// A label's word and a space.
+fn label_words(label: Label) -> &'static str
+    ensures { result.now ≡ spec.label_word label ++ codes " " }
+{
+    match label {
+        Label::Optional => "optional ",
+        Label::Required => "required ",
+        Label::Repeated => "repeated ",
+    }
+}
+
+/// A type's word and a space.
 fn type_word(type_: FieldType) -> &'static str
-    ensures { result.now ≡ spec.type_word type_ }
+    ensures { result.now ≡ spec.type_word type_ ++ codes " " }
 {
     match type_ {
-        FieldType::Int32 => "int32",
-        FieldType::Int64 => "int64",
-        FieldType::Uint32 => "uint32",
-        FieldType::Uint64 => "uint64",
-        FieldType::Sint32 => "sint32",
-        FieldType::Sint64 => "sint64",
-        FieldType::Fixed32 => "fixed32",
-        FieldType::Sfixed32 => "sfixed32",
-        FieldType::Fixed64 => "fixed64",
-        FieldType::Sfixed64 => "sfixed64",
-        FieldType::Bool => "bool",
-        FieldType::String => "string",
-        FieldType::Bytes => "bytes",
-        FieldType::Float => "float",
-        FieldType::Double => "double",
-        FieldType::Message => "message",
-        FieldType::Enum => "enum",
-        FieldType::Group => "group",
+        FieldType::Int32 => "int32 ",
+        FieldType::Int64 => "int64 ",
+        FieldType::Uint32 => "uint32 ",
+        FieldType::Uint64 => "uint64 ",
+        FieldType::Sint32 => "sint32 ",
+        FieldType::Sint64 => "sint64 ",
+        FieldType::Fixed32 => "fixed32 ",
+        FieldType::Sfixed32 => "sfixed32 ",
+        FieldType::Fixed64 => "fixed64 ",
+        FieldType::Sfixed64 => "sfixed64 ",
+        FieldType::Bool => "bool ",
+        FieldType::String => "string ",
+        FieldType::Bytes => "bytes ",
+        FieldType::Float => "float ",
+        FieldType::Double => "double ",
+        FieldType::Message => "message ",
+        FieldType::Enum => "enum ",
+        FieldType::Group => "group ",
     }
 }

@@ -1,7 +1,8 @@
 //! What lines are made of.
 
-ghost use Rattle.std.specs.Prelude.{◌≡◌, ◌+◌, ◌*◌, ◌++◌, IfOk, OnOk, flat_map, map, option_map};
-ghost use Rattle.std.specs.Prelude.{replicate};
+ghost use Rattle.std.specs.Prelude.{◌≡◌, ◌*◌, [], ◌∷◌, ◌++◌, OnOk, codes, flat_map, map};
+ghost use Rattle.std.specs.Prelude.{option_map, replicate};
+ghost use Rattle.std.specs.Fmt.{signed_decimal};
 ghost use Rattle.std.specs.List.{list_all};
 ghost use Rattle.std.specs.String.{string_bytes};
 ghost use Rattle.protobuf_parse_base.specs.Characters as char;
@@ -9,18 +10,47 @@ ghost use Rattle.protobuf_parse_base.specs.Escapes.{escaped_bytes};
 ghost use Rattle.protobuf_parse_listing.specs.Listing as spec;
 ghost use Rattle.protobuf_parse_listing.specs.Plain as plain;
 
+use itoa::Buffer;
 use protobuf_parse_base::text::escape_bytes;
 use std::alloc::{AllocError, Global};
+
+// Each byte that is not escaped stands at its own place, and an apostrophe at every other place.
+static PLAIN_MAP: [u8; 256] = *b"\
+    ''''''''''''''''''''''''''''''''\
+    \x20!'#$%&'()*+,-./0123456789:;<=>?\
+    @ABCDEFGHIJKLMNOPQRSTUVWXYZ[']^_\
+    `abcdefghijklmnopqrstuvwxyz{|}~'\
+    ''''''''''''''''''''''''''''''''\
+    ''''''''''''''''''''''''''''''''\
+    ''''''''''''''''''''''''''''''''\
+    ''''''''''''''''''''''''''''''''";
 
 /// A line of two parts.
 pub fn put_line(text: &mut String, level: usize, words: &str, rest: &str) -> Result<(), AllocError>
     ensures { OnOk result
         (string_bytes text.new ≡ string_bytes text.old ++ spec.line level (words.now ++ rest.now)) }
 {
-    put_indent(text, level)?;
-    text.push_str(words)?;
+    begin_line(text, level, words)?;
     text.push_str(rest)?;
-    text.push_str("\n")
+    end_line(text)
+}
+
+/// The first words of a line.
+pub fn begin_line(text: &mut String, level: usize, words: &str) -> Result<(), AllocError>
+    ensures { OnOk result
+        (string_bytes text.new ≡ string_bytes text.old
+        ++ replicate (2 * level) char.space ++ words.now) }
+{
+    put_indent(text, level)?;
+    text.push_str(words)
+}
+
+/// The end of a line.
+pub fn end_line(text: &mut String) -> Result<(), AllocError>
+    ensures { OnOk result
+        (string_bytes text.new ≡ string_bytes text.old ++ char.newline ∷ []) }
+{
+    text.push('\n')
 }
 
 /// A line with these first words, and with the text where there is one.
@@ -60,7 +90,6 @@ pub fn put_line_if_some(
 /// A line with these first words and two numbers.
 #[tactic(auto, unfolding(crate::specs::Listing::range_line))]
 pub fn put_range_line(
-    alloc: Global,
     text: &mut String,
     level: usize,
     words: &str,
@@ -71,28 +100,61 @@ pub fn put_range_line(
         (string_bytes text.new ≡ string_bytes text.old
         ++ spec.range_line level words.now (record { start = start.now; end = end.now })) }
 {
-    let range = format!(in alloc; "{start} {end}")?;
-    put_line(text, level, words, &range)
+    begin_line(text, level, words)?;
+    put_range_words(text, *start, *end)?;
+    end_line(text)
+}
+
+/// Two numbers with a space between them.
+fn put_range_words(text: &mut String, start: i32, end: i32) -> Result<(), AllocError>
+    ensures { OnOk result
+        (string_bytes text.new ≡ string_bytes text.old ++ spec.range_words start end) }
+{
+    put_number(text, start)?;
+    text.push(' ')?;
+    put_number(text, end)
+}
+
+/// ` = `, by characters, which costs less than a call that copies them.
+pub fn put_equals(text: &mut String) -> Result<(), AllocError>
+    ensures { OnOk result (string_bytes text.new ≡ string_bytes text.old ++ codes " = ") }
+{
+    text.push(' ')?;
+    text.push('=')?;
+    text.push(' ')
+}
+
+/// The number in decimal digits: most have one.
+#[tactic(auto, using(std::proofs::lemmas::Fmt::decimal_digit))]
+pub fn put_number(text: &mut String, number: i32) -> Result<(), AllocError>
+    ensures { OnOk result
+        (string_bytes text.new ≡ string_bytes text.old ++ signed_decimal number) }
+{
+    let magnitude = number.unsigned_abs();
+    if number >= 0 && magnitude < 10 {
+        return text.push(char::from(b'0' + magnitude as u8));
+    }
+    let mut digits = Buffer::new();
+    text.push_str(digits.format(number))
 }
 
 /// Two spaces for each level.
-pub fn put_indent(text: &mut String, level: usize) -> Result<(), AllocError>
+fn put_indent(text: &mut String, level: usize) -> Result<(), AllocError>
     ensures { OnOk result
         (string_bytes text.new ≡ string_bytes text.old ++ replicate (2 * level) char.space) }
 {
     for done in 0..level {
-        text.push_str("  ")?;
+        put_two_spaces(text)?;
     }
     Ok(())
 }
 
-/// The words in double quotes, escaped.
-pub fn quoted(alloc: Global, words: &str) -> Result<String, AllocError>
-    ensures { IfOk result (λ s. string_bytes s ≡ spec.quoted words.now) }
+/// By characters too.
+fn put_two_spaces(text: &mut String) -> Result<(), AllocError>
+    ensures { OnOk result (string_bytes text.new ≡ string_bytes text.old ++ codes "  ") }
 {
-    let mut text = String::new(alloc);
-    put_quoted(alloc, &mut text, words)?;
-    Ok(text)
+    text.push(' ')?;
+    text.push(' ')
 }
 
 /// The words in double quotes, escaped.
@@ -100,9 +162,9 @@ pub fn quoted(alloc: Global, words: &str) -> Result<String, AllocError>
 pub fn put_quoted(alloc: Global, text: &mut String, words: &str) -> Result<(), AllocError>
     ensures { OnOk result (string_bytes text.new ≡ string_bytes text.old ++ spec.quoted words.now) }
 {
-    text.push_str("\"")?;
+    text.push('"')?;
     put_escaped(alloc, text, words)?;
-    text.push_str("\"")
+    text.push('"')
 }
 
 /// The words as they are escaped between double quotes: most as they are.
@@ -127,7 +189,7 @@ fn is_plain(words: &str) -> bool
 fn is_plain_byte(byte: u8) -> bool
     ensures { result ≡ plain.is_plain_byte byte }
 {
-    !matches!(byte, b'"' | b'\'' | b'\\') && matches!(byte, 0x20..=0x7e)
+    PLAIN_MAP[byte as usize] != b'\''
 }
 
 /// A line `reserved_name "N"` each.
@@ -157,6 +219,7 @@ fn put_reserved_name(
     ensures { OnOk result
         (string_bytes text.new ≡ string_bytes text.old ++ spec.reserved_name_line level name.now) }
 {
-    let quoted = quoted(alloc, name)?;
-    put_line(text, level, "reserved_name ", &quoted)
+    begin_line(text, level, "reserved_name ")?;
+    put_quoted(alloc, text, name)?;
+    end_line(text)
 }

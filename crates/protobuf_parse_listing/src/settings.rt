@@ -9,7 +9,7 @@ ghost use Rattle.protobuf_parse_model.specs.Options.{oneof_options_view, service
 ghost use Rattle.protobuf_parse_listing.specs.Listing as spec;
 ghost use Rattle.protobuf_parse_listing.specs.Settings.{setting_view, value_words};
 
-use crate::pieces::{put_indent, put_line, put_quoted};
+use crate::pieces::{begin_line, end_line, put_equals, put_line, put_quoted};
 use protobuf_parse_model::{
     CType, EnumOptions, EnumValueOptions, FieldOptions, FileOptions, IdempotencyLevel, JSType,
     MessageOptions, MethodOptions, OneofOptions, OptimizeMode, ServiceOptions,
@@ -219,12 +219,11 @@ fn put_setting(
     match setting.value {
         None => Ok(()),
         Some(value) => {
-            put_indent(text, level)?;
-            text.push_str("option ")?;
+            begin_line(text, level, "option ")?;
             text.push_str(setting.name)?;
-            text.push_str(" = ")?;
+            put_equals(text)?;
             put_value(alloc, text, value)?;
-            text.push_str("\n")
+            end_line(text)
         }
     }
 }
