@@ -3,7 +3,8 @@
 ghost use Rattle.std.specs.Prelude.{◌≡◌, ◌++◌, OnOk, flat_map, map, option_map};
 ghost use Rattle.std.specs.String.{string_bytes};
 ghost use Rattle.protobuf_parse_model.specs.Options.{enum_options_view, enum_value_options_view};
-ghost use Rattle.protobuf_parse_model.specs.Options.{field_options_view, file_options_view};
+ghost use Rattle.protobuf_parse_model.specs.Options.{boxed_options_view, field_options_view};
+ghost use Rattle.protobuf_parse_model.specs.Options.{file_options_view};
 ghost use Rattle.protobuf_parse_model.specs.Options.{message_options_view, method_options_view};
 ghost use Rattle.protobuf_parse_model.specs.Options.{oneof_options_view, service_options_view};
 ghost use Rattle.protobuf_parse_listing.specs.Listing as spec;
@@ -321,11 +322,11 @@ pub fn put_field_options(
     alloc: Global,
     text: &mut String,
     level: usize,
-    options: &Option<FieldOptions>,
+    options: &Option<Box<FieldOptions>>,
 ) -> Result<(), AllocError>
     ensures { OnOk result
         (string_bytes text.new ≡ string_bytes text.old
-        ++ spec.field_option_lines level (option_map field_options_view options.now)) }
+        ++ spec.field_option_lines level (option_map boxed_options_view options.now)) }
 {
     match options {
         None => Ok(()),

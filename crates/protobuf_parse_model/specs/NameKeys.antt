@@ -1,4 +1,5 @@
--- Only for proofs: a number by which names are told apart quickly.
+-- No public clause rests on this file.
+-- A number by which names are told apart quickly.
 use Rattle.std.specs.Prelude.{ℕ, ◌+◌, ◌*◌, ◌%◌, ◌^◌, List, [], ◌∷◌}
 
 -- the number after one more byte
