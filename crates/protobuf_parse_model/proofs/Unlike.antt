@@ -1,5 +1,5 @@
--- Names whose keys differ: none stands among those before it.
-use Rattle.std.proofs.Common.{◌≡◌, ℕ, ◌<◌, List, [], ◌∷◌, ◌++◌, false, map, get_or, Bor}
+-- Names of which none stands among those before it: one alone, and those whose keys differ.
+use Rattle.std.proofs.Common.{◌≡◌, ℕ, ◌<◌, List, [], ◌∷◌, ◌++◌, false, map, length, get_or, Bor}
 use Rattle.std.proofs.Common.{refl, sym, ap, subst, ◌∙◌, append_assoc, arith, inl, inr}
 use Rattle.std.proofs.Math.Dec.{eqb}
 use Rattle.std.specs.Prelude.{bytes_eq}
@@ -15,6 +15,13 @@ use Rattle.std.proofs.lemmas.List.Sorted.{IsPermutation-sym}
 use Rattle.protobuf_parse_model.specs.declared.error.ElabErrorKind.TheVariants.{DuplicateName}
 use Rattle.protobuf_parse_model.specs.Descriptors.{Text}
 use Rattle.protobuf_parse_model.specs.Duplicates.{stands_in, fault_when, repeats_after, duplicates}
+
+-- one name alone stands nowhere before itself
+pub few_unlike : {A : Type 0} (name : A → Text) (items : List A) → length items < 2
+    → duplicates (map name items) ≡ []
+few_unlike name [] h = refl
+few_unlike name (a ∷ []) h = refl
+few_unlike name (a ∷ b ∷ items) h = absurd (omega arith)
 
 -- ---- keys that differ
 

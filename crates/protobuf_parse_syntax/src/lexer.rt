@@ -7,7 +7,7 @@ ghost use Rattle.protobuf_parse_syntax.specs.Cut.{mark_len, IsShort, stream, Has
 ghost use Rattle.protobuf_parse_syntax.specs.Cut.{Answers, Reads, Refuses, error_place};
 ghost use Rattle.protobuf_parse_syntax.specs.Cut.{out_of_memory};
 
-mod bytes;
+pub mod bytes;
 mod depth;
 mod front;
 mod kind;

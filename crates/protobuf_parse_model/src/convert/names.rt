@@ -82,9 +82,13 @@ impl Named for &Method {
 }
 
 /// Refuses two that have one name: E1.
+#[tactic(auto, using(crate::proofs::Unlike::few_unlike))]
 pub fn check_unlike<T: Named>(alloc: Global, items: &[T]) -> Result<(), ElabFailure>
     ensures { Elaborates (λ u. u) result (duplicates (map T.name_of items.now)) tt }
 {
+    if items.len() < 2 {
+        return Ok(());
+    }
     check_unique(alloc, &names_of(alloc, items)?)
 }
 

@@ -6,13 +6,17 @@ ghost use Rattle.protobuf_parse_syntax.specs.Classes as class;
 ghost use Rattle.protobuf_parse_syntax.specs.Grammar as grammar;
 ghost use Rattle.protobuf_parse_syntax.specs.Words.{table_seen};
 
-/// Whether two texts are the same. Most of those that differ have other lengths, so these are
-/// compared first.
+use crate::lexer::bytes::byte_at;
+
+/// Whether two texts are the same. Most of those that differ have other lengths or begin otherwise,
+/// so that is looked at first.
 #[inline(always)]
 pub fn is_same(text: &str, other: &str) -> bool
     ensures { result ≡ bytes_eq text.now other.now }
 {
-    text.len() == other.len() && text == other
+    text.len() == other.len()
+        && byte_at(text.as_bytes(), 0) == byte_at(other.as_bytes(), 0)
+        && text == other
 }
 
 /// What a table has beside the word.
