@@ -329,6 +329,21 @@ def collisions(n):
     yield from block("message M", n, lambda i: f"optional int32 {alike[i]} = {20000 + i};")
 
 
+def agreeing(n):
+    """One message with n fields, 1024 at most, whose names differ and have one number each: the sum
+    of their bytes times powers of an odd number, modulo 2^64, is the same for both of two words that
+    are made from one another over and over."""
+    words = ("a", "b")
+    for _ in range(10):
+        words = (words[0] + words[1], words[1] + words[0])
+    yield PROTO2
+    yield from block(
+        "message M",
+        n,
+        lambda i: f"optional int32 {''.join(words[i >> bit & 1] for bit in range(10))} = {i + 1};",
+    )
+
+
 def paths(n):
     """n proto paths that have one hash, a line each: for the benchmark's --same."""
     return (name + "\n" for name in colliding(n))
