@@ -18,7 +18,7 @@ use std::alloc::Global;
 /// else. No other file is asked for.
 ///
 /// The error is that of the text: S1 to S20 at their line and column, both counted from 1, the
-/// column in characters.
+/// column in characters; or want of memory, at 0:0.
 pub fn parse_dependencies(
     alloc: Global,
     text: &str,

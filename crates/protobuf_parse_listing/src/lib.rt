@@ -18,7 +18,7 @@ use protobuf_parse_model::FileDescriptorProto;
 use std::alloc::{AllocError, Global};
 
 /// The listing of the files, in order. Each line ends with a line feed. An absent text prints as
-/// nothing.
+/// nothing. The one error is that memory is short.
 ///
 /// | construct | line | below it, in this order |
 /// |---|---|---|

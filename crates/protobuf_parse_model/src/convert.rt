@@ -36,6 +36,7 @@ use crate::descriptor::FileDescriptorProto;
 use crate::error::ElabFailure;
 use crate::scope::Seen;
 pub use options::has_builtin_option;
+pub use refuse::fault;
 use protobuf_parse_syntax::FileTree;
 use std::alloc::Global;
 

@@ -24,57 +24,57 @@ pub struct ElabError {
 /// What is wrong.
 #[derive(Clone, Copy, Debug, PartialEq, Eq, Error)]
 pub enum ElabErrorKind {
-    /// Two constructs of one kind have this name in one scope.
+    /// E1: two constructs of one kind have this name in one scope.
     DuplicateName,
-    /// A name that begins with a dot names no message and no enum.
+    /// E2: a name that begins with a dot names no message and no enum.
     NotFoundByAbsPath,
-    /// A name means no message and no enum from where it stands.
+    /// E3: a name means no message and no enum from where it stands.
     NotFoundByRelPath,
-    /// A map or a group stands in a group, or a map in an `extend` or in a map's key or value.
+    /// E4: a map or a group stands in a group, or a map in an `extend` or in a map's key or value.
     DanglingTypeName,
-    /// Two messages or enums of the reached files have this full name.
+    /// E5: two messages or enums of the reached files have this full name.
     TypeDeclaredTwice,
-    /// Two extensions of the reached files have this full name.
+    /// E6: two extensions of the reached files have this full name.
     ExtensionDeclaredTwice,
-    /// A range of a message ends at 2147483647, so that it has no end behind it.
+    /// E7: a range of a message ends at 2147483647, so that it has no end behind it.
     RangeEndOverflow,
-    /// The default of a string or a bytes field is no string.
+    /// E8: the default of a string or a bytes field is no string.
     DefaultValueIsNotStringLiteral,
-    /// A string has an escape that stands for nothing, or is no UTF-8 where a text is wanted.
+    /// E9: a string has an escape that stands for nothing, or is no UTF-8 where a text is wanted.
     StrLitDecode,
-    /// The value of `json_name` is no string.
+    /// E10: the value of `json_name` is no string.
     WrongOptionType,
-    /// The construct has no option of this name.
+    /// E11: the construct has no option of this name.
     BuiltinOptionNotFound,
-    /// `uninterpreted_option` can't be set.
+    /// E12: `uninterpreted_option` can't be set.
     BuiltinOptionPointsToNonSingularField,
-    /// The value is none of the option's type.
+    /// E13: the value is none of the option's type.
     InconvertibleValue,
-    /// The name of an extension means none from where it stands.
+    /// E14: the name of an extension means none from where it stands.
     ExtensionNotFound,
-    /// The extension extends another message than the one that is set.
+    /// E15: the extension extends another message than the one that is set.
     WrongExtensionType,
-    /// A part of an option's name that others follow is no message.
+    /// E16: a part of an option's name that others follow is no message.
     ExtensionIsNotMessage,
-    /// The message has no field of this name.
+    /// E17: the message has no field of this name.
     UnknownFieldName,
-    /// The enum has no value of this name.
+    /// E18: the enum has no value of this name.
     UnknownEnumValue,
-    /// The value is none of the field's type.
+    /// E19: the value is none of the field's type.
     UnsupportedExtensionType,
-    /// The integer is none of the field's type.
+    /// E20: the integer is none of the field's type.
     IntegerOutOfRange,
-    /// A message constant is given to a field that is no message.
+    /// E21: a message constant is given to a field that is no message.
     MessageFieldRequiresMessageConstant,
-    /// A value is given to a float or a double.
+    /// E22: a value is given to a float or a double.
     FloatOptionValue,
-    /// The number of the field is none that stands on the wire: 1 to 536870911.
+    /// E23: the number of the field is none that stands on the wire: 1 to 536870911.
     OptionFieldNumber,
-    /// A part of an option's name that others follow is a group.
+    /// E24: a part of an option's name that others follow is a group.
     GroupStepInOptionName,
-    /// A message constant has a type URL.
+    /// E26: a message constant has a type URL.
     TypeUrlInConstant,
-    /// The name of an option goes on from `uninterpreted_option`.
+    /// E28: the name of an option goes on from `uninterpreted_option`.
     UninterpretedOptionName,
 }
 

@@ -17,8 +17,7 @@ ghost use Rattle.protobuf_parse_options.specs.OptionFields.{field_named, part_fi
 
 use crate::lookup;
 use crate::option_place::OptionPlace;
-use crate::refuse::fault;
-use protobuf_parse_model::{ElabErrorKind, ElabFailure, FieldDescriptorProto};
+use protobuf_parse_model::{ElabErrorKind, ElabFailure, FieldDescriptorProto, fault};
 use protobuf_parse_syntax::{ConstantFieldName, ProtobufOptionNamePart};
 use std::alloc::{AllocError, Global};
 

@@ -17,22 +17,22 @@ ghost use Rattle.protobuf_parse_options.specs.WithoutOptions.{MeaningIgnoresOpti
 ghost use Rattle.protobuf_parse_options.specs.WithoutOptions.{NumbersIgnoreOptions};
 ghost use Rattle.protobuf_parse_options.specs.WithoutOptions.{ReadingIgnoresOptions};
 
-/// Where no fault stands in the custom options of a construct, bytes that spell what they denote
-/// are read as its numbers and values. It does nothing when called.
+/// Where no fault stands in the custom options of a construct, and each message that may be entered
+/// is declared once, with fields of distinct numbers, bytes that spell what they denote are read as
+/// its numbers and values.
 pub fn options_are_read()
     ensures { OptionsAreRead }
 {}
 
 /// Where no fault stands in the custom options of a file, the bytes of the function `option_bytes`
-/// spell what they denote. It does nothing when called.
+/// spell what they denote.
 pub fn option_bytes_spell()
     ensures { OptionBytesSpell }
 {}
 
 /// What custom options denote has at most 200 messages inside one another, where names have at most
 /// 100 parts and constants nest at most 100 deep, so that the reader never meets too many. In the
-/// tree of a text they do, so it is said of each set of a text's options. It does nothing when
-/// called.
+/// tree of a text they do, so it is said of each set of a text's options.
 pub fn never_too_deep()
     ensures options { NeverTooDeep }
     ensures texts { TextsAreNotTooDeep }
@@ -40,7 +40,7 @@ pub fn never_too_deep()
 
 /// What the name of an extension means is declared in the longest front of the scope in which an
 /// extension has that name; a name that means nothing is declared in no front; a name with a first
-/// dot means the extension of just that full name. It does nothing when called.
+/// dot means the extension of just that full name.
 pub fn extensions_are_looked_up()
     ensures longest { MeansTheLongest FieldDescriptor }
     ensures nothing { MeansNothing FieldDescriptor }
@@ -48,8 +48,8 @@ pub fn extensions_are_looked_up()
 {}
 
 /// Where no name is declared twice, it makes no difference to what custom options are and to what
-/// is wrong in them in which order the files are listed that a file reaches and that it sees. It
-/// does nothing when called.
+/// is wrong in them in which order the files are listed that a file reaches and that it sees. Each
+/// `package` of these files has a name, as in every text.
 pub fn any_order()
     ensures { OrderMakesNoDifference }
 {}
@@ -57,8 +57,7 @@ pub fn any_order()
 /// By files that are the same but for options the same bytes are read as the same, numbers of
 /// fields are distinct alike, and custom options denote the same and are wrong alike. Custom
 /// options change nothing in descriptors but options, so which ones a file sets itself makes no
-/// difference to what is read by its descriptor, nor to what custom options mean. It does nothing
-/// when called.
+/// difference to what is read by its descriptor, nor to what custom options mean.
 pub fn options_are_not_read()
     ensures reading { ReadingIgnoresOptions }
     ensures numbers { NumbersIgnoreOptions }
@@ -71,8 +70,7 @@ pub fn options_are_not_read()
 /// Where no fault stands in a file and in all that it reaches, and numbers of fields are distinct,
 /// the bytes that its custom options become are read, by the options message of their construct, as
 /// the numbers and values that the statements denote. By the descriptors of these files so are
-/// those of each file that it reaches. Where no custom option is set there are no bytes. It does
-/// nothing when called.
+/// those of each file that it reaches. Where no custom option is set there are no bytes.
 pub fn options_are_recovered()
     ensures custom { OptionsAreRecovered }
     ensures above { OptionsAreRecoveredAbove }
@@ -80,8 +78,8 @@ pub fn options_are_recovered()
 {}
 
 /// Custom options in which nothing is wrong mean the same where more files are at hand than their
-/// file reaches, and nothing is wrong in them there, where no name is declared twice. It does
-/// nothing when called.
+/// file reaches, and nothing is wrong in them there, where no name is declared twice. Each
+/// `package` of these files has a name, as in every text.
 pub fn more_files()
     ensures lookups { LookupsKeepMeaning }
     ensures by_path { MoreFilesKeepMeaning }

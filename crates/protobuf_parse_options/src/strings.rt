@@ -13,9 +13,9 @@ ghost use Rattle.protobuf_parse_options.specs.CustomFaults.{string_value_faults}
 ghost use Rattle.protobuf_parse_options.specs.Given.{path_said};
 ghost use Rattle.protobuf_parse_options.specs.OptionFields.{type_takes};
 
-use crate::refuse::{fault, not_taken};
+use crate::refuse::not_taken;
 use protobuf_parse_model::{
-    ElabErrorKind, ElabFailure, FieldDescriptorProto, FieldType, path_text,
+    ElabErrorKind, ElabFailure, FieldDescriptorProto, FieldType, fault, path_text,
 };
 use protobuf_parse_syntax::{ProtobufOptionNamePart, StrLit, StrLitDecodeError};
 use std::alloc::{AllocError, Global};

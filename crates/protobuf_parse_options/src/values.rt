@@ -9,8 +9,8 @@ ghost use Rattle.protobuf_parse_options.specs.CustomOptions.{item_of};
 ghost use Rattle.protobuf_parse_options.specs.OptionFields.{integer_kind, type_takes};
 ghost use Rattle.protobuf_parse_wire.specs.Views.{entry_view, entry_value_view};
 
-use crate::refuse::{fault, not_taken};
-use protobuf_parse_model::{ElabErrorKind, ElabFailure, FieldDescriptorProto, FieldType};
+use crate::refuse::not_taken;
+use protobuf_parse_model::{ElabErrorKind, ElabFailure, FieldDescriptorProto, FieldType, fault};
 use protobuf_parse_wire::{Entry, EntryValue, Kind};
 use std::alloc::{AllocError, Global};
 

@@ -1,6 +1,6 @@
 //! The files that this library brings, written anew: what Google's files of these paths declare,
-//! without comments, options and defaults. Of `descriptor.proto` only the options messages are
-//! here.
+//! without comments, options, defaults and reserved numbers. Of `descriptor.proto` only the options
+//! messages and `UninterpretedOption` are here.
 
 ghost use Rattle.std.specs.Prelude.{◌≡◌};
 ghost use Rattle.protobuf_parse_run.specs.Run.{rows, shipped};

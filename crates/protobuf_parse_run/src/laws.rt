@@ -8,8 +8,9 @@ ghost use Rattle.protobuf_parse_run.specs.TypeNames.{NamesAreReached};
 ghost use Rattle.protobuf_parse_run.specs.Walks.{SeenAreReached};
 
 /// What stays where other texts are read. A path that has the same text has the same tree. Where
-/// two runs agree on the files that a file reaches, the same faults stand in it, and it becomes
-/// the same, in whatever order these files are listed. Where they agree on all files of an accepted
+/// two runs agree on the files that a file reaches, the same faults stand in it, in whatever order
+/// these files are listed; and it becomes the same, where they declare no full name twice. Where
+/// they agree on all files of an accepted
 /// run, its order is a beginning of the order of every list of inputs that begins with the run's
 /// inputs, and its descriptors are the first of such a run that is accepted too: so further inputs
 /// whose reads agree only append.

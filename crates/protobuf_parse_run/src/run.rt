@@ -25,7 +25,7 @@ use std::alloc::{AllocError, Global};
 /// descriptors in the order of loading, or the fault of the first step that fails.
 ///
 /// `bundled` has proto paths and texts: where the resolver has no file, the first row with the path
-/// stands for it.
+/// stands for it. The fault is L1, L2, L4 to L10 or want of memory.
 pub fn run_inputs<'a, R: ProtoPathResolver, I: InputReader>(
     alloc: Global,
     inputs: &[RunInput],
@@ -92,7 +92,7 @@ fn descriptors(alloc: Global, loaded: LoadedFiles) -> Result<Vec<FileDescriptorP
 }
 
 /// The result of a run over inputs that the resolver finds, with the files that this library
-/// brings.
+/// brings. The fault is L1, L2, L5, L7 to L10 or want of memory.
 pub fn parse_and_typecheck_custom<R: ProtoPathResolver>(
     alloc: Global,
     input: &[ProtoPathBuf],

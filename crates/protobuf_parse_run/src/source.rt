@@ -28,6 +28,9 @@ pub trait ProtoPathResolver: Display {
     ghost may_answer: { Self → List ℕ → Result (Option ResolvedProtoFile) ResolveFault → Type 0 };
 
     /// The file that the path names, or None where there is no such file.
+    ///
+    /// A fault ends the run: [`ResolveFault::Memory`] as [`RunFault::Memory`](crate::RunFault), any
+    /// other as L5.
     fn resolve(
         &self,
         alloc: Global,
@@ -46,6 +49,9 @@ pub trait InputReader {
     ghost may_read: { Self → List ℕ → Result (Vec ℕ) ReadInputFault → Type 0 };
 
     /// The content of the file at this path.
+    ///
+    /// A fault ends the run: [`ReadInputFault::Memory`] as [`RunFault::Memory`](crate::RunFault),
+    /// any other as L4.
     fn read(&self, alloc: Global, path: &str) -> Result<Vec<u8>, ReadInputFault>
         ensures legal { may_read self.now path.now result };
 }

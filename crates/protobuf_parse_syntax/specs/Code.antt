@@ -1,22 +1,23 @@
 -- No public clause rests on this file.
 -- What the parser's functions say of readers.
-use Rattle.std.specs.Prelude.{◌≡◌, ◌⊎◌, Bool, true, false, Option, None, List, [], ◌∷◌, map}
+use Rattle.std.specs.Prelude.{◌≡◌, ◌⊎◌, ℕ, Bool, true, false, Option, None, List, [], ◌∷◌, map}
 use Rattle.std.specs.Prelude.{Result, Ok, Err}
 use Rattle.std.proofs.Common.{ap, ◌∙◌, refl}
 use Rattle.protobuf_parse_base.specs.Characters as char
 use Rattle.protobuf_parse_base.specs.Readers.{Rest, end, token, onto, Read, read, stuck, wrong}
 use Rattle.protobuf_parse_base.specs.Readers.{deep, bind}
+use Rattle.protobuf_parse_base.specs.Relations.{Many}
 use Rattle.protobuf_parse_base.specs.Whole.{whole}
 use Rattle.protobuf_parse_base.specs.declared.proto_path.error.PathError.{PathError}
 use Rattle.protobuf_parse_syntax.specs.Text.{Bytes}
 use Rattle.protobuf_parse_syntax.specs.Tokens.{Lexeme, lexeme}
-use Rattle.protobuf_parse_syntax.specs.Trees.{Pieces}
+use Rattle.protobuf_parse_syntax.specs.Trees.{Pieces, OptionSyntax}
 use Rattle.protobuf_parse_syntax.specs.Classes.{Class, symbol, ident, is_one_of, float}
 use Rattle.protobuf_parse_syntax.specs.Classes.{is_floating}
-use Rattle.protobuf_parse_syntax.specs.Grammar.{any_ident}
+use Rattle.protobuf_parse_syntax.specs.Grammar.{any_ident, IsComma}
 use Rattle.protobuf_parse_syntax.specs.Parsing.{IsLarge, SaysNothing, HundredParts, EndsWithParts}
 use Rattle.protobuf_parse_syntax.specs.Parsing.{EndsWithImport, EndsWithNoString, SyntaxHead}
-use Rattle.protobuf_parse_syntax.specs.Parsing.{IsGrammarFault}
+use Rattle.protobuf_parse_syntax.specs.Parsing.{IsEarlierOption, ListFront, IsGrammarFault}
 use Rattle.protobuf_parse_syntax.specs.Cut.{out_of_memory, located as located_at}
 use Rattle.protobuf_parse_syntax.specs.Productions as parse
 use Rattle.protobuf_parse_syntax.specs.declared.lexer.token.Place.{Place}
@@ -185,6 +186,25 @@ abbrev pub LongName : Rest Lexeme Place → {Y : Type 0} → Refusal → Rest Le
 LongName before e after r = (e ≡ Here error.OptionNameTooLong) × (r ≡ wrong before)
     × ((used : List Lexeme) × (before ≡ onto used after) × HundredParts used
     × (begins_part after ≡ true))
+
+-- Tokens come next of which the front is so, and behind it an option's name that has more than a
+-- hundred parts.
+abbrev pub LongBehind : (List Lexeme → Type 0) → Rest Lexeme Place → {Y : Type 0} → Refusal
+    → Rest Lexeme Place → Read Lexeme Place Y → Type 0
+LongBehind Front before e after r = (e ≡ Here error.OptionNameTooLong)
+    × ((start : Rest Lexeme Place) × (r ≡ wrong start))
+    × ((front : List Lexeme) × (name : List Lexeme) × (before ≡ onto front (onto name after))
+    × Front front × HundredParts name × (begins_part after ≡ true))
+
+-- a comma; the options before one of a list; and these with the bracket that opens the list
+abbrev pub IsCommaAlone : List Lexeme → Type 0
+IsCommaAlone ts = IsComma ts tt
+
+abbrev pub AreEarlier : ℕ → List Lexeme → Type 0
+AreEarlier n ts = (earlier : List OptionSyntax) × Many (IsEarlierOption n) ts earlier
+
+abbrev pub IsListFront : ℕ → List Lexeme → Type 0
+IsListFront n ts = (earlier : List OptionSyntax) × ListFront n ts earlier
 
 -- what a string's error is to the parser
 abbrev pub refusal_of : StrLitDecodeError → Refusal

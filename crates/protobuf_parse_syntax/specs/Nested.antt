@@ -20,7 +20,7 @@ use Rattle.protobuf_parse_syntax.specs.Productions.{name}
 use Rattle.protobuf_parse_syntax.specs.Productions.{reserved, extensions, enum_number, streamed}
 use Rattle.protobuf_parse_syntax.specs.Productions.{imported, package_name, version_statement}
 use Rattle.protobuf_parse_syntax.specs.Productions.{value_name}
-use Rattle.protobuf_parse_syntax.specs.Readings.{never, steady}
+use Rattle.protobuf_parse_syntax.specs.Readings.{never, steady, from_start}
 use Rattle.protobuf_parse_syntax.specs.Grammar.{table_words, labels}
 use Rattle.protobuf_parse_syntax.specs.Grammar.{statement_words, Item, Statements}
 use Rattle.protobuf_parse_syntax.specs.Grammar.{Braced}
@@ -36,7 +36,7 @@ use Rattle.protobuf_parse_syntax.specs.declared.lexer.token.Place.{Place}
 use Rattle.protobuf_parse_syntax.specs.declared.tree.Syntax.{Syntax}
 use Rattle.protobuf_parse_syntax.specs.declared.tree.Syntax.TheVariants.{Proto2, Proto3}
 unfoldable pub use Rattle.protobuf_parse_syntax.specs.NestedFields.{option_item, option_items}
-unfoldable pub use Rattle.protobuf_parse_syntax.specs.NestedFields.{after_type, plain_field}
+unfoldable pub use Rattle.protobuf_parse_syntax.specs.NestedFields.{after_type_parts, plain_field}
 unfoldable pub use Rattle.protobuf_parse_syntax.specs.NestedFields.{field_item_of, field_items_of}
 unfoldable pub use Rattle.protobuf_parse_syntax.specs.NestedFields.{field_block_of, group_of}
 unfoldable pub use Rattle.protobuf_parse_syntax.specs.NestedFields.{after_label, value_of}
@@ -62,7 +62,8 @@ pub use Rattle.protobuf_parse_syntax.specs.NestedFields.{option_pair, comma_part
 pub use Rattle.protobuf_parse_syntax.specs.NestedFields.{bracketed_options, assignments_first}
 pub use Rattle.protobuf_parse_syntax.specs.NestedFields.{option_shape, option-same, options_shape}
 pub use Rattle.protobuf_parse_syntax.specs.NestedFields.{options-same, option_items_shape}
-pub use Rattle.protobuf_parse_syntax.specs.NestedFields.{option_item_shape, AfterType, field_firsts}
+pub use Rattle.protobuf_parse_syntax.specs.NestedFields.{option_item_shape, AfterType, after_type}
+pub use Rattle.protobuf_parse_syntax.specs.NestedFields.{field_firsts}
 pub use Rattle.protobuf_parse_syntax.specs.NestedFields.{field_items_shape, field_item_shape}
 pub use Rattle.protobuf_parse_syntax.specs.NestedFields.{after_label_shape, up}
 
@@ -129,7 +130,8 @@ oneof_pair s n = shaped (nested (word_class (codes "oneof") ∷ []) false []) (a
 pub oneof-same : (s : Syntax) (n : ℕ) (ts : Rest Lexeme Place)
     → (oneof_pair s n).high.run ts ≡ (oneof_pair s (suc n)).low.run ts
 unfolding oneof_pair oneof_items oneof_item oneof_statement oneof_field after_label group_of
-    field_block_of field_items_of field_item_of plain_field after_type
+    field_block_of field_items_of field_item_of plain_field
+    after_type_parts
 oneof-same Proto2 n ts = refl
 oneof-same Proto3 n ts = refl
 
@@ -170,14 +172,19 @@ abbrev pub enum_value_shape : Shape Class
 enum_value_shape = nested (ident_class (codes "reserved" ∷ codes "option" ∷ []) ∷ []) false
     (symbol_class char.open_bracket ∷ [])
 
-unfoldable pub enum_value : (n : ℕ) → Parts (IsEnumValue n) (IsEnumValue (suc n)) enum_value_shape n
+unfoldable pub enum_value_parts : (n : ℕ)
+    → Parts (IsEnumValue n) (IsEnumValue (suc n)) enum_value_shape n
 unfolding IsEnumValue
-enum_value n = shaped enum_value_shape (at (λ place. do
+enum_value_parts n = shaped enum_value_shape (at (λ place. do
   name ← same value_name refl
   same (symbol char.equals) refl
   number ← same enum_number refl
   options ← options n
   give (record { place = place; name = name; number = number; options = options })) refl) refl
+
+-- wrong from the name on, if something behind it is
+abbrev pub enum_value : (n : ℕ) → Parts (IsEnumValue n) (IsEnumValue (suc n)) enum_value_shape n
+enum_value n = from_start (enum_value_parts n)
 
 abbrev pub enum_statement_shape : Shape Class
 enum_statement_shape = nested (ident_class [] ∷ []) false (symbol_class char.open_bracket ∷ [])
@@ -220,7 +227,7 @@ enumeration_pair n = shaped (nested (word_class (codes "enum") ∷ []) false [])
 
 pub enumeration-same : (n : ℕ) (ts : Rest Lexeme Place)
     → (enumeration_pair n).high.run ts ≡ (enumeration_pair (suc n)).low.run ts
-unfolding enumeration_pair enum_items enum_item enum_statement enum_value
+unfolding enumeration_pair enum_items enum_item enum_statement enum_value_parts
 enumeration-same n ts = refl
 
 abbrev pub enumeration : (n : ℕ)

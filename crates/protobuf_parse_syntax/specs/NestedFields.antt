@@ -378,10 +378,11 @@ AfterType n place label type_ =
       options = options;
     })))))))
 
-unfoldable pub after_type : (n : ℕ) (place : Place) (label : Option Label) (type_ : TypeSyntax)
+unfoldable pub after_type_parts :
+    (n : ℕ) (place : Place) (label : Option Label) (type_ : TypeSyntax)
     → Parts (AfterType n place label type_) (AfterType (suc n) place label type_)
     (field_shape (ident_class [] ∷ [])) n
-after_type n place label type_ = shaped (field_shape (ident_class [] ∷ [])) (do
+after_type_parts n place label type_ = shaped (field_shape (ident_class [] ∷ [])) (do
   name ← same ident refl
   same (symbol char.equals) refl
   number ← same field_number refl
@@ -397,6 +398,12 @@ after_type n place label type_ = shaped (field_shape (ident_class [] ∷ [])) (d
         options =
             options;
       }))) refl
+
+-- wrong from the name on, if something behind it is
+abbrev pub after_type : (n : ℕ) (place : Place) (label : Option Label) (type_ : TypeSyntax)
+    → Parts (AfterType n place label type_) (AfterType (suc n) place label type_)
+    (field_shape (ident_class [] ∷ [])) n
+after_type n place label type_ = from_start (after_type_parts n place label type_)
 
 unfoldable pub plain_field : (n : ℕ) (place : Place) (label : Option Label)
     → Parts (PlainFieldOf n (Unless (is_one_of (words (codes "group" ∷ []))) (IsType n)) place
@@ -529,7 +536,7 @@ field s = level refl (field_of s)
 
 pub near_field : (s : Syntax) (n : ℕ) → Near n (field s n).run (field s (suc n)).run
 unfolding field_of after_label group_of field_block_of field_items_of field_item_of plain_field
-    map_field after_type map_of
+    map_field after_type_parts map_of
 near_field Proto2 = levels refl (field_of Proto2) (λ n k h R R' t ts. refl)
     (λ n k h R R' t ts. refl)
 near_field Proto3 = levels refl (field_of Proto3) (λ n k h R R' t ts. refl)

@@ -1,18 +1,18 @@
 -- What is promised of a file's tokens, and of its text.
-use Rattle.std.specs.Prelude.{◌≡◌, ◌<◌, ◌⊎◌, List, [], ◌∷◌, ◌++◌, length, Some, true, false, codes}
+use Rattle.std.specs.Prelude.{◌≡◌, ◌<◌, ◌⊎◌, ℕ, List, [], ◌∷◌, ◌++◌, length, Some, true, false, codes}
 use Rattle.std.specs.Prelude.{Result, MatchResult}
 use Rattle.protobuf_parse_base.specs.Paths.{path_fault}
-use Rattle.protobuf_parse_base.specs.Relations.{Rel, Many, BeginsOtherwise, ◌>>◌}
-use Rattle.protobuf_parse_base.specs.Relations.{StopsAt}
+use Rattle.protobuf_parse_base.specs.Relations.{Rel, Many, Nothing, BeginsOtherwise, StopsAt}
+use Rattle.protobuf_parse_base.specs.Relations.{◌>>=◌, ◌>>◌}
 use Rattle.protobuf_parse_syntax.specs.Text.{Bytes}
 use Rattle.protobuf_parse_base.specs.Characters as char
 use Rattle.protobuf_parse_syntax.specs.Tokens.{Lexeme}
 use Rattle.protobuf_parse_syntax.specs.Cut.{Stream, HasTokens, IsRefused, out_of_memory, located}
-use Rattle.protobuf_parse_syntax.specs.Trees.{Pieces, OptionPartSyntax, FileSyntax}
+use Rattle.protobuf_parse_syntax.specs.Trees.{Pieces, OptionPartSyntax, OptionSyntax, FileSyntax}
 use Rattle.protobuf_parse_syntax.specs.Classes.{symbol, ident, float, text as string_token}
 use Rattle.protobuf_parse_syntax.specs.Classes.{is_one_of, is_floating}
-use Rattle.protobuf_parse_syntax.specs.Grammar.{IsWord, IsSymbol, IsOptionPart, IsNextPart}
-use Rattle.protobuf_parse_syntax.specs.Grammar.{IsVisibility}
+use Rattle.protobuf_parse_syntax.specs.Grammar.{IsWord, IsSymbol, IsComma, IsOptionPart, IsNextPart}
+use Rattle.protobuf_parse_syntax.specs.Grammar.{IsAssignment, IsEnumNumber, IsVisibility}
 use Rattle.protobuf_parse_syntax.specs.Grammar.{IsStr, StandsFor, IsFile, name_of, place_of}
 use Rattle.protobuf_parse_syntax.specs.declared.error.ParserError.{ParserError}
 use Rattle.protobuf_parse_syntax.specs.declared.error.ParserError.TheVariants as error
@@ -59,11 +59,23 @@ pub record HundredParts (ts : List Lexeme) : Type 0 where
   pub hundred : length more ≡ 99
   pub dotted : is_one_of (symbol char.dot ∷ []) dot ≡ true
 
--- The token behind which an option's name begins: the word `option`, or in a list of options the
--- bracket that opens it or a comma.
+-- an option of a list, whose constants nest in so many levels, and the comma behind it
+abbrev pub IsEarlierOption : ℕ → Rel Lexeme OptionSyntax
+IsEarlierOption n = do option ← IsAssignment n; IsComma; Nothing option
+
+-- the bracket that opens a list of options, and the options that stand before one of them
+abbrev pub ListFront : ℕ → Rel Lexeme (List OptionSyntax)
+ListFront n = do IsSymbol char.open_bracket; Many (IsEarlierOption n)
+
+-- `=`, the number of a field or of an enum's value, and these
+abbrev pub ListHead : ℕ → Rel Lexeme (List OptionSyntax)
+ListHead n = do IsSymbol char.equals; number ← IsEnumNumber; ListFront n
+
+-- The tokens directly behind which an option's name begins: the word `option`; or in a list of
+-- options what stands before it, from the `=` of its field or its enum's value on.
 abbrev pub OptionHead : List Lexeme → Type 0
-OptionHead ts =
-    IsWord (codes "option") ts tt ⊎ IsSymbol char.open_bracket ts tt ⊎ IsSymbol char.comma ts tt
+OptionHead ts = IsWord (codes "option") ts tt
+    ⊎ ((n : ℕ) × (earlier : List OptionSyntax) × ListHead n ts earlier)
 
 -- The tokens end with the first hundred parts of an option's name and their dots.
 abbrev pub EndsWithParts : List Lexeme → Type 0

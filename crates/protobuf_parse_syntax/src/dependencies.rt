@@ -51,7 +51,7 @@ pub fn parse_dependencies(
 }
 
 /// What a file's statements import. The tree of a text has no more of them than a position can
-/// count.
+/// count. The one error is that memory is short.
 #[tactic(auto, unfolding(crate::specs::Dependencies::dependencies_of))]
 pub fn imports_of(alloc: Global, statements: &[FileStatement]) -> Result<Dependencies, AllocError>
     requires { length statements.now ≤ 2147483647 }

@@ -1,6 +1,6 @@
-//! Tests of what is no text: names and paths as values, descriptors made by hand, values of
-//! entries, a resolver that is called by the library's own way, real files, and the program on them. Nothing
-//! but tests stands here; the tables of texts are cases of `protobuf_parse_cases`.
+//! Tests of what can't be a case: names and paths as values, descriptors made by hand, values of
+//! entries, a resolver of the caller's own, real files, and the program on them. Nothing but tests
+//! stands here; the tables of texts are cases of `protobuf_parse_cases`.
 #![tactic(auto)]
 
 #[cfg(test)]

@@ -12,7 +12,7 @@ use crate::entry::{Entry, EntryValue};
 use crate::kind::Kind;
 use std::alloc::{AllocError, Global};
 
-/// The bytes that spell the entries.
+/// The bytes that spell the entries. The one error is that memory is short.
 pub fn encode(alloc: Global, entries: &[Entry]) -> Result<Vec<u8>, AllocError>
     requires { AreWritable (entries_view entries.now) }
     ensures encoded { IfOk result (λ bytes. bytes.items ≡ encoded (entries_view entries.now)) }

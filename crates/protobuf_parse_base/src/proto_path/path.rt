@@ -85,8 +85,8 @@ impl ProtoPathBuf {
 
     /// The proto path that a path of the host names: its parts between slashes without the empty
     /// ones and `.`. In this order, the error is [`PathError::Absolute`] for a first slash,
-    /// [`PathError::Backslashes`], [`PathError::DotDot`] for a part `..`, [`PathError::Empty`] if
-    /// no part is left, or [`PathError::Memory`].
+    /// [`PathError::Backslashes`], [`PathError::DotDot`] for a part `..`, or [`PathError::Empty`]
+    /// if no part is left; in place of the last, or of a path, it may be [`PathError::Memory`].
     pub fn from_path(alloc: Global, text: &str) -> Result<Self, PathError>
         ensures ok { IfOk result (λ path. (path_buf_text path ≡ joined (kept_parts text.now))
             × (host_path_fault text.now ≡ None)) }

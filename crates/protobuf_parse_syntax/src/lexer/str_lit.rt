@@ -223,7 +223,8 @@ fn push_piece(bytes: &mut Vec<u8>, piece: &[u8]) -> Result<(), StrLitDecodeError
 }
 
 impl StrLit {
-    /// The bytes that the string stands for.
+    /// The bytes that the string stands for. The error is [`StrLitDecodeError::BadEscape`] where an
+    /// escape is none of the language, or [`StrLitDecodeError::Memory`].
     pub fn decode_bytes(&self, alloc: Global) -> Result<Vec<u8>, StrLitDecodeError>
         ensures bytes { IfOk result
             (λ v. DecodesAll (map string_bytes self.now.pieces.items) v.items) }
@@ -236,7 +237,8 @@ impl StrLit {
         Ok(bytes)
     }
 
-    /// The text that the string stands for.
+    /// The text that the string stands for. The error is one of [`StrLit::decode_bytes`], or
+    /// [`StrLitDecodeError::NotUtf8`].
     pub fn decode_utf8(&self, alloc: Global) -> Result<String, StrLitDecodeError>
         ensures text { IfOk result
             (λ t. DecodesAll (map string_bytes self.now.pieces.items) (string_bytes t)) }

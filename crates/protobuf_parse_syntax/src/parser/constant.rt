@@ -170,10 +170,8 @@ fn negative(number: u64) -> i64
 {
     if number == 0 {
         0
-    } else if number <= 1 << 63 {
-        -1 - (number - 1) as i64
     } else {
-        i64::MIN
+        -1 - (number - 1) as i64
     }
 }
 

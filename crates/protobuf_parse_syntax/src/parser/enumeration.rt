@@ -107,7 +107,7 @@ fn enum_statement(
 }
 
 /// `value = ident "=" [ "-" ] int [ options ]`
-#[tactic(auto, unfolding(crate::specs::Nested::enum_value), using(crate::specs::Code::fails_first))]
+#[tactic(auto, unfolding(crate::specs::Nested::enum_value_parts), using(crate::specs::Code::fails_first))]
 fn enum_value(
     alloc: Global,
     tokens: &mut Cursor<'_, '_>,

@@ -268,7 +268,7 @@ fn map_field(
 }
 
 /// What follows the type of a field: `ident "=" int [ options ] ";"`
-#[tactic(auto, unfolding(crate::specs::Nested::after_type), using(crate::specs::Code::fails_first))]
+#[tactic(auto, unfolding(crate::specs::Nested::after_type_parts), using(crate::specs::Code::fails_first))]
 fn after_type(
     alloc: Global,
     tokens: &mut Cursor<'_, '_>,

@@ -10,6 +10,7 @@ ghost use Rattle.protobuf_parse_syntax.specs.Grammar as grammar;
 ghost use Rattle.protobuf_parse_syntax.specs.Productions as read;
 ghost use Rattle.protobuf_parse_syntax.specs.Trees as view;
 ghost use Rattle.protobuf_parse_syntax.specs.Code.{left, Gives, GivesOr, TooMany, LongName};
+ghost use Rattle.protobuf_parse_syntax.specs.Code.{AreEarlier, IsCommaAlone, IsListFront, LongBehind};
 ghost use Rattle.protobuf_parse_syntax.specs.Text.{seen_by};
 ghost use Rattle.protobuf_parse_syntax.specs.Code.{begins_part};
 ghost use Rattle.protobuf_parse_syntax.specs.Nested as nest;
@@ -50,7 +51,8 @@ pub fn options(
     tokens: &mut Cursor<'_, '_>,
     levels: usize,
 ) -> Result<Vec<ProtobufOption>, Refusal>
-    ensures { Gives (λ v. map view.option_view v.items) result (left tokens.new)
+    ensures { GivesOr (LongBehind (IsListFront levels) (left tokens.old))
+        (λ v. map view.option_view v.items) result (left tokens.new)
         ((nest.options levels).low.run (left tokens.old)) }
 {
     if !tokens.sees_symbol('[') {
@@ -66,7 +68,8 @@ fn bracketed_options(
     tokens: &mut Cursor<'_, '_>,
     levels: usize,
 ) -> Result<Vec<ProtobufOption>, Refusal>
-    ensures { Gives (λ v. map view.option_view v.items) result (left tokens.new)
+    ensures { GivesOr (LongBehind (IsListFront levels) (left tokens.old))
+        (λ v. map view.option_view v.items) result (left tokens.new)
         ((nest.bracketed_options levels).low.run (left tokens.old)) }
 {
     tokens.symbol('[')?;
@@ -80,7 +83,8 @@ fn assignments(
     tokens: &mut Cursor<'_, '_>,
     levels: usize,
 ) -> Result<Vec<ProtobufOption>, Refusal>
-    ensures { GivesOr (LongName (left tokens.old)) (λ v. map view.option_view v.items) result
+    ensures { GivesOr (LongBehind (AreEarlier levels) (left tokens.old))
+        (λ v. map view.option_view v.items) result
         (left tokens.new) ((nest.assignments levels).low.run (left tokens.old)) }
 {
     let mut options = Vec::with_capacity(alloc, 1)?;
@@ -98,8 +102,8 @@ fn comma_assignment(
     tokens: &mut Cursor<'_, '_>,
     levels: usize,
 ) -> Result<ProtobufOption, Refusal>
-    ensures { Gives view.option_view result (left tokens.new)
-        ((nest.comma_assignment levels).low.run (left tokens.old)) }
+    ensures { GivesOr (LongBehind IsCommaAlone (left tokens.old)) view.option_view result
+        (left tokens.new) ((nest.comma_assignment levels).low.run (left tokens.old)) }
 {
     tokens.symbol(',')?;
     assignment(alloc, tokens, levels)

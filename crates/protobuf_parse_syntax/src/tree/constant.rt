@@ -51,7 +51,7 @@ pub enum ConstantFieldName {
 impl ProtobufConstant {
     /// The constant as it is written in a `.proto` file. A string keeps its pieces, each in double
     /// quotes; a message has a blank after each of its fields but those that are messages
-    /// themselves.
+    /// themselves. The one error is that memory is short.
     pub fn format(&self, alloc: Global) -> Result<String, AllocError>
         ensures { IfOk result (λ text. string_bytes text ≡ spec.format (constant_view self.now)) }
     {

@@ -3,7 +3,7 @@
 use crate::lexer::token::Place;
 use crate::tree::option::ProtobufOption;
 
-/// What a field's values are counted by.
+/// How many values a field has: at most one, just one, or any number.
 #[derive(Clone, Copy, Debug, PartialEq, Eq)]
 pub enum Label {
     Optional,

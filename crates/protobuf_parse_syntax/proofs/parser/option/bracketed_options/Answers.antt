@@ -1,4 +1,4 @@
-use Rattle.std.proofs.Common.{map}
+use Rattle.std.proofs.Common.{map, inl}
 use Rattle.std.proofs.lemmas.Result.{err_from_is_err_and}
 use Rattle.protobuf_parse_syntax.specs.Trees.{option_view}
 use Rattle.protobuf_parse_syntax.specs.Code.{left}
@@ -10,8 +10,8 @@ pub returns-in_err-symbol : goal.returns-in_err-symbol
 returns-in_err-symbol c =
     let p = err_from_is_err_and c.from_residual.result c.from_residual.ensures.1 in
     rw (p.1, p.2)
-    (fails_bracket c.args.levels c.in_err-symbol.field-0.0 (left c.args.tokens.now)
-    (left c.symbol.new.self) c.in_err-symbol.ensures)
+    (inl (fails_bracket c.args.levels c.in_err-symbol.field-0.0 (left c.args.tokens.now)
+    (left c.symbol.new.self) c.in_err-symbol.ensures))
 
 pub returns-in_err-options : goal.returns-in_err-options
 returns-in_err-options c =
@@ -27,7 +27,7 @@ returns-in_err-symbol-2 c =
     let p = err_from_is_err_and c.from_residual-in_err-symbol-2.result
     c.from_residual-in_err-symbol-2.ensures.1 in
     rw (p.1, p.2)
-    (fails_close_bracket c.args.levels c.in_err-symbol-2.field-0.0 (left c.args.tokens.now)
+    (inl (fails_close_bracket c.args.levels c.in_err-symbol-2.field-0.0 (left c.args.tokens.now)
     (left c.symbol-2.new.self) (left c.symbol.new.self) (left c.assignments.new.tokens)
     (map option_view c.in_ok-options.options.items) c.in_ok-symbol.ensures
-    c.in_ok-options.ensures c.in_err-symbol-2.ensures)
+    c.in_ok-options.ensures c.in_err-symbol-2.ensures))
