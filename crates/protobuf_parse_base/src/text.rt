@@ -1,7 +1,7 @@
 //! Spellings of names, and bytes as the inside of a string literal.
 ghost use Rattle.std.specs.Prelude.{◌≡◌, ◌==◌, ◌&&◌, ◌<◌, ◌+◌, [], ◌∷◌, ◌++◌, false, IfOk, OnOk};
 ghost use Rattle.std.specs.Prelude.{encode_utf8_all, if◌then◌else◌, take};
-ghost use Rattle.std.specs.Char.{is_ascii_uppercase, to_ascii_lowercase, to_ascii_uppercase};
+ghost use Rattle.std.specs.Char.{is_ascii_uppercase, to_ascii_lowercase};
 ghost use Rattle.std.specs.String.{string_bytes};
 ghost use Rattle.std.specs.Str.{chars};
 ghost use Rattle.protobuf_parse_base.specs.Characters as char;
@@ -67,24 +67,16 @@ fn join_in_place(bytes: &mut [u8], raise: bool) -> usize
         let byte = bytes[i];
         if byte == b'_' {
             raise_next = true;
-        } else {
-            bytes[kept] = raised(byte, raise_next);
+        } else if raise_next {
+            bytes[kept] = byte.to_ascii_uppercase();
             kept += 1;
             raise_next = false;
+        } else {
+            bytes[kept] = byte;
+            kept += 1;
         }
     }
     kept
-}
-
-/// The byte, in ASCII upper case if `raise` is set.
-fn raised(byte: u8, raise: bool) -> u8
-    ensures { result ≡ (if raise then to_ascii_uppercase byte else byte) }
-{
-    if raise {
-        byte.to_ascii_uppercase()
-    } else {
-        byte
-    }
 }
 
 /// The name in snake case: each character in ASCII lower case, with an underscore before an ASCII

@@ -1,6 +1,7 @@
 //! The lines of options.
 
-ghost use Rattle.std.specs.Prelude.{◌≡◌, ◌++◌, OnOk, flat_map, map, option_map};
+ghost use Rattle.std.specs.Prelude.{◌≡◌, ◌++◌, OnOk, Some, flat_map, map};
+ghost use Rattle.std.specs.Prelude.{option_map};
 ghost use Rattle.std.specs.String.{string_bytes};
 ghost use Rattle.protobuf_parse_model.specs.Options.{enum_options_view, enum_value_options_view};
 ghost use Rattle.protobuf_parse_model.specs.Options.{boxed_options_view, field_options_view};
@@ -330,11 +331,25 @@ pub fn put_field_options(
 {
     match options {
         None => Ok(()),
-        Some(options) => {
-            put_settings(alloc, text, level, &field_settings(options))?;
-            put_custom(alloc, text, level, &options.custom)
-        }
+        Some(options) => put_set_on_field(alloc, text, level, options),
     }
+}
+
+/// The lines of the options that are set on a field. Few fields have any, so what is needed for
+/// them stands apart.
+#[tactic(auto, unfolding(crate::specs::Listing::field_option_lines))]
+fn put_set_on_field(
+    alloc: Global,
+    text: &mut String,
+    level: usize,
+    options: &FieldOptions,
+) -> Result<(), AllocError>
+    ensures { OnOk result
+        (string_bytes text.new ≡ string_bytes text.old
+        ++ spec.field_option_lines level (Some (field_options_view options.now))) }
+{
+    put_settings(alloc, text, level, &field_settings(options))?;
+    put_custom(alloc, text, level, &options.custom)
 }
 
 /// The lines of a oneof's options.

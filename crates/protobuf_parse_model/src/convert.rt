@@ -36,8 +36,8 @@ use crate::descriptor::FileDescriptorProto;
 use crate::error::ElabFailure;
 use crate::scope::Seen;
 pub use options::has_builtin_option;
-pub use refuse::fault;
 use protobuf_parse_syntax::FileTree;
+pub use refuse::fault;
 use std::alloc::Global;
 
 /// The descriptor of a file.

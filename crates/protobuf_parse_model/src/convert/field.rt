@@ -19,7 +19,7 @@ use crate::convert::options::{
 use crate::convert::place::FieldPlace;
 use crate::convert::refuse::fault;
 use crate::convert::types::resolved_type;
-use crate::customs::CustomOptions;
+use crate::customs::{Construct, CustomOptions};
 use crate::descriptor::{FieldDescriptorProto, FieldOptions, FieldType, Label};
 use crate::error::{ElabErrorKind, ElabFailure};
 use crate::scope::{Context, ResolvedType, full_name};
@@ -106,6 +106,14 @@ fn field_said<C: CustomOptions>(
         Elaborates said_view result (fields.faults_of_options env kind name.now os)
         (said_by env kind name.now os) }
 {
+    if options.is_empty() {
+        custom.bytes(alloc, Construct::Field, context.scope, &[])?;
+        return Ok(FieldSaid {
+            default_value: None,
+            json_name: json_name(alloc, name)?,
+            options: None,
+        });
+    }
     let options = options_of(alloc, options)?;
     said_by_options(alloc, context, custom, kind, name, &options)
 }

@@ -154,7 +154,7 @@ fn body_of<C: CustomOptions>(
         (contexts.body_of env ss) }
 {
     let mut body = Body {
-        field: Vec::new(alloc),
+        field: Vec::with_capacity(alloc, statements.len())?,
         oneof_decl: Vec::new(alloc),
         nested_type: Vec::new(alloc),
         enum_type: Vec::new(alloc),
