@@ -27,8 +27,8 @@ pub use protobuf_parse_model::{
 pub use protobuf_parse_options::{extensions_are_looked_up, never_too_deep, options_are_not_read};
 pub use protobuf_parse_run::{
     InputReader, ProtoPathResolver, ReadEntry, ReadInputFault, ReadOutcome, ResolveFault,
-    ResolvedProtoFile, RunFault, RunInput, RunLog, bundled_files, custom_bytes_stand, run_inputs,
-    runs_are_stable, seen_files_are_reached,
+    ResolvedProtoFile, RunFault, RunInput, RunLog, bundled_files, custom_bytes_stand,
+    files_come_once, run_inputs, runs_are_stable, seen_files_are_reached,
 };
 pub use protobuf_parse_syntax::{ParserError, ParserErrorWithLocation};
 pub use protobuf_parse_wire::{

@@ -156,7 +156,7 @@ all-hold-push R which loaded x all new trees agrees n e h =
           (named_trees loaded ++ name_of x ∷ []) (held which z.1)) w (new trees more)
     ])
 
-distinct-push : (p : Text) (ps : List Text) → AreDistinct ps → among p ps ≡ false
+pub distinct-push : (p : Text) (ps : List Text) → AreDistinct ps → among p ps ≡ false
     → AreDistinct (ps ++ p ∷ [])
 distinct-push p [] d h = (refl, tt)
 distinct-push p (q ∷ ps) d h = (apart, distinct-push p ps d.1 (right (bytes_eq p q) (among p ps) h))

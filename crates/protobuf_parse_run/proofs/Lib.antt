@@ -23,6 +23,9 @@ pub mod Taking
 pub mod Stepping
 pub mod Meeting
 pub mod Agreeing
+pub mod Joining
+pub mod Ordering
+mod HandingOut
 pub mod Further
 pub mod Recovering
 pub mod TypeNames

@@ -9,3 +9,4 @@ pub mod Recovered
 pub mod Shipped
 pub mod StandingBytes
 pub mod TypeNames
+pub mod Order

@@ -1,11 +1,30 @@
 //! Laws of the definitions of a run. The functions do nothing.
 
+ghost use Rattle.protobuf_parse_run.specs.Order.{AcceptedAreWalked, AllReachedCome};
+ghost use Rattle.protobuf_parse_run.specs.Order.{ImportsComeFirst, NoneComesTwice};
+ghost use Rattle.protobuf_parse_run.specs.Order.{OrderIsHandedOut, ReachedComeToo};
 ghost use Rattle.protobuf_parse_run.specs.Stability.{TreesAreOfTexts, StandsOnItsReach, OrderStays};
 ghost use Rattle.protobuf_parse_run.specs.Stability.{DescriptorsStay};
 ghost use Rattle.protobuf_parse_run.specs.StandingBytes.{BytesStand, NoOthersStand};
 ghost use Rattle.protobuf_parse_run.specs.StandingBytes.{OptionsStand};
 ghost use Rattle.protobuf_parse_run.specs.TypeNames.{NamesAreReached};
 ghost use Rattle.protobuf_parse_run.specs.Walks.{SeenAreReached};
+
+/// The files of a run in their order (`order`): each that an input reaches, once, and after all that
+/// it imports. No path comes twice (`distinct`). Where no walk of an import tree breaks off, at a
+/// cycle, a chain that is too long or a file without a tree, just those come that the path of an
+/// input reaches (`reached`), with each all that it reaches (`closed`), and each after all that its
+/// file imports (`after_imports`). So it is in every accepted run (`accepted`). The descriptors of
+/// such a run bear the names of these paths, in order; what each of these files becomes is among
+/// them, and so are all descriptors by which custom options are read back (`descriptors`).
+pub fn files_come_once()
+    ensures distinct { NoneComesTwice }
+    ensures reached { AllReachedCome }
+    ensures closed { ReachedComeToo }
+    ensures after_imports { ImportsComeFirst }
+    ensures accepted { AcceptedAreWalked }
+    ensures descriptors { OrderIsHandedOut }
+{}
 
 /// What stays where other texts are read. A path that has the same text has the same tree. Where
 /// two runs agree on the files that a file reaches, the same faults stand in it, in whatever order

@@ -17,7 +17,7 @@ mod tables;
 
 pub use bundled::bundled_files;
 pub use fault::{ReadInputFault, ResolveFault, RunFault};
-pub use laws::{custom_bytes_stand, runs_are_stable, seen_files_are_reached};
+pub use laws::{custom_bytes_stand, files_come_once, runs_are_stable, seen_files_are_reached};
 pub use log::{ReadEntry, ReadOutcome, RunInput, RunLog};
 pub use run::{parse_and_typecheck_custom, run_inputs};
 pub use source::{InputReader, ProtoPathResolver, ResolvedProtoFile};
