@@ -57,13 +57,17 @@ fn join_bytes(alloc: Global, name: &[u8], raise: bool) -> Result<Vec<u8>, AllocE
     Ok(joined)
 }
 
-/// Moves what the bytes of a name become to their front, and gives its length.
+/// Moves what the bytes of a name become to their front, and gives its length. What stands before
+/// the first underscore stays where it is, unless its first byte is raised.
 fn join_in_place(bytes: &mut [u8], raise: bool) -> usize
     ensures { take result bytes.new ≡ joined_words raise bytes.old }
 {
     let mut kept = 0;
+    'first: while !raise && kept < bytes.len() && bytes[kept] != b'_' {
+        kept += 1;
+    }
     let mut raise_next = raise;
-    for i in 0..bytes.len() {
+    for i in kept..bytes.len() {
         let byte = bytes[i];
         if byte == b'_' {
             raise_next = true;

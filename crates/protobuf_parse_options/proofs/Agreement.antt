@@ -33,11 +33,11 @@ abbrev pub extensions_by : List Declaration → List (Declared FieldDescriptor)
 extensions_by ds = flat_map (λ (d : Declaration). extensions_within d.name d.parts.extension) ds
 
 -- in the scope itself, or in one of the messages there
-pub data Placed (scope : Text) (own : List FieldDescriptor) (nested : List MessageDescriptor)
+pub data StandsIn (scope : Text) (own : List FieldDescriptor) (nested : List MessageDescriptor)
     (d : Declared FieldDescriptor) : Type 0 where
-  its_own : Among (extensions_within scope own) d → Placed scope own nested d
+  its_own : Among (extensions_within scope own) d → StandsIn scope own nested d
   in_one : (m : MessageDescriptor) → Among nested m
-      → Among (extensions_by (declared_message scope m)) d → Placed scope own nested d
+      → Among (extensions_by (declared_message scope m)) d → StandsIn scope own nested d
 
 pub within_append : (scope : Text) (xs ys : List FieldDescriptor)
     → extensions_within scope (xs ++ ys) ≡ extensions_within scope xs ++ extensions_within scope ys
@@ -45,13 +45,13 @@ within_append scope xs ys =
     map-append (λ (f : FieldDescriptor). record { name = name_within scope f.name; what = f }) xs ys
 
 placed_left : (scope : Text) (xs ys : List FieldDescriptor) (ms ns : List MessageDescriptor)
-    (d : Declared FieldDescriptor) → Placed scope xs ms d → Placed scope (xs ++ ys) (ms ++ ns) d
+    (d : Declared FieldDescriptor) → StandsIn scope xs ms d → StandsIn scope (xs ++ ys) (ms ++ ns) d
 placed_left scope xs ys ms ns d (its_own h) =
     its_own (rw (within_append scope xs ys) (among_left (extensions_within scope ys) h))
 placed_left scope xs ys ms ns d (in_one m a h) = in_one m (among_left ns a) h
 
 placed_right : (scope : Text) (xs ys : List FieldDescriptor) (ms ns : List MessageDescriptor)
-    (d : Declared FieldDescriptor) → Placed scope ys ns d → Placed scope (xs ++ ys) (ms ++ ns) d
+    (d : Declared FieldDescriptor) → StandsIn scope ys ns d → StandsIn scope (xs ++ ys) (ms ++ ns) d
 placed_right scope xs ys ms ns d (its_own h) =
     its_own (rw (within_append scope xs ys) (among_right (extensions_within scope xs) h))
 placed_right scope xs ys ms ns d (in_one m a h) = in_one m (among_right ms a) h
@@ -76,16 +76,16 @@ scope_inside scope name = absolute_text-append scope (name ∷ [])
 
 in_message : (env : Environment) (name : Text) (body : List MessageStatementSyntax)
     (ns : List MessageDescriptor) (d : Declared FieldDescriptor)
-    → Placed (absolute_text (names.inside env.scope name))
+    → StandsIn (absolute_text (names.inside env.scope name))
     (flat_map (bodies.extended_of (env_inside env name)) body) ns d
     → Among (extensions_by
     (declared_message (absolute_text env.scope) (message_from env name body ns))) d
 in_message env name body ns d p =
-    at (subst (λ (s : Text). Placed s (flat_map (bodies.extended_of (env_inside env name)) body)
+    at (subst (λ (s : Text). StandsIn s (flat_map (bodies.extended_of (env_inside env name)) body)
     ns d)
     (scope_inside env.scope name) p)
   where
-    at : Placed (name_within (absolute_text env.scope) name)
+    at : StandsIn (name_within (absolute_text env.scope) name)
         (flat_map (bodies.extended_of (env_inside env name)) body) ns d
         → Among (extensions_by
         (declared_message (absolute_text env.scope) (message_from env name body ns))) d
@@ -113,7 +113,7 @@ in_extend env extendee (f ∷ fs) e (there h) = there (in_extend env extendee fs
 
 abbrev pub InBody : Environment → List FieldDescriptor → List MessageDescriptor → DeclaredExtension
     → Type 0
-InBody env own nested e = Placed (absolute_text env.scope) own nested (described env e)
+InBody env own nested e = StandsIn (absolute_text env.scope) own nested (described env e)
 
 either : (env : Environment) (s : MessageStatementSyntax) (ss : MessageStatementList)
     (e : DeclaredExtension)
@@ -204,11 +204,11 @@ extensions_are_described env path t scoped named e h =
     (subst (λ (s : Scope). Among (flat_map (names.statement_extensions s) t.statements) e)
     (sym scoped) h) in
     at (package_scope (package_of t)) ms own (described env e)
-    (subst (λ (s : Text). Placed s own ms (described env e))
+    (subst (λ (s : Text). StandsIn s own ms (described env e))
     (ap absolute_text scoped ∙ package_is (package_of t) named) stands)
   where
     at : (scope : Text) (ms : List MessageDescriptor) (own : List FieldDescriptor)
-        (d : Declared FieldDescriptor) → Placed scope own ms d
+        (d : Declared FieldDescriptor) → StandsIn scope own ms d
         → Among (extensions_by (flat_map (declared_message scope) ms)
         ++ extensions_within scope own) d
     at scope ms own d (its_own k) =

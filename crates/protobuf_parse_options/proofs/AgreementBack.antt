@@ -28,7 +28,7 @@ use Rattle.protobuf_parse_wire.specs.Declarations.{extensions_within}
 use Rattle.protobuf_parse_options.specs.Agreement.{Comes, DescribedAreDeclared}
 use Rattle.protobuf_parse_options.proofs.Options.{SplitAmong, left, right, among_left, among_right}
 use Rattle.protobuf_parse_options.proofs.Options.{split_among}
-use Rattle.protobuf_parse_options.proofs.Agreement.{extensions_by, Placed, its_own, in_one}
+use Rattle.protobuf_parse_options.proofs.Agreement.{extensions_by, StandsIn, its_own, in_one}
 use Rattle.protobuf_parse_options.proofs.Agreement.{within_append, scope_inside, package_is}
 
 abbrev declared_in_extend : Environment → Text → FieldStatementSyntax → DeclaredExtension
@@ -102,19 +102,19 @@ data OneOf (A B : Type 0) : Type 0 where
   second : B → OneOf A B
 
 split_placed : (scope : Text) (xs ys : List FieldDescriptor) (ms ns : List MessageDescriptor)
-    (d : Declared FieldDescriptor) → Placed scope (xs ++ ys) (ms ++ ns) d
-    → OneOf (Placed scope xs ms d) (Placed scope ys ns d)
+    (d : Declared FieldDescriptor) → StandsIn scope (xs ++ ys) (ms ++ ns) d
+    → OneOf (StandsIn scope xs ms d) (StandsIn scope ys ns d)
 split_placed scope xs ys ms ns d (its_own h) =
     at (split_among (extensions_within scope xs) (extensions_within scope ys) d
     (subst (λ (ds : List (Declared FieldDescriptor)). Among ds d) (within_append scope xs ys) h))
   where
     at : SplitAmong (extensions_within scope xs) (extensions_within scope ys) d
-        → OneOf (Placed scope xs ms d) (Placed scope ys ns d)
+        → OneOf (StandsIn scope xs ms d) (StandsIn scope ys ns d)
     at (left k) = first (its_own k)
     at (right k) = second (its_own k)
 split_placed scope xs ys ms ns d (in_one m a h) = at (split_among ms ns m a)
   where
-    at : SplitAmong ms ns m → OneOf (Placed scope xs ms d) (Placed scope ys ns d)
+    at : SplitAmong ms ns m → OneOf (StandsIn scope xs ms d) (StandsIn scope ys ns d)
     at (left k) = first (in_one m k h)
     at (right k) = second (in_one m k h)
 
@@ -150,10 +150,10 @@ out_of_message : (env : Environment) (name : Text) (body : List MessageStatement
     (ns : List MessageDescriptor) (d : Declared FieldDescriptor)
     → Among (extensions_by
     (declared_message (absolute_text env.scope) (message_from env name body ns))) d
-    → Placed (absolute_text (names.inside env.scope name))
+    → StandsIn (absolute_text (names.inside env.scope name))
     (flat_map (bodies.extended_of (env_inside env name)) body) ns d
 out_of_message env name body ns d h =
-    subst (λ (s : Text). Placed s (flat_map (bodies.extended_of (env_inside env name)) body) ns d)
+    subst (λ (s : Text). StandsIn s (flat_map (bodies.extended_of (env_inside env name)) body) ns d)
     (sym (scope_inside env.scope name))
     (at (split_among
     (extensions_within (name_within (absolute_text env.scope) name)
@@ -164,7 +164,7 @@ out_of_message env name body ns d h =
         (extensions_within (name_within (absolute_text env.scope) name)
         (flat_map (bodies.extended_of (env_inside env name)) body)) (extensions_by
         (declared_messages (name_within (absolute_text env.scope) name) (messages_of_list ns))) d
-        → Placed (name_within (absolute_text env.scope) name)
+        → StandsIn (name_within (absolute_text env.scope) name)
         (flat_map (bodies.extended_of (env_inside env name)) body) ns d
     at (left k) = its_own k
     at (right k) =
@@ -181,7 +181,7 @@ joined env xs ys d A B (second k) f g = comes_right env xs ys d (g k)
 
 abbrev Stands : Environment → List FieldDescriptor → List MessageDescriptor
     → Declared FieldDescriptor → Type 0
-Stands env own nested d = Placed (absolute_text env.scope) own nested d
+Stands env own nested d = StandsIn (absolute_text env.scope) own nested d
 
 mutual
   from_statement : (env : Environment) (s : MessageStatementSyntax) (d : Declared FieldDescriptor)
@@ -252,7 +252,7 @@ pub described_are_declared : DescribedAreDeclared
 described_are_declared env path t scoped has_name d h =
     let ms = flat_map (files.file_messages_of env) t.statements in
     let own = flat_map (files.file_extensions_of env) t.statements in
-    let stands : Stands env own ms d = subst (λ (s : Text). Placed s own ms d)
+    let stands : Stands env own ms d = subst (λ (s : Text). StandsIn s own ms d)
     (sym (ap absolute_text scoped ∙ package_is (package_of t) has_name))
     (at (package_scope (package_of t)) ms own
     (split_among (extensions_by (flat_map (declared_message (package_scope (package_of t))) ms))
@@ -263,6 +263,6 @@ described_are_declared env path t scoped has_name d h =
   where
     at : (scope : Text) (ms : List MessageDescriptor) (own : List FieldDescriptor)
         → SplitAmong (extensions_by (flat_map (declared_message scope) ms))
-        (extensions_within scope own) d → Placed scope own ms d
+        (extensions_within scope own) d → StandsIn scope own ms d
     at scope ms own (left k) = let o = held_by scope ms d k in in_one o.0 o.1 o.2
     at scope ms own (right k) = its_own k

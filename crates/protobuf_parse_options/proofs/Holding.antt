@@ -17,7 +17,7 @@ use Rattle.protobuf_parse_model.specs.Declarations.{Declared}
 use Rattle.protobuf_parse_model.specs.Descriptors.{Text, FileDescriptor, MessageDescriptor}
 use Rattle.protobuf_parse_options.specs.declared.known.Known.{Known}
 use Rattle.protobuf_parse_options.specs.declared.picked_files.PickedFiles.{PickedFiles}
-use Rattle.protobuf_parse_options.specs.declared.places.Place.{Place}
+use Rattle.protobuf_parse_options.specs.declared.places.DeclaredPlace.{DeclaredPlace}
 use Rattle.protobuf_parse_options.specs.ByName.{named}
 use Rattle.protobuf_parse_wire.specs.Declarations.{Declaration, messages_declared_in}
 use Rattle.protobuf_parse_wire.specs.Declarations.{messages_named}
@@ -202,7 +202,7 @@ spots_push parts listed name n (x ∷ fs) f = let e : suc n + length fs
 -- the places of what the next file declares
 pub more_held : {T U : Type 0} (seen : T → U) (parts : U → List Text)
     (listed : FileDescriptor → List (Placed U))
-    (old new : BTreeMap (String Global) (Vec Place)) (files : List FileDescriptor)
+    (old new : BTreeMap (String Global) (Vec DeclaredPlace)) (files : List FileDescriptor)
     (f : FileDescriptor) (n : ℕ) (ks : List (Known (Bor T))) → length files ≡ n
     → map (placed_known (λ (b : Bor T). seen b.now)) ks ≡ listed f
     → AddsSpots old new (λ name. spots_known (λ t. parts (seen t)) n name ks)
@@ -288,7 +288,7 @@ parts_named name (f ∷ fs) =
 
 -- a place put under a name
 pub put_spot : {T : Type 0} (parts : T → List Text)
-    (old new : BTreeMap (String Global) (Vec Place)) (k : Known (Bor T)) (item : Place) (file : ℕ)
+    (old new : BTreeMap (String Global) (Vec DeclaredPlace)) (k : Known (Bor T)) (item : DeclaredPlace) (file : ℕ)
     (text name : Text) → spot_view item ≡ spot_known parts file k
     → text ≡ string_bytes k.name
     → group new name ≡ (if bytes_eq name text then group old name ++ item ∷ [] else group old name)
@@ -306,8 +306,8 @@ put_spot {T = T} parts old new k item file text name is named put =
 
 -- ---- further places
 
-module _ {T : Type 0} (list : Inside → List T) (picks : PickedFiles) (places : List Place) (i : ℕ)
-    (place : Place) (lt : i < length places) (is : place ≡ get_or places i place) where
+module _ {T : Type 0} (list : Inside → List T) (picks : PickedFiles) (places : List DeclaredPlace) (i : ℕ)
+    (place : DeclaredPlace) (lt : i < length places) (is : place ≡ get_or places i place) where
   abbrev at_place : Option T
   at_place = at_spot list picks (spot_view place)
 
@@ -320,6 +320,6 @@ module _ {T : Type 0} (list : Inside → List T) (picks : PickedFiles) (places :
 
 -- ---- no places
 
-pub none_under : (places : BTreeMap (String Global) (Vec Place)) → IsEmpty places → (name : Text)
+pub none_under : (places : BTreeMap (String Global) (Vec DeclaredPlace)) → IsEmpty places → (name : Text)
     → spots_under places name ≡ []
 none_under places none name = rw none refl

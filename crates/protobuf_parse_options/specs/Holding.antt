@@ -17,7 +17,7 @@ use Rattle.protobuf_parse_model.specs.Descriptors.{enum_view, field_view, file_v
 use Rattle.protobuf_parse_options.specs.declared.known.Known.{Known}
 use Rattle.protobuf_parse_options.specs.declared.members.Members.{Members}
 use Rattle.protobuf_parse_options.specs.declared.picked_files.PickedFiles.{PickedFiles}
-use Rattle.protobuf_parse_options.specs.declared.places.Place.{Place}
+use Rattle.protobuf_parse_options.specs.declared.places.DeclaredPlace.{DeclaredPlace}
 use Rattle.protobuf_parse_options.specs.declared.places.DeclaredPlaces.{DeclaredPlaces}
 use Rattle.protobuf_parse_wire.specs.Groups.{group}
 use Rattle.protobuf_parse_options.specs.Known.{field_seen}
@@ -37,7 +37,7 @@ pub record Spot : Type 0 where
   pub index : ℕ
   pub position : Text → Option ℕ
 
-abbrev pub spot_view : Place → Spot
+abbrev pub spot_view : DeclaredPlace → Spot
 spot_view p = record {
   file = p.file;
   path = p.path.items;
@@ -79,7 +79,7 @@ extensions_placed ks = map (placed_known field_seen) ks
 
 -- ---- under names
 
-abbrev pub spots_under : BTreeMap (String Global) (Vec Place) → Text → List Spot
+abbrev pub spots_under : BTreeMap (String Global) (Vec DeclaredPlace) → Text → List Spot
 spots_under places name = map spot_view (group places name)
 
 abbrev pub spot_in : {T : Type 0} → (T → List Text) → ℕ → Placed T → Spot
@@ -116,7 +116,7 @@ spots_of parts listed name n (f ∷ fs) =
     spots_in parts n name (listed f) ++ spots_of parts listed name (suc n) fs
 
 -- these places were added behind the others of each name
-abbrev pub AddsSpots : (old new : BTreeMap (String Global) (Vec Place)) → (Text → List Spot)
+abbrev pub AddsSpots : (old new : BTreeMap (String Global) (Vec DeclaredPlace)) → (Text → List Spot)
     → Type 0
 AddsSpots old new added = (name : Text) → spots_under new name ≡ spots_under old name ++ added name
 

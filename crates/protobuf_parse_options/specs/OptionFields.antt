@@ -43,12 +43,13 @@ abbrev pub field_named : List FileDescriptor → Text → Text → Option FieldD
 field_named files message name =
     find (λ (f : FieldDescriptor). bytes_eq f.name name) (fields_of_message files message)
 
--- the number of the value that has the name, in the enum of that full name
+-- the values of the enum of that full name
 abbrev pub values_of_enum : List FileDescriptor → Text → List EnumValueDescriptor
 values_of_enum files enum_name =
     flat_map (λ (e : Declared EnumDescriptor). if bytes_eq e.name enum_name then e.what.value
     else []) (flat_map declared_enums files)
 
+-- the number of the value that has the name, in the enum of that full name
 abbrev pub number_of_value : List FileDescriptor → Text → Text → Option ℤ
 number_of_value files enum_name name =
     option_map (λ (v : EnumValueDescriptor). v.number)

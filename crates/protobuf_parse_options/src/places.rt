@@ -20,7 +20,7 @@ use std::collections::BTreeMap;
 
 /// Where something is declared.
 #[derive(Debug, Drop)]
-pub struct Place {
+pub struct DeclaredPlace {
     /// The number of the file.
     pub file: u32,
     /// The way to the message around it: the number of a message in its list, then that of a
@@ -37,9 +37,9 @@ pub struct Place {
 /// which has its first dot, in the order of the files.
 #[derive(Debug, Drop)]
 pub struct DeclaredPlaces {
-    pub(crate) messages: BTreeMap<String, Vec<Place>>,
-    pub(crate) enums: BTreeMap<String, Vec<Place>>,
-    pub(crate) extensions: BTreeMap<String, Vec<Place>>,
+    pub(crate) messages: BTreeMap<String, Vec<DeclaredPlace>>,
+    pub(crate) enums: BTreeMap<String, Vec<DeclaredPlace>>,
+    pub(crate) extensions: BTreeMap<String, Vec<DeclaredPlace>>,
 }
 
 impl DeclaredPlaces {
@@ -77,7 +77,7 @@ impl DeclaredPlaces {
 
 /// Puts the places of what a file declares under the full names, behind what stands there.
 fn put_all<T: HasParts>(
-    places: &mut BTreeMap<String, Vec<Place>>,
+    places: &mut BTreeMap<String, Vec<DeclaredPlace>>,
     alloc: Global,
     file: u32,
     list: &[Known<&T>],
@@ -92,7 +92,7 @@ fn put_all<T: HasParts>(
 }
 
 fn put<T: HasParts>(
-    places: &mut BTreeMap<String, Vec<Place>>,
+    places: &mut BTreeMap<String, Vec<DeclaredPlace>>,
     alloc: Global,
     file: u32,
     known: &Known<&T>,
@@ -100,7 +100,7 @@ fn put<T: HasParts>(
     ensures { OnOk result (AddsSpots places.old places.new
         (λ (name : Text). spots_known T.part_names file name (known.now ∷ []))) }
 {
-    let place = Place {
+    let place = DeclaredPlace {
         file,
         path: known::copied(alloc, &known.path)?,
         index: known.index,

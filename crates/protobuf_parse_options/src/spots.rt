@@ -17,7 +17,7 @@ ghost use Rattle.protobuf_parse_options.specs.Positions.{field_by, number_by, va
 use crate::lookup::{field_among, number_among};
 use crate::members::{Members, members_down};
 use crate::picked_files::PickedFiles;
-use crate::places::Place;
+use crate::places::DeclaredPlace;
 use crate::positions::FEW;
 use protobuf_parse_model::{
     DescriptorProto, EnumDescriptorProto, EnumValueDescriptorProto, FieldDescriptorProto,
@@ -47,7 +47,7 @@ fn file_at<'a>(
     }
 }
 
-fn members_at<'a>(picked: &PickedFiles<'a>, place: &Place) -> Option<Members<'a>>
+fn members_at<'a>(picked: &PickedFiles<'a>, place: &DeclaredPlace) -> Option<Members<'a>>
     ensures { option_map members_view result ≡ inside_of
         (file_numbered picked.now place.now.file) place.now.path.items }
 {
@@ -57,7 +57,7 @@ fn members_at<'a>(picked: &PickedFiles<'a>, place: &Place) -> Option<Members<'a>
     }
 }
 
-fn message_at<'a>(picked: &PickedFiles<'a>, place: &Place) -> Option<&'a DescriptorProto>
+fn message_at<'a>(picked: &PickedFiles<'a>, place: &DeclaredPlace) -> Option<&'a DescriptorProto>
     ensures { option_map message_seen result ≡ at_spot messages_inside picked.now
         (spot_view place.now) }
 {
@@ -67,7 +67,7 @@ fn message_at<'a>(picked: &PickedFiles<'a>, place: &Place) -> Option<&'a Descrip
     }
 }
 
-fn enum_at<'a>(picked: &PickedFiles<'a>, place: &Place) -> Option<&'a EnumDescriptorProto>
+fn enum_at<'a>(picked: &PickedFiles<'a>, place: &DeclaredPlace) -> Option<&'a EnumDescriptorProto>
     ensures { option_map enum_seen result ≡ at_spot enums_inside picked.now (spot_view place.now) }
 {
     match members_at(picked, place) {
@@ -76,7 +76,10 @@ fn enum_at<'a>(picked: &PickedFiles<'a>, place: &Place) -> Option<&'a EnumDescri
     }
 }
 
-fn extension_at<'a>(picked: &PickedFiles<'a>, place: &Place) -> Option<&'a FieldDescriptorProto>
+fn extension_at<'a>(
+    picked: &PickedFiles<'a>,
+    place: &DeclaredPlace,
+) -> Option<&'a FieldDescriptorProto>
     ensures { option_map field_seen result ≡ at_spot extensions_inside picked.now
         (spot_view place.now) }
 {
@@ -89,7 +92,10 @@ fn extension_at<'a>(picked: &PickedFiles<'a>, place: &Place) -> Option<&'a Field
 // ---- the first of several places
 
 /// The first message that stands at one of the places.
-pub fn first_message<'a>(picked: &PickedFiles<'a>, places: &[Place]) -> Option<&'a DescriptorProto>
+pub fn first_message<'a>(
+    picked: &PickedFiles<'a>,
+    places: &[DeclaredPlace],
+) -> Option<&'a DescriptorProto>
     ensures { option_map message_seen result ≡ first
         (at_spots messages_inside picked.now (map spot_view places.now)) }
 {
@@ -105,7 +111,7 @@ pub fn first_message<'a>(picked: &PickedFiles<'a>, places: &[Place]) -> Option<&
 /// The first extension that stands at one of the places.
 pub fn first_extension<'a>(
     picked: &PickedFiles<'a>,
-    places: &[Place],
+    places: &[DeclaredPlace],
 ) -> Option<&'a FieldDescriptorProto>
     ensures { option_map field_seen result ≡ first
         (at_spots extensions_inside picked.now (map spot_view places.now)) }
@@ -122,7 +128,7 @@ pub fn first_extension<'a>(
 /// The first field of that name in the messages at the places.
 pub fn field_of<'a>(
     picked: &PickedFiles<'a>,
-    places: &[Place],
+    places: &[DeclaredPlace],
     name: &str,
 ) -> Option<&'a FieldDescriptorProto>
     ensures { option_map field_seen result
@@ -139,7 +145,7 @@ pub fn field_of<'a>(
 
 fn field_at<'a>(
     picked: &PickedFiles<'a>,
-    place: &Place,
+    place: &DeclaredPlace,
     name: &str,
 ) -> Option<&'a FieldDescriptorProto>
     ensures { option_map field_seen result ≡ field_there picked.now name.now (spot_view place.now) }
@@ -153,7 +159,7 @@ fn field_at<'a>(
 /// The first field of that name in the message, which stands at the place.
 fn field_in<'a>(
     message: &'a DescriptorProto,
-    place: &Place,
+    place: &DeclaredPlace,
     name: &str,
 ) -> Option<&'a FieldDescriptorProto>
     ensures { option_map field_seen result ≡ field_by (spot_view place.now).position
@@ -164,7 +170,7 @@ fn field_in<'a>(
 
 fn field_by<'a>(
     fields: &'a [FieldDescriptorProto],
-    place: &Place,
+    place: &DeclaredPlace,
     name: &str,
 ) -> Option<&'a FieldDescriptorProto>
     ensures { option_map field_seen result ≡ field_by (spot_view place.now).position
@@ -180,7 +186,7 @@ fn field_by<'a>(
 }
 
 /// The number of the first value of that name in the enums at the places.
-pub fn number_of(picked: &PickedFiles<'_>, places: &[Place], name: &str) -> Option<i32>
+pub fn number_of(picked: &PickedFiles<'_>, places: &[DeclaredPlace], name: &str) -> Option<i32>
     ensures { result ≡ found_by (number_there picked.now name.now) (map spot_view places.now) }
 {
     'places: for place in places {
@@ -192,7 +198,7 @@ pub fn number_of(picked: &PickedFiles<'_>, places: &[Place], name: &str) -> Opti
     None
 }
 
-fn number_at(picked: &PickedFiles<'_>, place: &Place, name: &str) -> Option<i32>
+fn number_at(picked: &PickedFiles<'_>, place: &DeclaredPlace, name: &str) -> Option<i32>
     ensures { result ≡ number_there picked.now name.now (spot_view place.now) }
 {
     match enum_at(picked, place) {
@@ -202,7 +208,7 @@ fn number_at(picked: &PickedFiles<'_>, place: &Place, name: &str) -> Option<i32>
 }
 
 /// The number of the first value of that name in the enum, which stands at the place.
-fn number_in(known: &EnumDescriptorProto, place: &Place, name: &str) -> Option<i32>
+fn number_in(known: &EnumDescriptorProto, place: &DeclaredPlace, name: &str) -> Option<i32>
     ensures { result ≡ number_by (spot_view place.now).position (enum_view known.now).value
         name.now }
 {

@@ -24,7 +24,7 @@ use Rattle.protobuf_parse_run.specs.Run.{AreAnswered, AreAskedOnce, RunEnds, Fil
 use Rattle.protobuf_parse_run.specs.Run.{RunsAsTold}
 use Rattle.protobuf_parse_run.specs.Run.{fails, if_placed, if_reader, placed, placed_reads}
 use Rattle.protobuf_parse_run.specs.Run.{resolved_in}
-use Rattle.protobuf_parse_run.specs.Loading.{Legal}
+use Rattle.protobuf_parse_run.specs.Run.{Legal}
 use Rattle.protobuf_parse_run.proofs.Following.{AllFollow, all-follow, follows-front}
 use Rattle.protobuf_parse_run.proofs.Keeping.{bool_cases, has-last, keep-fresh, has-left}
 use Rattle.protobuf_parse_run.proofs.Keeping.{never_both}

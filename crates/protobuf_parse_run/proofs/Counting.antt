@@ -11,7 +11,7 @@ use Rattle.protobuf_parse_run.specs.Walks.{elab, has, keep, at, named, Trees, ch
 use Rattle.protobuf_parse_run.specs.Walks.{input_walk, events, events_after, reads_in}
 use Rattle.protobuf_parse_run.specs.Walks.{import_statements}
 use Rattle.protobuf_parse_run.specs.Run.{Files, IsCounted}
-use Rattle.protobuf_parse_run.specs.Loading.{Legal}
+use Rattle.protobuf_parse_run.specs.Run.{Legal}
 use Rattle.protobuf_parse_run.proofs.Keeping.{keep-extends}
 use Rattle.protobuf_parse_run.proofs.Inputs.{events-append, events-one}
 

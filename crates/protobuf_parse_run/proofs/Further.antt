@@ -121,7 +121,7 @@ module _ (files : Files) (inputs : List Input) (clean : IsClean files inputs) wh
       ]
 
   -- and none of them declares a name twice
-  declared-once : (p : Text) (t : FileSyntax) → files.trees p ≡ Some t
+  pub declared-once : (p : Text) (t : FileSyntax) → files.trees p ≡ Some t
       → IsFileOfRun files.trees inputs p → DeclaresOnce files p
   declared-once p t is h = none-before (link_faults (trees_at files.trees (files.reached p)))
       (others files p t) (faultless-file p t is h)

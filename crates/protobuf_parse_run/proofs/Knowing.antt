@@ -21,7 +21,7 @@ use Rattle.protobuf_parse_run.specs.Loading.{IsAddedOver}
 use Rattle.protobuf_parse_run.specs.Loading.{IsMetAt}
 use Rattle.protobuf_parse_run.specs.Loading.{Named, file_at, held, named_trees, paths_in, plain_in}
 use Rattle.protobuf_parse_run.specs.Loading.{read_paths, tree_in, trees_of, with_next}
-use Rattle.protobuf_parse_run.specs.declared.loader.Placed.{Placed}
+use Rattle.protobuf_parse_run.specs.declared.loader.LoadedAs.{LoadedAs}
 use Rattle.protobuf_parse_run.specs.declared.log.ReadEntry.{ReadEntry}
 use Rattle.protobuf_parse_run.specs.declared.reach.Held.{Held}
 use Rattle.protobuf_parse_run.specs.declared.reach.Held.TheVariants as held_as
@@ -205,7 +205,7 @@ pub next-trees : (loaded : List LoadedEntry) (p : Text) (t : FileSyntax)
 next-trees loaded p t = sym (map-append (λ (f : Named). f.1) (named_trees loaded) ((p, t) ∷ []))
 
 module _ (path : Text) (tree : FileSyntax) (height read : ℕ) (imports public : List ℕ)
-    (old new : List LoadedEntry) (before after : Tables) (log : List ReadEntry) (placed : Placed)
+    (old new : List LoadedEntry) (before after : Tables) (log : List ReadEntry) (placed : LoadedAs)
     (known : AreKnown old before log) (was_read : among path (read_paths log) ≡ true)
     (numbered : FilesAreNumbered (named_trees old) imports (import_paths tree))
     (publicly : FilesAreNumbered (named_trees old) public (public_paths tree))

@@ -13,14 +13,15 @@ use Rattle.protobuf_parse_model.specs.Faults as elaborating
 use Rattle.protobuf_parse_model.specs.Faults.{Among, here, there}
 use Rattle.protobuf_parse_run.specs.declared.fault.RunFault.{RunFault}
 use Rattle.protobuf_parse_run.specs.declared.fault.RunFault.TheVariants as fault
-use Rattle.protobuf_parse_run.specs.declared.loader.Placed.{Placed}
+use Rattle.protobuf_parse_run.specs.declared.loader.LoadedAs.{LoadedAs}
 use Rattle.protobuf_parse_run.specs.declared.log.ReadEntry.{ReadEntry}
 use Rattle.protobuf_parse_run.specs.declared.log.ReadOutcome.{ReadOutcome}
 use Rattle.protobuf_parse_run.specs.Walks.{Asked, Event, load, keep, among, walk}
 use Rattle.protobuf_parse_run.specs.Run.{Files, IsTheTree, StandsAtEvent, StandsInCycle}
 use Rattle.protobuf_parse_run.specs.Run.{StandsInLong}
 use Rattle.protobuf_parse_run.specs.Run.{StandsInLoad, StandsInElab, text_given, is_nothing}
-use Rattle.protobuf_parse_run.specs.Loading.{Legal, LoadedEntry, IsElabFault, file_at, Grows, Good}
+use Rattle.protobuf_parse_run.specs.Loading.{LoadedEntry, IsElabFault, file_at, Grows, Good}
+use Rattle.protobuf_parse_run.specs.Run.{Legal}
 use Rattle.protobuf_parse_run.specs.Loading.{Stops}
 use Rattle.protobuf_parse_run.specs.Loading.{GoesOn, ReadsTree, IsPlaced, chain_texts}
 use Rattle.protobuf_parse_run.specs.Run.{OrMemory}
@@ -105,7 +106,7 @@ module _ (legal : Legal) (files : Files) where
       (subst (λ (z : Text). OrMemory f (StandsInCycle z f)) e s)
 
   pub leaves-tall : (kept : List Event) (loaded : List LoadedEntry) (log : List ReadEntry)
-      (chain : List Text) (i : Text) (a : Asked) (room : ℕ) (p q : Text) (placed : Placed)
+      (chain : List Text) (i : Text) (a : Asked) (room : ℕ) (p q : Text) (placed : LoadedAs)
       (f : RunFault) → q ≡ p → Good legal files kept loaded log chain
       → IsPlaced q loaded (Some placed) → room < placed.height → OrMemory f (StandsInLong i f)
       → Stops legal files (keep kept (walk files.trees i a room chain p)) log f

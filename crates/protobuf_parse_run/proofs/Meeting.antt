@@ -8,11 +8,12 @@ use Rattle.protobuf_parse_run.specs.declared.fault.RunFault.{RunFault}
 use Rattle.protobuf_parse_run.specs.declared.fault.RunFault.TheVariants as fault
 use Rattle.protobuf_parse_run.specs.declared.frame.LoadFrame.{LoadFrame}
 use Rattle.protobuf_parse_run.specs.declared.loader.Met.{Met}
-use Rattle.protobuf_parse_run.specs.declared.loader.Placed.{Placed}
+use Rattle.protobuf_parse_run.specs.declared.loader.LoadedAs.{LoadedAs}
 use Rattle.protobuf_parse_run.specs.declared.log.ReadEntry.{ReadEntry}
 use Rattle.protobuf_parse_run.specs.Walks.{Asked, Event, load, keep, among, import_paths, walk}
 use Rattle.protobuf_parse_run.specs.Run.{Files}
-use Rattle.protobuf_parse_run.specs.Loading.{Legal, LoadedEntry, GoesOn, Good, Grows, IsPlaced}
+use Rattle.protobuf_parse_run.specs.Loading.{LoadedEntry, GoesOn, Good, Grows, IsPlaced}
+use Rattle.protobuf_parse_run.specs.Run.{Legal}
 use Rattle.protobuf_parse_run.specs.Loading.{ReadsTree}
 use Rattle.protobuf_parse_run.specs.Loading.{Stops, file_at}
 use Rattle.protobuf_parse_run.specs.Frames.{IsNew, IsSame, Meets, StandsMet, done_in, owed}
@@ -27,7 +28,7 @@ use Rattle.protobuf_parse_run.proofs.Stepping.{walk-read}
 module _ (legal : Legal) (files : Files) where
   -- it is loaded already
   pub met-known : (kept : List Event) (loaded : List LoadedEntry) (log : List ReadEntry)
-      (chain : List Text) (i : Text) (a : Asked) (p q : Text) (placed : Placed) → q ≡ p
+      (chain : List Text) (i : Text) (a : Asked) (p q : Text) (placed : LoadedAs) → q ≡ p
       → Good legal files kept loaded log chain → IsPlaced q loaded (Some placed)
       → placed.height ≤ 100 - length chain
       → Good legal files kept loaded log chain × IsSame files kept i a chain p placed

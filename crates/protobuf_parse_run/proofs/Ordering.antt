@@ -15,10 +15,11 @@ use Rattle.protobuf_parse_run.specs.Run.{Files, fails}
 use Rattle.protobuf_parse_run.specs.Loading.{Within}
 use Rattle.protobuf_parse_run.specs.Stability.{IsClean, IsFileOfRun, order}
 use Rattle.protobuf_parse_run.specs.Order.{breaks_off, AreWalked, IsReached}
-use Rattle.protobuf_parse_run.proofs.Keeping.{bool_cases, elab_paths-append, false_true, has-elab}
-use Rattle.protobuf_parse_run.proofs.Keeping.{has-here, has-in, has-last, has-left, has-like}
-use Rattle.protobuf_parse_run.proofs.Keeping.{has-one, has-right, never_both, or_cases, or_left}
-use Rattle.protobuf_parse_run.proofs.Keeping.{or_right, some_same, text-same, text-true}
+use Rattle.protobuf_parse_run.proofs.Keeping.{bool_cases, elab_paths-append, false_true, first_same}
+use Rattle.protobuf_parse_run.proofs.Keeping.{has-elab, has-here, has-in, has-last, has-left}
+use Rattle.protobuf_parse_run.proofs.Keeping.{has-like, has-one, has-right, never_both, or_cases}
+use Rattle.protobuf_parse_run.proofs.Keeping.{or_left, or_right, rest_same, some_same, text-same}
+use Rattle.protobuf_parse_run.proofs.Keeping.{text-true}
 use Rattle.protobuf_parse_run.proofs.Joining.{events-from, events-keep, has-joined, joined-has}
 use Rattle.protobuf_parse_run.proofs.Joining.{keep-new, no-elab, no-load}
 use Rattle.protobuf_parse_run.proofs.Knowing.{distinct-push}
@@ -400,12 +401,6 @@ into-front q x before front (inl h) = elim (has-in (elab q) before (elab x ∷ [
     [ inl w ↦ inl w | inr w ↦ inr (or_left _ _ (has-one (elab q) (elab x) w)) ]
 into-front q x before front (inr h) = inr (or_right _ _ h)
 
-same_head : (x y : Text) (xs ys : List Text) → x ∷ xs ≡ y ∷ ys → x ≡ y
-same_head x y xs ys h = cc
-
-same_rest : (x y : Text) (xs ys : List Text) → x ∷ xs ≡ y ∷ ys → xs ≡ ys
-same_rest x y xs ys h = cc
-
 no_list : (x : Text) (xs : List Text) → ◌≡◌ {A = List Text} [] (x ∷ xs) → ⊥
 no_list x xs h = cc
 
@@ -417,13 +412,13 @@ ready-order trees before [] (y ∷ front) back p q t r is tree m =
     absurd (no_list y (front ++ p ∷ back) is)
 ready-order trees before (elab x ∷ es) [] back p q t r is tree m =
     inl (r.0 t q
-    (subst (λ (z : Text). trees z ≡ Some t) (sym (same_head x p (elab_paths es) back is)) tree) m)
+    (subst (λ (z : Text). trees z ≡ Some t) (sym (first_same is)) tree) m)
 ready-order trees before (elab x ∷ es) (y ∷ front) back p q t r is tree m =
     subst (λ (z : Text). ComesBefore q before (z ∷ front))
-    (same_head x y (elab_paths es) (front ++ p ∷ back) is)
+    (first_same is)
     (into-front q x before front
     (ready-order trees (before ++ elab x ∷ []) es front back p q t r.1
-    (same_rest x y (elab_paths es) (front ++ p ∷ back) is) tree m))
+    (rest_same is) tree m))
 ready-order trees before (cycle x ∷ es) front back p q t r is tree m =
     skip q before (cycle x) front refl
     (ready-order trees (before ++ cycle x ∷ []) es front back p q t r.1 is tree m)

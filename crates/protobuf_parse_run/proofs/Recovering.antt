@@ -33,8 +33,8 @@ use Rattle.protobuf_parse_options.proofs.Sound.{text_sound}
 use Rattle.protobuf_parse_options.proofs.WithoutOptions.{customs_are_options}
 use Rattle.protobuf_parse_options.proofs.WithoutOptions.{customs_make_no_difference}
 use Rattle.protobuf_parse_options.proofs.WithoutOptions.{meaning_ignores_options}
-use Rattle.protobuf_parse_run.specs.Walks.{Asked, Input, Reaches}
-use Rattle.protobuf_parse_run.specs.Run.{Files, IsTree}
+use Rattle.protobuf_parse_run.specs.Walks.{Input, Reaches}
+use Rattle.protobuf_parse_run.specs.Run.{Files, IsTree, Legal}
 use Rattle.protobuf_parse_run.specs.Run.{RunsAsTold}
 use Rattle.protobuf_parse_run.specs.Run.{environment_of, plain_environments, plains_at}
 use Rattle.protobuf_parse_run.specs.Run.{text_read}
@@ -44,7 +44,6 @@ use Rattle.protobuf_parse_run.specs.Recovered.{denoted_in, handed_out}
 use Rattle.protobuf_parse_run.specs.Stability.{IsClean, IsFileOfRun, WereRead, order}
 use Rattle.protobuf_parse_run.specs.declared.fault.RunFault.{RunFault}
 use Rattle.protobuf_parse_run.specs.declared.log.ReadEntry.{ReadEntry}
-use Rattle.protobuf_parse_run.specs.declared.log.ReadOutcome.{ReadOutcome}
 use Rattle.protobuf_parse_run.proofs.Agreeing.{reaches-on}
 use Rattle.protobuf_parse_run.proofs.Further.{faultless-file, reached-is}
 use Rattle.protobuf_parse_run.proofs.Knowing.{sees-reaches}
@@ -197,7 +196,7 @@ module _ (files : Files) (inputs : List Input) (clean : IsClean files inputs)
       read_together = read-together;
     }
 
-pub all-held : (legal : Asked → Text → ReadOutcome → Type 0) (inputs : List Input)
+pub all-held : (legal : Legal) (inputs : List Input)
     (bundled : List (Text × Text)) (log : List ReadEntry)
     (result : Result (Vec FileDescriptorProto) RunFault)
     → RunsAsTold legal inputs bundled log result → OptionsAreHeld inputs bundled log result

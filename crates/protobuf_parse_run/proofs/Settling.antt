@@ -43,7 +43,7 @@ use Rattle.protobuf_parse_run.specs.Loading.{plain_over}
 use Rattle.protobuf_parse_run.specs.Loading.{plains_next, tree_in, trees_of, with_next}
 use Rattle.protobuf_parse_run.specs.declared.fault.RunFault.{RunFault}
 use Rattle.protobuf_parse_run.specs.declared.fault.RunFault.TheVariants as fault
-use Rattle.protobuf_parse_run.specs.declared.loader.Placed.{Placed}
+use Rattle.protobuf_parse_run.specs.declared.loader.LoadedAs.{LoadedAs}
 use Rattle.protobuf_parse_run.specs.declared.log.ReadEntry.{ReadEntry}
 use Rattle.protobuf_parse_run.specs.declared.reach.Held.TheVariants as held_as
 use Rattle.protobuf_parse_run.proofs.Keeping.{or_cases, or_left, or_right, among-append, text-same}
@@ -485,7 +485,7 @@ stands-more origin firsts others _ more s = absurd s
 -- what an elaboration over numbered files leaves
 pub settled-in : (files : Files) (loaded new : List LoadedEntry) (tables after : Tables) (p : Text)
     (t : FileSyntax) (height read : ℕ) (below public : List ℕ) (log : List ReadEntry)
-    (r : Result Placed RunFault)
+    (r : Result LoadedAs RunFault)
     → IsNext files loaded tables log p t below
     → SettlesOver p t height read below public log loaded new after r
     → Settles files p t height read log loaded new r

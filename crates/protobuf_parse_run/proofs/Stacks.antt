@@ -19,7 +19,7 @@ use Rattle.protobuf_parse_syntax.specs.declared.tree.FileStatement.TheVariants a
 use Rattle.protobuf_parse_syntax.specs.declared.tree.Import.{Import}
 use Rattle.protobuf_parse_model.specs.Descriptors.{Text}
 use Rattle.protobuf_parse_run.specs.declared.frame.LoadFrame.{LoadFrame}
-use Rattle.protobuf_parse_run.specs.declared.loader.Placed.{Placed}
+use Rattle.protobuf_parse_run.specs.declared.loader.LoadedAs.{LoadedAs}
 use Rattle.protobuf_parse_run.specs.Walks.{Event, Trees, public_path, public_paths_of}
 use Rattle.protobuf_parse_run.specs.Loading.{chain_texts}
 use Rattle.protobuf_parse_run.specs.Frames.{AreWaiting, IsWaiting, Joined, chain_of, first_path}
@@ -157,7 +157,7 @@ less-new stack old frame small start room =
     (pow_above (2 ^ 65) (100 - length (stack ++ old ∷ [])) (pow_pos 65)))
 
 -- a frame is popped
-pub less-close : (stack : List LoadFrame) (frame old new : LoadFrame) (placed : Placed)
+pub less-close : (stack : List LoadFrame) (frame old new : LoadFrame) (placed : LoadedAs)
     → Joined old placed new → old.next < length old.tree.statements.items
     → left_over stack new < left_over (stack ++ old ∷ []) frame
 less-close stack frame old new placed j lt =
@@ -280,6 +280,6 @@ pub none-left : (f : LoadFrame) → length f.tree.statements.items ≤ f.next �
 none-left f le = rw (drop_all f.next f.tree.statements.items le) refl
 
 -- what is left behind the import that was taken
-pub left-joined : (old new : LoadFrame) (placed : Placed) → Joined old placed new
+pub left-joined : (old new : LoadFrame) (placed : LoadedAs) → Joined old placed new
     → left_in new ≡ later_in old
 left-joined old new placed j = rw (j.tree_is, j.next) refl

@@ -40,15 +40,10 @@ use Rattle.protobuf_parse_model.specs.OptionSets.{message_sets, method_set, serv
 use Rattle.protobuf_parse_model.specs.OptionSets.{statement_sets, option_sets}
 use Rattle.protobuf_parse_model.specs.CustomSets.{bytes_of_set}
 use Rattle.protobuf_parse_run.specs.StandingBytes.{IsStated, BytesStand}
+use Rattle.protobuf_parse_run.proofs.Keeping.{first_same, rest_same}
 use Rattle.protobuf_parse_model.proofs.SameNames.{with_customs}
 
 -- ---- lists
-
-first_same : {A : Type 0} {x y : A} {xs ys : List A} → x ∷ xs ≡ y ∷ ys → x ≡ y
-first_same h = cc
-
-rest_same : {A : Type 0} {x y : A} {xs ys : List A} → x ∷ xs ≡ y ∷ ys → xs ≡ ys
-rest_same h = cc
 
 less_same : {m n : ℕ} → suc m ≡ suc n → m ≡ n
 less_same h = cc

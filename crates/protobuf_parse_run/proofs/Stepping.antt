@@ -15,7 +15,7 @@ use Rattle.protobuf_parse_run.specs.declared.tables.Tables.{Tables}
 use Rattle.protobuf_parse_run.specs.declared.fault.RunFault.{RunFault}
 use Rattle.protobuf_parse_run.specs.declared.fault.RunFault.TheVariants as fault
 use Rattle.protobuf_parse_run.specs.declared.frame.LoadFrame.{LoadFrame}
-use Rattle.protobuf_parse_run.specs.declared.loader.Placed.{Placed}
+use Rattle.protobuf_parse_run.specs.declared.loader.LoadedAs.{LoadedAs}
 use Rattle.protobuf_parse_run.specs.declared.log.ReadEntry.{ReadEntry}
 use Rattle.protobuf_parse_run.specs.declared.log.ReadOutcome.{ReadOutcome}
 use Rattle.protobuf_parse_run.specs.Walks.{Asked, the_resolver, Event, load, elab, keep, among}
@@ -23,7 +23,8 @@ use Rattle.protobuf_parse_run.specs.Walks.{Trees}
 use Rattle.protobuf_parse_run.specs.Walks.{import_paths, walks_joined, import_statements, walk}
 use Rattle.protobuf_parse_run.specs.Run.{Files, StandsInElab, environment_of, faults_at, first_read}
 use Rattle.protobuf_parse_run.specs.Run.{origin_given, plain_of}
-use Rattle.protobuf_parse_run.specs.Loading.{Legal, AreKnown, FilesAreNumbered, LoadedEntry, GoesOn}
+use Rattle.protobuf_parse_run.specs.Loading.{AreKnown, FilesAreNumbered, LoadedEntry, GoesOn}
+use Rattle.protobuf_parse_run.specs.Run.{Legal}
 use Rattle.protobuf_parse_run.specs.Loading.{Good, Grows}
 use Rattle.protobuf_parse_run.specs.Loading.{IsAdded, IsLoaded, Leaves, Settled, Settles}
 use Rattle.protobuf_parse_run.specs.Loading.{SettlesOver}
@@ -66,7 +67,7 @@ owed-none : (trees : Trees) (i : Text) (c : List Text) (f : LoadFrame)
     → owed trees i c (frame_path f) (left_in f) ≡ elab (frame_path f) ∷ []
 owed-none trees i c f le = ap (owed trees i c (frame_path f)) (none-left f le)
 
-owed-joined : (trees : Trees) (i : Text) (c : List Text) (old new : LoadFrame) (placed : Placed)
+owed-joined : (trees : Trees) (i : Text) (c : List Text) (old new : LoadFrame) (placed : LoadedAs)
     → Joined old placed new → owed trees i c (frame_path new) (left_in new)
     ≡ owed trees i c (frame_path old) (later_in old)
 owed-joined trees i c old new placed j = rw (j.path_is, j.tree_is, j.next) refl
@@ -125,7 +126,7 @@ settled-next trees now h k done q s t =
 
 -- a frame that takes its next import
 held-joined : (files : Files) (now : List Event) (log : List ReadEntry) (old new : LoadFrame)
-    (placed : Placed) (i : Import) (q : Text) → IsHeld files now log old
+    (placed : LoadedAs) (i : Import) (q : Text) → IsHeld files now log old
     → slice_get old.tree.statements.items old.next ≡ Some (file_statement.Import i)
     → path_buf_text i.path ≡ q → Settled now placed.height (path_shape files.trees q)
     → Joined old placed new → IsHeld files now log new
@@ -183,7 +184,7 @@ module _ (legal : Legal) (files : Files) (kept events : List Event) (i : Text) (
       })
 
   -- an import that is loaded already
-  pub running-known : (stack : List LoadFrame) (old new : LoadFrame) (placed : Placed) (im : Import)
+  pub running-known : (stack : List LoadFrame) (old new : LoadFrame) (placed : LoadedAs) (im : Import)
       (meets more : ℕ) (inner : List Text) (loaded : List LoadedEntry) (log after : List ReadEntry)
       (r : Running meets stack old loaded log) → inner ≡ chain_of [] stack ++ frame_path old ∷ []
       → slice_get old.tree.statements.items old.next ≡ Some (file_statement.Import im)
@@ -307,7 +308,7 @@ module _ (legal : Legal) (files : Files) (kept events : List Event) (i : Text) (
       (chain_of [] stack ++ frame_path top ∷ []) f r.good m)
 
   -- or after an import that is loaded already
-  pub known-breaks : (stack : List LoadFrame) (old : LoadFrame) (placed : Placed) (q : Text)
+  pub known-breaks : (stack : List LoadFrame) (old : LoadFrame) (placed : LoadedAs) (q : Text)
       (meets : ℕ) (inner : List Text) (loaded : List LoadedEntry) (log after : List ReadEntry)
       (f : RunFault) (r : Running meets stack old loaded log)
       → inner ≡ chain_of [] stack ++ frame_path old ∷ []
@@ -362,7 +363,7 @@ module _ (legal : Legal) (files : Files) (kept events : List Event) (i : Text) (
   -- what its elaboration leaves
   pub running-closes : (stack : List LoadFrame) (top : LoadFrame) (meets : ℕ)
       (loaded later : List LoadedEntry) (tables after : Tables) (log : List ReadEntry)
-      (res : Result Placed RunFault) (r : Running meets stack top loaded log)
+      (res : Result LoadedAs RunFault) (r : Running meets stack top loaded log)
       (table : List (Text × Text)) (full : List ReadEntry) → GoesOn files table full
       → AreKnown loaded tables log → IsTaken loaded log top → file_at (frame_path top) loaded ≡ None
       → among (frame_path top) (chain_of [] stack) ≡ false
@@ -400,7 +401,7 @@ module _ (legal : Legal) (files : Files) (kept events : List Event) (i : Text) (
       t : FileSyntax
       t = file_view top.tree
 
-      ends : (res : Result Placed RunFault)
+      ends : (res : Result LoadedAs RunFault)
           → Settles files p t (top.height + 1) top.read log loaded later res
           → Leaves legal files (r.now ++ elab p ∷ []) (path_shape files.trees p) later log
           (chain_of [] stack) res
@@ -449,7 +450,7 @@ module _ (legal : Legal) (files : Files) (kept events : List Event) (i : Text) (
           ]
 
   -- the frame below takes it
-  pub running-close : (stack full : List LoadFrame) (top old new : LoadFrame) (placed : Placed)
+  pub running-close : (stack full : List LoadFrame) (top old new : LoadFrame) (placed : LoadedAs)
       (im : Import) (meets : ℕ) (loaded later : List LoadedEntry) (log : List ReadEntry)
       (r : Running meets full top loaded log) → full ≡ stack ++ old ∷ []
       → length top.tree.statements.items ≤ top.next
@@ -487,7 +488,7 @@ module _ (legal : Legal) (files : Files) (kept events : List Event) (i : Text) (
       }
 
   -- memory runs out before it does
-  pub closed-breaks : (stack : List LoadFrame) (top : LoadFrame) (placed : Placed) (meets : ℕ)
+  pub closed-breaks : (stack : List LoadFrame) (top : LoadFrame) (placed : LoadedAs) (meets : ℕ)
       (loaded later : List LoadedEntry) (log : List ReadEntry) (f : RunFault)
       (r : Running meets stack top loaded log) → length top.tree.statements.items ≤ top.next
       → Leaves legal files (r.now ++ elab (frame_path top) ∷ [])
@@ -511,7 +512,7 @@ module _ (legal : Legal) (files : Files) (kept events : List Event) (i : Text) (
       (todo files.trees i [] stack) log f h)
 
   -- the lowest file is the input
-  pub running-end : (stack : List LoadFrame) (top : LoadFrame) (placed : Placed) (meets : ℕ)
+  pub running-end : (stack : List LoadFrame) (top : LoadFrame) (placed : LoadedAs) (meets : ℕ)
       (loaded later : List LoadedEntry) (log : List ReadEntry)
       (r : Running meets stack top loaded log)
       → stack ≡ [] → length top.tree.statements.items ≤ top.next

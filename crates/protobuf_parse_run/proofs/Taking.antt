@@ -14,7 +14,7 @@ use Rattle.protobuf_parse_syntax.specs.declared.tree.Import.{Import}
 use Rattle.protobuf_parse_model.specs.Descriptors.{Text}
 use Rattle.protobuf_parse_run.specs.declared.tables.Tables.{Tables}
 use Rattle.protobuf_parse_run.specs.declared.frame.LoadFrame.{LoadFrame}
-use Rattle.protobuf_parse_run.specs.declared.loader.Placed.{Placed}
+use Rattle.protobuf_parse_run.specs.declared.loader.LoadedAs.{LoadedAs}
 use Rattle.protobuf_parse_run.specs.declared.log.ReadEntry.{ReadEntry}
 use Rattle.protobuf_parse_run.specs.Walks.{among, import_paths, public_path, public_paths}
 use Rattle.protobuf_parse_run.specs.Loading.{AreKnown, FilesAreNumbered, AreUnloaded, LoadedEntry}
@@ -76,7 +76,7 @@ all_taken-more loaded new log after fs more grows a =
 
 -- the next import is loaded
 pub taken-joined : (loaded : List LoadedEntry) (log : List ReadEntry) (old new : LoadFrame)
-    (placed : Placed) (i : Import) (q : Text) → IsTaken loaded log old
+    (placed : LoadedAs) (i : Import) (q : Text) → IsTaken loaded log old
     → slice_get old.tree.statements.items old.next ≡ Some (file_statement.Import i)
     → path_buf_text i.path ≡ q → IsNumbered (named_trees loaded) placed.number q
     → Joined old placed new → IsTaken loaded log new
@@ -160,14 +160,14 @@ taken-new chain after path loaded old new f o = record {
 
 -- what there is when a file was closed
 pub record IsClosed (old new : List LoadedEntry) (tables : Tables) (log : List ReadEntry)
-    (chain : List Text) (path : Text) (placed : Placed) : Type 0 where
+    (chain : List Text) (path : Text) (placed : LoadedAs) : Type 0 where
   pub known : AreKnown new tables log
   pub more : MoreLoaded old new
   pub number : IsNumbered (named_trees new) placed.number path
   pub unloaded : AreUnloaded chain new
 
 pub closed-is : (f : LoadFrame) (old new : List LoadedEntry) (before after : Tables)
-    (log : List ReadEntry) (chain : List Text) (placed : Placed) → AreKnown old before log
+    (log : List ReadEntry) (chain : List Text) (placed : LoadedAs) → AreKnown old before log
     → IsTaken old log f → AreUnloaded (chain ++ frame_path f ∷ []) old
     → among (frame_path f) chain ≡ false → length f.tree.statements.items ≤ f.next
     → SettlesOver (frame_path f) (file_view f.tree)

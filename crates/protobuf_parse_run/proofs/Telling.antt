@@ -16,7 +16,8 @@ use Rattle.protobuf_parse_run.specs.Run.{RunIsRefused, IsBroken, MayRead, MayRes
 use Rattle.protobuf_parse_run.specs.Run.{shipped}
 use Rattle.protobuf_parse_run.specs.Run.{HaveTrees, RunsAsTold, MayAnswer}
 use Rattle.protobuf_parse_run.specs.Shipped.{IsNeverAsked, RunsByResolver, RunsWithShipped}
-use Rattle.protobuf_parse_run.specs.Loading.{Legal, LoadedEntry, Good, Stops, IsLoaded, paths_of}
+use Rattle.protobuf_parse_run.specs.Loading.{LoadedEntry, Good, Stops, IsLoaded, paths_of}
+use Rattle.protobuf_parse_run.specs.Run.{Legal}
 use Rattle.protobuf_parse_run.specs.Loading.{tree_in}
 use Rattle.protobuf_parse_base.specs.PathViews.{path_buf_text}
 use Rattle.protobuf_parse_base.specs.declared.proto_path.path.ProtoPathBuf.{ProtoPathBuf}

@@ -18,13 +18,14 @@ use Rattle.protobuf_parse_run.specs.declared.fault.RunFault.{RunFault}
 use Rattle.protobuf_parse_run.specs.declared.frame.LoadFrame.{LoadFrame}
 use Rattle.protobuf_parse_run.specs.declared.loader.Met.{Met}
 use Rattle.protobuf_parse_run.specs.declared.loader.Met.TheVariants as met
-use Rattle.protobuf_parse_run.specs.declared.loader.Placed.{Placed}
+use Rattle.protobuf_parse_run.specs.declared.loader.LoadedAs.{LoadedAs}
 use Rattle.protobuf_parse_run.specs.declared.log.ReadEntry.{ReadEntry}
 use Rattle.protobuf_parse_run.specs.Walks.{Asked, the_resolver, Event, load, elab, has, keep, among}
 use Rattle.protobuf_parse_run.specs.Walks.{Trees, walks_joined, public_paths_of, import_statements}
 use Rattle.protobuf_parse_run.specs.Walks.{walk}
 use Rattle.protobuf_parse_run.specs.Run.{Files, first_read}
-use Rattle.protobuf_parse_run.specs.Loading.{Legal, LoadedEntry, FilesAreNumbered, Good, IsNumbered}
+use Rattle.protobuf_parse_run.specs.Loading.{LoadedEntry, FilesAreNumbered, Good, IsNumbered}
+use Rattle.protobuf_parse_run.specs.Run.{Legal}
 use Rattle.protobuf_parse_run.specs.Loading.{Settled}
 use Rattle.protobuf_parse_run.specs.Loading.{Stops, file_at, path_shape, imports_shape, named_trees}
 use Rattle.protobuf_parse_run.specs.Loading.{read_paths}
@@ -174,7 +175,7 @@ pub record IsOpened (chain : List Text) (path : Text) (loaded : List LoadedEntry
 -- a loaded file that was met on this chain
 pub record IsAgain (chain : List Text) (path : Text) (loaded : List LoadedEntry)
     (old : List ReadEntry)
-    (after : List Text) (new : List ReadEntry) (placed : Placed) : Type 0 where
+    (after : List Text) (new : List ReadEntry) (placed : LoadedAs) : Type 0 where
   pub chain_is : after ≡ chain
   pub reads : new ≡ old
   pub low : length chain + placed.height ≤ 100
@@ -191,7 +192,7 @@ StandsMet chain path loaded old after new (Err f) = Unit {0}
 
 -- a loaded file, met again, adds nothing
 pub record IsSame (files : Files) (kept : List Event) (input : Text) (asked : Asked)
-    (chain : List Text) (path : Text) (placed : Placed) : Type 0 where
+    (chain : List Text) (path : Text) (placed : LoadedAs) : Type 0 where
   pub again : keep kept (walk files.trees input asked (100 - length chain) chain path) ≡ kept
   pub settled : Settled kept placed.height (path_shape files.trees path)
 
@@ -214,7 +215,7 @@ Meets legal files kept input asked chain path loaded log (Err f) =
     f
 
 -- a frame that took its next import
-pub record Joined (old : LoadFrame) (placed : Placed) (new : LoadFrame) : Type 0 where
+pub record Joined (old : LoadFrame) (placed : LoadedAs) (new : LoadFrame) : Type 0 where
   pub path_is : new.path ≡ old.path
   pub tree_is : new.tree ≡ old.tree
   pub read_is : new.read ≡ old.read

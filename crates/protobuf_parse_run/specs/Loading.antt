@@ -28,7 +28,7 @@ use Rattle.protobuf_parse_run.specs.declared.fault.RunFault.{RunFault}
 use Rattle.protobuf_parse_run.specs.declared.fault.RunFault.TheVariants as fault
 use Rattle.protobuf_parse_run.specs.declared.describe.Described.{Described}
 use Rattle.protobuf_parse_run.specs.declared.loader.LoadedFile.{LoadedFile}
-use Rattle.protobuf_parse_run.specs.declared.loader.Placed.{Placed}
+use Rattle.protobuf_parse_run.specs.declared.loader.LoadedAs.{LoadedAs}
 use Rattle.protobuf_parse_run.specs.declared.reach.Held.{Held}
 use Rattle.protobuf_parse_run.specs.declared.tables.RunPlaces.{RunPlaces}
 use Rattle.protobuf_parse_run.specs.declared.tables.Tables.{Tables}
@@ -49,12 +49,8 @@ use Rattle.protobuf_parse_run.specs.Run.{Files, MayAnswer, MayRead, MayResolve, 
 use Rattle.protobuf_parse_run.specs.Run.{HasTrees, OrMemory}
 use Rattle.protobuf_parse_run.specs.Run.{faults_at, IsTheTree, text_read, environment_of, plain_of}
 use Rattle.protobuf_parse_run.specs.Run.{first_read, fails, fault_said, text_given, origin_given}
-use Rattle.protobuf_parse_run.specs.Run.{AreAnswered}
+use Rattle.protobuf_parse_run.specs.Run.{AreAnswered, Legal}
 use Rattle.protobuf_parse_run.specs.Run.{StandsAtEvent, StandsInLoad, StandsInElab, IsUnparsed}
-
--- the answers that who is asked for a path may give
-abbrev pub Legal : Type 1
-Legal = Asked → Text → ReadOutcome → Type 0
 
 -- the answers that may be given by those whom a run asks: its resolver, which may answer so, and
 -- its reader, which may so
@@ -377,7 +373,7 @@ IsContentFault p origin text _ = ⊥
 -- what a call leaves, where the events are those kept with its own
 abbrev pub Leaves : Legal → Files → List Event → WalkShape → List LoadedEntry → List ReadEntry
     → List Text
-    → Result Placed RunFault → Type 0
+    → Result LoadedAs RunFault → Type 0
 Leaves legal files events shape loaded log chain (Ok placed) =
     Good legal files events loaded log chain × Settled events placed.height shape
 Leaves legal files events shape loaded log chain (Err f) = Stops legal files events log f
@@ -390,7 +386,7 @@ Goes legal files events loaded log (Err f) = Stops legal files events log f
 -- A file was added for this path: it had this tree, in which no fault stands, and is what that
 -- becomes.
 pub record IsAdded (files : Files) (path : Text) (tree : FileSyntax) (height read : ℕ)
-    (old new : List LoadedEntry) (placed : Placed) : Type 0 where
+    (old new : List LoadedEntry) (placed : LoadedAs) : Type 0 where
   pub key : String Global
   pub file : LoadedFile
   pub entries : new ≡ old ++ (key, file) ∷ []
@@ -433,7 +429,7 @@ pub record GoesOn (files : Files) (table : List (Text × Text)) (log : List Read
   pub listed : FilesAreListed files.trees files.reached files.seen
 
 -- the loaded file of a path, as a look-up told it
-abbrev pub IsPlaced : Text → List LoadedEntry → Option Placed → Type 0
+abbrev pub IsPlaced : Text → List LoadedEntry → Option LoadedAs → Type 0
 IsPlaced path loaded None = file_at path loaded ≡ None
 IsPlaced path loaded (Some placed) = (file : LoadedFile) × (file_at path loaded ≡ Some file)
     × (placed.height ≡ file.height) × IsNumbered (named_trees loaded) placed.number path
@@ -441,7 +437,7 @@ IsPlaced path loaded (Some placed) = (file : LoadedFile) × (file_at path loaded
 -- what an elaboration leaves
 abbrev pub Settles : Files → Text → FileSyntax → ℕ → ℕ → List ReadEntry → List LoadedEntry
     → List LoadedEntry
-    → Result Placed RunFault → Type 0
+    → Result LoadedAs RunFault → Type 0
 Settles files path tree height read log old new (Ok placed) = file_at path old ≡ None
     → IsAdded files path tree height read old new placed
 Settles files path tree height read log old new (Err f) = (e : ReadEntry)
@@ -461,7 +457,7 @@ plains_next loaded sight path tree = plains_over loaded (with_next loaded tree) 
 -- ones those. By the numbers of the files that it reaches and sees, no fault stands in it, and it
 -- has become its descriptor.
 pub record IsAddedOver (path : Text) (tree : FileSyntax) (height read : ℕ) (imports public : List ℕ)
-    (old new : List LoadedEntry) (tables : Tables) (placed : Placed) : Type 0 where
+    (old new : List LoadedEntry) (tables : Tables) (placed : LoadedAs) : Type 0 where
   pub key : String Global
   pub file : LoadedFile
   pub sight : List ℕ
@@ -495,7 +491,7 @@ IsRefusedOver origin path tree imports old f =
 
 abbrev pub SettlesOver : Text → FileSyntax → ℕ → ℕ → List ℕ → List ℕ → List ReadEntry
     → List LoadedEntry
-    → List LoadedEntry → Tables → Result Placed RunFault → Type 0
+    → List LoadedEntry → Tables → Result LoadedAs RunFault → Type 0
 SettlesOver path tree height read imports public log old new tables (Ok placed) =
     file_at path old ≡ None → IsAddedOver path tree height read imports public old new tables placed
 SettlesOver path tree height read imports public log old new tables (Err f) = (e : ReadEntry)
@@ -507,6 +503,6 @@ abbrev pub AreUnloaded : List Text → List LoadedEntry → Type 0
 AreUnloaded chain loaded = (p : Text) → among p chain ≡ true → file_at p loaded ≡ None
 
 -- A file of this path is loaded with that number, among these files and no fewer than before.
-pub record IsMetAt (path : Text) (old new : List LoadedEntry) (placed : Placed) : Type 0 where
+pub record IsMetAt (path : Text) (old new : List LoadedEntry) (placed : LoadedAs) : Type 0 where
   pub number : IsNumbered (named_trees new) placed.number path
   pub more : MoreLoaded old new

@@ -278,8 +278,12 @@ abbrev pub MayAnswer : MayResolve → MayRead → Asked → Text → ReadOutcome
 MayAnswer resolve read the_resolver p answer = Resolved resolve p answer
 MayAnswer resolve read (the_reader own) p answer = WasRead read own answer
 
+-- which answers are legal: those that who is asked for a path may give
+abbrev pub Legal : Type 1
+Legal = Asked → Text → ReadOutcome → Type 0
+
 -- the entries are these reads in order, each with a legal answer
-abbrev pub AreAnswered : (Asked → Text → ReadOutcome → Type 0) → List FileRead → List ReadEntry
+abbrev pub AreAnswered : Legal → List FileRead → List ReadEntry
     → Type 0
 AreAnswered legal [] [] = Unit {0}
 AreAnswered legal (read ∷ reads) (entry ∷ log) =
@@ -299,14 +303,14 @@ AreDescriptors files (p ∷ paths) (d ∷ ds) =
 AreDescriptors files _ _ = ⊥
 
 -- no event fails, and these are the descriptors of the files in order
-pub record IsAccepted (legal : Asked → Text → ReadOutcome → Type 0) (files : Files)
+pub record IsAccepted (legal : Legal) (files : Files)
     (events : List Event) (ds : List FileDescriptorProto) : Type 0 where
   pub none_fails : find (fails files) events ≡ None
   pub reads : AreAnswered legal (reads_in events) files.reads
   pub descriptors : AreDescriptors files (elab_paths events) ds
 
 -- the fault stands at the first event that fails, and the reads are those up to and with it
-pub record RunIsRefused (legal : Asked → Text → ReadOutcome → Type 0) (files : Files)
+pub record RunIsRefused (legal : Legal) (files : Files)
     (events : List Event) (f : RunFault) : Type 0 where
   pub event : Event
   pub first : find (fails files) events ≡ Some event
@@ -315,7 +319,7 @@ pub record RunIsRefused (legal : Asked → Text → ReadOutcome → Type 0) (fil
 
 -- memory ran out: the reads are those of a beginning of the events up to and with the first that
 -- fails
-pub record IsBroken (legal : Asked → Text → ReadOutcome → Type 0) (files : Files)
+pub record IsBroken (legal : Legal) (files : Files)
     (events : List Event) (f : RunFault) : Type 0 where
   pub memory : f ≡ fault.Memory
   pub done : List Event
@@ -323,7 +327,7 @@ pub record IsBroken (legal : Asked → Text → ReadOutcome → Type 0) (files :
   pub beginning : until (fails files) events ≡ done ++ rest
   pub reads : AreAnswered legal (reads_in done) files.reads
 
-abbrev pub RunEnds : (Asked → Text → ReadOutcome → Type 0) → Files → List Event
+abbrev pub RunEnds : Legal → Files → List Event
     → Result (Vec FileDescriptorProto) RunFault → Type 0
 RunEnds legal files events (Ok ds) = IsAccepted legal files events ds.items
 RunEnds legal files events (Err f) = RunIsRefused legal files events f
@@ -359,7 +363,7 @@ IsMet inputs bundled log meets result =
 -- A run over these inputs and bundled files read this log and ended so, whichever trees the texts
 -- have; each file is elaborated over the trees of just the files that it sees, in whatever order
 -- these are listed.
-abbrev pub RunsAsTold : (Asked → Text → ReadOutcome → Type 0) → List Input → List (Text × Text)
+abbrev pub RunsAsTold : Legal → List Input → List (Text × Text)
     → List ReadEntry → Result (Vec FileDescriptorProto) RunFault → Type 0
 RunsAsTold legal inputs bundled log result =
     (trees : Trees) (reached seen : Text → List Text) → HasTrees bundled log trees
@@ -396,7 +400,7 @@ placed inputs = flat_map if_placed inputs
 
 -- The log answers the first reads of the run, in order. The resolver is asked for distinct paths,
 -- and the reader for the first inputs at paths of their own, each once.
-pub record IsAskedOnce (legal : Asked → Text → ReadOutcome → Type 0) (trees : Trees)
+pub record IsAskedOnce (legal : Legal) (trees : Trees)
     (inputs : List Input) (log : List ReadEntry) : Type 0 where
   pub reads : List FileRead
   pub later : List FileRead
@@ -407,7 +411,7 @@ pub record IsAskedOnce (legal : Asked → Text → ReadOutcome → Type 0) (tree
   pub reader : placed inputs ≡ placed_reads reads ++ unasked
 
 -- So it is whichever trees the texts have that were read.
-abbrev pub AreAskedOnce : (Asked → Text → ReadOutcome → Type 0) → List Input → List (Text × Text)
+abbrev pub AreAskedOnce : Legal → List Input → List (Text × Text)
     → List ReadEntry → Type 0
 AreAskedOnce legal inputs bundled log = (trees : Trees) → HasTrees bundled log trees
     → IsAskedOnce legal trees inputs log

@@ -1,5 +1,5 @@
 -- What stays where other texts are read: a file stands on what it reaches, and a run on its files.
-use Rattle.std.specs.Prelude.{◌≡◌, true, List, [], ◌++◌, map, None, find}
+use Rattle.std.specs.Prelude.{◌≡◌, true, List, [], ◌++◌, map, Some, None, find}
 use Rattle.protobuf_parse_syntax.specs.Trees.{FileSyntax}
 use Rattle.protobuf_parse_model.specs.Descriptors as described
 use Rattle.protobuf_parse_model.specs.Descriptors.{Text, FileDescriptor}
@@ -8,8 +8,10 @@ use Rattle.protobuf_parse_model.specs.FileDescriptor.{file_of}
 use Rattle.protobuf_parse_model.specs.FilesByPath.{trees_at}
 use Rattle.protobuf_parse_model.specs.Linking.{link_faults}
 use Rattle.protobuf_parse_model.specs.declared.descriptor.FileDescriptorProto.{FileDescriptorProto}
+use Rattle.protobuf_parse_run.specs.declared.log.ReadEntry.{ReadEntry}
 use Rattle.protobuf_parse_run.specs.Walks.{Input, Trees, Reaches, among, elab_paths, events}
-use Rattle.protobuf_parse_run.specs.Run.{Files, AreDescriptors, FilesAreListed, HasTrees, HaveTrees}
+use Rattle.protobuf_parse_run.specs.Run.{Files, AreDescriptors, FilesAreListed, HasTrees, HaveLists}
+use Rattle.protobuf_parse_run.specs.Run.{HaveTrees}
 use Rattle.protobuf_parse_run.specs.Run.{environment_of, fails, faults_at, text_for}
 
 -- these paths have the same trees, or none, in both
@@ -22,6 +24,10 @@ TreesAreOfTexts =
     (old new : Files) (q : Text) → HaveTrees old.bundled old.reads
     → HasTrees old.bundled old.reads old.trees → HasTrees new.bundled new.reads new.trees
     → text_for new q ≡ text_for old q → new.trees q ≡ old.trees q
+
+-- For all texts that were read there are such lists of files as the definitions speak of.
+abbrev pub ListsAreThere : Type 0
+ListsAreThere = (bundled : List (Text × Text)) (log : List ReadEntry) → HaveLists bundled log
 
 -- What a run read: each path has the tree of its text, and the lists are of just the files that
 -- each file reaches and sees.
@@ -61,6 +67,13 @@ IsClean files inputs = find (fails files) (events files.trees inputs) ≡ None
 -- a file of the run over these inputs
 abbrev pub IsFileOfRun : Trees → List Input → Text → Type 0
 IsFileOfRun trees inputs q = among q (order trees inputs) ≡ true
+
+-- The files that a file of an accepted run reaches declare no full name twice, so that it becomes
+-- the same wherever these files agree.
+abbrev pub AcceptedDeclareOnce : Type 0
+AcceptedDeclareOnce =
+    (files : Files) (inputs : List Input) (p : Text) (t : FileSyntax) → IsClean files inputs
+    → IsFileOfRun files.trees inputs p → files.trees p ≡ Some t → DeclaresOnce files p
 
 -- Where other trees agree on all files of an accepted run, further inputs append to its order.
 abbrev pub OrderStays : Type 0

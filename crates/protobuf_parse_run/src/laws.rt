@@ -4,7 +4,8 @@ ghost use Rattle.protobuf_parse_run.specs.Order.{AcceptedAreWalked, AllReachedCo
 ghost use Rattle.protobuf_parse_run.specs.Order.{ImportsComeFirst, NoneComesTwice};
 ghost use Rattle.protobuf_parse_run.specs.Order.{OrderIsHandedOut, ReachedComeToo};
 ghost use Rattle.protobuf_parse_run.specs.Stability.{TreesAreOfTexts, StandsOnItsReach, OrderStays};
-ghost use Rattle.protobuf_parse_run.specs.Stability.{DescriptorsStay};
+ghost use Rattle.protobuf_parse_run.specs.Stability.{AcceptedDeclareOnce, DescriptorsStay};
+ghost use Rattle.protobuf_parse_run.specs.Stability.{ListsAreThere};
 ghost use Rattle.protobuf_parse_run.specs.StandingBytes.{BytesStand, NoOthersStand};
 ghost use Rattle.protobuf_parse_run.specs.StandingBytes.{OptionsStand};
 ghost use Rattle.protobuf_parse_run.specs.TypeNames.{NamesAreReached};
@@ -26,16 +27,19 @@ pub fn files_come_once()
     ensures descriptors { OrderIsHandedOut }
 {}
 
-/// What stays where other texts are read. A path that has the same text has the same tree. Where
-/// two runs agree on the files that a file reaches, the same faults stand in it, in whatever order
-/// these files are listed; and it becomes the same, where they declare no full name twice. Where
-/// they agree on all files of an accepted
+/// What stays where other texts are read. A path that has the same text has the same tree
+/// (`texts`), and of the files that each file reaches and sees there always are lists (`lists`).
+/// Where two runs agree on the files that a file reaches, the same faults stand in it, in whatever
+/// order these files are listed; and it becomes the same, where they declare no full name twice
+/// (`reach`), as those of every accepted run (`once`). Where they agree on all files of an accepted
 /// run, its order is a beginning of the order of every list of inputs that begins with the run's
-/// inputs, and its descriptors are the first of such a run that is accepted too: so further inputs
-/// whose reads agree only append.
+/// inputs (`order`), and its descriptors are the first of such a run that is accepted too
+/// (`descriptors`): so further inputs whose reads agree only append.
 pub fn runs_are_stable()
     ensures texts { TreesAreOfTexts }
+    ensures lists { ListsAreThere }
     ensures reach { StandsOnItsReach }
+    ensures once { AcceptedDeclareOnce }
     ensures order { OrderStays }
     ensures descriptors { DescriptorsStay }
 {}

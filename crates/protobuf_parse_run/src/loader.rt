@@ -70,7 +70,7 @@ pub struct LoadedFile {
 
 /// The number and the height of a loaded file.
 #[derive(Clone, Copy)]
-pub struct Placed {
+pub struct LoadedAs {
     pub number: u32,
     pub height: usize,
 }
@@ -91,7 +91,7 @@ pub struct Loader {
 #[derive(Drop)]
 pub enum Met {
     /// It is loaded already.
-    Loaded(Placed),
+    Loaded(LoadedAs),
     /// It was read now, and its imports are to be met.
     Opened(LoadFrame),
 }
@@ -162,7 +162,7 @@ fn check_loaded<R: ProtoPathResolver, I: InputReader>(
     requires known { KnowsFiles loader.old }
     ensures chain { loader.new.chain ≡ loader.old.chain }
     ensures loaded { loader.new.loaded ≡ loader.old.loaded }
-    ensures names { loader.new.tables ≡ loader.old.tables }
+    ensures tables { loader.new.tables ≡ loader.old.tables }
     ensures meets { loader.new.meets ≡ loader.old.meets }
     ensures grows { Grows loader.old.reads.items loader.new.reads.items }
     ensures more { length loader.old.reads.items ≤ length loader.new.reads.items }
@@ -251,7 +251,7 @@ fn note(
     outcome: ReadOutcome,
 ) -> Result<(), AllocError>
     ensures loaded { loader.new.loaded ≡ loader.old.loaded }
-    ensures names { loader.new.tables ≡ loader.old.tables }
+    ensures tables { loader.new.tables ≡ loader.old.tables }
     ensures chain { loader.new.chain ≡ loader.old.chain }
     ensures meets { loader.new.meets ≡ loader.old.meets }
     ensures ok { OnOk result ((e : ReadEntry)
@@ -330,7 +330,7 @@ fn meet<R: ProtoPathResolver, I: InputReader>(
     requires chain { length loader.old.chain.items ≤ LIMIT }
     requires room { loader.old.meets + 1 < 2 ^ 128 }
     ensures loaded { loader.new.loaded ≡ loader.old.loaded }
-    ensures names { loader.new.tables ≡ loader.old.tables }
+    ensures tables { loader.new.tables ≡ loader.old.tables }
     ensures meets { loader.new.meets ≡ loader.old.meets + 1 }
     ensures grows { Grows loader.old.reads.items loader.new.reads.items }
     ensures decided { StaysDecided sources.now loader.old loader.new }
@@ -370,7 +370,7 @@ fn meet<R: ProtoPathResolver, I: InputReader>(
 }
 
 /// Takes the import that is next, which is loaded.
-fn join(frame: &mut LoadFrame, placed: Placed) -> Result<(), AllocError>
+fn join(frame: &mut LoadFrame, placed: LoadedAs) -> Result<(), AllocError>
     requires { frame.old.next < length frame.old.tree.statements.items }
     ensures { OnOk result (Joined frame.old placed frame.new) }
 {
@@ -405,7 +405,7 @@ fn push_if(numbers: &mut Vec<u32>, public: bool, number: u32) -> Result<(), Allo
 }
 
 /// Elaborates the last file of the chain, whose imports are loaded, and adds it to the loaded ones.
-fn close(alloc: Global, loader: &mut Loader, frame: LoadFrame) -> Result<Placed, RunFault>
+fn close(alloc: Global, loader: &mut Loader, frame: LoadFrame) -> Result<LoadedAs, RunFault>
     requires low { frame.height < LIMIT }
     requires few { statements_in (file_view frame.tree) ≤ 2147483647 }
     requires begins { HasIndex loader.old }
@@ -470,11 +470,11 @@ fn is_on_chain(chain: &[String], path: &str) -> bool
 }
 
 /// Where the file of this path stands, if it is loaded.
-fn placed_at(loaded: &LoadedFiles, path: &str) -> Option<Placed>
+fn placed_at(loaded: &LoadedFiles, path: &str) -> Option<LoadedAs>
     ensures { IsPlaced path.now loaded.now.entries result }
 {
     match loaded.find(path) {
-        Some((number, file)) => Some(Placed {
+        Some((number, file)) => Some(LoadedAs {
             number,
             height: file.height,
         }),
@@ -500,7 +500,7 @@ fn read_tree<R: ProtoPathResolver, I: InputReader>(
     fs_path: Option<&str>,
 ) -> Result<FileTree, RunFault>
     ensures loaded { loader.new.loaded ≡ loader.old.loaded }
-    ensures names { loader.new.tables ≡ loader.old.tables }
+    ensures tables { loader.new.tables ≡ loader.old.tables }
     ensures chain { loader.new.chain ≡ loader.old.chain }
     ensures meets { loader.new.meets ≡ loader.old.meets }
     ensures read { ReadsTree (legal_by R.may_answer I.may_read sources.now)
@@ -546,7 +546,7 @@ fn settle(
     height: usize,
     imports: &ImportNumbers<'_>,
     read: usize,
-) -> Result<Placed, RunFault>
+) -> Result<LoadedAs, RunFault>
     requires few { statements_in (file_view tree) ≤ 2147483647 }
     requires begins { HasIndex loader.old }
     ensures reads { loader.new.reads ≡ loader.old.reads }
@@ -583,7 +583,7 @@ fn settle(
 }
 
 /// Adds a file to the loaded ones.
-fn add(loaded: &mut LoadedFiles, path: String, file: LoadedFile) -> Result<Placed, AllocError>
+fn add(loaded: &mut LoadedFiles, path: String, file: LoadedFile) -> Result<LoadedAs, AllocError>
     ensures height { IfOk result (λ placed. placed.height ≡ file.height) }
     ensures added { IfOk result
         (λ placed. (loaded.new.entries ≡ loaded.old.entries ++ (path, file) ∷ [])
@@ -591,7 +591,7 @@ fn add(loaded: &mut LoadedFiles, path: String, file: LoadedFile) -> Result<Place
 {
     let height = file.height;
     let number = loaded.add(path, file)?;
-    Ok(Placed { number, height })
+    Ok(LoadedAs { number, height })
 }
 
 /// What a file becomes over the files that it reaches and sees, or L10 of this read.

@@ -94,8 +94,8 @@ fn tells_what_no_resolver_finds(rt: HostRuntime) -> Result<(), Fail> {
 }
 
 /// Finds `top.proto`, which imports two files that import `base.proto`, and counts how often it is
-/// asked: as a resolver, and as a reader of files that say nothing. What it says of `odd.proto` is
-/// another each time.
+/// asked: as a resolver, and as a reader of files that say nothing. It says that `odd.proto` is
+/// empty where that is the first call of all, and that there is none at any other.
 #[derive(Drop)]
 struct Counted {
     found: Cell<usize>,

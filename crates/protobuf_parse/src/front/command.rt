@@ -4,6 +4,7 @@ use crate::front::builder::Parser;
 use protobuf_parse_listing::listing;
 use protobuf_parse_run::RunFault;
 use std::io::{self, Write};
+use std::mem;
 use std::rt::Files;
 use thiserror::Error;
 
@@ -24,7 +25,8 @@ enum Failure {
 ///
 /// `args` are the two arguments, without the program's own name. They are looked at first, then a
 /// [`Parser`] with this one include and this one input runs, and its whole listing is made before
-/// any of it is written.
+/// any of it is written. The descriptors are left to the end of the process, which is expected to
+/// come next: letting go of them one by one would take a tenth of the whole time.
 pub fn program<R: Files + AllocGlobal, O: Write, E: Write>(
     rt: &R,
     args: &[String],
@@ -75,5 +77,7 @@ fn listing_of<R: Files + AllocGlobal>(
     parser.push_include(include)?;
     parser.push_input(input)?;
     let parsed = parser.parse_and_typecheck(rt)?;
-    Ok(listing(rt.alloc(), &parsed.file_descriptors)?)
+    let text = listing(rt.alloc(), &parsed.file_descriptors)?;
+    mem::forget(parsed);
+    Ok(text)
 }

@@ -20,6 +20,7 @@ pub fn is_same(text: &str, other: &str) -> bool
 }
 
 /// What a table has beside the word.
+#[inline(always)]
 pub fn beside<T: Copy>(table: &[(&str, T)], word: &str) -> Option<T>
     ensures { result ≡ grammar.lookup (table_seen table.now) word.now }
 {
@@ -32,6 +33,7 @@ pub fn beside<T: Copy>(table: &[(&str, T)], word: &str) -> Option<T>
 }
 
 /// Whether the word is one of these.
+#[inline(always)]
 pub fn is_among(word: &str, words: &[&str]) -> bool
     ensures { result ≡ class.is_among word.now (map (λ (w : Bor (List ℕ)). w.now) words.now) }
 {

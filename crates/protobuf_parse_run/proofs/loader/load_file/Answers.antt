@@ -65,7 +65,7 @@ files-init g c =
       grows = c.meet.ensures.grows;
       decided = c.meet.ensures.decided;
       known = known-grows _ _ c.args.loader.now.reads.items _ c.meet.ensures.grows
-          (rw (same, c.meet.ensures.names) c.requires.known);
+          (rw (same, c.meet.ensures.tables) c.requires.known);
       unloaded = rw (empty, o.path_is, same) (unloaded-first _ _ o.missing);
       off = rw empty refl;
       low = rw (empty, o.height) (omega arith);
@@ -184,7 +184,7 @@ files-preserved-in-Continue-branch-5 g c =
       grows = Grows-trans _ _ _ c.files.invariant.grows c.meet-in-files.ensures.grows;
       decided = λ d. c.meet-in-files.ensures.decided (c.files.invariant.decided d);
       known = known-grows _ _ c.files.loader.reads.items _ c.meet-in-files.ensures.grows
-          (rw (same, c.meet-in-files.ensures.names) c.files.invariant.known);
+          (rw (same, c.meet-in-files.ensures.tables) c.files.invariant.known);
       unloaded = rw (j.path_is, same) c.files.invariant.unloaded;
       off = rw j.path_is c.files.invariant.off;
       low = omega (arith, e, f, h, n, j.height, s.low, c.files.invariant.low);
@@ -350,7 +350,7 @@ files-preserved g c =
       grows = Grows-trans _ _ _ c.files.invariant.grows c.meet-in-files.ensures.grows;
       decided = λ d. c.meet-in-files.ensures.decided (c.files.invariant.decided d);
       known = known-grows _ _ c.files.loader.reads.items _ c.meet-in-files.ensures.grows
-          (rw (same, c.meet-in-files.ensures.names) c.files.invariant.known);
+          (rw (same, c.meet-in-files.ensures.tables) c.files.invariant.known);
       unloaded = rw (pushed, after, outer, o.path_is, same)
           (unloaded-enter _ _ _ c.files.invariant.unloaded o.missing);
       off = rw (pushed, after, outer, o.path_is) (rw c.files.invariant.chain at o.off);

@@ -29,7 +29,7 @@ returns-in-Named-clause-count g c files kept go good =
 pub load_file-requires-in-At-clause-known : goal.load_file-requires-in-At-clause-known
 load_file-requires-in-At-clause-known g c =
     known-grows _ _ c.args.loader.now.reads.items _ c.check_loaded.ensures.grows
-    (rw (ap (λ m. m.entries) c.check_loaded.ensures.loaded, c.check_loaded.ensures.names)
+    (rw (ap (λ m. m.entries) c.check_loaded.ensures.loaded, c.check_loaded.ensures.tables)
     c.requires.known)
 
 pub returns-in_err-check_loaded-in-At-clause-goes : goal.returns-in_err-check_loaded-in-At-clause-goes
