@@ -36,6 +36,7 @@ pub fn put_line(text: &mut String, level: usize, words: &str, rest: &str) -> Res
 }
 
 /// The first words of a line.
+#[inline(always)]
 pub fn begin_line(text: &mut String, level: usize, words: &str) -> Result<(), AllocError>
     ensures { OnOk result
         (string_bytes text.new ≡ string_bytes text.old
@@ -116,6 +117,7 @@ fn put_range_words(text: &mut String, start: i32, end: i32) -> Result<(), AllocE
 }
 
 /// ` = `, by characters, which costs less than a call that copies them.
+#[inline(always)]
 pub fn put_equals(text: &mut String) -> Result<(), AllocError>
     ensures { OnOk result (string_bytes text.new ≡ string_bytes text.old ++ codes " = ") }
 {
@@ -125,6 +127,7 @@ pub fn put_equals(text: &mut String) -> Result<(), AllocError>
 }
 
 /// The number in decimal digits: most have one.
+#[inline(always)]
 #[tactic(auto, using(std::proofs::lemmas::Fmt::decimal_digit))]
 pub fn put_number(text: &mut String, number: i32) -> Result<(), AllocError>
     ensures { OnOk result

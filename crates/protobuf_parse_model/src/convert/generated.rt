@@ -26,6 +26,7 @@ use protobuf_parse_syntax::{Field, FieldStatement, Group, Type};
 use std::alloc::{AllocError, Global};
 
 /// The message of a map's entries, where the type of the field of that name is a map's.
+#[inline(always)]
 pub fn map_entry(
     alloc: Global,
     context: &Context<'_>,
@@ -54,6 +55,7 @@ pub fn boxed(alloc: Global, message: DescriptorProto) -> Result<Box<DescriptorPr
 }
 
 /// The message of the entries of the map of that name.
+#[inline(never)]
 #[tactic(auto, using(crate::proofs::Blaming::blames_left, crate::proofs::Blaming::blames_right))]
 fn entry(
     alloc: Global,

@@ -82,6 +82,7 @@ impl Named for &Method {
 }
 
 /// Refuses two that have one name: E1.
+#[inline(always)]
 #[tactic(auto, using(crate::proofs::Unlike::few_unlike))]
 pub fn check_unlike<T: Named>(alloc: Global, items: &[T]) -> Result<(), ElabFailure>
     ensures { Elaborates (λ u. u) result (duplicates (map T.name_of items.now)) tt }

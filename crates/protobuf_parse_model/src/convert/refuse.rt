@@ -11,6 +11,7 @@ use std::alloc::Global;
 use std::collections::BTreeSet;
 
 /// Refuses a name that stands among those before it: E1.
+#[inline(always)]
 pub fn check_unique(alloc: Global, names: &[&str]) -> Result<(), ElabFailure>
     ensures { Elaborates (λ u. u) result
         (duplicates (map (λ (s : Bor (List ℕ)). s.now) names.now)) tt }

@@ -41,6 +41,7 @@ impl Drop for DeclaredField {
 
 impl DeclaredField {
     /// Adds the field, and the message behind it, if one stands there.
+    #[inline(always)]
     pub fn push_to(
         self,
         fields: &mut Vec<FieldDescriptorProto>,
@@ -57,6 +58,7 @@ impl DeclaredField {
 }
 
 /// Adds the message behind a field, if one stands there.
+#[inline(always)]
 fn push_behind(
     messages: &mut Vec<DescriptorProto>,
     behind: Option<Box<DescriptorProto>>,
@@ -73,6 +75,7 @@ fn push_behind(
 ///
 /// Besides the faults of a field: E1 where two fields of a group have one name; E4 where a map or a
 /// group stands in a group.
+#[inline(always)]
 pub fn declared_field<C: CustomOptions>(
     alloc: Global,
     context: &Context<'_>,
@@ -111,6 +114,7 @@ pub fn declared_extension<C: CustomOptions>(
 }
 
 /// A field that is no group.
+#[inline(always)]
 #[tactic(auto, using(crate::proofs::Blaming::blames_left))]
 fn declared_plain<C: CustomOptions>(
     alloc: Global,

@@ -30,6 +30,7 @@ pub fn entry_name(alloc: Global, name: &str) -> Result<String, AllocError>
 /// The type of the field of that name, as a descriptor says it.
 ///
 /// E2 or E3 where a name means no message and no enum; E4 where a map stands in a map.
+#[inline(always)]
 pub fn resolved_type(
     alloc: Global,
     context: &Context<'_>,

@@ -163,6 +163,7 @@ fn add_in_extend(
 }
 
 /// Adds the message behind a statement that declares a field, if one stands there.
+#[inline(always)]
 fn add_behind(
     table: &mut Declarations,
     alloc: Global,

@@ -74,7 +74,7 @@ fn place_after_runs(place: Place, bytes: &[u8]) -> Place
 }
 
 /// The place after these bytes, which begin at `place`.
-#[inline]
+#[inline(always)]
 pub fn place_after(place: Place, bytes: &[u8]) -> Place
     requires line { place.line + length bytes.now < 2 ^ 32 }
     requires col { place.col + length bytes.now < 2 ^ 32 }

@@ -66,6 +66,7 @@ impl<'t, 'text> Cursor<'t, 'text> {
     }
 
     /// Reads this symbol. S8 at any other token.
+    #[inline(always)]
     pub fn symbol(&mut self, symbol: char) -> Result<(), Refusal>
         ensures { Gives (λ u. tt) result (left self.new)
             ((read.symbol symbol).run (left self.old)) }
@@ -74,6 +75,7 @@ impl<'t, 'text> Cursor<'t, 'text> {
     }
 
     /// Reads this symbol. The fault at any other token.
+    #[inline(always)]
     pub fn symbol_or(&mut self, symbol: char, fault: ParserError) -> Result<(), Refusal>
         requires { AtOneToken fault }
         ensures { Gives (λ u. tt) result (left self.new)

@@ -132,6 +132,7 @@ fn after_label(
     }
 }
 
+#[inline(never)]
 #[cycle(field)]
 #[tactic(auto, unfolding(crate::specs::Nested::group_of), using(crate::specs::Code::fails_first))]
 fn group(
@@ -251,6 +252,7 @@ fn plain_field(
 }
 
 /// `map ident "=" int [ options ] ";"` with types of the inner levels.
+#[inline(never)]
 #[tactic(auto, using(crate::specs::Code::fails_first, crate::proofs::FieldViews::views_plain))]
 fn map_field(
     alloc: Global,
@@ -268,6 +270,7 @@ fn map_field(
 }
 
 /// What follows the type of a field: `ident "=" int [ options ] ";"`
+#[inline(always)]
 #[tactic(auto, unfolding(crate::specs::Nested::after_type_parts), using(crate::specs::Code::fails_first))]
 fn after_type(
     alloc: Global,

@@ -82,6 +82,7 @@ pub fn scalar_of(word: &str) -> Option<Scalar>
 }
 
 /// Whether a statement of another kind begins with the word, so that no field does.
+#[inline(always)]
 pub fn is_statement_word(word: &str) -> bool
     ensures { result ≡ class.is_among word.now grammar.statement_words }
 {
@@ -89,6 +90,7 @@ pub fn is_statement_word(word: &str) -> bool
 }
 
 /// Whether a field of a message, a group or an `extend` begins with the word.
+#[inline(always)]
 fn word_begins_field(word: &str, syntax: Syntax) -> bool
     ensures { result ≡ takes (nest.field_firsts syntax) word.now }
 {
@@ -99,6 +101,7 @@ fn word_begins_field(word: &str, syntax: Syntax) -> bool
 }
 
 /// Whether a field of a message, a group or an `extend` begins with the next token.
+#[inline(always)]
 #[tactic(auto, using(crate::proofs::Words::word_starts, crate::proofs::Words::signs_start, crate::proofs::Words::nothing_starts))]
 pub fn begins_field(tokens: &Cursor<'_, '_>, syntax: Syntax) -> bool
     ensures { result ≡ starts lexicon (nest.field_firsts syntax) (left tokens.now) }
