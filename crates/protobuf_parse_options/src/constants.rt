@@ -175,7 +175,7 @@ fn push_message(
         let kind = ElabErrorKind::MessageFieldRequiresMessageConstant;
         return Err(fault(alloc, kind, &field.name));
     }
-    let mut inside = Vec::new(alloc);
+    let mut inside = Vec::with_capacity(alloc, fields.len())?;
     push_fields(fields, alloc, at, option, type_name_of(field), &mut inside)?;
     push_item(entries, field, EntryValue::Message(inside))?;
     Ok(())

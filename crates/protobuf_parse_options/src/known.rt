@@ -34,7 +34,12 @@ pub struct Known<T> {
 fn within(alloc: Global, scope: &str, name: &str) -> Result<String, AllocError>
     ensures { IfOk result (λ s. string_bytes s ≡ name_within scope.now name.now) }
 {
-    format!(in alloc; "{scope}.{name}")
+    let room = scope.len().saturating_add(name.len()).saturating_add(1);
+    let mut text = String::with_capacity(alloc, room)?;
+    text.push_str(scope)?;
+    text.push('.')?;
+    text.push_str(name)?;
+    Ok(text)
 }
 
 /// The package, if any, after a dot.
@@ -116,6 +121,9 @@ fn add_message<'a>(
         index,
         what: message,
     })?;
+    if message.nested_type.is_empty() {
+        return Ok(());
+    }
     let inner = path_to(alloc, path, index)?;
     add_messages(alloc, &name, &inner, &message.nested_type, list)
 }
@@ -149,6 +157,9 @@ fn add_enums_inside<'a>(
     ensures { OnOk result (enums_placed list.new.items ≡ enums_placed list.old.items
         ++ placed_inside enum_name enums_inside (messages_placed (message.now ∷ []))) }
 {
+    if message.what.enum_type.is_empty() {
+        return Ok(());
+    }
     let path = path_to(alloc, &message.path, message.index)?;
     add_enums(alloc, &message.name, &path, &message.what.enum_type, list)
 }
@@ -206,6 +217,9 @@ fn add_extensions_inside<'a>(
     ensures { OnOk result (extensions_placed list.new.items ≡ extensions_placed list.old.items
         ++ placed_inside field_name extensions_inside (messages_placed (message.now ∷ []))) }
 {
+    if message.what.extension.is_empty() {
+        return Ok(());
+    }
     let path = path_to(alloc, &message.path, message.index)?;
     add_extensions(alloc, &message.name, &path, &message.what.extension, list)
 }

@@ -34,7 +34,7 @@ pub fn bytes_of(
         Elaborates (λ v. v.items) result (custom_statement_faults s construct os)
         (encoded (denotes s construct os)) }
 {
-    let mut entries = Vec::new(alloc);
+    let mut entries = Vec::with_capacity(alloc, options.len())?;
     push_options(alloc, at, construct, options, &mut entries)?;
     let bytes = encode(alloc, &entries)?;
     Ok(bytes)

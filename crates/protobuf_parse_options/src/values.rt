@@ -15,6 +15,7 @@ use protobuf_parse_wire::{Entry, EntryValue, Kind};
 use std::alloc::{AllocError, Global};
 
 /// Adds the entry of the field with the value.
+#[inline(always)]
 pub fn push_item(
     entries: &mut Vec<Entry>,
     field: &FieldDescriptorProto,

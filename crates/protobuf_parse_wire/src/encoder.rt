@@ -1,6 +1,6 @@
 //! Writing entries at the end of bytes.
 
-ghost use Rattle.std.specs.Prelude.{◌≡◌, ◌++◌, OnOk, IfOk};
+ghost use Rattle.std.specs.Prelude.{◌≡◌, ◌++◌, [], OnOk, IfOk};
 ghost use Rattle.protobuf_parse_wire.specs.Kinds.{InRange, shape_of_kind, wire_type};
 ghost use Rattle.protobuf_parse_wire.specs.Wire.{Spells, zigzag_of};
 ghost use Rattle.protobuf_parse_wire.specs.Writing.{AreWritable, IsWritable};
@@ -18,9 +18,16 @@ pub fn encode(alloc: Global, entries: &[Entry]) -> Result<Vec<u8>, AllocError>
     ensures encoded { IfOk result (λ bytes. bytes.items ≡ encoded (entries_view entries.now)) }
     ensures spells { IfOk result (λ bytes. Spells (entries_view entries.now) bytes.items) }
 {
-    let mut out = Vec::new(alloc);
+    let mut out = with_room(alloc, entries)?;
     encode_into(alloc, &mut out, entries)?;
     Ok(out)
+}
+
+/// No bytes, with room for what most entries take: 16 bytes each, so that few lists have to grow.
+fn with_room(alloc: Global, entries: &[Entry]) -> Result<Vec<u8>, AllocError>
+    ensures { IfOk result (λ bytes. bytes.items ≡ []) }
+{
+    Vec::with_capacity(alloc, entries.len().saturating_mul(16))
 }
 
 /// Writes the bytes that spell the entries behind those that are there.
@@ -54,7 +61,7 @@ fn put_value(
         EntryValue::Bool(truth) => put_varint(out, u64::from(*truth)),
         EntryValue::Bytes(bytes) => put_delimited(out, bytes),
         EntryValue::Message(entries) => {
-            let mut inside = Vec::new(alloc);
+            let mut inside = with_room(alloc, entries)?;
             encode_into(alloc, &mut inside, entries)?;
             put_delimited(out, &inside)
         }
@@ -111,6 +118,7 @@ fn zigzag_of(number: i64) -> u64
 }
 
 /// Writes the length of the bytes, and them.
+#[inline(always)]
 fn put_delimited(out: &mut Vec<u8>, inside: &[u8]) -> Result<(), AllocError>
     ensures { OnOk result (out.new.items ≡ out.old.items ++ delimited inside.now) }
 {
@@ -119,6 +127,7 @@ fn put_delimited(out: &mut Vec<u8>, inside: &[u8]) -> Result<(), AllocError>
 }
 
 /// Writes the shortest varint.
+#[inline(always)]
 fn put_varint(out: &mut Vec<u8>, number: u64) -> Result<(), AllocError>
     ensures { OnOk result (out.new.items ≡ out.old.items ++ varint_of number) }
 {

@@ -11,8 +11,8 @@ pub encode-requires : goal.encode-requires
 encode-requires c =
     let s = option_place_view c.args.at.now in
     let os = options_seen c.args.options.now in
-    let is = denoted s c.args.construct os c.new-entries.result.items
-    c.push_options.new.entries.items c.deref.result.now c.new-entries.ensures.items
+    let is = denoted s c.args.construct os _
+    c.push_options.new.entries.items c.deref.result.now c.in_ok-entries.ensures.items
     c.deref.ensures.value c.in_ok-push_options.ensures.1 in
     subst AreWritable (sym is)
     (denotes_writable s c.args.at.now.known.now.small c.args.construct os
@@ -22,7 +22,7 @@ pub returns : goal.returns
 returns c =
     let s = option_place_view c.args.at.now in
     let os = options_seen c.args.options.now in
-    let is = denoted s c.args.construct os c.new-entries.result.items
-    c.push_options.new.entries.items c.deref.result.now c.new-entries.ensures.items
+    let is = denoted s c.args.construct os _
+    c.push_options.new.entries.items c.deref.result.now c.in_ok-entries.ensures.items
     c.deref.ensures.value c.in_ok-push_options.ensures.1 in
     (c.in_ok-push_options.ensures.0, c.in_ok-bytes.ensures.encoded ∙ ap encoded is)
