@@ -114,9 +114,8 @@ fn add_message<'a>(
     ensures { OnOk result (messages_placed list.new.items ≡ messages_placed list.old.items
         ++ placed_message scope.now path.now index (message_view message.now)) }
 {
-    let name = within(alloc, scope, &message.name)?;
     list.push(Known {
-        name: name.clone()?,
+        name: within(alloc, scope, &message.name)?,
         path: copied(alloc, path)?,
         index,
         what: message,
@@ -124,6 +123,7 @@ fn add_message<'a>(
     if message.nested_type.is_empty() {
         return Ok(());
     }
+    let name = within(alloc, scope, &message.name)?;
     let inner = path_to(alloc, path, index)?;
     add_messages(alloc, &name, &inner, &message.nested_type, list)
 }

@@ -73,6 +73,9 @@ impl CustomOptions for KnownFiles<'_> {
         scope: &[&str],
         options: &[&ProtobufOption],
     ) -> Result<Vec<u8>, ElabFailure> {
+        if options.is_empty() {
+            return Ok(Vec::new(alloc));
+        }
         let message = options_message(construct);
         let at = OptionPlace::new(self, scope, message, are_several(options));
         bytes_of(alloc, &at, construct, options)

@@ -1,4 +1,4 @@
-use Rattle.std.proofs.Common.{◌≡◌, ◌∙◌, ◌++◌, [], ◌∷◌, List, ℕ, ap, map}
+use Rattle.std.proofs.Common.{◌≡◌, ◌∙◌, ◌++◌, [], ◌∷◌, List, ℕ, ap, map, sym}
 use Rattle.std.specs.Prelude.{string_bytes}
 use Rattle.std.proofs.lemmas.List.{map-append}
 use Rattle.std.proofs.lemmas.Result.{on_ok_weaker}
@@ -22,23 +22,25 @@ add_message-returns t c =
     let index = c.args.index in
     let name : Text = string_bytes c.in_ok-name.name in
     let old = messages_placed c.args.list.now.items in
-    let cloned : string_bytes c.in_ok-clone.field-0 ≡ name = c.in_ok-clone.ensures.cases in
+    let same : string_bytes c.in_ok-within.field-0 ≡ name = c.in_ok-within.ensures
+    ∙ ap (name_within scope) (c.deref.ensures ∙ sym c.deref-2.ensures)
+    ∙ sym c.in_ok-name.ensures in
     let copied : c.in_ok-copied.field-0.items ≡ path = c.in_ok-copied.ensures in
     let pushed = ap messages_placed c.in_ok-push.ensures.items
     ∙ map-append (placed_known message_seen) c.args.list.now.items _
-    ∙ ap (λ (n : Text). old ++ head n c.in_ok-copied.field-0.items index m) cloned
+    ∙ ap (λ (n : Text). old ++ head n c.in_ok-copied.field-0.items index m) same
     ∙ ap (λ (p : List ℕ). old ++ head name p index m) copied in
-    let named = c.in_ok-name.ensures ∙ ap (name_within scope) c.deref.ensures in
-    let inner = c.deref-3.ensures.value ∙ c.in_ok-inner.ensures in
+    let named = c.in_ok-name.ensures ∙ ap (name_within scope) c.deref-2.ensures in
+    let inner = c.deref-4.ensures.value ∙ c.in_ok-inner.ensures in
     on_ok_weaker c.add_messages.result
     (λ nested. message_listed scope name path index m old
     (messages_placed c.add_messages.new.list.items) named
-    (nested ∙ ap (λ (ds : List (Placed MessageDescriptor)). ds ++ placed_list c.deref-2.result.now
-    c.deref-3.result.now 0 (map message_view c.deref-4.result.now)) pushed
-    ∙ ap (λ (s : Text). (old ++ head name path index m) ++ placed_list s c.deref-3.result.now 0
-    (map message_view c.deref-4.result.now)) c.deref-2.ensures
+    (nested ∙ ap (λ (ds : List (Placed MessageDescriptor)). ds ++ placed_list c.deref-3.result.now
+    c.deref-4.result.now 0 (map message_view c.deref-5.result.now)) pushed
+    ∙ ap (λ (s : Text). (old ++ head name path index m) ++ placed_list s c.deref-4.result.now 0
+    (map message_view c.deref-5.result.now)) c.deref-3.ensures
     ∙ ap (λ (p : List ℕ). (old ++ head name path index m) ++ placed_list name p 0
-    (map message_view c.deref-4.result.now)) inner
+    (map message_view c.deref-5.result.now)) inner
     ∙ ap (λ (ms : List DescriptorProto). (old ++ head name path index m) ++ placed_list name
-    (path ++ index ∷ []) 0 (map message_view ms)) c.deref-4.ensures.value))
+    (path ++ index ∷ []) 0 (map message_view ms)) c.deref-5.ensures.value))
     c.add_messages.ensures
