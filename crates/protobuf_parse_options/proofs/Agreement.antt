@@ -44,17 +44,19 @@ pub within_append : (scope : Text) (xs ys : List FieldDescriptor)
 within_append scope xs ys =
     map-append (λ (f : FieldDescriptor). record { name = name_within scope f.name; what = f }) xs ys
 
-placed_left : (scope : Text) (xs ys : List FieldDescriptor) (ms ns : List MessageDescriptor)
-    (d : Declared FieldDescriptor) → StandsIn scope xs ms d → StandsIn scope (xs ++ ys) (ms ++ ns) d
-placed_left scope xs ys ms ns d (its_own h) =
+stands_left : (scope : Text) (xs ys : List FieldDescriptor) (ms ns : List MessageDescriptor)
+    (d : Declared FieldDescriptor) → StandsIn scope xs ms d
+    → StandsIn scope (xs ++ ys) (ms ++ ns) d
+stands_left scope xs ys ms ns d (its_own h) =
     its_own (rw (within_append scope xs ys) (among_left (extensions_within scope ys) h))
-placed_left scope xs ys ms ns d (in_one m a h) = in_one m (among_left ns a) h
+stands_left scope xs ys ms ns d (in_one m a h) = in_one m (among_left ns a) h
 
-placed_right : (scope : Text) (xs ys : List FieldDescriptor) (ms ns : List MessageDescriptor)
-    (d : Declared FieldDescriptor) → StandsIn scope ys ns d → StandsIn scope (xs ++ ys) (ms ++ ns) d
-placed_right scope xs ys ms ns d (its_own h) =
+stands_right : (scope : Text) (xs ys : List FieldDescriptor) (ms ns : List MessageDescriptor)
+    (d : Declared FieldDescriptor) → StandsIn scope ys ns d
+    → StandsIn scope (xs ++ ys) (ms ++ ns) d
+stands_right scope xs ys ms ns d (its_own h) =
     its_own (rw (within_append scope xs ys) (among_right (extensions_within scope xs) h))
-placed_right scope xs ys ms ns d (in_one m a h) = in_one m (among_right ms a) h
+stands_right scope xs ys ms ns d (in_one m a h) = in_one m (among_right ms a) h
 
 in_nested : (scope : Text) (ns : List MessageDescriptor) (m : MessageDescriptor)
     (d : Declared FieldDescriptor) → Among ns m → Among (extensions_by (declared_message scope m)) d
@@ -125,11 +127,11 @@ either : (env : Environment) (s : MessageStatementSyntax) (ss : MessageStatement
     → InBody env (flat_map (bodies.extended_of env) (message_body (more_statements s ss)))
     (nested_in env (more_statements s ss)) e
 either env s ss e (left k) first others =
-    placed_left (absolute_text env.scope) (bodies.extended_of env s)
+    stands_left (absolute_text env.scope) (bodies.extended_of env s)
     (flat_map (bodies.extended_of env) (message_body ss)) (nested_of env s) (nested_in env ss)
     (described env e) (first k)
 either env s ss e (right k) first others =
-    placed_right (absolute_text env.scope) (bodies.extended_of env s)
+    stands_right (absolute_text env.scope) (bodies.extended_of env s)
     (flat_map (bodies.extended_of env) (message_body ss)) (nested_of env s) (nested_in env ss)
     (described env e) (others k)
 
@@ -168,10 +170,10 @@ of_each env told own nested each (s ∷ ss) e h =
         → (Among (flat_map told ss) e → InBody env (flat_map own ss) (flat_map nested ss) e)
         → InBody env (flat_map own (s ∷ ss)) (flat_map nested (s ∷ ss)) e
     at (left k) others =
-        placed_left (absolute_text env.scope) (own s) (flat_map own ss) (nested s)
+        stands_left (absolute_text env.scope) (own s) (flat_map own ss) (nested s)
         (flat_map nested ss) (described env e) (each s e k)
     at (right k) others =
-        placed_right (absolute_text env.scope) (own s) (flat_map own ss) (nested s)
+        stands_right (absolute_text env.scope) (own s) (flat_map own ss) (nested s)
         (flat_map nested ss) (described env e) (others k)
 
 of_file_statement : (env : Environment) (s : StatementSyntax) (e : DeclaredExtension)

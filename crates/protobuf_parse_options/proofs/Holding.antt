@@ -288,7 +288,8 @@ parts_named name (f ∷ fs) =
 
 -- a place put under a name
 pub put_spot : {T : Type 0} (parts : T → List Text)
-    (old new : BTreeMap (String Global) (Vec DeclaredPlace)) (k : Known (Bor T)) (item : DeclaredPlace) (file : ℕ)
+    (old new : BTreeMap (String Global) (Vec DeclaredPlace)) (k : Known (Bor T))
+    (item : DeclaredPlace) (file : ℕ)
     (text name : Text) → spot_view item ≡ spot_known parts file k
     → text ≡ string_bytes k.name
     → group new name ≡ (if bytes_eq name text then group old name ++ item ∷ [] else group old name)
@@ -306,8 +307,9 @@ put_spot {T = T} parts old new k item file text name is named put =
 
 -- ---- further places
 
-module _ {T : Type 0} (list : Inside → List T) (picks : PickedFiles) (places : List DeclaredPlace) (i : ℕ)
-    (place : DeclaredPlace) (lt : i < length places) (is : place ≡ get_or places i place) where
+module _ {T : Type 0} (list : Inside → List T) (picks : PickedFiles)
+    (places : List DeclaredPlace) (i : ℕ) (place : DeclaredPlace) (lt : i < length places)
+    (is : place ≡ get_or places i place) where
   abbrev at_place : Option T
   at_place = at_spot list picks (spot_view place)
 
@@ -320,6 +322,7 @@ module _ {T : Type 0} (list : Inside → List T) (picks : PickedFiles) (places :
 
 -- ---- no places
 
-pub none_under : (places : BTreeMap (String Global) (Vec DeclaredPlace)) → IsEmpty places → (name : Text)
+pub none_under : (places : BTreeMap (String Global) (Vec DeclaredPlace)) → IsEmpty places
+    → (name : Text)
     → spots_under places name ≡ []
 none_under places none name = rw none refl

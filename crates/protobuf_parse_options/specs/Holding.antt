@@ -116,7 +116,8 @@ spots_of parts listed name n (f ∷ fs) =
     spots_in parts n name (listed f) ++ spots_of parts listed name (suc n) fs
 
 -- these places were added behind the others of each name
-abbrev pub AddsSpots : (old new : BTreeMap (String Global) (Vec DeclaredPlace)) → (Text → List Spot)
+abbrev pub AddsSpots : (old new : BTreeMap (String Global) (Vec DeclaredPlace))
+    → (Text → List Spot)
     → Type 0
 AddsSpots old new added = (name : Text) → spots_under new name ≡ spots_under old name ++ added name
 

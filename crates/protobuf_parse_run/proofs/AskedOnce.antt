@@ -21,10 +21,9 @@ use Rattle.protobuf_parse_run.specs.Walks.{FileRead}
 use Rattle.protobuf_parse_run.specs.Walks.{reads_in, checks}
 use Rattle.protobuf_parse_run.specs.Walks.{input_walk, events_after, events, until}
 use Rattle.protobuf_parse_run.specs.Run.{AreAnswered, AreAskedOnce, RunEnds, Files, IsAskedOnce}
-use Rattle.protobuf_parse_run.specs.Run.{RunsAsTold}
+use Rattle.protobuf_parse_run.specs.Run.{RunsAsTold, Legal}
 use Rattle.protobuf_parse_run.specs.Run.{fails, if_placed, if_reader, placed, placed_reads}
 use Rattle.protobuf_parse_run.specs.Run.{resolved_in}
-use Rattle.protobuf_parse_run.specs.Run.{Legal}
 use Rattle.protobuf_parse_run.proofs.Following.{AllFollow, all-follow, follows-front}
 use Rattle.protobuf_parse_run.proofs.Keeping.{bool_cases, has-last, keep-fresh, has-left}
 use Rattle.protobuf_parse_run.proofs.Keeping.{never_both}

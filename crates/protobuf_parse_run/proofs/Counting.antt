@@ -10,8 +10,7 @@ use Rattle.protobuf_parse_run.specs.Walks.{check}
 use Rattle.protobuf_parse_run.specs.Walks.{elab, has, keep, at, named, Trees, checks, import_paths}
 use Rattle.protobuf_parse_run.specs.Walks.{input_walk, events, events_after, reads_in}
 use Rattle.protobuf_parse_run.specs.Walks.{import_statements}
-use Rattle.protobuf_parse_run.specs.Run.{Files, IsCounted}
-use Rattle.protobuf_parse_run.specs.Run.{Legal}
+use Rattle.protobuf_parse_run.specs.Run.{Files, IsCounted, Legal}
 use Rattle.protobuf_parse_run.proofs.Keeping.{keep-extends}
 use Rattle.protobuf_parse_run.proofs.Inputs.{events-append, events-one}
 

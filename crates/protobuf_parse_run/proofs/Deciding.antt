@@ -12,11 +12,10 @@ use Rattle.protobuf_parse_run.specs.declared.loader.LoadedFile.{LoadedFile}
 use Rattle.protobuf_parse_run.specs.declared.log.ReadEntry.{ReadEntry}
 use Rattle.protobuf_parse_run.specs.declared.log.ReadOutcome.{ReadOutcome}
 use Rattle.protobuf_parse_run.specs.Walks.{Asked, among, Trees}
-use Rattle.protobuf_parse_run.specs.Run.{FilesAreListed, Files, HaveTrees, IsTree, IsTheTree}
+use Rattle.protobuf_parse_run.specs.Run.{FilesAreListed, Files, HaveTrees, IsTree, IsTheTree, Legal}
 use Rattle.protobuf_parse_run.specs.Run.{first_read}
 use Rattle.protobuf_parse_run.specs.Run.{text_given, text_read, HasTrees}
 use Rattle.protobuf_parse_run.specs.Loading.{AreKnown, LoadedEntry, GoesOn, IsDecided}
-use Rattle.protobuf_parse_run.specs.Run.{Legal}
 use Rattle.protobuf_parse_run.specs.Loading.{ReadsTree}
 use Rattle.protobuf_parse_run.specs.Loading.{file_at, read_paths}
 use Rattle.protobuf_parse_run.proofs.Keeping.{bool_cases, text-true}

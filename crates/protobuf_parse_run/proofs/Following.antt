@@ -14,8 +14,7 @@ use Rattle.protobuf_parse_run.specs.Walks.{load, check, elab, has, keep, among, 
 use Rattle.protobuf_parse_run.specs.Walks.{walks_joined, events_inside, walk, FileRead, reads_in}
 use Rattle.protobuf_parse_run.specs.Walks.{checks, input_name}
 use Rattle.protobuf_parse_run.specs.Walks.{asked_of, input_walk, events_after, events, until}
-use Rattle.protobuf_parse_run.specs.Run.{AreAnswered, first_read}
-use Rattle.protobuf_parse_run.specs.Run.{Legal}
+use Rattle.protobuf_parse_run.specs.Run.{AreAnswered, first_read, Legal}
 use Rattle.protobuf_parse_run.proofs.Keeping.{bool_cases, has-left, has-right, never_both, or_left}
 use Rattle.protobuf_parse_run.proofs.Keeping.{some_same, text-same, text-true}
 use Rattle.protobuf_parse_run.proofs.Steps.{has-asked}

@@ -6,9 +6,8 @@ use Rattle.protobuf_parse_run.specs.declared.fault.RunFault.{RunFault}
 use Rattle.protobuf_parse_run.specs.declared.log.ReadEntry.{ReadEntry}
 use Rattle.protobuf_parse_run.specs.Walks.{the_resolver, load, elab, has, Input, at, Event, keep}
 use Rattle.protobuf_parse_run.specs.Walks.{checks, input_walk, events_after, events, Trees}
-use Rattle.protobuf_parse_run.specs.Run.{Files}
+use Rattle.protobuf_parse_run.specs.Run.{Files, Legal}
 use Rattle.protobuf_parse_run.specs.Loading.{LoadedEntry, file_at, Goes, Good, Stops}
-use Rattle.protobuf_parse_run.specs.Run.{Legal}
 use Rattle.protobuf_parse_run.proofs.Keeping.{has-elab, not_true}
 use Rattle.protobuf_parse_run.proofs.Steps.{stops-more, file-none}
 

@@ -17,11 +17,10 @@ use Rattle.protobuf_parse_run.specs.declared.loader.LoadedAs.{LoadedAs}
 use Rattle.protobuf_parse_run.specs.declared.log.ReadEntry.{ReadEntry}
 use Rattle.protobuf_parse_run.specs.declared.log.ReadOutcome.{ReadOutcome}
 use Rattle.protobuf_parse_run.specs.Walks.{Asked, Event, load, keep, among, walk}
-use Rattle.protobuf_parse_run.specs.Run.{Files, IsTheTree, StandsAtEvent, StandsInCycle}
+use Rattle.protobuf_parse_run.specs.Run.{Files, IsTheTree, StandsAtEvent, StandsInCycle, Legal}
 use Rattle.protobuf_parse_run.specs.Run.{StandsInLong}
 use Rattle.protobuf_parse_run.specs.Run.{StandsInLoad, StandsInElab, text_given, is_nothing}
 use Rattle.protobuf_parse_run.specs.Loading.{LoadedEntry, IsElabFault, file_at, Grows, Good}
-use Rattle.protobuf_parse_run.specs.Run.{Legal}
 use Rattle.protobuf_parse_run.specs.Loading.{Stops}
 use Rattle.protobuf_parse_run.specs.Loading.{GoesOn, ReadsTree, IsPlaced, chain_texts}
 use Rattle.protobuf_parse_run.specs.Run.{OrMemory}

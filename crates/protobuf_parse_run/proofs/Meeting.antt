@@ -11,9 +11,8 @@ use Rattle.protobuf_parse_run.specs.declared.loader.Met.{Met}
 use Rattle.protobuf_parse_run.specs.declared.loader.LoadedAs.{LoadedAs}
 use Rattle.protobuf_parse_run.specs.declared.log.ReadEntry.{ReadEntry}
 use Rattle.protobuf_parse_run.specs.Walks.{Asked, Event, load, keep, among, import_paths, walk}
-use Rattle.protobuf_parse_run.specs.Run.{Files}
+use Rattle.protobuf_parse_run.specs.Run.{Files, Legal}
 use Rattle.protobuf_parse_run.specs.Loading.{LoadedEntry, GoesOn, Good, Grows, IsPlaced}
-use Rattle.protobuf_parse_run.specs.Run.{Legal}
 use Rattle.protobuf_parse_run.specs.Loading.{ReadsTree}
 use Rattle.protobuf_parse_run.specs.Loading.{Stops, file_at}
 use Rattle.protobuf_parse_run.specs.Frames.{IsNew, IsSame, Meets, StandsMet, done_in, owed}

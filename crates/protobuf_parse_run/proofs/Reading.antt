@@ -13,10 +13,9 @@ use Rattle.protobuf_parse_run.specs.declared.fault.RunFault.TheVariants as fault
 use Rattle.protobuf_parse_run.specs.declared.log.ReadEntry.{ReadEntry}
 use Rattle.protobuf_parse_run.specs.declared.log.ReadOutcome.{ReadOutcome}
 use Rattle.protobuf_parse_run.specs.Walks.{Asked}
-use Rattle.protobuf_parse_run.specs.Run.{IsTheTree, StandsInLoad}
+use Rattle.protobuf_parse_run.specs.Run.{IsTheTree, StandsInLoad, Legal}
 use Rattle.protobuf_parse_run.specs.Run.{text_given}
 use Rattle.protobuf_parse_run.specs.Loading.{ReadsTree}
-use Rattle.protobuf_parse_run.specs.Run.{Legal}
 use Rattle.protobuf_parse_run.specs.Run.{OrMemory}
 
 abbrev pub Noted : Text → ReadOutcome → List ReadEntry → List ReadEntry → Type 0

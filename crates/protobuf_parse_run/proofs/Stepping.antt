@@ -22,9 +22,8 @@ use Rattle.protobuf_parse_run.specs.Walks.{Asked, the_resolver, Event, load, ela
 use Rattle.protobuf_parse_run.specs.Walks.{Trees}
 use Rattle.protobuf_parse_run.specs.Walks.{import_paths, walks_joined, import_statements, walk}
 use Rattle.protobuf_parse_run.specs.Run.{Files, StandsInElab, environment_of, faults_at, first_read}
-use Rattle.protobuf_parse_run.specs.Run.{origin_given, plain_of}
+use Rattle.protobuf_parse_run.specs.Run.{origin_given, plain_of, Legal}
 use Rattle.protobuf_parse_run.specs.Loading.{AreKnown, FilesAreNumbered, LoadedEntry, GoesOn}
-use Rattle.protobuf_parse_run.specs.Run.{Legal}
 use Rattle.protobuf_parse_run.specs.Loading.{Good, Grows}
 use Rattle.protobuf_parse_run.specs.Loading.{IsAdded, IsLoaded, Leaves, Settled, Settles}
 use Rattle.protobuf_parse_run.specs.Loading.{SettlesOver}
@@ -184,7 +183,8 @@ module _ (legal : Legal) (files : Files) (kept events : List Event) (i : Text) (
       })
 
   -- an import that is loaded already
-  pub running-known : (stack : List LoadFrame) (old new : LoadFrame) (placed : LoadedAs) (im : Import)
+  pub running-known : (stack : List LoadFrame) (old new : LoadFrame) (placed : LoadedAs)
+      (im : Import)
       (meets more : ℕ) (inner : List Text) (loaded : List LoadedEntry) (log after : List ReadEntry)
       (r : Running meets stack old loaded log) → inner ≡ chain_of [] stack ++ frame_path old ∷ []
       → slice_get old.tree.statements.items old.next ≡ Some (file_statement.Import im)

@@ -19,9 +19,8 @@ use Rattle.protobuf_parse_run.specs.declared.log.ReadOutcome.{ReadOutcome}
 use Rattle.protobuf_parse_run.specs.Walks.{Asked, the_resolver, Event, cycle, long, load, elab, has}
 use Rattle.protobuf_parse_run.specs.Walks.{keep, among, import_paths, walk, FileRead, reads_in}
 use Rattle.protobuf_parse_run.specs.Run.{Files, HasTrees, faults_at, IsTree, IsTheTree, text_given}
-use Rattle.protobuf_parse_run.specs.Run.{first_read, fails, AreAnswered, StandsAtEvent}
+use Rattle.protobuf_parse_run.specs.Run.{first_read, fails, AreAnswered, StandsAtEvent, Legal}
 use Rattle.protobuf_parse_run.specs.Loading.{LoadedEntry, paths_of, file_at, read_paths}
-use Rattle.protobuf_parse_run.specs.Run.{Legal}
 use Rattle.protobuf_parse_run.specs.Loading.{Grows}
 use Rattle.protobuf_parse_run.specs.Loading.{Settled, path_shape, imports_shape, IsLoaded, Good}
 use Rattle.protobuf_parse_run.specs.Loading.{Halts}

@@ -12,12 +12,11 @@ use Rattle.protobuf_parse_run.specs.declared.log.ReadEntry.{ReadEntry}
 use Rattle.protobuf_parse_run.specs.declared.log.ReadOutcome.{ReadOutcome}
 use Rattle.protobuf_parse_run.specs.Walks.{the_resolver, Event, Input, named, events, until}
 use Rattle.protobuf_parse_run.specs.Run.{Files, AreDescriptors, HasTrees, IsAccepted, IsCaused}
-use Rattle.protobuf_parse_run.specs.Run.{RunIsRefused, IsBroken, MayRead, MayResolve, fails}
+use Rattle.protobuf_parse_run.specs.Run.{RunIsRefused, IsBroken, MayRead, MayResolve, fails, Legal}
 use Rattle.protobuf_parse_run.specs.Run.{shipped}
 use Rattle.protobuf_parse_run.specs.Run.{HaveTrees, RunsAsTold, MayAnswer}
 use Rattle.protobuf_parse_run.specs.Shipped.{IsNeverAsked, RunsByResolver, RunsWithShipped}
 use Rattle.protobuf_parse_run.specs.Loading.{LoadedEntry, Good, Stops, IsLoaded, paths_of}
-use Rattle.protobuf_parse_run.specs.Run.{Legal}
 use Rattle.protobuf_parse_run.specs.Loading.{tree_in}
 use Rattle.protobuf_parse_base.specs.PathViews.{path_buf_text}
 use Rattle.protobuf_parse_base.specs.declared.proto_path.path.ProtoPathBuf.{ProtoPathBuf}

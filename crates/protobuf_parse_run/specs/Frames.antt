@@ -23,9 +23,8 @@ use Rattle.protobuf_parse_run.specs.declared.log.ReadEntry.{ReadEntry}
 use Rattle.protobuf_parse_run.specs.Walks.{Asked, the_resolver, Event, load, elab, has, keep, among}
 use Rattle.protobuf_parse_run.specs.Walks.{Trees, walks_joined, public_paths_of, import_statements}
 use Rattle.protobuf_parse_run.specs.Walks.{walk}
-use Rattle.protobuf_parse_run.specs.Run.{Files, first_read}
+use Rattle.protobuf_parse_run.specs.Run.{Files, first_read, Legal}
 use Rattle.protobuf_parse_run.specs.Loading.{LoadedEntry, FilesAreNumbered, Good, IsNumbered}
-use Rattle.protobuf_parse_run.specs.Run.{Legal}
 use Rattle.protobuf_parse_run.specs.Loading.{Settled}
 use Rattle.protobuf_parse_run.specs.Loading.{Stops, file_at, path_shape, imports_shape, named_trees}
 use Rattle.protobuf_parse_run.specs.Loading.{read_paths}

@@ -283,8 +283,7 @@ abbrev pub Legal : Type 1
 Legal = Asked → Text → ReadOutcome → Type 0
 
 -- the entries are these reads in order, each with a legal answer
-abbrev pub AreAnswered : Legal → List FileRead → List ReadEntry
-    → Type 0
+abbrev pub AreAnswered : Legal → List FileRead → List ReadEntry → Type 0
 AreAnswered legal [] [] = Unit {0}
 AreAnswered legal (read ∷ reads) (entry ∷ log) =
     (path_buf_text entry.path ≡ read.path) × legal read.asked read.path entry.outcome
@@ -303,15 +302,15 @@ AreDescriptors files (p ∷ paths) (d ∷ ds) =
 AreDescriptors files _ _ = ⊥
 
 -- no event fails, and these are the descriptors of the files in order
-pub record IsAccepted (legal : Legal) (files : Files)
-    (events : List Event) (ds : List FileDescriptorProto) : Type 0 where
+pub record IsAccepted (legal : Legal) (files : Files) (events : List Event)
+    (ds : List FileDescriptorProto) : Type 0 where
   pub none_fails : find (fails files) events ≡ None
   pub reads : AreAnswered legal (reads_in events) files.reads
   pub descriptors : AreDescriptors files (elab_paths events) ds
 
 -- the fault stands at the first event that fails, and the reads are those up to and with it
-pub record RunIsRefused (legal : Legal) (files : Files)
-    (events : List Event) (f : RunFault) : Type 0 where
+pub record RunIsRefused (legal : Legal) (files : Files) (events : List Event) (f : RunFault)
+    : Type 0 where
   pub event : Event
   pub first : find (fails files) events ≡ Some event
   pub reads : AreAnswered legal (reads_in (until (fails files) events)) files.reads
@@ -319,16 +318,15 @@ pub record RunIsRefused (legal : Legal) (files : Files)
 
 -- memory ran out: the reads are those of a beginning of the events up to and with the first that
 -- fails
-pub record IsBroken (legal : Legal) (files : Files)
-    (events : List Event) (f : RunFault) : Type 0 where
+pub record IsBroken (legal : Legal) (files : Files) (events : List Event) (f : RunFault)
+    : Type 0 where
   pub memory : f ≡ fault.Memory
   pub done : List Event
   pub rest : List Event
   pub beginning : until (fails files) events ≡ done ++ rest
   pub reads : AreAnswered legal (reads_in done) files.reads
 
-abbrev pub RunEnds : Legal → Files → List Event
-    → Result (Vec FileDescriptorProto) RunFault → Type 0
+abbrev pub RunEnds : Legal → Files → List Event → Result (Vec FileDescriptorProto) RunFault → Type 0
 RunEnds legal files events (Ok ds) = IsAccepted legal files events ds.items
 RunEnds legal files events (Err f) = RunIsRefused legal files events f
     ⊎ IsBroken legal files events f
@@ -363,8 +361,8 @@ IsMet inputs bundled log meets result =
 -- A run over these inputs and bundled files read this log and ended so, whichever trees the texts
 -- have; each file is elaborated over the trees of just the files that it sees, in whatever order
 -- these are listed.
-abbrev pub RunsAsTold : Legal → List Input → List (Text × Text)
-    → List ReadEntry → Result (Vec FileDescriptorProto) RunFault → Type 0
+abbrev pub RunsAsTold : Legal → List Input → List (Text × Text) → List ReadEntry
+    → Result (Vec FileDescriptorProto) RunFault → Type 0
 RunsAsTold legal inputs bundled log result =
     (trees : Trees) (reached seen : Text → List Text) → HasTrees bundled log trees
     → FilesAreListed trees reached seen
@@ -400,8 +398,8 @@ placed inputs = flat_map if_placed inputs
 
 -- The log answers the first reads of the run, in order. The resolver is asked for distinct paths,
 -- and the reader for the first inputs at paths of their own, each once.
-pub record IsAskedOnce (legal : Legal) (trees : Trees)
-    (inputs : List Input) (log : List ReadEntry) : Type 0 where
+pub record IsAskedOnce (legal : Legal) (trees : Trees) (inputs : List Input) (log : List ReadEntry)
+    : Type 0 where
   pub reads : List FileRead
   pub later : List FileRead
   pub first : reads_in (events trees inputs) ≡ reads ++ later
@@ -411,7 +409,6 @@ pub record IsAskedOnce (legal : Legal) (trees : Trees)
   pub reader : placed inputs ≡ placed_reads reads ++ unasked
 
 -- So it is whichever trees the texts have that were read.
-abbrev pub AreAskedOnce : Legal → List Input → List (Text × Text)
-    → List ReadEntry → Type 0
+abbrev pub AreAskedOnce : Legal → List Input → List (Text × Text) → List ReadEntry → Type 0
 AreAskedOnce legal inputs bundled log = (trees : Trees) → HasTrees bundled log trees
     → IsAskedOnce legal trees inputs log

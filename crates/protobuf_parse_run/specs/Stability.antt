@@ -25,7 +25,7 @@ TreesAreOfTexts =
     → HasTrees old.bundled old.reads old.trees → HasTrees new.bundled new.reads new.trees
     → text_for new q ≡ text_for old q → new.trees q ≡ old.trees q
 
--- For all texts that were read there are such lists of files as the definitions speak of.
+-- Whatever was read, there are lists of just the files that each file reaches and sees.
 abbrev pub ListsAreThere : Type 0
 ListsAreThere = (bundled : List (Text × Text)) (log : List ReadEntry) → HaveLists bundled log
 

@@ -26,7 +26,7 @@ enum Failure {
 /// `args` are the two arguments, without the program's own name. They are looked at first, then a
 /// [`Parser`] with this one include and this one input runs, and its whole listing is made before
 /// any of it is written. The descriptors are left to the end of the process, which is expected to
-/// come next: letting go of them one by one would take a tenth of the whole time.
+/// come next: letting go of them one by one would take a tenth of the instructions.
 pub fn program<R: Files + AllocGlobal, O: Write, E: Write>(
     rt: &R,
     args: &[String],
