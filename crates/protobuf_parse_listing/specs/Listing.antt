@@ -25,9 +25,11 @@ use Rattle.protobuf_parse_model.specs.declared.descriptor.options.IdempotencyLev
 use Rattle.protobuf_parse_model.specs.declared.descriptor.options.IdempotencyLevel.TheVariants.{IdempotencyUnknown}
 use Rattle.protobuf_parse_model.specs.declared.descriptor.options.IdempotencyLevel.TheVariants.{NoSideEffects}
 use Rattle.protobuf_parse_model.specs.declared.descriptor.options.IdempotencyLevel.TheVariants.{Idempotent}
-use Rattle.protobuf_parse_model.specs.Options.{FileOptionsSet, MessageOptionsSet, FieldOptionsSet}
-use Rattle.protobuf_parse_model.specs.Options.{OneofOptionsSet, EnumOptionsSet, EnumValueOptionsSet}
-use Rattle.protobuf_parse_model.specs.Options.{ServiceOptionsSet, MethodOptionsSet}
+use Rattle.protobuf_parse_model.specs.Options.{FileOptionValues, MessageOptionValues}
+use Rattle.protobuf_parse_model.specs.Options.{FieldOptionValues}
+use Rattle.protobuf_parse_model.specs.Options.{OneofOptionValues, EnumOptionValues}
+use Rattle.protobuf_parse_model.specs.Options.{EnumValueOptionValues}
+use Rattle.protobuf_parse_model.specs.Options.{ServiceOptionValues, MethodOptionValues}
 use Rattle.protobuf_parse_model.specs.Descriptors.{Text, Range, FieldDescriptor, OneofDescriptor}
 use Rattle.protobuf_parse_model.specs.Descriptors.{EnumValueDescriptor, EnumDescriptor}
 use Rattle.protobuf_parse_model.specs.Descriptors.{MessageParts, MessageDescriptor, a_message}
@@ -129,7 +131,7 @@ abbrev pub setting_lines : ℕ → List Setting → Text
 setting_lines level settings = flat_map (setting_line level) settings
 
 -- numbers 1 to 11
-abbrev pub first_file_settings : FileOptionsSet → List Setting
+abbrev pub first_file_settings : FileOptionValues → List Setting
 first_file_settings o =
     text_setting (codes "java_package") o.java_package
     ∷ text_setting (codes "java_outer_classname") o.java_outer_classname
@@ -139,7 +141,7 @@ first_file_settings o =
     ∷ []
 
 -- numbers 16 to 31
-abbrev pub middle_file_settings : FileOptionsSet → List Setting
+abbrev pub middle_file_settings : FileOptionValues → List Setting
 middle_file_settings o =
     truth_setting (codes "cc_generic_services") o.cc_generic_services
     ∷ truth_setting (codes "java_generic_services") o.java_generic_services
@@ -151,7 +153,7 @@ middle_file_settings o =
     ∷ []
 
 -- numbers 36 to 45
-abbrev pub last_file_settings : FileOptionsSet → List Setting
+abbrev pub last_file_settings : FileOptionValues → List Setting
 last_file_settings o =
     text_setting (codes "objc_class_prefix") o.objc_class_prefix
     ∷ text_setting (codes "csharp_namespace") o.csharp_namespace
@@ -162,7 +164,7 @@ last_file_settings o =
     ∷ text_setting (codes "ruby_package") o.ruby_package
     ∷ []
 
-abbrev pub message_settings : MessageOptionsSet → List Setting
+abbrev pub message_settings : MessageOptionValues → List Setting
 message_settings o =
     truth_setting (codes "message_set_wire_format") o.message_set_wire_format
     ∷ truth_setting (codes "no_standard_descriptor_accessor") o.no_standard_descriptor_accessor
@@ -170,7 +172,7 @@ message_settings o =
     ∷ truth_setting (codes "map_entry") o.map_entry
     ∷ []
 
-abbrev pub field_settings : FieldOptionsSet → List Setting
+abbrev pub field_settings : FieldOptionValues → List Setting
 field_settings o =
     ctype_setting o.ctype
     ∷ truth_setting (codes "packed") o.packed
@@ -182,52 +184,52 @@ field_settings o =
     ∷ truth_setting (codes "debug_redact") o.debug_redact
     ∷ []
 
-abbrev pub enum_settings : EnumOptionsSet → List Setting
+abbrev pub enum_settings : EnumOptionValues → List Setting
 enum_settings o = truth_setting (codes "allow_alias") o.allow_alias
     ∷ truth_setting (codes "deprecated") o.deprecated ∷ []
 
-abbrev pub method_settings : MethodOptionsSet → List Setting
+abbrev pub method_settings : MethodOptionValues → List Setting
 method_settings o = truth_setting (codes "deprecated") o.deprecated
     ∷ idempotency_level_setting o.idempotency_level ∷ []
 
-unfoldable pub file_option_lines : ℕ → Option FileOptionsSet → Text
+unfoldable pub file_option_lines : ℕ → Option FileOptionValues → Text
 file_option_lines level None = []
 file_option_lines level (Some o) =
     setting_lines level (first_file_settings o) ++ setting_lines level (middle_file_settings o)
     ++ setting_lines level (last_file_settings o) ++ custom_line level o.custom
 
-unfoldable pub message_option_lines : ℕ → Option MessageOptionsSet → Text
+unfoldable pub message_option_lines : ℕ → Option MessageOptionValues → Text
 message_option_lines level None = []
 message_option_lines level (Some o) = setting_lines level (message_settings o)
     ++ custom_line level o.custom
 
-unfoldable pub field_option_lines : ℕ → Option FieldOptionsSet → Text
+unfoldable pub field_option_lines : ℕ → Option FieldOptionValues → Text
 field_option_lines level None = []
 field_option_lines level (Some o) = setting_lines level (field_settings o)
     ++ custom_line level o.custom
 
-unfoldable pub oneof_option_lines : ℕ → Option OneofOptionsSet → Text
+unfoldable pub oneof_option_lines : ℕ → Option OneofOptionValues → Text
 oneof_option_lines level None = []
 oneof_option_lines level (Some o) = custom_line level o.custom
 
-unfoldable pub enum_option_lines : ℕ → Option EnumOptionsSet → Text
+unfoldable pub enum_option_lines : ℕ → Option EnumOptionValues → Text
 enum_option_lines level None = []
 enum_option_lines level (Some o) = setting_lines level (enum_settings o)
     ++ custom_line level o.custom
 
-unfoldable pub enum_value_option_lines : ℕ → Option EnumValueOptionsSet → Text
+unfoldable pub enum_value_option_lines : ℕ → Option EnumValueOptionValues → Text
 enum_value_option_lines level None = []
 enum_value_option_lines level (Some o) =
     setting_line level (truth_setting (codes "deprecated") o.deprecated)
     ++ custom_line level o.custom
 
-unfoldable pub service_option_lines : ℕ → Option ServiceOptionsSet → Text
+unfoldable pub service_option_lines : ℕ → Option ServiceOptionValues → Text
 service_option_lines level None = []
 service_option_lines level (Some o) =
     setting_line level (truth_setting (codes "deprecated") o.deprecated)
     ++ custom_line level o.custom
 
-unfoldable pub method_option_lines : ℕ → Option MethodOptionsSet → Text
+unfoldable pub method_option_lines : ℕ → Option MethodOptionValues → Text
 method_option_lines level None = []
 method_option_lines level (Some o) = setting_lines level (method_settings o)
     ++ custom_line level o.custom

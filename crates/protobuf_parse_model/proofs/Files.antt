@@ -5,7 +5,7 @@ use Rattle.std.specs.Result.{IsErr, IsErrAnd}
 use Rattle.protobuf_parse_syntax.specs.Dependencies.{FileImports}
 use Rattle.protobuf_parse_model.specs.Descriptors.{Text}
 use Rattle.protobuf_parse_model.specs.FileParts.{FileParts, file_with}
-use Rattle.protobuf_parse_model.specs.Options.{FileOptionsSet}
+use Rattle.protobuf_parse_model.specs.Options.{FileOptionValues}
 use Rattle.protobuf_parse_model.specs.declared.error.ElabFailure.{ElabFailure}
 use Rattle.protobuf_parse_model.specs.declared.error.ElabFailure.TheVariants as failure
 use Rattle.protobuf_parse_model.specs.Faults.{Among, here, there, Blames, Elaborates, Fault}
@@ -39,7 +39,7 @@ faultless [] ys zs no_z no_y = rw (no_y, no_z) refl
 -- a descriptor, by what its parts say
 pub same_file : {name name' : Text} {«package» package' : Option Text} {syntax syntax' : Text}
     {imports imports' : FileImports} {parts parts' : FileParts}
-    {options options' : Option FileOptionsSet} → name ≡ name' → «package» ≡ package'
+    {options options' : Option FileOptionValues} → name ≡ name' → «package» ≡ package'
     → syntax ≡ syntax' → imports ≡ imports' → parts ≡ parts' → options ≡ options'
     → file_with name «package» syntax imports parts options
     ≡ file_with name' package' syntax' imports' parts' options'

@@ -17,7 +17,7 @@ use Rattle.protobuf_parse_syntax.specs.declared.tree.field.Scalar.{Scalar}
 use Rattle.protobuf_parse_syntax.specs.declared.tree.field.Scalar.TheVariants as word
 use Rattle.protobuf_parse_model.specs.declared.error.ElabErrorKind.TheVariants.{DanglingTypeName}
 use Rattle.protobuf_parse_model.specs.declared.descriptor.FieldType.TheVariants as kind
-use Rattle.protobuf_parse_model.specs.Options.{MessageOptionsSet}
+use Rattle.protobuf_parse_model.specs.Options.{MessageOptionValues}
 use Rattle.protobuf_parse_model.specs.Descriptors.{Text, FieldDescriptor, MessageParts}
 use Rattle.protobuf_parse_model.specs.Descriptors.{MessageDescriptor, messages_of_list}
 use Rattle.protobuf_parse_model.specs.Descriptors.{MethodDescriptor, ServiceDescriptor}
@@ -276,7 +276,7 @@ module _ (P M : Text → Type 0) (any : (name : Text) → M name → P name) (cu
 
   -- a message with fields alone
   message-with-named : (name : Text) (fields : List FieldDescriptor)
-      (options : Option MessageOptionsSet) → AllByRecursion FieldIsNamed fields
+      (options : Option MessageOptionValues) → AllByRecursion FieldIsNamed fields
       → MessageIsNamed (message_with name fields options)
   message-with-named name fields options h =
       record { fields = all-both FieldIsNamed fields [] h tt; extensions = tt }

@@ -1,7 +1,7 @@
 -- The names of values are those of what is seen of them.
 use Rattle.std.proofs.Common.{◌≡◌, List, [], ◌∷◌, map, refl, ap, Bor}
-use Rattle.protobuf_parse_syntax.specs.Trees.{EnumValueSyntax, MethodSyntax, method_view}
-use Rattle.protobuf_parse_syntax.specs.Trees.{value_view}
+use Rattle.protobuf_parse_syntax.specs.Trees.{EnumValueSyntax, MethodSyntax, method_syntax}
+use Rattle.protobuf_parse_syntax.specs.Trees.{value_syntax}
 use Rattle.protobuf_parse_syntax.specs.declared.tree.declaration.Method.{Method}
 use Rattle.protobuf_parse_syntax.specs.declared.tree.declaration.EnumValue.{EnumValue}
 use Rattle.protobuf_parse_model.specs.declared.descriptor.DescriptorProto.{DescriptorProto}
@@ -48,14 +48,14 @@ pub services_named : (ss : List ServiceDescriptorProto)
 services_named ss = names_seen _ service_view ss
 
 pub values_named : (vs : List (Bor EnumValue))
-    → map (λ (v : Bor EnumValue). (value_view v.now).name) vs
+    → map (λ (v : Bor EnumValue). (value_syntax v.now).name) vs
     ≡ map (λ (v : EnumValueSyntax). v.name) (values_seen vs)
-values_named vs = names_seen (λ (v : EnumValueSyntax). v.name) (λ v. value_view v.now) vs
+values_named vs = names_seen (λ (v : EnumValueSyntax). v.name) (λ v. value_syntax v.now) vs
 
 pub methods_named : (ms : List (Bor Method))
-    → map (λ (m : Bor Method). (method_view m.now).name) ms
+    → map (λ (m : Bor Method). (method_syntax m.now).name) ms
     ≡ map (λ (m : MethodSyntax). m.name) (methods_seen ms)
-methods_named ms = names_seen (λ (m : MethodSyntax). m.name) (λ m. method_view m.now) ms
+methods_named ms = names_seen (λ (m : MethodSyntax). m.name) (λ m. method_syntax m.now) ms
 
 -- ---- what closes the refusals of what has a name twice
 

@@ -23,8 +23,8 @@ use Rattle.protobuf_parse_syntax.specs.declared.tree.declaration.Message.{Messag
 use Rattle.protobuf_parse_syntax.specs.declared.tree.declaration.MessageStatement.TheVariants as statement
 use Rattle.protobuf_parse_syntax.specs.declared.tree.field.FieldStatement.{FieldStatement}
 use Rattle.protobuf_parse_syntax.specs.Trees.{ExtendSyntax, FieldStatementSyntax, FileSyntax}
-use Rattle.protobuf_parse_syntax.specs.Trees.{field_statement_view, MessageSyntax}
-use Rattle.protobuf_parse_syntax.specs.Trees.{message_statement_view, message_view}
+use Rattle.protobuf_parse_syntax.specs.Trees.{field_statement_syntax, MessageSyntax}
+use Rattle.protobuf_parse_syntax.specs.Trees.{message_statement_syntax, message_syntax}
 use Rattle.protobuf_parse_model.specs.declared.scope.seen.DeclarationKind.TheVariants as kind
 use Rattle.protobuf_parse_model.specs.declared.scope.seen.Declaration.{Declaration}
 use Rattle.protobuf_parse_model.specs.declared.scope.seen.Declarations.{Declarations}
@@ -306,26 +306,26 @@ flat_map-inside f g (x ∷ xs) = ap (λ ys. flat_map f (g x) ++ ys) (flat_map-in
 pub adds_extension : (old between new : Declarations) (file : ℕ) (scope : Scope) (e : ExtendSyntax)
     (xs : List FieldStatement) (i : ℕ) (x : FieldStatement) → i < length xs → x ≡ get_or xs i x
     → Adds extension_entry old between file
-    (extend_extensions scope (record e { fields = map field_statement_view (take i xs) }))
-    → AddsOne between new (full_name scope (field_statement_name (field_statement_view x)))
+    (extend_extensions scope (record e { fields = map field_statement_syntax (take i xs) }))
+    → AddsOne between new (full_name scope (field_statement_name (field_statement_syntax x)))
     (record { file = file; kind = kind.Extension })
     → Adds extension_entry old new file
-    (extend_extensions scope (record e { fields = map field_statement_view (take (i + 1) xs) }))
+    (extend_extensions scope (record e { fields = map field_statement_syntax (take (i + 1) xs) }))
 adds_extension old between new file scope e xs i x lt is so_far more =
-    let made = map_more field_statement_view xs i x lt in
-    let at : map field_statement_view (take (i + 1) xs) ≡ map field_statement_view (take i xs)
-    ++ field_statement_view x ∷ [] = made
-    ∙ ap (λ z. map field_statement_view (take i xs) ++ field_statement_view z ∷ []) (sym is) in
+    let made = map_more field_statement_syntax xs i x lt in
+    let at : map field_statement_syntax (take (i + 1) xs) ≡ map field_statement_syntax (take i xs)
+    ++ field_statement_syntax x ∷ [] = made
+    ∙ ap (λ z. map field_statement_syntax (take i xs) ++ field_statement_syntax z ∷ []) (sym is) in
     let all =
-    sym (map-append make (map field_statement_view (take i xs)) (field_statement_view x ∷ []))
+    sym (map-append make (map field_statement_syntax (take i xs)) (field_statement_syntax x ∷ []))
     ∙ ap (map make) (sym at) in
     subst (λ (ds : List DeclaredExtension). Adds extension_entry old new file ds) all
     (adds_more extension_entry old between new file
-    (map make (map field_statement_view (take i xs)))
-    (make (field_statement_view x) ∷ []) so_far
+    (map make (map field_statement_syntax (take i xs)))
+    (make (field_statement_syntax x) ∷ []) so_far
     (adds_single extension_entry between new
-    (full_name scope (field_statement_name (field_statement_view x))) file
-    (make (field_statement_view x)) more refl))
+    (full_name scope (field_statement_name (field_statement_syntax x))) file
+    (make (field_statement_syntax x)) more refl))
   where
     make : FieldStatementSyntax → DeclaredExtension
     make f = declare scope (field_statement_name f)
@@ -334,40 +334,40 @@ adds_extension old between new file scope e xs i x lt is so_far more =
 -- ---- messages inside messages
 
 pub types_of-view : (scope : Scope) (m : Message)
-    → types_of scope (message_statement_view (statement.Message m))
-    ≡ message_types scope (message_view m)
+    → types_of scope (message_statement_syntax (statement.Message m))
+    ≡ message_types scope (message_syntax m)
 types_of-view scope m = ap (types_of scope) (views_message m)
-    ∙ types_of_message scope (message_view m)
+    ∙ types_of_message scope (message_syntax m)
 
 pub generated_of-view : (scope : Scope) (m : Message)
-    → generated_of scope (message_statement_view (statement.Message m))
-    ≡ flat_map (generated_of (inside scope (message_view m).name)) (message_view m).body
+    → generated_of scope (message_statement_syntax (statement.Message m))
+    ≡ flat_map (generated_of (inside scope (message_syntax m).name)) (message_syntax m).body
 generated_of-view scope m = ap (generated_of scope) (views_message m)
-    ∙ generated_of_message scope (message_view m)
+    ∙ generated_of_message scope (message_syntax m)
 
 pub extensions_of-view : (scope : Scope) (m : Message)
-    → extensions_of scope (message_statement_view (statement.Message m))
-    ≡ flat_map (extensions_of (inside scope (message_view m).name)) (message_view m).body
+    → extensions_of scope (message_statement_syntax (statement.Message m))
+    ≡ flat_map (extensions_of (inside scope (message_syntax m).name)) (message_syntax m).body
 extensions_of-view scope m = ap (extensions_of scope) (views_message m)
-    ∙ extensions_of_message scope (message_view m)
+    ∙ extensions_of_message scope (message_syntax m)
 
 pub message_types-view : (scope : Scope) (m : Message)
-    → message_types scope (message_view m) ≡ declare scope (string_bytes m.name) a_message
+    → message_types scope (message_syntax m) ≡ declare scope (string_bytes m.name) a_message
     ∷ flat_map (types_of (inside scope (string_bytes m.name)))
-    (map message_statement_view m.body.items)
+    (map message_statement_syntax m.body.items)
 message_types-view scope m = ap (message_types scope) (view_parts m)
 
 pub generated-view : (scope : Scope) (m : Message)
-    → flat_map (generated_of (inside scope (message_view m).name)) (message_view m).body
+    → flat_map (generated_of (inside scope (message_syntax m).name)) (message_syntax m).body
     ≡ flat_map (generated_of (inside scope (string_bytes m.name)))
-    (map message_statement_view m.body.items)
+    (map message_statement_syntax m.body.items)
 generated-view scope m =
     ap (λ (x : MessageSyntax). flat_map (generated_of (inside scope x.name)) x.body) (view_parts m)
 
 pub extensions-view : (scope : Scope) (m : Message)
-    → flat_map (extensions_of (inside scope (message_view m).name)) (message_view m).body
+    → flat_map (extensions_of (inside scope (message_syntax m).name)) (message_syntax m).body
     ≡ flat_map (extensions_of (inside scope (string_bytes m.name)))
-    (map message_statement_view m.body.items)
+    (map message_statement_syntax m.body.items)
 extensions-view scope m =
     ap (λ (x : MessageSyntax). flat_map (extensions_of (inside scope x.name)) x.body) (view_parts m)
 

@@ -20,23 +20,23 @@ use Rattle.protobuf_parse_syntax.specs.declared.tree.declaration.MessageStatemen
 use Rattle.protobuf_parse_syntax.specs.declared.tree.declaration.Extend.{Extend}
 
 pub views_message : (m : Message)
-    → (tree.message_view m).body ≡ map tree.message_statement_view m.body.items
+    → (tree.message_syntax m).body ≡ map tree.message_statement_syntax m.body.items
 views_message m = search (rules, the_lemmas, fold_out-Message)
 
 pub views_nested : (m : Message)
-    → tree.message_statement_view (is_message m) ≡ tree.nested_message (tree.message_view m)
-views_nested m = ap tree.message_statement_view (sym (rolls-Message m))
+    → tree.message_statement_syntax (is_message m) ≡ tree.nested_message (tree.message_syntax m)
+views_nested m = ap tree.message_statement_syntax (sym (rolls-Message m))
     ∙ fold-roll-MessageStatement MessageStatementSyntax MessageSyntax tree.message_statement_step
     tree.message_step (layer.MessageStatement-F.Message m)
 
 pub views_extend : (e : Extend)
-    → tree.message_statement_view (is_extend e) ≡ tree.message_extend (tree.extend_view e)
-views_extend e = ap tree.message_statement_view (sym (rolls-Extend e))
+    → tree.message_statement_syntax (is_extend e) ≡ tree.message_extend (tree.extend_syntax e)
+views_extend e = ap tree.message_statement_syntax (sym (rolls-Extend e))
     ∙ fold-roll-MessageStatement MessageStatementSyntax MessageSyntax tree.message_statement_step
     tree.message_step (layer.MessageStatement-F.Extend e)
 
 pub views_ident : (name : String Global)
-    → tree.constant_view (is_ident name) ≡ tree.dotted (string_bytes name)
-views_ident name = ap tree.constant_view (sym (rolls-Ident name))
+    → tree.constant_syntax (is_ident name) ≡ tree.dotted (string_bytes name)
+views_ident name = ap tree.constant_syntax (sym (rolls-Ident name))
     ∙ fold-roll-ProtobufConstant ConstantSyntax ConstantFieldSyntax tree.constant_step
     tree.constant_field_step (constant_layer.ProtobufConstant-F.Ident name)

@@ -12,7 +12,7 @@ use Rattle.std.specs.Borrow.{Bor}
 use Rattle.std.specs.List.{find, last_or}
 use Rattle.protobuf_parse_syntax.specs.Trees.{ConstantSyntax, truth, dotted, string}
 use Rattle.protobuf_parse_syntax.specs.Trees.{OptionNameSyntax, builtin, custom, OptionSyntax}
-use Rattle.protobuf_parse_syntax.specs.Trees.{option_view}
+use Rattle.protobuf_parse_syntax.specs.Trees.{option_syntax}
 use Rattle.protobuf_parse_syntax.specs.declared.tree.option.ProtobufOption.{ProtobufOption}
 use Rattle.protobuf_parse_syntax.specs.Decoder.{text_of}
 use Rattle.protobuf_parse_model.specs.declared.error.ElabErrorKind.TheVariants.{StrLitDecode}
@@ -41,7 +41,7 @@ use Rattle.protobuf_parse_model.specs.Duplicates.{fault, stands_in}
 
 -- statements without where they lie in memory
 abbrev pub options_seen : List (Bor ProtobufOption) → List OptionSyntax
-options_seen os = map (λ (o : Bor ProtobufOption). option_view o.now) os
+options_seen os = map (λ (o : Bor ProtobufOption). option_syntax o.now) os
 
 -- the values that statements give to the built-in option of that name, in order
 abbrev pub value_if_named : Text → ConstantSyntax → OptionNameSyntax → List ConstantSyntax

@@ -35,13 +35,13 @@ use Rattle.protobuf_parse_model.specs.declared.convert.lists.DeclaredFields.{Dec
 use Rattle.protobuf_parse_model.specs.declared.convert.body.Body.{Body}
 use Rattle.protobuf_parse_syntax.specs.Trees.{OptionSyntax, FieldStatementSyntax}
 use Rattle.protobuf_parse_syntax.specs.Trees.{MessageStatementSyntax, ReservedSyntax}
-use Rattle.protobuf_parse_syntax.specs.Trees.{EnumValueSyntax, MethodSyntax, reserved_view}
-use Rattle.protobuf_parse_syntax.specs.Trees.{value_view, method_view, field_statement_view}
+use Rattle.protobuf_parse_syntax.specs.Trees.{EnumValueSyntax, MethodSyntax, reserved_syntax}
+use Rattle.protobuf_parse_syntax.specs.Trees.{value_syntax, method_syntax, field_statement_syntax}
 use Rattle.protobuf_parse_syntax.specs.declared.tree.field.FieldStatement.{FieldStatement}
 use Rattle.protobuf_parse_syntax.specs.declared.tree.declaration.Method.{Method}
 use Rattle.protobuf_parse_syntax.specs.declared.tree.declaration.Reserved.{Reserved}
 use Rattle.protobuf_parse_syntax.specs.declared.tree.declaration.EnumValue.{EnumValue}
-use Rattle.protobuf_parse_model.specs.Options.{FieldOptionsSet, MessageOptionsSet}
+use Rattle.protobuf_parse_model.specs.Options.{FieldOptionValues, MessageOptionValues}
 use Rattle.protobuf_parse_model.specs.Options.{boxed_options_view, message_options_view}
 use Rattle.protobuf_parse_model.specs.OptionMessages.{field_options, message_options}
 use Rattle.protobuf_parse_model.specs.Fields.{FieldTypeOf}
@@ -58,16 +58,16 @@ resolved_view r = record { kind = r.kind; name = option_map string_bytes r.name 
 
 -- what references to parts of the tree see
 abbrev pub reserves_seen : List (Bor Reserved) → List ReservedSyntax
-reserves_seen rs = map (λ (r : Bor Reserved). reserved_view r.now) rs
+reserves_seen rs = map (λ (r : Bor Reserved). reserved_syntax r.now) rs
 
 abbrev pub values_seen : List (Bor EnumValue) → List EnumValueSyntax
-values_seen vs = map (λ (v : Bor EnumValue). value_view v.now) vs
+values_seen vs = map (λ (v : Bor EnumValue). value_syntax v.now) vs
 
 abbrev pub methods_seen : List (Bor Method) → List MethodSyntax
-methods_seen ms = map (λ (m : Bor Method). method_view m.now) ms
+methods_seen ms = map (λ (m : Bor Method). method_syntax m.now) ms
 
 abbrev pub statements_seen : List (Bor FieldStatement) → List FieldStatementSyntax
-statements_seen ss = map (λ (s : Bor FieldStatement). field_statement_view s.now) ss
+statements_seen ss = map (λ (s : Bor FieldStatement). field_statement_syntax s.now) ss
 
 -- a field, and the message behind it, if one stands there
 pub record FieldAndMessage : Type 0 where
@@ -173,7 +173,7 @@ pub record RestParts : Type 0 where
   pub extension_range : List Range
   pub reserved_range : List Range
   pub reserved_name : List Text
-  pub options : Option MessageOptionsSet
+  pub options : Option MessageOptionValues
 
 abbrev pub rest_view : Rest → RestParts
 rest_view r =
@@ -221,7 +221,7 @@ rest_of env body =
 pub record Said : Type 0 where
   pub default_value : Option Text
   pub json_name : Text
-  pub options : Option FieldOptionsSet
+  pub options : Option FieldOptionValues
 
 abbrev pub said_view : FieldSaid → Said
 said_view s =

@@ -4,9 +4,11 @@
 use Rattle.std.specs.Prelude.{◌≡◌, ℕ, ℤ, Bool, List, [], ◌∷◌, Option, map, option_map, refl}
 use Rattle.std.specs.Prelude.{string_bytes}
 use Rattle.protobuf_parse_syntax.specs.declared.tree.field.Label.{Label}
-use Rattle.protobuf_parse_model.specs.Options.{FileOptionsSet, MessageOptionsSet, FieldOptionsSet}
-use Rattle.protobuf_parse_model.specs.Options.{OneofOptionsSet, EnumOptionsSet, EnumValueOptionsSet}
-use Rattle.protobuf_parse_model.specs.Options.{ServiceOptionsSet, MethodOptionsSet}
+use Rattle.protobuf_parse_model.specs.Options.{FileOptionValues, MessageOptionValues}
+use Rattle.protobuf_parse_model.specs.Options.{FieldOptionValues}
+use Rattle.protobuf_parse_model.specs.Options.{OneofOptionValues, EnumOptionValues}
+use Rattle.protobuf_parse_model.specs.Options.{EnumValueOptionValues}
+use Rattle.protobuf_parse_model.specs.Options.{ServiceOptionValues, MethodOptionValues}
 use Rattle.protobuf_parse_model.specs.Options.{file_options_view, message_options_view}
 use Rattle.protobuf_parse_model.specs.Options.{boxed_options_view, oneof_options_view}
 use Rattle.protobuf_parse_model.specs.Options.{enum_options_view, enum_value_options_view}
@@ -47,23 +49,23 @@ pub record FieldDescriptor : Type 0 where
   pub oneof_index : Option ℤ
   pub json_name : Text
   pub proto3_optional : Bool
-  pub options : Option FieldOptionsSet
+  pub options : Option FieldOptionValues
 
 pub record OneofDescriptor : Type 0 where
   pub name : Text
-  pub options : Option OneofOptionsSet
+  pub options : Option OneofOptionValues
 
 pub record EnumValueDescriptor : Type 0 where
   pub name : Text
   pub number : ℤ
-  pub options : Option EnumValueOptionsSet
+  pub options : Option EnumValueOptionValues
 
 pub record EnumDescriptor : Type 0 where
   pub name : Text
   pub value : List EnumValueDescriptor
   pub reserved_range : List Range
   pub reserved_name : List Text
-  pub options : Option EnumOptionsSet
+  pub options : Option EnumOptionValues
 
 -- all of a message but the messages inside it
 pub record MessageParts : Type 0 where
@@ -75,7 +77,7 @@ pub record MessageParts : Type 0 where
   pub extension_range : List Range
   pub reserved_range : List Range
   pub reserved_name : List Text
-  pub options : Option MessageOptionsSet
+  pub options : Option MessageOptionValues
 
 -- a message, with the messages inside it
 mutual
@@ -105,12 +107,12 @@ pub record MethodDescriptor : Type 0 where
   pub output_type : Text
   pub client_streaming : Bool
   pub server_streaming : Bool
-  pub options : Option MethodOptionsSet
+  pub options : Option MethodOptionValues
 
 pub record ServiceDescriptor : Type 0 where
   pub name : Text
   pub method : List MethodDescriptor
-  pub options : Option ServiceOptionsSet
+  pub options : Option ServiceOptionValues
 
 pub record FileDescriptor : Type 0 where
   pub name : Option Text
@@ -123,7 +125,7 @@ pub record FileDescriptor : Type 0 where
   pub enum_type : List EnumDescriptor
   pub service : List ServiceDescriptor
   pub extension : List FieldDescriptor
-  pub options : Option FileOptionsSet
+  pub options : Option FileOptionValues
 
 -- ---- what the Rust values say
 

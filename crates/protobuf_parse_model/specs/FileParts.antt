@@ -8,7 +8,7 @@ use Rattle.protobuf_parse_model.specs.Descriptors.{Text, FieldDescriptor, EnumDe
 use Rattle.protobuf_parse_model.specs.Descriptors.{MessageDescriptor, ServiceDescriptor, enum_view}
 use Rattle.protobuf_parse_model.specs.Descriptors.{field_view, message_view, service_view}
 use Rattle.protobuf_parse_model.specs.Descriptors.{FileDescriptor}
-use Rattle.protobuf_parse_model.specs.Options.{FileOptionsSet}
+use Rattle.protobuf_parse_model.specs.Options.{FileOptionValues}
 use Rattle.protobuf_parse_model.specs.Duplicates.{duplicates}
 use Rattle.protobuf_parse_model.specs.Environment.{Environment}
 use Rattle.protobuf_parse_model.specs.Faults.{Fault}
@@ -66,7 +66,7 @@ parts_faults p =
 
 -- a file of these parts
 abbrev pub file_with : (name : Text) («package» : Option Text) (syntax : Text)
-    → FileImports → FileParts → Option FileOptionsSet → FileDescriptor
+    → FileImports → FileParts → Option FileOptionValues → FileDescriptor
 file_with name «package» syntax imports parts options = record {
   name = Some name;
   «package» = «package»;

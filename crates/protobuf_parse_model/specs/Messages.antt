@@ -22,7 +22,7 @@ use Rattle.protobuf_parse_syntax.specs.Trees.{more_statements, MessageSyntax}
 use Rattle.protobuf_parse_syntax.specs.declared.tree.field.Label.{Label}
 use Rattle.protobuf_parse_syntax.specs.declared.tree.field.Label.TheVariants.{Optional}
 use Rattle.protobuf_parse_model.specs.declared.error.ElabErrorKind.TheVariants.{RangeEndOverflow}
-use Rattle.protobuf_parse_model.specs.Options.{MessageOptionsSet}
+use Rattle.protobuf_parse_model.specs.Options.{MessageOptionValues}
 use Rattle.protobuf_parse_model.specs.Descriptors.{Text, Range, FieldDescriptor, OneofDescriptor}
 use Rattle.protobuf_parse_model.specs.Descriptors.{EnumDescriptor, MessageDescriptor, a_message}
 use Rattle.protobuf_parse_model.specs.Descriptors.{no_messages, messages_of_list}
@@ -46,7 +46,8 @@ use Rattle.protobuf_parse_model.specs.Enums.{enum_of, enum_faults, ranges_reserv
 -- ---- the messages behind maps and groups
 
 -- a message with fields and options alone
-abbrev pub message_with : Text → List FieldDescriptor → Option MessageOptionsSet → MessageDescriptor
+abbrev pub message_with : Text → List FieldDescriptor → Option MessageOptionValues
+    → MessageDescriptor
 message_with name fields options = a_message (record {
   name = name;
   field = fields;

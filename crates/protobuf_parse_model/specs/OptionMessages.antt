@@ -2,15 +2,17 @@
 -- statements that set its options.
 use Rattle.std.specs.Prelude.{true, List, [], codes, Option, Some, None}
 use Rattle.protobuf_parse_syntax.specs.Trees.{OptionSyntax}
-use Rattle.protobuf_parse_model.specs.Options.{FileOptionsSet, MessageOptionsSet, FieldOptionsSet}
-use Rattle.protobuf_parse_model.specs.Options.{OneofOptionsSet, EnumOptionsSet, EnumValueOptionsSet}
-use Rattle.protobuf_parse_model.specs.Options.{ServiceOptionsSet, MethodOptionsSet}
+use Rattle.protobuf_parse_model.specs.Options.{FileOptionValues, MessageOptionValues}
+use Rattle.protobuf_parse_model.specs.Options.{FieldOptionValues}
+use Rattle.protobuf_parse_model.specs.Options.{OneofOptionValues, EnumOptionValues}
+use Rattle.protobuf_parse_model.specs.Options.{EnumValueOptionValues}
+use Rattle.protobuf_parse_model.specs.Options.{ServiceOptionValues, MethodOptionValues}
 use Rattle.protobuf_parse_model.specs.BuiltinOptions.{text_option, truth_option, word_option}
 use Rattle.protobuf_parse_model.specs.BuiltinOptions.{where_any, optimize_modes, c_types, js_types}
 use Rattle.protobuf_parse_model.specs.BuiltinOptions.{idempotency_levels}
 use Rattle.protobuf_parse_model.specs.Descriptors.{Text}
 
-abbrev pub file_options : Text → List OptionSyntax → Option FileOptionsSet
+abbrev pub file_options : Text → List OptionSyntax → Option FileOptionValues
 file_options custom os = where_any os (record {
   java_package = text_option os (codes "java_package");
   java_outer_classname = text_option os (codes "java_outer_classname");
@@ -34,7 +36,7 @@ file_options custom os = where_any os (record {
   custom = custom;
 })
 
-abbrev pub message_options : Text → List OptionSyntax → Option MessageOptionsSet
+abbrev pub message_options : Text → List OptionSyntax → Option MessageOptionValues
 message_options custom os = where_any os (record {
   message_set_wire_format = truth_option os (codes "message_set_wire_format");
   no_standard_descriptor_accessor = truth_option os (codes "no_standard_descriptor_accessor");
@@ -44,7 +46,7 @@ message_options custom os = where_any os (record {
 })
 
 -- of the message behind a map
-abbrev pub entry_options : Option MessageOptionsSet
+abbrev pub entry_options : Option MessageOptionValues
 entry_options =
     Some (record {
       message_set_wire_format = None;
@@ -54,7 +56,7 @@ entry_options =
       custom = [];
     })
 
-abbrev pub field_options : Text → List OptionSyntax → Option FieldOptionsSet
+abbrev pub field_options : Text → List OptionSyntax → Option FieldOptionValues
 field_options custom os = where_any os (record {
   ctype = word_option c_types os (codes "ctype");
   packed = truth_option os (codes "packed");
@@ -67,29 +69,29 @@ field_options custom os = where_any os (record {
   custom = custom;
 })
 
-abbrev pub oneof_options : Text → List OptionSyntax → Option OneofOptionsSet
+abbrev pub oneof_options : Text → List OptionSyntax → Option OneofOptionValues
 oneof_options custom os = where_any os (record { custom = custom })
 
-abbrev pub enum_options : Text → List OptionSyntax → Option EnumOptionsSet
+abbrev pub enum_options : Text → List OptionSyntax → Option EnumOptionValues
 enum_options custom os = where_any os (record {
   allow_alias = truth_option os (codes "allow_alias");
   deprecated = truth_option os (codes "deprecated");
   custom = custom;
 })
 
-abbrev pub enum_value_options : Text → List OptionSyntax → Option EnumValueOptionsSet
+abbrev pub enum_value_options : Text → List OptionSyntax → Option EnumValueOptionValues
 enum_value_options custom os = where_any os (record {
   deprecated = truth_option os (codes "deprecated");
   custom = custom;
 })
 
-abbrev pub service_options : Text → List OptionSyntax → Option ServiceOptionsSet
+abbrev pub service_options : Text → List OptionSyntax → Option ServiceOptionValues
 service_options custom os = where_any os (record {
   deprecated = truth_option os (codes "deprecated");
   custom = custom;
 })
 
-abbrev pub method_options : Text → List OptionSyntax → Option MethodOptionsSet
+abbrev pub method_options : Text → List OptionSyntax → Option MethodOptionValues
 method_options custom os = where_any os (record {
   deprecated = truth_option os (codes "deprecated");
   idempotency_level = word_option idempotency_levels os (codes "idempotency_level");

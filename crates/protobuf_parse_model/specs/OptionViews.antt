@@ -3,7 +3,7 @@
 use Rattle.std.specs.Prelude.{◌≡◌, ℕ, List, map, Option, option_map, String, string_bytes}
 use Rattle.std.specs.Borrow.{Bor}
 use Rattle.std.specs.Global.{Global}
-use Rattle.protobuf_parse_syntax.specs.Trees.{ConstantSyntax, constant_view}
+use Rattle.protobuf_parse_syntax.specs.Trees.{ConstantSyntax, constant_syntax}
 use Rattle.protobuf_parse_syntax.specs.declared.tree.constant.ProtobufConstant.{ProtobufConstant}
 use Rattle.protobuf_parse_syntax.specs.declared.tree.option.ProtobufOption.{ProtobufOption}
 use Rattle.protobuf_parse_model.specs.declared.convert.options.tables.BuiltinKind.{BuiltinKind}
@@ -13,7 +13,7 @@ use Rattle.protobuf_parse_model.specs.BuiltinOptions.{options_seen, Words, a_tex
 use Rattle.protobuf_parse_model.specs.Descriptors.{Text}
 
 abbrev pub constant_seen : Bor ProtobufConstant → ConstantSyntax
-constant_seen c = constant_view c.now
+constant_seen c = constant_syntax c.now
 
 -- what the option of that name is set to, if it is
 abbrev pub IsTextOption : List (Bor ProtobufOption) → Text → Option (String Global) → Type 0

@@ -15,7 +15,7 @@ use Rattle.protobuf_parse_model.specs.declared.descriptor.options.EnumValueOptio
 use Rattle.protobuf_parse_model.specs.declared.descriptor.options.ServiceOptions.{ServiceOptions}
 use Rattle.protobuf_parse_model.specs.declared.descriptor.options.MethodOptions.{MethodOptions}
 
-pub record FileOptionsSet : Type 0 where
+pub record FileOptionValues : Type 0 where
   pub java_package : Option (List ℕ)
   pub java_outer_classname : Option (List ℕ)
   pub optimize_for : Option OptimizeMode
@@ -37,14 +37,14 @@ pub record FileOptionsSet : Type 0 where
   pub ruby_package : Option (List ℕ)
   pub custom : List ℕ
 
-pub record MessageOptionsSet : Type 0 where
+pub record MessageOptionValues : Type 0 where
   pub message_set_wire_format : Option Bool
   pub no_standard_descriptor_accessor : Option Bool
   pub deprecated : Option Bool
   pub map_entry : Option Bool
   pub custom : List ℕ
 
-pub record FieldOptionsSet : Type 0 where
+pub record FieldOptionValues : Type 0 where
   pub ctype : Option CType
   pub packed : Option Bool
   pub deprecated : Option Bool
@@ -55,28 +55,28 @@ pub record FieldOptionsSet : Type 0 where
   pub debug_redact : Option Bool
   pub custom : List ℕ
 
-pub record OneofOptionsSet : Type 0 where
+pub record OneofOptionValues : Type 0 where
   pub custom : List ℕ
 
-pub record EnumOptionsSet : Type 0 where
+pub record EnumOptionValues : Type 0 where
   pub allow_alias : Option Bool
   pub deprecated : Option Bool
   pub custom : List ℕ
 
-pub record EnumValueOptionsSet : Type 0 where
+pub record EnumValueOptionValues : Type 0 where
   pub deprecated : Option Bool
   pub custom : List ℕ
 
-pub record ServiceOptionsSet : Type 0 where
+pub record ServiceOptionValues : Type 0 where
   pub deprecated : Option Bool
   pub custom : List ℕ
 
-pub record MethodOptionsSet : Type 0 where
+pub record MethodOptionValues : Type 0 where
   pub deprecated : Option Bool
   pub idempotency_level : Option IdempotencyLevel
   pub custom : List ℕ
 
-abbrev pub file_options_view : FileOptions → FileOptionsSet
+abbrev pub file_options_view : FileOptions → FileOptionValues
 file_options_view o = record {
   java_package = option_map string_bytes o.java_package;
   java_outer_classname = option_map string_bytes o.java_outer_classname;
@@ -100,7 +100,7 @@ file_options_view o = record {
   custom = o.custom.items;
 }
 
-abbrev pub message_options_view : MessageOptions → MessageOptionsSet
+abbrev pub message_options_view : MessageOptions → MessageOptionValues
 message_options_view o = record {
   message_set_wire_format = o.message_set_wire_format;
   no_standard_descriptor_accessor = o.no_standard_descriptor_accessor;
@@ -109,7 +109,7 @@ message_options_view o = record {
   custom = o.custom.items;
 }
 
-abbrev pub field_options_view : FieldOptions → FieldOptionsSet
+abbrev pub field_options_view : FieldOptions → FieldOptionValues
 field_options_view o = record {
   ctype = o.ctype;
   packed = o.packed;
@@ -123,34 +123,34 @@ field_options_view o = record {
 }
 
 -- those of a field stand in a box
-abbrev pub boxed_options_view : Box FieldOptions → FieldOptionsSet
+abbrev pub boxed_options_view : Box FieldOptions → FieldOptionValues
 boxed_options_view b = field_options_view b.value
 
-abbrev pub oneof_options_view : OneofOptions → OneofOptionsSet
+abbrev pub oneof_options_view : OneofOptions → OneofOptionValues
 oneof_options_view o = record {
   custom = o.custom.items;
 }
 
-abbrev pub enum_options_view : EnumOptions → EnumOptionsSet
+abbrev pub enum_options_view : EnumOptions → EnumOptionValues
 enum_options_view o = record {
   allow_alias = o.allow_alias;
   deprecated = o.deprecated;
   custom = o.custom.items;
 }
 
-abbrev pub enum_value_options_view : EnumValueOptions → EnumValueOptionsSet
+abbrev pub enum_value_options_view : EnumValueOptions → EnumValueOptionValues
 enum_value_options_view o = record {
   deprecated = o.deprecated;
   custom = o.custom.items;
 }
 
-abbrev pub service_options_view : ServiceOptions → ServiceOptionsSet
+abbrev pub service_options_view : ServiceOptions → ServiceOptionValues
 service_options_view o = record {
   deprecated = o.deprecated;
   custom = o.custom.items;
 }
 
-abbrev pub method_options_view : MethodOptions → MethodOptionsSet
+abbrev pub method_options_view : MethodOptions → MethodOptionValues
 method_options_view o = record {
   deprecated = o.deprecated;
   idempotency_level = o.idempotency_level;

@@ -23,7 +23,7 @@ mod unlike;
 
 ghost use Rattle.std.specs.Prelude.{List, ◌≤◌};
 ghost use Rattle.protobuf_parse_syntax.specs.Counts.{statements_in};
-ghost use Rattle.protobuf_parse_syntax.specs.Trees.{FileSyntax, file_view};
+ghost use Rattle.protobuf_parse_syntax.specs.Trees.{FileSyntax, file_syntax};
 ghost use Rattle.protobuf_parse_model.specs.SeenFiles.{environment_of_file};
 ghost use Rattle.protobuf_parse_model.specs.Descriptors as described;
 ghost use Rattle.protobuf_parse_model.specs.Faults.{Elaborates};
@@ -35,7 +35,7 @@ use crate::customs::CustomOptions;
 use crate::descriptor::FileDescriptorProto;
 use crate::error::ElabFailure;
 use crate::scope::Seen;
-pub use options::has_builtin_option;
+pub use options::{decoded_bytes, decoded_text, has_builtin_option};
 use protobuf_parse_syntax::FileTree;
 pub use refuse::fault;
 use std::alloc::Global;
@@ -70,12 +70,12 @@ pub fn elaborate<C: CustomOptions>(
     seen: &Seen<'_>,
     custom: &C,
 ) -> Result<FileDescriptorProto, ElabFailure>
-    requires few { statements_in (file_view tree.now) ≤ 2147483647 }
-    ensures by_table { let t = file_view tree.now in
+    requires few { statements_in (file_syntax tree.now) ≤ 2147483647 }
+    ensures by_table { let t = file_syntax tree.now in
         let env = environment_of_file (C.customs custom.now) seen.now t in
         Elaborates described.file_view result (file_faults env t) (file_of env name.now t) }
     ensures by_files { (files : List FileSyntax) → TableTells seen.now.declarations.now files →
-        let t = file_view tree.now in
+        let t = file_syntax tree.now in
         let env = environment (picked files seen.now.sight.now) (C.customs custom.now) t in
         Elaborates described.file_view result (file_faults env t) (file_of env name.now t) }
 {

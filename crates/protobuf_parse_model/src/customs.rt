@@ -1,7 +1,7 @@
 //! Custom options: who says what they become.
 
 ghost use Rattle.std.specs.Prelude.{◌≡◌, ◌++◌, [], codes, map, flat_map, string_bytes, IfOk, OnOk};
-ghost use Rattle.protobuf_parse_syntax.specs.Trees.{option_part_view, option_view};
+ghost use Rattle.protobuf_parse_syntax.specs.Trees.{option_part_syntax, option_syntax};
 ghost use Rattle.protobuf_parse_model.specs.SeenFiles.{name_texts};
 ghost use Rattle.protobuf_parse_model.specs.Environment.{Customs, no_customs, no_extensions};
 ghost use Rattle.protobuf_parse_model.specs.Environment.{part_text, option_path_text};
@@ -101,7 +101,7 @@ fn refuse_customs(alloc: Global, options: &[&ProtobufOption]) -> Result<(), Elab
 }
 
 fn refuse_custom(alloc: Global, option: &ProtobufOption) -> Result<(), ElabFailure>
-    ensures { Elaborates (λ u. u) result (unknown_option (option_view option.now)) tt }
+    ensures { Elaborates (λ u. u) result (unknown_option (option_syntax option.now)) tt }
 {
     match &option.name {
         ProtobufOptionName::Builtin(_) => Ok(()),
@@ -115,7 +115,7 @@ fn refuse_custom(alloc: Global, option: &ProtobufOption) -> Result<(), ElabFailu
 /// The name of a custom option as it is written, with extensions in parentheses.
 pub fn path_text(alloc: Global, parts: &[ProtobufOptionNamePart]) -> Result<String, AllocError>
     ensures { IfOk result
-        (λ s. string_bytes s ≡ option_path_text (map option_part_view parts.now)) }
+        (λ s. string_bytes s ≡ option_path_text (map option_part_syntax parts.now)) }
 {
     let mut text = String::new(alloc);
     let [first, others @ ..] = parts else {
@@ -132,7 +132,7 @@ pub fn path_text(alloc: Global, parts: &[ProtobufOptionNamePart]) -> Result<Stri
 /// Adds a part, an extension in parentheses.
 fn push_part(text: &mut String, part: &ProtobufOptionNamePart) -> Result<(), AllocError>
     ensures { OnOk result
-        (string_bytes text.new ≡ string_bytes text.old ++ part_text (option_part_view part.now)) }
+        (string_bytes text.new ≡ string_bytes text.old ++ part_text (option_part_syntax part.now)) }
 {
     match part {
         ProtobufOptionNamePart::Direct(name) => text.push_str(name),

@@ -9,7 +9,7 @@ mod laws;
 mod linking;
 mod scope;
 
-pub use convert::{elaborate, fault, has_builtin_option};
+pub use convert::{decoded_bytes, decoded_text, elaborate, fault, has_builtin_option};
 pub use customs::{Construct, CustomOptions, NoExtensions, WithoutCustoms, path_text};
 pub use descriptor::{
     CType, DescriptorProto, EnumDescriptorProto, EnumOptions, EnumReservedRange,

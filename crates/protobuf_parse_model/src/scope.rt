@@ -21,7 +21,7 @@ mod ordered;
 mod seen;
 
 use crate::descriptor::FieldType;
-pub use declare::package_scope;
+pub use declare::file_scope;
 pub use ordered::in_file;
 use protobuf_parse_syntax::Syntax;
 pub use seen::{Declaration, DeclarationKind, Declarations, Seen, TypeKind};

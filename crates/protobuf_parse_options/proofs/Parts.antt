@@ -5,8 +5,8 @@ use Rattle.std.proofs.Common.{option_to_list, refl, sym, ap, subst, ◌∙◌, R
 use Rattle.std.specs.Global.{Vec}
 use Rattle.std.proofs.lemmas.List.{take_all}
 use Rattle.protobuf_parse_syntax.specs.Trees.{ConstantSyntax, ConstantFieldSyntax, list, fields}
-use Rattle.protobuf_parse_syntax.specs.Trees.{constants, constant_fields, constant_view}
-use Rattle.protobuf_parse_syntax.specs.Trees.{constant_field_view, option_part_view}
+use Rattle.protobuf_parse_syntax.specs.Trees.{constants, constant_fields, constant_syntax}
+use Rattle.protobuf_parse_syntax.specs.Trees.{constant_field_syntax, option_part_syntax}
 use Rattle.protobuf_parse_syntax.specs.declared.tree.option.ProtobufOptionNamePart.{ProtobufOptionNamePart}
 use Rattle.protobuf_parse_syntax.specs.declared.tree.constant.ConstantField.{ConstantField}
 use Rattle.protobuf_parse_syntax.specs.declared.tree.constant.ProtobufConstant.{ProtobufConstant}
@@ -58,23 +58,23 @@ pub list_given : {X : Type 0} (view : X → List WireItem) (r : Result X ElabFai
     (at : OptionScope) (option : Text) (f : FieldDescriptor) (c : ProtobufConstant)
     (v : Vec ProtobufConstant) (xs : List ProtobufConstant) (old : List WireItem)
     → c ≡ Constants v → xs ≡ v.items
-    → Elaborates view r (flat_map (constant_faults at option f) (map constant_view xs))
-    (old ++ flat_map (value_items at f) (map constant_view xs))
-    → Elaborates view r (constant_faults at option f (constant_view c))
-    (old ++ value_items at f (constant_view c))
+    → Elaborates view r (flat_map (constant_faults at option f) (map constant_syntax xs))
+    (old ++ flat_map (value_items at f) (map constant_syntax xs))
+    → Elaborates view r (constant_faults at option f (constant_syntax c))
+    (old ++ value_items at f (constant_syntax c))
 list_given view r at option f c v xs old is same h =
-    let cs = map constant_view v.items in
-    let e : constant_view c ≡ list (constants cs) = ap constant_view is ∙ views_list v in
+    let cs = map constant_syntax v.items in
+    let e : constant_syntax c ≡ list (constants cs) = ap constant_syntax is ∙ views_list v in
     let fs : flat_map (constant_faults at option f) cs ≡ constant_faults at option f
-    (constant_view c) = sym (ap (constant_faults at option f) e
+    (constant_syntax c) = sym (ap (constant_faults at option f) e
     ∙ list_faults_are at option f cs) in
-    let vs : flat_map (value_items at f) cs ≡ value_items at f (constant_view c) = sym
+    let vs : flat_map (value_items at f) cs ≡ value_items at f (constant_syntax c) = sym
     (ap (value_items at f) e ∙ list_items_are at f cs) in
     let all = subst (λ (ys : List ProtobufConstant). Elaborates view r
-    (flat_map (constant_faults at option f) (map constant_view ys))
-    (old ++ flat_map (value_items at f) (map constant_view ys))) same h in
+    (flat_map (constant_faults at option f) (map constant_syntax ys))
+    (old ++ flat_map (value_items at f) (map constant_syntax ys))) same h in
     subst (λ (items : List WireItem). Elaborates view r
-    (constant_faults at option f (constant_view c))
+    (constant_faults at option f (constant_syntax c))
     (old ++ items)) vs
     (subst (λ (faults : List Fault). Elaborates view r faults
     (old ++ flat_map (value_items at f) cs)) fs all)
@@ -84,29 +84,30 @@ pub message_given : {X : Type 0} (view : X → List WireItem) (r : Result X Elab
     (v : Vec ConstantField) (xs : List ConstantField) (old : List WireItem)
     → c ≡ Fields v → xs ≡ v.items
     → Elaborates view r (message_value_faults f.name (type_takes f.type_)
-    (flat_map (field_faults_of at option (type_name_of f)) (map constant_field_view xs)))
+    (flat_map (field_faults_of at option (type_name_of f)) (map constant_field_syntax xs)))
     (old ++ item_of_message f (flat_map (given_field_items at (type_name_of f))
-    (map constant_field_view xs)))
-    → Elaborates view r (constant_faults at option f (constant_view c))
-    (old ++ value_items at f (constant_view c))
+    (map constant_field_syntax xs)))
+    → Elaborates view r (constant_faults at option f (constant_syntax c))
+    (old ++ value_items at f (constant_syntax c))
 message_given view r at option f c v xs old is same h =
-    let cs = map constant_field_view v.items in
+    let cs = map constant_field_syntax v.items in
     let name = type_name_of f in
-    let e : constant_view c ≡ fields (constant_fields cs) = ap constant_view is ∙ views_fields v in
+    let e : constant_syntax c ≡ fields (constant_fields cs) = ap constant_syntax is
+    ∙ views_fields v in
     let fs : message_value_faults f.name (type_takes f.type_)
     (flat_map (field_faults_of at option name) cs) ≡ constant_faults at option f
-    (constant_view c) = sym (ap (constant_faults at option f) e ∙ ap
+    (constant_syntax c) = sym (ap (constant_faults at option f) e ∙ ap
     (message_value_faults f.name (type_takes f.type_)) (field_faults_are at option name cs)) in
     let vs : item_of_message f (flat_map (given_field_items at name) cs) ≡ value_items at f
-    (constant_view c) = sym (ap (value_items at f) e ∙ ap (item_of_message f)
+    (constant_syntax c) = sym (ap (value_items at f) e ∙ ap (item_of_message f)
     (field_items_are at name cs)) in
     let all = subst (λ (ys : List ConstantField). Elaborates view r
     (message_value_faults f.name (type_takes f.type_)
-    (flat_map (field_faults_of at option name) (map constant_field_view ys)))
+    (flat_map (field_faults_of at option name) (map constant_field_syntax ys)))
     (old ++ item_of_message f (flat_map (given_field_items at name)
-    (map constant_field_view ys)))) same h in
+    (map constant_field_syntax ys)))) same h in
     subst (λ (items : List WireItem). Elaborates view r
-    (constant_faults at option f (constant_view c))
+    (constant_faults at option f (constant_syntax c))
     (old ++ items)) vs
     (subst (λ (faults : List Fault). Elaborates view r faults
     (old ++ item_of_message f (flat_map (given_field_items at name) cs))) fs all)
@@ -122,18 +123,18 @@ pub path_long : {X : Type 0} (view : X → List WireItem) (r : Result X ElabFail
     (option : Text) (value : ConstantSyntax) (message : Text) (xs : List ProtobufOptionNamePart)
     (x : ProtobufOptionNamePart) (ys : List ProtobufOptionNamePart) (old : List WireItem)
     → xs ≡ x ∷ ys → none_follow ys ≡ false
-    → Elaborates view r (part_faults at message (option_part_view x) ++ flat_map
-    (through_faults at option value (option_part_view x) (map option_part_view ys))
-    (option_to_list (part_field at message (option_part_view x))))
-    (old ++ flat_map (through_items at value (map option_part_view ys))
-    (option_to_list (part_field at message (option_part_view x))))
-    → Elaborates view r (path_faults at option value message (map option_part_view xs))
-    (old ++ path_items at value message (map option_part_view xs))
+    → Elaborates view r (part_faults at message (option_part_syntax x) ++ flat_map
+    (through_faults at option value (option_part_syntax x) (map option_part_syntax ys))
+    (option_to_list (part_field at message (option_part_syntax x))))
+    (old ++ flat_map (through_items at value (map option_part_syntax ys))
+    (option_to_list (part_field at message (option_part_syntax x))))
+    → Elaborates view r (path_faults at option value message (map option_part_syntax xs))
+    (old ++ path_items at value message (map option_part_syntax xs))
 path_long view r at option value message xs x [] old is some h = absurd cc
 path_long view r at option value message xs x (y ∷ zs) old is some h =
     subst (λ (ps : List ProtobufOptionNamePart). Elaborates view r
-    (path_faults at option value message (map option_part_view ps))
-    (old ++ path_items at value message (map option_part_view ps))) (sym is) h
+    (path_faults at option value message (map option_part_syntax ps))
+    (old ++ path_items at value message (map option_part_syntax ps))) (sym is) h
 
 follow : (ys : List ProtobufOptionNamePart) → (length ys == 0) ≡ false → none_follow ys ≡ false
 follow [] e = absurd cc
@@ -143,25 +144,25 @@ pub path_given : {X : Type 0} (view : X → List WireItem) (r : Result X ElabFai
     (at : OptionScope) (option : Text) (value : ConstantSyntax) (message : Text)
     (xs : List ProtobufOptionNamePart) (x : ProtobufOptionNamePart) (old : List WireItem)
     → x ≡ get_or xs 0 x → (length (take (length xs - 1) (drop 1 xs)) == 0) ≡ false
-    → Elaborates view r (part_faults at message (option_part_view x) ++ flat_map
-    (through_faults at option value (option_part_view x)
-    (map option_part_view (take (length xs - 1) (drop 1 xs))))
-    (option_to_list (part_field at message (option_part_view x))))
+    → Elaborates view r (part_faults at message (option_part_syntax x) ++ flat_map
+    (through_faults at option value (option_part_syntax x)
+    (map option_part_syntax (take (length xs - 1) (drop 1 xs))))
+    (option_to_list (part_field at message (option_part_syntax x))))
     (old ++ flat_map (through_items at value
-    (map option_part_view (take (length xs - 1) (drop 1 xs))))
-    (option_to_list (part_field at message (option_part_view x))))
-    → Elaborates view r (path_faults at option value message (map option_part_view xs))
-    (old ++ path_items at value message (map option_part_view xs))
+    (map option_part_syntax (take (length xs - 1) (drop 1 xs))))
+    (option_to_list (part_field at message (option_part_syntax x))))
+    → Elaborates view r (path_faults at option value message (map option_part_syntax xs))
+    (old ++ path_items at value message (map option_part_syntax xs))
 path_given view r at option value message [] x old is some h = absurd cc
 path_given view r at option value message (z ∷ zs) x old is some h =
     let all : take (length (z ∷ zs) - 1) (drop 1 (z ∷ zs)) ≡ zs = take_all
     (length (z ∷ zs) - 1) zs (omega arith) in
     let rest = subst (λ (ys : List ProtobufOptionNamePart). Elaborates view r
-    (part_faults at message (option_part_view x) ++ flat_map
-    (through_faults at option value (option_part_view x) (map option_part_view ys))
-    (option_to_list (part_field at message (option_part_view x))))
-    (old ++ flat_map (through_items at value (map option_part_view ys))
-    (option_to_list (part_field at message (option_part_view x))))) all h in
+    (part_faults at message (option_part_syntax x) ++ flat_map
+    (through_faults at option value (option_part_syntax x) (map option_part_syntax ys))
+    (option_to_list (part_field at message (option_part_syntax x))))
+    (old ++ flat_map (through_items at value (map option_part_syntax ys))
+    (option_to_list (part_field at message (option_part_syntax x))))) all h in
     path_long view r at option value message (z ∷ zs) x zs old
     (ap (λ (w : ProtobufOptionNamePart). w ∷ zs) (sym is))
     (follow zs (subst (λ (ys : List ProtobufOptionNamePart). (length ys == 0)

@@ -2,6 +2,7 @@
 use Rattle.std.proofs.Common.{◌≡◌, List, [], Some, None, unwrap_or, ap, sym, subst}
 use Rattle.protobuf_parse_syntax.specs.Text.{Bytes}
 use Rattle.protobuf_parse_syntax.specs.Decoder.{decode, text_of}
+use Rattle.protobuf_parse_syntax.specs.DecoderLaws.{decode-from, text-to}
 use Rattle.protobuf_parse_model.specs.declared.error.ElabErrorKind.TheVariants.{StrLitDecode}
 use Rattle.protobuf_parse_model.specs.declared.error.ElabFailure.{ElabFailure}
 use Rattle.protobuf_parse_model.specs.BuiltinOptions.{string_faults}
@@ -13,9 +14,11 @@ pub bytes_are : (option : Text) (zs : List Bytes) (v : Bytes) → decode zs ≡ 
     (string_faults option (decode zs) ≡ []) × (v ≡ unwrap_or (decode zs) [])
 bytes_are option zs v e = (ap (string_faults option) e, sym (ap (λ o. unwrap_or o []) e))
 
-pub text_is : (option : Text) (zs : List Bytes) (v : Bytes) → decode zs ≡ Some v → text_of zs
-    ≡ Some v → (string_faults option (text_of zs) ≡ []) × (v ≡ unwrap_or (decode zs) [])
-text_is option zs v e t = (ap (string_faults option) t, sym (ap (λ o. unwrap_or o []) e))
+pub text_is : (option : Text) (zs : List Bytes) (v : Bytes) → text_of zs ≡ Some v →
+    (string_faults option (text_of zs) ≡ []) × (v ≡ unwrap_or (decode zs) [])
+text_is option zs v t =
+    let e = decode-from zs v (text-to zs v t).0 in
+    (ap (string_faults option) t, sym (ap (λ o. unwrap_or o []) e))
 
 pub bytes_missing : (option : Text) (zs : List Bytes) (e : ElabFailure) → decode zs ≡ None
     → Blames e (fault StrLitDecode option) → Blames e (string_faults option (decode zs))

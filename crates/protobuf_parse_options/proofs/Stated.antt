@@ -3,7 +3,7 @@ use Rattle.std.proofs.Common.{◌≡◌, ◌≤◌, List, [], ◌∷◌, ◌++�
 use Rattle.std.proofs.Common.{String, string_bytes, refl, sym, ap, subst, ◌∙◌, arith}
 use Rattle.std.specs.Global.{Global}
 use Rattle.protobuf_parse_syntax.specs.Trees.{ConstantSyntax, OptionPartSyntax, direct, extension}
-use Rattle.protobuf_parse_syntax.specs.Trees.{option_part_view, OptionSyntax}
+use Rattle.protobuf_parse_syntax.specs.Trees.{option_part_syntax, OptionSyntax}
 use Rattle.protobuf_parse_syntax.specs.declared.tree.option.ProtobufOptionNamePart.{ProtobufOptionNamePart}
 use Rattle.protobuf_parse_syntax.specs.declared.tree.option.ProtobufOptionNamePart.TheVariants.{Direct}
 use Rattle.protobuf_parse_syntax.specs.declared.tree.option.ProtobufOptionNamePart.TheVariants.{Ext}
@@ -22,7 +22,7 @@ use Rattle.protobuf_parse_options.specs.OptionFields.{OptionScope, options_messa
 use Rattle.protobuf_parse_wire.specs.Views.{WireItem, entries_of_list, entries_view, entry_view}
 
 abbrev parts_of : List ProtobufOptionNamePart → List OptionPartSyntax
-parts_of xs = map option_part_view xs
+parts_of xs = map option_part_syntax xs
 
 -- a plain part
 pub plain_blamed : (e : ElabFailure) (at : OptionScope) (construct : Construct)
@@ -30,10 +30,10 @@ pub plain_blamed : (e : ElabFailure) (at : OptionScope) (construct : Construct)
     (s : String Global) (name : Text) → 1 ≤ length xs → x ≡ get_or xs 0 x → x ≡ Direct s
     → name ≡ string_bytes s
     → Blames e (builtin_step_faults (table_of construct) name)
-    → Blames e (custom_faults at construct value (map option_part_view xs))
+    → Blames e (custom_faults at construct value (map option_part_syntax xs))
 plain_blamed e at construct value [] x s name some is plain named h = absurd (omega arith)
 plain_blamed e at construct value (y ∷ ys) x s name some is plain named h =
-    let first : option_part_view y ≡ direct name = ap option_part_view (sym is ∙ plain)
+    let first : option_part_syntax y ≡ direct name = ap option_part_syntax (sym is ∙ plain)
     ∙ ap direct (sym named) in
     subst (λ (p : OptionPartSyntax). Blames e
     (custom_faults at construct value (p ∷ parts_of ys))) (sym first) h
@@ -46,7 +46,7 @@ extension_first : (at : OptionScope) (construct : Construct) (value : ConstantSy
     value (options_message construct) (parts_of xs)
 extension_first at construct value [] x s some is ext = absurd (omega arith)
 extension_first at construct value (y ∷ ys) x s some is ext =
-    let first : option_part_view y ≡ extension (string_bytes s) = ap option_part_view
+    let first : option_part_syntax y ≡ extension (string_bytes s) = ap option_part_syntax
     (sym is ∙ ext) in
     subst (λ (p : OptionPartSyntax). custom_faults at construct value (p ∷ parts_of ys)
     ≡ path_faults at (option_path_text (p ∷ parts_of ys)) value (options_message construct)
@@ -58,10 +58,10 @@ pub extension_given : {X : Type 0} (view : X → List WireItem) (r : Result X El
     (xs : List ProtobufOptionNamePart) (x : ProtobufOptionNamePart) (s : String Global)
     (message : Text) (old : List WireItem) → 1 ≤ length xs → x ≡ get_or xs 0 x → x ≡ Ext s
     → message ≡ options_message construct
-    → Elaborates view r (path_faults at (path_said xs) value message (map option_part_view xs))
-    (old ++ path_items at value message (map option_part_view xs))
-    → Elaborates view r (custom_faults at construct value (map option_part_view xs))
-    (old ++ path_items at value (options_message construct) (map option_part_view xs))
+    → Elaborates view r (path_faults at (path_said xs) value message (map option_part_syntax xs))
+    (old ++ path_items at value message (map option_part_syntax xs))
+    → Elaborates view r (custom_faults at construct value (map option_part_syntax xs))
+    (old ++ path_items at value (options_message construct) (map option_part_syntax xs))
 extension_given view r at construct value xs x s message old some is ext holds h =
     let ps = parts_of xs in
     let m = options_message construct in

@@ -3,7 +3,7 @@
 -- options.
 use Rattle.std.specs.Prelude.{List, ◌++◌, map, flat_map, option_to_list}
 use Rattle.protobuf_parse_syntax.specs.Trees.{ConstantSyntax, ConstantFieldSyntax, OptionPartSyntax}
-use Rattle.protobuf_parse_syntax.specs.Trees.{option_part_view}
+use Rattle.protobuf_parse_syntax.specs.Trees.{option_part_syntax}
 use Rattle.protobuf_parse_syntax.specs.declared.tree.option.ProtobufOptionNamePart.{ProtobufOptionNamePart}
 use Rattle.protobuf_parse_model.specs.SeenFiles.{name_texts}
 use Rattle.protobuf_parse_model.specs.Descriptors.{Text, FieldDescriptor}
@@ -28,7 +28,7 @@ option_place_view p = record {
 
 -- the name of an option as it is written
 abbrev pub path_said : List ProtobufOptionNamePart → Text
-path_said parts = option_path_text (map option_part_view parts)
+path_said parts = option_path_text (map option_part_syntax parts)
 
 -- of a value for the field that a name means
 abbrev pub given_faults : OptionScope → Text → ConstantSyntax → FieldDescriptor → List Fault

@@ -2,7 +2,7 @@
 
 ghost use Rattle.std.specs.Prelude.{◌≡◌, ◌++◌, map, flat_map, unwrap_or, []};
 ghost use Rattle.protobuf_parse_syntax.specs.Decoder.{decode};
-ghost use Rattle.protobuf_parse_syntax.specs.Trees.{constant_field_view, constant_view, dotted};
+ghost use Rattle.protobuf_parse_syntax.specs.Trees.{constant_field_syntax, constant_syntax, dotted};
 ghost use Rattle.protobuf_parse_syntax.specs.Trees.{pieces_of};
 ghost use Rattle.protobuf_parse_model.specs.Descriptors.{field_view};
 ghost use Rattle.protobuf_parse_model.specs.Faults.{Elaborates};
@@ -39,7 +39,7 @@ pub fn push_value(
     entries: &mut Vec<Entry>,
 ) -> Result<(), ElabFailure>
     ensures { let s = option_place_view at.now in let f = field_view field.now in
-        let c = constant_view value.now in
+        let c = constant_syntax value.now in
         Elaborates (λ u. map entry_view entries.new.items) result
         (constant_faults s (path_said option.now) f c)
         (map entry_view entries.old.items ++ value_items s f c) }
@@ -142,7 +142,7 @@ fn push_list(
     entries: &mut Vec<Entry>,
 ) -> Result<(), ElabFailure>
     ensures { let s = option_place_view at.now in let f = field_view field.now in
-        let cs = map constant_view items.now in
+        let cs = map constant_syntax items.now in
         Elaborates (λ u. map entry_view entries.new.items) result
         (flat_map (constant_faults s (path_said option.now) f) cs)
         (map entry_view entries.old.items ++ flat_map (value_items s f) cs) }
@@ -164,7 +164,7 @@ fn push_message(
     entries: &mut Vec<Entry>,
 ) -> Result<(), ElabFailure>
     ensures { let s = option_place_view at.now in let f = field_view field.now in
-        let fs = map constant_field_view fields.now in
+        let fs = map constant_field_syntax fields.now in
         Elaborates (λ u. map entry_view entries.new.items) result
         (message_value_faults f.name (type_takes f.type_)
         (flat_map (field_faults_of s (path_said option.now) (type_name_of f)) fs))
@@ -192,7 +192,7 @@ fn push_fields(
     message: &str,
     entries: &mut Vec<Entry>,
 ) -> Result<(), ElabFailure>
-    ensures { let s = option_place_view at.now in let fs = map constant_field_view fields.now in
+    ensures { let s = option_place_view at.now in let fs = map constant_field_syntax fields.now in
         Elaborates (λ u. map entry_view entries.new.items) result
         (flat_map (field_faults_of s (path_said option.now) message.now) fs)
         (map entry_view entries.old.items ++ flat_map (given_field_items s message.now) fs) }
@@ -213,7 +213,7 @@ fn push_field(
     message: &str,
     entries: &mut Vec<Entry>,
 ) -> Result<(), ElabFailure>
-    ensures { let s = option_place_view at.now in let f = constant_field_view field.now in
+    ensures { let s = option_place_view at.now in let f = constant_field_syntax field.now in
         Elaborates (λ u. map entry_view entries.new.items) result
         (field_faults_of s (path_said option.now) message.now f)
         (map entry_view entries.old.items ++ given_field_items s message.now f) }
@@ -234,7 +234,7 @@ pub fn push_given(
     entries: &mut Vec<Entry>,
 ) -> Result<(), ElabFailure>
     ensures { let s = option_place_view at.now in let f = field_view field.now in
-        let c = constant_view value.now in
+        let c = constant_syntax value.now in
         Elaborates (λ u. map entry_view entries.new.items) result
         (given_faults s (path_said option.now) c f)
         (map entry_view entries.old.items ++ value_items s f c) }

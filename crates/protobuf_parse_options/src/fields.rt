@@ -1,7 +1,7 @@
 //! The fields that names in options mean.
 
 ghost use Rattle.std.specs.Prelude.{◌≡◌, Some, string_bytes, unwrap_or, IfOk};
-ghost use Rattle.protobuf_parse_syntax.specs.Trees.{constant_name_view, option_part_view};
+ghost use Rattle.protobuf_parse_syntax.specs.Trees.{constant_name_syntax, option_part_syntax};
 ghost use Rattle.protobuf_parse_model.specs.Descriptors.{field_view};
 ghost use Rattle.protobuf_parse_model.specs.Faults.{Elaborates};
 ghost use Rattle.protobuf_parse_options.specs.CustomFaults.{bracketed, constant_name_faults};
@@ -88,7 +88,7 @@ pub fn part_field<'a>(
     message: &str,
     part: &ProtobufOptionNamePart,
 ) -> Result<&'a FieldDescriptorProto, ElabFailure>
-    ensures { let s = option_place_view at.now in let p = option_part_view part.now in
+    ensures { let s = option_place_view at.now in let p = option_part_syntax part.now in
         Elaborates (λ f. Some (field_seen f)) result (part_faults s message.now p)
         (part_field s message.now p) }
 {
@@ -105,7 +105,7 @@ pub fn constant_field<'a>(
     message: &str,
     name: &ConstantFieldName,
 ) -> Result<&'a FieldDescriptorProto, ElabFailure>
-    ensures { let s = option_place_view at.now in let n = constant_name_view name.now in
+    ensures { let s = option_place_view at.now in let n = constant_name_syntax name.now in
         Elaborates (λ f. Some (field_seen f)) result (constant_name_faults s message.now n)
         (constant_field s message.now n) }
 {

@@ -2,7 +2,7 @@
 
 ghost use Rattle.std.specs.Prelude.{◌≡◌, [], ◌∷◌, ◌++◌, List, flat_map, map, option_to_list};
 ghost use Rattle.std.specs.Prelude.{string_bytes, IfOk, MatchResult};
-ghost use Rattle.protobuf_parse_syntax.specs.Trees.{constant_view, option_part_view};
+ghost use Rattle.protobuf_parse_syntax.specs.Trees.{constant_syntax, option_part_syntax};
 ghost use Rattle.protobuf_parse_model.specs.Descriptors.{field_view};
 ghost use Rattle.protobuf_parse_model.specs.Environment.{part_text};
 ghost use Rattle.protobuf_parse_model.specs.Faults.{Blames, Elaborates, Fault};
@@ -34,8 +34,8 @@ pub fn push_path(
     message: &str,
     entries: &mut Vec<Entry>,
 ) -> Result<(), ElabFailure>
-    ensures { let s = option_place_view at.now in let ps = map option_part_view parts.now in
-        let c = constant_view value.now in
+    ensures { let s = option_place_view at.now in let ps = map option_part_syntax parts.now in
+        let c = constant_syntax value.now in
         Elaborates (λ u. map entry_view entries.new.items) result
         (path_faults s (path_said option.now) c message.now ps)
         (map entry_view entries.old.items ++ path_items s c message.now ps) }
@@ -62,8 +62,8 @@ fn push_first(
     message: &str,
     entries: &mut Vec<Entry>,
 ) -> Result<(), ElabFailure>
-    ensures { let s = option_place_view at.now in let p = option_part_view part.now in
-        let ps = map option_part_view others.now in let c = constant_view value.now in
+    ensures { let s = option_place_view at.now in let p = option_part_syntax part.now in
+        let ps = map option_part_syntax others.now in let c = constant_syntax value.now in
         Elaborates (λ u. map entry_view entries.new.items) result
         (part_faults s message.now p ++ flat_map (through_faults s (path_said option.now) c p ps)
         (option_to_list (part_field s message.now p)))
@@ -87,8 +87,8 @@ fn push_through(
     field: &FieldDescriptorProto,
     entries: &mut Vec<Entry>,
 ) -> Result<(), ElabFailure>
-    ensures { let s = option_place_view at.now in let p = option_part_view part.now in
-        let ps = map option_part_view others.now in let c = constant_view value.now in
+    ensures { let s = option_place_view at.now in let p = option_part_syntax part.now in
+        let ps = map option_part_syntax others.now in let c = constant_syntax value.now in
         let f = field_view field.now in
         Elaborates (λ u. map entry_view entries.new.items) result
         (through_faults s (path_said option.now) c p ps f)
@@ -121,8 +121,8 @@ pub fn push_last(
     message: &str,
     entries: &mut Vec<Entry>,
 ) -> Result<(), ElabFailure>
-    ensures { let s = option_place_view at.now in let ps = option_part_view part.now ∷ [] in
-        let c = constant_view value.now in
+    ensures { let s = option_place_view at.now in let ps = option_part_syntax part.now ∷ [] in
+        let c = constant_syntax value.now in
         Elaborates (λ u. map entry_view entries.new.items) result
         (path_faults s (path_said option.now) c message.now ps)
         (map entry_view entries.old.items ++ path_items s c message.now ps) }
@@ -139,7 +139,7 @@ pub fn check_step(
     field: &FieldDescriptorProto,
 ) -> Result<(), ElabFailure>
     ensures { let t = type_takes (field_view field.now).type_ in let p = part_text
-        (option_part_view part.now) in
+        (option_part_syntax part.now) in
         MatchResult result (λ u. t ≡ messages)
         (λ e. (inside : List Fault) → Blames e (step_faults p t inside)) }
 {
@@ -154,7 +154,7 @@ pub fn check_step(
 
 /// A part as it is written.
 fn part_text(alloc: Global, part: &ProtobufOptionNamePart) -> Result<String, AllocError>
-    ensures { IfOk result (λ s. string_bytes s ≡ part_text (option_part_view part.now)) }
+    ensures { IfOk result (λ s. string_bytes s ≡ part_text (option_part_syntax part.now)) }
 {
     match part {
         ProtobufOptionNamePart::Direct(name) => String::from_str(alloc, name),

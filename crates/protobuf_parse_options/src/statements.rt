@@ -1,7 +1,8 @@
 //! What the custom options among the statements of a construct become.
 
 ghost use Rattle.std.specs.Prelude.{◌≡◌, ◌++◌, flat_map, map};
-ghost use Rattle.protobuf_parse_syntax.specs.Trees.{constant_view, option_part_view, option_view};
+ghost use Rattle.protobuf_parse_syntax.specs.Trees.{constant_syntax, option_part_syntax};
+ghost use Rattle.protobuf_parse_syntax.specs.Trees.{option_syntax};
 ghost use Rattle.protobuf_parse_model.specs.Faults.{Blames, Elaborates};
 ghost use Rattle.protobuf_parse_model.specs.OptionTables.{table_of};
 ghost use Rattle.protobuf_parse_model.specs.BuiltinOptions.{options_seen};
@@ -67,7 +68,7 @@ fn push_option(
     option: &ProtobufOption,
     entries: &mut Vec<Entry>,
 ) -> Result<(), ElabFailure>
-    ensures { let s = option_place_view at.now in let o = option_view option.now in
+    ensures { let s = option_place_view at.now in let o = option_syntax option.now in
         Elaborates (λ u. map entry_view entries.new.items) result
         (custom_name_faults s construct o.value o.name)
         (map entry_view entries.old.items ++ items_of_option s construct o) }
@@ -88,8 +89,8 @@ fn push_custom(
     value: &ProtobufConstant,
     entries: &mut Vec<Entry>,
 ) -> Result<(), ElabFailure>
-    ensures { let s = option_place_view at.now in let ps = map option_part_view parts.now in
-        let c = constant_view value.now in
+    ensures { let s = option_place_view at.now in let ps = map option_part_syntax parts.now in
+        let c = constant_syntax value.now in
         Elaborates (λ u. map entry_view entries.new.items) result (custom_faults s construct c ps)
         (map entry_view entries.old.items ++ path_items s c (options_message construct) ps) }
 {

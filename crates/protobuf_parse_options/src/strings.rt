@@ -1,9 +1,8 @@
 //! The bytes that strings stand for.
 
-ghost use Rattle.std.specs.Prelude.{◌≡◌, unwrap_or, [], OnOk};
+ghost use Rattle.std.specs.Prelude.{unwrap_or, []};
 ghost use Rattle.protobuf_parse_syntax.specs.Decoder.{decode, text_of};
 ghost use Rattle.protobuf_parse_syntax.specs.Trees.{pieces_of};
-ghost use Rattle.protobuf_parse_syntax.specs.declared.lexer.str_lit.StrLitDecodeError.TheVariants.{Memory};
 ghost use Rattle.protobuf_parse_model.specs.BuiltinOptions.{string_faults};
 ghost use Rattle.protobuf_parse_model.specs.Descriptors.{field_view};
 ghost use Rattle.protobuf_parse_model.specs.Duplicates as duplicates;
@@ -15,10 +14,11 @@ ghost use Rattle.protobuf_parse_options.specs.OptionFields.{type_takes};
 
 use crate::refuse::not_taken;
 use protobuf_parse_model::{
-    ElabErrorKind, ElabFailure, FieldDescriptorProto, FieldType, fault, path_text,
+    ElabErrorKind, ElabFailure, FieldDescriptorProto, FieldType, decoded_bytes, decoded_text,
+    fault, path_text,
 };
-use protobuf_parse_syntax::{ProtobufOptionNamePart, StrLit, StrLitDecodeError};
-use std::alloc::{AllocError, Global};
+use protobuf_parse_syntax::{ProtobufOptionNamePart, StrLit};
+use std::alloc::Global;
 
 /// The bytes of the string that the option of that name gives to the field. E9 for one that says
 /// nothing, of a text field too for one that is no text.
@@ -49,12 +49,9 @@ fn text_said(
         Elaborates (λ v. v.items) result (string_faults (path_said option.now) (text_of pieces))
         (unwrap_or (decode pieces) []) }
 {
-    match string.decode_utf8(alloc) {
-        Ok(text) => Ok(text.into_bytes()),
-        Err(error) => {
-            check_memory(error)?;
-            Err(says_nothing(alloc, option))
-        }
+    match decoded_text(alloc, string)? {
+        Some(text) => Ok(text.into_bytes()),
+        None => Err(says_nothing(alloc, option)),
     }
 }
 
@@ -67,12 +64,9 @@ fn bytes_said(
         Elaborates (λ v. v.items) result (string_faults (path_said option.now) (decode pieces))
         (unwrap_or (decode pieces) []) }
 {
-    match string.decode_bytes(alloc) {
-        Ok(bytes) => Ok(bytes),
-        Err(error) => {
-            check_memory(error)?;
-            Err(says_nothing(alloc, option))
-        }
+    match decoded_bytes(alloc, string)? {
+        Some(bytes) => Ok(bytes),
+        None => Err(says_nothing(alloc, option)),
     }
 }
 
@@ -83,15 +77,5 @@ fn says_nothing(alloc: Global, option: &[ProtobufOptionNamePart]) -> ElabFailure
     match path_text(alloc, option) {
         Ok(name) => fault(alloc, ElabErrorKind::StrLitDecode, &name),
         Err(_) => ElabFailure::Memory,
-    }
-}
-
-/// Fails where memory ran out.
-fn check_memory(error: StrLitDecodeError) -> Result<(), AllocError>
-    ensures { OnOk result (error ≡ Memory → ⊥) }
-{
-    match error {
-        StrLitDecodeError::Memory => Err(AllocError),
-        StrLitDecodeError::BadEscape | StrLitDecodeError::NotUtf8 => Ok(()),
     }
 }

@@ -3,7 +3,7 @@ use Rattle.std.proofs.Common.{◌≡◌, ◌⊎◌, true, false, inl, inr, List,
 use Rattle.std.proofs.Common.{None, Result, Ok, Err, refl, sym, ◌∙◌, subst, append-nil}
 use Rattle.std.specs.Prelude.{bytes_eq}
 use Rattle.protobuf_parse_base.specs.PathViews.{path_buf_text}
-use Rattle.protobuf_parse_syntax.specs.Trees.{FileSyntax, file_view}
+use Rattle.protobuf_parse_syntax.specs.Trees.{FileSyntax, file_syntax}
 use Rattle.protobuf_parse_syntax.specs.declared.tree.FileTree.{FileTree}
 use Rattle.protobuf_parse_model.specs.Descriptors.{Text}
 use Rattle.protobuf_parse_run.specs.declared.tables.Tables.{Tables}
@@ -120,7 +120,7 @@ pub decided-file : (legal : Legal) (table : List (Text × Text)) (a : Asked) (p 
     → IsDecided table old → IsDecided table new
 decided-file legal table a p old new (Ok tree) r d =
     decided-same table (old ++ r.0 ∷ []) new r.1
-    (decided-read table old r.0 p (Some (file_view tree)) r.2 r.4 d)
+    (decided-read table old r.0 p (Some (file_syntax tree)) r.2 r.4 d)
 decided-file legal table a p old new (Err f) (inl r) d =
     decided-same table (old ++ r.0 ∷ []) new r.1 (decided-read table old r.0 p None r.2 r.4 d)
 decided-file legal table a p old new (Err f) (inr r) d = decided-same table old new r.1 d

@@ -14,9 +14,11 @@ use Rattle.protobuf_parse_syntax.specs.Trees.{file_message, file_enum, file_exte
 use Rattle.protobuf_parse_syntax.specs.Trees.{StatementSyntax, FileSyntax}
 use Rattle.protobuf_parse_model.specs.declared.customs.Construct.TheVariants as of
 use Rattle.protobuf_parse_model.specs.declared.customs.Construct.{Construct}
-use Rattle.protobuf_parse_model.specs.Options.{FileOptionsSet, MessageOptionsSet, FieldOptionsSet}
-use Rattle.protobuf_parse_model.specs.Options.{OneofOptionsSet, EnumOptionsSet, EnumValueOptionsSet}
-use Rattle.protobuf_parse_model.specs.Options.{ServiceOptionsSet, MethodOptionsSet}
+use Rattle.protobuf_parse_model.specs.Options.{FileOptionValues, MessageOptionValues}
+use Rattle.protobuf_parse_model.specs.Options.{FieldOptionValues}
+use Rattle.protobuf_parse_model.specs.Options.{OneofOptionValues, EnumOptionValues}
+use Rattle.protobuf_parse_model.specs.Options.{EnumValueOptionValues}
+use Rattle.protobuf_parse_model.specs.Options.{ServiceOptionValues, MethodOptionValues}
 use Rattle.protobuf_parse_model.specs.Descriptors.{Text, MessageDescriptor, messages_of_list}
 use Rattle.protobuf_parse_model.specs.Descriptors.{FieldDescriptor, OneofDescriptor}
 use Rattle.protobuf_parse_model.specs.Descriptors.{EnumDescriptor, ServiceDescriptor}
@@ -301,7 +303,7 @@ field_held : (env : Environment) (p : FieldPlace) (f : FieldSyntax)
     → HeldFor env.customs (a_set of.Field env.scope f.options ∷ [])
     (held_in_field (field_of env p f))
 field_held env p f =
-    set_held env.customs (λ (o : FieldOptionsSet). o.custom) of.Field env.scope f.options _ refl
+    set_held env.customs (λ (o : FieldOptionValues). o.custom) of.Field env.scope f.options _ refl
 
 grouped_held : (env : Environment) (s : FieldStatementSyntax)
     → HeldFor env.customs (sets_in_group env.scope s)
@@ -360,12 +362,12 @@ enum_held : (env : Environment) (e : EnumSyntax)
 enum_held env e =
     both_held env.customs (a_set of.Enum env.scope (options_of_enum e) ∷ [])
     (map (value_set env.scope) (flat_map enum_values e.body))
-    (held (λ (o : EnumOptionsSet). o.custom) of.Enum (enum_of env e).options)
+    (held (λ (o : EnumOptionValues). o.custom) of.Enum (enum_of env e).options)
     (flat_map held_in_value (enum_of env e).value)
-    (set_held env.customs (λ (o : EnumOptionsSet). o.custom) of.Enum env.scope
+    (set_held env.customs (λ (o : EnumOptionValues). o.custom) of.Enum env.scope
     (options_of_enum e) _ refl)
     (each_held env.customs (value_set env.scope) (value_of env) held_in_value
-    (λ (v : EnumValueSyntax). set_held env.customs (λ (o : EnumValueOptionsSet). o.custom)
+    (λ (v : EnumValueSyntax). set_held env.customs (λ (o : EnumValueOptionValues). o.custom)
     of.EnumValue env.scope v.options _ refl)
     (flat_map enum_values e.body))
 
@@ -374,12 +376,12 @@ service_held : (env : Environment) (s : ServiceSyntax)
 service_held env s =
     both_held env.customs (a_set of.Service env.scope (options_of_service s) ∷ [])
     (map (method_set env.scope) (flat_map methods_in s.body))
-    (held (λ (o : ServiceOptionsSet). o.custom) of.Service (service_of env s).options)
+    (held (λ (o : ServiceOptionValues). o.custom) of.Service (service_of env s).options)
     (flat_map held_in_method (service_of env s).method)
-    (set_held env.customs (λ (o : ServiceOptionsSet). o.custom) of.Service env.scope
+    (set_held env.customs (λ (o : ServiceOptionValues). o.custom) of.Service env.scope
     (options_of_service s) _ refl)
     (each_held env.customs (method_set env.scope) (method_of env) held_in_method
-    (λ (m : MethodSyntax). set_held env.customs (λ (o : MethodOptionsSet). o.custom)
+    (λ (m : MethodSyntax). set_held env.customs (λ (o : MethodOptionValues). o.custom)
     of.Method env.scope (options_of_method m) _ refl)
     (flat_map methods_in s.body))
 
@@ -441,7 +443,7 @@ message_from_held : (env : Environment) (name : Text) (body : List MessageStatem
     → HeldFor env.customs (a_set of.Message env.scope (options_of_body body) ∷ sets)
     (held_in_message (message_from env name body ms))
 message_from_held env name body ms sets inside =
-    let own = held (λ (o : MessageOptionsSet). o.custom) of.Message
+    let own = held (λ (o : MessageOptionValues). o.custom) of.Message
     (message_options (customs_bytes env of.Message (options_of_body body))
     (options_of_body body)) in
     rw (held_in_list ms)
@@ -450,7 +452,7 @@ message_from_held env name body ms sets inside =
     (message_parted own _ _ _ _ (flat_map held_in_message ms))
     (both_held env.customs (a_set of.Message env.scope (options_of_body body) ∷ []) sets
     own (held_in_body (env_inside env name) 0 body ms)
-    (set_held env.customs (λ (o : MessageOptionsSet). o.custom) of.Message env.scope
+    (set_held env.customs (λ (o : MessageOptionValues). o.custom) of.Message env.scope
     (options_of_body body) _ refl) inside))
 
 -- a statement and those behind it
@@ -497,7 +499,7 @@ oneof_held env index o =
     (ones ++ own ++ behind) (alike_second own ones behind)
     (both_held env.customs (a_set of.Oneof env.scope (options_in_oneof o) ∷ [])
     (flat_map (field_sets env.scope) fs) own (ones ++ behind)
-    (set_held env.customs (λ (d : OneofOptionsSet). d.custom) of.Oneof env.scope
+    (set_held env.customs (λ (d : OneofOptionValues). d.custom) of.Oneof env.scope
     (options_in_oneof o) _ refl)
     (fields_held env (at_oneof index) fs)))
 
@@ -613,13 +615,13 @@ file_held : (seen : List FileSyntax) (customs : Customs) (path : Text) (t : File
     (held_in_file (file_of (environment seen customs t) path t))
 file_held seen customs path t =
     let env = environment seen customs t in
-    let own = held (λ (o : FileOptionsSet). o.custom) of.File (file_of env path t).options in
+    let own = held (λ (o : FileOptionValues). o.custom) of.File (file_of env path t).options in
     equal_held customs (option_sets t)
     (own ++ held_in_all (file_of env path t).message_type (file_of env path t).enum_type
     (file_of env path t).service (file_of env path t).extension) _ (file_parted own _ _ _ _)
     (both_held customs (a_set of.File env.scope (options_of_statements t.statements) ∷ [])
     (flat_map (statement_sets env.scope) t.statements) own _
-    (set_held customs (λ (o : FileOptionsSet). o.custom) of.File env.scope
+    (set_held customs (λ (o : FileOptionValues). o.custom) of.File env.scope
     (options_of_statements t.statements) _ refl)
     (file_statements_held env t.statements))
 

@@ -6,7 +6,7 @@ use Rattle.std.specs.Prelude.{String, string_bytes}
 use Rattle.std.specs.Global.{Global}
 use Rattle.std.proofs.lemmas.List.{length-map, map-append, length_push, take_at, take_more}
 use Rattle.std.proofs.lemmas.List.{take-append-drop}
-use Rattle.protobuf_parse_syntax.specs.Trees.{file_view}
+use Rattle.protobuf_parse_syntax.specs.Trees.{file_syntax}
 use Rattle.protobuf_parse_syntax.specs.declared.tree.FileTree.{FileTree}
 use Rattle.protobuf_parse_model.specs.Descriptors.{Text}
 use Rattle.protobuf_parse_model.specs.Faults as elaborating
@@ -155,13 +155,13 @@ module _ (legal : Legal) (files : Files) where
       (log new later : List ReadEntry) (chain : List Text) (a : Asked) (p : Text) (tree : FileTree)
       → GoesOn files table later → Grows new later → Good legal files kept loaded log chain
       → among p chain ≡ false → file_at p loaded ≡ None
-      → ReadsTree legal table a p log new (Ok tree) → files.trees p ≡ Some (file_view tree)
+      → ReadsTree legal table a p log new (Ok tree) → files.trees p ≡ Some (file_syntax tree)
   tree-known table kept loaded log new later chain a p tree go since g off none r =
       let grown : Grows (log ++ r.0 ∷ []) files.reads =
       subst (λ (z : List ReadEntry). Grows z files.reads) r.1
       (Grows-trans new later files.reads since go.reads) in
       let the = subst
       (λ (z : List (Text × Text)). IsTheTree (text_given z p (Some r.0.outcome))
-      (Some (file_view tree))) (sym go.bundled) r.4 in
+      (Some (file_syntax tree))) (sym go.bundled) r.4 in
       tree-read legal files kept loaded log chain p r.0
-      (Some (file_view tree)) g off none go.trees grown r.2 the
+      (Some (file_syntax tree)) g off none go.trees grown r.2 the

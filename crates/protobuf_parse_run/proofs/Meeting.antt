@@ -1,7 +1,7 @@
 -- What meeting a file leaves.
 use Rattle.std.proofs.Common.{◌≡◌, ◌-◌, ◌<◌, ◌≤◌, false, List, [], ◌∷◌, ◌++◌, Some, None, Result}
 use Rattle.std.proofs.Common.{Ok, refl, sym, ◌∙◌, ap, subst, append-nil, length}
-use Rattle.protobuf_parse_syntax.specs.Trees.{file_view}
+use Rattle.protobuf_parse_syntax.specs.Trees.{file_syntax}
 use Rattle.protobuf_parse_syntax.specs.declared.tree.FileTree.{FileTree}
 use Rattle.protobuf_parse_model.specs.Descriptors.{Text}
 use Rattle.protobuf_parse_run.specs.declared.fault.RunFault.{RunFault}
@@ -47,14 +47,14 @@ module _ (legal : Legal) (files : Files) where
       (go : GoesOn files table new) (g : Good legal files kept loaded log chain)
       (off : among p chain ≡ false) (none : file_at p loaded ≡ None)
       (r : ReadsTree legal table a p log new (Ok tree)) where
-    tree-is : files.trees p ≡ Some (file_view tree)
+    tree-is : files.trees p ≡ Some (file_syntax tree)
     tree-is = tree-known legal files table kept loaded log new new chain a p tree go
         ([], sym (append-nil new)) g off none r
 
     read-good : Good legal files (kept ++ load a p ∷ []) loaded new (chain ++ p ∷ [])
     read-good =
         rw r.1 (good-load legal files kept loaded log chain a p r.0
-        (file_view tree) g off none r.2 r.3 tree-is)
+        (file_syntax tree) g off none r.2 r.3 tree-is)
 
     -- it was read
     pub met-new : (f : LoadFrame) → frame_path f ≡ p → f.tree ≡ tree → f.read ≡ length log
@@ -84,10 +84,10 @@ module _ (legal : Legal) (files : Files) where
     pub met-breaks : (i : Text) (f : RunFault) → length chain < 100 → f ≡ fault.Memory
         → Stops legal files (keep kept (walk files.trees i a (100 - length chain) chain p)) new f
     met-breaks i f lt m =
-        let rest = owed files.trees i chain p (import_paths (file_view tree)) in
+        let rest = owed files.trees i chain p (import_paths (file_syntax tree)) in
         let e : keep kept (walk files.trees i a (100 - length chain) chain p)
         ≡ keep (kept ++ load a p ∷ []) rest =
-        ap (keep kept) (walk-read files.trees i a chain p (file_view tree) lt off tree-is)
+        ap (keep kept) (walk-read files.trees i a chain p (file_syntax tree) lt off tree-is)
         ∙ keep-fresh kept rest (load a p)
         (fresh-load legal files kept loaded log chain a p g off none) in
         rw e (breaks-now legal files (kept ++ load a p ∷ []) rest loaded new

@@ -4,7 +4,7 @@ use Rattle.std.proofs.Common.{Err, subst}
 use Rattle.std.specs.Prelude.{IfOk, IfErr}
 use Rattle.std.specs.Str.{IsUtf8}
 use Rattle.protobuf_parse_syntax.specs.Parsing.{HasTree}
-use Rattle.protobuf_parse_syntax.specs.Trees.{FileSyntax, file_view}
+use Rattle.protobuf_parse_syntax.specs.Trees.{FileSyntax, file_syntax}
 use Rattle.protobuf_parse_syntax.specs.declared.tree.FileTree.{FileTree}
 use Rattle.protobuf_parse_run.specs.declared.fault.RunFault.{RunFault}
 use Rattle.protobuf_parse_run.specs.declared.fault.RunFault.TheVariants as fault
@@ -22,11 +22,11 @@ the_one text t utf8 has only (Some u) h = ap Some (only u h.1)
 the_one text t utf8 has only None h = absurd (h utf8 t has)
 
 pub tree_found : (r : Result FileTree RunFault) (text bytes : List ℕ) → text ≡ bytes → IsUtf8 bytes
-    → IfOk r (λ t. HasTree text (file_view t))
-    → IfOk r (λ t. (u : FileSyntax) → HasTree text u → u ≡ file_view t)
-    → IfOk r (λ t. IsTheTree (Some bytes) (Some (file_view t)))
+    → IfOk r (λ t. HasTree text (file_syntax t))
+    → IfOk r (λ t. (u : FileSyntax) → HasTree text u → u ≡ file_syntax t)
+    → IfOk r (λ t. IsTheTree (Some bytes) (Some (file_syntax t)))
 tree_found (Ok t) text bytes e utf8 has only =
-    rw (← e) ((rw (← e) at utf8, has), the_one text (file_view t) (rw (← e) at utf8) has only)
+    rw (← e) ((rw (← e) at utf8, has), the_one text (file_syntax t) (rw (← e) at utf8) has only)
 tree_found (Err f) text bytes e utf8 has only = tt
 
 no_tree : (text : List ℕ) → ((u : FileSyntax) → HasTree text u → ⊥) → IsTheTree (Some text) None

@@ -4,7 +4,7 @@ use Rattle.std.proofs.Common.{Ok, Err, sym, subst, ap}
 use Rattle.std.specs.Prelude.{IfOk, IfErr}
 use Rattle.protobuf_parse_base.specs.PathViews.{path_buf_text}
 use Rattle.protobuf_parse_syntax.specs.Counts.{statements_in}
-use Rattle.protobuf_parse_syntax.specs.Trees.{FileSyntax, file_view}
+use Rattle.protobuf_parse_syntax.specs.Trees.{FileSyntax, file_syntax}
 use Rattle.protobuf_parse_syntax.proofs.Sizes.{tree_size}
 use Rattle.protobuf_parse_syntax.specs.declared.tree.FileTree.{FileTree}
 use Rattle.protobuf_parse_model.specs.Descriptors.{Text}
@@ -31,10 +31,10 @@ tree_moved table p q x o t e n h =
 
 pub read_found : (legal : Legal) (table : List (Text × Text)) (asked : Asked) (p q : Text)
     (old new : List ReadEntry) (o : ReadOutcome) (tree : FileTree) → q ≡ p → Noted p o old new
-    → legal asked p o → IsTheTree (text_given table q (Some o)) (Some (file_view tree))
+    → legal asked p o → IsTheTree (text_given table q (Some o)) (Some (file_syntax tree))
     → ReadsTree legal table asked p old new (Ok tree)
 read_found legal table asked p q old new o tree e n ok t =
-    (n.0, n.1, n.2, rw n.3 ok, tree_moved table p q n.0.outcome o (Some (file_view tree)) e n.3 t)
+    (n.0, n.1, n.2, rw n.3 ok, tree_moved table p q n.0.outcome o (Some (file_syntax tree)) e n.3 t)
 
 -- a tree that was read has no more statements than a text has bytes
 pub few_statements : (text : Option Text) (t : FileSyntax) → IsTheTree text (Some t)
@@ -69,7 +69,7 @@ read_refused legal table asked p q old new o f e n ok other t s =
 pub read_ends : (legal : Legal) (table : List (Text × Text)) (asked : Asked) (p q : Text)
     (old new : List ReadEntry) (o : ReadOutcome) (r : Result FileTree RunFault) → q ≡ p
     → Noted p o old new → legal asked p o → (r ≡ Err fault.Memory → ⊥)
-    → IfOk r (λ t. IsTheTree (text_given table q (Some o)) (Some (file_view t)))
+    → IfOk r (λ t. IsTheTree (text_given table q (Some o)) (Some (file_syntax t)))
     → IfErr r (λ f. OrMemory f (IsTheTree (text_given table q (Some o)) None))
     → IfErr r (λ f. OrMemory f (StandsInLoad asked q (Some o) (text_given table q (Some o)) f))
     → ReadsTree legal table asked p old new r

@@ -13,7 +13,7 @@ use Rattle.std.specs.Global.{Global}
 use Rattle.std.specs.List.{AllByRecursion}
 use Rattle.protobuf_parse_base.specs.PathViews.{path_buf_text}
 use Rattle.protobuf_parse_syntax.specs.Dependencies.{imported, imports}
-use Rattle.protobuf_parse_syntax.specs.Trees.{ImportSyntax, import_view, statement_view}
+use Rattle.protobuf_parse_syntax.specs.Trees.{ImportSyntax, import_syntax, statement_syntax}
 use Rattle.protobuf_parse_syntax.specs.declared.tree.FileStatement.{FileStatement}
 use Rattle.protobuf_parse_syntax.specs.declared.tree.FileStatement.TheVariants as file_statement
 use Rattle.protobuf_parse_syntax.specs.declared.tree.Import.{Import}
@@ -184,11 +184,11 @@ at-take xs n x h = take-suc xs n x (slice_get_within xs n x h)
 imports_in-append : (xs ys : List FileStatement)
     → imports_in (xs ++ ys) ≡ imports_in xs ++ imports_in ys
 imports_in-append xs ys =
-    ap (λ z. map (λ (i : ImportSyntax). i.path) (imports z)) (map-append statement_view xs ys)
+    ap (λ z. map (λ (i : ImportSyntax). i.path) (imports z)) (map-append statement_syntax xs ys)
     ∙ (ap (map (λ (i : ImportSyntax). i.path))
-    (flat_map-append imported (map statement_view xs) (map statement_view ys))
-    ∙ map-append (λ (i : ImportSyntax). i.path) (imports (map statement_view xs))
-    (imports (map statement_view ys)))
+    (flat_map-append imported (map statement_syntax xs) (map statement_syntax ys))
+    ∙ map-append (λ (i : ImportSyntax). i.path) (imports (map statement_syntax xs))
+    (imports (map statement_syntax ys)))
 
 pub imports_in-shorter : (xs : List FileStatement) → length (imports_in xs) ≤ length xs
 imports_in-shorter [] = omega arith
@@ -241,17 +241,17 @@ done-other xs n x h other = ap imports_in (at-take xs n x h)
 
 public_in-append : (xs ys : List FileStatement)
     → public_in (xs ++ ys) ≡ public_in xs ++ public_in ys
-public_in-append xs ys = ap (flat_map public_paths_of) (map-append statement_view xs ys)
-    ∙ flat_map-append public_paths_of (map statement_view xs) (map statement_view ys)
+public_in-append xs ys = ap (flat_map public_paths_of) (map-append statement_syntax xs ys)
+    ∙ flat_map-append public_paths_of (map statement_syntax xs) (map statement_syntax ys)
 
 pub public-import : (xs : List FileStatement) (n : ℕ) (i : Import)
     → slice_get xs n ≡ Some (file_statement.Import i)
-    → public_in (take (suc n) xs) ≡ public_in (take n xs) ++ public_path (import_view i)
+    → public_in (take (suc n) xs) ≡ public_in (take n xs) ++ public_path (import_syntax i)
 public-import xs n i h =
     ap public_in (at-take xs n (file_statement.Import i) h)
     ∙ (public_in-append (take n xs) (file_statement.Import i ∷ [])
     ∙ ap (λ z. public_in (take n xs) ++ z)
-    (append-nil (public_path (import_view i) ++ []) ∙ append-nil (public_path (import_view i))))
+    (append-nil (public_path (import_syntax i) ++ []) ∙ append-nil (public_path (import_syntax i))))
 
 public-none : (x : FileStatement) → ((i : Import) → x ≡ file_statement.Import i → ⊥)
     → public_in (x ∷ []) ≡ []

@@ -5,7 +5,7 @@ use Rattle.std.proofs.Common.{append_assoc, append-nil, length, max, arith, take
 use Rattle.std.proofs.Common.{add-one}
 use Rattle.std.specs.List.{AllByRecursion}
 use Rattle.protobuf_parse_base.specs.PathViews.{path_buf_text}
-use Rattle.protobuf_parse_syntax.specs.Trees.{FileSyntax, file_view}
+use Rattle.protobuf_parse_syntax.specs.Trees.{FileSyntax, file_syntax}
 use Rattle.protobuf_parse_syntax.specs.declared.tree.FileStatement.{FileStatement}
 use Rattle.protobuf_parse_syntax.specs.declared.tree.FileStatement.TheVariants as file_statement
 use Rattle.protobuf_parse_syntax.specs.declared.tree.Import.{Import}
@@ -241,13 +241,13 @@ module _ (legal : Legal) (files : Files) (kept events : List Event) (i : Text) (
       let rest : List Event = owed files.trees i c (frame_path old) (later_in old)
       ++ todo files.trees i [] stack in
       let chain : chain_of [] (stack ++ old ∷ []) ≡ inner = chain_of-push [] stack old ∙ sym same in
-      let is : files.trees q ≡ Some (file_view frame.tree) =
-      subst (λ (z : Text). files.trees z ≡ Some (file_view frame.tree)) o.path_is k.held.is in
+      let is : files.trees q ≡ Some (file_syntax frame.tree) =
+      subst (λ (z : Text). files.trees z ≡ Some (file_syntax frame.tree)) o.path_is k.held.is in
       let opens : walk files.trees i the_resolver (100 - length inner) inner q ≡ load the_resolver q
-      ∷ owed files.trees i inner q (import_paths (file_view frame.tree)) =
-      walk-read files.trees i the_resolver inner q (file_view frame.tree) o.room o.off is in
-      let loads = after-load files.trees r.now the_resolver q (file_view frame.tree) is in
-      let left : left_in frame ≡ import_paths (file_view frame.tree) = rw o.next refl in
+      ∷ owed files.trees i inner q (import_paths (file_syntax frame.tree)) =
+      walk-read files.trees i the_resolver inner q (file_syntax frame.tree) o.room o.off is in
+      let loads = after-load files.trees r.now the_resolver q (file_syntax frame.tree) is in
+      let left : left_in frame ≡ import_paths (file_syntax frame.tree) = rw o.next refl in
       record {
         now = now;
         is = r.is
@@ -255,7 +255,7 @@ module _ (legal : Legal) (files : Files) (kept events : List Event) (i : Text) (
             (owed-next files.trees i c inner (frame_path old) q (left_in old) (later_in old)
             (todo files.trees i [] stack) same l ∙ ap (λ z. z ++ rest) opens)
             ∙ (keep-fresh r.now
-            (owed files.trees i inner q (import_paths (file_view frame.tree)) ++ rest)
+            (owed files.trees i inner q (import_paths (file_syntax frame.tree)) ++ rest)
             (load the_resolver q) k.fresh
             ∙ (rw (chain, o.path_is, left, todo-push files.trees i [] stack old) refl)));
         good = rw (chain, o.path_is) k.good;
@@ -368,19 +368,19 @@ module _ (legal : Legal) (files : Files) (kept events : List Event) (i : Text) (
       → AreKnown loaded tables log → IsTaken loaded log top → file_at (frame_path top) loaded ≡ None
       → among (frame_path top) (chain_of [] stack) ≡ false
       → length top.tree.statements.items ≤ top.next → top.height < 100
-      → SettlesOver (frame_path top) (file_view top.tree)
+      → SettlesOver (frame_path top) (file_syntax top.tree)
       (top.height + 1) top.read top.below.items top.public.items log loaded later after res
       → Leaves legal files (r.now ++ elab (frame_path top) ∷ [])
       (path_shape files.trees (frame_path top)) later log (chain_of [] stack) res
   running-closes stack top meets loaded later tables after log res r table full go known taken none
       off le low over =
       let numbered : FilesAreNumbered (named_trees loaded) top.below.items
-      (import_paths (file_view top.tree)) =
+      (import_paths (file_syntax top.tree)) =
       subst (λ (z : List Text). FilesAreNumbered (named_trees loaded) top.below.items z)
       (done-all top le) taken.numbered in
       let agrees = agrees-made files log loaded r.good.made in
       let next : IsNext files loaded tables log (frame_path top)
-      (file_view top.tree) top.below.items =
+      (file_syntax top.tree) top.below.items =
       record {
         listed = go.listed;
         packages = packages-read files table full go;
@@ -391,7 +391,8 @@ module _ (legal : Legal) (files : Files) (kept events : List Event) (i : Text) (
         none = none;
         numbered = numbered;
       } in
-      let settles = settled-in files loaded later tables after (frame_path top) (file_view top.tree)
+      let settles = settled-in files loaded later tables after (frame_path top)
+      (file_syntax top.tree)
       (top.height + 1) top.read top.below.items top.public.items log res next over in
       ends res settles
     where
@@ -399,7 +400,7 @@ module _ (legal : Legal) (files : Files) (kept events : List Event) (i : Text) (
       p = frame_path top
 
       t : FileSyntax
-      t = file_view top.tree
+      t = file_syntax top.tree
 
       ends : (res : Result LoadedAs RunFault)
           → Settles files p t (top.height + 1) top.read log loaded later res
@@ -546,14 +547,14 @@ pub running-start : (legal : Legal) (files : Files) (kept : List Event) (i : Tex
     → IsRunning legal files kept (keep kept (walk files.trees i a 100 [] p)) i start meets
     [] frame loaded after
 running-start legal files kept i a p start meets outer frame loaded log after met k o =
-    let is : files.trees p ≡ Some (file_view frame.tree) =
-    subst (λ (z : Text). files.trees z ≡ Some (file_view frame.tree)) o.path_is k.held.is in
-    let loads = after-load files.trees kept a p (file_view frame.tree) is in
-    let left : left_in frame ≡ import_paths (file_view frame.tree) = rw o.next refl in
+    let is : files.trees p ≡ Some (file_syntax frame.tree) =
+    subst (λ (z : Text). files.trees z ≡ Some (file_syntax frame.tree)) o.path_is k.held.is in
+    let loads = after-load files.trees kept a p (file_syntax frame.tree) is in
+    let left : left_in frame ≡ import_paths (file_syntax frame.tree) = rw o.next refl in
     record {
       now = kept ++ load a p ∷ [];
-      is = ap (keep kept) (walk-read files.trees i a [] p (file_view frame.tree) o.room o.off is)
-          ∙ (keep-fresh kept (owed files.trees i [] p (import_paths (file_view frame.tree)))
+      is = ap (keep kept) (walk-read files.trees i a [] p (file_syntax frame.tree) o.room o.off is)
+          ∙ (keep-fresh kept (owed files.trees i [] p (import_paths (file_syntax frame.tree)))
           (load a p) k.fresh ∙ (rw (o.path_is, left, append-nil) refl));
       good = rw o.path_is k.good;
       held = k.held;

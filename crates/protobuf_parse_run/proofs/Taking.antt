@@ -7,7 +7,7 @@ use Rattle.std.specs.List.{AllByRecursion}
 use Rattle.std.proofs.lemmas.List.{map-append, take_all}
 use Rattle.protobuf_parse_base.specs.PathViews.{path_buf_text}
 use Rattle.protobuf_parse_syntax.specs.Dependencies.{is_public}
-use Rattle.protobuf_parse_syntax.specs.Trees.{file_view, import_view}
+use Rattle.protobuf_parse_syntax.specs.Trees.{file_syntax, import_syntax}
 use Rattle.protobuf_parse_syntax.specs.declared.tree.FileStatement.{FileStatement}
 use Rattle.protobuf_parse_syntax.specs.declared.tree.FileStatement.TheVariants as file_statement
 use Rattle.protobuf_parse_syntax.specs.declared.tree.Import.{Import}
@@ -32,11 +32,11 @@ use Rattle.protobuf_parse_run.proofs.Stacks.{public-other}
 
 -- the imports of a frame at its end
 pub done-all : (f : LoadFrame) → length f.tree.statements.items ≤ f.next
-    → done_in f ≡ import_paths (file_view f.tree)
+    → done_in f ≡ import_paths (file_syntax f.tree)
 done-all f le = ap imports_in (take_all f.next f.tree.statements.items le)
 
 pub public-all : (f : LoadFrame) → length f.tree.statements.items ≤ f.next
-    → public_done f ≡ public_paths (file_view f.tree)
+    → public_done f ≡ public_paths (file_syntax f.tree)
 public-all f le = ap public_in (take_all f.next f.tree.statements.items le)
 
 -- the number of an import, if it is public
@@ -88,7 +88,7 @@ taken-joined loaded log old new placed i q t at named number j =
     ∙ ap (λ z. done_in old ++ z ∷ []) named) in
     let behind : public_done new ≡ public_in (take (suc old.next) old.tree.statements.items) =
     rw (j.tree_is, j.next) refl in
-    let publicly : public_done new ≡ public_done old ++ public_path (import_view i) = behind
+    let publicly : public_done new ≡ public_done old ++ public_path (import_syntax i) = behind
     ∙ public-import old.tree.statements.items old.next i at in
     let added : new.public.items ≡ old.public.items
     ++ number_if (is_public i.vis) placed.number = j.public
@@ -105,7 +105,7 @@ taken-joined loaded log old new placed i q t at named number j =
           rw (added, publicly)
           (are-append (named_trees loaded) old.public.items
           (number_if (is_public i.vis) placed.number) (public_done old)
-          (public_path (import_view i)) t.public
+          (public_path (import_syntax i)) t.public
           (public-one (named_trees loaded) (is_public i.vis) placed.number
           (path_buf_text i.path) here));
       read = rw j.path_is t.read;
@@ -170,29 +170,29 @@ pub closed-is : (f : LoadFrame) (old new : List LoadedEntry) (before after : Tab
     (log : List ReadEntry) (chain : List Text) (placed : LoadedAs) → AreKnown old before log
     → IsTaken old log f → AreUnloaded (chain ++ frame_path f ∷ []) old
     → among (frame_path f) chain ≡ false → length f.tree.statements.items ≤ f.next
-    → SettlesOver (frame_path f) (file_view f.tree)
+    → SettlesOver (frame_path f) (file_syntax f.tree)
     (f.height + 1) f.read f.below.items f.public.items log old new after (Ok placed)
     → IsClosed old new after log chain (frame_path f) placed
 closed-is f old new before after log chain placed known taken unloaded off le settles =
     let none = unloaded (frame_path f) (among-last (frame_path f) chain) in
     let a = settles none in
     let numbered : FilesAreNumbered (named_trees old) f.below.items
-    (import_paths (file_view f.tree)) =
+    (import_paths (file_syntax f.tree)) =
     subst (λ (z : List Text). FilesAreNumbered (named_trees old) f.below.items z)
     (done-all f le) taken.numbered in
     let publicly : FilesAreNumbered (named_trees old) f.public.items
-    (public_paths (file_view f.tree)) =
+    (public_paths (file_syntax f.tree)) =
     subst (λ (z : List Text). FilesAreNumbered (named_trees old) f.public.items z)
     (public-all f le) taken.public in
     let front : AreUnloaded chain old = λ p on. unloaded p
     (among-left p chain (frame_path f ∷ []) on) in
     record {
-      known = known-push (frame_path f) (file_view f.tree)
+      known = known-push (frame_path f) (file_syntax f.tree)
           (f.height + 1) f.read f.below.items f.public.items old new before after log placed known
           taken.read numbered publicly none a;
       more = ((a.key, a.file) ∷ [], a.entries);
       number =
-          (met-push (frame_path f) (file_view f.tree)
+          (met-push (frame_path f) (file_syntax f.tree)
           (f.height + 1) f.read f.below.items f.public.items old new before after log placed known
           taken.read numbered publicly none a).number;
       unloaded =

@@ -9,7 +9,7 @@ use Rattle.std.specs.List.{AllByRecursion}
 use Rattle.protobuf_parse_base.specs.PathViews.{path_buf_text}
 use Rattle.protobuf_parse_syntax.specs.Counts.{statements_in}
 use Rattle.protobuf_parse_syntax.specs.Dependencies.{imports, is_public}
-use Rattle.protobuf_parse_syntax.specs.Trees.{ImportSyntax, file_view, statement_view}
+use Rattle.protobuf_parse_syntax.specs.Trees.{ImportSyntax, file_syntax, statement_syntax}
 use Rattle.protobuf_parse_syntax.specs.declared.tree.FileStatement.{FileStatement}
 use Rattle.protobuf_parse_syntax.specs.declared.tree.FileStatement.TheVariants as file_statement
 use Rattle.protobuf_parse_syntax.specs.declared.tree.Import.{Import}
@@ -34,7 +34,7 @@ frame_path f = string_bytes f.path
 
 -- the paths that these statements import
 abbrev pub imports_in : List FileStatement → List Text
-imports_in xs = map (λ (i : ImportSyntax). i.path) (imports (map statement_view xs))
+imports_in xs = map (λ (i : ImportSyntax). i.path) (imports (map statement_syntax xs))
 
 -- of a frame: the imports that are loaded, those that are left, and those behind the next
 abbrev pub done_in : LoadFrame → List Text
@@ -48,7 +48,7 @@ later_in f = imports_in (drop (suc f.next) f.tree.statements.items)
 
 -- the paths that these statements import publicly
 abbrev pub public_in : List FileStatement → List Text
-public_in xs = flat_map public_paths_of (map statement_view xs)
+public_in xs = flat_map public_paths_of (map statement_syntax xs)
 
 -- those of them that are loaded
 abbrev pub public_done : LoadFrame → List Text
@@ -96,7 +96,7 @@ first_path (f ∷ fs) path = frame_path f
 pub record IsHeld (files : Files) (now : List Event) (log : List ReadEntry)
     (f : LoadFrame) : Type 0 where
   pub load : has (load the_resolver (frame_path f)) now ≡ true
-  pub is : files.trees (frame_path f) ≡ Some (file_view f.tree)
+  pub is : files.trees (frame_path f) ≡ Some (file_syntax f.tree)
   pub settled : Settled now f.height (imports_shape files.trees (done_in f))
   pub entry : ReadEntry
   pub found : slice_get log f.read ≡ Some entry
@@ -124,7 +124,7 @@ pub record IsTaken (loaded : List LoadedEntry) (log : List ReadEntry) (f : LoadF
   pub numbered : FilesAreNumbered (named_trees loaded) f.below.items (done_in f)
   pub public : FilesAreNumbered (named_trees loaded) f.public.items (public_done f)
   pub read : among (frame_path f) (read_paths log) ≡ true
-  pub few : statements_in (file_view f.tree) ≤ 2147483647
+  pub few : statements_in (file_syntax f.tree) ≤ 2147483647
 
 -- a frame above this chain, whose next statement imports that path
 pub record IsWaiting (chain : List Text) (f : LoadFrame) (path : Text) : Type 0 where
@@ -169,7 +169,7 @@ pub record IsOpened (chain : List Text) (path : Text) (loaded : List LoadedEntry
   pub entry : ReadEntry
   pub reads : new ≡ old ++ entry ∷ []
   pub named : path_buf_text entry.path ≡ path
-  pub few : statements_in (file_view f.tree) ≤ 2147483647
+  pub few : statements_in (file_syntax f.tree) ≤ 2147483647
 
 -- a loaded file that was met on this chain
 pub record IsAgain (chain : List Text) (path : Text) (loaded : List LoadedEntry)

@@ -9,7 +9,7 @@ use Rattle.std.specs.List.{AllByRecursion, Contains}
 use Rattle.std.specs.List.Sorted.{IsStrictlyIncreasing}
 use Rattle.std.specs.Map.{lookup}
 use Rattle.protobuf_parse_base.specs.PathViews.{path_buf_text}
-use Rattle.protobuf_parse_syntax.specs.Trees.{FileSyntax, file_view}
+use Rattle.protobuf_parse_syntax.specs.Trees.{FileSyntax, file_syntax}
 use Rattle.protobuf_parse_syntax.specs.declared.tree.FileTree.{FileTree}
 use Rattle.protobuf_parse_model.specs.Descriptors as described
 use Rattle.protobuf_parse_model.specs.Descriptors.{Text, FileDescriptor}
@@ -105,7 +105,7 @@ pub record IndexBegins (places : RunPlaces) (plains : List FileDescriptor) : Typ
 
 -- the tree that a loaded file had
 abbrev pub tree_in : LoadedFile → FileSyntax
-tree_in file = file_view file.tree.value
+tree_in file = file_syntax file.tree.value
 
 -- the paths and the trees of the loaded files, in their order
 abbrev pub Named : Type 0
@@ -409,7 +409,7 @@ abbrev pub ReadsTree : Legal → List (Text × Text) → Asked → Text → List
     → Result FileTree RunFault → Type 0
 ReadsTree legal table asked p old new (Ok tree) =
     (e : ReadEntry) × (new ≡ old ++ e ∷ []) × (path_buf_text e.path ≡ p) × legal asked p e.outcome
-    × IsTheTree (text_given table p (Some e.outcome)) (Some (file_view tree))
+    × IsTheTree (text_given table p (Some e.outcome)) (Some (file_syntax tree))
 ReadsTree legal table asked p old new (Err f) =
     ((e : ReadEntry) × (new ≡ old ++ e ∷ []) × (path_buf_text e.path ≡ p) × legal asked p e.outcome
     × IsTheTree (text_given table p (Some e.outcome)) None

@@ -15,9 +15,11 @@ use Rattle.std.specs.Prelude.{◌≡◌, ◌⊎◌, List, [], ◌∷◌, ◌++�
 use Rattle.protobuf_parse_syntax.specs.Trees.{FileSyntax}
 use Rattle.protobuf_parse_model.specs.declared.customs.Construct.{Construct}
 use Rattle.protobuf_parse_model.specs.declared.customs.Construct.TheVariants as of
-use Rattle.protobuf_parse_model.specs.Options.{FileOptionsSet, MessageOptionsSet, FieldOptionsSet}
-use Rattle.protobuf_parse_model.specs.Options.{OneofOptionsSet, EnumOptionsSet, EnumValueOptionsSet}
-use Rattle.protobuf_parse_model.specs.Options.{ServiceOptionsSet, MethodOptionsSet}
+use Rattle.protobuf_parse_model.specs.Options.{FileOptionValues, MessageOptionValues}
+use Rattle.protobuf_parse_model.specs.Options.{FieldOptionValues}
+use Rattle.protobuf_parse_model.specs.Options.{OneofOptionValues, EnumOptionValues}
+use Rattle.protobuf_parse_model.specs.Options.{EnumValueOptionValues}
+use Rattle.protobuf_parse_model.specs.Options.{ServiceOptionValues, MethodOptionValues}
 use Rattle.protobuf_parse_model.specs.Descriptors.{Text, FieldDescriptor, OneofDescriptor}
 use Rattle.protobuf_parse_model.specs.Descriptors.{EnumValueDescriptor, EnumDescriptor}
 use Rattle.protobuf_parse_model.specs.Descriptors.{MessageDescriptor, MessageDescriptors, a_message}
@@ -44,23 +46,23 @@ held custom construct (Some options) =
 
 -- of a field or of an extension
 abbrev pub held_in_field : FieldDescriptor → List HeldBytes
-held_in_field d = held (λ (o : FieldOptionsSet). o.custom) of.Field d.options
+held_in_field d = held (λ (o : FieldOptionValues). o.custom) of.Field d.options
 
 abbrev pub held_in_oneof : OneofDescriptor → List HeldBytes
-held_in_oneof d = held (λ (o : OneofOptionsSet). o.custom) of.Oneof d.options
+held_in_oneof d = held (λ (o : OneofOptionValues). o.custom) of.Oneof d.options
 
 abbrev pub held_in_value : EnumValueDescriptor → List HeldBytes
-held_in_value d = held (λ (o : EnumValueOptionsSet). o.custom) of.EnumValue d.options
+held_in_value d = held (λ (o : EnumValueOptionValues). o.custom) of.EnumValue d.options
 
 abbrev pub held_in_enum : EnumDescriptor → List HeldBytes
-held_in_enum d = held (λ (o : EnumOptionsSet). o.custom) of.Enum d.options
+held_in_enum d = held (λ (o : EnumOptionValues). o.custom) of.Enum d.options
     ++ flat_map held_in_value d.value
 
 abbrev mutual
   -- with the messages inside it
   pub held_in_message : MessageDescriptor → List HeldBytes
   held_in_message (a_message parts nested) =
-      held (λ (o : MessageOptionsSet). o.custom) of.Message parts.options
+      held (λ (o : MessageOptionValues). o.custom) of.Message parts.options
       ++ flat_map held_in_field parts.field
       ++ flat_map held_in_oneof parts.oneof_decl
       ++ flat_map held_in_enum parts.enum_type
@@ -72,14 +74,14 @@ abbrev mutual
   held_in_messages (messages m ms) = held_in_message m ++ held_in_messages ms
 
 abbrev pub held_in_method : MethodDescriptor → List HeldBytes
-held_in_method d = held (λ (o : MethodOptionsSet). o.custom) of.Method d.options
+held_in_method d = held (λ (o : MethodOptionValues). o.custom) of.Method d.options
 
 abbrev pub held_in_service : ServiceDescriptor → List HeldBytes
-held_in_service d = held (λ (o : ServiceOptionsSet). o.custom) of.Service d.options
+held_in_service d = held (λ (o : ServiceOptionValues). o.custom) of.Service d.options
     ++ flat_map held_in_method d.method
 
 abbrev pub held_in_file : FileDescriptor → List HeldBytes
-held_in_file d = held (λ (o : FileOptionsSet). o.custom) of.File d.options
+held_in_file d = held (λ (o : FileOptionValues). o.custom) of.File d.options
     ++ flat_map held_in_message d.message_type
     ++ flat_map held_in_enum d.enum_type
     ++ flat_map held_in_service d.service

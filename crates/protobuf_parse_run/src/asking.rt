@@ -6,7 +6,7 @@ ghost use Rattle.std.specs.Borrow.{Bor};
 ghost use Rattle.std.specs.Str.{IsUtf8};
 ghost use Rattle.protobuf_parse_base.specs.PathViews.{path_buf_text};
 ghost use Rattle.protobuf_parse_syntax.specs.Parsing.{HasTree};
-ghost use Rattle.protobuf_parse_syntax.specs.Trees.{FileSyntax, file_view};
+ghost use Rattle.protobuf_parse_syntax.specs.Trees.{FileSyntax, file_syntax};
 ghost use Rattle.protobuf_parse_run.specs.Walks.{the_resolver, the_reader};
 ghost use Rattle.protobuf_parse_run.specs.Run.{Resolved, WasRead, StandsInLoad, origin_given};
 ghost use Rattle.protobuf_parse_run.specs.Run.{row_of};
@@ -121,7 +121,7 @@ pub fn opened<R: ProtoPathResolver, I>(
     requires { CanGive (asked_by fs_path) outcome.now }
     ensures tree { IfOk result
         (λ t. IsTheTree (text_given (rows sources.now.bundled.now) path.now (Some outcome.now))
-        (Some (file_view t))) }
+        (Some (file_syntax t))) }
     ensures treeless { IfErr result
         (λ f. OrMemory f
         (IsTheTree (text_given (rows sources.now.bundled.now) path.now (Some outcome.now)) None)) }
@@ -200,7 +200,7 @@ fn tree_of_bytes(
     origin: &str,
     content: &[u8],
 ) -> Result<FileTree, RunFault>
-    ensures tree { IfOk result (λ t. IsTheTree (Some content.now) (Some (file_view t))) }
+    ensures tree { IfOk result (λ t. IsTheTree (Some content.now) (Some (file_syntax t))) }
     ensures treeless { IfErr result (λ f. OrMemory f (IsTheTree (Some content.now) None)) }
     ensures stands { IfErr result
         (λ f. OrMemory f (IsContentFault path.now origin.now content.now f)) }
@@ -223,8 +223,8 @@ fn not_utf8(alloc: Global, path: &str) -> RunFault
 
 /// The tree of a text, or L9 with the origin.
 fn tree_of_text(alloc: Global, origin: &str, text: &str) -> Result<FileTree, RunFault>
-    ensures tree { IfOk result (λ t. HasTree text.now (file_view t)) }
-    ensures only { IfOk result (λ t. (u : FileSyntax) → HasTree text.now u → u ≡ file_view t) }
+    ensures tree { IfOk result (λ t. HasTree text.now (file_syntax t)) }
+    ensures only { IfOk result (λ t. (u : FileSyntax) → HasTree text.now u → u ≡ file_syntax t) }
     ensures treeless { IfErr result (λ f. OrMemory f ((u : FileSyntax) → HasTree text.now u → ⊥)) }
     ensures stands { IfErr result (λ f. OrMemory f (IsParseFault origin.now text.now f)) }
 {

@@ -3,7 +3,7 @@
 ghost use Rattle.std.specs.Prelude.{◌≡◌, ◌≤◌, [], List, map, option_map, slice_get, IfOk};
 ghost use Rattle.std.specs.List.Sorted.{IsStrictlyIncreasing};
 ghost use Rattle.protobuf_parse_syntax.specs.Counts.{statements_in};
-ghost use Rattle.protobuf_parse_syntax.specs.Trees.{FileSyntax, file_view};
+ghost use Rattle.protobuf_parse_syntax.specs.Trees.{FileSyntax, file_syntax};
 ghost use Rattle.protobuf_parse_model.specs.Descriptors as described;
 ghost use Rattle.protobuf_parse_model.specs.Faults.{Elaborates};
 ghost use Rattle.protobuf_parse_model.specs.FileDescriptor.{environment, file_faults, file_of};
@@ -42,14 +42,14 @@ pub fn elaborated(
     path: &str,
     tree: &FileTree,
 ) -> Result<Described, ElabFailure>
-    requires few { statements_in (file_view tree.now) ≤ 2147483647 }
+    requires few { statements_in (file_syntax tree.now) ≤ 2147483647 }
     requires reach { IsStrictlyIncreasing sights.now.reach.items }
     requires sight { IsStrictlyIncreasing sights.now.sight.items }
     requires begins { IndexBegins tables.old.places (map plain_in loaded.now.entries) }
     ensures names { tables.new.names ≡ tables.old.names }
     ensures describes { (files : List FileSyntax) → TableTells tables.old.names files
         → Describes loaded.now.entries files sights.now.reach.items sights.now.sight.items path.now
-        (file_view tree.now) result }
+        (file_syntax tree.now) result }
     ensures begins { IfOk result (λ d. IndexBegins tables.new.places
         (plains_with loaded.now.entries (plain_or d.plain d.descriptor))) }
 {
@@ -81,12 +81,12 @@ fn with_customs(
     path: &str,
     tree: &FileTree,
 ) -> Result<Described, ElabFailure>
-    requires few { statements_in (file_view tree.now) ≤ 2147483647 }
+    requires few { statements_in (file_syntax tree.now) ≤ 2147483647 }
     requires begins { IndexBegins places.old (map plain_in loaded.now.entries) }
     ensures describes { (files : List FileSyntax) → TableTells seen.now.declarations.now files
         → link_faults (picked files seen.now.reach.now) ≡ []
         → Describes loaded.now.entries files seen.now.reach.now seen.now.sight.now path.now
-        (file_view tree.now) result }
+        (file_syntax tree.now) result }
     ensures begins { IfOk result (λ d. IndexBegins places.new
         (plains_with loaded.now.entries (plain_or d.plain d.descriptor))) }
 {
@@ -109,14 +109,14 @@ fn spelled(
     path: &str,
     tree: &FileTree,
 ) -> Result<FileDescriptorProto, ElabFailure>
-    requires few { statements_in (file_view tree.now) ≤ 2147483647 }
+    requires few { statements_in (file_syntax tree.now) ≤ 2147483647 }
     requires holds { Holds places.now
         (plains_with loaded.now.entries (described.file_view plain.now)) }
     ensures { (files : List FileSyntax) → TableTells seen.now.declarations.now files
         → let plains = plains_with loaded.now.entries (described.file_view plain.now) in
         let sight = seen.now.sight.now in
         let customs = customs_over plains seen.now.reach.now sight in
-        let t = file_view tree.now in let env = environment (picked files sight) customs t in
+        let t = file_syntax tree.now in let env = environment (picked files sight) customs t in
         Elaborates described.file_view result (file_faults env t) (file_of env path.now t) }
 {
     let reached = plains(alloc, loaded, plain, seen.reach)?;

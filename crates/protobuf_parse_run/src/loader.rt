@@ -9,7 +9,7 @@ ghost use Rattle.std.specs.List.Sorted.{IsStrictlyIncreasing};
 ghost use Rattle.protobuf_parse_base.specs.declared.proto_path.path.ProtoPathBuf.{ProtoPathBuf};
 ghost use Rattle.protobuf_parse_base.specs.PathViews.{path_buf_text};
 ghost use Rattle.protobuf_parse_syntax.specs.Counts.{statements_in};
-ghost use Rattle.protobuf_parse_syntax.specs.Trees.{file_view};
+ghost use Rattle.protobuf_parse_syntax.specs.Trees.{file_syntax};
 ghost use Rattle.protobuf_parse_syntax.specs.Trees.{FileSyntax};
 ghost use Rattle.protobuf_parse_model.specs.Faults.{fault_view};
 ghost use Rattle.protobuf_parse_model.specs.Tables.{TableTells};
@@ -42,13 +42,13 @@ use crate::source::{InputReader, ProtoPathResolver, Sources};
 use crate::tables::Tables;
 use protobuf_parse_base::proto_path::ProtoPathBuf;
 use protobuf_parse_model::{ElabError, ElabFailure, FileDescriptorProto};
-use protobuf_parse_syntax::{FileStatement, FileTree, ImportVis};
+use protobuf_parse_syntax::{FileStatement, FileTree};
 use std::alloc::{AllocError, Global};
 use std::mem;
 use std::snapshot::Snapshot;
 
 /// How many files an import chain may have.
-pub const LIMIT: usize = 100;
+pub const MAX_CHAIN: usize = 100;
 
 /// A file whose imports are loaded, and which became a descriptor.
 #[derive(Drop)]
@@ -327,7 +327,7 @@ fn meet<R: ProtoPathResolver, I: InputReader>(
     path: &ProtoPathBuf,
     fs_path: Option<&str>,
 ) -> Result<Met, RunFault>
-    requires chain { length loader.old.chain.items ≤ LIMIT }
+    requires chain { length loader.old.chain.items ≤ MAX_CHAIN }
     requires room { loader.old.meets + 1 < 2 ^ 128 }
     ensures loaded { loader.new.loaded ≡ loader.old.loaded }
     ensures tables { loader.new.tables ≡ loader.old.tables }
@@ -346,12 +346,12 @@ fn meet<R: ProtoPathResolver, I: InputReader>(
         return Err(cycle(alloc, text));
     }
     if let Some(placed) = placed_at(&loader.loaded, text) {
-        if placed.height > LIMIT - loader.chain.len() {
+        if placed.height > MAX_CHAIN - loader.chain.len() {
             return Err(too_long(alloc, input));
         }
         return Ok(Met::Loaded(placed));
     }
-    if loader.chain.len() == LIMIT {
+    if loader.chain.len() == MAX_CHAIN {
         return Err(too_long(alloc, input));
     }
     let read = loader.reads.len();
@@ -389,7 +389,7 @@ fn is_public_next(statements: &[FileStatement], number: usize) -> bool
     ensures { result ≡ is_public_at (slice_get statements.now number) }
 {
     match statements.get(number) {
-        Some(FileStatement::Import(import)) => matches!(import.vis, ImportVis::Public),
+        Some(FileStatement::Import(import)) => import.vis.is_public(),
         _ => false,
     }
 }
@@ -406,8 +406,8 @@ fn push_if(numbers: &mut Vec<u32>, public: bool, number: u32) -> Result<(), Allo
 
 /// Elaborates the last file of the chain, whose imports are loaded, and adds it to the loaded ones.
 fn close(alloc: Global, loader: &mut Loader, frame: LoadFrame) -> Result<LoadedAs, RunFault>
-    requires low { frame.height < LIMIT }
-    requires few { statements_in (file_view frame.tree) ≤ 2147483647 }
+    requires low { frame.height < MAX_CHAIN }
+    requires few { statements_in (file_syntax frame.tree) ≤ 2147483647 }
     requires begins { HasIndex loader.old }
     ensures reads { loader.new.reads ≡ loader.old.reads }
     ensures meets { loader.new.meets ≡ loader.old.meets }
@@ -417,7 +417,7 @@ fn close(alloc: Global, loader: &mut Loader, frame: LoadFrame) -> Result<LoadedA
     ensures height { IfOk result (λ placed. placed.height ≡ frame.height + 1) }
     ensures settles { TableTells loader.old.tables.names
         (trees_of (named_trees loader.old.loaded.entries))
-        → SettlesOver (frame_path frame) (file_view frame.tree)
+        → SettlesOver (frame_path frame) (file_syntax frame.tree)
         (frame.height + 1) frame.read frame.below.items frame.public.items loader.old.reads.items
         loader.old.loaded.entries loader.new.loaded.entries loader.new.tables result }
 {
@@ -547,7 +547,7 @@ fn settle(
     imports: &ImportNumbers<'_>,
     read: usize,
 ) -> Result<LoadedAs, RunFault>
-    requires few { statements_in (file_view tree) ≤ 2147483647 }
+    requires few { statements_in (file_syntax tree) ≤ 2147483647 }
     requires begins { HasIndex loader.old }
     ensures reads { loader.new.reads ≡ loader.old.reads }
     ensures chain { loader.new.chain ≡ loader.old.chain }
@@ -556,7 +556,7 @@ fn settle(
     ensures settles { TableTells loader.old.tables.names
         (trees_of (named_trees loader.old.loaded.entries))
         → SettlesOver (string_bytes path)
-        (file_view tree) height read imports.now.all.now imports.now.public.now
+        (file_syntax tree) height read imports.now.all.now imports.now.public.now
         loader.old.reads.items loader.old.loaded.entries loader.new.loaded.entries loader.new.tables
         result }
 {
@@ -603,7 +603,7 @@ fn descriptor_of(
     tree: &FileTree,
     read: usize,
 ) -> Result<Described, RunFault>
-    requires few { statements_in (file_view tree.now) ≤ 2147483647 }
+    requires few { statements_in (file_syntax tree.now) ≤ 2147483647 }
     requires reach { IsStrictlyIncreasing sights.now.reach.items }
     requires sight { IsStrictlyIncreasing sights.now.sight.items }
     requires begins { HasIndex loader.old }
@@ -615,9 +615,9 @@ fn descriptor_of(
     ensures ok { (files : List FileSyntax) → TableTells loader.old.tables.names files →
         IfOk result
         (λ d. Describes loader.old.loaded.entries files sights.now.reach.items
-        sights.now.sight.items path.now (file_view tree.now) (Ok d)) }
+        sights.now.sight.items path.now (file_syntax tree.now) (Ok d)) }
     ensures err { (files : List FileSyntax) → TableTells loader.old.tables.names files
-        → let t = file_view tree.now in
+        → let t = file_syntax tree.now in
         IfErr result (λ f. (e : ReadEntry) → slice_get loader.old.reads.items read ≡ Some e
         → path_buf_text e.path ≡ path.now
         → OrMemory f (StandsInElab (origin_given path.now (Some e.outcome))

@@ -8,8 +8,8 @@ use Rattle.protobuf_parse_syntax.specs.Trees as tree
 use Rattle.protobuf_parse_syntax.specs.Trees.{FieldStatementSyntax}
 use Rattle.protobuf_parse_syntax.specs.Trees.{MessageStatementSyntax}
 use Rattle.protobuf_parse_syntax.specs.Trees.{StatementSyntax}
-use Rattle.protobuf_parse_syntax.specs.Trees.{message_statement_view, message_view}
-use Rattle.protobuf_parse_syntax.specs.Trees.{statement_view}
+use Rattle.protobuf_parse_syntax.specs.Trees.{message_statement_syntax, message_syntax}
+use Rattle.protobuf_parse_syntax.specs.Trees.{statement_syntax}
 use Rattle.protobuf_parse_syntax.specs.Counts.{field_count, in_group}
 use Rattle.protobuf_parse_syntax.specs.Counts.{message_statement_count, in_body, in_message}
 use Rattle.protobuf_parse_syntax.specs.Counts.{statement_count}
@@ -88,22 +88,22 @@ message_body (s ∷ ss) = omega (arith, sum_by-cons message_statement_count s ss
 -- ---- what stands in a part of a tree
 
 pub in_message_of : (m : Message) →
-    in_message (message_view m) ≡
-    sum_by message_statement_count (map message_statement_view m.body.items)
+    in_message (message_syntax m) ≡
+    sum_by message_statement_count (map message_statement_syntax m.body.items)
 in_message_of m = ap in_message (view_parts m)
 
 -- a body in memory is no longer than what stands in it
 pub file_length : (ss : List FileStatement) →
-    length ss ≤ sum_by statement_count (map statement_view ss)
-file_length ss = length_counts statement_view statement_count statement_counts ss
+    length ss ≤ sum_by statement_count (map statement_syntax ss)
+file_length ss = length_counts statement_syntax statement_count statement_counts ss
 
 pub body_length : (ss : List MessageStatement) →
-    length ss ≤ sum_by message_statement_count (map message_statement_view ss)
+    length ss ≤ sum_by message_statement_count (map message_statement_syntax ss)
 body_length ss =
-    length_counts message_statement_view message_statement_count message_statement_counts ss
+    length_counts message_statement_syntax message_statement_count message_statement_counts ss
 
 pub message_counts : (m : Message) →
-    message_statement_count (message_statement_view (statement.Message m)) ≡
-    suc (in_message (message_view m))
+    message_statement_count (message_statement_syntax (statement.Message m)) ≡
+    suc (in_message (message_syntax m))
 message_counts m =
-    ap message_statement_count (views_message m) ∙ ap suc (message_body (message_view m).body)
+    ap message_statement_count (views_message m) ∙ ap suc (message_body (message_syntax m).body)

@@ -11,24 +11,25 @@ use Rattle.protobuf_parse_syntax.specs.declared.tree.field.FieldStatement.{fold-
 use Rattle.protobuf_parse_syntax.specs.declared.tree.field.FieldStatement.TheOpen as statement_layer
 use Rattle.protobuf_parse_syntax.specs.declared.tree.field.FieldStatement.TheVariants as statement
 
-pub views_named : (n : String Global) → tree.type_view (type_.Named n) ≡ tree.named (string_bytes n)
-views_named n = ap tree.type_view (sym (type_.rolls-Named n))
+pub views_named : (n : String Global) → tree.type_syntax (type_.Named n)
+    ≡ tree.named (string_bytes n)
+views_named n = ap tree.type_syntax (sym (type_.rolls-Named n))
     ∙ fold-roll-Type TypeSyntax tree.type_step (type_layer.Named n)
 
 pub views_plain : (f : Field)
-    → tree.field_statement_view (statement.Field f) ≡ tree.field (tree.field_view f)
-views_plain f = ap tree.field_statement_view (sym (statement.rolls-Field f))
+    → tree.field_statement_syntax (statement.Field f) ≡ tree.field (tree.field_syntax f)
+views_plain f = ap tree.field_statement_syntax (sym (statement.rolls-Field f))
     ∙ fold-roll-FieldStatement FieldStatementSyntax GroupSyntax tree.field_statement_step
     tree.group_step (statement_layer.Field f)
 
 views_inner : (g : Group)
     → fold-Group FieldStatementSyntax GroupSyntax tree.field_statement_step tree.group_step g
-    ≡ tree.group_view g
+    ≡ tree.group_syntax g
 views_inner g =
     fold_out-Group FieldStatementSyntax GroupSyntax tree.field_statement_step tree.group_step g
 
 pub views_group : (g : Group)
-    → tree.field_statement_view (statement.Group g) ≡ tree.group_of (tree.group_view g)
-views_group g = ap tree.field_statement_view (sym (statement.rolls-Group g))
+    → tree.field_statement_syntax (statement.Group g) ≡ tree.group_of (tree.group_syntax g)
+views_group g = ap tree.field_statement_syntax (sym (statement.rolls-Group g))
     ∙ fold-roll-FieldStatement FieldStatementSyntax GroupSyntax tree.field_statement_step
     tree.group_step (statement_layer.Group g) ∙ ap tree.group_of (views_inner g)

@@ -13,7 +13,7 @@ use Rattle.protobuf_parse_base.specs.Whole.{deep_found, deep_only, deep_wrong, d
 use Rattle.protobuf_parse_base.specs.Whole.{deep_stops, deep_leaves}
 use Rattle.protobuf_parse_syntax.specs.Text.{Bytes}
 use Rattle.protobuf_parse_syntax.specs.Tokens.{Lexeme}
-use Rattle.protobuf_parse_syntax.specs.Trees.{Pieces, FileSyntax, file_view}
+use Rattle.protobuf_parse_syntax.specs.Trees.{Pieces, FileSyntax, file_syntax}
 use Rattle.protobuf_parse_syntax.specs.Classes.{symbol, float, text, is_one_of, is_floating}
 use Rattle.protobuf_parse_syntax.specs.ClassLaws.{lexicon}
 use Rattle.protobuf_parse_syntax.specs.Grammar.{IsFile, IsStr, place_of}
@@ -325,8 +325,8 @@ module _ (text : Bytes) (s : Stream) (same : (v : Stream) → HasTokens text v �
   its_tree u w = subst (λ (v : Stream). IsFile v.tokens u) (sym (same w.stream w.tokens)) w.file
 
   pub only_of : (r : Result FileTree ParserErrorWithLocation)
-      → IfOk r (λ t. (u : FileSyntax) → IsFile s.tokens u → u ≡ file_view t)
-      → IfOk r (λ t. (u : FileSyntax) → HasTree text u → u ≡ file_view t)
+      → IfOk r (λ t. (u : FileSyntax) → IsFile s.tokens u → u ≡ file_syntax t)
+      → IfOk r (λ t. (u : FileSyntax) → HasTree text u → u ≡ file_syntax t)
   only_of (Ok t) h = λ u w. h u (its_tree u w)
   only_of (Err e) h = h
 

@@ -17,7 +17,7 @@ use Rattle.protobuf_parse_syntax.specs.Formats.{string_text, format, formats, al
 use Rattle.protobuf_parse_syntax.specs.Formats.{constant_field_text, list_text, message_text}
 use Rattle.protobuf_parse_syntax.specs.Trees.{ConstantSyntax, truth, ConstantFieldSyntax, constants}
 use Rattle.protobuf_parse_syntax.specs.Trees.{constant_fields, constant_step, constant_field_step}
-use Rattle.protobuf_parse_syntax.specs.Trees.{constant_view, constant_field_view, pieces_of}
+use Rattle.protobuf_parse_syntax.specs.Trees.{constant_syntax, constant_field_syntax, pieces_of}
 use Rattle.protobuf_parse_syntax.specs.declared.lexer.str_lit.StrLit.{StrLit}
 use Rattle.protobuf_parse_syntax.specs.declared.tree.constant.ConstantField.{ConstantField}
 use Rattle.protobuf_parse_syntax.specs.declared.tree.constant.ProtobufConstant.{ProtobufConstant}
@@ -197,8 +197,8 @@ unfolding all_fields_text
 all_fields_text-list [] = refl
 all_fields_text-list (f ∷ fs) = ap (λ text. constant_field_text f ++ text) (all_fields_text-list fs)
 
-views_truth : (b : Bool) → constant_view (Truth b) ≡ truth b
-views_truth b = ap constant_view (sym (rolls-Bool b))
+views_truth : (b : Bool) → constant_syntax (Truth b) ≡ truth b
+views_truth b = ap constant_syntax (sym (rolls-Bool b))
     ∙ fold-roll-ProtobufConstant ConstantSyntax ConstantFieldSyntax constant_step
     constant_field_step (layer.Bool b)
 
@@ -208,42 +208,42 @@ truth_word-is false = refl
 
 -- the text of each kind of constant
 pub format-number : (c : ProtobufConstant) (n : ℕ) → c ≡ U64 n
-    → decimal n ≡ format (constant_view c)
+    → decimal n ≡ format (constant_syntax c)
 unfolding format
-format-number c n is = ap format (sym (ap constant_view is ∙ views_number n))
+format-number c n is = ap format (sym (ap constant_syntax is ∙ views_number n))
 
 pub format-signed : (c : ProtobufConstant) (z : ℤ) → c ≡ I64 z
-    → signed_decimal z ≡ format (constant_view c)
+    → signed_decimal z ≡ format (constant_syntax c)
 unfolding format
-format-signed c z is = ap format (sym (ap constant_view is ∙ views_signed z))
+format-signed c z is = ap format (sym (ap constant_syntax is ∙ views_signed z))
 
 pub format-truth : (c : ProtobufConstant) (b : Bool) → c ≡ Truth b
-    → (if b then codes "true" else codes "false") ≡ format (constant_view c)
+    → (if b then codes "true" else codes "false") ≡ format (constant_syntax c)
 unfolding format
-format-truth c b is = truth_word-is b ∙ ap format (sym (ap constant_view is ∙ views_truth b))
+format-truth c b is = truth_word-is b ∙ ap format (sym (ap constant_syntax is ∙ views_truth b))
 
 pub format-ident : (c : ProtobufConstant) (n : String Global) → c ≡ Ident n
-    → string_bytes n ≡ format (constant_view c)
+    → string_bytes n ≡ format (constant_syntax c)
 unfolding format
-format-ident c n is = ap format (sym (ap constant_view is ∙ views_ident n))
+format-ident c n is = ap format (sym (ap constant_syntax is ∙ views_ident n))
 
 pub format-text : (c : ProtobufConstant) (t : StrLit) → c ≡ Text t
-    → string_text (pieces_of t) ≡ format (constant_view c)
+    → string_text (pieces_of t) ≡ format (constant_syntax c)
 unfolding format
-format-text c t is = ap format (sym (ap constant_view is ∙ views_text t))
+format-text c t is = ap format (sym (ap constant_syntax is ∙ views_text t))
 
 pub format-list : (c : ProtobufConstant) (v : Vec ProtobufConstant Global) → c ≡ Constants v
-    → list_text (map constant_view v.items) ≡ format (constant_view c)
+    → list_text (map constant_syntax v.items) ≡ format (constant_syntax c)
 unfolding format
 format-list c v is =
     ap (λ texts. codes "[" ++ join_with_byte 44 texts ++ codes "]")
-    (sym (formats-list (map constant_view v.items)))
-    ∙ ap format (sym (ap constant_view is ∙ views_list v))
+    (sym (formats-list (map constant_syntax v.items)))
+    ∙ ap format (sym (ap constant_syntax is ∙ views_list v))
 
 pub format-message : (c : ProtobufConstant) (v : Vec ConstantField Global) → c ≡ Fields v
-    → message_text (map constant_field_view v.items) ≡ format (constant_view c)
+    → message_text (map constant_field_syntax v.items) ≡ format (constant_syntax c)
 unfolding format
 format-message c v is =
     ap (λ text. codes "{ " ++ text ++ codes "}")
-    (sym (all_fields_text-list (map constant_field_view v.items)))
-    ∙ ap format (sym (ap constant_view is ∙ views_fields v))
+    (sym (all_fields_text-list (map constant_field_syntax v.items)))
+    ∙ ap format (sym (ap constant_syntax is ∙ views_fields v))

@@ -20,7 +20,7 @@ use Rattle.protobuf_parse_syntax.specs.Readings.{from_first, wrong_from}
 use Rattle.protobuf_parse_syntax.specs.Productions as parse
 use Rattle.protobuf_parse_syntax.specs.Nested as nest
 use Rattle.protobuf_parse_syntax.specs.Trees as tree
-use Rattle.protobuf_parse_syntax.specs.Trees.{OptionSyntax, TypeSyntax, option_view}
+use Rattle.protobuf_parse_syntax.specs.Trees.{OptionSyntax, TypeSyntax, option_syntax}
 use Rattle.protobuf_parse_syntax.specs.Parsing.{IsEarlierOption, ListFront, ListHead, OptionHead}
 use Rattle.protobuf_parse_syntax.specs.Code.{Fails, GivesOr, LongName, LongBehind, fails_first}
 use Rattle.protobuf_parse_syntax.specs.Code.{AreEarlier, IsCommaAlone, IsListFront}
@@ -418,8 +418,8 @@ module _ (n : ℕ) (e : Refusal) (ts vs ws us after : Rest Lexeme Place) (name :
 -- an option that was read behind a comma, or not
 pub comma_option : (n : ℕ) (r : Result ProtobufOption Refusal) (ts us after : Rest Lexeme Place)
     → (parse.symbol 44).run ts ≡ read tt us
-    → GivesOr (LongName us) option_view r after ((nest.assignment n).low.run us)
-    → GivesOr (LongBehind IsCommaAlone ts) option_view r after
+    → GivesOr (LongName us) option_syntax r after ((nest.assignment n).low.run us)
+    → GivesOr (LongBehind IsCommaAlone ts) option_syntax r after
     ((nest.comma_assignment n).low.run ts)
 comma_option n (Ok o) ts us after is h = rw (is, h) refl
 comma_option n (Err e) ts us after is h = fails_behind_comma n e ts after us is h

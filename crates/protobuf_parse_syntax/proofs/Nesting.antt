@@ -35,7 +35,7 @@ use Rattle.protobuf_parse_syntax.specs.Grammar.{IsPackage, IsFileStatement, IsFi
 use Rattle.protobuf_parse_syntax.specs.Trees as tree
 use Rattle.protobuf_parse_syntax.specs.Trees.{ConstantSyntax, ConstantFieldSyntax, TypeSyntax}
 use Rattle.protobuf_parse_syntax.specs.Trees.{FieldStatementSyntax, MessageStatementSyntax}
-use Rattle.protobuf_parse_syntax.specs.Trees.{MessageSyntax, FileSyntax, file_view}
+use Rattle.protobuf_parse_syntax.specs.Trees.{MessageSyntax, FileSyntax, file_syntax}
 use Rattle.protobuf_parse_syntax.specs.Parsing.{HasTree}
 use Rattle.protobuf_parse_syntax.specs.Cut.{Stream, HasTokens}
 use Rattle.protobuf_parse_syntax.specs.declared.tree.FileTree.{FileTree}
@@ -637,7 +637,7 @@ pub tree_shallow : (text : Bytes) (t : FileSyntax) → HasTree text t → Shallo
 tree_shallow text t h = trees_shallow h.stream.tokens t h.file h.tokens.shallow
 
 pub shallow_of : {E : Type 0} (text : Bytes) (s : Stream) → HasTokens text s →
-    (r : Result FileTree E) → IfOk r (λ t. IsFile s.tokens (file_view t)) →
-    IfOk r (λ t. ShallowFile (file_view t))
-shallow_of text s tokens (Ok t) h = trees_shallow s.tokens (file_view t) h tokens.shallow
+    (r : Result FileTree E) → IfOk r (λ t. IsFile s.tokens (file_syntax t)) →
+    IfOk r (λ t. ShallowFile (file_syntax t))
+shallow_of text s tokens (Ok t) h = trees_shallow s.tokens (file_syntax t) h tokens.shallow
 shallow_of text s tokens (Err e) h = h

@@ -4,7 +4,7 @@ use Rattle.std.specs.Prelude.{Result, Ok, Err, IfOk}
 use Rattle.protobuf_parse_syntax.specs.Text.{Bytes}
 use Rattle.protobuf_parse_syntax.specs.Tokens.{Lexeme}
 use Rattle.protobuf_parse_syntax.specs.Cut.{Cut, done, blank, token, mark_len, Stream, HasTokens}
-use Rattle.protobuf_parse_syntax.specs.Trees.{FileSyntax, file_view}
+use Rattle.protobuf_parse_syntax.specs.Trees.{FileSyntax, file_syntax}
 use Rattle.protobuf_parse_syntax.specs.Counts.{statements_in}
 use Rattle.protobuf_parse_syntax.specs.Grammar.{IsFile}
 use Rattle.protobuf_parse_syntax.specs.Parsing.{HasTree}
@@ -35,7 +35,7 @@ pub tree_size : (text : Bytes) (t : FileSyntax) → HasTree text t → statement
 tree_size text t h = few text h.stream t h.tokens h.file
 
 pub few_of : {E : Type 0} (text : Bytes) (s : Stream) → HasTokens text s →
-    (r : Result FileTree E) → IfOk r (λ t. IsFile s.tokens (file_view t)) →
-    IfOk r (λ t. statements_in (file_view t) ≤ 2147483647)
-few_of text s tokens (Ok t) h = few text s (file_view t) tokens h
+    (r : Result FileTree E) → IfOk r (λ t. IsFile s.tokens (file_syntax t)) →
+    IfOk r (λ t. statements_in (file_syntax t) ≤ 2147483647)
+few_of text s tokens (Ok t) h = few text s (file_syntax t) tokens h
 few_of text s tokens (Err e) h = h

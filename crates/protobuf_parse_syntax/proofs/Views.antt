@@ -22,43 +22,45 @@ use Rattle.protobuf_parse_syntax.specs.declared.tree.constant.ProtobufConstant.T
 use Rattle.protobuf_parse_syntax.specs.declared.tree.constant.ProtobufConstant.TheVariants.{rolls-List}
 use Rattle.protobuf_parse_syntax.specs.declared.tree.constant.ProtobufConstant.TheVariants.{rolls-Message}
 
-pub views_ident : (n : String Global) → tree.constant_view (Ident n) ≡ tree.dotted (string_bytes n)
-views_ident n = ap tree.constant_view (sym (rolls-Ident n))
+pub views_ident : (n : String Global) → tree.constant_syntax (Ident n)
+    ≡ tree.dotted (string_bytes n)
+views_ident n = ap tree.constant_syntax (sym (rolls-Ident n))
     ∙ fold-roll-ProtobufConstant ConstantSyntax ConstantFieldSyntax tree.constant_step
     tree.constant_field_step (layer.Ident n)
 
-pub views_number : (n : ℕ) → tree.constant_view (U64 n) ≡ tree.integer (pos n)
-views_number n = ap tree.constant_view (sym (rolls-U64 n))
+pub views_number : (n : ℕ) → tree.constant_syntax (U64 n) ≡ tree.integer (pos n)
+views_number n = ap tree.constant_syntax (sym (rolls-U64 n))
     ∙ fold-roll-ProtobufConstant ConstantSyntax ConstantFieldSyntax tree.constant_step
     tree.constant_field_step (layer.U64 n)
 
-pub views_signed : (z : ℤ) → tree.constant_view (I64 z) ≡ tree.integer z
-views_signed z = ap tree.constant_view (sym (rolls-I64 z))
+pub views_signed : (z : ℤ) → tree.constant_syntax (I64 z) ≡ tree.integer z
+views_signed z = ap tree.constant_syntax (sym (rolls-I64 z))
     ∙ fold-roll-ProtobufConstant ConstantSyntax ConstantFieldSyntax tree.constant_step
     tree.constant_field_step (layer.I64 z)
 
-pub views_text : (t : StrLit) → tree.constant_view (Text t) ≡ tree.string (tree.pieces_of t)
-views_text t = ap tree.constant_view (sym (rolls-String t))
+pub views_text : (t : StrLit) → tree.constant_syntax (Text t) ≡ tree.string (tree.pieces_of t)
+views_text t = ap tree.constant_syntax (sym (rolls-String t))
     ∙ fold-roll-ProtobufConstant ConstantSyntax ConstantFieldSyntax tree.constant_step
     tree.constant_field_step (layer.String t)
 
 pub views_list : (v : Vec ProtobufConstant Global)
-    → tree.constant_view (Constants v) ≡ tree.list (tree.constants (map tree.constant_view v.items))
-views_list v = ap tree.constant_view (sym (rolls-List v))
+    → tree.constant_syntax (Constants v) ≡ tree.list (tree.constants
+    (map tree.constant_syntax v.items))
+views_list v = ap tree.constant_syntax (sym (rolls-List v))
     ∙ fold-roll-ProtobufConstant ConstantSyntax ConstantFieldSyntax tree.constant_step
     tree.constant_field_step (layer.List v)
 
 views_field : (f : ConstantField)
     → fold-ConstantField ConstantSyntax ConstantFieldSyntax tree.constant_step
-    tree.constant_field_step f ≡ tree.constant_field_view f
+    tree.constant_field_step f ≡ tree.constant_field_syntax f
 views_field f =
     fold_out-ConstantField ConstantSyntax ConstantFieldSyntax tree.constant_step
     tree.constant_field_step f
 
 pub views_fields : (v : Vec ConstantField Global)
-    → tree.constant_view (Fields v)
-    ≡ tree.fields (tree.constant_fields (map tree.constant_field_view v.items))
-views_fields v = ap tree.constant_view (sym (rolls-Message v))
+    → tree.constant_syntax (Fields v)
+    ≡ tree.fields (tree.constant_fields (map tree.constant_field_syntax v.items))
+views_fields v = ap tree.constant_syntax (sym (rolls-Message v))
     ∙ fold-roll-ProtobufConstant ConstantSyntax ConstantFieldSyntax tree.constant_step
     tree.constant_field_step (layer.Message v)
     ∙ (λ i. tree.fields (tree.constant_fields (map (λ f. views_field f i) v.items)))

@@ -106,10 +106,10 @@ abbrev pub constant_fields : List ConstantFieldSyntax → ConstantFieldList
 constant_fields [] = no_fields
 constant_fields (f ∷ fs) = more_fields f.name f.value (constant_fields fs)
 
-abbrev pub constant_name_view : ConstantFieldName → ConstantNameSyntax
-constant_name_view (constant_name.Regular n) = regular_name (string_bytes n)
-constant_name_view (constant_name.Extension n) = extension_name (string_bytes n)
-constant_name_view (constant_name.AnyUrl n) = url_name (string_bytes n)
+abbrev pub constant_name_syntax : ConstantFieldName → ConstantNameSyntax
+constant_name_syntax (constant_name.Regular n) = regular_name (string_bytes n)
+constant_name_syntax (constant_name.Extension n) = extension_name (string_bytes n)
+constant_name_syntax (constant_name.AnyUrl n) = url_name (string_bytes n)
 
 -- one level, with each constant inside already seen
 abbrev pub constant_step : ProtobufConstant-F ConstantSyntax ConstantFieldSyntax → ConstantSyntax
@@ -123,14 +123,15 @@ constant_step (ProtobufConstant-F.Message fs) = fields (constant_fields fs.items
 
 abbrev pub constant_field_step :
     ConstantField-F ConstantSyntax ConstantFieldSyntax → ConstantFieldSyntax
-constant_field_step f = record { name = constant_name_view f.name; value = f.value }
+constant_field_step f = record { name = constant_name_syntax f.name; value = f.value }
 
-abbrev pub constant_view : ProtobufConstant → ConstantSyntax
-constant_view =
+abbrev pub constant_syntax : ProtobufConstant → ConstantSyntax
+constant_syntax =
     fold-ProtobufConstant ConstantSyntax ConstantFieldSyntax constant_step constant_field_step
 
-abbrev pub constant_field_view : ConstantField → ConstantFieldSyntax
-constant_field_view f = record { name = constant_name_view f.name; value = constant_view f.value }
+abbrev pub constant_field_syntax : ConstantField → ConstantFieldSyntax
+constant_field_syntax f =
+    record { name = constant_name_syntax f.name; value = constant_syntax f.value }
 
 -- ---- options
 
@@ -151,19 +152,19 @@ pub record OptionStatementSyntax : Type 0 where
   pub place : Place
   pub option : OptionSyntax
 
-abbrev pub option_part_view : ProtobufOptionNamePart → OptionPartSyntax
-option_part_view (option_part.Direct n) = direct (string_bytes n)
-option_part_view (option_part.Ext n) = extension (string_bytes n)
+abbrev pub option_part_syntax : ProtobufOptionNamePart → OptionPartSyntax
+option_part_syntax (option_part.Direct n) = direct (string_bytes n)
+option_part_syntax (option_part.Ext n) = extension (string_bytes n)
 
-abbrev pub option_name_view : ProtobufOptionName → OptionNameSyntax
-option_name_view (option_name.Builtin n) = builtin (string_bytes n)
-option_name_view (option_name.Custom parts) = custom (map option_part_view parts.items)
+abbrev pub option_name_syntax : ProtobufOptionName → OptionNameSyntax
+option_name_syntax (option_name.Builtin n) = builtin (string_bytes n)
+option_name_syntax (option_name.Custom parts) = custom (map option_part_syntax parts.items)
 
-abbrev pub option_view : ProtobufOption → OptionSyntax
-option_view o = record { name = option_name_view o.name; value = constant_view o.value }
+abbrev pub option_syntax : ProtobufOption → OptionSyntax
+option_syntax o = record { name = option_name_syntax o.name; value = constant_syntax o.value }
 
-abbrev pub option_statement_view : OptionStatement → OptionStatementSyntax
-option_statement_view s = record { place = s.place; option = option_view s.option }
+abbrev pub option_statement_syntax : OptionStatement → OptionStatementSyntax
+option_statement_syntax s = record { place = s.place; option = option_syntax s.option }
 
 -- ---- fields
 
@@ -177,8 +178,8 @@ type_step (Type-F.Scalar s) = scalar s
 type_step (Type-F.Map k v) = map_of k.value v.value
 type_step (Type-F.Named n) = named (string_bytes n)
 
-abbrev pub type_view : «Type» → TypeSyntax
-type_view = fold-Type TypeSyntax type_step
+abbrev pub type_syntax : «Type» → TypeSyntax
+type_syntax = fold-Type TypeSyntax type_step
 
 pub record FieldSyntax : Type 0 where
   pub place : Place
@@ -188,14 +189,14 @@ pub record FieldSyntax : Type 0 where
   pub number : ℤ
   pub options : List OptionSyntax
 
-abbrev pub field_view : Field → FieldSyntax
-field_view f = record {
+abbrev pub field_syntax : Field → FieldSyntax
+field_syntax f = record {
   place = f.place;
   label = f.label;
-  type_ = type_view f.type_;
+  type_ = type_syntax f.type_;
   name = string_bytes f.name;
   number = f.number;
-  options = map option_view f.options.items;
+  options = map option_syntax f.options.items;
 }
 
 -- a statement that declares a field, or a group of fields
@@ -233,20 +234,20 @@ group_step g = record {
 
 abbrev pub field_statement_step :
     FieldStatement-F FieldStatementSyntax GroupSyntax → FieldStatementSyntax
-field_statement_step (FieldStatement-F.Field f) = field (field_view f)
+field_statement_step (FieldStatement-F.Field f) = field (field_syntax f)
 field_statement_step (FieldStatement-F.Group g) = group_of g
 
-abbrev pub field_statement_view : FieldStatement → FieldStatementSyntax
-field_statement_view =
+abbrev pub field_statement_syntax : FieldStatement → FieldStatementSyntax
+field_statement_syntax =
     fold-FieldStatement FieldStatementSyntax GroupSyntax field_statement_step group_step
 
-abbrev pub group_view : Group → GroupSyntax
-group_view g = record {
+abbrev pub group_syntax : Group → GroupSyntax
+group_syntax g = record {
   place = g.place;
   label = g.label;
   name = string_bytes g.name;
   number = g.number;
-  fields = map field_statement_view g.fields.items;
+  fields = map field_statement_syntax g.fields.items;
 }
 
 -- ---- parts of messages and enums
@@ -298,55 +299,55 @@ pub record EnumSyntax : Type 0 where
   pub name : Bytes
   pub body : List EnumStatementSyntax
 
-abbrev pub range_view : FieldNumberRange → RangeSyntax
-range_view r = record { from = r.from; to = r.to }
+abbrev pub range_syntax : FieldNumberRange → RangeSyntax
+range_syntax r = record { from = r.from; to = r.to }
 
-abbrev pub reserved_view : Reserved → ReservedSyntax
-reserved_view (reserved.Ranges rs) = reserved_ranges (map range_view rs.items)
-reserved_view (reserved.Names ns) = reserved_names (map string_bytes ns.items)
+abbrev pub reserved_syntax : Reserved → ReservedSyntax
+reserved_syntax (reserved.Ranges rs) = reserved_ranges (map range_syntax rs.items)
+reserved_syntax (reserved.Names ns) = reserved_names (map string_bytes ns.items)
 
-abbrev pub reserved_statement_view : ReservedStatement → ReservedStatementSyntax
-reserved_statement_view r = record { place = r.place; reserved = reserved_view r.reserved }
+abbrev pub reserved_statement_syntax : ReservedStatement → ReservedStatementSyntax
+reserved_statement_syntax r = record { place = r.place; reserved = reserved_syntax r.reserved }
 
-abbrev pub extensions_view : Extensions → ExtensionsSyntax
-extensions_view e = record { place = e.place; ranges = map range_view e.ranges.items }
+abbrev pub extensions_syntax : Extensions → ExtensionsSyntax
+extensions_syntax e = record { place = e.place; ranges = map range_syntax e.ranges.items }
 
-abbrev pub oneof_statement_view : OneOfStatement → OneofStatementSyntax
-oneof_statement_view (oneof_statement.Option o) = oneof_option (option_statement_view o)
-oneof_statement_view (oneof_statement.Field f) = oneof_field (field_statement_view f)
+abbrev pub oneof_statement_syntax : OneOfStatement → OneofStatementSyntax
+oneof_statement_syntax (oneof_statement.Option o) = oneof_option (option_statement_syntax o)
+oneof_statement_syntax (oneof_statement.Field f) = oneof_field (field_statement_syntax f)
 
-abbrev pub oneof_view : OneOf → OneofSyntax
-oneof_view o = record {
+abbrev pub oneof_syntax : OneOf → OneofSyntax
+oneof_syntax o = record {
   place = o.place;
   name = string_bytes o.name;
-  body = map oneof_statement_view o.body.items;
+  body = map oneof_statement_syntax o.body.items;
 }
 
-abbrev pub extend_view : Extend → ExtendSyntax
-extend_view e = record {
+abbrev pub extend_syntax : Extend → ExtendSyntax
+extend_syntax e = record {
   place = e.place;
   extendee = string_bytes e.extendee;
-  fields = map field_statement_view e.fields.items;
+  fields = map field_statement_syntax e.fields.items;
 }
 
-abbrev pub value_view : EnumValue → EnumValueSyntax
-value_view v = record {
+abbrev pub value_syntax : EnumValue → EnumValueSyntax
+value_syntax v = record {
   place = v.place;
   name = string_bytes v.name;
   number = v.number;
-  options = map option_view v.options.items;
+  options = map option_syntax v.options.items;
 }
 
-abbrev pub enum_statement_view : EnumStatement → EnumStatementSyntax
-enum_statement_view (enum_statement.Reserved r) = enum_reserved (reserved_statement_view r)
-enum_statement_view (enum_statement.Option o) = enum_option (option_statement_view o)
-enum_statement_view (enum_statement.Value v) = enum_value (value_view v)
+abbrev pub enum_statement_syntax : EnumStatement → EnumStatementSyntax
+enum_statement_syntax (enum_statement.Reserved r) = enum_reserved (reserved_statement_syntax r)
+enum_statement_syntax (enum_statement.Option o) = enum_option (option_statement_syntax o)
+enum_statement_syntax (enum_statement.Value v) = enum_value (value_syntax v)
 
-abbrev pub enum_view : Enumeration → EnumSyntax
-enum_view e = record {
+abbrev pub enum_syntax : Enumeration → EnumSyntax
+enum_syntax e = record {
   place = e.place;
   name = string_bytes e.name;
-  body = map enum_statement_view e.body.items;
+  body = map enum_statement_syntax e.body.items;
 }
 
 -- ---- messages
@@ -384,21 +385,22 @@ message_step m = record { place = m.place; name = string_bytes m.name; body = m.
 abbrev pub message_statement_step :
     MessageStatement-F MessageStatementSyntax MessageSyntax → MessageStatementSyntax
 message_statement_step (MessageStatement-F.Reserved r) =
-    message_reserved (reserved_statement_view r)
-message_statement_step (MessageStatement-F.OneOf o) = message_oneof (oneof_view o)
-message_statement_step (MessageStatement-F.Extend e) = message_extend (extend_view e)
+    message_reserved (reserved_statement_syntax r)
+message_statement_step (MessageStatement-F.OneOf o) = message_oneof (oneof_syntax o)
+message_statement_step (MessageStatement-F.Extend e) = message_extend (extend_syntax e)
 message_statement_step (MessageStatement-F.Message m) = nested_message m
-message_statement_step (MessageStatement-F.Enumeration e) = message_enum (enum_view e)
-message_statement_step (MessageStatement-F.Extensions e) = message_extensions (extensions_view e)
-message_statement_step (MessageStatement-F.Option o) = message_option (option_statement_view o)
-message_statement_step (MessageStatement-F.Field f) = message_field (field_statement_view f)
+message_statement_step (MessageStatement-F.Enumeration e) = message_enum (enum_syntax e)
+message_statement_step (MessageStatement-F.Extensions e) = message_extensions (extensions_syntax e)
+message_statement_step (MessageStatement-F.Option o) = message_option (option_statement_syntax o)
+message_statement_step (MessageStatement-F.Field f) = message_field (field_statement_syntax f)
 
-abbrev pub message_statement_view : MessageStatement → MessageStatementSyntax
-message_statement_view =
+abbrev pub message_statement_syntax : MessageStatement → MessageStatementSyntax
+message_statement_syntax =
     fold-MessageStatement MessageStatementSyntax MessageSyntax message_statement_step message_step
 
-abbrev pub message_view : Message → MessageSyntax
-message_view = fold-Message MessageStatementSyntax MessageSyntax message_statement_step message_step
+abbrev pub message_syntax : Message → MessageSyntax
+message_syntax = fold-Message MessageStatementSyntax MessageSyntax message_statement_step
+    message_step
 
 -- ---- services
 
@@ -420,26 +422,26 @@ pub record ServiceSyntax : Type 0 where
   pub name : Bytes
   pub body : List ServiceStatementSyntax
 
-abbrev pub method_view : Method → MethodSyntax
-method_view m = record {
+abbrev pub method_syntax : Method → MethodSyntax
+method_syntax m = record {
   place = m.place;
   name = string_bytes m.name;
   input = string_bytes m.input;
   output = string_bytes m.output;
   client_streaming = m.client_streaming;
   server_streaming = m.server_streaming;
-  options = map option_statement_view m.options.items;
+  options = map option_statement_syntax m.options.items;
 }
 
-abbrev pub service_statement_view : ServiceStatement → ServiceStatementSyntax
-service_statement_view (service_statement.Method m) = service_method (method_view m)
-service_statement_view (service_statement.Option o) = service_option (option_statement_view o)
+abbrev pub service_statement_syntax : ServiceStatement → ServiceStatementSyntax
+service_statement_syntax (service_statement.Method m) = service_method (method_syntax m)
+service_statement_syntax (service_statement.Option o) = service_option (option_statement_syntax o)
 
-abbrev pub service_view : Service → ServiceSyntax
-service_view s = record {
+abbrev pub service_syntax : Service → ServiceSyntax
+service_syntax s = record {
   place = s.place;
   name = string_bytes s.name;
-  body = map service_statement_view s.body.items;
+  body = map service_statement_syntax s.body.items;
 }
 
 -- ---- files
@@ -466,23 +468,23 @@ pub record FileSyntax : Type 0 where
   pub syntax : Syntax
   pub statements : List StatementSyntax
 
-abbrev pub import_view : Import → ImportSyntax
-import_view i = record { place = i.place; vis = i.vis; path = path_buf_text i.path }
+abbrev pub import_syntax : Import → ImportSyntax
+import_syntax i = record { place = i.place; vis = i.vis; path = path_buf_text i.path }
 
-abbrev pub package_view : Package → PackageSyntax
-package_view p = record { place = p.place; name = string_bytes p.name }
+abbrev pub package_syntax : Package → PackageSyntax
+package_syntax p = record { place = p.place; name = string_bytes p.name }
 
-abbrev pub statement_view : FileStatement → StatementSyntax
-statement_view (file_statement.Import i) = file_import (import_view i)
-statement_view (file_statement.Package p) = file_package (package_view p)
-statement_view (file_statement.Option o) = file_option (option_statement_view o)
-statement_view (file_statement.Message m) = file_message (message_view m)
-statement_view (file_statement.Enumeration e) = file_enum (enum_view e)
-statement_view (file_statement.Extend e) = file_extend (extend_view e)
-statement_view (file_statement.Service s) = file_service (service_view s)
+abbrev pub statement_syntax : FileStatement → StatementSyntax
+statement_syntax (file_statement.Import i) = file_import (import_syntax i)
+statement_syntax (file_statement.Package p) = file_package (package_syntax p)
+statement_syntax (file_statement.Option o) = file_option (option_statement_syntax o)
+statement_syntax (file_statement.Message m) = file_message (message_syntax m)
+statement_syntax (file_statement.Enumeration e) = file_enum (enum_syntax e)
+statement_syntax (file_statement.Extend e) = file_extend (extend_syntax e)
+statement_syntax (file_statement.Service s) = file_service (service_syntax s)
 
-abbrev pub file_view : FileTree → FileSyntax
-file_view t = record { syntax = t.syntax; statements = map statement_view t.statements.items }
+abbrev pub file_syntax : FileTree → FileSyntax
+file_syntax t = record { syntax = t.syntax; statements = map statement_syntax t.statements.items }
 
 -- ---- the package
 

@@ -7,11 +7,11 @@ ghost use Rattle.protobuf_parse_syntax.specs.Cut.{out_of_memory, error_place as 
 ghost use Rattle.protobuf_parse_syntax.specs.Dependencies as spec;
 ghost use Rattle.protobuf_parse_syntax.specs.Dependencies.{dependencies_of, dependencies_view};
 ghost use Rattle.protobuf_parse_syntax.specs.Parsing.{HasTree, IsFaultOf, TellsFaults};
-ghost use Rattle.protobuf_parse_syntax.specs.Trees.{FileSyntax, import_view, statement_view};
+ghost use Rattle.protobuf_parse_syntax.specs.Trees.{FileSyntax, import_syntax, statement_syntax};
 
 use crate::error::ParserErrorWithLocation;
 use crate::parser::parse_file;
-use crate::tree::{FileStatement, Import, ImportVis};
+use crate::tree::{FileStatement, Import};
 use std::alloc::{AllocError, Global};
 
 /// What a file imports.
@@ -56,7 +56,7 @@ pub fn parse_dependencies(
 pub fn imports_of(alloc: Global, statements: &[FileStatement]) -> Result<Dependencies, AllocError>
     requires { length statements.now ≤ 2147483647 }
     ensures { IfOk result
-        (λ d. dependencies_view d ≡ dependencies_of (map statement_view statements.now)) }
+        (λ d. dependencies_view d ≡ dependencies_of (map statement_syntax statements.now)) }
 {
     let mut found = Dependencies {
         dependency: Vec::new(alloc),
@@ -77,7 +77,7 @@ fn push_statement(
 ) -> Result<(), AllocError>
     requires { length found.old.dependency.items ≤ 2147483647 }
     ensures { OnOk result (dependencies_view found.new
-        ≡ spec.with_statement (dependencies_view found.old) (statement_view statement.now)) }
+        ≡ spec.with_statement (dependencies_view found.old) (statement_syntax statement.now)) }
 {
     match statement {
         FileStatement::Import(import) => push_import(alloc, found, import),
@@ -89,28 +89,16 @@ fn push_statement(
 fn push_import(alloc: Global, found: &mut Dependencies, import: &Import) -> Result<(), AllocError>
     requires { length found.old.dependency.items ≤ 2147483647 }
     ensures { OnOk result (dependencies_view found.new
-        ≡ spec.with_import (dependencies_view found.old) (import_view import.now)) }
+        ≡ spec.with_import (dependencies_view found.old) (import_syntax import.now)) }
 {
     let position = found.dependency.len() as i32;
-    let public = is_public(import.vis);
-    let weak = is_weak(import.vis);
+    let public = import.vis.is_public();
+    let weak = import.vis.is_weak();
     push_position(&mut found.public_dependency, public, position)?;
     push_position(&mut found.weak_dependency, weak, position)?;
     let path = String::from_str(alloc, import.path.as_path().to_str())?;
     found.dependency.push(path)?;
     Ok(())
-}
-
-fn is_public(vis: ImportVis) -> bool
-    ensures { result ≡ spec.is_public vis }
-{
-    matches!(vis, ImportVis::Public)
-}
-
-fn is_weak(vis: ImportVis) -> bool
-    ensures { result ≡ spec.is_weak vis }
-{
-    matches!(vis, ImportVis::Weak)
 }
 
 /// A position behind the others, if it is one of them.

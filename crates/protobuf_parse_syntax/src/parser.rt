@@ -23,7 +23,7 @@ ghost use Rattle.protobuf_parse_syntax.specs.Grammar.{IsFile};
 ghost use Rattle.protobuf_parse_syntax.specs.Nesting.{ShallowFile};
 ghost use Rattle.protobuf_parse_syntax.specs.Parsing.{IsGrammarFault, HasTree, IsFaultOf};
 ghost use Rattle.protobuf_parse_syntax.specs.Parsing.{TellsFaults};
-ghost use Rattle.protobuf_parse_syntax.specs.Trees.{FileSyntax, file_view};
+ghost use Rattle.protobuf_parse_syntax.specs.Trees.{FileSyntax, file_syntax};
 
 use crate::error::{ParserError, ParserErrorWithLocation};
 use crate::lexer::token::TokenStream;
@@ -42,14 +42,14 @@ use std::alloc::Global;
 /// named. Want of memory is [`ParserError::Memory`](crate::ParserError::Memory) at 0:0.
 pub fn parse_file(alloc: Global, text: &str) -> Result<FileTree, ParserErrorWithLocation>
     // What is read is the one tree of the text.
-    ensures found { IfOk result (λ t. HasTree text.now (file_view t)) }
-    ensures only { IfOk result (λ t. (u : FileSyntax) → HasTree text.now u → u ≡ file_view t) }
+    ensures found { IfOk result (λ t. HasTree text.now (file_syntax t)) }
+    ensures only { IfOk result (λ t. (u : FileSyntax) → HasTree text.now u → u ≡ file_syntax t) }
 
     // It has at most 2147483647 statements, those of all bodies counted.
-    ensures few { IfOk result (λ t. statements_in (file_view t) ≤ 2147483647) }
+    ensures few { IfOk result (λ t. statements_in (file_syntax t) ≤ 2147483647) }
 
     // Its constants nest at most 100 deep, and so do its messages and groups.
-    ensures shallow { IfOk result (λ t. ShallowFile (file_view t)) }
+    ensures shallow { IfOk result (λ t. ShallowFile (file_syntax t)) }
 
     // What is refused has no tree, and that fault stands there.
     ensures none { IfErr result (λ e. (e ≡ out_of_memory)
@@ -67,9 +67,9 @@ pub fn parse_file(alloc: Global, text: &str) -> Result<FileTree, ParserErrorWith
 /// The tree of a file's tokens.
 pub fn tree_of(alloc: Global, stream: &TokenStream<'_>) -> Result<FileTree, ParserErrorWithLocation>
     // What is read is the one tree that the tokens say.
-    ensures found { IfOk result (λ t. IsFile (tokens_of stream.now).tokens (file_view t)) }
+    ensures found { IfOk result (λ t. IsFile (tokens_of stream.now).tokens (file_syntax t)) }
     ensures only { IfOk result (λ t. (u : FileSyntax) → IsFile (tokens_of stream.now).tokens u
-        → u ≡ file_view t) }
+        → u ≡ file_syntax t) }
 
     // What is refused has that fault there.
     ensures refused { IfErr result (λ e. (e ≡ out_of_memory)

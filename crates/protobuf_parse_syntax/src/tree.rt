@@ -7,7 +7,8 @@ mod field;
 mod option;
 
 ghost use Rattle.std.specs.Prelude.{◌≡◌};
-ghost use Rattle.protobuf_parse_syntax.specs.Trees.{file_view, statement_view, package_of};
+ghost use Rattle.protobuf_parse_syntax.specs.Dependencies.{is_public, is_weak};
+ghost use Rattle.protobuf_parse_syntax.specs.Trees.{file_syntax, statement_syntax, package_of};
 ghost use Rattle.protobuf_parse_syntax.specs.Trees.{package_behind};
 ghost use Rattle.protobuf_parse_syntax.specs.Text.{seen_by};
 
@@ -51,7 +52,7 @@ impl FileTree {
     /// The file's package, without a dot before it: the name of the last `package` statement, since
     /// it is the one that counts, and `None` where there is none.
     pub fn package(&self) -> Option<&str>
-        ensures { seen_by (λ z. z.now) result ≡ package_of (file_view self.now) }
+        ensures { seen_by (λ z. z.now) result ≡ package_of (file_syntax self.now) }
     {
         let mut name = None;
         'statements: for statement in &self.statements {
@@ -64,7 +65,7 @@ impl FileTree {
 /// The package that counts behind a statement.
 fn package_behind<'a>(statement: &'a FileStatement, before: Option<&'a str>) -> Option<&'a str>
     ensures { seen_by (λ z. z.now) result
-        ≡ package_behind (seen_by (λ z. z.now) before.entry) (statement_view statement.now) }
+        ≡ package_behind (seen_by (λ z. z.now) before.entry) (statement_syntax statement.now) }
 {
     match statement {
         FileStatement::Package(package) => Some(package.name.as_str()),
@@ -90,6 +91,22 @@ pub enum ImportVis {
     Default,
     Public,
     Weak,
+}
+
+impl ImportVis {
+    /// Whether the file is handed on to those that import this one.
+    pub fn is_public(self) -> bool
+        ensures { result ≡ is_public self }
+    {
+        matches!(self, ImportVis::Public)
+    }
+
+    /// Whether the import is weak.
+    pub fn is_weak(self) -> bool
+        ensures { result ≡ is_weak self }
+    {
+        matches!(self, ImportVis::Weak)
+    }
 }
 
 /// `import "PATH";`, `import public "PATH";` or `import weak "PATH";`.

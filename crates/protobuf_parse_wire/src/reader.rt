@@ -20,7 +20,7 @@ use protobuf_parse_model::FileDescriptorProto;
 use std::alloc::Global;
 
 /// How many messages may stand inside one another, the outer one too.
-const LEVELS: u32 = 256;
+const MAX_LEVELS: u32 = 256;
 
 /// The fields that the bytes of a message say, in order, or the first thing that is wrong, from the
 /// left.
@@ -51,5 +51,5 @@ fn read_named(
 {
     let index = index::index_of(alloc, files)?;
     let mut visited = visited::none(alloc);
-    records::message_of(alloc, &index, &mut visited, LEVELS, Some(name), bytes)
+    records::message_of(alloc, &index, &mut visited, MAX_LEVELS, Some(name), bytes)
 }

@@ -86,7 +86,7 @@ pub fn add_field<C: CustomOptions>(
 ) -> Result<(), ElabFailure>
     requires { length body.old.oneof_decl.items < 2 ^ 31 }
     ensures { let env = environment_in (C.customs custom.now) context.now in
-        let s = tree.field_statement_view statement.now in
+        let s = tree.field_statement_syntax statement.now in
         Elaborates (λ _. body_view body.new) result (field_statement_faults env s)
         (with_body_statement env (body_view body.old) (tree.message_field s)) }
 {
@@ -106,9 +106,9 @@ fn add_plain<C: CustomOptions>(
     statement: &FieldStatement,
 ) -> Result<(), ElabFailure>
     requires { has_own_oneof (environment_in (C.customs custom.now) context.now)
-        (tree.field_statement_view statement.now) ≡ false }
+        (tree.field_statement_syntax statement.now) ≡ false }
     ensures { let env = environment_in (C.customs custom.now) context.now in
-        let s = tree.field_statement_view statement.now in
+        let s = tree.field_statement_syntax statement.now in
         Elaborates (λ _. body_view body.new) result (field_statement_faults env s)
         (with_body_statement env (body_view body.old) (tree.message_field s)) }
 {
@@ -131,9 +131,9 @@ fn add_in_own_oneof<C: CustomOptions>(
 ) -> Result<(), ElabFailure>
     requires few { length body.old.oneof_decl.items < 2 ^ 31 }
     requires own { has_own_oneof (environment_in (C.customs custom.now) context.now)
-        (tree.field_statement_view statement.now) ≡ true }
+        (tree.field_statement_syntax statement.now) ≡ true }
     ensures { let env = environment_in (C.customs custom.now) context.now in
-        let s = tree.field_statement_view statement.now in
+        let s = tree.field_statement_syntax statement.now in
         Elaborates (λ _. body_view body.new) result (field_statement_faults env s)
         (with_body_statement env (body_view body.old) (tree.message_field s)) }
 {
@@ -159,7 +159,7 @@ pub fn add_oneof<C: CustomOptions>(
 ) -> Result<(), ElabFailure>
     requires { length body.old.oneof_decl.items < 2 ^ 31 }
     ensures { let env = environment_in (C.customs custom.now) context.now in
-        let o = tree.oneof_view oneof.now in
+        let o = tree.oneof_syntax oneof.now in
         Elaborates (λ _. body_view body.new) result (oneof_faults env o)
         (with_body_statement env (body_view body.old) (tree.message_oneof o)) }
 {
@@ -183,7 +183,7 @@ pub fn add_extend<C: CustomOptions>(
     extend: &Extend,
 ) -> Result<(), ElabFailure>
     ensures { let env = environment_in (C.customs custom.now) context.now in
-        let e = tree.extend_view extend.now in
+        let e = tree.extend_syntax extend.now in
         Elaborates (λ _. body_view body.new) result (extend_faults env e)
         (with_body_statement env (body_view body.old) (tree.message_extend e)) }
 {
@@ -201,7 +201,7 @@ pub fn add_enum<C: CustomOptions>(
     enumeration: &Enumeration,
 ) -> Result<(), ElabFailure>
     ensures { let env = environment_in (C.customs custom.now) context.now in
-        let e = tree.enum_view enumeration.now in
+        let e = tree.enum_syntax enumeration.now in
         Elaborates (λ _. body_view body.new) result (enum_faults env e)
         (with_body_statement env (body_view body.old) (tree.message_enum e)) }
 {

@@ -4,7 +4,7 @@ ghost use Rattle.std.specs.Prelude.{◌≡◌, ◌++◌, ◌≤◌, map, flat_ma
 ghost use Rattle.std.specs.Prelude.{sum_by};
 ghost use Rattle.protobuf_parse_syntax.specs.Counts.{statement_count};
 ghost use Rattle.protobuf_parse_syntax.specs.Dependencies.{dependencies_view};
-ghost use Rattle.protobuf_parse_syntax.specs.Trees.{extend_view, file_extend, statement_view};
+ghost use Rattle.protobuf_parse_syntax.specs.Trees.{extend_syntax, file_extend, statement_syntax};
 ghost use Rattle.protobuf_parse_model.specs.Contexts.{environment_in};
 ghost use Rattle.protobuf_parse_model.specs.Descriptors as described;
 ghost use Rattle.protobuf_parse_model.specs.Faults.{Elaborates};
@@ -93,9 +93,9 @@ pub fn contents_of<C: CustomOptions>(
     custom: &C,
     statements: &[FileStatement],
 ) -> Result<Contents, ElabFailure>
-    requires few { sum_by statement_count (map statement_view statements.now) ≤ 2147483647 }
+    requires few { sum_by statement_count (map statement_syntax statements.now) ≤ 2147483647 }
     ensures { let env = environment_in (C.customs custom.now) context.now in
-        let ss = map statement_view statements.now in
+        let ss = map statement_syntax statements.now in
         Elaborates parts_view result
         (parts_faults (parts_of_file env ss) ++ flat_map (file_faults_of env) ss)
         (parts_of_file env ss) }
@@ -124,9 +124,9 @@ fn declared<C: CustomOptions>(
     custom: &C,
     statements: &[FileStatement],
 ) -> Result<Contents, ElabFailure>
-    requires few { sum_by statement_count (map statement_view statements.now) ≤ 2147483647 }
+    requires few { sum_by statement_count (map statement_syntax statements.now) ≤ 2147483647 }
     ensures { let env = environment_in (C.customs custom.now) context.now in
-        let ss = map statement_view statements.now in
+        let ss = map statement_syntax statements.now in
         Elaborates parts_view result (flat_map (file_faults_of env) ss) (parts_of_file env ss) }
 {
     let mut contents = Contents {
@@ -149,9 +149,9 @@ fn add_statement<C: CustomOptions>(
     contents: &mut Contents,
     statement: &FileStatement,
 ) -> Result<(), ElabFailure>
-    requires few { statement_count (statement_view statement.now) ≤ 2147483647 }
+    requires few { statement_count (statement_syntax statement.now) ≤ 2147483647 }
     ensures { let env = environment_in (C.customs custom.now) context.now in
-        let s = statement_view statement.now in
+        let s = statement_syntax statement.now in
         Elaborates (λ _. parts_view contents.new) result (file_faults_of env s)
         (with_file_statement env (parts_view contents.old) s) }
 {
@@ -183,7 +183,7 @@ fn add_extensions<C: CustomOptions>(
     extend: &Extend,
 ) -> Result<(), ElabFailure>
     ensures { let env = environment_in (C.customs custom.now) context.now in
-        let e = extend_view extend.now in
+        let e = extend_syntax extend.now in
         Elaborates (λ _. parts_view contents.new) result (extend_faults env e)
         (with_file_statement env (parts_view contents.old) (file_extend e)) }
 {

@@ -39,7 +39,7 @@ pub fn enum_descriptor<C: CustomOptions>(
     enumeration: &Enumeration,
 ) -> Result<EnumDescriptorProto, ElabFailure>
     ensures { let env = environment_in (C.customs custom.now) context.now in
-        let e = tree.enum_view enumeration.now in
+        let e = tree.enum_syntax enumeration.now in
         Elaborates described.enum_view result (enums.enum_faults env e) (enums.enum_of env e) }
 {
     let value = enum_values(alloc, context, custom, &enumeration.body)?;
@@ -63,7 +63,7 @@ fn enum_values<C: CustomOptions>(
     body: &[EnumStatement],
 ) -> Result<Vec<EnumValueDescriptorProto>, ElabFailure>
     ensures { let env = environment_in (C.customs custom.now) context.now in
-        let vs = flat_map enums.enum_values (map tree.enum_statement_view body.now) in
+        let vs = flat_map enums.enum_values (map tree.enum_statement_syntax body.now) in
         Elaborates (λ v. map described.enum_value_view v.items) result (enums.values_faults env vs)
         (map (enums.value_of env) vs) }
 {
@@ -92,7 +92,7 @@ fn unlike_values<C: CustomOptions>(
 fn values(alloc: Global, body: &[EnumStatement]) -> Result<Vec<&EnumValue>, AllocError>
     ensures { IfOk result
         (λ v. values_seen v.items
-        ≡ flat_map enums.enum_values (map tree.enum_statement_view body.now)) }
+        ≡ flat_map enums.enum_values (map tree.enum_statement_syntax body.now)) }
 {
     let mut values = Vec::new(alloc);
     for statement in body {
@@ -130,7 +130,7 @@ fn value_descriptor<C: CustomOptions>(
     value: &EnumValue,
 ) -> Result<EnumValueDescriptorProto, ElabFailure>
     ensures { let env = environment_in (C.customs custom.now) context.now in
-        let v = tree.value_view value.now in
+        let v = tree.value_syntax value.now in
         Elaborates described.enum_value_view result (enums.value_faults env v)
         (enums.value_of env v) }
 {
@@ -152,7 +152,7 @@ fn checked_options<C: CustomOptions>(
     body: &[EnumStatement],
 ) -> Result<Option<EnumOptions>, ElabFailure>
     ensures { let env = environment_in (C.customs custom.now) context.now in
-        let os = flat_map enums.options_in_enum (map tree.enum_statement_view body.now) in
+        let os = flat_map enums.options_in_enum (map tree.enum_statement_syntax body.now) in
         Elaborates (λ o. option_map enum_options_view o) result
         (construct_faults env of.Enum enum_table os)
         (sets.enum_options (customs_bytes env of.Enum os) os) }
@@ -170,10 +170,10 @@ struct EnumReserved {
 }
 
 fn reserved(alloc: Global, body: &[EnumStatement]) -> Result<EnumReserved, AllocError>
-    ensures ranges { let ss = map tree.enum_statement_view body.now in
+    ensures ranges { let ss = map tree.enum_statement_syntax body.now in
         IfOk result (λ r. map described.enum_range_view r.ranges.items
         ≡ map enums.inclusive (flat_map enums.ranges_reserved (flat_map enums.enum_reserves ss))) }
-    ensures names { let ss = map tree.enum_statement_view body.now in
+    ensures names { let ss = map tree.enum_statement_syntax body.now in
         IfOk result (λ r. map string_bytes r.names.items
         ≡ flat_map enums.names_reserved (flat_map enums.enum_reserves ss)) }
 {
@@ -190,7 +190,7 @@ fn reserved(alloc: Global, body: &[EnumStatement]) -> Result<EnumReserved, Alloc
 fn reserves(alloc: Global, body: &[EnumStatement]) -> Result<Vec<&Reserved>, AllocError>
     ensures { IfOk result
         (λ v. reserves_seen v.items
-        ≡ flat_map enums.enum_reserves (map tree.enum_statement_view body.now)) }
+        ≡ flat_map enums.enum_reserves (map tree.enum_statement_syntax body.now)) }
 {
     let mut reserves = Vec::new(alloc);
     for statement in body {

@@ -3,7 +3,8 @@
 ghost use Rattle.std.specs.Prelude.{◌≡◌, ◌++◌, ◌<◌, ◌^◌, List, [], ◌∷◌, map, flat_map, IfSome};
 ghost use Rattle.std.specs.Prelude.{IfOk, option_map, string_bytes};
 ghost use Rattle.std.specs.Borrow.{Bor};
-ghost use Rattle.protobuf_parse_syntax.specs.Trees.{field_view, group_view, option_view, type_view};
+ghost use Rattle.protobuf_parse_syntax.specs.Trees.{field_syntax, group_syntax, option_syntax};
+ghost use Rattle.protobuf_parse_syntax.specs.Trees.{type_syntax};
 ghost use Rattle.protobuf_parse_model.specs.Contexts.{environment_in, field_place_view};
 ghost use Rattle.protobuf_parse_model.specs.Contexts.{resolved_view};
 ghost use Rattle.protobuf_parse_model.specs.Contexts.{said_by, said_view, names_of_context};
@@ -36,7 +37,7 @@ pub fn field_descriptor<C: CustomOptions>(
     field: &Field,
 ) -> Result<FieldDescriptorProto, ElabFailure>
     ensures { let env = environment_in (C.customs custom.now) context.now in
-        let f = field_view field.now in
+        let f = field_syntax field.now in
         Elaborates described.field_view result (fields.field_faults env f)
         (fields.field_of env (field_place_view place.now) f) }
 {
@@ -54,7 +55,7 @@ fn field_with<C: CustomOptions>(
     resolved: ResolvedType,
 ) -> Result<FieldDescriptorProto, ElabFailure>
     ensures { let env = environment_in (C.customs custom.now) context.now in
-        let f = field_view field.now in
+        let f = field_syntax field.now in
         Elaborates described.field_view result
         (fields.faults_of_options env resolved.kind f.name f.options)
         (fields.field_with env (field_place_view place.now) f (resolved_view resolved)) }
@@ -102,7 +103,7 @@ fn field_said<C: CustomOptions>(
     options: &[ProtobufOption],
 ) -> Result<FieldSaid, ElabFailure>
     ensures { let env = environment_in (C.customs custom.now) context.now in
-        let os = map option_view options.now in
+        let os = map option_syntax options.now in
         Elaborates said_view result (fields.faults_of_options env kind name.now os)
         (said_by env kind name.now os) }
 {
@@ -151,7 +152,7 @@ pub fn group_field(
     place: &FieldPlace<'_>,
     group: &Group,
 ) -> Result<FieldDescriptorProto, AllocError>
-    ensures { IfOk result (λ d. let g = group_view group.now in
+    ensures { IfOk result (λ d. let g = group_syntax group.now in
         described.field_view d ≡ fields.group_field (names_of_context context.now)
         (field_place_view place.now) g.label g.name g.number) }
 {
@@ -176,7 +177,7 @@ pub fn group_field(
 
 /// Whether the type is a map's.
 pub fn is_map(type_: &Type) -> bool
-    ensures { result ≡ statements.is_map (type_view type_.now) }
+    ensures { result ≡ statements.is_map (type_syntax type_.now) }
 {
     match type_ {
         Type::Map(_, _) => true,
@@ -187,7 +188,7 @@ pub fn is_map(type_: &Type) -> bool
 
 /// Refuses a map: E4.
 pub fn check_no_map(alloc: Global, field: &Field) -> Result<(), ElabFailure>
-    ensures { Elaborates (λ u. u) result (fields.map_faults (field_view field.now)) tt }
+    ensures { Elaborates (λ u. u) result (fields.map_faults (field_syntax field.now)) tt }
 {
     if is_map(&field.type_) {
         Err(fault(alloc, ElabErrorKind::DanglingTypeName, &field.name))
@@ -198,7 +199,7 @@ pub fn check_no_map(alloc: Global, field: &Field) -> Result<(), ElabFailure>
 
 /// A map is repeated; any other field without a label is optional.
 fn label_of(label: Option<Label>, type_: &Type) -> Label
-    ensures { result ≡ fields.label_of label (type_view type_.now) }
+    ensures { result ≡ fields.label_of label (type_syntax type_.now) }
 {
     match type_ {
         Type::Map(_, _) => Label::Repeated,

@@ -2,7 +2,7 @@
 
 ghost use Rattle.std.specs.Prelude.{◌++◌, ◌≤◌, map, option_map};
 ghost use Rattle.protobuf_parse_syntax.specs.Counts.{statements_in};
-ghost use Rattle.protobuf_parse_syntax.specs.Trees.{file_view, statement_view};
+ghost use Rattle.protobuf_parse_syntax.specs.Trees.{file_syntax, statement_syntax};
 ghost use Rattle.protobuf_parse_model.specs.BuiltinOptions.{file_table};
 ghost use Rattle.protobuf_parse_model.specs.ConstructOptions.{construct_faults};
 ghost use Rattle.protobuf_parse_model.specs.Contexts.{environment_in};
@@ -22,7 +22,7 @@ use crate::convert::options::{checked_customs, file_options, options_in};
 use crate::customs::{Construct, CustomOptions};
 use crate::descriptor::{FileDescriptorProto, FileOptions};
 use crate::error::ElabFailure;
-use crate::scope::{Context, Seen, package_scope};
+use crate::scope::{Context, Seen, file_scope};
 use protobuf_parse_syntax::{FileStatement, FileTree, imports_of};
 use std::alloc::Global;
 
@@ -38,12 +38,12 @@ pub fn file_descriptor<C: CustomOptions>(
     seen: &Seen<'_>,
     custom: &C,
 ) -> Result<FileDescriptorProto, ElabFailure>
-    requires few { statements_in (file_view tree.now) ≤ 2147483647 }
-    ensures { let t = file_view tree.now in
+    requires few { statements_in (file_syntax tree.now) ≤ 2147483647 }
+    ensures { let t = file_syntax tree.now in
         let env = environment_of_file (C.customs custom.now) seen.now t in
         Elaborates described.file_view result (file_faults env t) (file_of env name.now t) }
 {
-    let scope = package_scope(alloc, tree)?;
+    let scope = file_scope(alloc, tree)?;
     let context = Context {
         syntax: tree.syntax,
         seen: *seen,
@@ -61,8 +61,8 @@ fn descriptor_in<C: CustomOptions>(
     name: &str,
     tree: &FileTree,
 ) -> Result<FileDescriptorProto, ElabFailure>
-    requires few { statements_in (file_view tree.now) ≤ 2147483647 }
-    ensures { let t = file_view tree.now in
+    requires few { statements_in (file_syntax tree.now) ≤ 2147483647 }
+    ensures { let t = file_syntax tree.now in
         let env = environment_in (C.customs custom.now) context.now in
         Elaborates described.file_view result (file_faults env t) (file_of env name.now t) }
 {
@@ -82,7 +82,7 @@ fn checked_options<C: CustomOptions>(
     statements: &[FileStatement],
 ) -> Result<Option<FileOptions>, ElabFailure>
     ensures { let env = environment_in (C.customs custom.now) context.now in
-        let os = options_of_statements (map statement_view statements.now) in
+        let os = options_of_statements (map statement_syntax statements.now) in
         Elaborates (λ o. option_map file_options_view o) result
         (construct_faults env of.File file_table os)
         (sets.file_options (customs_bytes env of.File os) os) }

@@ -2,8 +2,9 @@
 
 ghost use Rattle.std.specs.Prelude.{◌≡◌, ◌++◌, pos, ℤ, List, [], ◌∷◌, map, flat_map, option_map};
 ghost use Rattle.std.specs.Prelude.{string_bytes, IfOk};
-ghost use Rattle.protobuf_parse_syntax.specs.Trees.{field_statement_view, field_view, group_view};
-ghost use Rattle.protobuf_parse_syntax.specs.Trees.{type_view};
+ghost use Rattle.protobuf_parse_syntax.specs.Trees.{field_statement_syntax, field_syntax};
+ghost use Rattle.protobuf_parse_syntax.specs.Trees.{group_syntax};
+ghost use Rattle.protobuf_parse_syntax.specs.Trees.{type_syntax};
 ghost use Rattle.protobuf_parse_model.specs.Contexts.{environment_in, resolved_view};
 ghost use Rattle.protobuf_parse_model.specs.Contexts.{behind_seen, names_of_context};
 ghost use Rattle.protobuf_parse_model.specs.Descriptors as described;
@@ -35,8 +36,8 @@ pub fn map_entry(
 ) -> Result<Option<Box<DescriptorProto>>, ElabFailure>
     ensures { let env = names_of_context context.now in
         Elaborates (λ m. map described.message_view (behind_seen m)) result
-        (messages.map_entry_faults env name.now (type_view type_.now))
-        (messages.entries_of env name.now (type_view type_.now)) }
+        (messages.map_entry_faults env name.now (type_syntax type_.now))
+        (messages.entries_of env name.now (type_syntax type_.now)) }
 {
     match type_ {
         Type::Map(key, value) => {
@@ -64,8 +65,8 @@ fn entry(
     key: &Type,
     value: &Type,
 ) -> Result<DescriptorProto, ElabFailure>
-    ensures { let env = names_of_context context.now in let k = type_view key.now in
-        let v = type_view value.now in
+    ensures { let env = names_of_context context.now in let k = type_syntax key.now in
+        let v = type_syntax value.now in
         Elaborates described.message_view result
         (fields.inner_type_faults env name.now k ++ fields.inner_type_faults env name.now v)
         (messages.entry_of env name.now k v) }
@@ -157,7 +158,7 @@ pub fn group_message<C: CustomOptions>(
     group: &Group,
 ) -> Result<DescriptorProto, ElabFailure>
     ensures { let env = environment_in (C.customs custom.now) context.now in
-        let g = group_view group.now in
+        let g = group_syntax group.now in
         Elaborates described.message_view result (fields.group_faults env g.fields)
         (messages.group_message env g.name g.fields) }
 {
@@ -175,7 +176,7 @@ fn grouped_fields<C: CustomOptions>(
     statements: &[FieldStatement],
 ) -> Result<Vec<FieldDescriptorProto>, ElabFailure>
     ensures { let env = environment_in (C.customs custom.now) context.now in
-        let ss = map field_statement_view statements.now in
+        let ss = map field_statement_syntax statements.now in
         Elaborates (λ v. map described.field_view v.items) result
         (flat_map (fields.grouped_faults env) ss)
         (map (fields.field_statement_of env fields.plain) ss) }
@@ -195,7 +196,7 @@ fn grouped_field<C: CustomOptions>(
     statement: &FieldStatement,
 ) -> Result<FieldDescriptorProto, ElabFailure>
     ensures { let env = environment_in (C.customs custom.now) context.now in
-        let s = field_statement_view statement.now in
+        let s = field_statement_syntax statement.now in
         Elaborates described.field_view result (fields.grouped_faults env s)
         (fields.field_statement_of env fields.plain s) }
 {
@@ -217,7 +218,7 @@ fn grouped_plain<C: CustomOptions>(
     field: &Field,
 ) -> Result<FieldDescriptorProto, ElabFailure>
     ensures { let env = environment_in (C.customs custom.now) context.now in
-        let f = field_view field.now in
+        let f = field_syntax field.now in
         Elaborates described.field_view result (fields.map_faults f ++ fields.field_faults env f)
         (fields.field_of env fields.plain f) }
 {

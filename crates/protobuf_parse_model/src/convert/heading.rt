@@ -1,7 +1,7 @@
 //! What a file says of itself: its path, its syntax and its package.
 
 ghost use Rattle.std.specs.Prelude.{◌≡◌, option_map, string_bytes, IfOk};
-ghost use Rattle.protobuf_parse_syntax.specs.Trees.{file_view, package_of};
+ghost use Rattle.protobuf_parse_syntax.specs.Trees.{file_syntax, package_of};
 ghost use Rattle.protobuf_parse_model.specs.FileDescriptor.{syntax_text};
 
 use protobuf_parse_syntax::{FileTree, Syntax};
@@ -20,7 +20,7 @@ pub fn heading_of(alloc: Global, name: &str, tree: &FileTree) -> Result<Heading,
     ensures name { IfOk result (λ h. string_bytes h.name ≡ name.now) }
     ensures syntax { IfOk result (λ h. string_bytes h.syntax ≡ syntax_text tree.now.syntax) }
     ensures package_name { IfOk result
-        (λ h. option_map string_bytes h.package_name ≡ package_of (file_view tree.now)) }
+        (λ h. option_map string_bytes h.package_name ≡ package_of (file_syntax tree.now)) }
 {
     let name = String::from_str(alloc, name)?;
     let syntax = String::from_str(alloc, syntax_text(tree.syntax))?;
@@ -43,7 +43,7 @@ fn syntax_text(syntax: Syntax) -> &'static str
 
 /// The package of a file, in a text of its own.
 fn package_of(alloc: Global, tree: &FileTree) -> Result<Option<String>, AllocError>
-    ensures { IfOk result (λ p. option_map string_bytes p ≡ package_of (file_view tree.now)) }
+    ensures { IfOk result (λ p. option_map string_bytes p ≡ package_of (file_syntax tree.now)) }
 {
     match tree.package() {
         Some(name) => Ok(Some(String::from_str(alloc, name)?)),

@@ -1,8 +1,8 @@
 //! Several fields: those of a oneof, and those of an `extend`.
 
 ghost use Rattle.std.specs.Prelude.{◌≡◌, ◌++◌, map, flat_map, IfOk, OnOk};
-ghost use Rattle.protobuf_parse_syntax.specs.Trees.{field_statement_view, oneof_statement_view};
-ghost use Rattle.protobuf_parse_syntax.specs.Trees.{oneof_view};
+ghost use Rattle.protobuf_parse_syntax.specs.Trees.{field_statement_syntax, oneof_statement_syntax};
+ghost use Rattle.protobuf_parse_syntax.specs.Trees.{oneof_syntax};
 ghost use Rattle.protobuf_parse_model.specs.Contexts.{environment_in, fields_declared, fields_view};
 ghost use Rattle.protobuf_parse_model.specs.Contexts.{field_place_view, statements_seen};
 ghost use Rattle.protobuf_parse_model.specs.Faults.{Elaborates};
@@ -45,7 +45,7 @@ pub fn fields_of_oneof<C: CustomOptions>(
     oneof: &OneOf,
 ) -> Result<DeclaredFields, ElabFailure>
     ensures { let env = environment_in (C.customs custom.now) context.now in
-        let ss = flat_map oneof_fields (oneof_view oneof.now).body in
+        let ss = flat_map oneof_fields (oneof_syntax oneof.now).body in
         Elaborates fields_view result (flat_map (field_statement_faults env) ss)
         (fields_declared env (field_place_view place.now) ss) }
 {
@@ -56,7 +56,8 @@ pub fn fields_of_oneof<C: CustomOptions>(
 /// The statements of a oneof that declare fields.
 fn fields_in(alloc: Global, body: &[OneOfStatement]) -> Result<Vec<&FieldStatement>, AllocError>
     ensures { IfOk result
-        (λ v. statements_seen v.items ≡ flat_map oneof_fields (map oneof_statement_view body.now)) }
+        (λ v. statements_seen v.items ≡ flat_map oneof_fields
+        (map oneof_statement_syntax body.now)) }
 {
     let mut fields = Vec::new(alloc);
     for statement in body {
@@ -100,7 +101,7 @@ pub fn fields_of_extend<C: CustomOptions>(
     statements: &[FieldStatement],
 ) -> Result<DeclaredFields, ElabFailure>
     ensures { let env = environment_in (C.customs custom.now) context.now in
-        let ss = map field_statement_view statements.now in
+        let ss = map field_statement_syntax statements.now in
         Elaborates fields_view result (flat_map (extension_faults_of env extendee.now) ss)
         (fields_declared env (extending env extendee.now) ss) }
 {
@@ -128,7 +129,7 @@ fn declared_extensions<C: CustomOptions>(
     statements: &[FieldStatement],
 ) -> Result<DeclaredFields, ElabFailure>
     ensures { let env = environment_in (C.customs custom.now) context.now in
-        let ss = map field_statement_view statements.now in
+        let ss = map field_statement_syntax statements.now in
         Elaborates fields_view result (flat_map (extension_faults env) ss)
         (fields_declared env (field_place_view place.now) ss) }
 {

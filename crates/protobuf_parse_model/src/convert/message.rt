@@ -3,7 +3,7 @@
 ghost use Rattle.std.specs.Prelude.{◌≡◌, ◌++◌, ◌<◌, ◌≤◌, ◌^◌, List, [], ◌∷◌, length, map, flat_map};
 ghost use Rattle.std.specs.Prelude.{sum_by, IfOk};
 ghost use Rattle.protobuf_parse_syntax.specs.Counts.{in_message, message_statement_count};
-ghost use Rattle.protobuf_parse_syntax.specs.Trees.{message_statement_view, message_view};
+ghost use Rattle.protobuf_parse_syntax.specs.Trees.{message_statement_syntax, message_syntax};
 ghost use Rattle.protobuf_parse_model.specs.Contexts as contexts;
 ghost use Rattle.protobuf_parse_model.specs.Contexts.{body_view, environment_in, names_faults};
 ghost use Rattle.protobuf_parse_model.specs.Contexts.{with_body_statement};
@@ -35,9 +35,9 @@ pub fn message_descriptor<C: CustomOptions>(
     custom: &C,
     message: &Message,
 ) -> Result<DescriptorProto, ElabFailure>
-    requires few { in_message (message_view message.now) ≤ 2147483647 }
+    requires few { in_message (message_syntax message.now) ≤ 2147483647 }
     ensures { let env = environment_in (C.customs custom.now) context.now in
-        let m = message_view message.now in
+        let m = message_syntax message.now in
         Elaborates described.message_view result (messages.message_faults env m)
         (messages.message_of env m) }
 {
@@ -53,10 +53,10 @@ fn message_of_body<C: CustomOptions>(
     name: &str,
     body: &[MessageStatement],
 ) -> Result<DescriptorProto, ElabFailure>
-    requires few { sum_by message_statement_count (map message_statement_view body.now)
+    requires few { sum_by message_statement_count (map message_statement_syntax body.now)
         ≤ 2147483647 }
     ensures { let env = environment_in (C.customs custom.now) context.now in
-        let ss = map message_statement_view body.now in
+        let ss = map message_statement_syntax body.now in
         Elaborates described.message_view result (messages.faults_of_body env name.now ss)
         (messages.message_of_body env name.now ss) }
 {
@@ -75,7 +75,7 @@ fn finished<C: CustomOptions>(
     parts: Body,
 ) -> Result<DescriptorProto, ElabFailure>
     ensures { let env = environment_in (C.customs custom.now) context.now in
-        let ss = map message_statement_view body.now in
+        let ss = map message_statement_syntax body.now in
         Elaborates described.message_view result
         (names_faults (body_view parts) ++ messages.rest_faults env name.now ss)
         (contexts.message_of_both name.now (body_view parts) (contexts.rest_of env ss)) }
@@ -121,10 +121,10 @@ fn body_inside<C: CustomOptions>(
     name: &str,
     body: &[MessageStatement],
 ) -> Result<Body, ElabFailure>
-    requires few { sum_by message_statement_count (map message_statement_view body.now)
+    requires few { sum_by message_statement_count (map message_statement_syntax body.now)
         ≤ 2147483647 }
     ensures { let env = env_inside (environment_in (C.customs custom.now) context.now) name.now in
-        let ss = map message_statement_view body.now in
+        let ss = map message_statement_syntax body.now in
         Elaborates body_view result (flat_map (messages.statement_faults env) ss)
         (contexts.body_of env ss) }
 {
@@ -146,10 +146,10 @@ fn body_of<C: CustomOptions>(
     custom: &C,
     statements: &[MessageStatement],
 ) -> Result<Body, ElabFailure>
-    requires few { sum_by message_statement_count (map message_statement_view statements.now)
+    requires few { sum_by message_statement_count (map message_statement_syntax statements.now)
         ≤ 2147483647 }
     ensures { let env = environment_in (C.customs custom.now) context.now in
-        let ss = map message_statement_view statements.now in
+        let ss = map message_statement_syntax statements.now in
         Elaborates body_view result (flat_map (messages.statement_faults env) ss)
         (contexts.body_of env ss) }
 {
@@ -176,9 +176,9 @@ fn add_statement<C: CustomOptions>(
     statement: &MessageStatement,
 ) -> Result<(), ElabFailure>
     requires places { length body.old.oneof_decl.items < 2 ^ 31 }
-    requires few { message_statement_count (message_statement_view statement.now) ≤ 2147483647 }
+    requires few { message_statement_count (message_statement_syntax statement.now) ≤ 2147483647 }
     ensures { let env = environment_in (C.customs custom.now) context.now in
-        let s = message_statement_view statement.now in
+        let s = message_statement_syntax statement.now in
         Elaborates (λ _. body_view body.new) result (messages.statement_faults env s)
         (with_body_statement env (body_view body.old) s) }
 {
@@ -203,9 +203,9 @@ fn add_message<C: CustomOptions>(
     body: &mut Body,
     message: &Message,
 ) -> Result<(), ElabFailure>
-    requires few { in_message (message_view message.now) ≤ 2147483647 }
+    requires few { in_message (message_syntax message.now) ≤ 2147483647 }
     ensures { let env = environment_in (C.customs custom.now) context.now in
-        let m = message_view message.now in
+        let m = message_syntax message.now in
         Elaborates (λ _. body_view body.new) result (messages.message_faults env m)
         (contexts.with_message (body_view body.old) (messages.message_of env m)) }
 {

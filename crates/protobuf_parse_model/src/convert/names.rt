@@ -1,7 +1,7 @@
 //! Names, of which no two in one scope are the same.
 
 ghost use Rattle.std.specs.Prelude.{◌≡◌, ℕ, List, map, IfOk};
-ghost use Rattle.protobuf_parse_syntax.specs.Trees.{method_view, value_view};
+ghost use Rattle.protobuf_parse_syntax.specs.Trees.{method_syntax, value_syntax};
 ghost use Rattle.protobuf_parse_model.specs.SeenFiles.{name_texts};
 ghost use Rattle.protobuf_parse_model.specs.Descriptors as described;
 ghost use Rattle.protobuf_parse_model.specs.Messages.{message_name};
@@ -66,7 +66,7 @@ impl Named for ServiceDescriptorProto {
 }
 
 impl Named for &EnumValue {
-    ghost name_of = { λ value. (value_view value.now).name };
+    ghost name_of = { λ value. (value_syntax value.now).name };
 
     fn name(&self) -> &str {
         self.name.as_str()
@@ -74,7 +74,7 @@ impl Named for &EnumValue {
 }
 
 impl Named for &Method {
-    ghost name_of = { λ method. (method_view method.now).name };
+    ghost name_of = { λ method. (method_syntax method.now).name };
 
     fn name(&self) -> &str {
         self.name.as_str()

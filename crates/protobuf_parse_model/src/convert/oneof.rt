@@ -1,8 +1,8 @@
 //! Oneofs.
 
 ghost use Rattle.std.specs.Prelude.{◌≡◌, ◌++◌, codes, map, flat_map, option_map, IfOk};
-ghost use Rattle.protobuf_parse_syntax.specs.Trees.{field_statement_view, oneof_statement_view};
-ghost use Rattle.protobuf_parse_syntax.specs.Trees.{oneof_view};
+ghost use Rattle.protobuf_parse_syntax.specs.Trees.{field_statement_syntax, oneof_statement_syntax};
+ghost use Rattle.protobuf_parse_syntax.specs.Trees.{oneof_syntax};
 ghost use Rattle.protobuf_parse_model.specs.BuiltinOptions.{oneof_table};
 ghost use Rattle.protobuf_parse_model.specs.ConstructOptions.{construct_faults};
 ghost use Rattle.protobuf_parse_model.specs.Contexts.{environment_in, names_of_context};
@@ -33,7 +33,7 @@ pub fn oneof_descriptor<C: CustomOptions>(
     oneof: &OneOf,
 ) -> Result<OneofDescriptorProto, ElabFailure>
     ensures { let env = environment_in (C.customs custom.now) context.now in
-        let o = oneof_view oneof.now in
+        let o = oneof_syntax oneof.now in
         Elaborates described.oneof_view result
         (construct_faults env of.Oneof oneof_table (messages.options_in_oneof o))
         (messages.oneof_of env o) }
@@ -52,7 +52,8 @@ fn checked_options<C: CustomOptions>(
     body: &[OneOfStatement],
 ) -> Result<Option<OneofOptions>, ElabFailure>
     ensures { let env = environment_in (C.customs custom.now) context.now in
-        let os = flat_map statements.oneof_statement_options (map oneof_statement_view body.now) in
+        let os = flat_map statements.oneof_statement_options
+        (map oneof_statement_syntax body.now) in
         Elaborates (λ o. option_map oneof_options_view o) result
         (construct_faults env of.Oneof oneof_table os)
         (sets.oneof_options (customs_bytes env of.Oneof os) os) }
@@ -65,7 +66,7 @@ fn checked_options<C: CustomOptions>(
 /// Whether the field is alone in a oneof of its own: in proto3 with the label `optional`.
 pub fn has_own_oneof(context: &Context<'_>, statement: &FieldStatement) -> bool
     ensures { result ≡ messages.has_own_oneof (names_of_context context.now)
-        (field_statement_view statement.now) }
+        (field_statement_syntax statement.now) }
 {
     match statement {
         FieldStatement::Field(field) => says_optional(context.syntax, field.label),

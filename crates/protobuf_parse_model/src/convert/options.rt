@@ -10,7 +10,7 @@ mod tables;
 mod texts;
 
 ghost use Rattle.std.specs.Prelude.{◌≡◌, map, IfOk};
-ghost use Rattle.protobuf_parse_syntax.specs.Trees.{option_view};
+ghost use Rattle.protobuf_parse_syntax.specs.Trees.{option_syntax};
 ghost use Rattle.protobuf_parse_model.specs.BuiltinOptions.{options_seen};
 
 pub use builtin::has_builtin_option;
@@ -22,6 +22,7 @@ pub use sets::{
 };
 pub use statements::options_in;
 use std::alloc::{AllocError, Global};
+pub use strings::{decoded_bytes, decoded_text};
 pub use texts::{default_value, json_name_of};
 
 /// The options of a list, one by one.
@@ -29,7 +30,7 @@ pub fn options_of(
     alloc: Global,
     options: &[ProtobufOption],
 ) -> Result<Vec<&ProtobufOption>, AllocError>
-    ensures { IfOk result (λ v. options_seen v.items ≡ map option_view options.now) }
+    ensures { IfOk result (λ v. options_seen v.items ≡ map option_syntax options.now) }
 {
     let mut list = Vec::new(alloc);
     for option in options {

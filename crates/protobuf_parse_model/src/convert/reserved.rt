@@ -1,7 +1,7 @@
 //! What is reserved in enums and messages, and the ranges of messages.
 
 ghost use Rattle.std.specs.Prelude.{◌≡◌, ◌++◌, map, flat_map, string_bytes, IfOk, OnOk};
-ghost use Rattle.protobuf_parse_syntax.specs.Trees.{range_view, reserved_view};
+ghost use Rattle.protobuf_parse_syntax.specs.Trees.{range_syntax, reserved_syntax};
 ghost use Rattle.protobuf_parse_model.specs.Contexts.{reserves_seen};
 ghost use Rattle.protobuf_parse_model.specs.Descriptors as described;
 ghost use Rattle.protobuf_parse_model.specs.Enums.{inclusive, names_reserved, ranges_reserved};
@@ -20,7 +20,7 @@ pub fn ranges_reserved(
     statements: &[&Reserved],
 ) -> Result<Vec<FieldNumberRange>, AllocError>
     ensures { IfOk result
-        (λ v. map range_view v.items ≡ flat_map ranges_reserved (reserves_seen statements.now)) }
+        (λ v. map range_syntax v.items ≡ flat_map ranges_reserved (reserves_seen statements.now)) }
 {
     let mut ranges = Vec::new(alloc);
     for statement in statements {
@@ -50,7 +50,7 @@ fn push_names(
 ) -> Result<(), AllocError>
     ensures { OnOk result
         (map string_bytes names.new.items ≡ map string_bytes names.old.items
-        ++ names_reserved (reserved_view statement.now)) }
+        ++ names_reserved (reserved_syntax statement.now)) }
 {
     match statement {
         Reserved::Ranges(_) => Ok(()),
@@ -75,7 +75,7 @@ pub fn inclusive_ranges(
     ranges: &[FieldNumberRange],
 ) -> Result<Vec<EnumReservedRange>, AllocError>
     ensures { IfOk result
-        (λ v. map described.enum_range_view v.items ≡ map inclusive (map range_view ranges.now)) }
+        (λ v. map described.enum_range_view v.items ≡ map inclusive (map range_syntax ranges.now)) }
 {
     let mut found = Vec::new(alloc);
     for range in ranges {
@@ -94,7 +94,7 @@ pub fn extension_ranges(
     name: &str,
     ranges: &[FieldNumberRange],
 ) -> Result<Vec<ExtensionRange>, ElabFailure>
-    ensures { let rs = map range_view ranges.now in
+    ensures { let rs = map range_syntax ranges.now in
         Elaborates (λ v. map described.extension_range_view v.items) result
         (flat_map (range_faults name.now) rs) (map exclusive rs) }
 {
@@ -111,7 +111,7 @@ fn extension_range(
     range: &FieldNumberRange,
 ) -> Result<ExtensionRange, ElabFailure>
     ensures { Elaborates described.extension_range_view result
-        (range_faults name.now (range_view range.now)) (exclusive (range_view range.now)) }
+        (range_faults name.now (range_syntax range.now)) (exclusive (range_syntax range.now)) }
 {
     let end = end_behind(alloc, name, range)?;
     Ok(ExtensionRange {
@@ -127,7 +127,7 @@ pub fn reserved_ranges(
     name: &str,
     ranges: &[FieldNumberRange],
 ) -> Result<Vec<ReservedRange>, ElabFailure>
-    ensures { let rs = map range_view ranges.now in
+    ensures { let rs = map range_syntax ranges.now in
         Elaborates (λ v. map described.reserved_range_view v.items) result
         (flat_map (range_faults name.now) rs) (map exclusive rs) }
 {
@@ -144,7 +144,7 @@ fn reserved_range(
     range: &FieldNumberRange,
 ) -> Result<ReservedRange, ElabFailure>
     ensures { Elaborates described.reserved_range_view result
-        (range_faults name.now (range_view range.now)) (exclusive (range_view range.now)) }
+        (range_faults name.now (range_syntax range.now)) (exclusive (range_syntax range.now)) }
 {
     let end = end_behind(alloc, name, range)?;
     Ok(ReservedRange {
@@ -155,8 +155,8 @@ fn reserved_range(
 
 /// The number behind the last. E7 where the last is the largest.
 fn end_behind(alloc: Global, name: &str, range: &FieldNumberRange) -> Result<i32, ElabFailure>
-    ensures { Elaborates (λ n. n) result (range_faults name.now (range_view range.now))
-        ((exclusive (range_view range.now)).end) }
+    ensures { Elaborates (λ n. n) result (range_faults name.now (range_syntax range.now))
+        ((exclusive (range_syntax range.now)).end) }
 {
     if range.to == i32::MAX {
         Err(fault(alloc, ElabErrorKind::RangeEndOverflow, name))

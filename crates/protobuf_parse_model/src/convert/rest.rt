@@ -1,7 +1,7 @@
 //! The ranges and the options of messages.
 
 ghost use Rattle.std.specs.Prelude.{◌≡◌, ◌++◌, map, flat_map, option_map, IfOk};
-ghost use Rattle.protobuf_parse_syntax.specs.Trees.{message_statement_view, range_view};
+ghost use Rattle.protobuf_parse_syntax.specs.Trees.{message_statement_syntax, range_syntax};
 ghost use Rattle.protobuf_parse_model.specs.BuiltinOptions.{message_table};
 ghost use Rattle.protobuf_parse_model.specs.ConstructOptions.{construct_faults};
 ghost use Rattle.protobuf_parse_model.specs.Contexts.{environment_in, reserved_views};
@@ -47,7 +47,7 @@ pub fn rest_of_message<C: CustomOptions>(
     body: &[MessageStatement],
 ) -> Result<Rest, ElabFailure>
     ensures { let env = environment_in (C.customs custom.now) context.now in
-        let ss = map message_statement_view body.now in
+        let ss = map message_statement_syntax body.now in
         Elaborates rest_view result (messages.rest_faults env name.now ss) (rest_of env ss) }
 {
     let extension_range = extensions(alloc, name, body)?;
@@ -67,7 +67,7 @@ fn extensions(
     name: &str,
     body: &[MessageStatement],
 ) -> Result<Vec<ExtensionRange>, ElabFailure>
-    ensures { let rs = flat_map messages.extension_ranges (map message_statement_view body.now) in
+    ensures { let rs = flat_map messages.extension_ranges (map message_statement_syntax body.now) in
         Elaborates (λ v. map described.extension_range_view v.items) result
         (flat_map (messages.range_faults name.now) rs) (map messages.exclusive rs) }
 {
@@ -81,8 +81,8 @@ fn ranges_of_extensions(
     body: &[MessageStatement],
 ) -> Result<Vec<FieldNumberRange>, AllocError>
     ensures { IfOk result
-        (λ v. map range_view v.items
-        ≡ flat_map messages.extension_ranges (map message_statement_view body.now)) }
+        (λ v. map range_syntax v.items
+        ≡ flat_map messages.extension_ranges (map message_statement_syntax body.now)) }
 {
     let mut ranges = Vec::new(alloc);
     for statement in body {
@@ -99,7 +99,7 @@ fn reserved(
     name: &str,
     body: &[MessageStatement],
 ) -> Result<(Vec<ReservedRange>, Vec<String>), ElabFailure>
-    ensures { let rs = flat_map messages.reserves (map message_statement_view body.now) in
+    ensures { let rs = flat_map messages.reserves (map message_statement_syntax body.now) in
         Elaborates reserved_views result
         (flat_map (messages.range_faults name.now) (flat_map enums.ranges_reserved rs)) (
           map messages.exclusive (flat_map enums.ranges_reserved rs),
@@ -132,7 +132,7 @@ fn reserved_by(
 fn reserves(alloc: Global, body: &[MessageStatement]) -> Result<Vec<&Reserved>, AllocError>
     ensures { IfOk result
         (λ v. reserves_seen v.items
-        ≡ flat_map messages.reserves (map message_statement_view body.now)) }
+        ≡ flat_map messages.reserves (map message_statement_syntax body.now)) }
 {
     let mut reserves = Vec::new(alloc);
     for statement in body {
@@ -152,7 +152,7 @@ fn checked_options<C: CustomOptions>(
     body: &[MessageStatement],
 ) -> Result<Option<MessageOptions>, ElabFailure>
     ensures { let env = environment_in (C.customs custom.now) context.now in
-        let os = messages.options_of_body (map message_statement_view body.now) in
+        let os = messages.options_of_body (map message_statement_syntax body.now) in
         Elaborates (λ o. option_map message_options_view o) result
         (construct_faults env of.Message message_table os)
         (sets.message_options (customs_bytes env of.Message os) os) }

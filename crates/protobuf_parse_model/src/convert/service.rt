@@ -41,7 +41,7 @@ pub fn service_descriptor<C: CustomOptions>(
     service: &Service,
 ) -> Result<ServiceDescriptorProto, ElabFailure>
     ensures { let env = environment_in (C.customs custom.now) context.now in
-        let s = tree.service_view service.now in
+        let s = tree.service_syntax service.now in
         Elaborates described.service_view result (services.service_faults env s)
         (services.service_of env s) }
 {
@@ -63,7 +63,7 @@ fn service_methods<C: CustomOptions>(
     body: &[ServiceStatement],
 ) -> Result<Vec<MethodDescriptorProto>, ElabFailure>
     ensures { let env = environment_in (C.customs custom.now) context.now in
-        let ms = flat_map services.methods_in (map tree.service_statement_view body.now) in
+        let ms = flat_map services.methods_in (map tree.service_statement_syntax body.now) in
         Elaborates (λ v. map described.method_view v.items) result (services.methods_faults env ms)
         (map (services.method_of env) ms) }
 {
@@ -92,7 +92,7 @@ fn unlike_methods<C: CustomOptions>(
 fn methods(alloc: Global, body: &[ServiceStatement]) -> Result<Vec<&Method>, AllocError>
     ensures { IfOk result
         (λ v. methods_seen v.items
-        ≡ flat_map services.methods_in (map tree.service_statement_view body.now)) }
+        ≡ flat_map services.methods_in (map tree.service_statement_syntax body.now)) }
 {
     let mut methods = Vec::new(alloc);
     for statement in body {
@@ -131,7 +131,7 @@ fn method_descriptor<C: CustomOptions>(
     method: &Method,
 ) -> Result<MethodDescriptorProto, ElabFailure>
     ensures { let env = environment_in (C.customs custom.now) context.now in
-        let m = tree.method_view method.now in
+        let m = tree.method_syntax method.now in
         Elaborates described.method_view result (services.method_faults env m)
         (services.method_of env m) }
 {
@@ -167,7 +167,7 @@ fn checked_method_options<C: CustomOptions>(
     statements: &[OptionStatement],
 ) -> Result<Option<MethodOptions>, ElabFailure>
     ensures { let env = environment_in (C.customs custom.now) context.now in
-        let os = map services.statement_option (map tree.option_statement_view statements.now) in
+        let os = map services.statement_option (map tree.option_statement_syntax statements.now) in
         Elaborates (λ o. option_map method_options_view o) result
         (construct_faults env of.Method method_table os)
         (sets.method_options (customs_bytes env of.Method os) os) }
@@ -186,7 +186,8 @@ fn checked_options<C: CustomOptions>(
     body: &[ServiceStatement],
 ) -> Result<Option<ServiceOptions>, ElabFailure>
     ensures { let env = environment_in (C.customs custom.now) context.now in
-        let os = flat_map services.options_in_service (map tree.service_statement_view body.now) in
+        let os = flat_map services.options_in_service
+        (map tree.service_statement_syntax body.now) in
         Elaborates (λ o. option_map service_options_view o) result
         (construct_faults env of.Service service_table os)
         (sets.service_options (customs_bytes env of.Service os) os) }

@@ -2,8 +2,8 @@
 
 ghost use Rattle.std.specs.Prelude.{◌≡◌, [], ◌∷◌, ◌++◌, OnOk};
 ghost use Rattle.protobuf_parse_syntax.specs.Trees as tree;
-ghost use Rattle.protobuf_parse_syntax.specs.Trees.{field_view, field_statement_view, group_of};
-ghost use Rattle.protobuf_parse_syntax.specs.Trees.{group_view};
+ghost use Rattle.protobuf_parse_syntax.specs.Trees.{field_syntax, field_statement_syntax, group_of};
+ghost use Rattle.protobuf_parse_syntax.specs.Trees.{group_syntax};
 ghost use Rattle.protobuf_parse_model.specs.Contexts.{behind_seen, declared_view};
 ghost use Rattle.protobuf_parse_model.specs.Contexts.{field_declared_by};
 ghost use Rattle.protobuf_parse_model.specs.Contexts.{environment_in};
@@ -84,7 +84,7 @@ pub fn declared_field<C: CustomOptions>(
     statement: &FieldStatement,
 ) -> Result<DeclaredField, ElabFailure>
     ensures { let env = environment_in (C.customs custom.now) context.now in
-        let s = field_statement_view statement.now in
+        let s = field_statement_syntax statement.now in
         Elaborates declared_view result (fields.field_statement_faults env s)
         (field_declared_by env (field_place_view place.now) s) }
 {
@@ -103,7 +103,7 @@ pub fn declared_extension<C: CustomOptions>(
     statement: &FieldStatement,
 ) -> Result<DeclaredField, ElabFailure>
     ensures { let env = environment_in (C.customs custom.now) context.now in
-        let s = field_statement_view statement.now in
+        let s = field_statement_syntax statement.now in
         Elaborates declared_view result (fields.extension_faults env s)
         (field_declared_by env (field_place_view place.now) s) }
 {
@@ -124,7 +124,7 @@ fn declared_plain<C: CustomOptions>(
     field: &Field,
 ) -> Result<DeclaredField, ElabFailure>
     ensures { let env = environment_in (C.customs custom.now) context.now in
-        let s = tree.field (field_view field.now) in
+        let s = tree.field (field_syntax field.now) in
         Elaborates declared_view result (fields.field_statement_faults env s)
         (field_declared_by env (field_place_view place.now) s) }
 {
@@ -143,7 +143,7 @@ fn declared_unless_map<C: CustomOptions>(
     field: &Field,
 ) -> Result<DeclaredField, ElabFailure>
     ensures { let env = environment_in (C.customs custom.now) context.now in
-        let s = tree.field (field_view field.now) in
+        let s = tree.field (field_syntax field.now) in
         Elaborates declared_view result (fields.extension_faults env s)
         (field_declared_by env (field_place_view place.now) s) }
 {
@@ -161,7 +161,7 @@ fn declared_group<C: CustomOptions>(
     group: &Group,
 ) -> Result<DeclaredField, ElabFailure>
     ensures { let env = environment_in (C.customs custom.now) context.now in
-        let s = group_of (group_view group.now) in
+        let s = group_of (group_syntax group.now) in
         Elaborates declared_view result (fields.field_statement_faults env s)
         (field_declared_by env (field_place_view place.now) s) }
 {

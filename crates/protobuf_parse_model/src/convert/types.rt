@@ -1,7 +1,7 @@
 //! The types of fields.
 
 ghost use Rattle.std.specs.Prelude.{◌≡◌, ◌++◌, Some, string_bytes, IfOk};
-ghost use Rattle.protobuf_parse_syntax.specs.Trees.{type_view};
+ghost use Rattle.protobuf_parse_syntax.specs.Trees.{type_syntax};
 ghost use Rattle.protobuf_parse_model.specs.Contexts.{names_of_context, resolved_view};
 ghost use Rattle.protobuf_parse_model.specs.Environment.{missing_name, type_full_name};
 ghost use Rattle.protobuf_parse_model.specs.Environment.{type_missing, type_named};
@@ -38,8 +38,8 @@ pub fn resolved_type(
     type_: &Type,
 ) -> Result<ResolvedType, ElabFailure>
     ensures { let env = names_of_context context.now in
-        Elaborates resolved_view result (type_faults env name.now (type_view type_.now))
-        (type_of env name.now (type_view type_.now)) }
+        Elaborates resolved_view result (type_faults env name.now (type_syntax type_.now))
+        (type_of env name.now (type_syntax type_.now)) }
 {
     match type_ {
         Type::Scalar(scalar) => Ok(ResolvedType {
@@ -96,8 +96,8 @@ fn check_map(
 ) -> Result<(), ElabFailure>
     ensures { let env = names_of_context context.now in
         Elaborates (λ u. u) result
-        (inner_type_faults env name.now (type_view key.now)
-        ++ inner_type_faults env name.now (type_view value.now)) tt }
+        (inner_type_faults env name.now (type_syntax key.now)
+        ++ inner_type_faults env name.now (type_syntax value.now)) tt }
 {
     inner_type(alloc, context, name, key)?;
     inner_type(alloc, context, name, value)?;
@@ -113,8 +113,8 @@ pub fn inner_type(
     type_: &Type,
 ) -> Result<ResolvedType, ElabFailure>
     ensures { let env = names_of_context context.now in
-        Elaborates resolved_view result (inner_type_faults env name.now (type_view type_.now))
-        (type_of env name.now (type_view type_.now)) }
+        Elaborates resolved_view result (inner_type_faults env name.now (type_syntax type_.now))
+        (type_of env name.now (type_syntax type_.now)) }
 {
     match type_ {
         Type::Scalar(scalar) => Ok(ResolvedType {

@@ -5,8 +5,9 @@ ghost use Rattle.std.specs.Prelude.{nat_eq};
 ghost use Rattle.std.specs.Prelude.{bytes_eq, if◌then◌else◌, string_bytes, Contains, IfOk, OnOk};
 ghost use Rattle.std.specs.BTreeMap.{get_by_text};
 ghost use Rattle.protobuf_parse_base.specs.Names.{relative_idents};
-ghost use Rattle.protobuf_parse_syntax.specs.Trees.{FileSyntax, file_view, message_statement_view};
-ghost use Rattle.protobuf_parse_syntax.specs.Trees.{message_view, statement_view};
+ghost use Rattle.protobuf_parse_syntax.specs.Trees.{FileSyntax, file_syntax};
+ghost use Rattle.protobuf_parse_syntax.specs.Trees.{message_statement_syntax};
+ghost use Rattle.protobuf_parse_syntax.specs.Trees.{message_syntax, statement_syntax};
 ghost use Rattle.protobuf_parse_model.specs.Declarations as names;
 ghost use Rattle.protobuf_parse_model.specs.Descriptors.{Text};
 ghost use Rattle.protobuf_parse_model.specs.FileOrder.{FilesAscend};
@@ -39,9 +40,9 @@ impl Declarations {
     /// The one error is that memory is short: nothing is known of the table then.
     pub fn add(&mut self, alloc: Global, file: u32, tree: &FileTree) -> Result<(), AllocError>
         ensures { OnOk result ((files : List FileSyntax) → length files ≡ file →
-            TableTells self.old files → TableTells self.new (files ++ file_view tree.now ∷ [])) }
+            TableTells self.old files → TableTells self.new (files ++ file_syntax tree.now ∷ [])) }
     {
-        let mut scope = package_scope(alloc, tree)?;
+        let mut scope = file_scope(alloc, tree)?;
         add_types(self, alloc, file, &mut scope, &tree.statements)?;
         add_generated(self, alloc, file, &mut scope, &tree.statements)?;
         add_extensions(self, alloc, file, &mut scope, &tree.statements)
@@ -59,7 +60,7 @@ fn add_types<'a>(
     ensures scope { OnOk result (name_texts scope.new.items ≡ name_texts scope.old.items) }
     ensures adds { OnOk result (Adds type_entry table.old table.new file
         (flat_map (names.statement_types (name_texts scope.old.items))
-        (map statement_view statements.now))) }
+        (map statement_syntax statements.now))) }
 {
     for statement in statements {
         add_declared(table, alloc, file, scope, statement)?;
@@ -77,7 +78,7 @@ fn add_declared<'a>(
 ) -> Result<(), AllocError>
     ensures scope { OnOk result (name_texts scope.new.items ≡ name_texts scope.old.items) }
     ensures adds { OnOk result (Adds type_entry table.old table.new file
-        (names.statement_types (name_texts scope.old.items) (statement_view statement.now))) }
+        (names.statement_types (name_texts scope.old.items) (statement_syntax statement.now))) }
 {
     match statement {
         FileStatement::Message(message) => add_message(table, alloc, file, scope, message),
@@ -93,8 +94,8 @@ fn add_declared<'a>(
 }
 
 /// The identifiers of the file's package.
-pub fn package_scope<'a>(alloc: Global, tree: &'a FileTree) -> Result<Vec<&'a str>, AllocError>
-    ensures { IfOk result (λ v. name_texts v.items ≡ names.file_scope (file_view tree.now)) }
+pub fn file_scope<'a>(alloc: Global, tree: &'a FileTree) -> Result<Vec<&'a str>, AllocError>
+    ensures { IfOk result (λ v. name_texts v.items ≡ names.file_scope (file_syntax tree.now)) }
 {
     match tree.package() {
         Some(package) => identifiers(alloc, package),
@@ -123,7 +124,7 @@ fn add_message<'a>(
 ) -> Result<(), AllocError>
     ensures scope { OnOk result (name_texts scope.new.items ≡ name_texts scope.old.items) }
     ensures adds { OnOk result (Adds type_entry table.old table.new file
-        (names.message_types (name_texts scope.old.items) (message_view message.now))) }
+        (names.message_types (name_texts scope.old.items) (message_syntax message.now))) }
 {
     add_type(table, alloc, file, scope, &message.name, TypeKind::Message)?;
     scope.push(&message.name)?;
@@ -145,7 +146,7 @@ fn add_statement<'a>(
 ) -> Result<(), AllocError>
     ensures scope { OnOk result (name_texts scope.new.items ≡ name_texts scope.old.items) }
     ensures adds { OnOk result (Adds type_entry table.old table.new file
-        (names.types_of (name_texts scope.old.items) (message_statement_view statement.now))) }
+        (names.types_of (name_texts scope.old.items) (message_statement_syntax statement.now))) }
 {
     match statement {
         MessageStatement::Message(message) => add_message(table, alloc, file, scope, message),

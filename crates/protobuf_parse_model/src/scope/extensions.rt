@@ -1,9 +1,9 @@
 //! The extensions that files declare, by full name.
 
 ghost use Rattle.std.specs.Prelude.{◌≡◌, map, flat_map, OnOk};
-ghost use Rattle.protobuf_parse_syntax.specs.Trees.{extend_view, field_statement_view};
-ghost use Rattle.protobuf_parse_syntax.specs.Trees.{message_statement_view, message_view};
-ghost use Rattle.protobuf_parse_syntax.specs.Trees.{statement_view};
+ghost use Rattle.protobuf_parse_syntax.specs.Trees.{extend_syntax, field_statement_syntax};
+ghost use Rattle.protobuf_parse_syntax.specs.Trees.{message_statement_syntax, message_syntax};
+ghost use Rattle.protobuf_parse_syntax.specs.Trees.{statement_syntax};
 ghost use Rattle.protobuf_parse_model.specs.declared.scope.seen.DeclarationKind.TheVariants.{Extension};
 ghost use Rattle.protobuf_parse_model.specs.Declarations as names;
 ghost use Rattle.protobuf_parse_model.specs.Statements.{field_statement_name};
@@ -27,7 +27,7 @@ pub fn add_extensions<'a>(
     ensures scope { OnOk result (name_texts scope.new.items ≡ name_texts scope.old.items) }
     ensures adds { OnOk result (Adds extension_entry table.old table.new file
         (flat_map (names.statement_extensions (name_texts scope.old.items))
-        (map statement_view statements.now))) }
+        (map statement_syntax statements.now))) }
 {
     for statement in statements {
         add_in_file(table, alloc, file, scope, statement)?;
@@ -45,7 +45,8 @@ fn add_in_file<'a>(
 ) -> Result<(), AllocError>
     ensures scope { OnOk result (name_texts scope.new.items ≡ name_texts scope.old.items) }
     ensures adds { OnOk result (Adds extension_entry table.old table.new file
-        (names.statement_extensions (name_texts scope.old.items) (statement_view statement.now))) }
+        (names.statement_extensions (name_texts scope.old.items)
+        (statement_syntax statement.now))) }
 {
     match statement {
         FileStatement::Message(message) => add_in_message(table, alloc, file, scope, message),
@@ -68,7 +69,7 @@ fn add_in_message<'a>(
     message: &'a Message,
 ) -> Result<(), AllocError>
     ensures scope { OnOk result (name_texts scope.new.items ≡ name_texts scope.old.items) }
-    ensures adds { OnOk result (let m = message_view message.now in
+    ensures adds { OnOk result (let m = message_syntax message.now in
         Adds extension_entry table.old table.new file
         (flat_map (names.extensions_of (names.inside (name_texts scope.old.items) m.name))
         m.body)) }
@@ -92,7 +93,8 @@ fn add_in_body<'a>(
 ) -> Result<(), AllocError>
     ensures scope { OnOk result (name_texts scope.new.items ≡ name_texts scope.old.items) }
     ensures adds { OnOk result (Adds extension_entry table.old table.new file
-        (names.extensions_of (name_texts scope.old.items) (message_statement_view statement.now))) }
+        (names.extensions_of (name_texts scope.old.items)
+        (message_statement_syntax statement.now))) }
 {
     match statement {
         MessageStatement::Message(message) => add_in_message(table, alloc, file, scope, message),
@@ -115,7 +117,7 @@ fn add_in_extend(
     extend: &Extend,
 ) -> Result<(), AllocError>
     ensures { OnOk result (Adds extension_entry table.old table.new file
-        (names.extend_extensions (name_texts scope.now) (extend_view extend.now))) }
+        (names.extend_extensions (name_texts scope.now) (extend_syntax extend.now))) }
 {
     for statement in &extend.fields {
         add_extension(table, alloc, file, scope, statement)?;
@@ -131,7 +133,7 @@ fn add_extension(
     scope: &[&str],
     statement: &FieldStatement,
 ) -> Result<(), AllocError>
-    ensures { OnOk result (let name = field_statement_name (field_statement_view statement.now) in
+    ensures { OnOk result (let name = field_statement_name (field_statement_syntax statement.now) in
         AddsOne table.old table.new (names.full_name (name_texts scope.now) name)
         (record { file = file; kind = Extension })) }
 {

@@ -1,10 +1,11 @@
 //! The messages behind maps and groups, by full name.
 
 ghost use Rattle.std.specs.Prelude.{◌≡◌, [], ◌∷◌, map, flat_map, OnOk};
-ghost use Rattle.protobuf_parse_syntax.specs.Trees.{extend_view, field_statement_view, field_view};
-ghost use Rattle.protobuf_parse_syntax.specs.Trees.{message_statement_view, message_view};
-ghost use Rattle.protobuf_parse_syntax.specs.Trees.{oneof_statement_view, oneof_view};
-ghost use Rattle.protobuf_parse_syntax.specs.Trees.{statement_view};
+ghost use Rattle.protobuf_parse_syntax.specs.Trees.{extend_syntax, field_statement_syntax};
+ghost use Rattle.protobuf_parse_syntax.specs.Trees.{field_syntax};
+ghost use Rattle.protobuf_parse_syntax.specs.Trees.{message_statement_syntax, message_syntax};
+ghost use Rattle.protobuf_parse_syntax.specs.Trees.{oneof_statement_syntax, oneof_syntax};
+ghost use Rattle.protobuf_parse_syntax.specs.Trees.{statement_syntax};
 ghost use Rattle.protobuf_parse_syntax.specs.Trees as tree;
 ghost use Rattle.protobuf_parse_model.specs.Declarations as names;
 ghost use Rattle.protobuf_parse_model.specs.Statements.{oneof_fields};
@@ -31,7 +32,7 @@ pub fn add_generated<'a>(
     ensures scope { OnOk result (name_texts scope.new.items ≡ name_texts scope.old.items) }
     ensures adds { OnOk result (Adds generated_entry table.old table.new file
         (flat_map (names.statement_generated (name_texts scope.old.items))
-        (map statement_view statements.now))) }
+        (map statement_syntax statements.now))) }
 {
     for statement in statements {
         add_in_file(table, alloc, file, scope, statement)?;
@@ -49,7 +50,7 @@ fn add_in_file<'a>(
 ) -> Result<(), AllocError>
     ensures scope { OnOk result (name_texts scope.new.items ≡ name_texts scope.old.items) }
     ensures adds { OnOk result (Adds generated_entry table.old table.new file
-        (names.statement_generated (name_texts scope.old.items) (statement_view statement.now))) }
+        (names.statement_generated (name_texts scope.old.items) (statement_syntax statement.now))) }
 {
     match statement {
         FileStatement::Message(message) => add_in_message(table, alloc, file, scope, message),
@@ -72,7 +73,7 @@ fn add_in_message<'a>(
     message: &'a Message,
 ) -> Result<(), AllocError>
     ensures scope { OnOk result (name_texts scope.new.items ≡ name_texts scope.old.items) }
-    ensures adds { OnOk result (let m = message_view message.now in
+    ensures adds { OnOk result (let m = message_syntax message.now in
         Adds generated_entry table.old table.new file
         (flat_map (names.generated_of (names.inside (name_texts scope.old.items) m.name)) m.body)) }
 {
@@ -95,7 +96,8 @@ fn add_in_body<'a>(
 ) -> Result<(), AllocError>
     ensures scope { OnOk result (name_texts scope.new.items ≡ name_texts scope.old.items) }
     ensures adds { OnOk result (Adds generated_entry table.old table.new file
-        (names.generated_of (name_texts scope.old.items) (message_statement_view statement.now))) }
+        (names.generated_of (name_texts scope.old.items)
+        (message_statement_syntax statement.now))) }
 {
     match statement {
         MessageStatement::Message(message) => add_in_message(table, alloc, file, scope, message),
@@ -119,7 +121,7 @@ fn add_in_oneof(
 ) -> Result<(), AllocError>
     ensures { OnOk result (Adds generated_entry table.old table.new file
         (flat_map (names.generated_by (name_texts scope.now))
-        (flat_map oneof_fields (oneof_view oneof.now).body))) }
+        (flat_map oneof_fields (oneof_syntax oneof.now).body))) }
 {
     for statement in &oneof.body {
         add_of_choice(table, alloc, file, scope, statement)?;
@@ -137,7 +139,7 @@ fn add_of_choice(
 ) -> Result<(), AllocError>
     ensures { OnOk result (Adds generated_entry table.old table.new file
         (flat_map (names.generated_by (name_texts scope.now))
-        (oneof_fields (oneof_statement_view statement.now)))) }
+        (oneof_fields (oneof_statement_syntax statement.now)))) }
 {
     match statement {
         OneOfStatement::Field(field) => add_behind(table, alloc, file, scope, field),
@@ -154,7 +156,7 @@ fn add_in_extend(
     extend: &Extend,
 ) -> Result<(), AllocError>
     ensures { OnOk result (Adds generated_entry table.old table.new file
-        (flat_map (names.generated_by (name_texts scope.now)) (extend_view extend.now).fields)) }
+        (flat_map (names.generated_by (name_texts scope.now)) (extend_syntax extend.now).fields)) }
 {
     for statement in &extend.fields {
         add_behind(table, alloc, file, scope, statement)?;
@@ -172,7 +174,7 @@ fn add_behind(
     statement: &FieldStatement,
 ) -> Result<(), AllocError>
     ensures { OnOk result (Adds generated_entry table.old table.new file
-        (names.generated_by (name_texts scope.now) (field_statement_view statement.now))) }
+        (names.generated_by (name_texts scope.now) (field_statement_syntax statement.now))) }
 {
     match statement {
         FieldStatement::Field(field) => add_entry(table, alloc, file, scope, field),
@@ -189,7 +191,7 @@ fn add_entry(
     field: &Field,
 ) -> Result<(), AllocError>
     ensures { OnOk result (Adds generated_entry table.old table.new file
-        (names.generated_by (name_texts scope.now) (tree.field (field_view field.now)))) }
+        (names.generated_by (name_texts scope.now) (tree.field (field_syntax field.now)))) }
 {
     match &field.type_ {
         Type::Map(_, _) => {

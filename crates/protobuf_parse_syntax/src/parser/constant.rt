@@ -27,7 +27,7 @@ pub fn constant(
     tokens: &mut Cursor<'_, '_>,
     levels: usize,
 ) -> Result<ProtobufConstant, Refusal>
-    ensures { Gives view.constant_view result (left tokens.new)
+    ensures { Gives view.constant_syntax result (left tokens.new)
         ((nest.constant levels).run (left tokens.old)) }
 {
     if levels == 0 {
@@ -44,7 +44,7 @@ fn constant_of(
     tokens: &mut Cursor<'_, '_>,
     levels: usize,
 ) -> Result<ProtobufConstant, Refusal>
-    ensures { Gives view.constant_view result (left tokens.new)
+    ensures { Gives view.constant_syntax result (left tokens.new)
         ((nest.constant_in levels).run (left tokens.old)) }
 {
     if tokens.sees_symbol('{') {
@@ -82,7 +82,7 @@ fn constant_fault(tokens: &Cursor<'_, '_>) -> ParserError
 /// `true`, `false`, or a name that begins with neither.
 #[tactic(auto, unfolding(crate::specs::Productions::word_constant), using(crate::specs::Code::fails_first, crate::specs::Productions::word_constant_name))]
 fn word_constant(alloc: Global, tokens: &mut Cursor<'_, '_>) -> Result<ProtobufConstant, Refusal>
-    ensures { Gives view.constant_view result (left tokens.new)
+    ensures { Gives view.constant_syntax result (left tokens.new)
         (read.word_constant.run (left tokens.old)) }
 {
     if tokens.sees_word("true") {
@@ -119,7 +119,7 @@ fn begins_integer(tokens: &Cursor<'_, '_>) -> bool
 /// `[ "+" | "-" ] int`
 #[tactic(auto, unfolding(crate::specs::Productions::integer_constant, crate::specs::Productions::signed), using(crate::specs::Code::fails_first, crate::proofs::Views::views_number, crate::proofs::Views::views_signed))]
 fn integer(tokens: &mut Cursor<'_, '_>) -> Result<ProtobufConstant, Refusal>
-    ensures { Gives view.constant_view result (left tokens.new)
+    ensures { Gives view.constant_syntax result (left tokens.new)
         (read.integer_constant.run (left tokens.old)) }
 {
     if tokens.sees_integer() {
@@ -183,7 +183,7 @@ fn list(
     tokens: &mut Cursor<'_, '_>,
     levels: usize,
 ) -> Result<ProtobufConstant, Refusal>
-    ensures { Gives view.constant_view result (left tokens.new)
+    ensures { Gives view.constant_syntax result (left tokens.new)
         ((nest.list_of (both (nest.constant levels))).low.run (left tokens.old)) }
 {
     tokens.symbol('[')?;
@@ -207,7 +207,7 @@ fn constants(
     tokens: &mut Cursor<'_, '_>,
     levels: usize,
 ) -> Result<Vec<ProtobufConstant>, Refusal>
-    ensures { Gives (λ v. map view.constant_view v.items) result (left tokens.new)
+    ensures { Gives (λ v. map view.constant_syntax v.items) result (left tokens.new)
         ((nest.constants_of (both (nest.constant levels))).low.run (left tokens.old)) }
 {
     let mut items = Vec::new(alloc);
@@ -228,7 +228,7 @@ fn message_constant(
     tokens: &mut Cursor<'_, '_>,
     levels: usize,
 ) -> Result<ProtobufConstant, Refusal>
-    ensures { Gives view.constant_view result (left tokens.new)
+    ensures { Gives view.constant_syntax result (left tokens.new)
         ((nest.message_constant_of (both (nest.constant levels))).low.run (left tokens.old)) }
 {
     tokens.symbol('{')?;
@@ -244,7 +244,7 @@ fn constant_fields(
     tokens: &mut Cursor<'_, '_>,
     levels: usize,
 ) -> Result<Vec<ConstantField>, Refusal>
-    ensures { Gives (λ v. map view.constant_field_view v.items) result (left tokens.new)
+    ensures { Gives (λ v. map view.constant_field_syntax v.items) result (left tokens.new)
         ((nest.constant_fields_of (both (nest.constant levels))).low.run (left tokens.old)) }
 {
     let mut fields = Vec::new(alloc);
@@ -263,7 +263,7 @@ fn constant_field(
     tokens: &mut Cursor<'_, '_>,
     levels: usize,
 ) -> Result<ConstantField, Refusal>
-    ensures { Gives view.constant_field_view result (left tokens.new)
+    ensures { Gives view.constant_field_syntax result (left tokens.new)
         ((nest.constant_field_of (both (nest.constant levels))).low.run (left tokens.old)) }
 {
     let name = constant_name(alloc, tokens)?;
@@ -280,7 +280,7 @@ fn field_value(
     tokens: &mut Cursor<'_, '_>,
     levels: usize,
 ) -> Result<ProtobufConstant, Refusal>
-    ensures { Gives view.constant_view result (left tokens.new)
+    ensures { Gives view.constant_syntax result (left tokens.new)
         ((nest.value_of (both (nest.constant levels))).low.run (left tokens.old)) }
 {
     if tokens.sees_symbol(':') {
@@ -317,7 +317,7 @@ fn begins_constant_name(tokens: &Cursor<'_, '_>) -> bool
 /// `cname = ident | "[" name "]" | "[" name "/" name "]"`
 #[tactic(auto, unfolding(crate::specs::Productions::constant_name, crate::specs::Productions::bracketed_name), using(crate::specs::Code::fails_first))]
 fn constant_name(alloc: Global, tokens: &mut Cursor<'_, '_>) -> Result<ConstantFieldName, Refusal>
-    ensures { Gives view.constant_name_view result (left tokens.new)
+    ensures { Gives view.constant_name_syntax result (left tokens.new)
         (read.constant_name.run (left tokens.old)) }
 {
     if tokens.sees_ident() {
@@ -337,7 +337,7 @@ fn after_slash(
     tokens: &mut Cursor<'_, '_>,
     first: String,
 ) -> Result<ConstantFieldName, Refusal>
-    ensures { Gives view.constant_name_view result (left tokens.new)
+    ensures { Gives view.constant_name_syntax result (left tokens.new)
         ((read.after_slash (string_bytes first)).run (left tokens.old)) }
 {
     if !tokens.sees_symbol('/') {

@@ -33,7 +33,7 @@ pub fn enumeration(
     tokens: &mut Cursor<'_, '_>,
     levels: usize,
 ) -> Result<Enumeration, Refusal>
-    ensures { Gives view.enum_view result (left tokens.new)
+    ensures { Gives view.enum_syntax result (left tokens.new)
         ((nest.enumeration levels).low.run (left tokens.old)) }
 {
     let place = tokens.place();
@@ -52,7 +52,7 @@ fn enum_statements(
     tokens: &mut Cursor<'_, '_>,
     levels: usize,
 ) -> Result<Vec<EnumStatement>, Refusal>
-    ensures { Gives (λ v. map view.enum_statement_view v.items) result (left tokens.new)
+    ensures { Gives (λ v. map view.enum_statement_syntax v.items) result (left tokens.new)
         ((nest.enum_items levels).low.run (left tokens.old)) }
 {
     let mut body = Vec::new(alloc);
@@ -78,7 +78,7 @@ fn enum_item(
     tokens: &mut Cursor<'_, '_>,
     levels: usize,
 ) -> Result<Option<EnumStatement>, Refusal>
-    ensures { Gives (seen_by view.enum_statement_view) result (left tokens.new)
+    ensures { Gives (seen_by view.enum_statement_syntax) result (left tokens.new)
         ((nest.enum_item levels).low.run (left tokens.old)) }
 {
     if tokens.sees_symbol(';') {
@@ -94,7 +94,7 @@ fn enum_statement(
     tokens: &mut Cursor<'_, '_>,
     levels: usize,
 ) -> Result<EnumStatement, Refusal>
-    ensures { Gives view.enum_statement_view result (left tokens.new)
+    ensures { Gives view.enum_statement_syntax result (left tokens.new)
         ((nest.enum_statement levels).low.run (left tokens.old)) }
 {
     if tokens.sees_word("reserved") {
@@ -113,7 +113,7 @@ fn enum_value(
     tokens: &mut Cursor<'_, '_>,
     levels: usize,
 ) -> Result<EnumValue, Refusal>
-    ensures { Gives view.value_view result (left tokens.new)
+    ensures { Gives view.value_syntax result (left tokens.new)
         ((nest.enum_value levels).low.run (left tokens.old)) }
 {
     let place = tokens.place();
@@ -164,7 +164,7 @@ fn enum_number(tokens: &mut Cursor<'_, '_>) -> Result<i32, Refusal>
 /// `reserved = "reserved" ( str { "," str } | range { "," range } ) ";"`
 #[tactic(auto, unfolding(crate::specs::Productions::reserved_parts), using(crate::specs::Code::fails_first))]
 pub fn reserved(alloc: Global, tokens: &mut Cursor<'_, '_>) -> Result<ReservedStatement, Refusal>
-    ensures { Gives view.reserved_statement_view result (left tokens.new)
+    ensures { Gives view.reserved_statement_syntax result (left tokens.new)
         (read.reserved.run (left tokens.old)) }
 {
     let place = tokens.place();
@@ -177,7 +177,8 @@ pub fn reserved(alloc: Global, tokens: &mut Cursor<'_, '_>) -> Result<ReservedSt
 /// `str { "," str } | range { "," range }`
 #[tactic(auto, unfolding(crate::specs::Productions::reserved_items), using(crate::specs::Code::fails_first))]
 fn reserved_items(alloc: Global, tokens: &mut Cursor<'_, '_>) -> Result<Reserved, Refusal>
-    ensures { GivesOr (Unsaid of_text (left tokens.old)) view.reserved_view result (left tokens.new)
+    ensures { GivesOr (Unsaid of_text (left tokens.old)) view.reserved_syntax result
+    (left tokens.new)
         (read.reserved_items.run (left tokens.old)) }
 {
     if tokens.sees_str() {
@@ -213,7 +214,7 @@ fn comma_name(alloc: Global, tokens: &mut Cursor<'_, '_>) -> Result<String, Refu
 /// `extensions = "extensions" range { "," range }`
 #[tactic(auto, unfolding(crate::specs::Productions::extensions), using(crate::specs::Code::fails_first))]
 pub fn extensions(alloc: Global, tokens: &mut Cursor<'_, '_>) -> Result<Extensions, Refusal>
-    ensures { Gives view.extensions_view result (left tokens.new)
+    ensures { Gives view.extensions_syntax result (left tokens.new)
         (read.extensions.run (left tokens.old)) }
 {
     let place = tokens.place();
@@ -225,7 +226,7 @@ pub fn extensions(alloc: Global, tokens: &mut Cursor<'_, '_>) -> Result<Extensio
 /// `range { "," range }`
 #[tactic(auto, unfolding(crate::specs::Productions::ranges), using(crate::specs::Code::fails_first))]
 fn ranges(alloc: Global, tokens: &mut Cursor<'_, '_>) -> Result<Vec<FieldNumberRange>, Refusal>
-    ensures { Gives (λ v. map view.range_view v.items) result (left tokens.new)
+    ensures { Gives (λ v. map view.range_syntax v.items) result (left tokens.new)
         (read.ranges.run (left tokens.old)) }
 {
     let mut ranges = Vec::new(alloc);
@@ -240,7 +241,7 @@ fn ranges(alloc: Global, tokens: &mut Cursor<'_, '_>) -> Result<Vec<FieldNumberR
 /// `"," range`
 #[tactic(auto, using(crate::specs::Code::fails_first))]
 fn comma_range(tokens: &mut Cursor<'_, '_>) -> Result<FieldNumberRange, Refusal>
-    ensures { Gives view.range_view result (left tokens.new)
+    ensures { Gives view.range_syntax result (left tokens.new)
         (read.comma_range.run (left tokens.old)) }
 {
     tokens.symbol(',')?;
@@ -250,7 +251,7 @@ fn comma_range(tokens: &mut Cursor<'_, '_>) -> Result<FieldNumberRange, Refusal>
 /// `range = int [ "to" ( int | "max" ) ]`
 #[tactic(auto, unfolding(crate::specs::Productions::range), using(crate::specs::Code::fails_first))]
 fn range(tokens: &mut Cursor<'_, '_>) -> Result<FieldNumberRange, Refusal>
-    ensures { Gives view.range_view result (left tokens.new) (read.range.run (left tokens.old)) }
+    ensures { Gives view.range_syntax result (left tokens.new) (read.range.run (left tokens.old)) }
 {
     let from = tokens.field_number()?;
     let to = range_end(tokens, from)?;

@@ -36,7 +36,7 @@ pub fn field(
     syntax: Syntax,
     levels: usize,
 ) -> Result<FieldStatement, Refusal>
-    ensures { Gives view.field_statement_view result (left tokens.new)
+    ensures { Gives view.field_statement_syntax result (left tokens.new)
         ((nest.field syntax levels).run (left tokens.old)) }
 {
     if levels == 0 {
@@ -57,7 +57,7 @@ fn field_of(
     inner: usize,
 ) -> Result<FieldStatement, Refusal>
     requires { levels ≡ suc inner }
-    ensures { Gives view.field_statement_view result (left tokens.new)
+    ensures { Gives view.field_statement_syntax result (left tokens.new)
         ((field_in syntax inner).run (left tokens.old)) }
 {
     if !begins_field(tokens, syntax) {
@@ -97,7 +97,7 @@ pub fn oneof_field(
     syntax: Syntax,
     levels: usize,
 ) -> Result<FieldStatement, Refusal>
-    ensures { Gives view.field_statement_view result (left tokens.new)
+    ensures { Gives view.field_statement_syntax result (left tokens.new)
         ((nest.oneof_field syntax levels).low.run (left tokens.old)) }
 {
     if begins_no_oneof_field(tokens) {
@@ -120,7 +120,7 @@ fn after_label(
     place: Place,
     label: Option<Label>,
 ) -> Result<FieldStatement, Refusal>
-    ensures { Gives view.field_statement_view result (left tokens.new)
+    ensures { Gives view.field_statement_syntax result (left tokens.new)
         ((after_label_in syntax levels inner place label).low.run (left tokens.old)) }
 {
     if tokens.sees_word("group") {
@@ -143,7 +143,7 @@ fn group(
     place: Place,
     label: Option<Label>,
 ) -> Result<Group, Refusal>
-    ensures { Gives (λ g. view.group_of (view.group_view g)) result (left tokens.new)
+    ensures { Gives (λ g. view.group_of (view.group_syntax g)) result (left tokens.new)
         ((nest.group_of syntax place label (nest.fields syntax levels)).low.run (left tokens.old)) }
 {
     tokens.word("group")?;
@@ -169,7 +169,7 @@ fn group_body(
     syntax: Syntax,
     levels: usize,
 ) -> Result<Vec<FieldStatement>, Refusal>
-    ensures { Gives (λ v. map view.field_statement_view v.items) result (left tokens.new)
+    ensures { Gives (λ v. map view.field_statement_syntax v.items) result (left tokens.new)
         ((nest.field_block_of syntax (nest.fields syntax levels)).low.run (left tokens.old)) }
 {
     tokens.symbol('{')?;
@@ -187,7 +187,7 @@ pub fn extend_body(
     syntax: Syntax,
     levels: usize,
 ) -> Result<Vec<FieldStatement>, Refusal>
-    ensures { Gives (λ v. map view.field_statement_view v.items) result (left tokens.new)
+    ensures { Gives (λ v. map view.field_statement_syntax v.items) result (left tokens.new)
         ((nest.extend_body syntax levels).low.run (left tokens.old)) }
 {
     tokens.symbol('{')?;
@@ -204,7 +204,7 @@ fn field_statements(
     syntax: Syntax,
     levels: usize,
 ) -> Result<Vec<FieldStatement>, Refusal>
-    ensures { Gives (λ v. map view.field_statement_view v.items) result (left tokens.new)
+    ensures { Gives (λ v. map view.field_statement_syntax v.items) result (left tokens.new)
         ((nest.field_items_of syntax (nest.fields syntax levels)).low.run (left tokens.old)) }
 {
     let mut fields = Vec::new(alloc);
@@ -224,7 +224,7 @@ fn field_item(
     syntax: Syntax,
     levels: usize,
 ) -> Result<Option<FieldStatement>, Refusal>
-    ensures { Gives (seen_by view.field_statement_view) result (left tokens.new)
+    ensures { Gives (seen_by view.field_statement_syntax) result (left tokens.new)
         ((nest.field_item_of syntax (nest.fields syntax levels)).low.run (left tokens.old)) }
 {
     if tokens.sees_symbol(';') {
@@ -244,7 +244,7 @@ fn plain_field(
     label: Option<Label>,
 ) -> Result<Field, Refusal>
     requires { starts lexicon group_firsts (left tokens.old) ≡ false }
-    ensures { Gives (λ f. view.field (view.field_view f)) result (left tokens.new)
+    ensures { Gives (λ f. view.field (view.field_syntax f)) result (left tokens.new)
         ((nest.plain_field levels place label).low.run (left tokens.old)) }
 {
     let type_ = field_type(alloc, tokens, levels)?;
@@ -261,7 +261,7 @@ fn map_field(
     inner: usize,
     place: Place,
 ) -> Result<FieldStatement, Refusal>
-    ensures { Gives view.field_statement_view result (left tokens.new)
+    ensures { Gives view.field_statement_syntax result (left tokens.new)
         (reads_map_field levels inner place (left tokens.old)) }
 {
     let type_ = map(alloc, tokens, inner)?;
@@ -280,8 +280,8 @@ fn after_type(
     label: Option<Label>,
     type_: Type,
 ) -> Result<Field, Refusal>
-    ensures { Gives (λ f. view.field (view.field_view f)) result (left tokens.new)
-        ((nest.after_type levels place label (view.type_view type_)).low.run (left tokens.old)) }
+    ensures { Gives (λ f. view.field (view.field_syntax f)) result (left tokens.new)
+        ((nest.after_type levels place label (view.type_syntax type_)).low.run (left tokens.old)) }
 {
     let name = tokens.ident(alloc)?;
     tokens.symbol('=')?;
@@ -302,7 +302,7 @@ fn after_type(
 #[cycle(types)]
 #[tactic(auto, using(crate::specs::Fields::type_zero, crate::specs::Fields::type_more))]
 fn field_type(alloc: Global, tokens: &mut Cursor<'_, '_>, levels: usize) -> Result<Type, Refusal>
-    ensures { Gives view.type_view result (left tokens.new)
+    ensures { Gives view.type_syntax result (left tokens.new)
         ((nest.type_ levels).run (left tokens.old)) }
 {
     if levels == 0 {
@@ -315,7 +315,7 @@ fn field_type(alloc: Global, tokens: &mut Cursor<'_, '_>, levels: usize) -> Resu
 #[cycle(types)]
 #[tactic(auto, unfolding(crate::specs::Nested::type_of))]
 fn type_of(alloc: Global, tokens: &mut Cursor<'_, '_>, levels: usize) -> Result<Type, Refusal>
-    ensures { Gives view.type_view result (left tokens.new)
+    ensures { Gives view.type_syntax result (left tokens.new)
         ((type_in levels).run (left tokens.old)) }
 {
     match scalar(tokens) {
@@ -349,7 +349,7 @@ fn scalar(tokens: &mut Cursor<'_, '_>) -> Option<Scalar>
 #[cycle(types)]
 #[tactic(auto, unfolding(crate::specs::Nested::map_of), using(crate::specs::Code::fails_first))]
 fn map(alloc: Global, tokens: &mut Cursor<'_, '_>, levels: usize) -> Result<Type, Refusal>
-    ensures { Gives view.type_view result (left tokens.new)
+    ensures { Gives view.type_syntax result (left tokens.new)
         ((map_in levels).run (left tokens.old)) }
 {
     tokens.word("map")?;

@@ -31,7 +31,7 @@ use std::alloc::Global;
 /// Tokens may be left behind it.
 #[tactic(auto, unfolding(crate::specs::Nested::file), using(crate::specs::Code::fails_first))]
 pub fn file(alloc: Global, tokens: &mut Cursor<'_, '_>, levels: usize) -> Result<FileTree, Refusal>
-    ensures { GivesOr (NoVersion (left tokens.old)) view.file_view result (left tokens.new)
+    ensures { GivesOr (NoVersion (left tokens.old)) view.file_syntax result (left tokens.new)
         ((nest.files levels).low.run (left tokens.old)) }
 {
     let syntax = version(alloc, tokens)?;
@@ -80,7 +80,7 @@ fn file_statements(
     syntax: Syntax,
     levels: usize,
 ) -> Result<Vec<FileStatement>, Refusal>
-    ensures { Gives (λ v. map view.statement_view v.items) result (left tokens.new)
+    ensures { Gives (λ v. map view.statement_syntax v.items) result (left tokens.new)
         ((nest.file_items syntax levels).low.run (left tokens.old)) }
 {
     let mut statements = Vec::new(alloc);
@@ -99,7 +99,7 @@ fn file_item(
     syntax: Syntax,
     levels: usize,
 ) -> Result<Option<FileStatement>, Refusal>
-    ensures { Gives (seen_by view.statement_view) result (left tokens.new)
+    ensures { Gives (seen_by view.statement_syntax) result (left tokens.new)
         ((nest.file_item syntax levels).low.run (left tokens.old)) }
 {
     if tokens.sees_symbol(';') {
@@ -117,7 +117,7 @@ fn file_statement(
     syntax: Syntax,
     levels: usize,
 ) -> Result<FileStatement, Refusal>
-    ensures { Gives view.statement_view result (left tokens.new)
+    ensures { Gives view.statement_syntax result (left tokens.new)
         ((nest.file_statement syntax levels).low.run (left tokens.old)) }
 {
     if tokens.sees_word("import") {
@@ -144,7 +144,7 @@ fn file_statement(
 /// `import = "import" [ "weak" | "public" ] str ";"`
 #[tactic(auto, unfolding(crate::specs::Productions::import_parts), using(crate::specs::Code::fails_first))]
 fn import(alloc: Global, tokens: &mut Cursor<'_, '_>) -> Result<Import, Refusal>
-    ensures { Gives view.import_view result (left tokens.new)
+    ensures { Gives view.import_syntax result (left tokens.new)
         (read.imported.run (left tokens.old)) }
 {
     let place = tokens.place();
@@ -191,7 +191,7 @@ fn path(alloc: Global, tokens: &mut Cursor<'_, '_>) -> Result<ProtoPathBuf, Refu
 /// `package = "package" ident { "." ident } ";"`
 #[tactic(auto, unfolding(crate::specs::Productions::package_name), using(crate::specs::Code::fails_first))]
 fn package(alloc: Global, tokens: &mut Cursor<'_, '_>) -> Result<Package, Refusal>
-    ensures { Gives view.package_view result (left tokens.new)
+    ensures { Gives view.package_syntax result (left tokens.new)
         (read.package_name.run (left tokens.old)) }
 {
     let place = tokens.place();

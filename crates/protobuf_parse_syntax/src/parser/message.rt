@@ -29,7 +29,7 @@ pub fn message(
     syntax: Syntax,
     levels: usize,
 ) -> Result<Message, Refusal>
-    ensures { Gives view.message_view result (left tokens.new)
+    ensures { Gives view.message_syntax result (left tokens.new)
         ((nest.message syntax levels).run (left tokens.old)) }
 {
     if levels == 0 {
@@ -49,7 +49,7 @@ fn message_of(
     syntax: Syntax,
     levels: usize,
 ) -> Result<Message, Refusal>
-    ensures { Gives view.message_view result (left tokens.new)
+    ensures { Gives view.message_syntax result (left tokens.new)
         ((nest.message_in syntax levels).low.run (left tokens.old)) }
 {
     let place = tokens.place();
@@ -71,7 +71,7 @@ fn message_statements(
     syntax: Syntax,
     levels: usize,
 ) -> Result<Vec<MessageStatement>, Refusal>
-    ensures { Gives (λ v. map view.message_statement_view v.items) result (left tokens.new)
+    ensures { Gives (λ v. map view.message_statement_syntax v.items) result (left tokens.new)
         ((nest.message_items syntax levels).low.run (left tokens.old)) }
 {
     let mut body = Vec::new(alloc);
@@ -91,7 +91,7 @@ fn message_item(
     syntax: Syntax,
     levels: usize,
 ) -> Result<Option<MessageStatement>, Refusal>
-    ensures { Gives (seen_by view.message_statement_view) result (left tokens.new)
+    ensures { Gives (seen_by view.message_statement_syntax) result (left tokens.new)
         ((nest.message_item syntax levels).low.run (left tokens.old)) }
 {
     if tokens.sees_symbol(';') {
@@ -110,7 +110,7 @@ fn message_statement(
     syntax: Syntax,
     levels: usize,
 ) -> Result<MessageStatement, Refusal>
-    ensures { Gives view.message_statement_view result (left tokens.new)
+    ensures { Gives view.message_statement_syntax result (left tokens.new)
         ((nest.message_statement syntax levels).low.run (left tokens.old)) }
 {
     if tokens.sees_word("reserved") {
@@ -145,7 +145,7 @@ fn oneof(
     syntax: Syntax,
     levels: usize,
 ) -> Result<OneOf, Refusal>
-    ensures { Gives view.oneof_view result (left tokens.new)
+    ensures { Gives view.oneof_syntax result (left tokens.new)
         ((nest.oneof syntax levels).low.run (left tokens.old)) }
 {
     let place = tokens.place();
@@ -166,7 +166,7 @@ fn oneof_statements(
     syntax: Syntax,
     levels: usize,
 ) -> Result<Vec<OneOfStatement>, Refusal>
-    ensures { Gives (λ v. map view.oneof_statement_view v.items) result (left tokens.new)
+    ensures { Gives (λ v. map view.oneof_statement_syntax v.items) result (left tokens.new)
         ((nest.oneof_items syntax levels).low.run (left tokens.old)) }
 {
     let mut body = Vec::new(alloc);
@@ -185,7 +185,7 @@ fn oneof_item(
     syntax: Syntax,
     levels: usize,
 ) -> Result<Option<OneOfStatement>, Refusal>
-    ensures { Gives (seen_by view.oneof_statement_view) result (left tokens.new)
+    ensures { Gives (seen_by view.oneof_statement_syntax) result (left tokens.new)
         ((nest.oneof_item syntax levels).low.run (left tokens.old)) }
 {
     if tokens.sees_symbol(';') {
@@ -208,7 +208,7 @@ pub fn extend(
     syntax: Syntax,
     levels: usize,
 ) -> Result<Extend, Refusal>
-    ensures { Gives view.extend_view result (left tokens.new)
+    ensures { Gives view.extend_syntax result (left tokens.new)
         ((nest.extend syntax levels).low.run (left tokens.old)) }
 {
     let place = tokens.place();

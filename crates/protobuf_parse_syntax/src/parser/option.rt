@@ -34,7 +34,7 @@ pub fn option(
     tokens: &mut Cursor<'_, '_>,
     levels: usize,
 ) -> Result<OptionStatement, Refusal>
-    ensures { Gives view.option_statement_view result (left tokens.new)
+    ensures { Gives view.option_statement_syntax result (left tokens.new)
         ((nest.option levels).low.run (left tokens.old)) }
 {
     let place = tokens.place();
@@ -52,7 +52,7 @@ pub fn options(
     levels: usize,
 ) -> Result<Vec<ProtobufOption>, Refusal>
     ensures { GivesOr (LongBehind (IsListFront levels) (left tokens.old))
-        (λ v. map view.option_view v.items) result (left tokens.new)
+        (λ v. map view.option_syntax v.items) result (left tokens.new)
         ((nest.options levels).low.run (left tokens.old)) }
 {
     if !tokens.sees_symbol('[') {
@@ -69,7 +69,7 @@ fn bracketed_options(
     levels: usize,
 ) -> Result<Vec<ProtobufOption>, Refusal>
     ensures { GivesOr (LongBehind (IsListFront levels) (left tokens.old))
-        (λ v. map view.option_view v.items) result (left tokens.new)
+        (λ v. map view.option_syntax v.items) result (left tokens.new)
         ((nest.bracketed_options levels).low.run (left tokens.old)) }
 {
     tokens.symbol('[')?;
@@ -84,7 +84,7 @@ fn assignments(
     levels: usize,
 ) -> Result<Vec<ProtobufOption>, Refusal>
     ensures { GivesOr (LongBehind (AreEarlier levels) (left tokens.old))
-        (λ v. map view.option_view v.items) result
+        (λ v. map view.option_syntax v.items) result
         (left tokens.new) ((nest.assignments levels).low.run (left tokens.old)) }
 {
     let mut options = Vec::with_capacity(alloc, 1)?;
@@ -102,7 +102,7 @@ fn comma_assignment(
     tokens: &mut Cursor<'_, '_>,
     levels: usize,
 ) -> Result<ProtobufOption, Refusal>
-    ensures { GivesOr (LongBehind IsCommaAlone (left tokens.old)) view.option_view result
+    ensures { GivesOr (LongBehind IsCommaAlone (left tokens.old)) view.option_syntax result
         (left tokens.new) ((nest.comma_assignment levels).low.run (left tokens.old)) }
 {
     tokens.symbol(',')?;
@@ -116,7 +116,7 @@ fn assignment(
     tokens: &mut Cursor<'_, '_>,
     levels: usize,
 ) -> Result<ProtobufOption, Refusal>
-    ensures { GivesOr (LongName (left tokens.old)) view.option_view result (left tokens.new)
+    ensures { GivesOr (LongName (left tokens.old)) view.option_syntax result (left tokens.new)
         ((nest.assignment levels).low.run (left tokens.old)) }
 {
     let name = option_name(alloc, tokens)?;
@@ -128,7 +128,7 @@ fn assignment(
 /// `optname = optpart { "." optpart }`, of at most 100 parts
 #[tactic(auto, unfolding(crate::specs::Productions::option_name_parts), using(crate::specs::Code::fails_first))]
 fn option_name(alloc: Global, tokens: &mut Cursor<'_, '_>) -> Result<ProtobufOptionName, Refusal>
-    ensures { GivesOr (LongName (left tokens.old)) view.option_name_view result (left tokens.new)
+    ensures { GivesOr (LongName (left tokens.old)) view.option_name_syntax result (left tokens.new)
         (read.option_name.run (left tokens.old)) }
 {
     let first = option_part(alloc, tokens)?;
@@ -151,8 +151,8 @@ fn parts(
     tokens: &mut Cursor<'_, '_>,
     first: ProtobufOptionNamePart,
 ) -> Result<Vec<ProtobufOptionNamePart>, Refusal>
-    ensures { GivesOr TooMany (λ v. map view.option_part_view v.items) result (left tokens.new)
-        (with_first (view.option_part_view first) ((read.parts_up_to 99).run (left tokens.old))) }
+    ensures { GivesOr TooMany (λ v. map view.option_part_syntax v.items) result (left tokens.new)
+        (with_first (view.option_part_syntax first) ((read.parts_up_to 99).run (left tokens.old))) }
 {
     let mut parts = Vec::new(alloc);
     parts.push(first)?;
@@ -172,7 +172,7 @@ fn parts(
 /// `"." optpart`
 #[tactic(auto, unfolding(crate::specs::Productions::next_part), using(crate::specs::Code::fails_first))]
 fn next_part(alloc: Global, tokens: &mut Cursor<'_, '_>) -> Result<ProtobufOptionNamePart, Refusal>
-    ensures { Gives view.option_part_view result (left tokens.new)
+    ensures { Gives view.option_part_syntax result (left tokens.new)
         (read.next_part.run (left tokens.old)) }
 {
     tokens.symbol('.')?;
@@ -211,7 +211,7 @@ fn option_part(
     alloc: Global,
     tokens: &mut Cursor<'_, '_>,
 ) -> Result<ProtobufOptionNamePart, Refusal>
-    ensures { Gives view.option_part_view result (left tokens.new)
+    ensures { Gives view.option_part_syntax result (left tokens.new)
         (read.option_part.run (left tokens.old)) }
 {
     if tokens.sees_ident() {
@@ -230,7 +230,7 @@ pub fn option_body(
     tokens: &mut Cursor<'_, '_>,
     levels: usize,
 ) -> Result<Vec<OptionStatement>, Refusal>
-    ensures { Gives (λ v. map view.option_statement_view v.items) result (left tokens.new)
+    ensures { Gives (λ v. map view.option_statement_syntax v.items) result (left tokens.new)
         ((nest.option_body levels).low.run (left tokens.old)) }
 {
     tokens.symbol('{')?;
@@ -245,7 +245,7 @@ fn option_statements(
     tokens: &mut Cursor<'_, '_>,
     levels: usize,
 ) -> Result<Vec<OptionStatement>, Refusal>
-    ensures { Gives (λ v. map view.option_statement_view v.items) result (left tokens.new)
+    ensures { Gives (λ v. map view.option_statement_syntax v.items) result (left tokens.new)
         ((nest.option_items levels).low.run (left tokens.old)) }
 {
     let mut options = Vec::new(alloc);
@@ -271,7 +271,7 @@ fn option_item(
     tokens: &mut Cursor<'_, '_>,
     levels: usize,
 ) -> Result<Option<OptionStatement>, Refusal>
-    ensures { Gives (seen_by view.option_statement_view) result (left tokens.new)
+    ensures { Gives (seen_by view.option_statement_syntax) result (left tokens.new)
         ((nest.option_item levels).low.run (left tokens.old)) }
 {
     if tokens.sees_symbol(';') {

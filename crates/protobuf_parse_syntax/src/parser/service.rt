@@ -24,7 +24,7 @@ pub fn service(
     syntax: Syntax,
     levels: usize,
 ) -> Result<Service, Refusal>
-    ensures { Gives view.service_view result (left tokens.new)
+    ensures { Gives view.service_syntax result (left tokens.new)
         ((nest.service syntax levels).low.run (left tokens.old)) }
 {
     let place = tokens.place();
@@ -43,7 +43,7 @@ fn service_statements(
     syntax: Syntax,
     levels: usize,
 ) -> Result<Vec<ServiceStatement>, Refusal>
-    ensures { Gives (λ v. map view.service_statement_view v.items) result (left tokens.new)
+    ensures { Gives (λ v. map view.service_statement_syntax v.items) result (left tokens.new)
         ((nest.service_items syntax levels).low.run (left tokens.old)) }
 {
     let mut body = Vec::new(alloc);
@@ -62,7 +62,7 @@ fn service_item(
     syntax: Syntax,
     levels: usize,
 ) -> Result<Option<ServiceStatement>, Refusal>
-    ensures { Gives (seen_by view.service_statement_view) result (left tokens.new)
+    ensures { Gives (seen_by view.service_statement_syntax) result (left tokens.new)
         ((nest.service_item syntax levels).low.run (left tokens.old)) }
 {
     if tokens.sees_symbol(';') {
@@ -80,7 +80,7 @@ fn service_statement(
     syntax: Syntax,
     levels: usize,
 ) -> Result<ServiceStatement, Refusal>
-    ensures { Gives view.service_statement_view result (left tokens.new)
+    ensures { Gives view.service_statement_syntax result (left tokens.new)
         ((nest.service_statement syntax levels).low.run (left tokens.old)) }
 {
     if tokens.sees_word("rpc") {
@@ -95,7 +95,7 @@ fn service_statement(
 /// `rpc = "rpc" ident "(" [ "stream" ] name ")" "returns" "(" [ "stream" ] name ")" end`
 #[tactic(auto, unfolding(crate::specs::Nested::rpc), using(crate::specs::Code::fails_first))]
 fn rpc(alloc: Global, tokens: &mut Cursor<'_, '_>, levels: usize) -> Result<Method, Refusal>
-    ensures { Gives view.method_view result (left tokens.new)
+    ensures { Gives view.method_syntax result (left tokens.new)
         ((nest.rpc levels).low.run (left tokens.old)) }
 {
     let place = tokens.place();
@@ -135,7 +135,7 @@ fn streamed(alloc: Global, tokens: &mut Cursor<'_, '_>) -> Result<(bool, String)
 /// `stream = "stream" ident "(" name "," name ")" end`
 #[tactic(auto, unfolding(crate::specs::Nested::stream), using(crate::specs::Code::fails_first))]
 fn stream(alloc: Global, tokens: &mut Cursor<'_, '_>, levels: usize) -> Result<Method, Refusal>
-    ensures { Gives view.method_view result (left tokens.new)
+    ensures { Gives view.method_syntax result (left tokens.new)
         ((nest.stream levels).low.run (left tokens.old)) }
 {
     let place = tokens.place();
@@ -165,7 +165,7 @@ fn method_end(
     tokens: &mut Cursor<'_, '_>,
     levels: usize,
 ) -> Result<Vec<OptionStatement>, Refusal>
-    ensures { Gives (λ v. map view.option_statement_view v.items) result (left tokens.new)
+    ensures { Gives (λ v. map view.option_statement_syntax v.items) result (left tokens.new)
         ((nest.method_end levels).low.run (left tokens.old)) }
 {
     if tokens.sees_symbol(';') {

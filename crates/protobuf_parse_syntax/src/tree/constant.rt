@@ -7,8 +7,8 @@ ghost use Rattle.std.specs.List.{join_with_byte};
 ghost use Rattle.std.specs.String.{string_bytes};
 ghost use Rattle.protobuf_parse_base.specs.Characters as char;
 ghost use Rattle.protobuf_parse_syntax.specs.Formats as spec;
-ghost use Rattle.protobuf_parse_syntax.specs.Trees.{constant_view, constant_field_view};
-ghost use Rattle.protobuf_parse_syntax.specs.Trees.{constant_name_view, pieces_of};
+ghost use Rattle.protobuf_parse_syntax.specs.Trees.{constant_syntax, constant_field_syntax};
+ghost use Rattle.protobuf_parse_syntax.specs.Trees.{constant_name_syntax, pieces_of};
 
 use crate::lexer::str_lit::StrLit;
 use std::alloc::{AllocError, Global};
@@ -53,7 +53,7 @@ impl ProtobufConstant {
     /// quotes; a message has a blank after each of its fields but those that are messages
     /// themselves. The one error is that memory is short.
     pub fn format(&self, alloc: Global) -> Result<String, AllocError>
-        ensures { IfOk result (λ text. string_bytes text ≡ spec.format (constant_view self.now)) }
+        ensures { IfOk result (λ text. string_bytes text ≡ spec.format (constant_syntax self.now)) }
     {
         self.to_string(alloc)
     }
@@ -61,7 +61,7 @@ impl ProtobufConstant {
 
 /// As [`ProtobufConstant::format`] gives it.
 impl fmt::Display for ProtobufConstant {
-    ghost output = { λ c. Some (spec.format (constant_view c)) };
+    ghost output = { λ c. Some (spec.format (constant_syntax c)) };
 
     fn fmt<W: fmt::Write>(&self, f: &mut fmt::Formatter<W>) -> fmt::Result {
         write_constant(f, self)
@@ -74,7 +74,7 @@ fn write_constant<W: fmt::Write>(
     constant: &ProtobufConstant,
 ) -> fmt::Result
     ensures { DisplaysOnOk W.write_str_gives f.old result
-        (Some (spec.format (constant_view constant.now))) f.new }
+        (Some (spec.format (constant_syntax constant.now))) f.new }
 {
     match constant {
         ProtobufConstant::U64(number) => write!(f, "{number}"),
@@ -91,7 +91,7 @@ fn write_constant<W: fmt::Write>(
 #[cycle(display)]
 fn write_list<W: fmt::Write>(f: &mut fmt::Formatter<W>, items: &[ProtobufConstant]) -> fmt::Result
     ensures { DisplaysOnOk W.write_str_gives f.old result
-        (Some (spec.list_text (map constant_view items.now))) f.new }
+        (Some (spec.list_text (map constant_syntax items.now))) f.new }
 {
     write!(f, "[")?;
     write_items(f, items)?;
@@ -102,7 +102,7 @@ fn write_list<W: fmt::Write>(f: &mut fmt::Formatter<W>, items: &[ProtobufConstan
 #[cycle(display)]
 fn write_items<W: fmt::Write>(f: &mut fmt::Formatter<W>, items: &[ProtobufConstant]) -> fmt::Result
     ensures { DisplaysOnOk W.write_str_gives f.old result
-        (Some (spec.items_text (map constant_view items.now))) f.new }
+        (Some (spec.items_text (map constant_syntax items.now))) f.new }
 {
     for (i, item) in items.iter().enumerate() {
         write_between(f, i, ",")?;
@@ -115,7 +115,7 @@ fn write_items<W: fmt::Write>(f: &mut fmt::Formatter<W>, items: &[ProtobufConsta
 #[cycle(display)]
 fn write_message<W: fmt::Write>(f: &mut fmt::Formatter<W>, fields: &[ConstantField]) -> fmt::Result
     ensures { DisplaysOnOk W.write_str_gives f.old result
-        (Some (spec.message_text (map constant_field_view fields.now))) f.new }
+        (Some (spec.message_text (map constant_field_syntax fields.now))) f.new }
 {
     write!(f, "{{ ")?;
     write_fields(f, fields)?;
@@ -125,7 +125,7 @@ fn write_message<W: fmt::Write>(f: &mut fmt::Formatter<W>, fields: &[ConstantFie
 #[cycle(display)]
 fn write_fields<W: fmt::Write>(f: &mut fmt::Formatter<W>, fields: &[ConstantField]) -> fmt::Result
     ensures { DisplaysOnOk W.write_str_gives f.old result
-        (Some (flat_map spec.constant_field_text (map constant_field_view fields.now))) f.new }
+        (Some (flat_map spec.constant_field_text (map constant_field_syntax fields.now))) f.new }
 {
     for field in fields {
         write_field(f, field)?;
@@ -136,7 +136,7 @@ fn write_fields<W: fmt::Write>(f: &mut fmt::Formatter<W>, fields: &[ConstantFiel
 #[cycle(display)]
 fn write_field<W: fmt::Write>(f: &mut fmt::Formatter<W>, field: &ConstantField) -> fmt::Result
     ensures { DisplaysOnOk W.write_str_gives f.old result
-        (Some (spec.constant_field_text (constant_field_view field.now))) f.new }
+        (Some (spec.constant_field_text (constant_field_syntax field.now))) f.new }
 {
     let name = &field.name;
     let value = &field.value;
@@ -151,13 +151,13 @@ fn write_field<W: fmt::Write>(f: &mut fmt::Formatter<W>, field: &ConstantField) 
 }
 
 fn is_message(constant: &ProtobufConstant) -> bool
-    ensures { result ≡ spec.is_message (constant_view constant.now) }
+    ensures { result ≡ spec.is_message (constant_syntax constant.now) }
 {
     matches!(constant, ProtobufConstant::Message(_))
 }
 
 impl fmt::Display for ConstantFieldName {
-    ghost output = { λ n. Some (spec.name_text (constant_name_view n)) };
+    ghost output = { λ n. Some (spec.name_text (constant_name_syntax n)) };
 
     fn fmt<W: fmt::Write>(&self, f: &mut fmt::Formatter<W>) -> fmt::Result {
         match self {

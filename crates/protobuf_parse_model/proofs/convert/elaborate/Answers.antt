@@ -1,5 +1,5 @@
 use Rattle.std.proofs.Common.{Option, subst}
-use Rattle.protobuf_parse_syntax.specs.Trees.{file_view}
+use Rattle.protobuf_parse_syntax.specs.Trees.{file_syntax}
 use Rattle.protobuf_parse_model.specs.Declarations.{DeclaredType, file_scope}
 use Rattle.protobuf_parse_model.specs.Descriptors as described
 use Rattle.protobuf_parse_model.specs.Descriptors.{Text}
@@ -11,7 +11,7 @@ use Rattle.protobuf_parse_model.proofs.convert.elaborate.Goals as goal
 
 pub returns-clause-by_files : goal.returns-clause-by_files
 returns-clause-by_files g c files told =
-    let t = file_view c.args.tree.now in
+    let t = file_syntax c.args.tree.now in
     let sees : (Text → Option DeclaredType)
     → Environment = λ types.
     record {

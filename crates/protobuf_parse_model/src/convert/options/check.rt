@@ -3,7 +3,7 @@
 ghost use Rattle.std.specs.Prelude.{◌≡◌, ◌++◌, ℕ, List, bytes_eq, map, option_map};
 ghost use Rattle.std.specs.Borrow.{Bor};
 ghost use Rattle.std.specs.List.{find};
-ghost use Rattle.protobuf_parse_syntax.specs.Trees.{constant_view, option_view};
+ghost use Rattle.protobuf_parse_syntax.specs.Trees.{constant_syntax, option_syntax};
 ghost use Rattle.protobuf_parse_model.specs.BuiltinOptions as spec;
 ghost use Rattle.protobuf_parse_model.specs.declared.customs.Construct.TheVariants as of;
 ghost use Rattle.protobuf_parse_model.specs.ConstructOptions.{construct_faults};
@@ -86,7 +86,7 @@ fn check_option(
     option: &ProtobufOption,
 ) -> Result<(), ElabFailure>
     ensures { Elaborates (λ u. u) result
-        (spec.option_faults (table_seen table.now) (option_view option.now)) tt }
+        (spec.option_faults (table_seen table.now) (option_syntax option.now)) tt }
 {
     match &option.name {
         ProtobufOptionName::Builtin(name) => check_builtin(alloc, table, name, &option.value),
@@ -106,7 +106,7 @@ fn check_field_options(alloc: Global, options: &[&ProtobufOption]) -> Result<(),
 }
 
 fn check_field_option(alloc: Global, option: &ProtobufOption) -> Result<(), ElabFailure>
-    ensures { let o = option_view option.now in
+    ensures { let o = option_syntax option.now in
         Elaborates (λ u. u) result (field_option_faults o.value o.name) tt }
 {
     let ProtobufOptionName::Builtin(name) = &option.name else {
@@ -126,7 +126,7 @@ fn check_builtin(
     value: &ProtobufConstant,
 ) -> Result<(), ElabFailure>
     ensures { Elaborates (λ u. u) result
-        (spec.builtin_faults (table_seen table.now) name.now (constant_view value.now)) tt }
+        (spec.builtin_faults (table_seen table.now) name.now (constant_syntax value.now)) tt }
 {
     if name == "uninterpreted_option" {
         let kind = ElabErrorKind::BuiltinOptionPointsToNonSingularField;
@@ -162,7 +162,7 @@ fn check_value(
     value: &ProtobufConstant,
 ) -> Result<(), ElabFailure>
     ensures { Elaborates (λ u. u) result
-        (spec.builtin_value_faults name.now (kind_seen kind) (constant_view value.now)) tt }
+        (spec.builtin_value_faults name.now (kind_seen kind) (constant_syntax value.now)) tt }
 {
     match kind {
         BuiltinKind::Text => check_text(alloc, name, value),
@@ -173,7 +173,7 @@ fn check_value(
 
 fn check_text(alloc: Global, name: &str, value: &ProtobufConstant) -> Result<(), ElabFailure>
     ensures { Elaborates (λ u. u) result
-        (spec.builtin_value_faults name.now spec.a_text (constant_view value.now)) tt }
+        (spec.builtin_value_faults name.now spec.a_text (constant_syntax value.now)) tt }
 {
     match value {
         ProtobufConstant::String(string) => {
@@ -186,7 +186,7 @@ fn check_text(alloc: Global, name: &str, value: &ProtobufConstant) -> Result<(),
 
 fn check_truth(alloc: Global, name: &str, value: &ProtobufConstant) -> Result<(), ElabFailure>
     ensures { Elaborates (λ u. u) result
-        (spec.builtin_value_faults name.now spec.a_truth (constant_view value.now)) tt }
+        (spec.builtin_value_faults name.now spec.a_truth (constant_syntax value.now)) tt }
 {
     match value {
         ProtobufConstant::Bool(_) => Ok(()),
@@ -203,7 +203,7 @@ fn check_word(
     ensures { Elaborates (λ u. u) result
         (spec.builtin_value_faults name.now
         (spec.a_word (map (λ (w : Bor (List ℕ)). w.now) words.now))
-        (constant_view value.now)) tt }
+        (constant_syntax value.now)) tt }
 {
     match value {
         ProtobufConstant::Ident(word) if stands_in(word, words) => Ok(()),

@@ -3,19 +3,19 @@
 ghost use Rattle.std.specs.Prelude.{◌≡◌, bytes_eq, map, option_map, option_to_list, string_bytes};
 ghost use Rattle.std.specs.Prelude.{IfOk};
 ghost use Rattle.std.specs.List.{find};
-ghost use Rattle.protobuf_parse_syntax.specs.Trees.{constant_view, option_view};
+ghost use Rattle.protobuf_parse_syntax.specs.Trees.{constant_syntax, option_syntax};
 ghost use Rattle.protobuf_parse_model.specs.BuiltinOptions as spec;
 ghost use Rattle.protobuf_parse_model.specs.Fields.{first_value};
 ghost use Rattle.protobuf_parse_model.specs.BuiltinOptions.{options_seen};
 ghost use Rattle.protobuf_parse_model.specs.OptionViews.{constant_seen, words_seen};
 
-use crate::convert::options::strings::text_of;
+use crate::convert::options::strings::decoded_text;
 use protobuf_parse_syntax::{ProtobufConstant, ProtobufOption, ProtobufOptionName};
 use std::alloc::{AllocError, Global};
 
 /// The value that a statement gives to the built-in option of that name, if it gives it one.
 fn value_if_named<'a>(option: &'a ProtobufOption, name: &str) -> Option<&'a ProtobufConstant>
-    ensures { let o = option_view option.now in
+    ensures { let o = option_syntax option.now in
         map constant_seen (option_to_list result) ≡ spec.value_if_named name.now o.value o.name }
 {
     match &option.name {
@@ -67,10 +67,10 @@ pub fn text_option(
 
 fn text_said(alloc: Global, value: &ProtobufConstant) -> Result<Option<String>, AllocError>
     ensures { IfOk result
-        (λ t. option_map string_bytes t ≡ spec.text_said (constant_view value.now)) }
+        (λ t. option_map string_bytes t ≡ spec.text_said (constant_syntax value.now)) }
 {
     match value {
-        ProtobufConstant::String(string) => text_of(alloc, string),
+        ProtobufConstant::String(string) => decoded_text(alloc, string),
         _ => Ok(None),
     }
 }
@@ -98,7 +98,7 @@ pub fn word_option<T: Copy>(
 }
 
 fn word_said<T: Copy>(value: &ProtobufConstant, words: &[(&str, T)]) -> Option<T>
-    ensures { result ≡ spec.word_said (words_seen words.now) (constant_view value.now) }
+    ensures { result ≡ spec.word_said (words_seen words.now) (constant_syntax value.now) }
 {
     match value {
         ProtobufConstant::Ident(said) => value_of_word(words, said),

@@ -25,7 +25,7 @@ pub trait MaySetOption {
 }
 
 impl MaySetOption for FileStatement {
-    ghost options_set = { λ s. options_in_file (tree.statement_view s) };
+    ghost options_set = { λ s. options_in_file (tree.statement_syntax s) };
 
     fn option(&self) -> Option<&ProtobufOption> {
         match self {
@@ -36,7 +36,7 @@ impl MaySetOption for FileStatement {
 }
 
 impl MaySetOption for MessageStatement {
-    ghost options_set = { λ s. options_in_message (tree.message_statement_view s) };
+    ghost options_set = { λ s. options_in_message (tree.message_statement_syntax s) };
 
     fn option(&self) -> Option<&ProtobufOption> {
         match self {
@@ -47,7 +47,7 @@ impl MaySetOption for MessageStatement {
 }
 
 impl MaySetOption for OneOfStatement {
-    ghost options_set = { λ s. oneof_statement_options (tree.oneof_statement_view s) };
+    ghost options_set = { λ s. oneof_statement_options (tree.oneof_statement_syntax s) };
 
     fn option(&self) -> Option<&ProtobufOption> {
         match self {
@@ -58,7 +58,7 @@ impl MaySetOption for OneOfStatement {
 }
 
 impl MaySetOption for EnumStatement {
-    ghost options_set = { λ s. options_in_enum (tree.enum_statement_view s) };
+    ghost options_set = { λ s. options_in_enum (tree.enum_statement_syntax s) };
 
     fn option(&self) -> Option<&ProtobufOption> {
         match self {
@@ -69,7 +69,7 @@ impl MaySetOption for EnumStatement {
 }
 
 impl MaySetOption for ServiceStatement {
-    ghost options_set = { λ s. options_in_service (tree.service_statement_view s) };
+    ghost options_set = { λ s. options_in_service (tree.service_statement_syntax s) };
 
     fn option(&self) -> Option<&ProtobufOption> {
         match self {
@@ -80,7 +80,7 @@ impl MaySetOption for ServiceStatement {
 }
 
 impl MaySetOption for OptionStatement {
-    ghost options_set = { λ s. statement_option (tree.option_statement_view s) ∷ [] };
+    ghost options_set = { λ s. statement_option (tree.option_statement_syntax s) ∷ [] };
 
     fn option(&self) -> Option<&ProtobufOption> {
         Some(&self.option)

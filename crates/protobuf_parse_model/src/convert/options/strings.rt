@@ -13,8 +13,9 @@ use crate::error::{ElabErrorKind, ElabFailure};
 use protobuf_parse_syntax::{StrLit, StrLitDecodeError};
 use std::alloc::{AllocError, Global};
 
-/// The text that a string stands for; `None` where it stands for none.
-pub fn text_of(alloc: Global, string: &StrLit) -> Result<Option<String>, AllocError>
+/// The text that a string stands for; `None` where it stands for none. The one error is that memory
+/// is short.
+pub fn decoded_text(alloc: Global, string: &StrLit) -> Result<Option<String>, AllocError>
     ensures { IfOk result (λ t. option_map string_bytes t ≡ text_of (pieces_of string.now)) }
 {
     match string.decode_utf8(alloc) {
@@ -26,8 +27,9 @@ pub fn text_of(alloc: Global, string: &StrLit) -> Result<Option<String>, AllocEr
     }
 }
 
-/// The bytes that a string stands for; `None` where it stands for none.
-fn bytes_of(alloc: Global, string: &StrLit) -> Result<Option<Vec<u8>>, AllocError>
+/// The bytes that a string stands for; `None` where it stands for none. The one error is that
+/// memory is short.
+pub fn decoded_bytes(alloc: Global, string: &StrLit) -> Result<Option<Vec<u8>>, AllocError>
     ensures { IfOk result (λ v. option_map (λ v. v.items) v ≡ decode (pieces_of string.now)) }
 {
     match string.decode_bytes(alloc) {
@@ -54,7 +56,7 @@ pub fn text_given(alloc: Global, name: &str, string: &StrLit) -> Result<String, 
     ensures { let text = text_of (pieces_of string.now) in
         Elaborates string_bytes result (string_faults name.now text) (text_or_empty text) }
 {
-    match text_of(alloc, string)? {
+    match decoded_text(alloc, string)? {
         Some(text) => Ok(text),
         None => Err(fault(alloc, ElabErrorKind::StrLitDecode, name)),
     }
@@ -65,7 +67,7 @@ pub fn bytes_given(alloc: Global, name: &str, string: &StrLit) -> Result<Vec<u8>
     ensures { let bytes = decode (pieces_of string.now) in
         Elaborates (λ v. v.items) result (string_faults name.now bytes) (text_or_empty bytes) }
 {
-    match bytes_of(alloc, string)? {
+    match decoded_bytes(alloc, string)? {
         Some(bytes) => Ok(bytes),
         None => Err(fault(alloc, ElabErrorKind::StrLitDecode, name)),
     }

@@ -1,7 +1,7 @@
 //! The texts of a field's descriptor that its options set: the default and the JSON name.
 
 ghost use Rattle.std.specs.Prelude.{◌≡◌, Some, option_map, string_bytes};
-ghost use Rattle.protobuf_parse_syntax.specs.Trees.{constant_view};
+ghost use Rattle.protobuf_parse_syntax.specs.Trees.{constant_syntax};
 ghost use Rattle.protobuf_parse_model.specs.Faults.{Elaborates};
 ghost use Rattle.protobuf_parse_model.specs.Fields as spec;
 ghost use Rattle.protobuf_parse_model.specs.BuiltinOptions.{options_seen};
@@ -40,7 +40,7 @@ fn default_text(
     name: &str,
     value: &ProtobufConstant,
 ) -> Result<String, ElabFailure>
-    ensures { let v = constant_view value.now in
+    ensures { let v = constant_syntax value.now in
         Elaborates string_bytes result (spec.default_value_faults kind name.now (Some v))
         (spec.default_text kind v) }
 {
@@ -56,7 +56,7 @@ fn string_default(
     name: &str,
     value: &ProtobufConstant,
 ) -> Result<String, ElabFailure>
-    ensures { let v = constant_view value.now in
+    ensures { let v = constant_syntax value.now in
         Elaborates string_bytes result
         (spec.default_value_faults FieldType.String name.now (Some v))
         (spec.default_text FieldType.String v) }
@@ -68,7 +68,7 @@ fn string_default(
 }
 
 fn bytes_default(alloc: Global, name: &str, value: &ProtobufConstant) -> Result<String, ElabFailure>
-    ensures { let v = constant_view value.now in
+    ensures { let v = constant_syntax value.now in
         Elaborates string_bytes result (spec.default_value_faults FieldType.Bytes name.now (Some v))
         (spec.default_text FieldType.Bytes v) }
 {

@@ -1,5 +1,5 @@
 use Rattle.std.proofs.Common.{◌≡◌, ◌++◌, [], map, flat_map, take}
-use Rattle.protobuf_parse_syntax.specs.Trees.{constant_field_view, constant_view}
+use Rattle.protobuf_parse_syntax.specs.Trees.{constant_field_syntax, constant_syntax}
 use Rattle.protobuf_parse_model.specs.Descriptors.{field_view}
 use Rattle.protobuf_parse_options.specs.CustomFaults.{constant_faults}
 use Rattle.protobuf_parse_options.specs.CustomOptions.{value_items}
@@ -12,7 +12,7 @@ use Rattle.protobuf_parse_options.proofs.constants.+constant.Given as goal
 abbrev pub invariant-push_list-items : goal.invariant-push_list-items
 invariant-push_list-items l =
     let s = option_place_view l.at in
-    let cs = map constant_view (take l.item-index l.items) in
+    let cs = map constant_syntax (take l.item-index l.items) in
     record {
       no_fault : flat_map (constant_faults s (path_said l.option) (field_view l.field)) cs ≡ [];
       all : map entry_view l.entries.items ≡ map entry_view l.fn.entries.items ++ flat_map
@@ -22,7 +22,7 @@ invariant-push_list-items l =
 abbrev pub invariant-push_fields-fields : goal.invariant-push_fields-fields
 invariant-push_fields-fields l =
     let s = option_place_view l.at in
-    let fs = map constant_field_view (take l.field-index l.fields) in
+    let fs = map constant_field_syntax (take l.field-index l.fields) in
     record {
       no_fault : flat_map (field_faults_of s (path_said l.option) l.message) fs ≡ [];
       all : map entry_view l.entries.items ≡ map entry_view l.fn.entries.items ++ flat_map

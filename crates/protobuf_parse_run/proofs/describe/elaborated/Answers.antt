@@ -1,5 +1,5 @@
 use Rattle.std.proofs.Common.{◌≡◌, [], map}
-use Rattle.protobuf_parse_syntax.specs.Trees.{file_view}
+use Rattle.protobuf_parse_syntax.specs.Trees.{file_syntax}
 use Rattle.protobuf_parse_model.specs.Descriptors as described
 use Rattle.protobuf_parse_model.specs.Linking.{link_faults}
 use Rattle.protobuf_parse_model.specs.Tables.{picked}
@@ -15,7 +15,7 @@ returns-in-Ok-clause-describes c files told =
     ≡ [] = ((rw c.deref-2.ensures.value at c.in_ok-link.ensures) files told).0 in
     let own = (rw c.deref.ensures.value at c.in-Ok.ensures.by_files) files told in
     none-set c.args.loaded.now.entries files reach c.args.sights.now.sight.items c.args.path.now
-    (file_view c.args.tree.now) linked c.in-Ok.descriptor own.0 own.1
+    (file_syntax c.args.tree.now) linked c.in-Ok.descriptor own.0 own.1
 
 pub returns-in-Ok-clause-begins : goal.returns-in-Ok-clause-begins
 returns-in-Ok-clause-begins c =

@@ -1,7 +1,7 @@
 use Rattle.std.proofs.Common.{◌∙◌, List, Option, ap, flat_map, map, option_map, subst}
 use Rattle.std.specs.Prelude.{option_to_list}
 use Rattle.std.specs.Borrow.{Bor}
-use Rattle.protobuf_parse_syntax.specs.Trees.{file_view}
+use Rattle.protobuf_parse_syntax.specs.Trees.{file_syntax}
 use Rattle.protobuf_parse_model.specs.declared.descriptor.FileDescriptorProto.{FileDescriptorProto}
 use Rattle.protobuf_parse_model.specs.Descriptors as described
 use Rattle.protobuf_parse_model.specs.Descriptors.{FileDescriptor}
@@ -20,7 +20,7 @@ listed fs = flat_map option_to_list (map (option_map plain_seen) fs)
 
 pub returns : goal.returns
 returns c files told =
-    let t = file_view c.args.tree.now in
+    let t = file_syntax c.args.tree.now in
     let seen = picked files c.args.seen.now.sight.now in
     let plains = plains_with c.args.loaded.now.entries (described.file_view c.args.plain.now) in
     let reach = c.args.seen.now.reach.now in

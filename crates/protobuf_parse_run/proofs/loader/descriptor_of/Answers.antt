@@ -1,5 +1,5 @@
 use Rattle.std.proofs.Common.{inr, refl, Some}
-use Rattle.protobuf_parse_syntax.specs.Trees.{file_view}
+use Rattle.protobuf_parse_syntax.specs.Trees.{file_syntax}
 use Rattle.protobuf_parse_model.specs.Faults.{fault_view}
 use Rattle.protobuf_parse_run.specs.Run.{origin_given}
 use Rattle.protobuf_parse_run.specs.Loading.{faults_over, plains_over}
@@ -14,7 +14,7 @@ returns-in-Err-Memory-clause-err c files told e found named = inr refl
 
 pub returns-in-Err-Fault-clause-err : goal.returns-in-Err-Fault-clause-err
 returns-in-Err-Fault-clause-err c files told e found named =
-    let t = file_view c.args.tree.now in
+    let t = file_syntax c.args.tree.now in
     let sight = c.args.sights.now.sight.items in
     let plains = plains_over c.args.loader.now.loaded.entries files sight c.args.path.now t in
     elab-stands (origin_given c.args.path.now (Some e.outcome))

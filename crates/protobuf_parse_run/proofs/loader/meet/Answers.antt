@@ -60,8 +60,8 @@ returns-in-Some-clause-leaves g c files kept go good =
     (asked_by c.args.fs_path) _ _ c.in-Some.placed text_is good c.in-Some.ensures
     (omega (arith, n, c.if-placed-len.false, c.len.ensures))
 
-pub returns-then-len-eq-LIMIT-clause-leaves : goal.returns-then-len-eq-LIMIT-clause-leaves
-returns-then-len-eq-LIMIT-clause-leaves g c files kept go good =
+pub returns-then-len-eq-MAX_CHAIN-clause-leaves : goal.returns-then-len-eq-MAX_CHAIN-clause-leaves
+returns-then-len-eq-MAX_CHAIN-clause-leaves g c files kept go good =
     let text_is : c.to_str-text.result.now
     ≡ path_buf_text c.args.path.now = c.to_str-text.ensures.text ∙ c.as_path.ensures in
     let n = texts-length c.args.loader.now.chain.items in
@@ -71,8 +71,8 @@ returns-then-len-eq-LIMIT-clause-leaves g c files kept go good =
     c.is_on_chain.ensures c.if-is_on_chain.false in
     leaves-full _ files kept _ _ _ (path_buf_text c.args.input.now)
     (asked_by c.args.fs_path) _ _ _ _ text_is
-    (omega (arith, n, c.if-len-eq-LIMIT.true, c.len-2.ensures)) good off
-    c.too_long-then-len-eq-LIMIT.ensures
+    (omega (arith, n, c.if-len-eq-MAX_CHAIN.true, c.len-2.ensures)) good off
+    c.too_long-then-len-eq-MAX_CHAIN.ensures
 
 pub returns-in_err-tree-clause-grows : goal.returns-in_err-tree-clause-grows
 returns-in_err-tree-clause-grows g c =
@@ -104,7 +104,7 @@ returns-in_err-tree-clause-leaves g c files kept go good =
     rw (p.1, p.2)
     (leaves-read _ files _ kept _ _ _ _ (path_buf_text c.args.input.now)
     (asked_by c.args.fs_path) _ c.in_err-tree.field-0.0 go good off none
-    (omega (arith, n, c.if-len-eq-LIMIT.false, c.len-2.ensures, c.requires.chain))
+    (omega (arith, n, c.if-len-eq-MAX_CHAIN.false, c.len-2.ensures, c.requires.chain))
     c.in_err-tree.ensures.read)
 
 pub returns-in_err-enter-clause-decided : goal.returns-in_err-enter-clause-decided
@@ -132,7 +132,7 @@ returns-in_err-enter-clause-leaves g c files kept go good =
     rw p.1 (met-breaks _ files _ kept _ _ _ _
     (asked_by c.args.fs_path) _ c.in_ok-tree.tree go good off none c.in_ok-tree.ensures.read
     (path_buf_text c.args.input.now) p.0
-    (omega (arith, n, c.if-len-eq-LIMIT.false, c.len-2.ensures, c.requires.chain)) p.2)
+    (omega (arith, n, c.if-len-eq-MAX_CHAIN.false, c.len-2.ensures, c.requires.chain)) p.2)
 
 pub returns-in_err-from_str-clause-decided : goal.returns-in_err-from_str-clause-decided
 returns-in_err-from_str-clause-decided g c d =
@@ -159,7 +159,7 @@ returns-in_err-from_str-clause-leaves g c files kept go good =
     rw p.1 (met-breaks _ files _ kept _ _ _ _
     (asked_by c.args.fs_path) _ c.in_ok-tree.tree go good off none c.in_ok-tree.ensures.read
     (path_buf_text c.args.input.now) p.0
-    (omega (arith, n, c.if-len-eq-LIMIT.false, c.len-2.ensures, c.requires.chain)) p.2)
+    (omega (arith, n, c.if-len-eq-MAX_CHAIN.false, c.len-2.ensures, c.requires.chain)) p.2)
 
 pub returns-clause-decided : goal.returns-clause-decided
 returns-clause-decided g c d =
@@ -188,7 +188,7 @@ returns-clause-stands g c =
           ap chain_texts
           (s.1 ∙ ap (λ (v : Vec (String Global)). v.items ++ s.0 ∷ []) c.read_tree.ensures.chain)
           ∙ texts-push c.args.loader.now.chain.items s.0 _ (s.2 ∙ text_is);
-      room = omega (arith, n, c.if-len-eq-LIMIT.false, c.len-2.ensures, c.requires.chain);
+      room = omega (arith, n, c.if-len-eq-MAX_CHAIN.false, c.len-2.ensures, c.requires.chain);
       off = off;
       missing = none;
       path_is = c.in_ok-from_str.ensures.ok ∙ text_is;

@@ -1,7 +1,7 @@
 use Rattle.std.proofs.Common.{◌≡◌, ◌∙◌, refl, sym, inl, inr, ap, subst, List, Some, Ok, length, map}
 use Rattle.std.proofs.lemmas.List.{length-map}
 use Rattle.std.proofs.lemmas.Result.{err_from_is_err_and}
-use Rattle.protobuf_parse_syntax.specs.Trees.{file_view}
+use Rattle.protobuf_parse_syntax.specs.Trees.{file_syntax}
 use Rattle.protobuf_parse_model.specs.Descriptors.{FileDescriptor, Text}
 use Rattle.protobuf_parse_run.specs.Run.{StandsInElab, origin_given}
 use Rattle.protobuf_parse_run.specs.Loading.{IndexBegins, Describes, Named, faults_over}
@@ -15,7 +15,7 @@ use Rattle.protobuf_parse_run.proofs.loader.settle.Goals as goal
 pub returns-clause-settles : goal.returns-clause-settles
 returns-clause-settles c told none =
     let loaded = c.args.loader.now.loaded.entries in
-    let t = file_view c.args.tree in
+    let t = file_syntax c.args.tree in
     let files = trees_of (named_trees loaded) in
     let number : length files ≡ c.len.result = length-map (named_trees loaded) (λ (f : Named). f.1)
     ∙ (named-length loaded ∙ sym c.len.ensures.len) in
@@ -45,7 +45,7 @@ returns-clause-settles c told none =
       sight = sights.sight.items;
       entries = added.0;
       named = refl;
-      tree_is = ap file_view c.of.ensures;
+      tree_is = ap file_syntax c.of.ensures;
       height_is = refl;
       read_is = refl;
       reaches = c.in_ok-sights.ensures.reach;
@@ -67,7 +67,7 @@ returns-clause-settles c told none =
 pub returns-in_err-described-clause-settles : goal.returns-in_err-described-clause-settles
 returns-in_err-described-clause-settles c told =
     let loaded = c.args.loader.now.loaded.entries in
-    let t = file_view c.args.tree in
+    let t = file_syntax c.args.tree in
     let files = trees_of (named_trees loaded) in
     let number : length files ≡ c.len.result = length-map (named_trees loaded) (λ (f : Named). f.1)
     ∙ (named-length loaded ∙ sym c.len.ensures.len) in

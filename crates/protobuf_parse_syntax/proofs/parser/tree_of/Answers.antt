@@ -3,7 +3,7 @@ use Rattle.std.proofs.lemmas.List.{length-map}
 use Rattle.protobuf_parse_base.specs.Readers.{read}
 use Rattle.protobuf_parse_base.specs.Whole.{whole}
 use Rattle.protobuf_parse_syntax.specs.Tokens.{lexeme}
-use Rattle.protobuf_parse_syntax.specs.Trees.{file_view}
+use Rattle.protobuf_parse_syntax.specs.Trees.{file_syntax}
 use Rattle.protobuf_parse_syntax.specs.Nested as nest
 use Rattle.protobuf_parse_syntax.specs.Code.{left, Fails, NoVersion, RefusesFile}
 use Rattle.protobuf_parse_syntax.specs.declared.parser.refusal.Refusal.TheVariants.{Next}
@@ -18,8 +18,8 @@ returns-clause-found c =
     let e : left c.new-tokens.result ≡ whole ts c.args.stream.now.end = c.new-tokens.ensures
     ∙ ap (λ v. whole (map lexeme v) c.args.stream.now.end) c.as_slice.ensures.value in
     let h = subst (λ v. (nest.file n).low.run v
-    ≡ read (file_view c.in-Ok.tree) (left c.file.new.tokens)) e c.in-Ok.ensures in
-    found ts c.args.stream.now.end n (file_view c.in-Ok.tree) (left c.file.new.tokens) h
+    ≡ read (file_syntax c.in-Ok.tree) (left c.file.new.tokens)) e c.in-Ok.ensures in
+    found ts c.args.stream.now.end n (file_syntax c.in-Ok.tree) (left c.file.new.tokens) h
     (sym c.is_empty.ensures ∙ c.if-not-is_empty.false)
 
 pub returns-clause-only : goal.returns-clause-only
@@ -29,11 +29,11 @@ returns-clause-only c = λ u w.
     let e : left c.new-tokens.result ≡ whole ts c.args.stream.now.end = c.new-tokens.ensures
     ∙ ap (λ v. whole (map lexeme v) c.args.stream.now.end) c.as_slice.ensures.value in
     let h = subst (λ v. (nest.file n).low.run v
-    ≡ read (file_view c.in-Ok.tree) (left c.file.new.tokens)) e c.in-Ok.ensures in
+    ≡ read (file_syntax c.in-Ok.tree) (left c.file.new.tokens)) e c.in-Ok.ensures in
     let enough : length ts
     < n = omega (arith, length-map c.args.stream.now.tokens.items lexeme, c.len-levels.ensures)
     in
-    only ts c.args.stream.now.end n enough (file_view c.in-Ok.tree) u (left c.file.new.tokens) h
+    only ts c.args.stream.now.end n enough (file_syntax c.in-Ok.tree) u (left c.file.new.tokens) h
     (sym c.is_empty.ensures ∙ c.if-not-is_empty.false) w
 
 pub returns-then-not-is_empty-clause-refused : goal.returns-then-not-is_empty-clause-refused
@@ -44,12 +44,12 @@ returns-then-not-is_empty-clause-refused c =
     let e : left c.new-tokens.result ≡ whole ts m = c.new-tokens.ensures
     ∙ ap (λ v. whole (map lexeme v) m) c.as_slice.ensures.value in
     let h = subst (λ v. (nest.file n).low.run v
-    ≡ read (file_view c.in-Ok.tree) (left c.file.new.tokens)) e c.in-Ok.ensures in
+    ≡ read (file_syntax c.in-Ok.tree) (left c.file.new.tokens)) e c.in-Ok.ensures in
     told ts m (Next IncorrectInput) c.place-then-not-is_empty.result
     c.located-then-not-is_empty.result
     (subst (λ v. RefusesFile ts m (Next IncorrectInput) v)
     (sym c.place-then-not-is_empty.ensures)
-    (leftover ts m n (file_view c.in-Ok.tree) (left c.file.new.tokens) h
+    (leftover ts m n (file_syntax c.in-Ok.tree) (left c.file.new.tokens) h
     (sym c.is_empty.ensures ∙ c.if-not-is_empty.true))) c.located-then-not-is_empty.ensures
 
 pub returns-in-Err-clause-refused : goal.returns-in-Err-clause-refused

@@ -1,6 +1,6 @@
 use Rattle.std.proofs.Common.{◌∙◌, ap, map, refl}
 use Rattle.std.proofs.lemmas.List.{map-append}
-use Rattle.protobuf_parse_syntax.specs.Trees.{field_statement_view}
+use Rattle.protobuf_parse_syntax.specs.Trees.{field_statement_syntax}
 use Rattle.protobuf_parse_model.specs.Contexts.{declared_view, environment_in}
 use Rattle.protobuf_parse_model.specs.Descriptors.{field_view, message_view, oneof_view}
 use Rattle.protobuf_parse_model.proofs.Bodies.{with_own}
@@ -28,7 +28,7 @@ returns g c =
             extension = old.extension;
           })
           c.len.result _ (c.len.ensures ∙ old.oneof_decl.ok.0) oneofs refl refl
-          (field_statement_view c.args.statement.now)
+          (field_statement_syntax c.args.statement.now)
           (declared_view c.in_ok-declared.declared) c.requires.own d.1
           c.in_ok-own.ensures fields nested,
     )

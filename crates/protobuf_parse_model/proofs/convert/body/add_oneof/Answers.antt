@@ -1,8 +1,8 @@
 use Rattle.std.proofs.Common.{◌∙◌, ◌++◌, ap, map, refl}
 use Rattle.std.proofs.lemmas.List.{map-append}
-use Rattle.protobuf_parse_syntax.specs.Trees.{oneof_view as oneof_seen}
+use Rattle.protobuf_parse_syntax.specs.Trees.{oneof_syntax as oneof_seen}
 use Rattle.protobuf_parse_model.specs.Contexts.{environment_in, fields_view}
-use Rattle.protobuf_parse_model.specs.Descriptors.{field_view, message_view, oneof_view}
+use Rattle.protobuf_parse_model.specs.Descriptors.{field_view, message_view, oneof_syntax}
 use Rattle.protobuf_parse_model.specs.BuiltinOptions.{oneof_table}
 use Rattle.protobuf_parse_model.specs.ConstructOptions.{construct_faults}
 use Rattle.protobuf_parse_model.specs.declared.customs.Construct.TheVariants as of
@@ -16,8 +16,8 @@ returns g c =
     let old = c.args.body.now in
     let d = c.in_ok-declared.ensures in
     let o = c.in_ok-descriptor.ensures in
-    let oneofs = ap (map oneof_view) c.in_ok-push.ensures.items
-    ∙ map-append oneof_view old.oneof_decl.items _ in
+    let oneofs = ap (map oneof_syntax) c.in_ok-push.ensures.items
+    ∙ map-append oneof_syntax old.oneof_decl.items _ in
     let fields = ap (map field_view) c.in_ok-append_declared.ensures.fields
     ∙ map-append field_view old.field.items _ in
     let nested = ap (map message_view) c.in_ok-append_declared.ensures.messages

@@ -1,5 +1,5 @@
 use Rattle.std.proofs.Common.{◌≡◌, [], map, take, flat_map}
-use Rattle.protobuf_parse_syntax.specs.Trees.{statement_view}
+use Rattle.protobuf_parse_syntax.specs.Trees.{statement_syntax}
 use Rattle.protobuf_parse_model.specs.Contexts.{environment_in}
 use Rattle.protobuf_parse_model.specs.FileDescriptor.{file_faults_of}
 use Rattle.protobuf_parse_model.specs.FileParts.{parts_of_file, parts_view}
@@ -8,7 +8,7 @@ use Rattle.protobuf_parse_model.proofs.convert.contents.declared.Given as goal
 abbrev pub invariant-loop-statement : goal.invariant-loop-statement
 invariant-loop-statement g l =
     let env = environment_in (g.C.CustomOptions.customs l.custom) l.context in
-    let seen = map statement_view (take l.statement-index l.statements) in
+    let seen = map statement_syntax (take l.statement-index l.statements) in
     record {
       no_fault : flat_map (file_faults_of env) seen ≡ [];
       all : parts_view l.contents ≡ parts_of_file env seen;

@@ -2,7 +2,7 @@ use Rattle.std.proofs.Common.{◌≡◌, ◌≤◌, ◌++◌, ◌∙◌, List, [
 use Rattle.std.proofs.Common.{subst, sum_by, sym}
 use Rattle.protobuf_parse_syntax.specs.Counts.{statement_count}
 use Rattle.protobuf_parse_syntax.specs.Dependencies.{dependencies_of}
-use Rattle.protobuf_parse_syntax.specs.Trees.{file_view, statement_view}
+use Rattle.protobuf_parse_syntax.specs.Trees.{file_syntax, statement_syntax}
 use Rattle.protobuf_parse_syntax.specs.declared.tree.FileStatement.{FileStatement}
 use Rattle.protobuf_parse_syntax.proofs.Counts.{file_length}
 use Rattle.protobuf_parse_model.specs.BuiltinOptions.{file_table}
@@ -23,7 +23,8 @@ pub contents_of-requires : goal.contents_of-requires
 contents_of-requires g c =
     record {
       few =
-          subst (λ (ss : List FileStatement). sum_by statement_count (map statement_view ss) ≤ 2147483647)
+          subst (λ (ss : List FileStatement). sum_by statement_count
+          (map statement_syntax ss) ≤ 2147483647)
           (sym c.deref.ensures.value) c.requires.few;
     }
 
@@ -38,13 +39,13 @@ imports_of-requires g c =
 
 pub returns-in_err-contents : goal.returns-in_err-contents
 returns-in_err-contents g c =
-    let t = file_view c.args.tree.now in
+    let t = file_syntax c.args.tree.now in
     let env = environment_in (g.C.CustomOptions.customs c.args.custom.now) c.args.context.now in
     let e = c.in_err-contents.field-0.0 in
     let told : Blames e (file_duplicates env t ++ flat_map (file_faults_of env) t.statements) =
     subst (λ z.
-    Blames e (parts_faults (parts_of_file env (map statement_view z))
-    ++ flat_map (file_faults_of env) (map statement_view z))) c.deref.ensures.value
+    Blames e (parts_faults (parts_of_file env (map statement_syntax z))
+    ++ flat_map (file_faults_of env) (map statement_syntax z))) c.deref.ensures.value
     c.in_err-contents.ensures in
     let whole : Blames e (file_faults env t) =
     blames_around e (file_duplicates env t)
@@ -56,24 +57,24 @@ returns-in_err-contents g c =
 pub returns : goal.returns
 unfolding dependencies_of
 returns g c =
-    let t = file_view c.args.tree.now in
+    let t = file_syntax c.args.tree.now in
     let env = environment_in (g.C.CustomOptions.customs c.args.custom.now) c.args.context.now in
     let no_parts : file_duplicates env t ++ flat_map (file_faults_of env) t.statements
-    ≡ [] = ap (λ z. parts_faults (parts_of_file env (map statement_view z))
-    ++ flat_map (file_faults_of env) (map statement_view z)) (sym c.deref.ensures.value)
+    ≡ [] = ap (λ z. parts_faults (parts_of_file env (map statement_syntax z))
+    ++ flat_map (file_faults_of env) (map statement_syntax z)) (sym c.deref.ensures.value)
     ∙ c.in_ok-contents.ensures.0 in
     let no_options : construct_faults env of.File file_table (options_of_statements t.statements)
     ≡ [] = ap
     (λ z. construct_faults env of.File file_table
-    (options_of_statements (map statement_view z))) (sym c.deref-3.ensures.value)
+    (options_of_statements (map statement_syntax z))) (sym c.deref-3.ensures.value)
     ∙ c.in_ok-options.ensures.0 in
     let parts = c.in_ok-contents.ensures.1
-    ∙ ap (λ z. parts_of_file env (map statement_view z)) c.deref.ensures.value in
+    ∙ ap (λ z. parts_of_file env (map statement_syntax z)) c.deref.ensures.value in
     let options = c.in_ok-options.ensures.1
-    ∙ ap (λ z. let os = options_of_statements (map statement_view z) in
+    ∙ ap (λ z. let os = options_of_statements (map statement_syntax z) in
     file_options (customs_bytes env of.File os) os) c.deref-3.ensures.value in
     let lists = c.in_ok-imports.ensures
-    ∙ ap (λ z. dependencies_of (map statement_view z)) c.deref-2.ensures.value in
+    ∙ ap (λ z. dependencies_of (map statement_syntax z)) c.deref-2.ensures.value in
     let heading = c.in_ok-heading.ensures in (
       faultless (file_duplicates env t)
           (construct_faults env of.File file_table (options_of_statements t.statements))

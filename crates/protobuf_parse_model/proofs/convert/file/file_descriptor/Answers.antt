@@ -1,5 +1,5 @@
 use Rattle.std.proofs.Common.{◌∙◌, List, ap, subst}
-use Rattle.protobuf_parse_syntax.specs.Trees.{file_view}
+use Rattle.protobuf_parse_syntax.specs.Trees.{file_syntax}
 use Rattle.protobuf_parse_model.specs.SeenFiles.{seen_types, name_texts}
 use Rattle.protobuf_parse_model.specs.Descriptors as described
 use Rattle.protobuf_parse_model.specs.Descriptors.{Text}
@@ -10,7 +10,7 @@ use Rattle.protobuf_parse_model.proofs.convert.file.file_descriptor.Goals as goa
 
 pub returns : goal.returns
 returns g c =
-    let t = file_view c.args.tree.now in
+    let t = file_syntax c.args.tree.now in
     let within : List Text → Environment = λ scope.
     record {
       syntax = t.syntax;

@@ -1,5 +1,5 @@
 use Rattle.std.proofs.Common.{◌≡◌, [], map, take, flat_map}
-use Rattle.protobuf_parse_syntax.specs.Trees.{field_statement_view}
+use Rattle.protobuf_parse_syntax.specs.Trees.{field_statement_syntax}
 use Rattle.protobuf_parse_model.specs.Contexts.{environment_in}
 use Rattle.protobuf_parse_model.specs.Descriptors.{field_view}
 use Rattle.protobuf_parse_model.specs.Fields.{field_statement_of, grouped_faults, plain}
@@ -7,7 +7,7 @@ use Rattle.protobuf_parse_model.proofs.convert.generated.grouped_fields.Given as
 
 abbrev pub invariant-loop-statement : goal.invariant-loop-statement
 invariant-loop-statement g l =
-    let seen = map field_statement_view (take l.statement-index l.statements) in
+    let seen = map field_statement_syntax (take l.statement-index l.statements) in
     record {
       no_fault : flat_map
           (grouped_faults (environment_in (g.C.CustomOptions.customs l.custom) l.context)) seen

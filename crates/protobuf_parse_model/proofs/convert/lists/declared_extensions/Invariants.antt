@@ -1,5 +1,5 @@
 use Rattle.std.proofs.Common.{◌≡◌, [], map, take, flat_map}
-use Rattle.protobuf_parse_syntax.specs.Trees.{field_statement_view}
+use Rattle.protobuf_parse_syntax.specs.Trees.{field_statement_syntax}
 use Rattle.protobuf_parse_model.specs.Contexts.{environment_in, field_place_view}
 use Rattle.protobuf_parse_model.specs.Descriptors.{field_view, message_view}
 use Rattle.protobuf_parse_model.specs.Fields.{extension_faults, field_statement_of}
@@ -9,7 +9,7 @@ use Rattle.protobuf_parse_model.proofs.convert.lists.declared_extensions.Given a
 abbrev pub invariant-loop-statement : goal.invariant-loop-statement
 invariant-loop-statement g l =
     let env = environment_in (g.C.CustomOptions.customs l.custom) l.context in
-    let seen = map field_statement_view (take l.statement-index l.statements) in
+    let seen = map field_statement_syntax (take l.statement-index l.statements) in
     record {
       no_fault : flat_map (extension_faults env) seen ≡ [];
       all : map field_view l.fields.items

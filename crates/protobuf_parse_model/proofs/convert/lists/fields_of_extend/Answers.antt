@@ -1,6 +1,6 @@
 use Rattle.std.proofs.Common.{◌≡◌, ◌∙◌, List, Some, ap, flat_map, map, refl, subst, sym}
 use Rattle.std.proofs.lemmas.Result.{err_from_is_err_and}
-use Rattle.protobuf_parse_syntax.specs.Trees.{field_statement_view}
+use Rattle.protobuf_parse_syntax.specs.Trees.{field_statement_syntax}
 use Rattle.protobuf_parse_model.specs.Contexts.{environment_in, fields_declared, fields_view}
 use Rattle.protobuf_parse_model.specs.Descriptors.{Text}
 use Rattle.protobuf_parse_model.specs.Faults.{Elaborates, Fault}
@@ -20,7 +20,7 @@ returns-in_err-extendee g c =
     let env = environment_in (g.C.CustomOptions.customs c.args.custom.now) c.args.context.now in
     let p = err_from_is_err_and c.from_residual.result c.from_residual.ensures.1 in
     rw (p.1, p.2)
-    (extendee_missing field_statement_view env c.args.extendee.now c.args.statements.now
+    (extendee_missing field_statement_syntax env c.args.extendee.now c.args.statements.now
     c.in_err-extendee.field-0.0 (sym c.is_empty.ensures ∙ c.if-is_empty.false)
     c.in_err-extendee.ensures)
 
@@ -28,7 +28,7 @@ pub returns : goal.returns
 returns g c =
     let env = environment_in (g.C.CustomOptions.customs c.args.custom.now) c.args.context.now in
     let extendee = c.args.extendee.now in
-    let ss = map field_statement_view c.args.statements.now in
+    let ss = map field_statement_syntax c.args.statements.now in
     let r = c.declared_extensions.result in
     let known = c.in_ok-extendee.ensures in
     let is : extending_it (Some c.deref.result.now) ≡ extending env extendee =

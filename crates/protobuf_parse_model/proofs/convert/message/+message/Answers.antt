@@ -4,7 +4,7 @@ use Rattle.std.proofs.lemmas.Grind.{flat_map-append}
 use Rattle.std.proofs.lemmas.List.{map_more}
 use Rattle.std.proofs.lemmas.Result.{err_from_is_err_and}
 use Rattle.protobuf_parse_syntax.specs.Trees.{MessageStatementSyntax, nested_message}
-use Rattle.protobuf_parse_syntax.specs.Trees.{message_statement_view, message_view}
+use Rattle.protobuf_parse_syntax.specs.Trees.{message_statement_syntax, message_syntax}
 use Rattle.protobuf_parse_syntax.specs.Counts.{message_statement_count}
 use Rattle.protobuf_parse_syntax.specs.declared.tree.declaration.MessageStatement.{MessageStatement}
 use Rattle.protobuf_parse_syntax.proofs.Counts.{body_length, in_message_of, item_counts}
@@ -33,14 +33,14 @@ message_descriptor-returns g t c =
     let r = c.message_of_body.result in
     let named = subst
     (λ (n : List ℕ). Elaborates described.message_view r
-    (faults_of_body env n (map message_statement_view c.deref-2.result.now))
-    (message_of_body env n (map message_statement_view c.deref-2.result.now))) c.deref.ensures
+    (faults_of_body env n (map message_statement_syntax c.deref-2.result.now))
+    (message_of_body env n (map message_statement_syntax c.deref-2.result.now))) c.deref.ensures
     c.message_of_body.ensures in
     let whole = subst
     (λ (ss : List MessageStatementSyntax). Elaborates described.message_view r
     (faults_of_body env (string_bytes m.name) ss)
     (message_of_body env (string_bytes m.name) ss)) (ap
-    (map message_statement_view) c.deref-2.ensures.value) named in
+    (map message_statement_syntax) c.deref-2.ensures.value) named in
     rw (view_parts m) whole
 
 pub message_of_body-returns-in_err-parts : goal.message_of_body-returns-in_err-parts
@@ -51,7 +51,7 @@ message_of_body-returns-in_err-parts g t c =
 pub body_inside-returns : goal.body_inside-returns
 body_inside-returns g t c =
     let seen = c.args.context.now in
-    let ss = map message_statement_view c.args.body.now in
+    let ss = map message_statement_syntax c.args.body.now in
     let at : Scope → Environment = λ s.
     record {
       syntax = seen.syntax;
@@ -71,31 +71,31 @@ body_of-loop-statement-preserved g t c =
     let xs = c.args.statements.now in
     let i = c.loop-statement.statement-index in
     let s = c.statement-item.result in
-    let seen = map message_statement_view (take i xs) in
-    let more : map message_statement_view (take (i + 1) xs) ≡ seen ++ message_statement_view s
-    ∷ [] = map_more message_statement_view xs i s c.loop-statement-test.true
-    ∙ ap (λ z. seen ++ message_statement_view z ∷ []) (sym c.statement-item.is) in
+    let seen = map message_statement_syntax (take i xs) in
+    let more : map message_statement_syntax (take (i + 1) xs) ≡ seen ++ message_statement_syntax s
+    ∷ [] = map_more message_statement_syntax xs i s c.loop-statement-test.true
+    ∙ ap (λ z. seen ++ message_statement_syntax z ∷ []) (sym c.statement-item.is) in
     let added = c.in_ok-add_statement.ensures in
     record {
       no_fault = ap (flat_map (statement_faults env)) more
-          ∙ flat_map-append (statement_faults env) seen (message_statement_view s ∷ [])
+          ∙ flat_map-append (statement_faults env) seen (message_statement_syntax s ∷ [])
           ∙ nil-both _ _ c.loop-statement.invariant.no_fault added.0;
       few = few_more env c.loop-statement.body c.add_statement.new.body
-          (message_statement_view s) i added.1 c.loop-statement.invariant.few;
+          (message_statement_syntax s) i added.1 c.loop-statement.invariant.few;
       all = added.1
-          ∙ (ap (λ b. with_body_statement env b (message_statement_view s))
+          ∙ (ap (λ b. with_body_statement env b (message_statement_syntax s))
           c.loop-statement.invariant.all
-          ∙ (body_more env seen (message_statement_view s) ∙ sym (ap (body_of env) more)));
+          ∙ (body_more env seen (message_statement_syntax s) ∙ sym (ap (body_of env) more)));
     }
 
 pub add_statement-returns-in-Message : goal.add_statement-returns-in-Message
 add_statement-returns-in-Message g t c =
     let env = environment_in (g.C.CustomOptions.customs c.args.custom.now) c.args.context.now in
-    let m = message_view c.in-Message.message in
+    let m = message_syntax c.in-Message.message in
     let b = body_view c.args.body.now in
     let r = c.add_message.result in
-    let is : message_statement_view c.args.statement.now
-    ≡ nested_message m = ap message_statement_view c.in-Message.is
+    let is : message_statement_syntax c.args.statement.now
+    ≡ nested_message m = ap message_statement_syntax c.in-Message.is
     ∙ views_nested c.in-Message.message in
     let faults = subst
     (λ (fs : List Fault). Elaborates {Y = BodyParts}
@@ -114,7 +114,7 @@ pub message_descriptor-message_of_body-requires : goal.message_descriptor-messag
 message_descriptor-message_of_body-requires g t c =
     let same =
     ap (λ (ss : List MessageStatement). sum_by message_statement_count
-    (map message_statement_view ss)) c.deref-2.ensures.value
+    (map message_statement_syntax ss)) c.deref-2.ensures.value
     ∙ sym (in_message_of c.args.message.now) in
     λ κs l. (omega (arith, same, c.decreases), (l, omega (arith, same, c.requires.few)))
 
@@ -130,11 +130,11 @@ body_of-add_statement-requires g t c =
     let xs = c.args.statements.now in
     let index = c.loop-statement.statement-index in
     let s = c.statement-item.result in
-    let counted = item_counts message_statement_view message_statement_count xs index s
+    let counted = item_counts message_statement_syntax message_statement_count xs index s
     c.loop-statement-test.true in
-    let same = ap (λ (x : MessageStatement). message_statement_count (message_statement_view x))
+    let same = ap (λ (x : MessageStatement). message_statement_count (message_statement_syntax x))
     c.statement-item.is in
-    let few : message_statement_count (message_statement_view s)
+    let few : message_statement_count (message_statement_syntax s)
     ≤ 2147483647 = omega (arith, counted, same, c.requires.few) in
     let places : length c.loop-statement.body.oneof_decl.items
     < 2147483648 =
@@ -149,7 +149,7 @@ body_of-add_statement-requires g t c =
 
 pub add_statement-add_message-requires : goal.add_statement-add_message-requires
 add_statement-add_message-requires g t c =
-    let same = ap (λ (x : MessageStatement). message_statement_count (message_statement_view x))
+    let same = ap (λ (x : MessageStatement). message_statement_count (message_statement_syntax x))
     c.in-Message.is ∙ message_counts c.in-Message.message in
     λ κs l. (omega (arith, same, c.decreases), (l, omega (arith, same, c.requires.few)))
 

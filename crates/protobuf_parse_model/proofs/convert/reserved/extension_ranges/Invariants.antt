@@ -1,12 +1,12 @@
 use Rattle.std.proofs.Common.{◌≡◌, [], map, take, flat_map}
-use Rattle.protobuf_parse_syntax.specs.Trees.{range_view}
+use Rattle.protobuf_parse_syntax.specs.Trees.{range_syntax}
 use Rattle.protobuf_parse_model.specs.Descriptors.{extension_range_view}
 use Rattle.protobuf_parse_model.specs.Messages.{exclusive, range_faults}
 use Rattle.protobuf_parse_model.proofs.convert.reserved.extension_ranges.Given as goal
 
 abbrev pub invariant-loop-range : goal.invariant-loop-range
 invariant-loop-range l =
-    let seen = map range_view (take l.range-index l.ranges) in
+    let seen = map range_syntax (take l.range-index l.ranges) in
     record {
       no_fault : flat_map (range_faults l.name) seen ≡ [];
       all : map extension_range_view l.found.items ≡ map exclusive seen;

@@ -1,7 +1,7 @@
 use Rattle.std.proofs.Common.{get_or, pos}
 use Rattle.std.proofs.lemmas.List.{get_or_default}
 use Rattle.std.proofs.lemmas.Result.{err_from_is_err_and}
-use Rattle.protobuf_parse_syntax.specs.Trees.{range_view}
+use Rattle.protobuf_parse_syntax.specs.Trees.{range_syntax}
 use Rattle.protobuf_parse_model.specs.Messages.{range_faults}
 use Rattle.protobuf_parse_model.proofs.Blaming.{blames_at}
 use Rattle.protobuf_parse_model.proofs.convert.reserved.reserved_ranges.Goals as goal
@@ -14,7 +14,7 @@ returns-in_err-reserved_range c =
     let s = get_or ranges i (record { from = pos 0; to = pos 0 }) in
     let lt = c.loop-range-test.true in
     rw (p.1, p.2)
-    (blames_at (range_faults c.args.name.now) range_view ranges i s
+    (blames_at (range_faults c.args.name.now) range_syntax ranges i s
     c.in_err-reserved_range.field-0.0 lt
     (get_or_default ranges i (record { from = pos 0; to = pos 0 }) s lt)
     c.in_err-reserved_range.ensures)

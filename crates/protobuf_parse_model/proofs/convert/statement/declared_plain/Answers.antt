@@ -1,4 +1,4 @@
-use Rattle.protobuf_parse_syntax.specs.Trees.{field_view}
+use Rattle.protobuf_parse_syntax.specs.Trees.{field_syntax}
 use Rattle.std.proofs.lemmas.Result.{err_from_is_err_and}
 use Rattle.protobuf_parse_model.proofs.SameTypes.{blames_entry, both_are, entries_are}
 use Rattle.protobuf_parse_model.proofs.convert.statement.declared_plain.Goals as goal
@@ -10,7 +10,7 @@ returns g c =
       field.0,
       both_are field.1
           (entries_are customs c.args.context.now
-          (field_view c.args.field.now) c.deref.result.now c.deref.ensures _
+          (field_syntax c.args.field.now) c.deref.result.now c.deref.ensures _
           c.in_ok-behind.ensures.1),
     )
 
@@ -20,5 +20,5 @@ returns-in_err-behind g c =
     let p = err_from_is_err_and c.from_residual.result c.from_residual.ensures.1 in
     rw (p.1, p.2)
     (blames_entry customs c.args.context.now
-    (field_view c.args.field.now) c.deref.result.now c.deref.ensures c.in_err-behind.field-0.0
+    (field_syntax c.args.field.now) c.deref.result.now c.deref.ensures c.in_err-behind.field-0.0
     c.in_err-behind.ensures)

@@ -1,5 +1,5 @@
 use Rattle.std.proofs.Common.{◌≡◌, ◌∷◌, map, flat_map, take, string_bytes}
-use Rattle.protobuf_parse_syntax.specs.Trees.{message_statement_view}
+use Rattle.protobuf_parse_syntax.specs.Trees.{message_statement_syntax}
 use Rattle.protobuf_parse_model.specs.Declarations.{a_message, declare, inside, types_of}
 use Rattle.protobuf_parse_model.specs.SeenFiles.{name_texts}
 use Rattle.protobuf_parse_model.specs.Tables.{Adds, type_entry}
@@ -14,5 +14,5 @@ invariant-add_message-loop-statement l =
       adds : Adds type_entry l.fn.table l.table l.file
           (declare scope name a_message
           ∷ flat_map (types_of (inside scope name))
-          (map message_statement_view (take l.statement-index l.statement-items)));
+          (map message_statement_syntax (take l.statement-index l.statement-items)));
     }

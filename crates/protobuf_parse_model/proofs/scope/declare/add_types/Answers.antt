@@ -1,5 +1,5 @@
 use Rattle.std.proofs.Common.{◌∙◌, [], subst}
-use Rattle.protobuf_parse_syntax.specs.Trees.{statement_view}
+use Rattle.protobuf_parse_syntax.specs.Trees.{statement_syntax}
 use Rattle.protobuf_parse_model.specs.Declarations.{Scope, statement_types}
 use Rattle.protobuf_parse_model.specs.SeenFiles.{name_texts}
 use Rattle.protobuf_parse_model.specs.Tables.{Adds, type_entry}
@@ -11,12 +11,12 @@ loop-statement-preserved c =
     let within = c.loop-statement.invariant.within in
     let more = subst
     (λ (s : Scope). Adds type_entry c.loop-statement.table c.add_declared.new.table c.args.file
-    (statement_types s (statement_view c.statement-item.result))) within
+    (statement_types s (statement_syntax c.statement-item.result))) within
     c.in_ok-add_declared.ensures.adds in
     record {
       within = c.in_ok-add_declared.ensures.scope ∙ within;
       adds = adds_next type_entry c.args.table.now c.loop-statement.table c.add_declared.new.table
-          c.args.file (statement_types (name_texts c.args.scope.now.items)) statement_view
+          c.args.file (statement_types (name_texts c.args.scope.now.items)) statement_syntax
           [] c.args.statements.now c.loop-statement.statement-index c.statement-item.result
           c.loop-statement-test.true c.statement-item.is c.loop-statement.invariant.adds more;
     }

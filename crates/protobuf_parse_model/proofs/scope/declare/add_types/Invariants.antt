@@ -1,5 +1,5 @@
 use Rattle.std.proofs.Common.{◌≡◌, map, flat_map, take}
-use Rattle.protobuf_parse_syntax.specs.Trees.{statement_view}
+use Rattle.protobuf_parse_syntax.specs.Trees.{statement_syntax}
 use Rattle.protobuf_parse_model.specs.Declarations.{statement_types}
 use Rattle.protobuf_parse_model.specs.SeenFiles.{name_texts}
 use Rattle.protobuf_parse_model.specs.Tables.{Adds, type_entry}
@@ -12,5 +12,5 @@ invariant-loop-statement l =
       within : name_texts l.scope.items ≡ scope;
       adds : Adds type_entry l.fn.table l.table l.file
           (flat_map (statement_types scope)
-          (map statement_view (take l.statement-index l.statements)));
+          (map statement_syntax (take l.statement-index l.statements)));
     }

@@ -1,5 +1,5 @@
 use Rattle.std.proofs.Common.{◌∙◌, [], subst}
-use Rattle.protobuf_parse_syntax.specs.Trees.{statement_view}
+use Rattle.protobuf_parse_syntax.specs.Trees.{statement_syntax}
 use Rattle.protobuf_parse_model.specs.Declarations.{Scope, statement_extensions}
 use Rattle.protobuf_parse_model.specs.SeenFiles.{name_texts}
 use Rattle.protobuf_parse_model.specs.Tables.{Adds, extension_entry}
@@ -11,13 +11,13 @@ loop-statement-preserved c =
     let within = c.loop-statement.invariant.within in
     let more = subst
     (λ (s : Scope). Adds extension_entry c.loop-statement.table c.add_in_file.new.table
-    c.args.file (statement_extensions s (statement_view c.statement-item.result))) within
+    c.args.file (statement_extensions s (statement_syntax c.statement-item.result))) within
     c.in_ok-add_in_file.ensures.adds in
     record {
       within = c.in_ok-add_in_file.ensures.scope ∙ within;
       adds = adds_next extension_entry c.args.table.now c.loop-statement.table
           c.add_in_file.new.table c.args.file
-          (statement_extensions (name_texts c.args.scope.now.items)) statement_view
+          (statement_extensions (name_texts c.args.scope.now.items)) statement_syntax
           [] c.args.statements.now c.loop-statement.statement-index c.statement-item.result
           c.loop-statement-test.true c.statement-item.is c.loop-statement.invariant.adds more;
     }

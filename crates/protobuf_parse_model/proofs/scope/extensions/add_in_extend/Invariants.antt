@@ -1,5 +1,5 @@
 use Rattle.std.proofs.Common.{map, take}
-use Rattle.protobuf_parse_syntax.specs.Trees.{extend_view, field_statement_view}
+use Rattle.protobuf_parse_syntax.specs.Trees.{extend_syntax, field_statement_syntax}
 use Rattle.protobuf_parse_model.specs.Declarations.{extend_extensions}
 use Rattle.protobuf_parse_model.specs.SeenFiles.{name_texts}
 use Rattle.protobuf_parse_model.specs.Tables.{Adds, extension_entry}
@@ -11,7 +11,7 @@ invariant-loop-statement l =
     (extend_extensions (name_texts l.scope)
     (record {
       place = l.extend.place;
-      extendee = (extend_view l.extend).extendee;
+      extendee = (extend_syntax l.extend).extendee;
       fields =
-          map field_statement_view (take l.statement-index l.statement-items);
+          map field_statement_syntax (take l.statement-index l.statement-items);
     }))

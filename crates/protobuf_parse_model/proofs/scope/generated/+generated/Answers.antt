@@ -2,7 +2,7 @@ use Rattle.std.proofs.Common.{◌∙◌, [], ap, sym, subst, string_bytes, List,
 use Rattle.std.proofs.lemmas.List.{take_all}
 use Rattle.std.proofs.lemmas.Result.{on_ok_weaker}
 use Rattle.protobuf_parse_syntax.specs.declared.tree.declaration.MessageStatement.{MessageStatement}
-use Rattle.protobuf_parse_syntax.specs.Trees.{message_statement_view}
+use Rattle.protobuf_parse_syntax.specs.Trees.{message_statement_syntax}
 use Rattle.protobuf_parse_model.specs.Descriptors.{Text}
 use Rattle.protobuf_parse_model.specs.Declarations.{Scope, inside, generated_of}
 use Rattle.protobuf_parse_model.specs.SeenFiles.{name_texts}
@@ -16,12 +16,12 @@ add_in_message-loop-statement-preserved t c =
     let within = c.loop-statement.invariant.within in
     let more = subst
     (λ (s : Scope). Adds generated_entry c.loop-statement.table c.add_in_body.new.table
-    c.args.file (generated_of s (message_statement_view c.statement-item.result))) within
+    c.args.file (generated_of s (message_statement_syntax c.statement-item.result))) within
     c.in_ok-add_in_body.ensures.adds in
     record {
       within = c.in_ok-add_in_body.ensures.scope ∙ within;
       adds = adds_next generated_entry c.args.table.now c.loop-statement.table
-          c.add_in_body.new.table c.args.file (generated_of scope) message_statement_view
+          c.add_in_body.new.table c.args.file (generated_of scope) message_statement_syntax
           [] c.deref-statement-items.result.now c.loop-statement.statement-index
           c.statement-item.result c.loop-statement-test.true c.statement-item.is
           c.loop-statement.invariant.adds more;
@@ -35,7 +35,7 @@ add_in_message-returns-clause-adds t c =
     let is =
     ap (λ (xs : List MessageStatement). flat_map
     (generated_of (inside outer (string_bytes c.args.message.now.name)))
-    (map message_statement_view xs)) items ∙ sym (generated-view outer c.args.message.now) in
+    (map message_statement_syntax xs)) items ∙ sym (generated-view outer c.args.message.now) in
     subst (λ (ds : List Text). Adds generated_entry c.args.table.now c.loop-statement.table
     c.args.file ds) is c.loop-statement.invariant.adds
 
@@ -43,7 +43,7 @@ pub add_in_body-returns-in-Message-clause-adds : goal.add_in_body-returns-in-Mes
 add_in_body-returns-in-Message-clause-adds t c =
     let scope = name_texts c.args.scope.now.items in
     let is = sym (generated_of-view scope c.in-Message.message)
-    ∙ ap (λ s. generated_of scope (message_statement_view s)) (sym c.in-Message.is) in
+    ∙ ap (λ s. generated_of scope (message_statement_syntax s)) (sym c.in-Message.is) in
     on_ok_weaker c.add_in_message.result
     (subst (λ (ds : List Text). Adds generated_entry c.args.table.now c.add_in_message.new.table
     c.args.file ds) is) c.add_in_message.ensures.adds

@@ -1,5 +1,5 @@
 use Rattle.std.proofs.Common.{◌≡◌, map, flat_map, take, string_bytes}
-use Rattle.protobuf_parse_syntax.specs.Trees.{message_statement_view}
+use Rattle.protobuf_parse_syntax.specs.Trees.{message_statement_syntax}
 use Rattle.protobuf_parse_model.specs.Declarations.{inside, generated_of}
 use Rattle.protobuf_parse_model.specs.SeenFiles.{name_texts}
 use Rattle.protobuf_parse_model.specs.Tables.{Adds, generated_entry}
@@ -12,5 +12,5 @@ invariant-add_in_message-loop-statement l =
       within : name_texts l.scope.items ≡ scope;
       adds : Adds generated_entry l.fn.table l.table l.file
           (flat_map (generated_of scope)
-          (map message_statement_view (take l.statement-index l.statement-items)));
+          (map message_statement_syntax (take l.statement-index l.statement-items)));
     }

@@ -1,5 +1,5 @@
 use Rattle.std.proofs.Common.{map, flat_map, take}
-use Rattle.protobuf_parse_syntax.specs.Trees.{field_statement_view}
+use Rattle.protobuf_parse_syntax.specs.Trees.{field_statement_syntax}
 use Rattle.protobuf_parse_model.specs.Declarations.{generated_by}
 use Rattle.protobuf_parse_model.specs.SeenFiles.{name_texts}
 use Rattle.protobuf_parse_model.specs.Tables.{Adds, generated_entry}
@@ -9,4 +9,4 @@ abbrev pub invariant-loop-statement : goal.invariant-loop-statement
 invariant-loop-statement l =
     Adds generated_entry l.fn.table l.table l.file
     (flat_map (generated_by (name_texts l.scope))
-    (map field_statement_view (take l.statement-index l.statement-items)))
+    (map field_statement_syntax (take l.statement-index l.statement-items)))

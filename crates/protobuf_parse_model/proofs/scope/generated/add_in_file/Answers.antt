@@ -1,6 +1,6 @@
 use Rattle.std.proofs.Common.{◌≡◌, List, flat_map, refl, subst}
 use Rattle.std.proofs.lemmas.Result.{on_ok_weaker}
-use Rattle.protobuf_parse_syntax.specs.Trees.{extend_view, statement_view}
+use Rattle.protobuf_parse_syntax.specs.Trees.{extend_syntax, statement_syntax}
 use Rattle.protobuf_parse_model.specs.Descriptors.{Text}
 use Rattle.protobuf_parse_model.specs.Declarations.{generated_by, statement_generated}
 use Rattle.protobuf_parse_model.specs.SeenFiles.{name_texts}
@@ -10,9 +10,9 @@ use Rattle.protobuf_parse_model.proofs.scope.generated.add_in_file.Goals as goal
 pub returns-in-Extend-clause-adds : goal.returns-in-Extend-clause-adds
 returns-in-Extend-clause-adds c =
     let is : flat_map (generated_by (name_texts c.deref.result.now))
-    (extend_view c.in-Extend.extend).fields
+    (extend_syntax c.in-Extend.extend).fields
     ≡ statement_generated (name_texts c.args.scope.now.items)
-    (statement_view c.args.statement.now) =
+    (statement_syntax c.args.statement.now) =
     rw (c.deref.ensures.value, c.in-Extend.is) refl in
     on_ok_weaker c.add_in_extend.result
     (subst (λ (ds : List Text). Adds generated_entry c.args.table.now c.add_in_extend.new.table

@@ -1,7 +1,7 @@
 use Rattle.std.proofs.Common.{◌∙◌, [], ap, subst, List, map, flat_map}
 use Rattle.std.proofs.lemmas.List.{take_all}
 use Rattle.protobuf_parse_syntax.specs.declared.tree.declaration.OneOfStatement.{OneOfStatement}
-use Rattle.protobuf_parse_syntax.specs.Trees.{OneofStatementSyntax, oneof_statement_view}
+use Rattle.protobuf_parse_syntax.specs.Trees.{OneofStatementSyntax, oneof_statement_syntax}
 use Rattle.protobuf_parse_model.specs.Descriptors.{Text}
 use Rattle.protobuf_parse_model.specs.Declarations.{generated_by}
 use Rattle.protobuf_parse_model.specs.Statements.{oneof_fields}
@@ -15,7 +15,7 @@ loop-statement-preserved c =
     adds_next generated_entry c.args.table.now c.loop-statement.table c.add_of_choice.new.table
     c.args.file
     (λ (s : OneofStatementSyntax). flat_map (generated_by (name_texts c.args.scope.now))
-    (oneof_fields s)) oneof_statement_view [] c.deref-statement-items.result.now
+    (oneof_fields s)) oneof_statement_syntax [] c.deref-statement-items.result.now
     c.loop-statement.statement-index c.statement-item.result c.loop-statement-test.true
     c.statement-item.is c.loop-statement.invariant c.in_ok-add_of_choice.ensures
 
@@ -26,8 +26,8 @@ returns c =
     c.loop-statement-test.false ∙ c.deref-statement-items.ensures.value in
     let is =
     ap (λ (xs : List OneOfStatement). flat_map
-    (λ (s : OneofStatementSyntax). flat_map by (oneof_fields s)) (map oneof_statement_view xs))
+    (λ (s : OneofStatementSyntax). flat_map by (oneof_fields s)) (map oneof_statement_syntax xs))
     items ∙ flat_map-inside by oneof_fields
-    (map oneof_statement_view c.args.oneof.now.body.items) in
+    (map oneof_statement_syntax c.args.oneof.now.body.items) in
     subst (λ (ds : List Text). Adds generated_entry c.args.table.now c.loop-statement.table
     c.args.file ds) is c.loop-statement.invariant

@@ -1,5 +1,5 @@
 use Rattle.std.proofs.Common.{map, flat_map, take}
-use Rattle.protobuf_parse_syntax.specs.Trees.{OneofStatementSyntax, oneof_statement_view}
+use Rattle.protobuf_parse_syntax.specs.Trees.{OneofStatementSyntax, oneof_statement_syntax}
 use Rattle.protobuf_parse_model.specs.Declarations.{generated_by}
 use Rattle.protobuf_parse_model.specs.Statements.{oneof_fields}
 use Rattle.protobuf_parse_model.specs.SeenFiles.{name_texts}
@@ -11,4 +11,4 @@ invariant-loop-statement l =
     Adds generated_entry l.fn.table l.table l.file
     (flat_map
     (λ (s : OneofStatementSyntax). flat_map (generated_by (name_texts l.scope)) (oneof_fields s))
-    (map oneof_statement_view (take l.statement-index l.statement-items)))
+    (map oneof_statement_syntax (take l.statement-index l.statement-items)))

@@ -3,8 +3,8 @@ use Rattle.protobuf_parse_base.specs.Pairs.{both}
 use Rattle.protobuf_parse_base.specs.Readers.{size}
 use Rattle.protobuf_parse_base.specs.Combinators.{run_many}
 use Rattle.protobuf_parse_base.specs.Loops.{with_rest}
-use Rattle.protobuf_parse_syntax.specs.Trees.{ConstantFieldSyntax, constant_view}
-use Rattle.protobuf_parse_syntax.specs.Trees.{constant_field_view}
+use Rattle.protobuf_parse_syntax.specs.Trees.{ConstantFieldSyntax, constant_syntax}
+use Rattle.protobuf_parse_syntax.specs.Trees.{constant_field_syntax}
 use Rattle.protobuf_parse_syntax.specs.Nested as nest
 use Rattle.protobuf_parse_syntax.specs.Code.{left}
 use Rattle.protobuf_parse_syntax.proofs.Loops.{listed}
@@ -36,7 +36,7 @@ decreases-field_value l = 6 * l.levels + 1
 
 abbrev pub invariant-constants-others : goal.invariant-constants-others
 invariant-constants-others l = (nest.constants_of (both (nest.constant l.levels))).low.run
-    (left l.fn.tokens) ≡ listed (nest.constant l.levels) (map constant_view l.items.items)
+    (left l.fn.tokens) ≡ listed (nest.constant l.levels) (map constant_syntax l.items.items)
     (left l.tokens)
 
 abbrev pub decreases-constants-others : goal.decreases-constants-others
@@ -46,7 +46,7 @@ abbrev pub invariant-constant_fields-fields : goal.invariant-constant_fields-fie
 invariant-constant_fields-fields l =
     (nest.constant_fields_of (both (nest.constant l.levels))).low.run (left l.fn.tokens)
     ≡ with_rest (λ (v : List ConstantFieldSyntax). v) (λ (v : List ConstantFieldSyntax). v)
-    (map constant_field_view l.fields.items)
+    (map constant_field_syntax l.fields.items)
     (run_many (nest.constant_field_of (both (nest.constant l.levels))).low (left l.tokens))
 
 abbrev pub decreases-constant_fields-fields : goal.decreases-constant_fields-fields

@@ -10,7 +10,7 @@ use Rattle.protobuf_parse_syntax.proofs.parser.constant.word_constant.Goals as g
 pub returns : goal.returns
 returns c =
     let e : tree.dotted (string_bytes c.in_ok-dotted.field-0)
-    ≡ tree.constant_view (Ident c.in_ok-dotted.field-0) =
+    ≡ tree.constant_syntax (Ident c.in_ok-dotted.field-0) =
     sym (views_ident c.in_ok-dotted.field-0) in
     word_constant_name (left c.args.tokens.now) (sym c.sees_word.ensures ∙ c.if-sees_word.false)
     (sym c.sees_word-2.ensures ∙ c.if-sees_word-2.false)

@@ -1,5 +1,5 @@
 use Rattle.std.proofs.lemmas.Result.{err_from_is_err_and}
-use Rattle.protobuf_parse_syntax.specs.Trees.{reserved_view}
+use Rattle.protobuf_parse_syntax.specs.Trees.{reserved_syntax}
 use Rattle.protobuf_parse_syntax.specs.Code.{left}
 use Rattle.protobuf_parse_syntax.proofs.Wrongs.{fails_reserved_word, fails_reserved_items}
 use Rattle.protobuf_parse_syntax.proofs.Wrongs.{fails_reserved_end}
@@ -28,5 +28,5 @@ returns-in_err-symbol c =
     rw (p.1, p.2)
     (fails_reserved_end c.in_err-symbol.field-0.0 (left c.args.tokens.now)
     (left c.symbol.new.self) (left c.word.new.self) (left c.reserved_items.new.tokens)
-    (reserved_view c.in_ok-reserved.reserved) c.in_ok-word.ensures c.in_ok-reserved.ensures
+    (reserved_syntax c.in_ok-reserved.reserved) c.in_ok-word.ensures c.in_ok-reserved.ensures
     c.in_err-symbol.ensures)

@@ -3,7 +3,7 @@ use Rattle.std.proofs.lemmas.Result.{err_from_is_err_and}
 use Rattle.protobuf_parse_base.specs.Relations.{somes}
 use Rattle.protobuf_parse_base.specs.Combinators.{shorter, run_many}
 use Rattle.protobuf_parse_base.specs.Loops.{with_rest, shows_somes, goes_on, stops_here}
-use Rattle.protobuf_parse_syntax.specs.Trees.{FieldStatementSyntax, field_statement_view}
+use Rattle.protobuf_parse_syntax.specs.Trees.{FieldStatementSyntax, field_statement_syntax}
 use Rattle.protobuf_parse_syntax.specs.Nested as nest
 use Rattle.protobuf_parse_syntax.specs.Code.{left, Gives, fails_first}
 use Rattle.protobuf_parse_syntax.specs.Text.{seen_by}
@@ -19,21 +19,21 @@ field_of-returns-then-not-begins_field t c =
 
 pub field_of-returns-in-Some : goal.field_of-returns-in-Some
 field_of-returns-in-Some t c =
-    subst (λ r. Gives field_statement_view c.after_label.result (left c.after_label.new.tokens) r)
+    subst (λ r. Gives field_statement_syntax c.after_label.result (left c.after_label.new.tokens) r)
     (sym (field_labelled c.args.syntax c.args.levels c.args.inner (left c.args.tokens.now)
     (left c.label.new.tokens) c.place-place.result c.in-Some.label c.requires c.place-place.ensures
     c.in-Some.ensures)) c.after_label.ensures
 
 pub field_of-returns-in-Proto2 : goal.field_of-returns-in-Proto2
 field_of-returns-in-Proto2 t c =
-    subst (λ r. Gives field_statement_view c.map_field.result (left c.map_field.new.tokens) r)
+    subst (λ r. Gives field_statement_syntax c.map_field.result (left c.map_field.new.tokens) r)
     (sym (field_mapped c.args.syntax c.args.levels c.args.inner (left c.args.tokens.now)
     (left c.label.new.tokens) c.place-place.result c.in-Proto2.is c.requires c.place-place.ensures
     c.in-None.ensures)) c.map_field.ensures
 
 pub field_of-returns-in-Proto3 : goal.field_of-returns-in-Proto3
 field_of-returns-in-Proto3 t c =
-    subst (λ r. Gives field_statement_view c.after_label-in-Proto3.result
+    subst (λ r. Gives field_statement_syntax c.after_label-in-Proto3.result
     (left c.after_label-in-Proto3.new.tokens) r) (sym
     (field_unlabelled c.args.syntax c.args.levels c.args.inner (left c.args.tokens.now)
     (left c.label.new.tokens) c.place-place.result c.in-Proto3.is c.requires c.place-place.ensures
@@ -42,8 +42,8 @@ field_of-returns-in-Proto3 t c =
 
 pub field_statements-items-init : goal.field_statements-items-init
 field_statements-items-init t c =
-    let e : map field_statement_view c.new-fields.result.items
-    ≡ [] = ap (map field_statement_view) c.new-fields.ensures.items in
+    let e : map field_statement_syntax c.new-fields.result.items
+    ≡ [] = ap (map field_statement_syntax) c.new-fields.ensures.items in
     field_items_law c.args.syntax c.args.levels (left c.args.tokens.now)
     ∙ ap (λ (v : List FieldStatementSyntax). with_rest somes
     (λ (x : List FieldStatementSyntax). x) v
@@ -56,7 +56,7 @@ field_statements-returns-in_err-item t c =
     rw (p.1, p.2)
     (fails (nest.field_item_of c.args.syntax (nest.fields c.args.syntax c.args.levels)).low refl
     somes shows_somes (λ (v : List FieldStatementSyntax). v)
-    (map field_statement_view c.items.fields.items) (left c.items.tokens)
+    (map field_statement_syntax c.items.fields.items) (left c.items.tokens)
     (left c.field_item.new.tokens) c.in_err-item.field-0.0 _
     (sym c.begins_field_item.ensures ∙ c.items-test.true) c.in_err-item.ensures
     c.items.invariant)
@@ -64,24 +64,24 @@ field_statements-returns-in_err-item t c =
 pub field_statements-items-smaller : goal.field_statements-items-smaller
 field_statements-items-smaller t c =
     shorter (nest.field_item_of c.args.syntax (nest.fields c.args.syntax c.args.levels)).low refl
-    (left c.items.tokens) (seen_by field_statement_view c.in_ok-item.item)
+    (left c.items.tokens) (seen_by field_statement_syntax c.in_ok-item.item)
     (left c.field_item.new.tokens) c.in_ok-item.ensures
 
 pub field_statements-items-preserved : goal.field_statements-items-preserved
 field_statements-items-preserved t c =
     goes_on (nest.field_item_of c.args.syntax (nest.fields c.args.syntax c.args.levels)).low refl
     somes shows_somes (λ (v : List FieldStatementSyntax). v)
-    (map field_statement_view c.items.fields.items) _ (left c.items.tokens)
-    (seen_by field_statement_view c.in_ok-item.item) (left c.field_item.new.tokens) _
+    (map field_statement_syntax c.items.fields.items) _ (left c.items.tokens)
+    (seen_by field_statement_syntax c.in_ok-item.item) (left c.field_item.new.tokens) _
     (sym c.begins_field_item.ensures ∙ c.items-test.true) c.in_ok-item.ensures
-    (pushed field_statement_view c.items.fields.items c.push_some.new.list.items
+    (pushed field_statement_syntax c.items.fields.items c.push_some.new.list.items
     c.in_ok-item.item c.in_ok-push_some.ensures) c.items.invariant
 
 pub field_statements-returns : goal.field_statements-returns
 field_statements-returns t c =
     stops_here (nest.field_item_of c.args.syntax (nest.fields c.args.syntax c.args.levels)).low refl
     somes shows_somes (λ (v : List FieldStatementSyntax). v)
-    (map field_statement_view c.items.fields.items) (left c.items.tokens) _
+    (map field_statement_syntax c.items.fields.items) (left c.items.tokens) _
     (sym c.begins_field_item.ensures ∙ c.items-test.false) c.items.invariant
 
 pub group-returns-in_err-word : goal.group-returns-in_err-word

@@ -3,7 +3,7 @@ use Rattle.protobuf_parse_base.specs.Relations.{somes}
 use Rattle.protobuf_parse_base.specs.Readers.{size}
 use Rattle.protobuf_parse_base.specs.Combinators.{run_many}
 use Rattle.protobuf_parse_base.specs.Loops.{with_rest}
-use Rattle.protobuf_parse_syntax.specs.Trees.{FieldStatementSyntax, field_statement_view}
+use Rattle.protobuf_parse_syntax.specs.Trees.{FieldStatementSyntax, field_statement_syntax}
 use Rattle.protobuf_parse_syntax.specs.Nested as nest
 use Rattle.protobuf_parse_syntax.specs.Code.{left}
 use Rattle.protobuf_parse_syntax.proofs.parser.field.+field.Given as goal
@@ -33,7 +33,7 @@ abbrev pub invariant-field_statements-items : goal.invariant-field_statements-it
 invariant-field_statements-items l =
     (nest.field_items_of l.syntax (nest.fields l.syntax l.levels)).low.run (left l.fn.tokens)
     ≡ with_rest somes (λ (v : List FieldStatementSyntax). v)
-    (map field_statement_view l.fields.items)
+    (map field_statement_syntax l.fields.items)
     (run_many (nest.field_item_of l.syntax (nest.fields l.syntax l.levels)).low (left l.tokens))
 
 abbrev pub decreases-field_statements-items : goal.decreases-field_statements-items

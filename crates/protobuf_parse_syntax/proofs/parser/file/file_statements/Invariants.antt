@@ -3,14 +3,14 @@ use Rattle.protobuf_parse_base.specs.Relations.{somes}
 use Rattle.protobuf_parse_base.specs.Readers.{size}
 use Rattle.protobuf_parse_base.specs.Combinators.{run_many}
 use Rattle.protobuf_parse_base.specs.Loops.{with_rest}
-use Rattle.protobuf_parse_syntax.specs.Trees.{statement_view, StatementSyntax}
+use Rattle.protobuf_parse_syntax.specs.Trees.{statement_syntax, StatementSyntax}
 use Rattle.protobuf_parse_syntax.specs.Nested as nest
 use Rattle.protobuf_parse_syntax.specs.Code.{left}
 use Rattle.protobuf_parse_syntax.proofs.parser.file.file_statements.Given as goal
 
 abbrev pub invariant-items : goal.invariant-items
 invariant-items l = (nest.file_items l.syntax l.levels).low.run (left l.fn.tokens)
-    ≡ with_rest somes (λ (v : List StatementSyntax). v) (map statement_view l.statements.items)
+    ≡ with_rest somes (λ (v : List StatementSyntax). v) (map statement_syntax l.statements.items)
     (run_many (nest.file_item l.syntax l.levels).low (left l.tokens))
 
 abbrev pub decreases-items : goal.decreases-items

@@ -3,7 +3,7 @@ use Rattle.protobuf_parse_base.specs.Relations.{somes}
 use Rattle.protobuf_parse_base.specs.Readers.{size}
 use Rattle.protobuf_parse_base.specs.Combinators.{run_many}
 use Rattle.protobuf_parse_base.specs.Loops.{with_rest}
-use Rattle.protobuf_parse_syntax.specs.Trees.{message_statement_view, MessageStatementSyntax}
+use Rattle.protobuf_parse_syntax.specs.Trees.{message_statement_syntax, MessageStatementSyntax}
 use Rattle.protobuf_parse_syntax.specs.Nested as nest
 use Rattle.protobuf_parse_syntax.specs.Code.{left}
 use Rattle.protobuf_parse_syntax.proofs.parser.message.+message.Given as goal
@@ -26,7 +26,7 @@ decreases-message_statement l = 5 * l.levels + 1
 abbrev pub invariant-message_statements-items : goal.invariant-message_statements-items
 invariant-message_statements-items l = (nest.message_items l.syntax l.levels).low.run
     (left l.fn.tokens) ≡ with_rest somes (λ (v : List MessageStatementSyntax). v)
-    (map message_statement_view l.body.items)
+    (map message_statement_syntax l.body.items)
     (run_many (nest.message_item l.syntax l.levels).low (left l.tokens))
 
 abbrev pub decreases-message_statements-items : goal.decreases-message_statements-items

@@ -3,14 +3,15 @@ use Rattle.protobuf_parse_base.specs.Relations.{somes}
 use Rattle.protobuf_parse_base.specs.Readers.{size}
 use Rattle.protobuf_parse_base.specs.Combinators.{run_many}
 use Rattle.protobuf_parse_base.specs.Loops.{with_rest}
-use Rattle.protobuf_parse_syntax.specs.Trees.{oneof_statement_view, OneofStatementSyntax}
+use Rattle.protobuf_parse_syntax.specs.Trees.{oneof_statement_syntax, OneofStatementSyntax}
 use Rattle.protobuf_parse_syntax.specs.Nested as nest
 use Rattle.protobuf_parse_syntax.specs.Code.{left}
 use Rattle.protobuf_parse_syntax.proofs.parser.message.oneof_statements.Given as goal
 
 abbrev pub invariant-items : goal.invariant-items
 invariant-items l = (nest.oneof_items l.syntax l.levels).low.run (left l.fn.tokens)
-    ≡ with_rest somes (λ (v : List OneofStatementSyntax). v) (map oneof_statement_view l.body.items)
+    ≡ with_rest somes (λ (v : List OneofStatementSyntax). v)
+    (map oneof_statement_syntax l.body.items)
     (run_many (nest.oneof_item l.syntax l.levels).low (left l.tokens))
 
 abbrev pub decreases-items : goal.decreases-items

@@ -2,7 +2,7 @@ use Rattle.std.proofs.Common.{◌≡◌, List, map}
 use Rattle.protobuf_parse_base.specs.Readers.{size}
 use Rattle.protobuf_parse_base.specs.Combinators.{run_many}
 use Rattle.protobuf_parse_base.specs.Loops.{with_rest}
-use Rattle.protobuf_parse_syntax.specs.Trees.{OptionSyntax, option_view}
+use Rattle.protobuf_parse_syntax.specs.Trees.{OptionSyntax, option_syntax}
 use Rattle.protobuf_parse_syntax.specs.Nested as nest
 use Rattle.protobuf_parse_syntax.specs.Code.{left}
 use Rattle.protobuf_parse_syntax.proofs.LongNames.{AreRead}
@@ -11,7 +11,7 @@ use Rattle.protobuf_parse_syntax.proofs.parser.option.assignments.Given as goal
 abbrev pub invariant-others : goal.invariant-others
 invariant-others l = ((nest.assignments l.levels).low.run (left l.fn.tokens)
     ≡ with_rest (λ (v : List OptionSyntax). v) (λ (v : List OptionSyntax). v)
-    (map option_view l.options.items)
+    (map option_syntax l.options.items)
     (run_many (nest.comma_assignment l.levels).low (left l.tokens)))
     × AreRead l.levels (left l.fn.tokens) (left l.tokens)
 

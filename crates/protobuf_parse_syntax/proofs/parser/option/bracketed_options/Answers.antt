@@ -1,6 +1,6 @@
 use Rattle.std.proofs.Common.{map, inl}
 use Rattle.std.proofs.lemmas.Result.{err_from_is_err_and}
-use Rattle.protobuf_parse_syntax.specs.Trees.{option_view}
+use Rattle.protobuf_parse_syntax.specs.Trees.{option_syntax}
 use Rattle.protobuf_parse_syntax.specs.Code.{left}
 use Rattle.protobuf_parse_syntax.proofs.LongNames.{fails_bracket, fails_bracketed}
 use Rattle.protobuf_parse_syntax.proofs.LongNames.{fails_close_bracket}
@@ -29,5 +29,5 @@ returns-in_err-symbol-2 c =
     rw (p.1, p.2)
     (inl (fails_close_bracket c.args.levels c.in_err-symbol-2.field-0.0 (left c.args.tokens.now)
     (left c.symbol-2.new.self) (left c.symbol.new.self) (left c.assignments.new.tokens)
-    (map option_view c.in_ok-options.options.items) c.in_ok-symbol.ensures
+    (map option_syntax c.in_ok-options.options.items) c.in_ok-symbol.ensures
     c.in_ok-options.ensures c.in_err-symbol-2.ensures))

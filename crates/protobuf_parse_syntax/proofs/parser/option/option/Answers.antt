@@ -1,5 +1,5 @@
 use Rattle.std.proofs.lemmas.Result.{err_from_is_err_and}
-use Rattle.protobuf_parse_syntax.specs.Trees.{option_view}
+use Rattle.protobuf_parse_syntax.specs.Trees.{option_syntax}
 use Rattle.protobuf_parse_syntax.specs.Code.{left}
 use Rattle.protobuf_parse_syntax.proofs.LongNames.{fails_option_word, fails_assignment}
 use Rattle.protobuf_parse_syntax.proofs.LongNames.{fails_option_end}
@@ -28,5 +28,5 @@ returns-in_err-symbol c =
     rw (p.1, p.2)
     (fails_option_end c.args.levels c.in_err-symbol.field-0.0 (left c.args.tokens.now)
     (left c.symbol.new.self) (left c.word.new.self) (left c.assignment.new.tokens)
-    (option_view c.in_ok-option.option) c.in_ok-word.ensures c.in_ok-option.ensures
+    (option_syntax c.in_ok-option.option) c.in_ok-word.ensures c.in_ok-option.ensures
     c.in_err-symbol.ensures)

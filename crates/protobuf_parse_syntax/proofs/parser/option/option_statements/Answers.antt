@@ -3,7 +3,7 @@ use Rattle.std.proofs.lemmas.Result.{err_from_is_err_and}
 use Rattle.protobuf_parse_base.specs.Relations.{somes}
 use Rattle.protobuf_parse_base.specs.Combinators.{shorter}
 use Rattle.protobuf_parse_base.specs.Loops.{shows_somes, goes_on, stops_here}
-use Rattle.protobuf_parse_syntax.specs.Trees.{OptionStatementSyntax, option_statement_view}
+use Rattle.protobuf_parse_syntax.specs.Trees.{OptionStatementSyntax, option_statement_syntax}
 use Rattle.protobuf_parse_syntax.specs.Nested as nest
 use Rattle.protobuf_parse_syntax.specs.Code.{left}
 use Rattle.protobuf_parse_syntax.specs.Text.{seen_by}
@@ -15,28 +15,28 @@ returns-in_err-item c =
     let p = err_from_is_err_and c.from_residual.result c.from_residual.ensures.1 in
     rw (p.1, p.2)
     (fails (nest.option_item c.args.levels).low refl somes shows_somes
-    (λ (v : List OptionStatementSyntax). v) (map option_statement_view c.items.options.items)
+    (λ (v : List OptionStatementSyntax). v) (map option_statement_syntax c.items.options.items)
     (left c.items.tokens) (left c.option_item.new.tokens) c.in_err-item.field-0.0 _
     (sym c.begins_option_item.ensures ∙ c.items-test.true) c.in_err-item.ensures
     c.items.invariant)
 
 pub items-smaller : goal.items-smaller
 items-smaller c = shorter (nest.option_item c.args.levels).low refl (left c.items.tokens)
-    (seen_by option_statement_view c.in_ok-item.item)
+    (seen_by option_statement_syntax c.in_ok-item.item)
     (left c.option_item.new.tokens) c.in_ok-item.ensures
 
 pub items-preserved : goal.items-preserved
 items-preserved c =
     goes_on (nest.option_item c.args.levels).low refl somes shows_somes
-    (λ (v : List OptionStatementSyntax). v) (map option_statement_view c.items.options.items) _
-    (left c.items.tokens) (seen_by option_statement_view c.in_ok-item.item)
+    (λ (v : List OptionStatementSyntax). v) (map option_statement_syntax c.items.options.items) _
+    (left c.items.tokens) (seen_by option_statement_syntax c.in_ok-item.item)
     (left c.option_item.new.tokens) _
     (sym c.begins_option_item.ensures ∙ c.items-test.true) c.in_ok-item.ensures
-    (pushed option_statement_view c.items.options.items c.push_some.new.list.items
+    (pushed option_statement_syntax c.items.options.items c.push_some.new.list.items
     c.in_ok-item.item c.in_ok-push_some.ensures) c.items.invariant
 
 pub returns : goal.returns
 returns c = stops_here (nest.option_item c.args.levels).low refl somes shows_somes
-    (λ (v : List OptionStatementSyntax). v) (map option_statement_view c.items.options.items)
+    (λ (v : List OptionStatementSyntax). v) (map option_statement_syntax c.items.options.items)
     (left c.items.tokens) _ (sym c.begins_option_item.ensures ∙ c.items-test.false)
     c.items.invariant

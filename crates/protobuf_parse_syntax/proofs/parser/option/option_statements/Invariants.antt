@@ -3,7 +3,7 @@ use Rattle.protobuf_parse_base.specs.Relations.{somes}
 use Rattle.protobuf_parse_base.specs.Readers.{size}
 use Rattle.protobuf_parse_base.specs.Combinators.{run_many}
 use Rattle.protobuf_parse_base.specs.Loops.{with_rest}
-use Rattle.protobuf_parse_syntax.specs.Trees.{OptionStatementSyntax, option_statement_view}
+use Rattle.protobuf_parse_syntax.specs.Trees.{OptionStatementSyntax, option_statement_syntax}
 use Rattle.protobuf_parse_syntax.specs.Nested as nest
 use Rattle.protobuf_parse_syntax.specs.Code.{left}
 use Rattle.protobuf_parse_syntax.proofs.parser.option.option_statements.Given as goal
@@ -11,7 +11,7 @@ use Rattle.protobuf_parse_syntax.proofs.parser.option.option_statements.Given as
 abbrev pub invariant-items : goal.invariant-items
 invariant-items l = (nest.option_items l.levels).low.run (left l.fn.tokens)
     ≡ with_rest somes (λ (v : List OptionStatementSyntax). v)
-    (map option_statement_view l.options.items)
+    (map option_statement_syntax l.options.items)
     (run_many (nest.option_item l.levels).low (left l.tokens))
 
 abbrev pub decreases-items : goal.decreases-items

@@ -3,7 +3,7 @@ use Rattle.protobuf_parse_base.specs.Relations.{somes}
 use Rattle.protobuf_parse_base.specs.Readers.{size}
 use Rattle.protobuf_parse_base.specs.Combinators.{run_many}
 use Rattle.protobuf_parse_base.specs.Loops.{with_rest}
-use Rattle.protobuf_parse_syntax.specs.Trees.{service_statement_view, ServiceStatementSyntax}
+use Rattle.protobuf_parse_syntax.specs.Trees.{service_statement_syntax, ServiceStatementSyntax}
 use Rattle.protobuf_parse_syntax.specs.Nested as nest
 use Rattle.protobuf_parse_syntax.specs.Code.{left}
 use Rattle.protobuf_parse_syntax.proofs.parser.service.service_statements.Given as goal
@@ -11,7 +11,7 @@ use Rattle.protobuf_parse_syntax.proofs.parser.service.service_statements.Given 
 abbrev pub invariant-items : goal.invariant-items
 invariant-items l = (nest.service_items l.syntax l.levels).low.run (left l.fn.tokens)
     ≡ with_rest somes (λ (v : List ServiceStatementSyntax). v)
-    (map service_statement_view l.body.items)
+    (map service_statement_syntax l.body.items)
     (run_many (nest.service_item l.syntax l.levels).low (left l.tokens))
 
 abbrev pub decreases-items : goal.decreases-items

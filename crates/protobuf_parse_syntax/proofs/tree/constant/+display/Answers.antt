@@ -3,7 +3,7 @@ use Rattle.std.proofs.Common.{map, ap, refl, ◌∙◌, rules}
 use Rattle.std.proofs.Output.{has_written_of_eq}
 use Rattle.std.proofs.lemmas.Grind.{put_three}
 use Rattle.protobuf_parse_syntax.specs.Formats.{format, list_text, message_text}
-use Rattle.protobuf_parse_syntax.specs.Trees.{constant_view, constant_field_view}
+use Rattle.protobuf_parse_syntax.specs.Trees.{constant_syntax, constant_field_syntax}
 use Rattle.protobuf_parse_syntax.proofs.Formats.{join-take, is_ok-from, format-number}
 use Rattle.protobuf_parse_syntax.proofs.Formats.{format-signed, format-truth, format-ident}
 use Rattle.protobuf_parse_syntax.proofs.Formats.{format-text, format-list, format-message}
@@ -37,14 +37,14 @@ write_constant-returns-in-String g t c = λ plain ok.
 pub write_constant-returns-in-List : goal.write_constant-returns-in-List
 write_constant-returns-in-List g t c = λ plain ok.
     has_written_of_eq _ _ _ _ _
-    (ap (λ xs. list_text (map constant_view xs)) c.as_slice.ensures.value
+    (ap (λ xs. list_text (map constant_syntax xs)) c.as_slice.ensures.value
     ∙ format-list c.args.constant.now c.in-List.items c.in-List.is) (c.write_list.ensures plain
     ok)
 
 pub write_constant-returns-in-Message : goal.write_constant-returns-in-Message
 write_constant-returns-in-Message g t c = λ plain ok.
     has_written_of_eq _ _ _ _ _
-    (ap (λ xs. message_text (map constant_field_view xs)) c.as_slice-in-Message.ensures.value
+    (ap (λ xs. message_text (map constant_field_syntax xs)) c.as_slice-in-Message.ensures.value
     ∙ format-message c.args.constant.now c.in-Message.fields
     c.in-Message.is) (c.write_message.ensures plain ok)
 
@@ -56,7 +56,7 @@ write_items-loop-i-preserved g t c = λ plain.
     let item = c.write_constant.ensures between.plain
     (is_ok-from c.write_constant.result _ c.in_ok-write_constant.was) in
     put_three _ _ _ _ _ _ _ _ _ before between item
-    (join-take format constant_view 44 c.args.items.now c.loop-i.i c.index-items-i.result
+    (join-take format constant_syntax 44 c.args.items.now c.loop-i.i c.index-items-i.result
     (search rules) c.index-items-i.is)
 
 pub write_list-returns : goal.write_list-returns

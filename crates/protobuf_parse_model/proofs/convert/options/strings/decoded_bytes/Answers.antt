@@ -1,7 +1,7 @@
 use Rattle.std.proofs.Common.{sym}
 use Rattle.protobuf_parse_syntax.specs.Trees.{pieces_of}
 use Rattle.protobuf_parse_model.proofs.Decodings.{bytes_said, no_bytes_said}
-use Rattle.protobuf_parse_model.proofs.convert.options.strings.bytes_of.Goals as goal
+use Rattle.protobuf_parse_model.proofs.convert.options.strings.decoded_bytes.Goals as goal
 
 pub returns-in-Ok : goal.returns-in-Ok
 returns-in-Ok c =

@@ -1,7 +1,7 @@
 use Rattle.std.proofs.Common.{sym}
 use Rattle.protobuf_parse_syntax.specs.Trees.{pieces_of}
 use Rattle.protobuf_parse_model.proofs.Decodings.{text_said, no_text_said}
-use Rattle.protobuf_parse_model.proofs.convert.options.strings.text_of.Goals as goal
+use Rattle.protobuf_parse_model.proofs.convert.options.strings.decoded_text.Goals as goal
 
 pub returns-in-Ok : goal.returns-in-Ok
 returns-in-Ok c = sym (text_said (pieces_of c.args.string.now) c.in-Ok.text c.in-Ok.ensures.text)
