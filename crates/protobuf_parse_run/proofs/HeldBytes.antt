@@ -1,8 +1,15 @@
 -- What the options messages of a descriptor hold are the bytes of its file's sets of options.
-use Rattle.std.proofs.Common.{◌≡◌, ℕ, ◌+◌, List, [], ◌∷◌, ◌++◌, map, flat_map, length}
-use Rattle.std.proofs.Common.{refl, sym, subst, inl, inr, ◌⊎◌, Bool, true, false, if◌then◌else◌}
+use Rattle.std.proofs.Common.{◌≡◌, ℕ, zero, suc, ◌+◌, List, [], ◌∷◌, ◌++◌, map, flat_map, length}
+use Rattle.std.proofs.Common.{refl, ap, sym, subst, inl, inr, ◌⊎◌, Bool, true, false, nat_lt, cond}
+use Rattle.std.proofs.Common.{if◌then◌else◌, filter, replicate, IsPermutation, arith}
+use Rattle.std.proofs.lemmas.Bool.{lt-ltb}
 use Rattle.std.proofs.lemmas.Grind.{flat_map-append}
-use Rattle.std.proofs.lemmas.List.{append-nil, append_assoc}
+use Rattle.std.proofs.lemmas.List.{append-nil, append_assoc, map-append, replicate-append-replicate}
+use Rattle.std.proofs.lemmas.List.Elements.{filter-append, All-from_recursion, recursion_from_All}
+use Rattle.std.proofs.lemmas.List.Sorted.{IsPermutation-refl, IsPermutation-sym, All-permutation}
+use Rattle.std.proofs.lemmas.List.Sorted.{IsPermutation-trans, IsPermutation-append}
+use Rattle.std.proofs.lemmas.List.Sorted.{IsPermutation-append_left, IsPermutation-append_right}
+use Rattle.std.proofs.lemmas.List.Sorted.{IsPermutation-append_comm}
 use Rattle.protobuf_parse_syntax.specs.Trees.{OptionSyntax, FieldSyntax, FieldStatementSyntax}
 use Rattle.protobuf_parse_syntax.specs.Trees.{field, group, TypeSyntax, scalar, map_of, named}
 use Rattle.protobuf_parse_syntax.specs.Trees.{EnumValueSyntax, EnumSyntax, MessageStatementSyntax}
@@ -49,102 +56,98 @@ use Rattle.protobuf_parse_run.specs.StandingBytes.{IsStated, HeldBytes, held, he
 use Rattle.protobuf_parse_run.specs.StandingBytes.{held_in_oneof, held_in_value, held_in_enum}
 use Rattle.protobuf_parse_run.specs.StandingBytes.{held_in_message, held_in_messages}
 use Rattle.protobuf_parse_run.specs.StandingBytes.{held_in_method, held_in_service, held_in_file}
-use Rattle.protobuf_parse_run.specs.StandingBytes.{held_by_set, OptionsStand, NoOthersStand}
-use Rattle.protobuf_parse_model.proofs.Blaming.{among_left, among_right}
+use Rattle.protobuf_parse_run.specs.StandingBytes.{stated, held_by_set, held_behind_map}
+use Rattle.protobuf_parse_run.specs.StandingBytes.{OptionsStand, NoOthersStand, SetsStandOnce}
+use Rattle.protobuf_parse_model.proofs.Blaming.{among_left}
+use Rattle.protobuf_parse_model.proofs.EachOne.{all-among, all-from}
 use Rattle.protobuf_parse_run.proofs.StandingBytes.{in_none, among_parts}
+
+-- ---- lists
+
+-- what a test lets through is kept
+filter_keeps : {A : Type 0} (test : A → Bool) {xs : List A} {x : A} → Among xs x → test x ≡ true
+    → Among (filter test xs) x
+filter_keeps test here e = rw e here
+filter_keeps test {xs = y ∷ ys} (there w) e = later (test y) y (filter_keeps test w e)
+  where
+    later : {A : Type 0} {x : A} {zs : List A} (b : Bool) (z : A) → Among zs x
+        → Among (cond b (z ∷ zs) zs) x
+    later true z k = there k
+    later false z k = k
+
+-- and nothing else
+filter_passes : {A : Type 0} (test : A → Bool) (xs : List A) {x : A} → Among (filter test xs) x
+    → Among xs x × (test x ≡ true)
+filter_passes test [] w = absurd (in_none w)
+filter_passes test (y ∷ ys) w =
+    elim (at (test y) y (filter test ys) w) [
+      | inl f ↦ (rw f.0 here, rw f.0 f.1)
+      | inr v ↦ let h = filter_passes test ys v in (there h.0, h.1)
+    ]
+  where
+    at : {A : Type 0} {x : A} (b : Bool) (z : A) (zs : List A) → Among (cond b (z ∷ zs) zs) x
+        → ((x ≡ z) × (b ≡ true)) ⊎ Among zs x
+    at true z zs here = inl (refl, refl)
+    at true z zs (there w) = inr w
+    at false z zs w = inr w
+
+-- what an element becomes stands among what all become
+map_keeps : {A B : Type 0} (f : A → B) {xs : List A} {x : A} → Among xs x → Among (map f xs) (f x)
+map_keeps f here = here
+map_keeps f (there w) = there (map_keeps f w)
+
+-- and nothing else
+map_from : {A B : Type 0} (f : A → B) (xs : List A) {y : B} → Among (map f xs) y
+    → (x : A) × Among xs x × (y ≡ f x)
+map_from f [] w = absurd (in_none w)
+map_from f (x ∷ xs) here = (x, here, refl)
+map_from f (x ∷ xs) (there w) = let h = map_from f xs w in (h.0, there h.1, h.2)
+
+-- among equal ones there is no other
+replicate_from : {A : Type 0} (n : ℕ) (x : A) {y : A} → Among (replicate n x) y → y ≡ x
+replicate_from zero x w = absurd (in_none w)
+replicate_from (suc n) x here = refl
+replicate_from (suc n) x (there w) = replicate_from n x w
 
 -- ---- lists of what is held
 
--- the same stands in both
-record Alike (hs ks : List HeldBytes) : Type 0 where
-  goes : {h : HeldBytes} → Among hs h → Among ks h
-  comes : {h : HeldBytes} → Among ks h → Among hs h
-
-alike_by : (hs ks : List HeldBytes) → hs ≡ ks → Alike hs ks
-alike_by hs ks e =
-    record {
-      goes = λ {h} a. subst (λ (z : List HeldBytes). Among z h) e a;
-      comes = λ {h} a. subst (λ (z : List HeldBytes). Among z h) (sym e) a;
-    }
-
--- the second part before the first
-alike_turned : (hs ks : List HeldBytes) → Alike (hs ++ ks) (ks ++ hs)
-alike_turned hs ks =
-    record {
-      goes = λ h. elim (among_parts hs ks h) [
-        | inl w ↦ among_right ks w
-        | inr w ↦ among_left hs w
-      ];
-      comes = λ h. elim (among_parts ks hs h) [
-        | inl w ↦ among_right hs w
-        | inr w ↦ among_left ks w
-      ];
-    }
+-- what stands there stands there in any order
+among_moved : {hs ks : List HeldBytes} {h : HeldBytes} → IsPermutation hs ks → Among hs h
+    → Among ks h
+among_moved {hs = hs} {ks = ks} p a =
+    all-among (Among ks) a (recursion_from_All (Among ks) hs
+    (All-permutation (Among ks) ks hs (IsPermutation-sym hs ks p)
+    (All-from_recursion (Among ks) ks (all-from (Among ks) ks (λ x w. w)))))
 
 -- the first part behind the second
-alike_second : (hs ks ls : List HeldBytes) → Alike (hs ++ (ks ++ ls)) (ks ++ hs ++ ls)
-alike_second hs ks ls =
-    record {
-      goes = λ h. elim (among_parts hs (ks ++ ls) h) [
-        | inl w ↦ among_left ls (among_right ks w)
-        | inr w ↦ elim (among_parts ks ls w) [
-          | inl v ↦ among_left ls (among_left hs v)
-          | inr v ↦ among_right (ks ++ hs) v
-        ]
-      ];
-      comes = λ h. elim (among_parts (ks ++ hs) ls h) [
-        | inl w ↦ elim (among_parts ks hs w) [
-          | inl v ↦ among_right hs (among_left ls v)
-          | inr v ↦ among_left (ks ++ ls) v
-        ]
-        | inr w ↦ among_right hs (among_right ks w)
-      ];
-    }
-
-alike_back : {hs ks : List HeldBytes} → Alike hs ks → Alike ks hs
-alike_back a = record { goes = a.comes; comes = a.goes }
+second_first : (hs ks ls : List HeldBytes) → IsPermutation (hs ++ (ks ++ ls)) (ks ++ hs ++ ls)
+second_first hs ks ls =
+    rw (← append_assoc hs ks ls)
+    (IsPermutation-append_left ls (hs ++ ks) (ks ++ hs) (IsPermutation-append_comm hs ks))
 
 -- Parts of two lists: the first parts together and the last parts together, or those of each list.
-alike_sorted : (hs ks fore more last : List HeldBytes) → Alike fore (hs ++ ks)
-    → Alike (fore ++ (more ++ last)) ((hs ++ more) ++ (ks ++ last))
-alike_sorted hs ks fore more last k =
-    record {
-      goes = λ h. elim (among_parts fore (more ++ last) h) [
-        | inl w ↦ elim (among_parts hs ks (k.goes w)) [
-          | inl v ↦ among_left (ks ++ last) (among_left more v)
-          | inr v ↦ among_right (hs ++ more) (among_left last v)
-        ]
-        | inr w ↦ elim (among_parts more last w) [
-          | inl v ↦ among_left (ks ++ last) (among_right hs v)
-          | inr v ↦ among_right (hs ++ more) (among_right ks v)
-        ]
-      ];
-      comes = λ h. elim (among_parts (hs ++ more) (ks ++ last) h) [
-        | inl w ↦ elim (among_parts hs more w) [
-          | inl v ↦ among_left (more ++ last) (k.comes (among_left ks v))
-          | inr v ↦ among_right fore (among_left last v)
-        ]
-        | inr w ↦ elim (among_parts ks last w) [
-          | inl v ↦ among_left (more ++ last) (k.comes (among_right hs v))
-          | inr v ↦ among_right fore (among_right more v)
-        ]
-      ];
-    }
+both_sorted : (hs ks fore more last : List HeldBytes) → IsPermutation fore (hs ++ ks)
+    → IsPermutation (fore ++ (more ++ last)) ((hs ++ more) ++ (ks ++ last))
+both_sorted hs ks fore more last p =
+    let turned = IsPermutation-append_right hs _ _ (second_first ks more last) in
+    IsPermutation-trans _ _ _ (IsPermutation-append_left (more ++ last) _ _ p)
+    (rw (append_assoc hs ks (more ++ last), append_assoc hs more (ks ++ last))
+    (rw (append_assoc more ks last) at turned))
 
 -- where each has four parts, or five
 four_sorted : (xs bs cs ds es fs gs hs : List HeldBytes)
-    → Alike ((xs ++ es) ++ (bs ++ fs) ++ (cs ++ gs) ++ (ds ++ hs))
+    → IsPermutation ((xs ++ es) ++ (bs ++ fs) ++ (cs ++ gs) ++ (ds ++ hs))
     ((xs ++ bs ++ cs ++ ds) ++ (es ++ fs ++ gs ++ hs))
 four_sorted xs bs cs ds es fs gs hs =
-    alike_sorted (xs ++ bs ++ cs) (es ++ fs ++ gs) ((xs ++ es) ++ (bs ++ fs) ++ (cs ++ gs)) ds hs
-    (alike_sorted (xs ++ bs) (es ++ fs) ((xs ++ es) ++ (bs ++ fs)) cs gs
-    (alike_sorted xs es (xs ++ es) bs fs (alike_by (xs ++ es) (xs ++ es) refl)))
+    both_sorted (xs ++ bs ++ cs) (es ++ fs ++ gs) ((xs ++ es) ++ (bs ++ fs) ++ (cs ++ gs)) ds hs
+    (both_sorted (xs ++ bs) (es ++ fs) ((xs ++ es) ++ (bs ++ fs)) cs gs
+    (both_sorted xs es (xs ++ es) bs fs (IsPermutation-refl (xs ++ es))))
 
 five_sorted : (xs bs cs ds is es fs gs hs js : List HeldBytes)
-    → Alike ((xs ++ es) ++ (bs ++ fs) ++ (cs ++ gs) ++ (ds ++ hs) ++ (is ++ js))
+    → IsPermutation ((xs ++ es) ++ (bs ++ fs) ++ (cs ++ gs) ++ (ds ++ hs) ++ (is ++ js))
     ((xs ++ bs ++ cs ++ ds ++ is) ++ (es ++ fs ++ gs ++ hs ++ js))
 five_sorted xs bs cs ds is es fs gs hs js =
-    alike_sorted (xs ++ bs ++ cs ++ ds) (es ++ fs ++ gs ++ hs)
+    both_sorted (xs ++ bs ++ cs ++ ds) (es ++ fs ++ gs ++ hs)
     ((xs ++ es) ++ (bs ++ fs) ++ (cs ++ gs) ++ (ds ++ hs)) is js
     (four_sorted xs bs cs ds es fs gs hs)
 
@@ -184,109 +187,80 @@ extend_parted hs ks = simp append-nil refl
 
 -- ---- what is held for sets
 
+statement_there : (o : OptionSyntax) (os : List OptionSyntax) → nat_lt 0 (length (o ∷ os)) ≡ true
+statement_there o os = lt-ltb 0 (length (o ∷ os)) (omega arith)
+
 module _ (customs : Customs) where
-  -- these are held for just these sets
+  -- what the sets among these that have a statement are to hold
+  abbrev to_hold : List OptionSet → List HeldBytes
+  to_hold sets = map (held_by_set customs) (stated sets)
+
+  to_hold-append : (xs ys : List OptionSet) → to_hold (xs ++ ys) ≡ to_hold xs ++ to_hold ys
+  to_hold-append xs ys = simp (filter-append, map-append) refl
+
+  -- these are held for just these sets, and behind so many maps
   record HeldFor (sets : List OptionSet) (hs : List HeldBytes) : Type 0 where
-    stands : (s : OptionSet) → Among sets s → IsStated s → Among hs (held_by_set customs s)
-    others : (h : HeldBytes) → Among hs h → (h.bytes ≡ [])
-        ⊎ ((s : OptionSet) × Among sets s × IsStated s × (h ≡ held_by_set customs s))
+    maps : ℕ
+    held_so : IsPermutation hs (to_hold sets ++ replicate maps held_behind_map)
 
   none_held : HeldFor [] []
-  none_held =
-      record {
-        stands = λ s a stated. absurd (in_none a);
-        others = λ h a. absurd (in_none a);
-      }
+  none_held = record { maps = 0; held_so = IsPermutation-refl [] }
 
   -- what is held for some and what is held for others
   both_held : (xs ys : List OptionSet) (hs ks : List HeldBytes) → HeldFor xs hs → HeldFor ys ks
       → HeldFor (xs ++ ys) (hs ++ ks)
   both_held xs ys hs ks a b =
+      let behind = replicate a.maps held_behind_map in
+      let rest = replicate b.maps held_behind_map in
       record {
-        stands = λ s w stated. elim (among_parts xs ys w) [
-          | inl v ↦ among_left ks (a.stands s v stated)
-          | inr v ↦ among_right hs (b.stands s v stated)
-        ];
-        others = λ h w. elim (among_parts hs ks w) [
-          | inl v ↦ elim (a.others h v) [
-            | inl empty ↦ inl empty
-            | inr f ↦ inr (f.0, among_left ys f.1, f.2, f.3)
-          ]
-          | inr v ↦ elim (b.others h v) [
-            | inl empty ↦ inl empty
-            | inr f ↦ inr (f.0, among_right xs f.1, f.2, f.3)
-          ]
-        ];
+        maps = a.maps + b.maps;
+        held_so =
+            rw (to_hold-append xs ys, ← replicate-append-replicate a.maps b.maps held_behind_map)
+            (IsPermutation-trans _ _ _ (IsPermutation-append hs _ ks _ a.held_so b.held_so)
+            (both_sorted (to_hold xs) behind (to_hold xs ++ behind) (to_hold ys) rest
+            (IsPermutation-refl (to_hold xs ++ behind))));
       }
 
   -- in whatever order
-  alike_held : (sets : List OptionSet) (hs ks : List HeldBytes) → Alike hs ks → HeldFor sets hs
-      → HeldFor sets ks
-  alike_held sets hs ks k a =
+  moved_held : (sets : List OptionSet) (hs ks : List HeldBytes) → IsPermutation hs ks
+      → HeldFor sets hs → HeldFor sets ks
+  moved_held sets hs ks p a =
       record {
-        stands = λ s w stated. k.goes (a.stands s w stated);
-        others = λ h w. a.others h (k.comes w);
+        maps = a.maps;
+        held_so = IsPermutation-trans _ _ _ (IsPermutation-sym hs ks p) a.held_so;
       }
+
+  equal_held : (sets : List OptionSet) (hs ks : List HeldBytes) → hs ≡ ks → HeldFor sets hs
+      → HeldFor sets ks
+  equal_held sets hs ks e a = subst (HeldFor sets) e a
 
   turned_held : (sets : List OptionSet) (hs ks ls : List HeldBytes) → hs ++ ks ≡ ls
       → HeldFor sets (ks ++ hs) → HeldFor sets ls
   turned_held sets hs ks ls e a =
-      alike_held sets (hs ++ ks) ls (alike_by (hs ++ ks) ls e)
-      (alike_held sets (ks ++ hs) (hs ++ ks) (alike_turned ks hs) a)
+      equal_held sets (hs ++ ks) ls e
+      (moved_held sets (ks ++ hs) (hs ++ ks) (IsPermutation-append_comm ks hs) a)
 
-  equal_held : (sets : List OptionSet) (hs ks : List HeldBytes) → hs ≡ ks → HeldFor sets hs
-      → HeldFor sets ks
-  equal_held sets hs ks e a = alike_held sets hs ks (alike_by hs ks e) a
-
-  -- by an options message without bytes
-  empty_held : (h : HeldBytes) → h.bytes ≡ [] → HeldFor [] (h ∷ [])
-  empty_held h empty =
-      record {
-        stands = λ s a stated. absurd (in_none a);
-        others = only h empty;
-      }
-    where
-      only : (h : HeldBytes) → h.bytes ≡ [] → (k : HeldBytes) → Among (h ∷ []) k → (k.bytes ≡ [])
-          ⊎ ((s : OptionSet) × Among [] s × IsStated s × (k ≡ held_by_set customs s))
-      only h empty _ here = inl empty
-      only h empty k (there w) = absurd (in_none w)
+  -- behind a map
+  map_held : HeldFor [] (held_behind_map ∷ [])
+  map_held = record { maps = 1; held_so = IsPermutation-refl (held_behind_map ∷ []) }
 
   -- by the options message that is made where a statement stands
   set_held : {A : Type 0} (custom : A → Text) (construct : Construct) (scope : Scope)
       (os : List OptionSyntax) (options : A)
       → custom options ≡ customs.bytes construct scope os
       → HeldFor (a_set construct scope os ∷ []) (held custom construct (where_any os options))
-  set_held custom construct scope os options is =
-      record {
-        stands = stood os is;
-        others = only os is;
-      }
-    where
-      stood : (os : List OptionSyntax) → custom options ≡ customs.bytes construct scope os
-          → (s : OptionSet) → Among (a_set construct scope os ∷ []) s → IsStated s
-          → Among (held custom construct (where_any os options)) (held_by_set customs s)
-      stood [] is _ here stated = absurd (stated refl)
-      stood (o ∷ os) is _ here stated = rw (sym is) here
-      stood os is s (there w) stated = absurd (in_none w)
-
-      only : (os : List OptionSyntax) → custom options ≡ customs.bytes construct scope os
-          → (h : HeldBytes) → Among (held custom construct (where_any os options)) h
-          → (h.bytes ≡ [])
-          ⊎ ((s : OptionSet) × Among (a_set construct scope os ∷ []) s × IsStated s
-          × (h ≡ held_by_set customs s))
-      only [] is h w = absurd (in_none w)
-      only (o ∷ os) is _ here =
-          inr (a_set construct scope (o ∷ os), here, (λ none. cc), rw is refl)
-      only (o ∷ os) is h (there w) = absurd (in_none w)
+  set_held custom construct scope [] options is = none_held
+  set_held custom construct scope (o ∷ os) options is =
+      record { maps = 0; held_so = rw (statement_there o os, is) (IsPermutation-refl _) }
 
   -- each element becomes one
-  map_held : {X A : Type 0} (sets : X → List OptionSet) (f : X → A) (g : A → List HeldBytes)
+  all_held : {X A : Type 0} (sets : X → List OptionSet) (f : X → A) (g : A → List HeldBytes)
       → ((x : X) → HeldFor (sets x) (g (f x))) → (xs : List X)
       → HeldFor (flat_map sets xs) (flat_map g (map f xs))
-  map_held sets f g each [] = none_held
-  map_held sets f g each (x ∷ xs) =
+  all_held sets f g each [] = none_held
+  all_held sets f g each (x ∷ xs) =
       both_held (sets x) (flat_map sets xs) (g (f x)) (flat_map g (map f xs)) (each x)
-      (map_held sets f g each xs)
+      (all_held sets f g each xs)
 
   -- and has one set
   each_held : {X A : Type 0} (set : X → OptionSet) (f : X → A) (g : A → List HeldBytes)
@@ -311,11 +285,10 @@ grouped_held : (env : Environment) (s : FieldStatementSyntax)
 grouped_held env (field f) = field_held env plain f
 grouped_held env (group at label name number fields) = none_held env.customs
 
--- the message behind a map holds no bytes
+-- the message behind a map
 entries_held : (env : Environment) (name : Text) (t : TypeSyntax)
     → HeldFor env.customs [] (flat_map held_in_message (entries_of env name t))
-entries_held env name (map_of key value) =
-    empty_held env.customs (record { construct = of.Message; bytes = [] }) refl
+entries_held env name (map_of key value) = map_held env.customs
 entries_held env name (scalar s) = none_held env.customs
 entries_held env name (named n) = none_held env.customs
 
@@ -333,7 +306,7 @@ statement_of_field_held env p (group at label name number fields) =
     let hs = flat_map held_in_field (map (field_statement_of env plain) (group_body fields)) in
     equal_held env.customs (flat_map (sets_in_group env.scope) (group_body fields)) hs _
     (group_parted hs)
-    (map_held env.customs (sets_in_group env.scope) (field_statement_of env plain) held_in_field
+    (all_held env.customs (sets_in_group env.scope) (field_statement_of env plain) held_in_field
     (grouped_held env) (group_body fields))
 
 -- several in one place
@@ -348,10 +321,10 @@ fields_held env p (s ∷ ss) =
     let behind = flat_map held_in_message (messages_behind env s) in
     let rest = flat_map held_in_message (flat_map (messages_behind env) ss) in
     rw (flat_map-append held_in_message (messages_behind env s) (flat_map (messages_behind env) ss))
-    (alike_held env.customs (flat_map (field_sets env.scope) (s ∷ ss))
+    (moved_held env.customs (flat_map (field_sets env.scope) (s ∷ ss))
     ((one ++ behind) ++ (more ++ rest)) ((one ++ more) ++ (behind ++ rest))
-    (alike_back (alike_sorted one more (one ++ more) behind rest
-    (alike_by (one ++ more) (one ++ more) refl)))
+    (IsPermutation-sym _ _ (both_sorted one more (one ++ more) behind rest
+    (IsPermutation-refl (one ++ more))))
     (both_held env.customs (field_sets env.scope s) (flat_map (field_sets env.scope) ss)
     (one ++ behind) (more ++ rest) (statement_of_field_held env p s) (fields_held env p ss)))
 
@@ -396,7 +369,7 @@ held_in_parts fs os es xs ms = flat_map held_in_field fs ++ flat_map held_in_one
 -- part by part of two
 parts_sorted : (fs gs : List FieldDescriptor) (os ps : List OneofDescriptor)
     (es ds : List EnumDescriptor) (xs ys : List FieldDescriptor) (ms ns : List MessageDescriptor)
-    → Alike (held_in_parts fs os es xs ms ++ held_in_parts gs ps ds ys ns)
+    → IsPermutation (held_in_parts fs os es xs ms ++ held_in_parts gs ps ds ys ns)
     (held_in_parts (fs ++ gs) (os ++ ps) (es ++ ds) (xs ++ ys) (ms ++ ns))
 parts_sorted fs gs os ps es ds xs ys ms ns =
     rw (
@@ -406,7 +379,7 @@ parts_sorted fs gs os ps es ds xs ys ms ns =
       flat_map-append held_in_field xs ys,
       flat_map-append held_in_message ms ns,
     )
-    (alike_back (five_sorted (flat_map held_in_field fs) (flat_map held_in_oneof os)
+    (IsPermutation-sym _ _ (five_sorted (flat_map held_in_field fs) (flat_map held_in_oneof os)
     (flat_map held_in_enum es) (flat_map held_in_field xs) (flat_map held_in_message ms)
     (flat_map held_in_field gs) (flat_map held_in_oneof ps) (flat_map held_in_enum ds)
     (flat_map held_in_field ys) (flat_map held_in_message ns)))
@@ -462,7 +435,7 @@ more_held : (env : Environment) (index : ℕ) (s : MessageStatementSyntax)
     → HeldFor env.customs ys (held_in_body env (index + length (oneofs_of env s)) ss ms)
     → HeldFor env.customs (xs ++ ys) (held_in_body env index (s ∷ ss) (nested_of env s ++ ms))
 more_held env index s ss ms xs ys a b =
-    alike_held env.customs (xs ++ ys)
+    moved_held env.customs (xs ++ ys)
     (held_in_statement env index s
     ++ held_in_body env (index + length (oneofs_of env s)) ss ms)
     (held_in_body env index (s ∷ ss) (nested_of env s ++ ms))
@@ -495,8 +468,8 @@ oneof_held env index o =
     let behind = flat_map held_in_message (flat_map (messages_behind env) fs) in
     equal_held env.customs (oneof_sets env.scope o) (ones ++ own ++ behind)
     (held_in_statement env index (message_oneof o)) (oneof_parted ones own behind)
-    (alike_held env.customs (oneof_sets env.scope o) (own ++ (ones ++ behind))
-    (ones ++ own ++ behind) (alike_second own ones behind)
+    (moved_held env.customs (oneof_sets env.scope o) (own ++ (ones ++ behind))
+    (ones ++ own ++ behind) (second_first own ones behind)
     (both_held env.customs (a_set of.Oneof env.scope (options_in_oneof o) ∷ [])
     (flat_map (field_sets env.scope) fs) own (ones ++ behind)
     (set_held env.customs (λ (d : OneofOptionValues). d.custom) of.Oneof env.scope
@@ -558,7 +531,7 @@ held_in_all ms es vs xs = flat_map held_in_message ms ++ flat_map held_in_enum e
 
 all_sorted : (ms ns : List MessageDescriptor) (es ds : List EnumDescriptor)
     (vs ws : List ServiceDescriptor) (xs ys : List FieldDescriptor)
-    → Alike (held_in_all ms es vs xs ++ held_in_all ns ds ws ys)
+    → IsPermutation (held_in_all ms es vs xs ++ held_in_all ns ds ws ys)
     (held_in_all (ms ++ ns) (es ++ ds) (vs ++ ws) (xs ++ ys))
 all_sorted ms ns es ds vs ws xs ys =
     rw (
@@ -567,7 +540,7 @@ all_sorted ms ns es ds vs ws xs ys =
       flat_map-append held_in_service vs ws,
       flat_map-append held_in_field xs ys,
     )
-    (alike_back (four_sorted (flat_map held_in_message ms) (flat_map held_in_enum es)
+    (IsPermutation-sym _ _ (four_sorted (flat_map held_in_message ms) (flat_map held_in_enum es)
     (flat_map held_in_service vs) (flat_map held_in_field xs) (flat_map held_in_message ns)
     (flat_map held_in_enum ds) (flat_map held_in_service ws) (flat_map held_in_field ys)))
 
@@ -601,7 +574,7 @@ file_statements_held : (env : Environment) (ss : List StatementSyntax)
     (flat_map (services_of env) ss) (flat_map (files.file_extensions_of env) ss))
 file_statements_held env [] = none_held env.customs
 file_statements_held env (s ∷ ss) =
-    alike_held env.customs (flat_map (statement_sets env.scope) (s ∷ ss)) _ _
+    moved_held env.customs (flat_map (statement_sets env.scope) (s ∷ ss)) _ _
     (all_sorted (file_messages_of env s) (flat_map (file_messages_of env) ss)
     (files.file_enums_of env s) (flat_map (files.file_enums_of env) ss) (services_of env s)
     (flat_map (services_of env) ss) (files.file_extensions_of env s)
@@ -625,8 +598,43 @@ file_held seen customs path t =
     (options_of_statements t.statements) _ refl)
     (file_statements_held env t.statements))
 
+-- ---- the laws
+
+abbrev has_statement : OptionSet → Bool
+has_statement s = nat_lt 0 (length s.statements)
+
+-- the test tells that a statement stands there
+told_stated : (s : OptionSet) → IsStated s → has_statement s ≡ true
+told_stated s is = at s.statements is
+  where
+    at : (os : List OptionSyntax) → (os ≡ [] → ⊥) → nat_lt 0 (length os) ≡ true
+    at [] is = absurd (is refl)
+    at (o ∷ os) is = statement_there o os
+
+-- and nothing else
+stated_told : (s : OptionSet) → has_statement s ≡ true → IsStated s
+stated_told s e none = let h : has_statement s ≡ false = rw none refl in cc
+
+pub sets_stand_once : SetsStandOnce
+sets_stand_once seen customs path t =
+    let h = file_held seen customs path t in
+    (h.maps, h.held_so)
+
 pub options_stand : OptionsStand
-options_stand seen customs path t s a stated = (file_held seen customs path t).stands s a stated
+options_stand seen customs path t s a is =
+    let h = file_held seen customs path t in
+    among_moved (IsPermutation-sym _ _ h.held_so)
+    (among_left (replicate h.maps held_behind_map)
+    (map_keeps (held_by_set customs) (filter_keeps has_statement a (told_stated s is))))
 
 pub no_others_stand : NoOthersStand
-no_others_stand seen customs path t h a = (file_held seen customs path t).others h a
+no_others_stand seen customs path t k a =
+    let h = file_held seen customs path t in
+    elim (among_parts (to_hold customs (option_sets t)) (replicate h.maps held_behind_map)
+    (among_moved h.held_so a)) [
+      | inl v ↦
+          let f = map_from (held_by_set customs) (stated (option_sets t)) v in
+          let g = filter_passes has_statement (option_sets t) f.1 in
+          inr (f.0, g.0, stated_told f.0 g.1, f.2)
+      | inr v ↦ inl (ap (λ (z : HeldBytes). z.bytes) (replicate_from h.maps held_behind_map v))
+    ]

@@ -4,14 +4,16 @@
 -- is that of a field (Protocol Buffers Language Guide (proto2), "Custom Options",
 -- https://protobuf.dev). So each options message of a descriptor holds bytes for them, in `custom`.
 -- These are the bytes of the file's sets of options: `OptionsStand` says that each set that has a
--- statement stands there, `NoOthersStand` that nothing else does. (A set without statements has no
--- options message.)
+-- statement stands there, `NoOthersStand` that nothing else does, `SetsStandOnce` that each such
+    set
+-- stands there once. (A set without statements has no options message.)
 --
 -- `BytesStand` says nothing of how a descriptor is gone through. Take two ways to write custom
 -- options as bytes. Where a file becomes the same by both, each of its sets of options that has a
 -- statement becomes the same bytes by both: so these bytes can be told from the descriptor. The
 -- other way round is `BytesAreOfSets`: the descriptor depends on no other bytes of custom options.
-use Rattle.std.specs.Prelude.{◌≡◌, ◌⊎◌, List, [], ◌∷◌, ◌++◌, flat_map, Option, Some, None}
+use Rattle.std.specs.Prelude.{◌≡◌, ◌⊎◌, ℕ, nat_lt, List, [], ◌∷◌, ◌++◌, map, flat_map, filter}
+use Rattle.std.specs.Prelude.{length, replicate, IsPermutation, Option, Some, None}
 use Rattle.protobuf_parse_syntax.specs.Trees.{FileSyntax}
 use Rattle.protobuf_parse_model.specs.declared.customs.Construct.{Construct}
 use Rattle.protobuf_parse_model.specs.declared.customs.Construct.TheVariants as of
@@ -93,6 +95,10 @@ held_in_file d = held (λ (o : FileOptionValues). o.custom) of.File d.options
 abbrev pub IsStated : OptionSet → Type 0
 IsStated s = s.statements ≡ [] → ⊥
 
+-- the sets in which one stands
+abbrev pub stated : List OptionSet → List OptionSet
+stated sets = filter (λ (s : OptionSet). nat_lt 0 (length s.statements)) sets
+
 -- what the options message of the set's construct is to hold
 abbrev pub held_by_set : Customs → OptionSet → HeldBytes
 held_by_set customs s = record { construct = s.construct; bytes = bytes_of_set customs s }
@@ -110,6 +116,17 @@ NoOthersStand = (seen : List FileSyntax) (customs : Customs) (path : Text) (t : 
     (h : HeldBytes) → Among (held_in_file (file_of (environment seen customs t) path t)) h
     → (h.bytes ≡ [])
     ⊎ ((s : OptionSet) × Among (option_sets t) s × IsStated s × (h ≡ held_by_set customs s))
+
+-- what the options message of the message behind a map holds
+abbrev pub held_behind_map : HeldBytes
+held_behind_map = record { construct = of.Message; bytes = [] }
+
+-- What the options messages hold is, put in another order, what each set that has a statement is to
+-- hold, once for the set, and a number of times what is held behind a map.
+abbrev pub SetsStandOnce : Type 0
+SetsStandOnce = (seen : List FileSyntax) (customs : Customs) (path : Text) (t : FileSyntax)
+    → (maps : ℕ) × IsPermutation (held_in_file (file_of (environment seen customs t) path t))
+    (map (held_by_set customs) (stated (option_sets t)) ++ replicate maps held_behind_map)
 
 -- The bytes of each set that has a statement can be told from the descriptor.
 abbrev pub BytesStand : Type 0
