@@ -1,8 +1,8 @@
 use Rattle.std.proofs.Common.{◌∙◌, ◌++◌, ap, map, refl}
 use Rattle.std.proofs.lemmas.List.{map-append}
-use Rattle.protobuf_parse_syntax.specs.Trees.{oneof_syntax as oneof_seen}
+use Rattle.protobuf_parse_syntax.specs.Trees.{oneof_syntax}
 use Rattle.protobuf_parse_model.specs.Contexts.{environment_in, fields_view}
-use Rattle.protobuf_parse_model.specs.Descriptors.{field_view, message_view, oneof_syntax}
+use Rattle.protobuf_parse_model.specs.Descriptors.{field_view, message_view, oneof_view}
 use Rattle.protobuf_parse_model.specs.BuiltinOptions.{oneof_table}
 use Rattle.protobuf_parse_model.specs.ConstructOptions.{construct_faults}
 use Rattle.protobuf_parse_model.specs.declared.customs.Construct.TheVariants as of
@@ -16,14 +16,14 @@ returns g c =
     let old = c.args.body.now in
     let d = c.in_ok-declared.ensures in
     let o = c.in_ok-descriptor.ensures in
-    let oneofs = ap (map oneof_syntax) c.in_ok-push.ensures.items
-    ∙ map-append oneof_syntax old.oneof_decl.items _ in
+    let oneofs = ap (map oneof_view) c.in_ok-push.ensures.items
+    ∙ map-append oneof_view old.oneof_decl.items _ in
     let fields = ap (map field_view) c.in_ok-append_declared.ensures.fields
     ∙ map-append field_view old.field.items _ in
     let nested = ap (map message_view) c.in_ok-append_declared.ensures.messages
     ∙ map-append message_view old.nested_type.items _ in (
       ap (λ z. z ++ construct_faults env of.Oneof oneof_table
-          (options_in_oneof (oneof_seen c.args.oneof.now))) d.0 ∙ o.0,
+          (options_in_oneof (oneof_syntax c.args.oneof.now))) d.0 ∙ o.0,
       with_oneof env old
           (record {
             field = c.append_declared.new.fields;
@@ -33,6 +33,6 @@ returns g c =
             enum_type = old.enum_type;
             extension = old.extension;
           }) c.len.result
-          _ (c.len.ensures ∙ old.oneof_decl.ok.0) oneofs refl refl (oneof_seen c.args.oneof.now)
+          _ (c.len.ensures ∙ old.oneof_decl.ok.0) oneofs refl refl (oneof_syntax c.args.oneof.now)
           (fields_view c.in_ok-declared.declared) d.1 o.1 fields nested,
     )
