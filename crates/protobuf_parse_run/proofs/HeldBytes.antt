@@ -249,7 +249,8 @@ module _ (customs : Customs) where
       (os : List OptionSyntax) (options : A)
       → custom options ≡ customs.bytes construct scope os
       → HeldFor (a_set construct scope os ∷ []) (held custom construct (where_any os options))
-  set_held custom construct scope [] options is = none_held
+  set_held custom construct scope [] options is =
+      record { maps = 0; held_so = IsPermutation-refl [] }
   set_held custom construct scope (o ∷ os) options is =
       record { maps = 0; held_so = rw (statement_there o os, is) (IsPermutation-refl _) }
 

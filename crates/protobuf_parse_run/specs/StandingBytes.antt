@@ -4,9 +4,8 @@
 -- is that of a field (Protocol Buffers Language Guide (proto2), "Custom Options",
 -- https://protobuf.dev). So each options message of a descriptor holds bytes for them, in `custom`.
 -- These are the bytes of the file's sets of options: `OptionsStand` says that each set that has a
--- statement stands there, `NoOthersStand` that nothing else does, `SetsStandOnce` that each such
-    set
--- stands there once. (A set without statements has no options message.)
+-- statement stands there, `NoOthersStand` that nothing else does, and `SetsStandOnce` that each
+-- such set stands there once. (A set without statements has no options message.)
 --
 -- `BytesStand` says nothing of how a descriptor is gone through. Take two ways to write custom
 -- options as bytes. Where a file becomes the same by both, each of its sets of options that has a
