@@ -30,7 +30,8 @@ pub struct KnownFiles<'a> {
     pub(crate) reach: PickedFiles<'a>,
     pub(crate) sight: PickedFiles<'a>,
     ghost all_messages: { (name : List ℕ) → map parts_seen (at_spots messages_inside reach
-        (spots_under places.now.messages name)) ≡ messages_with_name (files_seen reach) name } by { Prim.hlevel props },
+        (spots_under places.now.messages name))
+        ≡ messages_with_name (files_seen reach) name } by { Prim.hlevel props },
     ghost all_fields: { (message name : List ℕ) → found_by (field_there reach name)
         (spots_under places.now.messages message)
         ≡ field_named (files_seen reach) message name } by { Prim.hlevel props },

@@ -82,7 +82,8 @@ pub fn run_inputs<'a, R: ProtoPathResolver, I: InputReader>(
 
 /// The descriptors of the loaded files, in their order.
 fn descriptors(alloc: Global, loaded: LoadedFiles) -> Result<Vec<FileDescriptorProto>, AllocError>
-    ensures { IfOk result (λ v. v.items ≡ map (λ (e : LoadedEntry). e.1.descriptor) loaded.entries) }
+    ensures { IfOk result
+        (λ v. v.items ≡ map (λ (e : LoadedEntry). e.1.descriptor) loaded.entries) }
 {
     let mut descriptors = Vec::new(alloc);
     for (_, file) in loaded.into_entries() {

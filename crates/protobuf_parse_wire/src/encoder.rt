@@ -53,8 +53,8 @@ fn put_value(
     value: &EntryValue,
 ) -> Result<(), AllocError>
     requires { IsWritable (shape_of_kind kind) (entry_value_view value.now) }
-    ensures { OnOk result
-        (out.new.items ≡ out.old.items ++ payload (shape_of_kind kind) (entry_value_view value.now)) }
+    ensures { OnOk result (out.new.items
+        ≡ out.old.items ++ payload (shape_of_kind kind) (entry_value_view value.now)) }
 {
     match value {
         EntryValue::Number(number) => put_number(out, kind, *number),

@@ -110,7 +110,8 @@ fn begins_constant(tokens: &Cursor<'_, '_>) -> bool
 
 #[tactic(auto, using(crate::proofs::Left::starts_more))]
 fn begins_integer(tokens: &Cursor<'_, '_>) -> bool
-    ensures { result ≡ starts lexicon (class.integer ∷ class.symbol char.plus ∷ class.symbol char.minus ∷ [])
+    ensures { result ≡ starts lexicon
+        (class.integer ∷ class.symbol char.plus ∷ class.symbol char.minus ∷ [])
         (left tokens.now) }
 {
     tokens.sees_integer() || tokens.sees_symbol('+') || tokens.sees_symbol('-')
@@ -309,7 +310,8 @@ fn field_end(tokens: &mut Cursor<'_, '_>) -> Result<(), Refusal>
 
 #[tactic(auto, using(crate::proofs::Left::starts_more))]
 fn begins_constant_name(tokens: &Cursor<'_, '_>) -> bool
-    ensures { result ≡ starts lexicon (class.ident [] ∷ class.symbol char.open_bracket ∷ []) (left tokens.now) }
+    ensures { result ≡ starts lexicon (class.ident [] ∷ class.symbol char.open_bracket ∷ [])
+        (left tokens.now) }
 {
     tokens.sees_ident() || tokens.sees_symbol('[')
 }

@@ -178,8 +178,7 @@ pub fn reserved(alloc: Global, tokens: &mut Cursor<'_, '_>) -> Result<ReservedSt
 #[tactic(auto, unfolding(crate::specs::Productions::reserved_items), using(crate::specs::Code::fails_first))]
 fn reserved_items(alloc: Global, tokens: &mut Cursor<'_, '_>) -> Result<Reserved, Refusal>
     ensures { GivesOr (Unsaid of_text (left tokens.old)) view.reserved_syntax result
-    (left tokens.new)
-        (read.reserved_items.run (left tokens.old)) }
+        (left tokens.new) (read.reserved_items.run (left tokens.old)) }
 {
     if tokens.sees_str() {
         return Ok(Reserved::Names(names(alloc, tokens)?));

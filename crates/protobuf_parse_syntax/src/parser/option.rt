@@ -258,8 +258,8 @@ fn option_statements(
 
 #[tactic(auto, using(crate::proofs::Left::starts_more))]
 fn begins_option_item(tokens: &Cursor<'_, '_>) -> bool
-    ensures { result ≡ starts lexicon (class.symbol char.semicolon ∷ class.word (codes "option") ∷ [])
-        (left tokens.now) }
+    ensures { result ≡ starts lexicon
+        (class.symbol char.semicolon ∷ class.word (codes "option") ∷ []) (left tokens.now) }
 {
     tokens.sees_symbol(';') || tokens.sees_word("option")
 }

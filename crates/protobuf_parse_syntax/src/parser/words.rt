@@ -221,7 +221,8 @@ fn word_begins_file_statement(word: &str) -> bool
 /// Whether a statement of a file begins with the next token.
 #[tactic(auto, using(crate::proofs::Words::signs_start))]
 pub fn begins_file_statement(tokens: &Cursor<'_, '_>) -> bool
-    ensures { result ≡ starts lexicon (class.symbol char.semicolon ∷ nest.file_firsts) (left tokens.now) }
+    ensures { result ≡ starts lexicon (class.symbol char.semicolon ∷ nest.file_firsts)
+        (left tokens.now) }
 {
     match tokens.next_word() {
         Some(word) => word_begins_file_statement(word),
