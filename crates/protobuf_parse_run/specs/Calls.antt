@@ -1,19 +1,25 @@
 -- No public clause rests on this file.
 -- What a call of the loader does, whatever is loaded: `old` is the loader before it, `new` the
 -- loader after it.
-use Rattle.std.specs.Prelude.{◌≤◌, ◌+◌, ◌*◌, ◌^◌, ℕ, List, [], length, map, Option, Result}
+use Rattle.std.specs.Prelude.{◌≡◌, ◌≤◌, ◌+◌, ◌*◌, ◌^◌, ◌++◌, ◌∷◌, ℕ, List, [], length, map}
+use Rattle.std.specs.Prelude.{Option, Result, IfOk, OnOk}
 use Rattle.std.specs.Borrow.{Bor}
+use Rattle.protobuf_parse_syntax.specs.Trees.{file_syntax}
 use Rattle.protobuf_parse_model.specs.Descriptors.{Text}
+use Rattle.protobuf_parse_model.specs.Tables.{TableTells}
 use Rattle.protobuf_parse_run.specs.declared.fault.RunFault.{RunFault}
+use Rattle.protobuf_parse_run.specs.declared.frame.LoadFrame.{LoadFrame}
+use Rattle.protobuf_parse_run.specs.declared.loader.LoadedAs.{LoadedAs}
 use Rattle.protobuf_parse_run.specs.declared.loader.Loader.{Loader}
 use Rattle.protobuf_parse_run.specs.declared.loader.Met.{Met}
 use Rattle.protobuf_parse_run.specs.declared.source.Sources.{Sources}
 use Rattle.protobuf_parse_run.specs.Walks.{Asked, Event, Input, Trees, events, import_statements}
 use Rattle.protobuf_parse_run.specs.Walks.{keep, walk}
 use Rattle.protobuf_parse_run.specs.Run.{Files, IsCounted, MayRead, MayResolve, rows}
-use Rattle.protobuf_parse_run.specs.Loading.{AreKnown, GoesOn, Goes, Good, IndexBegins}
-use Rattle.protobuf_parse_run.specs.Loading.{IsDecided, asked_by, chain_texts, legal_by, plain_in}
-use Rattle.protobuf_parse_run.specs.Frames.{Meets}
+use Rattle.protobuf_parse_run.specs.Loading.{AreKnown, GoesOn, Goes, Good, Grows, IndexBegins}
+use Rattle.protobuf_parse_run.specs.Loading.{IsDecided, SettlesOver, asked_by, chain_texts}
+use Rattle.protobuf_parse_run.specs.Loading.{legal_by, named_trees, plain_in, trees_of}
+use Rattle.protobuf_parse_run.specs.Frames.{Meets, StandsMet, frame_path}
 
 -- ---- which events are kept after a call, by those that were
 
@@ -92,6 +98,19 @@ MeetsFew old new =
 abbrev pub CanMeet : Loader → Type 0
 CanMeet old = old.meets + 1 ≤ 2 ^ 65 + length old.reads.items * 2 ^ 64
 
+-- What comes of loading an input, from the empty chain, where `after` has the events that are kept
+-- then.
+pub record Loads {R I : Type 0} (may_answer : R → MayResolve) (may_read : I → MayRead)
+    (sources : Sources R I) (after : NowKept) (old new : Loader)
+    (result : Result (Unit {0}) RunFault) : Type 0 where
+  pub grows : Grows old.reads.items new.reads.items
+  pub chain : OnOk result (new.chain.items ≡ [])
+  pub bound : OnOk result (MeetsFew old new)
+  pub goes : GoesTo may_answer may_read sources after old new result
+  pub count : CountsTo may_answer may_read sources after old new result
+  pub decided : StaysDecided sources old new
+  pub known : OnOk result (KnowsFiles new)
+
 -- ---- one file at the end of the chain
 
 -- Where no event failed so far, a loaded file adds no event, and any other is opened; or the call
@@ -105,3 +124,31 @@ MeetsAt may_answer may_read sources input asked path old new result =
     GoesOn files (rows sources.bundled.now) new.reads.items
     → Good legal files kept old.loaded.entries old.reads.items chain
     → Meets legal files kept input asked chain path old.loaded.entries new.reads.items result
+
+-- What comes of meeting a file: nothing more is loaded, one meeting is counted, and at most one read
+-- is added.
+pub record MeetsFile {R I : Type 0} (may_answer : R → MayResolve) (may_read : I → MayRead)
+    (sources : Sources R I) (input : Text) (asked : Asked) (path : Text) (old new : Loader)
+    (result : Result Met RunFault) : Type 0 where
+  pub loaded : new.loaded ≡ old.loaded
+  pub tables : new.tables ≡ old.tables
+  pub meets : new.meets ≡ old.meets + 1
+  pub grows : Grows old.reads.items new.reads.items
+  pub decided : StaysDecided sources old new
+  pub stands : StandsMet (chain_texts old.chain.items) path old.loaded.entries old.reads.items
+      (chain_texts new.chain.items) new.reads.items result
+  pub leaves : MeetsAt may_answer may_read sources input asked path old new result
+
+-- What comes of closing a frame: its file leaves the end of the chain and is loaded, as what its
+-- tree becomes; or the fault stands there. Nothing is read and nothing is met.
+pub record ClosesFrame (frame : LoadFrame) (old new : Loader)
+    (result : Result LoadedAs RunFault) : Type 0 where
+  pub reads : new.reads ≡ old.reads
+  pub meets : new.meets ≡ old.meets
+  pub chain : (chain : List Text) → chain_texts old.chain.items ≡ chain ++ frame_path frame ∷ []
+      → chain_texts new.chain.items ≡ chain
+  pub height : IfOk result (λ placed. placed.height ≡ frame.height + 1)
+  pub settles : TableTells old.tables.names (trees_of (named_trees old.loaded.entries))
+      → SettlesOver (frame_path frame) (file_syntax frame.tree) (frame.height + 1) frame.read
+      frame.below.items frame.public.items old.reads.items old.loaded.entries new.loaded.entries
+      new.tables result

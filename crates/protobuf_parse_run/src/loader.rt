@@ -15,7 +15,6 @@ ghost use Rattle.protobuf_parse_model.specs.Faults.{fault_view};
 ghost use Rattle.protobuf_parse_model.specs.Tables.{TableTells};
 ghost use Rattle.protobuf_parse_run.specs.declared.fault.RunFault.TheVariants.{Memory};
 ghost use Rattle.protobuf_parse_run.specs.declared.log.ReadEntry.{ReadEntry};
-ghost use Rattle.protobuf_parse_model.specs.Descriptors.{Text};
 ghost use Rattle.protobuf_parse_run.specs.Walks.{among, at, with_check, with_input};
 ghost use Rattle.protobuf_parse_run.specs.Run.{OrMemory, StandsInCheck, StandsInCycle};
 ghost use Rattle.protobuf_parse_run.specs.Run.{StandsInElab, StandsInLong, are_same_bytes};
@@ -25,11 +24,10 @@ ghost use Rattle.protobuf_parse_run.specs.Loading.{IsElabFault, IsPlaced, IsRead
 ghost use Rattle.protobuf_parse_run.specs.Loading.{ReadsTree, SettlesOver, asked_by, chain_texts};
 ghost use Rattle.protobuf_parse_run.specs.Loading.{faults_over, legal_by, named_trees, plain_or};
 ghost use Rattle.protobuf_parse_run.specs.Loading.{plains_over, plains_with, trees_of};
-ghost use Rattle.protobuf_parse_run.specs.Frames.{Joined, StandsMet, frame_path, is_public_at};
-ghost use Rattle.protobuf_parse_run.specs.Frames.{number_if};
-ghost use Rattle.protobuf_parse_run.specs.Calls.{CanMeet, CountsThrough, CountsTo, GoesThrough};
-ghost use Rattle.protobuf_parse_run.specs.Calls.{GoesTo, HasIndex, KnowsFiles, MeetsAt};
-ghost use Rattle.protobuf_parse_run.specs.Calls.{MeetsFew, StaysDecided, with_file};
+ghost use Rattle.protobuf_parse_run.specs.Frames.{Joined, is_public_at, number_if};
+ghost use Rattle.protobuf_parse_run.specs.Calls.{CanMeet, ClosesFrame, CountsThrough, GoesThrough};
+ghost use Rattle.protobuf_parse_run.specs.Calls.{GoesTo, HasIndex, KnowsFiles, Loads, MeetsFile};
+ghost use Rattle.protobuf_parse_run.specs.Calls.{StaysDecided, with_file};
 
 use crate::asking::{answer, content, opened, origin, unreadable};
 use crate::describe::{Described, elaborated};
@@ -131,15 +129,8 @@ fn load_input<R: ProtoPathResolver, I: InputReader>(
     requires chain { loader.old.chain.items ≡ [] }
     requires known { KnowsFiles loader.old }
     requires room { CanMeet loader.old }
-    ensures grows { Grows loader.old.reads.items loader.new.reads.items }
-    ensures chain { OnOk result (loader.new.chain.items ≡ []) }
-    ensures bound { OnOk result (MeetsFew loader.old loader.new) }
-    ensures goes { GoesTo R.may_answer I.may_read sources.now (with_input (input_view input.now))
+    ensures { Loads R.may_answer I.may_read sources.now (with_input (input_view input.now))
         loader.old loader.new result }
-    ensures count { CountsTo R.may_answer I.may_read sources.now (with_input (input_view input.now))
-        loader.old loader.new result }
-    ensures decided { StaysDecided sources.now loader.old loader.new }
-    ensures known { OnOk result (KnowsFiles loader.new) }
 {
     match input {
         RunInput::Named(name) => load_file(alloc, loader, sources, name, None),
@@ -276,15 +267,8 @@ fn load_file<R: ProtoPathResolver, I: InputReader>(
     requires chain { loader.old.chain.items ≡ [] }
     requires known { KnowsFiles loader.old }
     requires room { CanMeet loader.old }
-    ensures grows { Grows loader.old.reads.items loader.new.reads.items }
-    ensures chain { OnOk result (loader.new.chain.items ≡ []) }
-    ensures bound { OnOk result (MeetsFew loader.old loader.new) }
-    ensures goes { GoesTo R.may_answer I.may_read sources.now
+    ensures { Loads R.may_answer I.may_read sources.now
         (with_file (path_buf_text input.now) fs_path.entry) loader.old loader.new result }
-    ensures count { CountsTo R.may_answer I.may_read sources.now
-        (with_file (path_buf_text input.now) fs_path.entry) loader.old loader.new result }
-    ensures decided { StaysDecided sources.now loader.old loader.new }
-    ensures known { OnOk result (KnowsFiles loader.new) }
 {
     let first = meet(alloc, loader, sources, input, input, fs_path)?;
     let mut top = match first {
@@ -329,15 +313,7 @@ fn meet<R: ProtoPathResolver, I: InputReader>(
 ) -> Result<Met, RunFault>
     requires chain { length loader.old.chain.items ≤ MAX_CHAIN }
     requires room { loader.old.meets + 1 < 2 ^ 128 }
-    ensures loaded { loader.new.loaded ≡ loader.old.loaded }
-    ensures tables { loader.new.tables ≡ loader.old.tables }
-    ensures meets { loader.new.meets ≡ loader.old.meets + 1 }
-    ensures grows { Grows loader.old.reads.items loader.new.reads.items }
-    ensures decided { StaysDecided sources.now loader.old loader.new }
-    ensures stands { StandsMet (chain_texts loader.old.chain.items)
-        (path_buf_text path.now) loader.old.loaded.entries loader.old.reads.items
-        (chain_texts loader.new.chain.items) loader.new.reads.items result }
-    ensures leaves { MeetsAt R.may_answer I.may_read sources.now (path_buf_text input.now)
+    ensures { MeetsFile R.may_answer I.may_read sources.now (path_buf_text input.now)
         (asked_by fs_path.entry) (path_buf_text path.now) loader.old loader.new result }
 {
     loader.meets += 1;
@@ -409,17 +385,7 @@ fn close(alloc: Global, loader: &mut Loader, frame: LoadFrame) -> Result<LoadedA
     requires low { frame.height < MAX_CHAIN }
     requires few { statements_in (file_syntax frame.tree) ≤ 2147483647 }
     requires begins { HasIndex loader.old }
-    ensures reads { loader.new.reads ≡ loader.old.reads }
-    ensures meets { loader.new.meets ≡ loader.old.meets }
-    ensures chain { (chain : List Text) → chain_texts loader.old.chain.items
-        ≡ chain ++ frame_path frame ∷ []
-        → chain_texts loader.new.chain.items ≡ chain }
-    ensures height { IfOk result (λ placed. placed.height ≡ frame.height + 1) }
-    ensures settles { TableTells loader.old.tables.names
-        (trees_of (named_trees loader.old.loaded.entries))
-        → SettlesOver (frame_path frame) (file_syntax frame.tree)
-        (frame.height + 1) frame.read frame.below.items frame.public.items loader.old.reads.items
-        loader.old.loaded.entries loader.new.loaded.entries loader.new.tables result }
+    ensures { ClosesFrame frame loader.old loader.new result }
 {
     let LoadFrame {
         path,

@@ -1,5 +1,6 @@
 use Rattle.std.proofs.Common.{◌≡◌, ◌≤◌, ◌<◌, ◌+◌, ◌^◌, suc, ◌++◌, ◌∷◌, [], Some, Ok, Err, length}
 use Rattle.std.proofs.Common.{refl, sym, ap, ◌∙◌, append-nil, drop, slice_get, arith, add-one}
+use Rattle.std.proofs.Common.{rules}
 use Rattle.std.proofs.lemmas.Result.{err_from_is_err_and}
 use Rattle.std.proofs.lemmas.List.{length_push}
 use Rattle.std.proofs.lemmas.Option.{slice_get_within}
@@ -41,13 +42,21 @@ use Rattle.protobuf_parse_run.proofs.Stepping.{running-other, running-refused, r
 use Rattle.protobuf_parse_run.proofs.Stepping.{running-stops}
 use Rattle.protobuf_parse_run.proofs.loader.load_file.Goals as goal
 
-pub returns-in_err-first-clause-count : goal.returns-in_err-first-clause-count
-returns-in_err-first-clause-count g c files kept go good =
-    let p = err_from_is_err_and c.from_residual.result c.from_residual.ensures.1 in
-    let m = count-grows files.trees kept
-    (walk files.trees (path_buf_text c.args.input.now) (asked_by c.args.fs_path) 100 []
-    (path_buf_text c.args.input.now)) in
-    rw p.1 (omega (arith, m, c.meet.ensures.meets))
+pub returns-in_err-first : goal.returns-in_err-first
+returns-in_err-first g c = record {
+  grows = search rules;
+  chain = search rules;
+  bound = search rules;
+  goes = search rules;
+  count = λ files kept go good.
+      let p = err_from_is_err_and c.from_residual.result c.from_residual.ensures.1 in
+      let m = count-grows files.trees kept
+      (walk files.trees (path_buf_text c.args.input.now) (asked_by c.args.fs_path) 100 []
+      (path_buf_text c.args.input.now)) in
+      rw p.1 (omega (arith, m, c.meet.ensures.meets));
+  decided = search rules;
+  known = search rules;
+}
 
 pub files-init : goal.files-init
 files-init g c =
@@ -104,41 +113,46 @@ meet-requires-in-files-clause-chain g c =
     let n = texts-length c.files.loader.chain.items in
     omega (arith, e, f, h, n, c.files.invariant.low)
 
-pub returns-in_err-met-clause-goes : goal.returns-in_err-met-clause-goes
-returns-in_err-met-clause-goes g c files kept go good =
-    let at : slice_get c.files.top.tree.statements.items c.files.top.next
-    ≡ Some (file_statement.Import c.in-Import.import) =
-    at_get c.files.top.tree.statements.items c.files.top.next c.in-Some.statement.now
-    (rw c.deref.ensures.value at c.in-Some.ensures.lookup.3.0)
-    (rw c.deref.ensures.value at c.in-Some.ensures.lookup.1) ∙ ap Some c.in-Import.is in
-    let legal = legal_by g.R.ProtoPathResolver.may_answer g.I.InputReader.may_read
-    c.args.sources.now in
-    let back = goes-back files _ _ _ c.meet-in-files.ensures.grows go in
-    let r = c.files.invariant.inside files kept back good in
-    let p = err_from_is_err_and c.from_residual-in_err-met.result
-    c.from_residual-in_err-met.ensures.1 in
-    rw (p.1, p.2)
-    (running-stops legal files kept _
-    (path_buf_text c.args.input.now) c.args.loader.now.meets c.files.stack.items c.files.top
-    c.in-Import.import _ (chain_texts c.files.loader.chain.items) _ _ _ c.in_err-met.field-0.0 r
-    c.files.invariant.chain at (λ x. c.in_err-met.ensures.leaves files r.now go x))
-
-pub returns-in_err-met-clause-count : goal.returns-in_err-met-clause-count
-returns-in_err-met-clause-count g c files kept go good =
-    let at : slice_get c.files.top.tree.statements.items c.files.top.next
-    ≡ Some (file_statement.Import c.in-Import.import) =
-    at_get c.files.top.tree.statements.items c.files.top.next c.in-Some.statement.now
-    (rw c.deref.ensures.value at c.in-Some.ensures.lookup.3.0)
-    (rw c.deref.ensures.value at c.in-Some.ensures.lookup.1) ∙ ap Some c.in-Import.is in
-    let legal = legal_by g.R.ProtoPathResolver.may_answer g.I.InputReader.may_read
-    c.args.sources.now in
-    let back = goes-back files _ _ _ c.meet-in-files.ensures.grows go in
-    let r = c.files.invariant.inside files kept back good in
-    let p = err_from_is_err_and c.from_residual-in_err-met.result
-    c.from_residual-in_err-met.ensures.1 in
-    rw p.1 (counted-next legal files kept _
-    (path_buf_text c.args.input.now) c.args.loader.now.meets c.files.stack.items c.files.top
-    c.in-Import.import _ _ _ _ r at c.meet-in-files.ensures.meets)
+pub returns-in_err-met : goal.returns-in_err-met
+returns-in_err-met g c = record {
+  grows = Grows-trans _ _ _ c.files.invariant.grows c.meet-in-files.ensures.grows;
+  chain = search rules;
+  bound = search rules;
+  goes = λ files kept go good.
+      let at : slice_get c.files.top.tree.statements.items c.files.top.next
+      ≡ Some (file_statement.Import c.in-Import.import) =
+      at_get c.files.top.tree.statements.items c.files.top.next c.in-Some.statement.now
+      (rw c.deref.ensures.value at c.in-Some.ensures.lookup.3.0)
+      (rw c.deref.ensures.value at c.in-Some.ensures.lookup.1) ∙ ap Some c.in-Import.is in
+      let legal = legal_by g.R.ProtoPathResolver.may_answer g.I.InputReader.may_read
+      c.args.sources.now in
+      let back = goes-back files _ _ _ c.meet-in-files.ensures.grows go in
+      let r = c.files.invariant.inside files kept back good in
+      let p = err_from_is_err_and c.from_residual-in_err-met.result
+      c.from_residual-in_err-met.ensures.1 in
+      rw (p.1, p.2)
+      (running-stops legal files kept _
+      (path_buf_text c.args.input.now) c.args.loader.now.meets c.files.stack.items c.files.top
+      c.in-Import.import _ (chain_texts c.files.loader.chain.items) _ _ _ c.in_err-met.field-0.0 r
+      c.files.invariant.chain at (λ x. c.in_err-met.ensures.leaves files r.now go x));
+  count = λ files kept go good.
+      let at : slice_get c.files.top.tree.statements.items c.files.top.next
+      ≡ Some (file_statement.Import c.in-Import.import) =
+      at_get c.files.top.tree.statements.items c.files.top.next c.in-Some.statement.now
+      (rw c.deref.ensures.value at c.in-Some.ensures.lookup.3.0)
+      (rw c.deref.ensures.value at c.in-Some.ensures.lookup.1) ∙ ap Some c.in-Import.is in
+      let legal = legal_by g.R.ProtoPathResolver.may_answer g.I.InputReader.may_read
+      c.args.sources.now in
+      let back = goes-back files _ _ _ c.meet-in-files.ensures.grows go in
+      let r = c.files.invariant.inside files kept back good in
+      let p = err_from_is_err_and c.from_residual-in_err-met.result
+      c.from_residual-in_err-met.ensures.1 in
+      rw p.1 (counted-next legal files kept _
+      (path_buf_text c.args.input.now) c.args.loader.now.meets c.files.stack.items c.files.top
+      c.in-Import.import _ _ _ _ r at c.meet-in-files.ensures.meets);
+  decided = λ d. c.meet-in-files.ensures.decided (c.files.invariant.decided d);
+  known = search rules;
+}
 
 pub files-smaller-in-Continue-branch-5 : goal.files-smaller-in-Continue-branch-5
 files-smaller-in-Continue-branch-5 g c =
@@ -210,81 +224,91 @@ files-preserved-in-Continue-branch-5 g c =
           (λ x. rw c.in-Loaded-met.is at (c.in_ok-met.ensures.leaves files r.now go x)) j);
     }
 
-pub returns-in_err-join-in-Loaded-met-clause-goes : goal.returns-in_err-join-in-Loaded-met-clause-goes
-returns-in_err-join-in-Loaded-met-clause-goes g c files kept go good =
-    let legal = legal_by g.R.ProtoPathResolver.may_answer g.I.InputReader.may_read
-    c.args.sources.now in
-    let back = goes-back files _ _ _ c.meet-in-files.ensures.grows go in
-    let r = c.files.invariant.inside files kept back good in
-    let p = err_from_is_err_and c.from_residual-in_err-join-in-Loaded-met.result
-    c.from_residual-in_err-join-in-Loaded-met.ensures.1 in
-    rw p.1 (known-breaks legal files kept _
-    (path_buf_text c.args.input.now) c.args.loader.now.meets c.files.stack.items c.files.top
-    c.in-Loaded-met.placed (path_buf_text c.in-Import.import.path) _
-    (chain_texts c.files.loader.chain.items) _ _ _ p.0 r c.files.invariant.chain
-    (λ x. rw c.in-Loaded-met.is at (c.in_ok-met.ensures.leaves files r.now go x)) p.2)
+pub returns-in_err-join-in-Loaded-met : goal.returns-in_err-join-in-Loaded-met
+returns-in_err-join-in-Loaded-met g c = record {
+  grows = Grows-trans _ _ _ c.files.invariant.grows c.meet-in-files.ensures.grows;
+  chain = search rules;
+  bound = search rules;
+  goes = λ files kept go good.
+      let legal = legal_by g.R.ProtoPathResolver.may_answer g.I.InputReader.may_read
+      c.args.sources.now in
+      let back = goes-back files _ _ _ c.meet-in-files.ensures.grows go in
+      let r = c.files.invariant.inside files kept back good in
+      let p = err_from_is_err_and c.from_residual-in_err-join-in-Loaded-met.result
+      c.from_residual-in_err-join-in-Loaded-met.ensures.1 in
+      rw p.1 (known-breaks legal files kept _
+      (path_buf_text c.args.input.now) c.args.loader.now.meets c.files.stack.items c.files.top
+      c.in-Loaded-met.placed (path_buf_text c.in-Import.import.path) _
+      (chain_texts c.files.loader.chain.items) _ _ _ p.0 r c.files.invariant.chain
+      (λ x. rw c.in-Loaded-met.is at (c.in_ok-met.ensures.leaves files r.now go x)) p.2);
+  count = λ files kept go good.
+      let at : slice_get c.files.top.tree.statements.items c.files.top.next
+      ≡ Some (file_statement.Import c.in-Import.import) =
+      at_get c.files.top.tree.statements.items c.files.top.next c.in-Some.statement.now
+      (rw c.deref.ensures.value at c.in-Some.ensures.lookup.3.0)
+      (rw c.deref.ensures.value at c.in-Some.ensures.lookup.1) ∙ ap Some c.in-Import.is in
+      let legal = legal_by g.R.ProtoPathResolver.may_answer g.I.InputReader.may_read
+      c.args.sources.now in
+      let back = goes-back files _ _ _ c.meet-in-files.ensures.grows go in
+      let r = c.files.invariant.inside files kept back good in
+      let p = err_from_is_err_and c.from_residual-in_err-join-in-Loaded-met.result
+      c.from_residual-in_err-join-in-Loaded-met.ensures.1 in
+      rw p.1 (counted-next legal files kept _
+      (path_buf_text c.args.input.now) c.args.loader.now.meets c.files.stack.items c.files.top
+      c.in-Import.import _ _ _ _ r at c.meet-in-files.ensures.meets);
+  decided = λ d. c.meet-in-files.ensures.decided (c.files.invariant.decided d);
+  known = search rules;
+}
 
-pub returns-in_err-join-in-Loaded-met-clause-count : goal.returns-in_err-join-in-Loaded-met-clause-count
-returns-in_err-join-in-Loaded-met-clause-count g c files kept go good =
-    let at : slice_get c.files.top.tree.statements.items c.files.top.next
-    ≡ Some (file_statement.Import c.in-Import.import) =
-    at_get c.files.top.tree.statements.items c.files.top.next c.in-Some.statement.now
-    (rw c.deref.ensures.value at c.in-Some.ensures.lookup.3.0)
-    (rw c.deref.ensures.value at c.in-Some.ensures.lookup.1) ∙ ap Some c.in-Import.is in
-    let legal = legal_by g.R.ProtoPathResolver.may_answer g.I.InputReader.may_read
-    c.args.sources.now in
-    let back = goes-back files _ _ _ c.meet-in-files.ensures.grows go in
-    let r = c.files.invariant.inside files kept back good in
-    let p = err_from_is_err_and c.from_residual-in_err-join-in-Loaded-met.result
-    c.from_residual-in_err-join-in-Loaded-met.ensures.1 in
-    rw p.1 (counted-next legal files kept _
-    (path_buf_text c.args.input.now) c.args.loader.now.meets c.files.stack.items c.files.top
-    c.in-Import.import _ _ _ _ r at c.meet-in-files.ensures.meets)
-
-pub returns-in_err-push-in-Opened-met-clause-goes : goal.returns-in_err-push-in-Opened-met-clause-goes
-returns-in_err-push-in-Opened-met-clause-goes g c files kept go good =
-    let at : slice_get c.files.top.tree.statements.items c.files.top.next
-    ≡ Some (file_statement.Import c.in-Import.import) =
-    at_get c.files.top.tree.statements.items c.files.top.next c.in-Some.statement.now
-    (rw c.deref.ensures.value at c.in-Some.ensures.lookup.3.0)
-    (rw c.deref.ensures.value at c.in-Some.ensures.lookup.1) ∙ ap Some c.in-Import.is in
-    let legal = legal_by g.R.ProtoPathResolver.may_answer g.I.InputReader.may_read
-    c.args.sources.now in
-    let o : IsOpened (chain_texts c.files.loader.chain.items)
-    (path_buf_text c.in-Import.import.path) c.files.loader.loaded.entries
-    c.files.loader.reads.items (chain_texts c.meet-in-files.new.loader.chain.items)
-    c.meet-in-files.new.loader.reads.items c.in-Opened-met.frame =
-    (rw c.in-Opened-met.is at c.in_ok-met.ensures.stands) in
-    let back = goes-back files _ _ _ c.meet-in-files.ensures.grows go in
-    let r = c.files.invariant.inside files kept back good in
-    let p = err_from_is_err_and c.from_residual-in_err-push-in-Opened-met.result
-    c.from_residual-in_err-push-in-Opened-met.ensures.1 in
-    rw p.1 (running-breaks legal files kept _
-    (path_buf_text c.args.input.now) c.args.loader.now.meets
-    (c.files.stack.items ++ c.files.top ∷ []) c.in-Opened-met.frame _ _ _ p.0
-    (running-new legal files kept _
-    (path_buf_text c.args.input.now) c.args.loader.now.meets c.files.stack.items c.files.top
-    c.in-Opened-met.frame c.in-Import.import _ _
-    (chain_texts c.files.loader.chain.items) _ _ _ _ r c.files.invariant.chain at
-    c.meet-in-files.ensures.meets c.meet-in-files.ensures.grows
-    (λ x. rw c.in-Opened-met.is at (c.in_ok-met.ensures.leaves files r.now go x)) o) p.2)
-
-pub returns-in_err-push-in-Opened-met-clause-count : goal.returns-in_err-push-in-Opened-met-clause-count
-returns-in_err-push-in-Opened-met-clause-count g c files kept go good =
-    let at : slice_get c.files.top.tree.statements.items c.files.top.next
-    ≡ Some (file_statement.Import c.in-Import.import) =
-    at_get c.files.top.tree.statements.items c.files.top.next c.in-Some.statement.now
-    (rw c.deref.ensures.value at c.in-Some.ensures.lookup.3.0)
-    (rw c.deref.ensures.value at c.in-Some.ensures.lookup.1) ∙ ap Some c.in-Import.is in
-    let legal = legal_by g.R.ProtoPathResolver.may_answer g.I.InputReader.may_read
-    c.args.sources.now in
-    let back = goes-back files _ _ _ c.meet-in-files.ensures.grows go in
-    let r = c.files.invariant.inside files kept back good in
-    let p = err_from_is_err_and c.from_residual-in_err-push-in-Opened-met.result
-    c.from_residual-in_err-push-in-Opened-met.ensures.1 in
-    rw p.1 (counted-next legal files kept _
-    (path_buf_text c.args.input.now) c.args.loader.now.meets c.files.stack.items c.files.top
-    c.in-Import.import _ _ _ _ r at c.meet-in-files.ensures.meets)
+pub returns-in_err-push-in-Opened-met : goal.returns-in_err-push-in-Opened-met
+returns-in_err-push-in-Opened-met g c = record {
+  grows = Grows-trans _ _ _ c.files.invariant.grows c.meet-in-files.ensures.grows;
+  chain = search rules;
+  bound = search rules;
+  goes = λ files kept go good.
+      let at : slice_get c.files.top.tree.statements.items c.files.top.next
+      ≡ Some (file_statement.Import c.in-Import.import) =
+      at_get c.files.top.tree.statements.items c.files.top.next c.in-Some.statement.now
+      (rw c.deref.ensures.value at c.in-Some.ensures.lookup.3.0)
+      (rw c.deref.ensures.value at c.in-Some.ensures.lookup.1) ∙ ap Some c.in-Import.is in
+      let legal = legal_by g.R.ProtoPathResolver.may_answer g.I.InputReader.may_read
+      c.args.sources.now in
+      let o : IsOpened (chain_texts c.files.loader.chain.items)
+      (path_buf_text c.in-Import.import.path) c.files.loader.loaded.entries
+      c.files.loader.reads.items (chain_texts c.meet-in-files.new.loader.chain.items)
+      c.meet-in-files.new.loader.reads.items c.in-Opened-met.frame =
+      (rw c.in-Opened-met.is at c.in_ok-met.ensures.stands) in
+      let back = goes-back files _ _ _ c.meet-in-files.ensures.grows go in
+      let r = c.files.invariant.inside files kept back good in
+      let p = err_from_is_err_and c.from_residual-in_err-push-in-Opened-met.result
+      c.from_residual-in_err-push-in-Opened-met.ensures.1 in
+      rw p.1 (running-breaks legal files kept _
+      (path_buf_text c.args.input.now) c.args.loader.now.meets
+      (c.files.stack.items ++ c.files.top ∷ []) c.in-Opened-met.frame _ _ _ p.0
+      (running-new legal files kept _
+      (path_buf_text c.args.input.now) c.args.loader.now.meets c.files.stack.items c.files.top
+      c.in-Opened-met.frame c.in-Import.import _ _
+      (chain_texts c.files.loader.chain.items) _ _ _ _ r c.files.invariant.chain at
+      c.meet-in-files.ensures.meets c.meet-in-files.ensures.grows
+      (λ x. rw c.in-Opened-met.is at (c.in_ok-met.ensures.leaves files r.now go x)) o) p.2);
+  count = λ files kept go good.
+      let at : slice_get c.files.top.tree.statements.items c.files.top.next
+      ≡ Some (file_statement.Import c.in-Import.import) =
+      at_get c.files.top.tree.statements.items c.files.top.next c.in-Some.statement.now
+      (rw c.deref.ensures.value at c.in-Some.ensures.lookup.3.0)
+      (rw c.deref.ensures.value at c.in-Some.ensures.lookup.1) ∙ ap Some c.in-Import.is in
+      let legal = legal_by g.R.ProtoPathResolver.may_answer g.I.InputReader.may_read
+      c.args.sources.now in
+      let back = goes-back files _ _ _ c.meet-in-files.ensures.grows go in
+      let r = c.files.invariant.inside files kept back good in
+      let p = err_from_is_err_and c.from_residual-in_err-push-in-Opened-met.result
+      c.from_residual-in_err-push-in-Opened-met.ensures.1 in
+      rw p.1 (counted-next legal files kept _
+      (path_buf_text c.args.input.now) c.args.loader.now.meets c.files.stack.items c.files.top
+      c.in-Import.import _ _ _ _ r at c.meet-in-files.ensures.meets);
+  decided = λ d. c.meet-in-files.ensures.decided (c.files.invariant.decided d);
+  known = search rules;
+}
 
 pub files-smaller : goal.files-smaller
 files-smaller g c =
@@ -459,114 +483,112 @@ files-preserved-in_default-statement g c =
           (c.files.invariant.inside files kept go good) at other is;
     }
 
-pub returns-in_err-placed-clause-goes : goal.returns-in_err-placed-clause-goes
-returns-in_err-placed-clause-goes g c files kept go good =
-    let le : length c.files.top.tree.statements.items
-    ≤ c.files.top.next = (rw c.deref.ensures.value at c.in_default.ensures.lookup.3) in
-    let reads = ap (λ (w : Vec ReadEntry). w.items) c.close.ensures.reads in
-    let legal = legal_by g.R.ProtoPathResolver.may_answer g.I.InputReader.may_read
-    c.args.sources.now in
-    let none = c.files.invariant.unloaded (frame_path c.files.top)
-    (among-last (frame_path c.files.top) (chain_of [] c.files.stack.items)) in
-    let back = goes-same files _ _ _ reads go in
-    let r = c.files.invariant.inside files kept back good in
-    let k = running-closes legal files kept _
-    (path_buf_text c.args.input.now) c.args.loader.now.meets c.files.stack.items c.files.top _ _
-    c.close.new.loader.loaded.entries _ c.close.new.loader.tables _
-    (Err c.in_err-placed.field-0.0) r _ _ go c.files.invariant.known c.files.invariant.taken
-    none c.files.invariant.off le (omega (arith, c.files.invariant.low))
-    (c.in_err-placed.ensures.settles c.files.invariant.known.tells) in
-    let p = err_from_is_err_and c.from_residual-in_err-placed.result
-    c.from_residual-in_err-placed.ensures.1 in
-    rw (p.1, p.2, reads)
-    (running-refused legal files kept _
-    (path_buf_text c.args.input.now) c.args.loader.now.meets c.files.stack.items c.files.top _ _
-    _ c.in_err-placed.field-0.0 r le k)
+pub returns-in_err-placed : goal.returns-in_err-placed
+returns-in_err-placed g c = record {
+  grows = search rules;
+  chain = search rules;
+  bound = search rules;
+  goes = λ files kept go good.
+      let le : length c.files.top.tree.statements.items
+      ≤ c.files.top.next = (rw c.deref.ensures.value at c.in_default.ensures.lookup.3) in
+      let reads = ap (λ (w : Vec ReadEntry). w.items) c.close.ensures.reads in
+      let legal = legal_by g.R.ProtoPathResolver.may_answer g.I.InputReader.may_read
+      c.args.sources.now in
+      let none = c.files.invariant.unloaded (frame_path c.files.top)
+      (among-last (frame_path c.files.top) (chain_of [] c.files.stack.items)) in
+      let back = goes-same files _ _ _ reads go in
+      let r = c.files.invariant.inside files kept back good in
+      let k = running-closes legal files kept _
+      (path_buf_text c.args.input.now) c.args.loader.now.meets c.files.stack.items c.files.top _ _
+      c.close.new.loader.loaded.entries _ c.close.new.loader.tables _
+      (Err c.in_err-placed.field-0.0) r _ _ go c.files.invariant.known c.files.invariant.taken
+      none c.files.invariant.off le (omega (arith, c.files.invariant.low))
+      (c.in_err-placed.ensures.settles c.files.invariant.known.tells) in
+      let p = err_from_is_err_and c.from_residual-in_err-placed.result
+      c.from_residual-in_err-placed.ensures.1 in
+      rw (p.1, p.2, reads)
+      (running-refused legal files kept _
+      (path_buf_text c.args.input.now) c.args.loader.now.meets c.files.stack.items c.files.top _ _
+      _ c.in_err-placed.field-0.0 r le k);
+  count = λ files kept go good.
+      let reads = ap (λ (w : Vec ReadEntry). w.items) c.close.ensures.reads in
+      let legal = legal_by g.R.ProtoPathResolver.may_answer g.I.InputReader.may_read
+      c.args.sources.now in
+      let back = goes-same files _ _ _ reads go in
+      let r = c.files.invariant.inside files kept back good in
+      let p = err_from_is_err_and c.from_residual-in_err-placed.result
+      c.from_residual-in_err-placed.ensures.1 in
+      rw (p.1, c.close.ensures.meets)
+      (counted-now legal files kept _
+      (path_buf_text c.args.input.now) c.args.loader.now.meets c.files.stack.items c.files.top _ _
+      _ r);
+  decided = λ d.
+      let reads = ap (λ (w : Vec ReadEntry). w.items) c.close.ensures.reads in
+      decided-same (rows c.args.sources.now.bundled.now) _ _ reads (c.files.invariant.decided d);
+  known = search rules;
+}
 
-pub returns-in_err-placed-clause-count : goal.returns-in_err-placed-clause-count
-returns-in_err-placed-clause-count g c files kept go good =
-    let reads = ap (λ (w : Vec ReadEntry). w.items) c.close.ensures.reads in
-    let legal = legal_by g.R.ProtoPathResolver.may_answer g.I.InputReader.may_read
-    c.args.sources.now in
-    let back = goes-same files _ _ _ reads go in
-    let r = c.files.invariant.inside files kept back good in
-    let p = err_from_is_err_and c.from_residual-in_err-placed.result
-    c.from_residual-in_err-placed.ensures.1 in
-    rw (p.1, c.close.ensures.meets)
-    (counted-now legal files kept _
-    (path_buf_text c.args.input.now) c.args.loader.now.meets c.files.stack.items c.files.top _ _
-    _ r)
-
-pub returns-in_err-placed-clause-decided : goal.returns-in_err-placed-clause-decided
-returns-in_err-placed-clause-decided g c d =
-    let reads = ap (λ (w : Vec ReadEntry). w.items) c.close.ensures.reads in
-    decided-same (rows c.args.sources.now.bundled.now) _ _ reads (c.files.invariant.decided d)
-
-pub returns-in_default-pop-clause-goes : goal.returns-in_default-pop-clause-goes
-returns-in_default-pop-clause-goes g c files kept go good =
-    let le : length c.files.top.tree.statements.items
-    ≤ c.files.top.next = (rw c.deref.ensures.value at c.in_default.ensures.lookup.3) in
-    let reads = ap (λ (w : Vec ReadEntry). w.items) c.close.ensures.reads in
-    let zero_left : length c.files.stack.items
-    ≡ 0 = omega (arith, c.in_default-pop.ensures.cases.0, c.files.stack.ok.0) in
-    let empty : c.files.stack.items ≡ [] = none_of c.files.stack.items zero_left in
-    let legal = legal_by g.R.ProtoPathResolver.may_answer g.I.InputReader.may_read
-    c.args.sources.now in
-    let none = c.files.invariant.unloaded (frame_path c.files.top)
-    (among-last (frame_path c.files.top) (chain_of [] c.files.stack.items)) in
-    let back = goes-same files _ _ _ reads go in
-    let r = c.files.invariant.inside files kept back good in
-    let k = running-closes legal files kept _
-    (path_buf_text c.args.input.now) c.args.loader.now.meets c.files.stack.items c.files.top _ _
-    c.close.new.loader.loaded.entries _ c.close.new.loader.tables _
-    (Ok c.in_ok-placed.placed) r _ _ go c.files.invariant.known c.files.invariant.taken none
-    c.files.invariant.off le (omega (arith, c.files.invariant.low))
-    (c.in_ok-placed.ensures.settles c.files.invariant.known.tells) in
-    rw reads
-    (running-end legal files kept _
-    (path_buf_text c.args.input.now) c.args.loader.now.meets c.files.stack.items c.files.top
-    c.in_ok-placed.placed _ _ _ _ r empty le k)
-
-pub returns-in_default-pop-clause-count : goal.returns-in_default-pop-clause-count
-returns-in_default-pop-clause-count g c files kept go good =
-    let le : length c.files.top.tree.statements.items
-    ≤ c.files.top.next = (rw c.deref.ensures.value at c.in_default.ensures.lookup.3) in
-    let reads = ap (λ (w : Vec ReadEntry). w.items) c.close.ensures.reads in
-    let zero_left : length c.files.stack.items
-    ≡ 0 = omega (arith, c.in_default-pop.ensures.cases.0, c.files.stack.ok.0) in
-    let empty : c.files.stack.items ≡ [] = none_of c.files.stack.items zero_left in
-    let legal = legal_by g.R.ProtoPathResolver.may_answer g.I.InputReader.may_read
-    c.args.sources.now in
-    let back = goes-same files _ _ _ reads go in
-    let r = (rw empty at (c.files.invariant.inside files kept back good)) in
-    rw c.close.ensures.meets
-    (counted-end legal files kept _
-    (path_buf_text c.args.input.now) c.args.loader.now.meets c.files.top _ _ _ r le)
-
-pub returns-in_default-pop-clause-decided : goal.returns-in_default-pop-clause-decided
-returns-in_default-pop-clause-decided g c d =
-    let reads = ap (λ (w : Vec ReadEntry). w.items) c.close.ensures.reads in
-    decided-same (rows c.args.sources.now.bundled.now) _ _ reads (c.files.invariant.decided d)
-
-pub returns-in_default-pop-clause-chain : goal.returns-in_default-pop-clause-chain
-returns-in_default-pop-clause-chain g c =
-    let zero_left : length c.files.stack.items
-    ≡ 0 = omega (arith, c.in_default-pop.ensures.cases.0, c.files.stack.ok.0) in
-    let empty : c.files.stack.items ≡ [] = none_of c.files.stack.items zero_left in
-    none-texts _
-    (c.close.ensures.chain [] (c.files.invariant.chain
-    ∙ ap (λ z. chain_of [] z ++ frame_path c.files.top ∷ []) empty))
-
-pub returns-in_default-pop-clause-known : goal.returns-in_default-pop-clause-known
-returns-in_default-pop-clause-known g c =
-    let le : length c.files.top.tree.statements.items
-    ≤ c.files.top.next = (rw c.deref.ensures.value at c.in_default.ensures.lookup.3) in
-    let reads = ap (λ (w : Vec ReadEntry). w.items) c.close.ensures.reads in
-    let cl = closed-is c.files.top _ _ _ _ _
-    (chain_of [] c.files.stack.items) c.in_ok-placed.placed c.files.invariant.known
-    c.files.invariant.taken c.files.invariant.unloaded c.files.invariant.off le
-    (c.in_ok-placed.ensures.settles c.files.invariant.known.tells) in
-    rw reads cl.known
+pub returns-in_default-pop : goal.returns-in_default-pop
+returns-in_default-pop g c = record {
+  grows = search rules;
+  chain =
+      let zero_left : length c.files.stack.items
+      ≡ 0 = omega (arith, c.in_default-pop.ensures.cases.0, c.files.stack.ok.0) in
+      let empty : c.files.stack.items ≡ [] = none_of c.files.stack.items zero_left in
+      none-texts _
+      (c.close.ensures.chain [] (c.files.invariant.chain
+      ∙ ap (λ z. chain_of [] z ++ frame_path c.files.top ∷ []) empty));
+  bound = search rules;
+  goes = λ files kept go good.
+      let le : length c.files.top.tree.statements.items
+      ≤ c.files.top.next = (rw c.deref.ensures.value at c.in_default.ensures.lookup.3) in
+      let reads = ap (λ (w : Vec ReadEntry). w.items) c.close.ensures.reads in
+      let zero_left : length c.files.stack.items
+      ≡ 0 = omega (arith, c.in_default-pop.ensures.cases.0, c.files.stack.ok.0) in
+      let empty : c.files.stack.items ≡ [] = none_of c.files.stack.items zero_left in
+      let legal = legal_by g.R.ProtoPathResolver.may_answer g.I.InputReader.may_read
+      c.args.sources.now in
+      let none = c.files.invariant.unloaded (frame_path c.files.top)
+      (among-last (frame_path c.files.top) (chain_of [] c.files.stack.items)) in
+      let back = goes-same files _ _ _ reads go in
+      let r = c.files.invariant.inside files kept back good in
+      let k = running-closes legal files kept _
+      (path_buf_text c.args.input.now) c.args.loader.now.meets c.files.stack.items c.files.top _ _
+      c.close.new.loader.loaded.entries _ c.close.new.loader.tables _
+      (Ok c.in_ok-placed.placed) r _ _ go c.files.invariant.known c.files.invariant.taken none
+      c.files.invariant.off le (omega (arith, c.files.invariant.low))
+      (c.in_ok-placed.ensures.settles c.files.invariant.known.tells) in
+      rw reads
+      (running-end legal files kept _
+      (path_buf_text c.args.input.now) c.args.loader.now.meets c.files.stack.items c.files.top
+      c.in_ok-placed.placed _ _ _ _ r empty le k);
+  count = λ files kept go good.
+      let le : length c.files.top.tree.statements.items
+      ≤ c.files.top.next = (rw c.deref.ensures.value at c.in_default.ensures.lookup.3) in
+      let reads = ap (λ (w : Vec ReadEntry). w.items) c.close.ensures.reads in
+      let zero_left : length c.files.stack.items
+      ≡ 0 = omega (arith, c.in_default-pop.ensures.cases.0, c.files.stack.ok.0) in
+      let empty : c.files.stack.items ≡ [] = none_of c.files.stack.items zero_left in
+      let legal = legal_by g.R.ProtoPathResolver.may_answer g.I.InputReader.may_read
+      c.args.sources.now in
+      let back = goes-same files _ _ _ reads go in
+      let r = (rw empty at (c.files.invariant.inside files kept back good)) in
+      rw c.close.ensures.meets
+      (counted-end legal files kept _
+      (path_buf_text c.args.input.now) c.args.loader.now.meets c.files.top _ _ _ r le);
+  decided = λ d.
+      let reads = ap (λ (w : Vec ReadEntry). w.items) c.close.ensures.reads in
+      decided-same (rows c.args.sources.now.bundled.now) _ _ reads (c.files.invariant.decided d);
+  known =
+      let le : length c.files.top.tree.statements.items
+      ≤ c.files.top.next = (rw c.deref.ensures.value at c.in_default.ensures.lookup.3) in
+      let reads = ap (λ (w : Vec ReadEntry). w.items) c.close.ensures.reads in
+      let cl = closed-is c.files.top _ _ _ _ _
+      (chain_of [] c.files.stack.items) c.in_ok-placed.placed c.files.invariant.known
+      c.files.invariant.taken c.files.invariant.unloaded c.files.invariant.off le
+      (c.in_ok-placed.ensures.settles c.files.invariant.known.tells) in
+      rw reads cl.known;
+}
 
 pub join-requires : goal.join-requires
 join-requires g c =
@@ -670,57 +692,47 @@ files-preserved-in_default g c =
           c.in_ok-placed.placed w.1.import _ _ _ _ r s le k w.1.at w.1.named j);
     }
 
-pub returns-in_err-join-clause-goes : goal.returns-in_err-join-clause-goes
-returns-in_err-join-clause-goes g c files kept go good =
-    let le : length c.files.top.tree.statements.items
-    ≤ c.files.top.next = (rw c.deref.ensures.value at c.in_default.ensures.lookup.3) in
-    let reads = ap (λ (w : Vec ReadEntry). w.items) c.close.ensures.reads in
-    let legal = legal_by g.R.ProtoPathResolver.may_answer g.I.InputReader.may_read
-    c.args.sources.now in
-    let none = c.files.invariant.unloaded (frame_path c.files.top)
-    (among-last (frame_path c.files.top) (chain_of [] c.files.stack.items)) in
-    let back = goes-same files _ _ _ reads go in
-    let r = c.files.invariant.inside files kept back good in
-    let k = running-closes legal files kept _
-    (path_buf_text c.args.input.now) c.args.loader.now.meets c.files.stack.items c.files.top _ _
-    c.close.new.loader.loaded.entries _ c.close.new.loader.tables _
-    (Ok c.in_ok-placed.placed) r _ _ go c.files.invariant.known c.files.invariant.taken none
-    c.files.invariant.off le (omega (arith, c.files.invariant.low))
-    (c.in_ok-placed.ensures.settles c.files.invariant.known.tells) in
-    let p = err_from_is_err_and c.from_residual-in_err-join.result
-    c.from_residual-in_err-join.ensures.1 in
-    rw (p.1, reads)
-    (closed-breaks legal files kept _
-    (path_buf_text c.args.input.now) c.args.loader.now.meets c.files.stack.items c.files.top
-    c.in_ok-placed.placed _ _ _ _ p.0 r le k p.2)
-
-pub returns-in_err-join-clause-count : goal.returns-in_err-join-clause-count
-returns-in_err-join-clause-count g c files kept go good =
-    let reads = ap (λ (w : Vec ReadEntry). w.items) c.close.ensures.reads in
-    let legal = legal_by g.R.ProtoPathResolver.may_answer g.I.InputReader.may_read
-    c.args.sources.now in
-    let back = goes-same files _ _ _ reads go in
-    let r = c.files.invariant.inside files kept back good in
-    let p = err_from_is_err_and c.from_residual-in_err-join.result
-    c.from_residual-in_err-join.ensures.1 in
-    rw (p.1, c.close.ensures.meets)
-    (counted-now legal files kept _
-    (path_buf_text c.args.input.now) c.args.loader.now.meets c.files.stack.items c.files.top _ _
-    _ r)
-
-pub returns-in_err-join-clause-decided : goal.returns-in_err-join-clause-decided
-returns-in_err-join-clause-decided g c d =
-    let reads = ap (λ (w : Vec ReadEntry). w.items) c.close.ensures.reads in
-    decided-same (rows c.args.sources.now.bundled.now) _ _ reads (c.files.invariant.decided d)
-
-pub returns-in_err-met-clause-decided : goal.returns-in_err-met-clause-decided
-returns-in_err-met-clause-decided g c d =
-    c.meet-in-files.ensures.decided (c.files.invariant.decided d)
-
-pub returns-in_err-join-in-Loaded-met-clause-decided : goal.returns-in_err-join-in-Loaded-met-clause-decided
-returns-in_err-join-in-Loaded-met-clause-decided g c d =
-    c.meet-in-files.ensures.decided (c.files.invariant.decided d)
-
-pub returns-in_err-push-in-Opened-met-clause-decided : goal.returns-in_err-push-in-Opened-met-clause-decided
-returns-in_err-push-in-Opened-met-clause-decided g c d =
-    c.meet-in-files.ensures.decided (c.files.invariant.decided d)
+pub returns-in_err-join : goal.returns-in_err-join
+returns-in_err-join g c = record {
+  grows = search rules;
+  chain = search rules;
+  bound = search rules;
+  goes = λ files kept go good.
+      let le : length c.files.top.tree.statements.items
+      ≤ c.files.top.next = (rw c.deref.ensures.value at c.in_default.ensures.lookup.3) in
+      let reads = ap (λ (w : Vec ReadEntry). w.items) c.close.ensures.reads in
+      let legal = legal_by g.R.ProtoPathResolver.may_answer g.I.InputReader.may_read
+      c.args.sources.now in
+      let none = c.files.invariant.unloaded (frame_path c.files.top)
+      (among-last (frame_path c.files.top) (chain_of [] c.files.stack.items)) in
+      let back = goes-same files _ _ _ reads go in
+      let r = c.files.invariant.inside files kept back good in
+      let k = running-closes legal files kept _
+      (path_buf_text c.args.input.now) c.args.loader.now.meets c.files.stack.items c.files.top _ _
+      c.close.new.loader.loaded.entries _ c.close.new.loader.tables _
+      (Ok c.in_ok-placed.placed) r _ _ go c.files.invariant.known c.files.invariant.taken none
+      c.files.invariant.off le (omega (arith, c.files.invariant.low))
+      (c.in_ok-placed.ensures.settles c.files.invariant.known.tells) in
+      let p = err_from_is_err_and c.from_residual-in_err-join.result
+      c.from_residual-in_err-join.ensures.1 in
+      rw (p.1, reads)
+      (closed-breaks legal files kept _
+      (path_buf_text c.args.input.now) c.args.loader.now.meets c.files.stack.items c.files.top
+      c.in_ok-placed.placed _ _ _ _ p.0 r le k p.2);
+  count = λ files kept go good.
+      let reads = ap (λ (w : Vec ReadEntry). w.items) c.close.ensures.reads in
+      let legal = legal_by g.R.ProtoPathResolver.may_answer g.I.InputReader.may_read
+      c.args.sources.now in
+      let back = goes-same files _ _ _ reads go in
+      let r = c.files.invariant.inside files kept back good in
+      let p = err_from_is_err_and c.from_residual-in_err-join.result
+      c.from_residual-in_err-join.ensures.1 in
+      rw (p.1, c.close.ensures.meets)
+      (counted-now legal files kept _
+      (path_buf_text c.args.input.now) c.args.loader.now.meets c.files.stack.items c.files.top _ _
+      _ r);
+  decided = λ d.
+      let reads = ap (λ (w : Vec ReadEntry). w.items) c.close.ensures.reads in
+      decided-same (rows c.args.sources.now.bundled.now) _ _ reads (c.files.invariant.decided d);
+  known = search rules;
+}
