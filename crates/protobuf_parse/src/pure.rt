@@ -1,7 +1,7 @@
 //! The library's own way from texts to descriptors.
 
 ghost use Rattle.std.specs.Prelude.{◌≡◌, ◌⊎◌, IfOk, IfErr};
-ghost use Rattle.protobuf_parse_syntax.specs.Cut.{out_of_memory, error_place};
+ghost use Rattle.protobuf_parse_lexer.specs.Cut.{out_of_memory, error_place};
 ghost use Rattle.protobuf_parse_syntax.specs.Dependencies.{dependencies_of, dependencies_view};
 ghost use Rattle.protobuf_parse_syntax.specs.Parsing.{HasTree, IsFaultOf, TellsFaults};
 ghost use Rattle.protobuf_parse_syntax.specs.Trees.{FileSyntax};

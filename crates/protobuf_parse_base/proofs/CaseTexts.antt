@@ -15,7 +15,7 @@ use Rattle.std.proofs.Math.Utf8.{scalar, scalars}
 use Rattle.std.specs.Char.{to_ascii_uppercase, to_ascii_lowercase, is_ascii_uppercase, encode_utf8}
 use Rattle.std.specs.List.{list_any}
 use Rattle.std.specs.Str.{chars, IsUtf8}
-use Rattle.unicode.specs.Binary.{is_lowercase}
+use Rattle.ucd_derived.specs.Binary.{is_lowercase}
 use Rattle.protobuf_parse_base.specs.Cases.{joined_words, camel_case_of, split_words, snake_case_of}
 use Rattle.protobuf_parse_base.specs.Cases.{has_underscore, camel_case_text, snake_case_text}
 

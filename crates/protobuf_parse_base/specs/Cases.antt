@@ -4,7 +4,7 @@ use Rattle.std.specs.Prelude.{encode_utf8_all}
 use Rattle.std.specs.List.{list_any}
 use Rattle.std.specs.Str.{chars}
 use Rattle.std.specs.Char.{to_ascii_uppercase, to_ascii_lowercase, is_ascii_uppercase}
-use Rattle.unicode.specs.Binary.{is_lowercase}
+use Rattle.ucd_derived.specs.Binary.{is_lowercase}
 use Rattle.protobuf_parse_base.specs.Characters as char
 
 -- the characters without the underscores, each that directly followed one in ASCII upper case;

@@ -10,7 +10,7 @@ ghost use Rattle.protobuf_parse_base.specs.Cases.{joined_words, has_underscore};
 ghost use Rattle.protobuf_parse_base.specs.Escapes.{escaped_byte, escaped_bytes, said_bytes};
 
 use std::alloc::{AllocError, Global};
-use unicode::properties::is_lowercase;
+use ucd_derived::is_lowercase;
 
 /// The name in camel case: without underscores, and with its first character and each that directly
 /// followed an underscore in ASCII upper case. The one error is that memory is short.
@@ -41,10 +41,8 @@ fn join_words(alloc: Global, name: &str, raise: bool) -> Result<String, AllocErr
         (λ joined. string_bytes joined ≡ encode_utf8_all (joined_words raise (chars name.now))) }
 {
     let joined = join_bytes(alloc, name.as_bytes(), raise)?;
-    match String::from_utf8(joined) {
-        Ok(joined) => Ok(joined),
-        Err(_) => unreachable!(),
-    }
+    // Those of a text become a text, so they need not be gone through once more.
+    Ok(unsafe { String::from_utf8_unchecked(joined) })
 }
 
 /// The same on the bytes of a name, since only those of ASCII are an underscore or change.

@@ -4,15 +4,15 @@ use Rattle.std.specs.Prelude.{String}
 use Rattle.std.specs.Global.{Global}
 use Rattle.std.specs.Str.{IsUtf8}
 use Rattle.std.proofs.lemmas.Str.{IsUtf8-string_bytes}
-use Rattle.protobuf_parse_syntax.specs.Text.{Bytes}
-use Rattle.protobuf_parse_syntax.specs.Tokens.{DecodesAll}
-use Rattle.protobuf_parse_syntax.specs.Decoding.{RefusesBytes, RefusesText}
-use Rattle.protobuf_parse_syntax.specs.Decoder.{decode, text_of}
-use Rattle.protobuf_parse_syntax.specs.DecoderLaws.{decode-to, decode-from, text-to, text-from}
-use Rattle.protobuf_parse_syntax.specs.Grammar.{StandsFor}
-use Rattle.protobuf_parse_syntax.specs.declared.lexer.str_lit.StrLitDecodeError.{StrLitDecodeError}
-use Rattle.protobuf_parse_syntax.specs.declared.lexer.str_lit.StrLitDecodeError.TheVariants.{Memory}
-use Rattle.protobuf_parse_syntax.proofs.Escapes.{one_decoding_of_all}
+use Rattle.protobuf_parse_lexer.specs.Text.{Bytes}
+use Rattle.protobuf_parse_lexer.specs.Tokens.{DecodesAll}
+use Rattle.protobuf_parse_lexer.specs.Decoding.{RefusesBytes, RefusesText}
+use Rattle.protobuf_parse_lexer.specs.Decoder.{decode, text_of}
+use Rattle.protobuf_parse_lexer.specs.DecoderLaws.{decode-to, decode-from, text-to, text-from}
+use Rattle.protobuf_parse_lexer.specs.Tokens.{StandsFor}
+use Rattle.protobuf_parse_lexer.specs.declared.lexer.str_lit.StrLitDecodeError.{StrLitDecodeError}
+use Rattle.protobuf_parse_lexer.specs.declared.lexer.str_lit.StrLitDecodeError.TheVariants.{Memory}
+use Rattle.protobuf_parse_lexer.proofs.Escapes.{one_decoding_of_all}
 
 none_found : {B : Type 0} (o : Option B) → ((b : B) → o ≡ Some b → ⊥) → o ≡ None
 none_found None no_value = refl

@@ -13,7 +13,7 @@ use Rattle.protobuf_parse_model.specs.BuiltinOptions.{message_table}
 use Rattle.protobuf_parse_model.specs.Enums.{ranges_reserved}
 use Rattle.protobuf_parse_model.specs.Messages.{message_name, oneofs_of, extension_ranges, reserves}
 use Rattle.protobuf_parse_model.specs.Messages.{range_faults, options_of_body, nested_of, nested_in}
-use Rattle.protobuf_parse_model.specs.Messages.{names_of_messages, body_duplicates, rest_faults}
+use Rattle.protobuf_parse_model.specs.Messages.{names_of_messages, body_duplicates}
 use Rattle.protobuf_parse_model.specs.Messages.{whole_faults, statement_faults, faults_in}
 use Rattle.protobuf_parse_model.specs.Messages.{message_faults}
 use Rattle.protobuf_parse_model.specs.Messages as messages

@@ -4,7 +4,8 @@ use Rattle.std.proofs.Common.{false, refl, flat_map}
 use lib.Utf8
 use Rattle.std.specs.Fmt.{digits}
 use Rattle.std.specs.Str.{chars, is_utf8}
-use Rattle.protobuf_parse_syntax.specs.declared.lexer.token.Place.{Place}
+use Rattle.protobuf_parse_lexer.specs.declared.lexer.token.Place.{Place}
+use Rattle.protobuf_parse_lexer.specs.Decoder.{decode_piece, front_part, byte_part, digits_end}
 use Rattle.protobuf_parse_syntax.specs.Trees.{ConstantSyntax, integer, string, truth, builtin}
 use Rattle.protobuf_parse_syntax.specs.Trees.{OptionSyntax, scalar, map_of, named, TypeSyntax}
 use Rattle.protobuf_parse_syntax.specs.Trees.{FieldSyntax, FieldStatementSyntax, field, group}
@@ -16,7 +17,6 @@ use Rattle.protobuf_parse_syntax.specs.Trees.{message_option, message_field, mes
 use Rattle.protobuf_parse_syntax.specs.Trees.{StatementSyntax, file_import, file_package}
 use Rattle.protobuf_parse_syntax.specs.Trees.{file_message, file_extend, file_service}
 use Rattle.protobuf_parse_syntax.specs.Trees.{service_method, FileSyntax}
-use Rattle.protobuf_parse_syntax.specs.Decoder.{decode_piece, front_part, byte_part, digits_end}
 use Rattle.protobuf_parse_syntax.specs.Formats.{format}
 use Rattle.protobuf_parse_syntax.specs.declared.tree.Syntax.{Syntax}
 use Rattle.protobuf_parse_syntax.specs.declared.tree.Syntax.TheVariants.{Proto2, Proto3}

@@ -21,8 +21,8 @@ use Rattle.protobuf_parse_model.specs.Services.{methods_in, options_of_service, 
 use Rattle.protobuf_parse_model.specs.Services.{service_of}
 use Rattle.protobuf_parse_model.specs.Messages as messages
 use Rattle.protobuf_parse_model.specs.Messages.{entries_of, messages_behind, has_own_oneof}
-use Rattle.protobuf_parse_model.specs.Messages.{options_in_oneof, oneof_of, oneofs_of, at_oneof}
-use Rattle.protobuf_parse_model.specs.Messages.{fields_of, fields_from, extending, extend_fields}
+use Rattle.protobuf_parse_model.specs.Messages.{options_in_oneof, oneofs_of, at_oneof}
+use Rattle.protobuf_parse_model.specs.Messages.{fields_of, fields_from, extending}
 use Rattle.protobuf_parse_model.specs.Messages.{options_of_body, message_from, nested_of, nested_in}
 use Rattle.protobuf_parse_model.specs.Messages.{message_of}
 use Rattle.protobuf_parse_model.specs.FileDescriptor as files

@@ -10,11 +10,11 @@ use Rattle.std.specs.Prelude.{Bool, List, [], ◌∷◌, ◌++◌, map, flat_map
 use Rattle.std.specs.Prelude.{Some, None, option_map, if◌then◌else◌}
 use Rattle.std.specs.Borrow.{Bor}
 use Rattle.std.specs.List.{find, last_or}
+use Rattle.protobuf_parse_lexer.specs.Decoder.{text_of}
 use Rattle.protobuf_parse_syntax.specs.Trees.{ConstantSyntax, truth, dotted, string}
 use Rattle.protobuf_parse_syntax.specs.Trees.{OptionNameSyntax, builtin, custom, OptionSyntax}
 use Rattle.protobuf_parse_syntax.specs.Trees.{option_syntax}
 use Rattle.protobuf_parse_syntax.specs.declared.tree.option.ProtobufOption.{ProtobufOption}
-use Rattle.protobuf_parse_syntax.specs.Decoder.{text_of}
 use Rattle.protobuf_parse_model.specs.declared.error.ElabErrorKind.TheVariants.{StrLitDecode}
 use Rattle.protobuf_parse_model.specs.declared.error.ElabErrorKind.TheVariants.{BuiltinOptionNotFound}
 use Rattle.protobuf_parse_model.specs.declared.error.ElabErrorKind.TheVariants.{BuiltinOptionPointsToNonSingularField}

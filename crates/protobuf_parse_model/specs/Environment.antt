@@ -12,7 +12,7 @@ use Rattle.protobuf_parse_model.specs.Descriptors.{Text}
 use Rattle.protobuf_parse_model.specs.Faults.{Fault}
 use Rattle.protobuf_parse_model.specs.Duplicates.{fault}
 use Rattle.protobuf_parse_model.specs.Declarations as names
-use Rattle.protobuf_parse_model.specs.Declarations.{Scope, Declared, DeclaredType, MessageOrEnum}
+use Rattle.protobuf_parse_model.specs.Declarations.{Scope, DeclaredType, MessageOrEnum}
 use Rattle.protobuf_parse_model.specs.Lookup.{Meanings, begins_with_dot, meant}
 
 -- what is wrong in the custom options among the statements of a construct, seen from a scope

@@ -13,11 +13,11 @@ use Rattle.std.specs.Prelude.{bytes_eq, slice_get, Option, Some, None, unwrap_or
 use Rattle.std.specs.Prelude.{if◌then◌else◌}
 use Rattle.protobuf_parse_base.specs.Cases.{json_name_text}
 use Rattle.protobuf_parse_base.specs.Escapes.{escaped_bytes}
+use Rattle.protobuf_parse_lexer.specs.Decoder.{decode, text_of}
 use Rattle.protobuf_parse_syntax.specs.Trees.{ConstantSyntax, string, OptionNameSyntax, builtin}
 use Rattle.protobuf_parse_syntax.specs.Trees.{custom, OptionSyntax, TypeSyntax, scalar, map_of}
 use Rattle.protobuf_parse_syntax.specs.Trees.{named, FieldSyntax, FieldStatementSyntax, field}
 use Rattle.protobuf_parse_syntax.specs.Trees.{group}
-use Rattle.protobuf_parse_syntax.specs.Decoder.{decode, text_of}
 use Rattle.protobuf_parse_syntax.specs.Formats.{format}
 use Rattle.protobuf_parse_syntax.specs.declared.tree.Syntax.{Syntax}
 use Rattle.protobuf_parse_syntax.specs.declared.tree.Syntax.TheVariants.{Proto3}

@@ -1,6 +1,6 @@
 //! Custom options: who says what they become.
 
-ghost use Rattle.std.specs.Prelude.{◌≡◌, ◌++◌, [], codes, map, flat_map, string_bytes, IfOk, OnOk};
+ghost use Rattle.std.specs.Prelude.{◌≡◌, ◌++◌, map, flat_map, string_bytes, IfOk, OnOk};
 ghost use Rattle.protobuf_parse_syntax.specs.Trees.{option_part_syntax, option_syntax};
 ghost use Rattle.protobuf_parse_model.specs.SeenFiles.{name_texts};
 ghost use Rattle.protobuf_parse_model.specs.Environment.{Customs, no_customs, no_extensions};

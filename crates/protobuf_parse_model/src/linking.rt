@@ -1,6 +1,6 @@
 //! Full names that files declare more than once.
 
-ghost use Rattle.std.specs.Prelude.{◌≡◌, Bool, true, ◌&&◌, List, filter, map, flat_map, length};
+ghost use Rattle.std.specs.Prelude.{◌≡◌, true, ◌&&◌, List, filter, map, flat_map, length};
 ghost use Rattle.std.specs.Prelude.{◌<◌, ◌^◌, nat_eq, string_bytes};
 ghost use Rattle.std.specs.List.{list_any};
 ghost use Rattle.protobuf_parse_syntax.specs.Trees.{FileSyntax};

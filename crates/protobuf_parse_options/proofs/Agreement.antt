@@ -16,7 +16,6 @@ use Rattle.protobuf_parse_model.specs.Descriptors.{messages_of_list}
 use Rattle.protobuf_parse_model.specs.Faults.{Among, here, there}
 use Rattle.protobuf_parse_model.specs.Declarations as names
 use Rattle.protobuf_parse_model.specs.Declarations.{Scope, Declared, declare, DeclaredExtension}
-use Rattle.protobuf_parse_model.specs.Declarations.{ExtensionSyntax, file_scope}
 use Rattle.protobuf_parse_model.specs.Environment.{Environment, env_inside}
 use Rattle.protobuf_parse_model.specs.Fields.{field_statement_of}
 use Rattle.protobuf_parse_model.specs.Messages as bodies

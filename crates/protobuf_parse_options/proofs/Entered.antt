@@ -31,7 +31,7 @@ use Rattle.protobuf_parse_wire.specs.Declarations as wire
 use Rattle.protobuf_parse_wire.specs.Declarations.{Declaration, name_within, package_scope}
 use Rattle.protobuf_parse_wire.specs.Declarations.{declared_message, declared_messages}
 use Rattle.protobuf_parse_wire.specs.Declarations.{messages_declared_in}
-use Rattle.protobuf_parse_wire.specs.Declarations.{declared_extensions, extensions_within}
+use Rattle.protobuf_parse_wire.specs.Declarations.{extensions_within}
 use Rattle.protobuf_parse_wire.specs.Declarations.{messages_named, messages_with_name}
 use Rattle.protobuf_parse_wire.specs.Declarations.{extensions_extending}
 use Rattle.protobuf_parse_wire.specs.Declarations.{extends}

@@ -19,7 +19,7 @@ use Rattle.protobuf_parse_model.specs.Declarations.{Declared}
 use Rattle.protobuf_parse_model.specs.Environment.{Environment, env_inside}
 use Rattle.protobuf_parse_model.specs.Enums.{enum_values, value_of, enum_of}
 use Rattle.protobuf_parse_model.specs.Messages as bodies
-use Rattle.protobuf_parse_model.specs.Messages.{entries_of, messages_behind, message_from}
+use Rattle.protobuf_parse_model.specs.Messages.{entries_of, messages_behind}
 use Rattle.protobuf_parse_model.specs.Messages.{nested_of, nested_in}
 use Rattle.protobuf_parse_model.specs.FileDescriptor as files
 use Rattle.protobuf_parse_model.specs.FileDescriptor.{file_of}

@@ -15,7 +15,7 @@ use Rattle.protobuf_parse_model.specs.Statements.{message_body, entry_name, is_m
 use Rattle.protobuf_parse_model.specs.Descriptors.{Text, EnumDescriptor, MessageDescriptor}
 use Rattle.protobuf_parse_model.specs.Declarations as names
 use Rattle.protobuf_parse_model.specs.Declarations.{Scope, Declared, DeclaredType, full_name}
-use Rattle.protobuf_parse_model.specs.Declarations.{file_scope, file_types, file_generated}
+use Rattle.protobuf_parse_model.specs.Declarations.{file_types, file_generated}
 use Rattle.protobuf_parse_model.specs.Declarations.{generated_by, generated_of, generated_in}
 use Rattle.protobuf_parse_model.specs.Declarations.{types_of, types_in, statement_types}
 use Rattle.protobuf_parse_model.specs.Declarations.{statement_generated}
@@ -23,9 +23,8 @@ use Rattle.protobuf_parse_model.specs.Linking.{occurrences}
 use Rattle.protobuf_parse_model.specs.Environment.{Environment, env_inside}
 use Rattle.protobuf_parse_model.specs.Messages as bodies
 use Rattle.protobuf_parse_model.specs.Messages.{messages_behind, entries_of, message_from}
-use Rattle.protobuf_parse_model.specs.Messages.{nested_of, nested_in, message_of}
+use Rattle.protobuf_parse_model.specs.Messages.{nested_of, nested_in}
 use Rattle.protobuf_parse_model.specs.FileDescriptor as files
-use Rattle.protobuf_parse_model.specs.FileDescriptor.{file_of}
 use Rattle.protobuf_parse_model.proofs.Orders.{count-append}
 use Rattle.protobuf_parse_wire.specs.Declarations.{Declaration, name_within, declared_message}
 use Rattle.protobuf_parse_wire.specs.Declarations.{package_scope}

@@ -2,11 +2,11 @@
 use Rattle.std.proofs.Common.{ℕ, ◌+◌, ◌≤◌, ℤ, List, [], ◌∷◌, ◌++◌, map, flat_map, length, Option}
 use Rattle.std.proofs.Common.{Some, None, unwrap_or, arith}
 use Rattle.std.specs.Option.{option_to_list}
+use Rattle.protobuf_parse_lexer.specs.Decoder.{decode}
 use Rattle.protobuf_parse_syntax.specs.Trees.{ConstantSyntax, integer, truth, dotted, string, list}
 use Rattle.protobuf_parse_syntax.specs.Trees.{fields, ConstantList, no_constants, more_constants}
 use Rattle.protobuf_parse_syntax.specs.Trees.{ConstantFieldList, no_fields, more_fields}
 use Rattle.protobuf_parse_syntax.specs.Trees.{OptionPartSyntax, OptionNameSyntax, builtin, custom}
-use Rattle.protobuf_parse_syntax.specs.Decoder.{decode}
 use Rattle.protobuf_parse_model.specs.Descriptors.{Text, FieldDescriptor}
 use Rattle.protobuf_parse_model.specs.Faults.{here, there}
 use Rattle.protobuf_parse_wire.specs.declared.kind.Kind.{Kind}

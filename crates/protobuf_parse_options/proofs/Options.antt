@@ -10,6 +10,7 @@ use Rattle.std.proofs.lemmas.Bool.{leb-true}
 use Rattle.std.proofs.lemmas.Str.{IsUtf8-from_is_utf8}
 use Rattle.std.specs.Int.{w32}
 use Rattle.std.specs.Int.RustNames.{FitsSigned}
+use Rattle.protobuf_parse_lexer.specs.Decoder.{decode, text_when}
 use Rattle.protobuf_parse_syntax.specs.Trees.{Pieces, ConstantSyntax, integer, truth, dotted}
 use Rattle.protobuf_parse_syntax.specs.Trees.{string, list, fields, ConstantNameSyntax}
 use Rattle.protobuf_parse_syntax.specs.Trees.{regular_name, extension_name, url_name, ConstantList}
@@ -17,7 +18,6 @@ use Rattle.protobuf_parse_syntax.specs.Trees.{no_constants, more_constants, Cons
 use Rattle.protobuf_parse_syntax.specs.Trees.{no_fields, more_fields, OptionPartSyntax, direct}
 use Rattle.protobuf_parse_syntax.specs.Trees.{extension, OptionNameSyntax, builtin, custom}
 use Rattle.protobuf_parse_syntax.specs.Trees.{OptionSyntax}
-use Rattle.protobuf_parse_syntax.specs.Decoder.{decode, text_when}
 use Rattle.protobuf_parse_model.specs.declared.error.ElabErrorKind.TheVariants.{OptionFieldNumber}
 use Rattle.protobuf_parse_model.specs.declared.descriptor.FieldType.{FieldType}
 use Rattle.protobuf_parse_model.specs.declared.descriptor.FieldType.TheVariants as types

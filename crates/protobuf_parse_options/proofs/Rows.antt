@@ -3,12 +3,12 @@ use Rattle.std.proofs.Common.{◌≡◌, ℕ, pos, negsuc, List, [], ◌∷◌, 
 use Rattle.std.proofs.Common.{arith}
 use Rattle.std.specs.Str.{chars, is_utf8}
 use lib.Utf8
-use Rattle.protobuf_parse_syntax.specs.declared.lexer.token.Place.{Place}
+use Rattle.protobuf_parse_lexer.specs.declared.lexer.token.Place.{Place}
+use Rattle.protobuf_parse_lexer.specs.Decoder.{decode_piece, front_part, byte_part, digits_end}
 use Rattle.protobuf_parse_syntax.specs.declared.tree.Syntax.TheVariants.{Proto2}
 use Rattle.protobuf_parse_syntax.specs.declared.tree.field.Label.{Label}
 use Rattle.protobuf_parse_syntax.specs.declared.tree.field.Label.TheVariants.{Optional, Repeated}
 use Rattle.protobuf_parse_syntax.specs.declared.tree.field.Scalar.TheVariants as word
-use Rattle.protobuf_parse_syntax.specs.Decoder.{decode_piece, front_part, byte_part, digits_end}
 use Rattle.protobuf_parse_syntax.specs.Trees.{ConstantSyntax, integer, string, list, fields}
 use Rattle.protobuf_parse_syntax.specs.Trees.{no_constants, more_constants, ConstantFieldList}
 use Rattle.protobuf_parse_syntax.specs.Trees.{no_fields, more_fields, regular_name, extension_name}

@@ -1,8 +1,8 @@
 -- What a string says that is given to a field.
 use Rattle.std.proofs.Common.{◌≡◌, List, [], Some, None, unwrap_or, ap, sym, subst}
-use Rattle.protobuf_parse_syntax.specs.Text.{Bytes}
-use Rattle.protobuf_parse_syntax.specs.Decoder.{decode, text_of}
-use Rattle.protobuf_parse_syntax.specs.DecoderLaws.{decode-from, text-to}
+use Rattle.protobuf_parse_lexer.specs.Text.{Bytes}
+use Rattle.protobuf_parse_lexer.specs.Decoder.{decode, text_of}
+use Rattle.protobuf_parse_lexer.specs.DecoderLaws.{decode-from, text-to}
 use Rattle.protobuf_parse_model.specs.declared.error.ElabErrorKind.TheVariants.{StrLitDecode}
 use Rattle.protobuf_parse_model.specs.declared.error.ElabFailure.{ElabFailure}
 use Rattle.protobuf_parse_model.specs.BuiltinOptions.{string_faults}

@@ -11,15 +11,17 @@ use Rattle.std.proofs.lemmas.Bool.{leb-true}
 use Rattle.std.proofs.lemmas.List.{length-take-le}
 use Rattle.protobuf_parse_base.specs.Relations.{Nothing, Never, Level, Then, Either, Many}
 use Rattle.protobuf_parse_base.specs.Relations.{Separated, none, more, Unless, At, somes}
-use Rattle.protobuf_parse_syntax.specs.Tokens.{Lexeme}
-use Rattle.protobuf_parse_syntax.specs.declared.lexer.token.Place.{Place}
-use Rattle.protobuf_parse_syntax.specs.declared.lexer.token.TokenKind.{TokenKind}
-use Rattle.protobuf_parse_syntax.specs.declared.lexer.token.TokenKind.TheVariants as kind
+use Rattle.protobuf_parse_lexer.specs.Tokens.{Lexeme}
+use Rattle.protobuf_parse_lexer.specs.declared.lexer.token.Place.{Place}
+use Rattle.protobuf_parse_lexer.specs.declared.lexer.token.TokenKind.{TokenKind}
+use Rattle.protobuf_parse_lexer.specs.declared.lexer.token.TokenKind.TheVariants as kind
+use Rattle.protobuf_parse_lexer.specs.Text.{Bytes}
+use Rattle.protobuf_parse_lexer.specs.Classes.{sees_at, ident, is_one_of, words}
+use Rattle.protobuf_parse_lexer.specs.Text.{IsToken}
+use Rattle.protobuf_parse_lexer.specs.Cut.{Cut, done, blank, token}
 use Rattle.protobuf_parse_syntax.specs.declared.tree.Syntax.{Syntax}
 use Rattle.protobuf_parse_syntax.specs.declared.tree.Syntax.TheVariants.{Proto2, Proto3}
 use Rattle.protobuf_parse_syntax.specs.declared.tree.field.Label.{Label}
-use Rattle.protobuf_parse_syntax.specs.Text.{Bytes}
-use Rattle.protobuf_parse_syntax.specs.Classes.{sees_at, ident, is_one_of, words}
 use Rattle.protobuf_parse_syntax.specs.Grammar.{table_words, statement_words, labels, if_so}
 use Rattle.protobuf_parse_syntax.specs.Grammar.{small_at, negative, AtMost, Item, Statements}
 use Rattle.protobuf_parse_syntax.specs.Grammar.{Braced, IsIdent, IsDotted, option_name}
@@ -39,11 +41,9 @@ use Rattle.protobuf_parse_syntax.specs.Trees.{OneofStatementSyntax, OneofSyntax,
 use Rattle.protobuf_parse_syntax.specs.Trees.{EnumValueSyntax, EnumStatementSyntax, EnumSyntax}
 use Rattle.protobuf_parse_syntax.specs.Trees.{MessageStatementSyntax, MessageStatementList}
 use Rattle.protobuf_parse_syntax.specs.Trees.{MessageSyntax, MethodSyntax, ServiceStatementSyntax}
+use Rattle.protobuf_parse_model.specs.Faults.{Among, here, there}
 use Rattle.protobuf_parse_syntax.specs.Trees.{ServiceSyntax, PackageSyntax, StatementSyntax}
 use Rattle.protobuf_parse_syntax.specs.Trees.{FileSyntax}
-use Rattle.protobuf_parse_model.specs.Faults.{Among, here, there}
-use Rattle.protobuf_parse_syntax.specs.Text.{IsToken}
-use Rattle.protobuf_parse_syntax.specs.Cut.{Cut, done, blank, token}
 use Rattle.protobuf_parse_syntax.specs.Parsing.{HasTree}
 use Rattle.protobuf_parse_options.specs.NamesAlike.{HasPackageName}
 use Rattle.protobuf_parse_options.specs.OptionDepth.{name_parts}

@@ -16,7 +16,7 @@ use Rattle.protobuf_parse_syntax.specs.Nesting.{ShallowOption, ShallowOptionStat
 use Rattle.protobuf_parse_syntax.specs.Nesting.{ShallowFields, ShallowOneofStatement, ShallowOneof}
 use Rattle.protobuf_parse_syntax.specs.Nesting.{ShallowExtend, ShallowEnumStatement, ShallowEnum}
 use Rattle.protobuf_parse_syntax.specs.Nesting.{ShallowMessageStatement, ShallowBody}
-use Rattle.protobuf_parse_syntax.specs.Nesting.{ShallowMessage, ShallowMethod}
+use Rattle.protobuf_parse_syntax.specs.Nesting.{ShallowMessage}
 use Rattle.protobuf_parse_syntax.specs.Nesting.{ShallowServiceStatement, ShallowService}
 use Rattle.protobuf_parse_syntax.specs.Nesting.{ShallowStatement, ShallowFile}
 use Rattle.protobuf_parse_model.specs.Faults.{Among, here, there}

@@ -1,6 +1,7 @@
 -- What is wrong in the custom options of a file.
 use Rattle.std.specs.Prelude.{ℤ, pos, int_le, not, ◌&&◌, List, [], ◌∷◌, ◌++◌, flat_map, codes}
 use Rattle.std.specs.Prelude.{bytes_eq, Option, Some, None, is_some, option_to_list, if◌then◌else◌}
+use Rattle.protobuf_parse_lexer.specs.Decoder.{decode, text_of}
 use Rattle.protobuf_parse_syntax.specs.Trees.{Pieces, ConstantNameSyntax, regular_name}
 use Rattle.protobuf_parse_syntax.specs.Trees.{extension_name, url_name, ConstantSyntax, integer}
 use Rattle.protobuf_parse_syntax.specs.Trees.{truth, dotted, string, list, fields, ConstantList}
@@ -8,7 +9,6 @@ use Rattle.protobuf_parse_syntax.specs.Trees.{no_constants, more_constants, Cons
 use Rattle.protobuf_parse_syntax.specs.Trees.{no_fields, more_fields, OptionPartSyntax, direct}
 use Rattle.protobuf_parse_syntax.specs.Trees.{extension, OptionNameSyntax, builtin, custom}
 use Rattle.protobuf_parse_syntax.specs.Trees.{OptionSyntax, FileSyntax}
-use Rattle.protobuf_parse_syntax.specs.Decoder.{decode, text_of}
 use Rattle.protobuf_parse_model.specs.declared.error.ElabErrorKind.TheVariants.{ExtensionNotFound}
 use Rattle.protobuf_parse_model.specs.declared.error.ElabErrorKind.TheVariants.{WrongExtensionType}
 use Rattle.protobuf_parse_model.specs.declared.error.ElabErrorKind.TheVariants.{ExtensionIsNotMessage}

@@ -9,12 +9,12 @@
 -- "Message Structure" (https://protobuf.dev).
 use Rattle.std.specs.Prelude.{ℤ, nat_abs, List, [], ◌∷◌, ◌++◌, map, flat_map, unwrap_or}
 use Rattle.std.specs.Prelude.{option_to_list}
+use Rattle.protobuf_parse_lexer.specs.Decoder.{decode}
 use Rattle.protobuf_parse_syntax.specs.Trees.{ConstantSyntax, integer, truth, dotted, string, list}
 use Rattle.protobuf_parse_syntax.specs.Trees.{fields, ConstantList, no_constants, more_constants}
 use Rattle.protobuf_parse_syntax.specs.Trees.{ConstantFieldList, no_fields, more_fields}
 use Rattle.protobuf_parse_syntax.specs.Trees.{OptionPartSyntax, OptionNameSyntax, builtin, custom}
 use Rattle.protobuf_parse_syntax.specs.Trees.{OptionSyntax, FileSyntax}
-use Rattle.protobuf_parse_syntax.specs.Decoder.{decode}
 use Rattle.protobuf_parse_model.specs.Descriptors.{Text, FieldDescriptor, FileDescriptor}
 use Rattle.protobuf_parse_model.specs.Faults.{Among}
 use Rattle.protobuf_parse_model.specs.declared.customs.Construct.{Construct}

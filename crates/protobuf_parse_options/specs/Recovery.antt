@@ -4,7 +4,7 @@
 -- Files are given by their paths. The reader goes by their descriptors without custom options.
 use Rattle.std.specs.Prelude.{◌≡◌, ℕ, ◌<◌, ◌^◌, true, List, [], ◌∷◌, ◌++◌, flat_map, length, Some}
 use Rattle.std.specs.Prelude.{Ok, IsTrue}
-use Rattle.protobuf_parse_syntax.specs.Text.{Bytes}
+use Rattle.protobuf_parse_lexer.specs.Text.{Bytes}
 use Rattle.protobuf_parse_syntax.specs.Trees.{OptionPartSyntax, custom, OptionSyntax, FileSyntax}
 use Rattle.protobuf_parse_syntax.specs.Parsing.{HasTree}
 use Rattle.protobuf_parse_model.specs.Descriptors.{Text, FileDescriptor}

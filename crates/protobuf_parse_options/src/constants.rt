@@ -1,7 +1,7 @@
 //! What constants give to fields.
 
-ghost use Rattle.std.specs.Prelude.{◌≡◌, ◌++◌, map, flat_map, unwrap_or, []};
-ghost use Rattle.protobuf_parse_syntax.specs.Decoder.{decode};
+ghost use Rattle.std.specs.Prelude.{◌++◌, map, flat_map, unwrap_or, []};
+ghost use Rattle.protobuf_parse_lexer.specs.Decoder.{decode};
 ghost use Rattle.protobuf_parse_syntax.specs.Trees.{constant_field_syntax, constant_syntax, dotted};
 ghost use Rattle.protobuf_parse_syntax.specs.Trees.{pieces_of};
 ghost use Rattle.protobuf_parse_model.specs.Descriptors.{field_view};
@@ -14,7 +14,6 @@ ghost use Rattle.protobuf_parse_options.specs.CustomOptions.{item_of, item_of_me
 ghost use Rattle.protobuf_parse_options.specs.Given.{field_faults_of, given_field_items};
 ghost use Rattle.protobuf_parse_options.specs.Given.{given_faults};
 ghost use Rattle.protobuf_parse_options.specs.Given.{option_place_view, path_said};
-ghost use Rattle.protobuf_parse_options.specs.Holding.{files_seen};
 ghost use Rattle.protobuf_parse_options.specs.OptionFields.{type_takes, type_name_of};
 ghost use Rattle.protobuf_parse_wire.specs.Views.{entry_view};
 

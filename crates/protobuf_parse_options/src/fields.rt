@@ -1,6 +1,6 @@
 //! The fields that names in options mean.
 
-ghost use Rattle.std.specs.Prelude.{◌≡◌, Some, string_bytes, unwrap_or, IfOk};
+ghost use Rattle.std.specs.Prelude.{◌≡◌, Some, string_bytes, IfOk};
 ghost use Rattle.protobuf_parse_syntax.specs.Trees.{constant_name_syntax, option_part_syntax};
 ghost use Rattle.protobuf_parse_model.specs.Descriptors.{field_view};
 ghost use Rattle.protobuf_parse_model.specs.Faults.{Elaborates};

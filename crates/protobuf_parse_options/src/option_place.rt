@@ -1,6 +1,6 @@
 //! From where options are seen.
 
-ghost use Rattle.std.specs.Prelude.{◌≡◌, List, true};
+ghost use Rattle.std.specs.Prelude.{◌≡◌, true};
 ghost use Rattle.std.specs.Option.{ForSome};
 ghost use Rattle.protobuf_parse_options.specs.Holding.{files_seen};
 ghost use Rattle.protobuf_parse_options.specs.OptionFields.{names_message};

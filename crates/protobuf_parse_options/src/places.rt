@@ -1,10 +1,9 @@
 //! Where files declare messages, enums and extensions, by their full names.
 
-ghost use Rattle.std.specs.Prelude.{◌≡◌, ◌++◌, ◌∷◌, [], List, length, map, string_bytes};
-ghost use Rattle.std.specs.Prelude.{if◌then◌else◌, OnOk};
+ghost use Rattle.std.specs.Prelude.{◌≡◌, ◌++◌, ◌∷◌, [], List, length, map};
+ghost use Rattle.std.specs.Prelude.{OnOk};
 ghost use Rattle.std.specs.Int.{w32};
 ghost use Rattle.std.specs.Int.RustNames.{FitsSigned};
-ghost use Rattle.std.specs.Str.{bytes_eq};
 ghost use Rattle.protobuf_parse_model.specs.Descriptors.{FileDescriptor, Text, enum_value_view};
 ghost use Rattle.protobuf_parse_model.specs.Descriptors.{file_view};
 ghost use Rattle.protobuf_parse_options.specs.Holding.{AddsSpots, Holds, spots_known};

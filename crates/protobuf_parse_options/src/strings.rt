@@ -1,7 +1,7 @@
 //! The bytes that strings stand for.
 
 ghost use Rattle.std.specs.Prelude.{unwrap_or, []};
-ghost use Rattle.protobuf_parse_syntax.specs.Decoder.{decode, text_of};
+ghost use Rattle.protobuf_parse_lexer.specs.Decoder.{decode, text_of};
 ghost use Rattle.protobuf_parse_syntax.specs.Trees.{pieces_of};
 ghost use Rattle.protobuf_parse_model.specs.BuiltinOptions.{string_faults};
 ghost use Rattle.protobuf_parse_model.specs.Descriptors.{field_view};

@@ -7,10 +7,10 @@ use Rattle.std.specs.Global.{Vec}
 use Rattle.std.specs.Borrow.{Bor}
 use Rattle.std.specs.Str.{IsUtf8}
 use Rattle.protobuf_parse_base.specs.PathViews.{path_buf_text}
-use Rattle.protobuf_parse_syntax.specs.Cut.{error_place}
+use Rattle.protobuf_parse_lexer.specs.Cut.{error_place}
+use Rattle.protobuf_parse_lexer.specs.declared.error.ParserErrorWithLocation.{ParserErrorWithLocation}
 use Rattle.protobuf_parse_syntax.specs.Parsing.{HasTree, IsFaultOf}
 use Rattle.protobuf_parse_syntax.specs.Trees.{FileSyntax}
-use Rattle.protobuf_parse_syntax.specs.declared.error.ParserErrorWithLocation.{ParserErrorWithLocation}
 use Rattle.protobuf_parse_model.specs.Descriptors as described
 use Rattle.protobuf_parse_model.specs.Descriptors.{Text, FileDescriptor}
 use Rattle.protobuf_parse_model.specs.Environment.{Customs, Environment}

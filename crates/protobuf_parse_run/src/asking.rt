@@ -3,11 +3,9 @@
 ghost use Rattle.std.specs.Prelude.{◌≡◌, ℕ, List, Some, None, Option, Result, IfOk, IfErr};
 ghost use Rattle.std.specs.Prelude.{option_map};
 ghost use Rattle.std.specs.Borrow.{Bor};
-ghost use Rattle.std.specs.Str.{IsUtf8};
 ghost use Rattle.protobuf_parse_base.specs.PathViews.{path_buf_text};
 ghost use Rattle.protobuf_parse_syntax.specs.Parsing.{HasTree};
 ghost use Rattle.protobuf_parse_syntax.specs.Trees.{FileSyntax, file_syntax};
-ghost use Rattle.protobuf_parse_run.specs.Walks.{the_resolver, the_reader};
 ghost use Rattle.protobuf_parse_run.specs.Run.{Resolved, WasRead, StandsInLoad, origin_given};
 ghost use Rattle.protobuf_parse_run.specs.Run.{row_of};
 ghost use Rattle.protobuf_parse_run.specs.Run.{rows, fault_said, text_given, IsTheTree};

@@ -3,7 +3,6 @@
 ghost use Rattle.std.specs.Prelude.{◌≡◌, ◌+◌, ◌^◌, ◌<◌, [], length, map, OnOk};
 ghost use Rattle.protobuf_parse_model.specs.Descriptors as described;
 ghost use Rattle.protobuf_parse_model.specs.Tables.{TableTells};
-ghost use Rattle.protobuf_parse_options.specs.Holding.{Holds};
 ghost use Rattle.protobuf_parse_run.specs.Loading.{IndexBegins, IsWhole, plain_in, plain_or};
 ghost use Rattle.protobuf_parse_run.specs.Loading.{plains_with};
 

@@ -8,13 +8,13 @@ use Rattle.std.proofs.lemmas.List.Sums.{sum_by-cons}
 use Rattle.std.proofs.lemmas.List.Elements.{All-nil, All-cons, All-tail, All-head}
 use Rattle.protobuf_parse_base.specs.Relations.{Nothing, Such, Never, One, Then, Either, Many}
 use Rattle.protobuf_parse_base.specs.Relations.{OneOrMore, Separated, none, more, Unless, At, somes}
-use Rattle.protobuf_parse_syntax.specs.Tokens.{Lexeme, is_opening, is_closing, opened, closed}
-use Rattle.protobuf_parse_syntax.specs.Tokens.{IsShallow}
-use Rattle.protobuf_parse_syntax.specs.declared.lexer.token.TokenKind.{TokenKind}
-use Rattle.protobuf_parse_syntax.specs.declared.lexer.token.Place.{Place}
-use Rattle.protobuf_parse_syntax.specs.declared.lexer.token.TokenKind.TheVariants as kind
-use Rattle.protobuf_parse_syntax.specs.Text.{Bytes}
-use Rattle.protobuf_parse_syntax.specs.Classes.{sees_at, symbol as symbol_class}
+use Rattle.protobuf_parse_lexer.specs.Tokens.{Lexeme, is_opening, is_closing, opened, closed}
+use Rattle.protobuf_parse_lexer.specs.Tokens.{IsShallow}
+use Rattle.protobuf_parse_lexer.specs.declared.lexer.token.TokenKind.{TokenKind}
+use Rattle.protobuf_parse_lexer.specs.declared.lexer.token.Place.{Place}
+use Rattle.protobuf_parse_lexer.specs.declared.lexer.token.TokenKind.TheVariants as kind
+use Rattle.protobuf_parse_lexer.specs.Text.{Bytes}
+use Rattle.protobuf_parse_lexer.specs.Classes.{sees_at, symbol as symbol_class}
 use Rattle.protobuf_parse_syntax.specs.Grammar.{IsSymbol, AtMost, Item, Statements, Braced, if_so}
 
 -- ---- open brackets

@@ -10,11 +10,16 @@ use Rattle.protobuf_parse_base.specs.Combinators.{run_one, taken}
 use Rattle.protobuf_parse_base.specs.Readers.{false_by, all_apart-law}
 use Rattle.protobuf_parse_base.specs.Whole.{whole}
 use Rattle.protobuf_parse_base.specs.Conditions.{meaning}
-use Rattle.protobuf_parse_syntax.specs.Tokens.{Lexeme, lexeme}
-use Rattle.protobuf_parse_syntax.specs.Text.{Bytes}
-use Rattle.protobuf_parse_syntax.specs.TokenKinds.{kind_of}
-use Rattle.protobuf_parse_syntax.specs.Classes.{sees, symbol as symbol_class, integer, float, text}
-use Rattle.protobuf_parse_syntax.specs.Classes.{is_one_of, is_floating, is_string}
+use Rattle.protobuf_parse_lexer.specs.Tokens.{Lexeme, lexeme}
+use Rattle.protobuf_parse_lexer.specs.Text.{Bytes}
+use Rattle.protobuf_parse_lexer.specs.TokenKinds.{kind_of}
+use Rattle.protobuf_parse_lexer.specs.Classes.{sees, symbol as symbol_class, integer, float, text}
+use Rattle.protobuf_parse_lexer.specs.Classes.{is_one_of, is_floating, is_string}
+use Rattle.protobuf_parse_lexer.specs.declared.lexer.token.Place.{Place}
+use Rattle.protobuf_parse_lexer.specs.declared.lexer.token.Token.{Token}
+use Rattle.protobuf_parse_lexer.specs.declared.lexer.token.TokenKind.{TokenKind}
+use Rattle.protobuf_parse_lexer.specs.declared.lexer.token.TokenKind.TheVariants as kind
+use Rattle.protobuf_parse_lexer.specs.declared.error.ParserError.TheVariants as error
 use Rattle.protobuf_parse_syntax.specs.ClassLaws.{lexicon}
 use Rattle.protobuf_parse_syntax.specs.Grammar.{if_so, number, small_number, negative, piece_at}
 use Rattle.protobuf_parse_syntax.specs.Grammar.{other_constants}
@@ -22,11 +27,6 @@ use Rattle.protobuf_parse_syntax.specs.Productions.{symbol, signed_by, sign_and,
 use Rattle.protobuf_parse_syntax.specs.Productions.{or_floating, plus, minus, number-law, small-law}
 use Rattle.protobuf_parse_syntax.specs.Productions.{str}
 use Rattle.protobuf_parse_syntax.specs.Code.{off, comes, Fails, SignedFloat, floats_second}
-use Rattle.protobuf_parse_syntax.specs.declared.lexer.token.Place.{Place}
-use Rattle.protobuf_parse_syntax.specs.declared.lexer.token.Token.{Token}
-use Rattle.protobuf_parse_syntax.specs.declared.lexer.token.TokenKind.{TokenKind}
-use Rattle.protobuf_parse_syntax.specs.declared.lexer.token.TokenKind.TheVariants as kind
-use Rattle.protobuf_parse_syntax.specs.declared.error.ParserError.TheVariants as error
 use Rattle.protobuf_parse_syntax.specs.declared.parser.refusal.Refusal.TheVariants.{Here}
 
 -- ---- the second token

@@ -5,12 +5,12 @@ use Rattle.std.proofs.Common.{inr, ◌⊎◌, arith, codes, sum_by}
 use Rattle.std.proofs.lemmas.List.Sums.{sum_by-cons}
 use Rattle.protobuf_parse_base.specs.Relations.{Nothing, Never, Level, One, Then, Either, Many}
 use Rattle.protobuf_parse_base.specs.Relations.{none, more, Unless, At, somes}
-use Rattle.protobuf_parse_syntax.specs.Tokens.{Lexeme}
-use Rattle.protobuf_parse_syntax.specs.declared.lexer.token.Place.{Place}
+use Rattle.protobuf_parse_lexer.specs.Tokens.{Lexeme}
+use Rattle.protobuf_parse_lexer.specs.declared.lexer.token.Place.{Place}
+use Rattle.protobuf_parse_lexer.specs.Classes.{is_one_of, words}
 use Rattle.protobuf_parse_syntax.specs.declared.tree.Syntax.{Syntax}
 use Rattle.protobuf_parse_syntax.specs.declared.tree.Syntax.TheVariants.{Proto2, Proto3}
 use Rattle.protobuf_parse_syntax.specs.declared.tree.field.Label.{Label}
-use Rattle.protobuf_parse_syntax.specs.Classes.{is_one_of, words}
 use Rattle.protobuf_parse_syntax.specs.Grammar.{table_words, statement_words, labels, Item}
 use Rattle.protobuf_parse_syntax.specs.Grammar.{Statements, Braced, IsOption, PlainFieldOf, GroupOf}
 use Rattle.protobuf_parse_syntax.specs.Grammar.{AfterLabel, FieldOf, IsField, IsOneofField}

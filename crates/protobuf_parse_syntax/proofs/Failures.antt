@@ -1,9 +1,9 @@
 -- Why nothing is read, of readers of different things.
 use Rattle.std.proofs.Common.{◌≡◌, refl, ap}
 use Rattle.protobuf_parse_base.specs.Readers.{Rest, Read, read, stuck, wrong}
-use Rattle.protobuf_parse_syntax.specs.Tokens.{Lexeme}
+use Rattle.protobuf_parse_lexer.specs.Tokens.{Lexeme}
+use Rattle.protobuf_parse_lexer.specs.declared.lexer.token.Place.{Place}
 use Rattle.protobuf_parse_syntax.specs.Code.{Failure, at, off, too_deep, failed}
-use Rattle.protobuf_parse_syntax.specs.declared.lexer.token.Place.{Place}
 
 -- the same failure of a reader of something else
 pub failed_as : {X Y : Type 0} (f : Failure) (g : Failure)

@@ -8,12 +8,17 @@ use Rattle.protobuf_parse_base.specs.Combinators.{taken}
 use Rattle.protobuf_parse_base.specs.Readers.{starts, starts-within, first-of, last-of}
 use Rattle.protobuf_parse_base.specs.Combinators.{run_many}
 use Rattle.protobuf_parse_base.specs.Conditions.{mark_of}
-use Rattle.protobuf_parse_syntax.specs.Text.{Bytes}
-use Rattle.protobuf_parse_syntax.specs.Tokens.{Lexeme}
-use Rattle.protobuf_parse_syntax.specs.Classes.{Class, symbol as symbol_class, word as word_class}
-use Rattle.protobuf_parse_syntax.specs.Classes.{ident as ident_class, sees, is_among}
+use Rattle.protobuf_parse_lexer.specs.Text.{Bytes}
+use Rattle.protobuf_parse_lexer.specs.Tokens.{Lexeme}
+use Rattle.protobuf_parse_lexer.specs.Classes.{Class, symbol as symbol_class, word as word_class}
+use Rattle.protobuf_parse_lexer.specs.Classes.{ident as ident_class, sees, is_among}
+use Rattle.protobuf_parse_lexer.specs.Classes.{words}
+use Rattle.protobuf_parse_lexer.specs.declared.error.ParserError.{ParserError}
+use Rattle.protobuf_parse_lexer.specs.declared.error.ParserError.TheVariants as error
+use Rattle.protobuf_parse_lexer.specs.declared.lexer.token.Place.{Place}
+use Rattle.protobuf_parse_lexer.specs.declared.lexer.token.TokenKind.{TokenKind}
+use Rattle.protobuf_parse_lexer.specs.declared.lexer.token.TokenKind.TheVariants as kind
 use Rattle.protobuf_parse_syntax.specs.ClassLaws.{lexicon}
-use Rattle.protobuf_parse_syntax.specs.Classes.{words}
 use Rattle.protobuf_parse_syntax.specs.Grammar.{place_of, scalars, labels, labels3, statement_words}
 use Rattle.protobuf_parse_syntax.specs.Grammar.{table_words}
 use Rattle.protobuf_parse_syntax.specs.Productions.{symbol, word, ident, name, root, dotted}
@@ -25,11 +30,6 @@ use Rattle.protobuf_parse_syntax.specs.Code.{AtOneToken, Stands}
 use Rattle.protobuf_parse_syntax.specs.Words.{Finds}
 use Rattle.protobuf_parse_syntax.specs.Fields.{type_more, type_named, after_label_in}
 use Rattle.protobuf_parse_syntax.specs.Fields.{reads_map_field, labels_in, group_firsts, field_in}
-use Rattle.protobuf_parse_syntax.specs.declared.error.ParserError.{ParserError}
-use Rattle.protobuf_parse_syntax.specs.declared.error.ParserError.TheVariants as error
-use Rattle.protobuf_parse_syntax.specs.declared.lexer.token.Place.{Place}
-use Rattle.protobuf_parse_syntax.specs.declared.lexer.token.TokenKind.{TokenKind}
-use Rattle.protobuf_parse_syntax.specs.declared.lexer.token.TokenKind.TheVariants as kind
 use Rattle.protobuf_parse_syntax.specs.declared.tree.Syntax.{Syntax}
 use Rattle.protobuf_parse_syntax.specs.declared.tree.Syntax.TheVariants.{Proto2, Proto3}
 use Rattle.protobuf_parse_syntax.specs.declared.tree.field.Label.{Label}

@@ -4,17 +4,23 @@ use Rattle.std.proofs.Common.{Err, IfOk, IfErr, refl, sym, ap, subst, ◌∙◌,
 use Rattle.protobuf_parse_base.specs.Readers.{Rest, end, token, onto, onto-append, read, stuck}
 use Rattle.protobuf_parse_base.specs.Readers.{wrong, Begins, starts}
 use Rattle.protobuf_parse_base.specs.Relations.{BeginsOtherwise}
-use Rattle.protobuf_parse_syntax.proofs.Strings.{str_ends}
-use Rattle.protobuf_parse_syntax.proofs.Wrongs.{says_behind}
+use Rattle.protobuf_parse_lexer.specs.Text.{Bytes}
+use Rattle.protobuf_parse_lexer.specs.Tokens.{Lexeme}
 use Rattle.protobuf_parse_base.specs.Conditions.{mark_of}
 use Rattle.protobuf_parse_base.specs.Whole.{whole, left_whole, local_stuck, local_wrong}
 use Rattle.protobuf_parse_base.specs.Relations.{StopsAt}
 use Rattle.protobuf_parse_base.specs.Whole.{deep_found, deep_only, deep_wrong, deep_never}
 use Rattle.protobuf_parse_base.specs.Whole.{deep_stops, deep_leaves}
-use Rattle.protobuf_parse_syntax.specs.Text.{Bytes}
-use Rattle.protobuf_parse_syntax.specs.Tokens.{Lexeme}
+use Rattle.protobuf_parse_lexer.specs.Classes.{symbol, float, text, is_one_of, is_floating}
+use Rattle.protobuf_parse_lexer.specs.Cut.{Stream, HasTokens, out_of_memory}
+use Rattle.protobuf_parse_lexer.specs.Cut.{error_place as place_at}
+use Rattle.protobuf_parse_lexer.specs.declared.error.ParserErrorWithLocation.{ParserErrorWithLocation}
+use Rattle.protobuf_parse_lexer.specs.declared.lexer.token.Place.{Place}
+use Rattle.protobuf_parse_lexer.specs.declared.error.ParserError.{ParserError}
+use Rattle.protobuf_parse_lexer.specs.declared.error.ParserError.TheVariants as error
+use Rattle.protobuf_parse_syntax.proofs.Strings.{str_ends}
+use Rattle.protobuf_parse_syntax.proofs.Wrongs.{says_behind}
 use Rattle.protobuf_parse_syntax.specs.Trees.{Pieces, FileSyntax, file_syntax}
-use Rattle.protobuf_parse_syntax.specs.Classes.{symbol, float, text, is_one_of, is_floating}
 use Rattle.protobuf_parse_syntax.specs.ClassLaws.{lexicon}
 use Rattle.protobuf_parse_syntax.specs.Grammar.{IsFile, IsStr, place_of}
 use Rattle.protobuf_parse_syntax.specs.Productions as parse
@@ -27,16 +33,10 @@ use Rattle.protobuf_parse_syntax.specs.Parsing.{SaysNothing, IsGrammarFault}
 use Rattle.protobuf_parse_syntax.specs.Code.{Stands, Says, Tells, Fails, NoVersion, Failure, failed}
 use Rattle.protobuf_parse_syntax.specs.Code.{SaysNot, SignedFloat, IsLargeNext, comes, begins_part}
 use Rattle.protobuf_parse_syntax.specs.Code.{is_end, RefusesFile, error_at}
-use Rattle.protobuf_parse_syntax.specs.Cut.{Stream, HasTokens, out_of_memory}
-use Rattle.protobuf_parse_syntax.specs.Cut.{error_place as place_at}
-use Rattle.protobuf_parse_syntax.specs.declared.error.ParserErrorWithLocation.{ParserErrorWithLocation}
 use Rattle.protobuf_parse_syntax.specs.declared.parser.refusal.Refusal.{Refusal}
 use Rattle.protobuf_parse_syntax.specs.declared.parser.refusal.Refusal.TheVariants.{Memory, Next}
 use Rattle.protobuf_parse_syntax.specs.declared.parser.refusal.Refusal.TheVariants.{Here}
-use Rattle.protobuf_parse_syntax.specs.declared.lexer.token.Place.{Place}
 use Rattle.protobuf_parse_syntax.specs.declared.tree.FileTree.{FileTree}
-use Rattle.protobuf_parse_syntax.specs.declared.error.ParserError.{ParserError}
-use Rattle.protobuf_parse_syntax.specs.declared.error.ParserError.TheVariants as error
 
 -- ---- a token at a place
 

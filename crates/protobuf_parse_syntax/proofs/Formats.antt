@@ -11,14 +11,14 @@ use Rattle.std.proofs.lemmas.Str.{len_utf8_bounds, encodes-chars}
 use Rattle.std.specs.Fmt.{decimal, signed_decimal}
 use Rattle.std.specs.List.{join_with_byte}
 use Rattle.std.specs.Str.{IsUtf8, chars}
-use Rattle.protobuf_parse_syntax.specs.Text.{Bytes}
+use Rattle.protobuf_parse_lexer.specs.Text.{Bytes}
+use Rattle.protobuf_parse_lexer.specs.declared.lexer.str_lit.StrLit.{StrLit}
 use Rattle.protobuf_parse_syntax.specs.Formats.{truth_word, escape_before, quotes_escaped}
 use Rattle.protobuf_parse_syntax.specs.Formats.{string_text, format, formats, all_fields_text}
 use Rattle.protobuf_parse_syntax.specs.Formats.{constant_field_text, list_text, message_text}
 use Rattle.protobuf_parse_syntax.specs.Trees.{ConstantSyntax, truth, ConstantFieldSyntax, constants}
 use Rattle.protobuf_parse_syntax.specs.Trees.{constant_fields, constant_step, constant_field_step}
 use Rattle.protobuf_parse_syntax.specs.Trees.{constant_syntax, constant_field_syntax, pieces_of}
-use Rattle.protobuf_parse_syntax.specs.declared.lexer.str_lit.StrLit.{StrLit}
 use Rattle.protobuf_parse_syntax.specs.declared.tree.constant.ConstantField.{ConstantField}
 use Rattle.protobuf_parse_syntax.specs.declared.tree.constant.ProtobufConstant.{ProtobufConstant}
 use Rattle.protobuf_parse_syntax.specs.declared.tree.constant.ProtobufConstant.{fold-roll-ProtobufConstant}

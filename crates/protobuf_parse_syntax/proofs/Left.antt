@@ -4,12 +4,12 @@ use Rattle.std.proofs.Common.{arith}
 use Rattle.std.proofs.lemmas.Bool.{eqb-true}
 use Rattle.protobuf_parse_base.specs.Readers.{Rest, starts, starts-append, false_by}
 use Rattle.protobuf_parse_base.specs.Whole.{whole}
-use Rattle.protobuf_parse_syntax.specs.Tokens.{Lexeme, lexeme}
-use Rattle.protobuf_parse_syntax.specs.Classes.{Class}
+use Rattle.protobuf_parse_lexer.specs.Tokens.{Lexeme, lexeme}
+use Rattle.protobuf_parse_lexer.specs.Classes.{Class}
+use Rattle.protobuf_parse_lexer.specs.declared.lexer.token.Place.{Place}
+use Rattle.protobuf_parse_lexer.specs.declared.lexer.token.Token.{Token}
 use Rattle.protobuf_parse_syntax.specs.ClassLaws.{lexicon}
 use Rattle.protobuf_parse_syntax.specs.Code.{is_end}
-use Rattle.protobuf_parse_syntax.specs.declared.lexer.token.Place.{Place}
-use Rattle.protobuf_parse_syntax.specs.declared.lexer.token.Token.{Token}
 
 not_none : (n : ℕ) → eqb (suc n) 0 ≡ false
 not_none n = false_by _ (λ e. let p = eqb-true (suc n) 0 e in absurd (omega (arith, p)))

@@ -1,11 +1,5 @@
 mod File
 mod LongNames
-pub mod Front
-pub mod TextKinds
-pub mod Cuts
-pub mod Unique
-pub mod Refusals
-pub mod Depth
 pub mod Sizes
 pub mod Counting
 pub mod Counts
@@ -13,15 +7,9 @@ pub mod Balance
 pub mod Nesting
 pub mod Imports
 pub mod Formats
-pub mod Escapes
-pub mod Places
-pub mod Plain
 pub mod Words
 pub mod Fields
 pub mod FieldViews
-pub mod Quotes
-pub mod Escaping
-pub mod Lanes
 pub mod Left
 pub mod Loops
 pub mod Views

@@ -10,9 +10,11 @@ use Rattle.protobuf_parse_base.specs.Loops.{with_rest, shows_themselves, ends_wr
 use Rattle.protobuf_parse_base.specs.Readers.{Rest, onto, onto-append, Read, read, wrong, bind}
 use Rattle.protobuf_parse_base.specs.Readers.{Shape, Reader, starts}
 use Rattle.protobuf_parse_base.specs.Relations.{Many, none, more}
-use Rattle.protobuf_parse_syntax.specs.Text.{Bytes}
-use Rattle.protobuf_parse_syntax.specs.Tokens.{Lexeme}
-use Rattle.protobuf_parse_syntax.specs.Classes.{Class, symbol as symbol_class}
+use Rattle.protobuf_parse_lexer.specs.Text.{Bytes}
+use Rattle.protobuf_parse_lexer.specs.Tokens.{Lexeme}
+use Rattle.protobuf_parse_lexer.specs.Classes.{Class, symbol as symbol_class}
+use Rattle.protobuf_parse_lexer.specs.declared.lexer.token.Place.{Place}
+use Rattle.protobuf_parse_lexer.specs.declared.error.ParserError.TheVariants as error
 use Rattle.protobuf_parse_syntax.specs.ClassLaws.{lexicon}
 use Rattle.protobuf_parse_syntax.specs.Grammar.{IsAssignment, IsComma, IsEnumNumber, IsFieldNumber}
 use Rattle.protobuf_parse_syntax.specs.Grammar.{IsSymbol, place_of}
@@ -24,8 +26,6 @@ use Rattle.protobuf_parse_syntax.specs.Trees.{OptionSyntax, TypeSyntax, option_s
 use Rattle.protobuf_parse_syntax.specs.Parsing.{IsEarlierOption, ListFront, ListHead, OptionHead}
 use Rattle.protobuf_parse_syntax.specs.Code.{Fails, GivesOr, LongName, LongBehind, fails_first}
 use Rattle.protobuf_parse_syntax.specs.Code.{AreEarlier, IsCommaAlone, IsListFront}
-use Rattle.protobuf_parse_syntax.specs.declared.lexer.token.Place.{Place}
-use Rattle.protobuf_parse_syntax.specs.declared.error.ParserError.TheVariants as error
 use Rattle.protobuf_parse_syntax.specs.declared.parser.refusal.Refusal.{Refusal}
 use Rattle.protobuf_parse_syntax.specs.declared.tree.field.Label.{Label}
 use Rattle.protobuf_parse_syntax.specs.declared.tree.option.ProtobufOption.{ProtobufOption}

@@ -10,15 +10,15 @@ use Rattle.protobuf_parse_base.specs.Combinators.{then_shape, run_many, many-law
 use Rattle.protobuf_parse_base.specs.Combinators.{shorter, ◌>>◌}
 use Rattle.protobuf_parse_base.specs.Loops.{Shows, shows_themselves, with_rest, goes_on, stops_here}
 use Rattle.protobuf_parse_base.specs.Loops.{ends_stuck, ends_wrong}
-use Rattle.protobuf_parse_syntax.specs.Text.{Bytes}
+use Rattle.protobuf_parse_lexer.specs.Text.{Bytes}
+use Rattle.protobuf_parse_lexer.specs.Tokens.{Lexeme}
+use Rattle.protobuf_parse_lexer.specs.Classes.{Class, symbol as symbol_class}
+use Rattle.protobuf_parse_lexer.specs.Text.{seen_by}
+use Rattle.protobuf_parse_lexer.specs.declared.lexer.token.Place.{Place}
 use Rattle.protobuf_parse_syntax.specs.Grammar.{dots, IsComma}
-use Rattle.protobuf_parse_syntax.specs.Tokens.{Lexeme}
-use Rattle.protobuf_parse_syntax.specs.Classes.{Class, symbol as symbol_class}
 use Rattle.protobuf_parse_syntax.specs.ClassLaws.{lexicon}
 use Rattle.protobuf_parse_syntax.specs.Productions.{symbol}
 use Rattle.protobuf_parse_syntax.specs.Code.{Fails, fails_first, Failure, at, off, too_deep, failed}
-use Rattle.protobuf_parse_syntax.specs.Text.{seen_by}
-use Rattle.protobuf_parse_syntax.specs.declared.lexer.token.Place.{Place}
 use Rattle.protobuf_parse_syntax.specs.declared.parser.refusal.Refusal.{Refusal}
 use Rattle.protobuf_parse_syntax.specs.declared.parser.refusal.Refusal.TheVariants.{Memory, Next}
 use Rattle.protobuf_parse_syntax.specs.declared.parser.refusal.Refusal.TheVariants.{Here}

@@ -5,13 +5,14 @@ use Rattle.std.proofs.Common.{slice_index, codes}
 use Rattle.std.specs.Prelude.{IfOk, Result, Ok, Err}
 use Rattle.std.proofs.lemmas.List.Elements.{All-nil, All-tail, All-head}
 use Rattle.protobuf_parse_base.specs.Relations.{Level, One}
-use Rattle.protobuf_parse_syntax.specs.Tokens.{Lexeme}
-use Rattle.protobuf_parse_syntax.specs.declared.lexer.token.Place.{Place}
+use Rattle.protobuf_parse_lexer.specs.Tokens.{Lexeme}
+use Rattle.protobuf_parse_lexer.specs.declared.lexer.token.Place.{Place}
+use Rattle.protobuf_parse_lexer.specs.Text.{Bytes}
+use Rattle.protobuf_parse_lexer.specs.Classes.{is_one_of, words}
+use Rattle.protobuf_parse_lexer.specs.Cut.{Stream, HasTokens}
 use Rattle.protobuf_parse_syntax.specs.declared.tree.Syntax.{Syntax}
 use Rattle.protobuf_parse_syntax.specs.declared.tree.Syntax.TheVariants.{Proto2, Proto3}
 use Rattle.protobuf_parse_syntax.specs.declared.tree.field.Label.{Label}
-use Rattle.protobuf_parse_syntax.specs.Text.{Bytes}
-use Rattle.protobuf_parse_syntax.specs.Classes.{is_one_of, words}
 use Rattle.protobuf_parse_syntax.specs.Grammar.{table_words, statement_words, IsWord, IsWordOf}
 use Rattle.protobuf_parse_syntax.specs.Grammar.{IsNumber, IsNumberUpTo, IsComma, IsStr, IsIdent}
 use Rattle.protobuf_parse_syntax.specs.Grammar.{IsDotted, IsRoot, IsName, IsInteger, AfterSlash}
@@ -37,7 +38,6 @@ use Rattle.protobuf_parse_syntax.specs.Trees.{ConstantSyntax, ConstantFieldSynta
 use Rattle.protobuf_parse_syntax.specs.Trees.{FieldStatementSyntax, MessageStatementSyntax}
 use Rattle.protobuf_parse_syntax.specs.Trees.{MessageSyntax, FileSyntax, file_syntax}
 use Rattle.protobuf_parse_syntax.specs.Parsing.{HasTree}
-use Rattle.protobuf_parse_syntax.specs.Cut.{Stream, HasTokens}
 use Rattle.protobuf_parse_syntax.specs.declared.tree.FileTree.{FileTree}
 use Rattle.std.specs.Prelude.{max}
 use Rattle.protobuf_parse_syntax.specs.Trees.{StatementSyntax}

@@ -6,13 +6,13 @@ use Rattle.protobuf_parse_base.specs.Readers.{bind, bind_wrong, Shape, Reader}
 use Rattle.protobuf_parse_base.specs.Combinators.{taken, run_one}
 use Rattle.protobuf_parse_base.specs.Readers.{starts}
 use Rattle.protobuf_parse_base.specs.Combinators.{run_many, many-law, shorter, with_first}
-use Rattle.protobuf_parse_syntax.specs.Tokens.{Lexeme}
-use Rattle.protobuf_parse_syntax.specs.Classes.{Class}
+use Rattle.protobuf_parse_lexer.specs.Tokens.{Lexeme}
+use Rattle.protobuf_parse_lexer.specs.Classes.{Class}
+use Rattle.protobuf_parse_lexer.specs.declared.lexer.token.Place.{Place}
 use Rattle.protobuf_parse_syntax.specs.ClassLaws.{lexicon}
 use Rattle.protobuf_parse_syntax.specs.Grammar.{any_ident}
 use Rattle.protobuf_parse_syntax.specs.Productions.{symbol, ident, dot_ident, dotted, root, name}
 use Rattle.protobuf_parse_syntax.specs.Productions.{option_part, next_part}
-use Rattle.protobuf_parse_syntax.specs.declared.lexer.token.Place.{Place}
 
 abbrev pub NeverWrong : {A : Type 0} → (Rest Lexeme Place → Read Lexeme Place A) → Type 0
 NeverWrong run = (ts rest : Rest Lexeme Place) → run ts ≡ wrong rest → ⊥

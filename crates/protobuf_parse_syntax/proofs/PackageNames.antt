@@ -4,18 +4,18 @@ use Rattle.std.proofs.Common.{take, length-append, length-take, sym, subst, inl,
 use Rattle.std.proofs.Common.{Bool, true, false}
 use Rattle.std.specs.List.{AllByRecursion, fold}
 use Rattle.protobuf_parse_base.specs.Relations.{Nothing, Then, Either, Many, none, more, At, somes}
-use Rattle.protobuf_parse_syntax.specs.Text.{Bytes}
-use Rattle.protobuf_parse_syntax.specs.Tokens.{Lexeme}
-use Rattle.protobuf_parse_syntax.specs.Cut.{Cut, done, blank, token}
-use Rattle.protobuf_parse_syntax.specs.Classes.{sees, ident}
-use Rattle.protobuf_parse_syntax.specs.declared.lexer.token.Place.{Place}
+use Rattle.protobuf_parse_lexer.specs.Text.{Bytes}
+use Rattle.protobuf_parse_lexer.specs.Tokens.{Lexeme}
+use Rattle.protobuf_parse_lexer.specs.Cut.{Cut, done, blank, token}
+use Rattle.protobuf_parse_lexer.specs.Classes.{sees, ident}
+use Rattle.protobuf_parse_lexer.specs.declared.lexer.token.Place.{Place}
+use Rattle.protobuf_parse_lexer.proofs.Cuts.{token_some}
 use Rattle.protobuf_parse_syntax.specs.declared.tree.Syntax.{Syntax}
 use Rattle.protobuf_parse_syntax.specs.Grammar.{if_so, IsIdent, dots, IsDotted, Item, Statements}
 use Rattle.protobuf_parse_syntax.specs.Grammar.{IsPackage, IsFileStatement, IsFileOf}
 use Rattle.protobuf_parse_syntax.specs.Trees.{StatementSyntax, file_package, FileSyntax}
 use Rattle.protobuf_parse_syntax.specs.Trees.{package_behind, package_of}
 use Rattle.protobuf_parse_syntax.specs.Parsing.{HasTree}
-use Rattle.protobuf_parse_syntax.proofs.Cuts.{token_some}
 
 -- ---- tokens
 

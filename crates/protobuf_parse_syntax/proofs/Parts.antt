@@ -8,10 +8,12 @@ use Rattle.protobuf_parse_base.specs.Readers.{stuck, wrong, deep, bind, bind_rea
 use Rattle.protobuf_parse_base.specs.Readers.{read_parts, starts}
 use Rattle.protobuf_parse_base.specs.Combinators.{with_first}
 use Rattle.protobuf_parse_base.specs.Loops.{with_rest}
-use Rattle.protobuf_parse_syntax.specs.Tokens.{Lexeme}
+use Rattle.protobuf_parse_lexer.specs.Tokens.{Lexeme}
+use Rattle.protobuf_parse_lexer.specs.Classes.{Class, sees, symbol}
+use Rattle.protobuf_parse_lexer.specs.declared.lexer.token.Place.{Place}
+use Rattle.protobuf_parse_lexer.specs.declared.error.ParserError.TheVariants as error
 use Rattle.protobuf_parse_syntax.specs.Trees as tree
 use Rattle.protobuf_parse_syntax.specs.Trees.{OptionPartSyntax, OptionNameSyntax}
-use Rattle.protobuf_parse_syntax.specs.Classes.{Class, sees, symbol}
 use Rattle.protobuf_parse_syntax.specs.ClassLaws.{lexicon}
 use Rattle.protobuf_parse_syntax.specs.Grammar.{IsNextPart, option_name}
 use Rattle.protobuf_parse_syntax.specs.Readings.{wrong_from}
@@ -21,11 +23,9 @@ use Rattle.protobuf_parse_syntax.specs.Productions.{parts_up_to}
 use Rattle.protobuf_parse_syntax.specs.Code.{Failure, at, off, too_deep, failed, comes, begins_part}
 use Rattle.protobuf_parse_syntax.specs.Code.{Fails, TooMany, LongName, fails_first}
 use Rattle.protobuf_parse_syntax.specs.Parsing.{HundredParts}
-use Rattle.protobuf_parse_syntax.specs.declared.lexer.token.Place.{Place}
 use Rattle.protobuf_parse_syntax.specs.declared.parser.refusal.Refusal.{Refusal}
 use Rattle.protobuf_parse_syntax.specs.declared.parser.refusal.Refusal.TheVariants.{Memory, Next}
 use Rattle.protobuf_parse_syntax.specs.declared.parser.refusal.Refusal.TheVariants.{Here}
-use Rattle.protobuf_parse_syntax.specs.declared.error.ParserError.TheVariants as error
 use Rattle.protobuf_parse_syntax.proofs.Failures.{failed_as, never_failed}
 use Rattle.protobuf_parse_syntax.proofs.NeverWrong.{next_part_wrong}
 use Rattle.protobuf_parse_syntax.proofs.Wrongs.{fails_from_first}

@@ -1,16 +1,16 @@
 -- A text has no more tokens than bytes, and its tree no more statements than tokens.
 use Rattle.std.proofs.Common.{◌≤◌, List, length, length-drop, arith}
 use Rattle.std.specs.Prelude.{Result, Ok, Err, IfOk}
-use Rattle.protobuf_parse_syntax.specs.Text.{Bytes}
-use Rattle.protobuf_parse_syntax.specs.Tokens.{Lexeme}
-use Rattle.protobuf_parse_syntax.specs.Cut.{Cut, done, blank, token, mark_len, Stream, HasTokens}
+use Rattle.protobuf_parse_lexer.specs.Text.{Bytes}
+use Rattle.protobuf_parse_lexer.specs.Tokens.{Lexeme}
+use Rattle.protobuf_parse_lexer.specs.Cut.{Cut, done, blank, token, mark_len, Stream, HasTokens}
+use Rattle.protobuf_parse_lexer.specs.declared.lexer.token.Place.{Place}
+use Rattle.protobuf_parse_lexer.proofs.Cuts.{token_some}
 use Rattle.protobuf_parse_syntax.specs.Trees.{FileSyntax, file_syntax}
 use Rattle.protobuf_parse_syntax.specs.Counts.{statements_in}
 use Rattle.protobuf_parse_syntax.specs.Grammar.{IsFile}
 use Rattle.protobuf_parse_syntax.specs.Parsing.{HasTree}
-use Rattle.protobuf_parse_syntax.specs.declared.lexer.token.Place.{Place}
 use Rattle.protobuf_parse_syntax.specs.declared.tree.FileTree.{FileTree}
-use Rattle.protobuf_parse_syntax.proofs.Cuts.{token_some}
 use Rattle.protobuf_parse_syntax.proofs.Counting.{file_cost}
 
 cut_size : {p q : Place} {z rest : Bytes} {ts : List Lexeme} → Cut p z ts q rest →

@@ -10,32 +10,35 @@ use Rattle.protobuf_parse_base.specs.Combinators.{run_many, many-law, shorter}
 use Rattle.protobuf_parse_base.specs.Combinators.{with_first}
 use Rattle.protobuf_parse_base.specs.Conditions.{meaning}
 use Rattle.protobuf_parse_base.specs.declared.proto_path.error.PathError.{PathError}
-use Rattle.protobuf_parse_syntax.specs.Text.{Bytes}
-use Rattle.protobuf_parse_syntax.specs.Tokens.{Lexeme, DecodesAll}
-use Rattle.protobuf_parse_syntax.specs.Decoding.{RefusesText}
+use Rattle.protobuf_parse_lexer.specs.Text.{Bytes}
+use Rattle.protobuf_parse_lexer.specs.Tokens.{Lexeme, DecodesAll}
+use Rattle.protobuf_parse_lexer.specs.Decoding.{RefusesText}
+use Rattle.protobuf_parse_lexer.specs.Tokens.{StandsFor}
+use Rattle.protobuf_parse_lexer.specs.Decoder.{text_of}
+use Rattle.protobuf_parse_lexer.specs.DecoderLaws.{text-to, text-from}
+use Rattle.protobuf_parse_lexer.specs.Classes.{text as string_token}
+use Rattle.protobuf_parse_lexer.specs.declared.lexer.token.Place.{Place}
+use Rattle.protobuf_parse_lexer.specs.declared.lexer.str_lit.StrLitDecodeError.{StrLitDecodeError}
+use Rattle.protobuf_parse_lexer.specs.declared.lexer.str_lit.StrLitDecodeError.TheVariants as decoding
+use Rattle.protobuf_parse_lexer.specs.declared.error.ParserError.{ParserError}
+use Rattle.protobuf_parse_lexer.specs.declared.error.ParserError.TheVariants as error
+use Rattle.protobuf_parse_lexer.proofs.Escapes.{one_decoding_of_all}
 use Rattle.protobuf_parse_syntax.specs.Trees.{Pieces}
 use Rattle.protobuf_parse_syntax.specs.Readings.{finding}
-use Rattle.protobuf_parse_syntax.specs.Grammar.{StandsFor, SaysVersion, SaysPath, name_of}
-use Rattle.protobuf_parse_syntax.specs.Decoder.{text_of, version_of, path_of}
-use Rattle.protobuf_parse_syntax.specs.DecoderLaws.{text-to, text-from, version-to, version-from}
-use Rattle.protobuf_parse_syntax.specs.DecoderLaws.{path-to, path-from}
+use Rattle.protobuf_parse_syntax.specs.Grammar.{SaysVersion, SaysPath, name_of}
+use Rattle.protobuf_parse_syntax.specs.Said.{version_of, path_of}
+use Rattle.protobuf_parse_syntax.specs.SaidLaws.{version-to, version-from}
+use Rattle.protobuf_parse_syntax.specs.SaidLaws.{path-to, path-from}
 use Rattle.protobuf_parse_syntax.specs.Productions.{str, piece, reserved_name, version, path}
-use Rattle.protobuf_parse_syntax.specs.Classes.{text as string_token}
 use Rattle.protobuf_parse_syntax.specs.ClassLaws.{lexicon}
 use Rattle.protobuf_parse_syntax.specs.Code.{Failure, at, off, too_deep, failed, Fails, Unsaid}
 use Rattle.protobuf_parse_syntax.specs.Code.{of_text, of_version, of_path, refusal_of}
-use Rattle.protobuf_parse_syntax.specs.declared.lexer.token.Place.{Place}
-use Rattle.protobuf_parse_syntax.specs.declared.lexer.str_lit.StrLitDecodeError.{StrLitDecodeError}
-use Rattle.protobuf_parse_syntax.specs.declared.lexer.str_lit.StrLitDecodeError.TheVariants as decoding
-use Rattle.protobuf_parse_syntax.specs.declared.error.ParserError.{ParserError}
-use Rattle.protobuf_parse_syntax.specs.declared.error.ParserError.TheVariants as error
 use Rattle.protobuf_parse_syntax.specs.declared.parser.refusal.Refusal.{Refusal}
 use Rattle.protobuf_parse_syntax.specs.declared.parser.refusal.Refusal.TheVariants.{Memory, Next}
 use Rattle.protobuf_parse_syntax.specs.declared.parser.refusal.Refusal.TheVariants.{Here}
 use Rattle.protobuf_parse_syntax.specs.declared.tree.Syntax.{Syntax}
 use Rattle.protobuf_parse_syntax.specs.declared.tree.Syntax.TheVariants.{Proto2, Proto3}
 use Rattle.protobuf_parse_syntax.proofs.Failures.{failed_as, never_failed}
-use Rattle.protobuf_parse_syntax.proofs.Escapes.{one_decoding_of_all}
 
 none_found : {B : Type 0} (o : Option B) → ((b : B) → o ≡ Some b → ⊥) → o ≡ None
 none_found None no_value = refl

@@ -1,8 +1,8 @@
 -- What the views of recursive trees say of each variant.
 use Rattle.std.proofs.Common.{◌≡◌, ℕ, ℤ, pos, Vec, map, ap, sym, ◌∙◌, String, string_bytes, Global}
+use Rattle.protobuf_parse_lexer.specs.declared.lexer.str_lit.StrLit.{StrLit}
 use Rattle.protobuf_parse_syntax.specs.Trees as tree
 use Rattle.protobuf_parse_syntax.specs.Trees.{ConstantSyntax, ConstantFieldSyntax}
-use Rattle.protobuf_parse_syntax.specs.declared.lexer.str_lit.StrLit.{StrLit}
 use Rattle.protobuf_parse_syntax.specs.declared.tree.constant.ConstantField.{ConstantField}
 use Rattle.protobuf_parse_syntax.specs.declared.tree.constant.ConstantField.{fold-ConstantField}
 use Rattle.protobuf_parse_syntax.specs.declared.tree.constant.ConstantField.{fold_out-ConstantField}

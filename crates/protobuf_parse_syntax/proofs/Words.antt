@@ -6,18 +6,18 @@ use Rattle.protobuf_parse_base.specs.Readers.{Rest, end, token, read, starts}
 use Rattle.protobuf_parse_base.specs.Relations.{seen}
 use Rattle.protobuf_parse_base.specs.Combinators.{taken}
 use Rattle.protobuf_parse_base.specs.Readers.{starts-append}
-use Rattle.protobuf_parse_syntax.specs.Text.{Bytes}
-use Rattle.protobuf_parse_syntax.specs.Tokens.{Lexeme}
-use Rattle.protobuf_parse_syntax.specs.Classes.{Class, symbol, word, ident, integer, float, text}
-use Rattle.protobuf_parse_syntax.specs.Classes.{sees, sees_at, is_ident_token, words}
+use Rattle.protobuf_parse_lexer.specs.Text.{Bytes}
+use Rattle.protobuf_parse_lexer.specs.Tokens.{Lexeme}
+use Rattle.protobuf_parse_lexer.specs.Classes.{Class, symbol, word, ident, integer, float, text}
+use Rattle.protobuf_parse_lexer.specs.Classes.{sees, sees_at, is_ident_token, words}
+use Rattle.protobuf_parse_lexer.specs.declared.lexer.token.Place.{Place}
+use Rattle.protobuf_parse_lexer.specs.declared.lexer.token.TokenKind.{TokenKind}
+use Rattle.protobuf_parse_lexer.specs.declared.lexer.token.TokenKind.TheVariants as kind
 use Rattle.protobuf_parse_syntax.specs.ClassLaws.{lexicon}
 use Rattle.protobuf_parse_syntax.specs.Grammar.{any_ident, lookup, table_words, word_of}
 use Rattle.protobuf_parse_syntax.specs.Productions.{one_of}
 use Rattle.protobuf_parse_syntax.specs.Code.{next_ident}
 use Rattle.protobuf_parse_syntax.specs.Words.{takes, behind_next, Finds}
-use Rattle.protobuf_parse_syntax.specs.declared.lexer.token.Place.{Place}
-use Rattle.protobuf_parse_syntax.specs.declared.lexer.token.TokenKind.{TokenKind}
-use Rattle.protobuf_parse_syntax.specs.declared.lexer.token.TokenKind.TheVariants as kind
 
 ident_seen : (cs : List Class) (w : Bytes) (at : Place)
     → seen sees cs (record { kind = kind.Ident; text = w; place = at }) ≡ takes cs w

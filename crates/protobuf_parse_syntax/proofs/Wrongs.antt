@@ -9,10 +9,12 @@ use Rattle.protobuf_parse_base.specs.Combinators.{then_shape}
 use Rattle.protobuf_parse_base.specs.Readers.{Sound, Reader, starts, all_apart-law}
 use Rattle.protobuf_parse_base.specs.Combinators.{◌>>◌}
 use Rattle.protobuf_parse_base.specs.Whole.{local_wrong}
-use Rattle.protobuf_parse_syntax.specs.Text.{Bytes}
-use Rattle.protobuf_parse_syntax.specs.Tokens.{Lexeme}
-use Rattle.protobuf_parse_syntax.specs.Classes.{Class, symbol as symbol_class}
-use Rattle.protobuf_parse_syntax.specs.Classes.{word as word_class, text as string_token, is_one_of}
+use Rattle.protobuf_parse_lexer.specs.Text.{Bytes}
+use Rattle.protobuf_parse_lexer.specs.Tokens.{Lexeme}
+use Rattle.protobuf_parse_lexer.specs.Classes.{Class, symbol as symbol_class}
+use Rattle.protobuf_parse_lexer.specs.Classes.{word as word_class, text as string_token, is_one_of}
+use Rattle.protobuf_parse_lexer.specs.declared.lexer.token.Place.{Place}
+use Rattle.protobuf_parse_lexer.specs.declared.error.ParserError.{ParserError}
 use Rattle.protobuf_parse_syntax.specs.ClassLaws.{lexicon}
 use Rattle.protobuf_parse_syntax.specs.Grammar.{IsSymbol, IsWord, IsVisibility}
 use Rattle.protobuf_parse_syntax.specs.Readings.{from_first, wrong_from}
@@ -25,8 +27,6 @@ use Rattle.protobuf_parse_syntax.specs.Code.{of_version, of_path, NoVersion}
 use Rattle.protobuf_parse_syntax.specs.Trees.{ReservedSyntax}
 use Rattle.protobuf_parse_syntax.specs.declared.tree.ImportVis.{ImportVis}
 use Rattle.protobuf_parse_syntax.specs.declared.tree.Syntax.{Syntax}
-use Rattle.protobuf_parse_syntax.specs.declared.lexer.token.Place.{Place}
-use Rattle.protobuf_parse_syntax.specs.declared.error.ParserError.{ParserError}
 use Rattle.protobuf_parse_syntax.specs.declared.parser.refusal.Refusal.{Refusal}
 use Rattle.protobuf_parse_syntax.specs.declared.parser.refusal.Refusal.TheVariants.{Memory, Next}
 use Rattle.protobuf_parse_syntax.specs.declared.parser.refusal.Refusal.TheVariants.{Here}

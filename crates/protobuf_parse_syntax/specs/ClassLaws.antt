@@ -7,14 +7,14 @@ use Rattle.std.proofs.lemmas.Slice.Eq.{bytes_eq-Decides}
 use Rattle.protobuf_parse_base.specs.Readers.{Lexicon, and_left, and_right, false_by}
 use Rattle.protobuf_parse_base.specs.Relations.{seen}
 use Rattle.protobuf_parse_base.specs.Readers.{not_true}
-use Rattle.protobuf_parse_syntax.specs.Text.{Bytes}
-use Rattle.protobuf_parse_syntax.specs.Tokens.{Lexeme}
-use Rattle.protobuf_parse_syntax.specs.Classes.{Class, symbol, word, ident, integer, float, text}
-use Rattle.protobuf_parse_syntax.specs.Classes.{is_among, is_ident_token}
-use Rattle.protobuf_parse_syntax.specs.Classes.{sees_at, sees}
-use Rattle.protobuf_parse_syntax.specs.declared.lexer.token.Place.{Place}
-use Rattle.protobuf_parse_syntax.specs.declared.lexer.token.TokenKind.{TokenKind}
-use Rattle.protobuf_parse_syntax.specs.declared.lexer.token.TokenKind.TheVariants as kind
+use Rattle.protobuf_parse_lexer.specs.Text.{Bytes}
+use Rattle.protobuf_parse_lexer.specs.Tokens.{Lexeme}
+use Rattle.protobuf_parse_lexer.specs.Classes.{Class, symbol, word, ident, integer, float, text}
+use Rattle.protobuf_parse_lexer.specs.Classes.{is_among, is_ident_token}
+use Rattle.protobuf_parse_lexer.specs.Classes.{sees_at, sees}
+use Rattle.protobuf_parse_lexer.specs.declared.lexer.token.Place.{Place}
+use Rattle.protobuf_parse_lexer.specs.declared.lexer.token.TokenKind.{TokenKind}
+use Rattle.protobuf_parse_lexer.specs.declared.lexer.token.TokenKind.TheVariants as kind
 
 abbrev pub sort : Class → ℕ
 sort (symbol c) = 0

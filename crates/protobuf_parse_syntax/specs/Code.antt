@@ -9,23 +9,23 @@ use Rattle.protobuf_parse_base.specs.Readers.{deep, bind}
 use Rattle.protobuf_parse_base.specs.Relations.{Many}
 use Rattle.protobuf_parse_base.specs.Whole.{whole}
 use Rattle.protobuf_parse_base.specs.declared.proto_path.error.PathError.{PathError}
-use Rattle.protobuf_parse_syntax.specs.Text.{Bytes}
-use Rattle.protobuf_parse_syntax.specs.Tokens.{Lexeme, lexeme}
+use Rattle.protobuf_parse_lexer.specs.Text.{Bytes}
+use Rattle.protobuf_parse_lexer.specs.Tokens.{Lexeme, lexeme}
+use Rattle.protobuf_parse_lexer.specs.Classes.{Class, symbol, ident, is_one_of, float}
+use Rattle.protobuf_parse_lexer.specs.Classes.{is_floating}
+use Rattle.protobuf_parse_lexer.specs.Cut.{out_of_memory, located as located_at}
+use Rattle.protobuf_parse_lexer.specs.declared.lexer.token.Place.{Place}
+use Rattle.protobuf_parse_lexer.specs.declared.error.ParserError.{ParserError}
+use Rattle.protobuf_parse_lexer.specs.declared.error.ParserErrorWithLocation.{ParserErrorWithLocation}
+use Rattle.protobuf_parse_lexer.specs.declared.error.ParserError.TheVariants as error
+use Rattle.protobuf_parse_lexer.specs.declared.lexer.str_lit.StrLitDecodeError.{StrLitDecodeError}
+use Rattle.protobuf_parse_lexer.specs.declared.lexer.str_lit.StrLitDecodeError.TheVariants as decoding
 use Rattle.protobuf_parse_syntax.specs.Trees.{Pieces, OptionSyntax}
-use Rattle.protobuf_parse_syntax.specs.Classes.{Class, symbol, ident, is_one_of, float}
-use Rattle.protobuf_parse_syntax.specs.Classes.{is_floating}
 use Rattle.protobuf_parse_syntax.specs.Grammar.{any_ident, IsComma}
 use Rattle.protobuf_parse_syntax.specs.Parsing.{IsLarge, SaysNothing, HundredParts, EndsWithParts}
 use Rattle.protobuf_parse_syntax.specs.Parsing.{EndsWithImport, EndsWithNoString, SyntaxHead}
 use Rattle.protobuf_parse_syntax.specs.Parsing.{IsEarlierOption, ListFront, IsGrammarFault}
-use Rattle.protobuf_parse_syntax.specs.Cut.{out_of_memory, located as located_at}
 use Rattle.protobuf_parse_syntax.specs.Productions as parse
-use Rattle.protobuf_parse_syntax.specs.declared.lexer.token.Place.{Place}
-use Rattle.protobuf_parse_syntax.specs.declared.error.ParserError.{ParserError}
-use Rattle.protobuf_parse_syntax.specs.declared.error.ParserErrorWithLocation.{ParserErrorWithLocation}
-use Rattle.protobuf_parse_syntax.specs.declared.error.ParserError.TheVariants as error
-use Rattle.protobuf_parse_syntax.specs.declared.lexer.str_lit.StrLitDecodeError.{StrLitDecodeError}
-use Rattle.protobuf_parse_syntax.specs.declared.lexer.str_lit.StrLitDecodeError.TheVariants as decoding
 use Rattle.protobuf_parse_syntax.specs.declared.parser.refusal.Refusal.{Refusal}
 use Rattle.protobuf_parse_syntax.specs.declared.parser.refusal.Refusal.TheVariants.{Memory, Next}
 use Rattle.protobuf_parse_syntax.specs.declared.parser.refusal.Refusal.TheVariants.{Here}

@@ -1,7 +1,7 @@
 -- What a file imports.
 use Rattle.std.specs.Prelude.{ℕ, ◌+◌, ℤ, pos, Bool, true, false, List, [], ◌∷◌, ◌++◌, length, map}
 use Rattle.std.specs.Prelude.{flat_map, string_bytes, if◌then◌else◌}
-use Rattle.protobuf_parse_syntax.specs.Text.{Bytes}
+use Rattle.protobuf_parse_lexer.specs.Text.{Bytes}
 use Rattle.protobuf_parse_syntax.specs.Trees.{ImportSyntax, StatementSyntax, file_import}
 use Rattle.protobuf_parse_syntax.specs.declared.dependencies.Dependencies.{Dependencies}
 use Rattle.protobuf_parse_syntax.specs.declared.tree.ImportVis.{ImportVis}

@@ -5,11 +5,12 @@ use Rattle.std.proofs.Common.{refl, ap, ◌∙◌, arith}
 use Rattle.protobuf_parse_base.specs.Readers.{Rest, Read, read, deep, bind, nested, starts}
 use Rattle.protobuf_parse_base.specs.Readers.{starts-append}
 use Rattle.protobuf_parse_base.specs.Pairs.{both, none-le, level-zero, level-suc}
-use Rattle.protobuf_parse_syntax.specs.Text.{Bytes}
-use Rattle.protobuf_parse_syntax.specs.Tokens.{Lexeme}
+use Rattle.protobuf_parse_lexer.specs.Text.{Bytes}
+use Rattle.protobuf_parse_lexer.specs.Tokens.{Lexeme}
+use Rattle.protobuf_parse_lexer.specs.Classes.{Class, word as word_class, words}
+use Rattle.protobuf_parse_lexer.specs.declared.lexer.token.Place.{Place}
 use Rattle.protobuf_parse_syntax.specs.Trees as tree
 use Rattle.protobuf_parse_syntax.specs.Trees.{FieldStatementSyntax}
-use Rattle.protobuf_parse_syntax.specs.Classes.{Class, word as word_class, words}
 use Rattle.protobuf_parse_syntax.specs.ClassLaws.{lexicon}
 use Rattle.protobuf_parse_syntax.specs.Grammar.{table_words, labels, labels3, scalars, MapOf}
 use Rattle.protobuf_parse_syntax.specs.Grammar.{TypeOf, IsType, AfterLabel, FieldOf, IsField}
@@ -18,7 +19,6 @@ use Rattle.protobuf_parse_syntax.specs.Nested.{Parts, type_shape, map_of, type_o
 use Rattle.protobuf_parse_syntax.specs.Nested.{after_type, field_firsts, field_shape}
 use Rattle.protobuf_parse_syntax.specs.Nested.{after_label_shape, after_label, field_of, field}
 use Rattle.protobuf_parse_syntax.specs.Nested.{fields}
-use Rattle.protobuf_parse_syntax.specs.declared.lexer.token.Place.{Place}
 use Rattle.protobuf_parse_syntax.specs.declared.tree.Syntax.{Syntax}
 use Rattle.protobuf_parse_syntax.specs.declared.tree.Syntax.TheVariants.{Proto2, Proto3}
 use Rattle.protobuf_parse_syntax.specs.declared.tree.field.Label.{Label}

@@ -10,7 +10,7 @@ use Rattle.std.specs.Prelude.{flat_map, codes, if◌then◌else◌}
 use Rattle.std.specs.Fmt.{signed_decimal}
 use Rattle.std.specs.List.{join_with_byte}
 use Rattle.protobuf_parse_base.specs.Characters as char
-use Rattle.protobuf_parse_syntax.specs.Text.{Bytes}
+use Rattle.protobuf_parse_lexer.specs.Text.{Bytes}
 use Rattle.protobuf_parse_syntax.specs.Trees.{Pieces, ConstantNameSyntax, regular_name}
 use Rattle.protobuf_parse_syntax.specs.Trees.{extension_name, url_name, ConstantSyntax, integer}
 use Rattle.protobuf_parse_syntax.specs.Trees.{truth, dotted, string, list, fields, ConstantList}

@@ -7,15 +7,19 @@
 use Rattle.std.specs.Prelude.{◌≤◌, ℕ, zero, suc, ℤ, pos, negsuc, nat_le, ◌&&◌, List, [], ◌∷◌, ◌++◌}
 use Rattle.std.specs.Prelude.{length, slice_index, Option, Some, None, Bool, true, false, cond}
 use Rattle.std.specs.Prelude.{bytes_eq, codes}
-use Rattle.std.specs.Str.{IsUtf8}
 use Rattle.protobuf_parse_base.specs.Relations.{Rel, Nothing, Such, Never, Level, One, Either, Many}
 use Rattle.protobuf_parse_base.specs.Relations.{OneOrMore, Separated, Unless, At, somes, ◌>>=◌}
 use Rattle.protobuf_parse_base.specs.Relations.{◌>>◌}
 use Rattle.protobuf_parse_base.specs.Relations.{AtSomeDepth}
 use Rattle.protobuf_parse_base.specs.Paths.{IsProtoPath}
-use Rattle.protobuf_parse_syntax.specs.Text.{Bytes}
+use Rattle.protobuf_parse_lexer.specs.Text.{Bytes}
 use Rattle.protobuf_parse_base.specs.Characters as char
-use Rattle.protobuf_parse_syntax.specs.Tokens.{Lexeme, DecodesAll, unquoted}
+use Rattle.protobuf_parse_lexer.specs.Tokens.{Lexeme, DecodesAll, StandsFor, unquoted}
+use Rattle.protobuf_parse_lexer.specs.Classes.{Class, sees, symbol, word, ident, integer}
+use Rattle.protobuf_parse_lexer.specs.Classes.{text as string_token, is_ident_token, is_one_of, words}
+use Rattle.protobuf_parse_lexer.specs.declared.lexer.token.Place.{Place}
+use Rattle.protobuf_parse_lexer.specs.declared.lexer.token.TokenKind.{TokenKind}
+use Rattle.protobuf_parse_lexer.specs.declared.lexer.token.TokenKind.TheVariants as kind
 use Rattle.protobuf_parse_syntax.specs.Trees as tree
 use Rattle.protobuf_parse_syntax.specs.Trees.{Pieces, ConstantNameSyntax, ConstantSyntax}
 use Rattle.protobuf_parse_syntax.specs.Trees.{ConstantFieldSyntax, OptionPartSyntax}
@@ -28,11 +32,6 @@ use Rattle.protobuf_parse_syntax.specs.Trees.{EnumSyntax, MessageStatementSyntax
 use Rattle.protobuf_parse_syntax.specs.Trees.{MethodSyntax, ServiceStatementSyntax, ServiceSyntax}
 use Rattle.protobuf_parse_syntax.specs.Trees.{ImportSyntax, PackageSyntax, StatementSyntax}
 use Rattle.protobuf_parse_syntax.specs.Trees.{FileSyntax}
-use Rattle.protobuf_parse_syntax.specs.Classes.{Class, sees, symbol, word, ident, integer}
-use Rattle.protobuf_parse_syntax.specs.Classes.{text as string_token, is_ident_token, is_one_of, words}
-use Rattle.protobuf_parse_syntax.specs.declared.lexer.token.Place.{Place}
-use Rattle.protobuf_parse_syntax.specs.declared.lexer.token.TokenKind.{TokenKind}
-use Rattle.protobuf_parse_syntax.specs.declared.lexer.token.TokenKind.TheVariants as kind
 use Rattle.protobuf_parse_syntax.specs.declared.tree.Syntax.{Syntax}
 use Rattle.protobuf_parse_syntax.specs.declared.tree.Syntax.TheVariants.{Proto2, Proto3}
 use Rattle.protobuf_parse_syntax.specs.declared.tree.ImportVis.{ImportVis}
@@ -150,10 +149,6 @@ Braced R = do
 
 unfoldable pub IsStr : Rel Lexeme Pieces
 IsStr = OneOrMore (One string_piece)
-
--- the text that a string stands for
-abbrev pub StandsFor : Pieces → Bytes → Type 0
-StandsFor pieces text = DecodesAll pieces text × IsUtf8 text
 
 -- ---- ident { "." ident }, and name = [ "." ] ident { "." ident }
 

@@ -9,12 +9,13 @@ use Rattle.protobuf_parse_base.specs.Pairs.{same, less, give, behind, choose, sh
 use Rattle.protobuf_parse_base.specs.Pairs.{unless, at, both, none-le, level, level-zero}
 use Rattle.protobuf_parse_base.specs.Pairs.{level-suc, levels}
 use Rattle.protobuf_parse_base.specs.Pairs.{◌>>=◌, ◌>>◌}
-use Rattle.protobuf_parse_syntax.specs.Text.{Bytes}
-use Rattle.protobuf_parse_syntax.specs.Tokens.{Lexeme}
+use Rattle.protobuf_parse_lexer.specs.Text.{Bytes}
+use Rattle.protobuf_parse_lexer.specs.Tokens.{Lexeme}
+use Rattle.protobuf_parse_lexer.specs.Classes.{Class, symbol as symbol_class, word as word_class}
+use Rattle.protobuf_parse_lexer.specs.Classes.{ident as ident_class, words}
+use Rattle.protobuf_parse_lexer.specs.declared.lexer.token.Place.{Place}
 use Rattle.protobuf_parse_syntax.specs.Trees as tree
 use Rattle.protobuf_parse_syntax.specs.Trees.{MessageSyntax}
-use Rattle.protobuf_parse_syntax.specs.Classes.{Class, symbol as symbol_class, word as word_class}
-use Rattle.protobuf_parse_syntax.specs.Classes.{ident as ident_class, words}
 use Rattle.protobuf_parse_syntax.specs.Productions.{Parses, symbol, word, ident}
 use Rattle.protobuf_parse_syntax.specs.Productions.{name}
 use Rattle.protobuf_parse_syntax.specs.Productions.{reserved, extensions, enum_number, streamed}
@@ -32,7 +33,6 @@ use Rattle.protobuf_parse_syntax.specs.Grammar.{IsExtensionsIn, MessageStatement
 use Rattle.protobuf_parse_syntax.specs.Grammar.{IsMessage, IsMethodEnd, IsRpc, IsStream, IsStreamIn}
 use Rattle.protobuf_parse_syntax.specs.Grammar.{IsServiceStatement, IsService, IsFileStatement}
 use Rattle.protobuf_parse_syntax.specs.Grammar.{IsFileOf}
-use Rattle.protobuf_parse_syntax.specs.declared.lexer.token.Place.{Place}
 use Rattle.protobuf_parse_syntax.specs.declared.tree.Syntax.{Syntax}
 use Rattle.protobuf_parse_syntax.specs.declared.tree.Syntax.TheVariants.{Proto2, Proto3}
 unfoldable pub use Rattle.protobuf_parse_syntax.specs.NestedFields.{option_item, option_items}

@@ -14,15 +14,16 @@ use Rattle.protobuf_parse_base.specs.Depth.{Near}
 use Rattle.protobuf_parse_base.specs.Pairs.{Pair, same, less, give, behind, choose, many, shaped}
 use Rattle.protobuf_parse_base.specs.Pairs.{unless, separated, at, both, none-le, level, level-zero}
 use Rattle.protobuf_parse_base.specs.Pairs.{level-suc, levels, ◌>>=◌, ◌>>◌}
-use Rattle.protobuf_parse_syntax.specs.Tokens.{Lexeme}
+use Rattle.protobuf_parse_lexer.specs.Tokens.{Lexeme}
+use Rattle.protobuf_parse_lexer.specs.Classes.{Class, symbol as symbol_class, word as word_class}
+use Rattle.protobuf_parse_lexer.specs.Classes.{ident as ident_class, integer, text, words}
+use Rattle.protobuf_parse_lexer.specs.Classes.{is_one_of}
+use Rattle.protobuf_parse_lexer.specs.declared.lexer.token.Place.{Place}
 use Rattle.protobuf_parse_syntax.specs.Trees as tree
 use Rattle.protobuf_parse_syntax.specs.Trees.{ConstantSyntax, OptionSyntax}
 use Rattle.protobuf_parse_syntax.specs.Trees.{TypeSyntax}
 use Rattle.protobuf_parse_syntax.specs.Trees.{FieldStatementSyntax}
-use Rattle.protobuf_parse_syntax.specs.Classes.{Class, symbol as symbol_class, word as word_class}
-use Rattle.protobuf_parse_syntax.specs.Classes.{ident as ident_class, integer, text, words}
 use Rattle.protobuf_parse_syntax.specs.ClassLaws.{lexicon}
-use Rattle.protobuf_parse_syntax.specs.Classes.{is_one_of}
 use Rattle.protobuf_parse_syntax.specs.Productions.{Parses, symbol, word, ident, capital, one_of}
 use Rattle.protobuf_parse_syntax.specs.Productions.{str, name, signed, constant_name, field_end}
 use Rattle.protobuf_parse_syntax.specs.Productions.{word_constant, field_number, option_name}
@@ -34,7 +35,6 @@ use Rattle.protobuf_parse_syntax.specs.Grammar.{ConstantOf, IsConstant, MapOf, T
 use Rattle.protobuf_parse_syntax.specs.Grammar.{IsComma, IsAssignment, IsOption, AreOptions}
 use Rattle.protobuf_parse_syntax.specs.Grammar.{PlainFieldOf, GroupOf, AfterLabel, FieldOf, IsField}
 use Rattle.protobuf_parse_syntax.specs.Grammar.{IsIdent, IsFieldNumber}
-use Rattle.protobuf_parse_syntax.specs.declared.lexer.token.Place.{Place}
 use Rattle.protobuf_parse_syntax.specs.declared.tree.Syntax.{Syntax}
 use Rattle.protobuf_parse_syntax.specs.declared.tree.Syntax.TheVariants.{Proto2, Proto3}
 use Rattle.protobuf_parse_syntax.specs.declared.tree.field.Label.{Label}

@@ -1,6 +1,6 @@
 -- How deep the parts of a tree nest: its constants, and its messages and groups.
 use Rattle.std.specs.Prelude.{◌≤◌, ℕ, suc, max, List, [], ◌∷◌, All, ⊤}
-use Rattle.protobuf_parse_syntax.specs.Tokens.{Lexeme, IsShallow}
+use Rattle.protobuf_parse_lexer.specs.Tokens.{Lexeme, IsShallow}
 use Rattle.protobuf_parse_syntax.specs.Trees as tree
 use Rattle.protobuf_parse_syntax.specs.Trees.{ConstantSyntax, ConstantList, ConstantFieldList}
 use Rattle.protobuf_parse_syntax.specs.Trees.{OptionSyntax}

@@ -4,22 +4,23 @@ use Rattle.std.specs.Prelude.{Result, MatchResult}
 use Rattle.protobuf_parse_base.specs.Paths.{path_fault}
 use Rattle.protobuf_parse_base.specs.Relations.{Rel, Many, Nothing, BeginsOtherwise, StopsAt}
 use Rattle.protobuf_parse_base.specs.Relations.{◌>>=◌, ◌>>◌}
-use Rattle.protobuf_parse_syntax.specs.Text.{Bytes}
+use Rattle.protobuf_parse_lexer.specs.Text.{Bytes}
 use Rattle.protobuf_parse_base.specs.Characters as char
-use Rattle.protobuf_parse_syntax.specs.Tokens.{Lexeme}
-use Rattle.protobuf_parse_syntax.specs.Cut.{Stream, HasTokens, IsRefused, out_of_memory, located}
+use Rattle.protobuf_parse_lexer.specs.Tokens.{Lexeme}
+use Rattle.protobuf_parse_lexer.specs.Cut.{Stream, HasTokens, IsRefused, out_of_memory, located}
+use Rattle.protobuf_parse_lexer.specs.Classes.{symbol, ident, float, text as string_token}
+use Rattle.protobuf_parse_lexer.specs.Classes.{is_one_of, is_floating}
+use Rattle.protobuf_parse_lexer.specs.Tokens.{StandsFor}
+use Rattle.protobuf_parse_lexer.specs.declared.error.ParserError.{ParserError}
+use Rattle.protobuf_parse_lexer.specs.declared.error.ParserError.TheVariants as error
+use Rattle.protobuf_parse_lexer.specs.declared.error.ParserErrorWithLocation.{ParserErrorWithLocation}
+use Rattle.protobuf_parse_lexer.specs.declared.lexer.token.Place.{Place}
+use Rattle.protobuf_parse_lexer.specs.declared.lexer.token.TokenKind.{TokenKind}
+use Rattle.protobuf_parse_lexer.specs.declared.lexer.token.TokenKind.TheVariants as kind
 use Rattle.protobuf_parse_syntax.specs.Trees.{Pieces, OptionPartSyntax, OptionSyntax, FileSyntax}
-use Rattle.protobuf_parse_syntax.specs.Classes.{symbol, ident, float, text as string_token}
-use Rattle.protobuf_parse_syntax.specs.Classes.{is_one_of, is_floating}
 use Rattle.protobuf_parse_syntax.specs.Grammar.{IsWord, IsSymbol, IsComma, IsOptionPart, IsNextPart}
 use Rattle.protobuf_parse_syntax.specs.Grammar.{IsAssignment, IsEnumNumber, IsVisibility}
-use Rattle.protobuf_parse_syntax.specs.Grammar.{IsStr, StandsFor, IsFile, name_of, place_of}
-use Rattle.protobuf_parse_syntax.specs.declared.error.ParserError.{ParserError}
-use Rattle.protobuf_parse_syntax.specs.declared.error.ParserError.TheVariants as error
-use Rattle.protobuf_parse_syntax.specs.declared.error.ParserErrorWithLocation.{ParserErrorWithLocation}
-use Rattle.protobuf_parse_syntax.specs.declared.lexer.token.Place.{Place}
-use Rattle.protobuf_parse_syntax.specs.declared.lexer.token.TokenKind.{TokenKind}
-use Rattle.protobuf_parse_syntax.specs.declared.lexer.token.TokenKind.TheVariants as kind
+use Rattle.protobuf_parse_syntax.specs.Grammar.{IsStr, IsFile, name_of, place_of}
 use Rattle.protobuf_parse_syntax.specs.declared.tree.ImportVis.{ImportVis}
 use Rattle.protobuf_parse_syntax.specs.declared.tree.Syntax.{Syntax}
 

@@ -17,15 +17,21 @@ use Rattle.protobuf_parse_base.specs.Combinators.{choose, many, shaped, ◌>>=�
 use Rattle.protobuf_parse_base.specs.Readers.{all_apart-law}
 use Rattle.protobuf_parse_base.specs.Conditions.{at, one_or_more, separated, unless, meant}
 use Rattle.protobuf_parse_base.specs.Loops.{with_rest}
-use Rattle.protobuf_parse_syntax.specs.Text.{Bytes}
-use Rattle.protobuf_parse_syntax.specs.Tokens.{Lexeme}
+use Rattle.protobuf_parse_lexer.specs.Text.{Bytes}
+use Rattle.protobuf_parse_lexer.specs.Tokens.{Lexeme}
+use Rattle.protobuf_parse_lexer.specs.Classes.{Class, sees, symbol as symbol_class}
+use Rattle.protobuf_parse_lexer.specs.Classes.{word as word_class, ident as ident_class, integer}
+use Rattle.protobuf_parse_lexer.specs.Classes.{text, is_ident_token, words, floatings}
+use Rattle.protobuf_parse_lexer.specs.Classes.{is_floating, is_one_of}
+use Rattle.protobuf_parse_lexer.specs.Tokens.{StandsFor}
+use Rattle.protobuf_parse_lexer.specs.Decoder.{text_of}
+use Rattle.protobuf_parse_lexer.specs.DecoderLaws.{text-to, text-from}
+use Rattle.protobuf_parse_lexer.specs.declared.lexer.token.Place.{Place}
+use Rattle.protobuf_parse_lexer.specs.declared.lexer.token.TokenKind.{TokenKind}
+use Rattle.protobuf_parse_lexer.specs.declared.lexer.token.TokenKind.TheVariants as kind
 use Rattle.protobuf_parse_syntax.specs.Trees as tree
 use Rattle.protobuf_parse_syntax.specs.Trees.{Pieces, OptionPartSyntax}
-use Rattle.protobuf_parse_syntax.specs.Classes.{Class, sees, symbol as symbol_class}
-use Rattle.protobuf_parse_syntax.specs.Classes.{word as word_class, ident as ident_class, integer}
-use Rattle.protobuf_parse_syntax.specs.Classes.{text, is_ident_token, words, floatings}
 use Rattle.protobuf_parse_syntax.specs.ClassLaws.{lexicon}
-use Rattle.protobuf_parse_syntax.specs.Classes.{is_floating, is_one_of}
 use Rattle.protobuf_parse_syntax.specs.Grammar as grammar
 use Rattle.protobuf_parse_syntax.specs.Grammar.{if_so, IsSymbol, IsWord, any_ident, IsIdent, lookup}
 use Rattle.protobuf_parse_syntax.specs.Grammar.{word_of, IsWordOf, table_words, number_at, IsNumber}
@@ -37,19 +43,15 @@ use Rattle.protobuf_parse_syntax.specs.Grammar.{IsInteger, IsBracketedName, IsCo
 use Rattle.protobuf_parse_syntax.specs.Grammar.{IsFieldEnd, IsWordConstant, IsOptionPart}
 use Rattle.protobuf_parse_syntax.specs.Grammar.{IsFieldNumber, IsRangeEnd, IsRange, IsExtensions}
 use Rattle.protobuf_parse_syntax.specs.Grammar.{IsEnumNumber, IsStreamed, IsPackage, AtMost}
-use Rattle.protobuf_parse_syntax.specs.Grammar.{IsNextPart, IsOptionName, StandsFor, SaysVersion}
+use Rattle.protobuf_parse_syntax.specs.Grammar.{IsNextPart, IsOptionName, SaysVersion}
 use Rattle.protobuf_parse_syntax.specs.Grammar.{SaysPath, IsVersion, IsPath, IsReservedName}
 use Rattle.protobuf_parse_syntax.specs.Grammar.{IsSyntax, IsImport, AreReserved, IsReserved}
 use Rattle.protobuf_parse_syntax.specs.Readings.{for, from_first, too_many, finding, none-to}
 use Rattle.protobuf_parse_syntax.specs.Readings.{none-from, more-to, more-from}
-use Rattle.protobuf_parse_syntax.specs.Decoder.{version_of, path_of, text_of}
-use Rattle.protobuf_parse_syntax.specs.DecoderLaws.{version-to, version-from, path-to, path-from}
-use Rattle.protobuf_parse_syntax.specs.DecoderLaws.{text-to, text-from}
+use Rattle.protobuf_parse_syntax.specs.Said.{version_of, path_of}
+use Rattle.protobuf_parse_syntax.specs.SaidLaws.{version-to, version-from, path-to, path-from}
 use Rattle.protobuf_parse_syntax.specs.declared.tree.ImportVis.TheVariants as visible
 use Rattle.protobuf_parse_syntax.specs.declared.tree.Syntax.TheVariants.{Proto2}
-use Rattle.protobuf_parse_syntax.specs.declared.lexer.token.Place.{Place}
-use Rattle.protobuf_parse_syntax.specs.declared.lexer.token.TokenKind.{TokenKind}
-use Rattle.protobuf_parse_syntax.specs.declared.lexer.token.TokenKind.TheVariants as kind
 
 abbrev pub Parses : {A : Type 0} → (List Lexeme → A → Type 0) → Shape Class → Type 0
 Parses = Reader lexicon

@@ -3,9 +3,9 @@
 use Rattle.std.specs.Prelude.{ℤ, pos, Bool, List, [], ◌∷◌, map, fold, Option, Some, None}
 use Rattle.std.specs.Prelude.{string_bytes}
 use Rattle.protobuf_parse_base.specs.PathViews.{path_buf_text}
-use Rattle.protobuf_parse_syntax.specs.Text.{Bytes}
-use Rattle.protobuf_parse_syntax.specs.declared.lexer.token.Place.{Place}
-use Rattle.protobuf_parse_syntax.specs.declared.lexer.str_lit.StrLit.{StrLit}
+use Rattle.protobuf_parse_lexer.specs.Text.{Bytes}
+use Rattle.protobuf_parse_lexer.specs.declared.lexer.token.Place.{Place}
+use Rattle.protobuf_parse_lexer.specs.declared.lexer.str_lit.StrLit.{StrLit}
 use Rattle.protobuf_parse_syntax.specs.declared.tree.Syntax.{Syntax}
 use Rattle.protobuf_parse_syntax.specs.declared.tree.ImportVis.{ImportVis}
 use Rattle.protobuf_parse_syntax.specs.declared.tree.Import.{Import}

@@ -4,14 +4,14 @@ use Rattle.std.specs.Prelude.{◌≡◌, Bool, true, false, Option, Some, None, 
 use Rattle.std.specs.Borrow.{Bor}
 use Rattle.protobuf_parse_base.specs.Readers.{Rest, end, token, read, starts}
 use Rattle.protobuf_parse_base.specs.Relations.{seen}
-use Rattle.protobuf_parse_syntax.specs.Text.{Bytes}
-use Rattle.protobuf_parse_syntax.specs.Tokens.{Lexeme}
-use Rattle.protobuf_parse_syntax.specs.Classes.{Class, sees_at, words}
+use Rattle.protobuf_parse_lexer.specs.Text.{Bytes}
+use Rattle.protobuf_parse_lexer.specs.Tokens.{Lexeme}
+use Rattle.protobuf_parse_lexer.specs.Classes.{Class, sees_at, words}
+use Rattle.protobuf_parse_lexer.specs.declared.lexer.token.Place.{Place}
+use Rattle.protobuf_parse_lexer.specs.declared.lexer.token.TokenKind.TheVariants as kind
 use Rattle.protobuf_parse_syntax.specs.ClassLaws.{lexicon}
 use Rattle.protobuf_parse_syntax.specs.Grammar.{table_words}
 use Rattle.protobuf_parse_syntax.specs.Productions.{one_of}
-use Rattle.protobuf_parse_syntax.specs.declared.lexer.token.Place.{Place}
-use Rattle.protobuf_parse_syntax.specs.declared.lexer.token.TokenKind.TheVariants as kind
 
 -- one of the classes sees an identifier with this text
 abbrev pub takes : List Class → Bytes → Bool

@@ -3,15 +3,15 @@
 ghost use Rattle.std.specs.Prelude.{◌≡◌, ◌≤◌, ◌⊎◌, ◌++◌, [], ◌∷◌, length, map, IfOk, IfErr, OnOk};
 ghost use Rattle.std.specs.Prelude.{string_bytes, if◌then◌else◌};
 ghost use Rattle.protobuf_parse_base.specs.PathViews.{path_buf_text};
-ghost use Rattle.protobuf_parse_syntax.specs.Cut.{out_of_memory, error_place as place_at};
+ghost use Rattle.protobuf_parse_lexer.specs.Cut.{out_of_memory, error_place as place_at};
 ghost use Rattle.protobuf_parse_syntax.specs.Dependencies as spec;
 ghost use Rattle.protobuf_parse_syntax.specs.Dependencies.{dependencies_of, dependencies_view};
 ghost use Rattle.protobuf_parse_syntax.specs.Parsing.{HasTree, IsFaultOf, TellsFaults};
 ghost use Rattle.protobuf_parse_syntax.specs.Trees.{FileSyntax, import_syntax, statement_syntax};
 
-use crate::error::ParserErrorWithLocation;
 use crate::parser::parse_file;
 use crate::tree::{FileStatement, Import};
+use protobuf_parse_lexer::ParserErrorWithLocation;
 use std::alloc::{AllocError, Global};
 
 /// What a file imports.

@@ -16,22 +16,20 @@ mod tables;
 mod words;
 
 ghost use Rattle.std.specs.Prelude.{◌≡◌, ◌≤◌, ◌⊎◌, IfOk, IfErr};
+ghost use Rattle.protobuf_parse_lexer.specs.Cut.{out_of_memory, stream as tokens_of};
+ghost use Rattle.protobuf_parse_lexer.specs.Cut.{error_place as place_at};
 ghost use Rattle.protobuf_parse_syntax.specs.Counts.{statements_in};
-ghost use Rattle.protobuf_parse_syntax.specs.Cut.{out_of_memory, stream as tokens_of};
-ghost use Rattle.protobuf_parse_syntax.specs.Cut.{error_place as place_at};
 ghost use Rattle.protobuf_parse_syntax.specs.Grammar.{IsFile};
 ghost use Rattle.protobuf_parse_syntax.specs.Nesting.{ShallowFile};
 ghost use Rattle.protobuf_parse_syntax.specs.Parsing.{IsGrammarFault, HasTree, IsFaultOf};
 ghost use Rattle.protobuf_parse_syntax.specs.Parsing.{TellsFaults};
 ghost use Rattle.protobuf_parse_syntax.specs.Trees.{FileSyntax, file_syntax};
 
-use crate::error::{ParserError, ParserErrorWithLocation};
-use crate::lexer::token::TokenStream;
-use crate::lexer::tokenize;
 use crate::parser::cursor::Cursor;
 use crate::parser::file::file;
 use crate::parser::refusal::Refusal;
 use crate::tree::FileTree;
+use protobuf_parse_lexer::{ParserError, ParserErrorWithLocation, TokenStream, tokenize};
 use std::alloc::Global;
 
 /// The tree of a file's text, by the Protocol Buffers Language Specifications (proto2 and proto3).

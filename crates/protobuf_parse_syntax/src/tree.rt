@@ -7,12 +7,11 @@ mod field;
 mod option;
 
 ghost use Rattle.std.specs.Prelude.{◌≡◌};
+ghost use Rattle.protobuf_parse_lexer.specs.Text.{seen_by};
 ghost use Rattle.protobuf_parse_syntax.specs.Dependencies.{is_public, is_weak};
 ghost use Rattle.protobuf_parse_syntax.specs.Trees.{file_syntax, statement_syntax, package_of};
 ghost use Rattle.protobuf_parse_syntax.specs.Trees.{package_behind};
-ghost use Rattle.protobuf_parse_syntax.specs.Text.{seen_by};
 
-use crate::lexer::token::Place;
 pub use constant::{ConstantField, ConstantFieldName, ProtobufConstant};
 pub use declaration::{
     EnumStatement, EnumValue, Enumeration, Extend, Extensions, FieldNumberRange, Message,
@@ -22,6 +21,7 @@ pub use declaration::{
 pub use field::{Field, FieldStatement, Group, Label, Scalar, Type};
 pub use option::{OptionStatement, ProtobufOption, ProtobufOptionName, ProtobufOptionNamePart};
 use protobuf_parse_base::proto_path::ProtoPathBuf;
+use protobuf_parse_lexer::Place;
 
 /// The version of the language that a file is written in.
 #[derive(Clone, Copy, Debug, PartialEq, Eq)]

@@ -13,7 +13,7 @@ use Rattle.protobuf_parse_wire.specs.Kinds.{truth}
 use Rattle.protobuf_parse_wire.specs.Kinds.{text, octets, message, shape_of_kind, wire_type}
 use Rattle.protobuf_parse_wire.specs.Kinds.{kind_of_field_type}
 use Rattle.protobuf_parse_wire.specs.Trees as trees
-use Rattle.protobuf_parse_wire.specs.Trees.{EntryTree, Entries, ValueTree, Field, fields_of_list}
+use Rattle.protobuf_parse_wire.specs.Trees.{EntryTree, Entries, ValueTree, Field}
 use Rattle.protobuf_parse_wire.specs.Trees.{no_entries, entry}
 use Rattle.protobuf_parse_wire.specs.Wire.{IsVarint, Spells, Says}
 use Rattle.protobuf_parse_wire.specs.Declarations.{extensions_extending, field_numbered}

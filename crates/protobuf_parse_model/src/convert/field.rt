@@ -1,8 +1,7 @@
 //! Fields and groups.
 
-ghost use Rattle.std.specs.Prelude.{◌≡◌, ◌++◌, ◌<◌, ◌^◌, List, [], ◌∷◌, map, flat_map, IfSome};
-ghost use Rattle.std.specs.Prelude.{IfOk, option_map, string_bytes};
-ghost use Rattle.std.specs.Borrow.{Bor};
+ghost use Rattle.std.specs.Prelude.{◌≡◌, ◌<◌, [], map};
+ghost use Rattle.std.specs.Prelude.{IfOk, string_bytes};
 ghost use Rattle.protobuf_parse_syntax.specs.Trees.{field_syntax, group_syntax, option_syntax};
 ghost use Rattle.protobuf_parse_syntax.specs.Trees.{type_syntax};
 ghost use Rattle.protobuf_parse_model.specs.Contexts.{environment_in, field_place_view};

@@ -1,6 +1,6 @@
 //! Files.
 
-ghost use Rattle.std.specs.Prelude.{◌++◌, ◌≤◌, map, option_map};
+ghost use Rattle.std.specs.Prelude.{◌≤◌, map, option_map};
 ghost use Rattle.protobuf_parse_syntax.specs.Counts.{statements_in};
 ghost use Rattle.protobuf_parse_syntax.specs.Trees.{file_syntax, statement_syntax};
 ghost use Rattle.protobuf_parse_model.specs.BuiltinOptions.{file_table};

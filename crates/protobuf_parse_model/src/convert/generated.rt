@@ -1,6 +1,6 @@
 //! The messages that stand behind maps and groups.
 
-ghost use Rattle.std.specs.Prelude.{◌≡◌, ◌++◌, pos, ℤ, List, [], ◌∷◌, map, flat_map, option_map};
+ghost use Rattle.std.specs.Prelude.{◌≡◌, ◌++◌, map, flat_map, option_map};
 ghost use Rattle.std.specs.Prelude.{string_bytes, IfOk};
 ghost use Rattle.protobuf_parse_syntax.specs.Trees.{field_statement_syntax, field_syntax};
 ghost use Rattle.protobuf_parse_syntax.specs.Trees.{group_syntax};
@@ -8,7 +8,6 @@ ghost use Rattle.protobuf_parse_syntax.specs.Trees.{type_syntax};
 ghost use Rattle.protobuf_parse_model.specs.Contexts.{environment_in, resolved_view};
 ghost use Rattle.protobuf_parse_model.specs.Contexts.{behind_seen, names_of_context};
 ghost use Rattle.protobuf_parse_model.specs.Descriptors as described;
-ghost use Rattle.protobuf_parse_model.specs.Duplicates.{duplicates};
 ghost use Rattle.protobuf_parse_model.specs.Faults.{Elaborates};
 ghost use Rattle.protobuf_parse_model.specs.Fields as fields;
 ghost use Rattle.protobuf_parse_model.specs.Messages as messages;

@@ -1,6 +1,6 @@
 //! The ranges and the options of messages.
 
-ghost use Rattle.std.specs.Prelude.{◌≡◌, ◌++◌, map, flat_map, option_map, IfOk};
+ghost use Rattle.std.specs.Prelude.{◌≡◌, map, flat_map, option_map, IfOk};
 ghost use Rattle.protobuf_parse_syntax.specs.Trees.{message_statement_syntax, range_syntax};
 ghost use Rattle.protobuf_parse_model.specs.BuiltinOptions.{message_table};
 ghost use Rattle.protobuf_parse_model.specs.ConstructOptions.{construct_faults};

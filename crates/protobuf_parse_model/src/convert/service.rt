@@ -1,6 +1,6 @@
 //! Services.
 
-ghost use Rattle.std.specs.Prelude.{◌≡◌, ◌++◌, [], map, flat_map, option_map, string_bytes};
+ghost use Rattle.std.specs.Prelude.{◌≡◌, [], map, flat_map, option_map, string_bytes};
 ghost use Rattle.std.specs.Prelude.{unwrap_or, IfOk};
 ghost use Rattle.protobuf_parse_syntax.specs.Trees as tree;
 ghost use Rattle.protobuf_parse_model.specs.BuiltinOptions.{method_table, service_table};
@@ -12,7 +12,6 @@ ghost use Rattle.protobuf_parse_model.specs.Environment.{customs_bytes, type_ful
 ghost use Rattle.protobuf_parse_model.specs.Environment.{type_missing};
 ghost use Rattle.protobuf_parse_model.specs.declared.customs.Construct.TheVariants as of;
 ghost use Rattle.protobuf_parse_model.specs.Faults.{Elaborates};
-ghost use Rattle.protobuf_parse_model.specs.BuiltinOptions.{options_seen};
 ghost use Rattle.protobuf_parse_model.specs.Options.{method_options_view, service_options_view};
 ghost use Rattle.protobuf_parse_model.specs.OptionMessages as sets;
 ghost use Rattle.protobuf_parse_model.specs.Services as services;

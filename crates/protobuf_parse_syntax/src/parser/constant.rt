@@ -4,7 +4,7 @@ ghost use Rattle.std.specs.Prelude.{◌≡◌, ◌≤◌, ◌∷◌, [], map, st
 ghost use Rattle.protobuf_parse_base.specs.Characters as char;
 ghost use Rattle.protobuf_parse_base.specs.Readers.{starts};
 ghost use Rattle.protobuf_parse_base.specs.Pairs.{both};
-ghost use Rattle.protobuf_parse_syntax.specs.Classes as class;
+ghost use Rattle.protobuf_parse_lexer.specs.Classes as class;
 ghost use Rattle.protobuf_parse_syntax.specs.ClassLaws.{lexicon};
 ghost use Rattle.protobuf_parse_syntax.specs.Grammar as grammar;
 ghost use Rattle.protobuf_parse_syntax.specs.Productions as read;
@@ -12,11 +12,11 @@ ghost use Rattle.protobuf_parse_syntax.specs.Trees as view;
 ghost use Rattle.protobuf_parse_syntax.specs.Code.{left, Gives, Stands};
 ghost use Rattle.protobuf_parse_syntax.specs.Nested as nest;
 
-use crate::error::ParserError;
 use crate::parser::cursor::Cursor;
 use crate::parser::name::{dotted, name, string};
 use crate::parser::refusal::Refusal;
 use crate::tree::{ConstantField, ConstantFieldName, ProtobufConstant};
+use protobuf_parse_lexer::ParserError;
 use std::alloc::Global;
 
 /// A constant of at most so many levels. S9 where a token begins none, S18 at a float.

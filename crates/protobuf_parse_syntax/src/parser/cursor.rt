@@ -4,21 +4,19 @@ ghost use Rattle.std.specs.Prelude.{◌≡◌, ◌≤◌, ◌∷◌, [], map, st
 ghost use Rattle.protobuf_parse_base.specs.Whole.{whole};
 ghost use Rattle.protobuf_parse_base.specs.Readers.{starts};
 ghost use Rattle.protobuf_parse_base.specs.Conditions.{mark_of};
-ghost use Rattle.protobuf_parse_syntax.specs.Tokens.{lexeme};
-ghost use Rattle.protobuf_parse_syntax.specs.Classes as class;
+ghost use Rattle.protobuf_parse_lexer.specs.Tokens.{lexeme};
+ghost use Rattle.protobuf_parse_lexer.specs.Classes as class;
+ghost use Rattle.protobuf_parse_lexer.specs.Text.{seen_by};
 ghost use Rattle.protobuf_parse_syntax.specs.ClassLaws.{lexicon};
 ghost use Rattle.protobuf_parse_syntax.specs.Grammar.{place_of};
 ghost use Rattle.protobuf_parse_syntax.specs.Productions as read;
 ghost use Rattle.protobuf_parse_syntax.specs.Code.{left, Gives, AtOneToken, is_end};
-ghost use Rattle.protobuf_parse_syntax.specs.Text.{seen_by};
 ghost use Rattle.protobuf_parse_syntax.specs.Code.{next_ident, floats_second};
 ghost use Rattle.protobuf_parse_syntax.specs.Words.{behind_next};
 
-use crate::error::ParserError;
-use crate::lexer::str_lit::unquoted;
-use crate::lexer::token::{Place, Token, TokenKind};
 use crate::parser::refusal::Refusal;
 use crate::parser::tables::is_same;
+use protobuf_parse_lexer::{ParserError, Place, Token, TokenKind, unquoted};
 use std::alloc::Global;
 
 /// The tokens that are not read yet. A call that refuses a token leaves the cursor before it.

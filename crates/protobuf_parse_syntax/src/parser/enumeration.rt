@@ -2,16 +2,15 @@
 
 ghost use Rattle.std.specs.Prelude.{◌≡◌, ◌≤◌, ◌∷◌, [], map, string_bytes, OnOk};
 ghost use Rattle.protobuf_parse_base.specs.Readers.{starts};
-ghost use Rattle.protobuf_parse_syntax.specs.Classes as class;
+ghost use Rattle.protobuf_parse_lexer.specs.Classes as class;
+ghost use Rattle.protobuf_parse_lexer.specs.Text.{seen_by};
 ghost use Rattle.protobuf_parse_syntax.specs.ClassLaws.{lexicon};
 ghost use Rattle.protobuf_parse_syntax.specs.Grammar as grammar;
 ghost use Rattle.protobuf_parse_syntax.specs.Productions as read;
 ghost use Rattle.protobuf_parse_syntax.specs.Trees as view;
 ghost use Rattle.protobuf_parse_syntax.specs.Code.{left, Gives, GivesOr, Unsaid, of_text};
-ghost use Rattle.protobuf_parse_syntax.specs.Text.{seen_by};
 ghost use Rattle.protobuf_parse_syntax.specs.Nested as nest;
 
-use crate::error::ParserError;
 use crate::parser::cursor::Cursor;
 use crate::parser::list::push_some;
 use crate::parser::name::text;
@@ -21,6 +20,7 @@ use crate::tree::{
     EnumStatement, EnumValue, Enumeration, Extensions, FieldNumberRange, Reserved,
     ReservedStatement,
 };
+use protobuf_parse_lexer::ParserError;
 use std::alloc::Global;
 
 /// The last number that a field may have.

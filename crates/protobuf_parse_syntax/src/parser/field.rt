@@ -2,19 +2,17 @@
 
 ghost use Rattle.std.specs.Prelude.{◌≡◌, suc, false, map};
 ghost use Rattle.protobuf_parse_base.specs.Readers.{starts};
+ghost use Rattle.protobuf_parse_lexer.specs.Text.{seen_by};
 ghost use Rattle.protobuf_parse_syntax.specs.ClassLaws.{lexicon};
 ghost use Rattle.protobuf_parse_syntax.specs.Grammar as grammar;
 ghost use Rattle.protobuf_parse_syntax.specs.Trees as view;
 ghost use Rattle.protobuf_parse_syntax.specs.Code.{left, Gives};
-ghost use Rattle.protobuf_parse_syntax.specs.Text.{seen_by};
 ghost use Rattle.protobuf_parse_syntax.specs.Words.{Finds};
 ghost use Rattle.protobuf_parse_syntax.specs.Fields.{type_in, map_in, after_label_in};
 ghost use Rattle.protobuf_parse_syntax.specs.Fields.{reads_map_field, labels_in, group_firsts};
 ghost use Rattle.protobuf_parse_syntax.specs.Fields.{field_in};
 ghost use Rattle.protobuf_parse_syntax.specs.Nested as nest;
 
-use crate::error::ParserError;
-use crate::lexer::token::Place;
 use crate::parser::cursor::Cursor;
 use crate::parser::list::push_some;
 use crate::parser::name::name;
@@ -25,6 +23,7 @@ use crate::parser::words::{
     label_of, oneof_fault, scalar_of,
 };
 use crate::tree::{Field, FieldStatement, Group, Label, Scalar, Syntax, Type};
+use protobuf_parse_lexer::{ParserError, Place};
 use std::alloc::Global;
 
 /// A field of a message, a group or an `extend`, of at most so many levels.

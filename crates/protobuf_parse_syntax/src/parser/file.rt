@@ -3,17 +3,16 @@
 ghost use Rattle.std.specs.Prelude.{◌≡◌, ◌≤◌, ◌∷◌, [], map, string_bytes, OnOk};
 ghost use Rattle.protobuf_parse_base.specs.PathViews.{path_buf_text};
 ghost use Rattle.protobuf_parse_base.specs.Readers.{starts};
-ghost use Rattle.protobuf_parse_syntax.specs.Classes as class;
+ghost use Rattle.protobuf_parse_lexer.specs.Classes as class;
+ghost use Rattle.protobuf_parse_lexer.specs.Text.{seen_by};
 ghost use Rattle.protobuf_parse_syntax.specs.ClassLaws.{lexicon};
 ghost use Rattle.protobuf_parse_syntax.specs.Grammar as grammar;
 ghost use Rattle.protobuf_parse_syntax.specs.Productions as read;
 ghost use Rattle.protobuf_parse_syntax.specs.Trees as view;
 ghost use Rattle.protobuf_parse_syntax.specs.Code.{left, Gives, GivesOr, Unsaid, NoVersion};
 ghost use Rattle.protobuf_parse_syntax.specs.Code.{of_version, of_path};
-ghost use Rattle.protobuf_parse_syntax.specs.Text.{seen_by};
 ghost use Rattle.protobuf_parse_syntax.specs.Nested as nest;
 
-use crate::error::ParserError;
 use crate::parser::cursor::Cursor;
 use crate::parser::enumeration::enumeration;
 use crate::parser::list::push_some;
@@ -25,6 +24,7 @@ use crate::parser::service::service;
 use crate::parser::words::begins_file_statement;
 use crate::tree::{FileStatement, FileTree, Import, ImportVis, Package, Syntax};
 use protobuf_parse_base::proto_path::ProtoPathBuf;
+use protobuf_parse_lexer::ParserError;
 use std::alloc::Global;
 
 /// `file = [ syntax ] { import | package | option | message | enum | extend | service | ";" }`.

@@ -1,12 +1,11 @@
 //! Messages, oneofs and extensions.
 
 ghost use Rattle.std.specs.Prelude.{map};
+ghost use Rattle.protobuf_parse_lexer.specs.Text.{seen_by};
 ghost use Rattle.protobuf_parse_syntax.specs.Trees as view;
 ghost use Rattle.protobuf_parse_syntax.specs.Code.{left, Gives};
-ghost use Rattle.protobuf_parse_syntax.specs.Text.{seen_by};
 ghost use Rattle.protobuf_parse_syntax.specs.Nested as nest;
 
-use crate::error::ParserError;
 use crate::parser::cursor::Cursor;
 use crate::parser::enumeration::{enumeration, extensions, reserved};
 use crate::parser::field::{extend_body, field, oneof_field};
@@ -18,6 +17,7 @@ use crate::parser::words::{
     begins_message_statement, begins_oneof_statement, field_fault, oneof_fault,
 };
 use crate::tree::{Extend, Message, MessageStatement, OneOf, OneOfStatement, Syntax};
+use protobuf_parse_lexer::ParserError;
 use std::alloc::Global;
 
 /// A message of at most so many levels.

@@ -6,10 +6,9 @@ ghost use Rattle.protobuf_parse_syntax.specs.Trees.{pieces_of};
 ghost use Rattle.protobuf_parse_syntax.specs.Code.{left, Gives, GivesOr, Unsaid, of_text};
 ghost use Rattle.protobuf_parse_syntax.specs.Code.{refusal_of};
 
-use crate::error::ParserError;
-use crate::lexer::str_lit::{StrLit, StrLitDecodeError};
 use crate::parser::cursor::Cursor;
 use crate::parser::refusal::Refusal;
+use protobuf_parse_lexer::{ParserError, StrLit, StrLitDecodeError};
 use std::alloc::Global;
 
 /// `ident { "." ident }`, without blanks.

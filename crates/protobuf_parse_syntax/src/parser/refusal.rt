@@ -3,8 +3,7 @@
 ghost use Rattle.std.specs.Prelude.{◌≡◌};
 ghost use Rattle.protobuf_parse_syntax.specs.declared.parser.refusal.Refusal.TheVariants.{Memory};
 
-use crate::error::{ParserError, ParserErrorWithLocation};
-use crate::lexer::token::Place;
+use protobuf_parse_lexer::{ParserError, ParserErrorWithLocation, Place};
 use std::alloc::{AllocError, AllocFailed};
 
 /// Why a part of a text cannot be read.

@@ -1,10 +1,10 @@
 //! Services and their methods.
 
 ghost use Rattle.std.specs.Prelude.{map, string_bytes};
+ghost use Rattle.protobuf_parse_lexer.specs.Text.{seen_by};
 ghost use Rattle.protobuf_parse_syntax.specs.Productions as read;
 ghost use Rattle.protobuf_parse_syntax.specs.Trees as view;
 ghost use Rattle.protobuf_parse_syntax.specs.Code.{left, Gives};
-ghost use Rattle.protobuf_parse_syntax.specs.Text.{seen_by};
 ghost use Rattle.protobuf_parse_syntax.specs.Nested as nest;
 
 use crate::parser::cursor::Cursor;

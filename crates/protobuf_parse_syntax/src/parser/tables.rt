@@ -2,11 +2,12 @@
 
 ghost use Rattle.std.specs.Prelude.{◌≡◌, ℕ, List, bytes_eq, map};
 ghost use Rattle.std.specs.Borrow.{Bor};
-ghost use Rattle.protobuf_parse_syntax.specs.Classes as class;
+ghost use Rattle.protobuf_parse_lexer.specs.Classes as class;
 ghost use Rattle.protobuf_parse_syntax.specs.Grammar as grammar;
 ghost use Rattle.protobuf_parse_syntax.specs.Words.{table_seen};
 
-use crate::lexer::bytes::byte_at;
+use protobuf_parse_lexer::byte_at;
+
 
 /// Whether two texts are the same. Most of those that differ have other lengths or begin otherwise,
 /// so that is looked at first.

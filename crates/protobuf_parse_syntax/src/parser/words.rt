@@ -3,7 +3,7 @@
 ghost use Rattle.std.specs.Prelude.{◌≡◌, ◌∷◌};
 ghost use Rattle.protobuf_parse_base.specs.Characters as char;
 ghost use Rattle.protobuf_parse_base.specs.Readers.{starts};
-ghost use Rattle.protobuf_parse_syntax.specs.Classes as class;
+ghost use Rattle.protobuf_parse_lexer.specs.Classes as class;
 ghost use Rattle.protobuf_parse_syntax.specs.ClassLaws.{lexicon};
 ghost use Rattle.protobuf_parse_syntax.specs.Words.{takes};
 ghost use Rattle.protobuf_parse_syntax.specs.Fields.{labels_in};
@@ -11,10 +11,10 @@ ghost use Rattle.protobuf_parse_syntax.specs.Grammar as grammar;
 ghost use Rattle.protobuf_parse_syntax.specs.Code.{left, AtOneToken};
 ghost use Rattle.protobuf_parse_syntax.specs.Nested as nest;
 
-use crate::error::ParserError;
 use crate::parser::cursor::Cursor;
 use crate::parser::tables::{beside, is_among, is_same};
 use crate::tree::{Label, Scalar, Syntax};
+use protobuf_parse_lexer::ParserError;
 
 const LABELS: &[(&str, Label)] = &[
     ("optional", Label::Optional),

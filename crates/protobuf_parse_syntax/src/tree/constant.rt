@@ -10,7 +10,7 @@ ghost use Rattle.protobuf_parse_syntax.specs.Formats as spec;
 ghost use Rattle.protobuf_parse_syntax.specs.Trees.{constant_syntax, constant_field_syntax};
 ghost use Rattle.protobuf_parse_syntax.specs.Trees.{constant_name_syntax, pieces_of};
 
-use crate::lexer::str_lit::StrLit;
+use protobuf_parse_lexer::StrLit;
 use std::alloc::{AllocError, Global};
 use std::fmt;
 

@@ -1,8 +1,8 @@
 //! Messages, enums, extensions and services.
 
-use crate::lexer::token::Place;
 use crate::tree::field::FieldStatement;
 use crate::tree::option::{OptionStatement, ProtobufOption};
+use protobuf_parse_lexer::Place;
 
 /// `message NAME { .. }`.
 #[derive(Drop)]

@@ -1,7 +1,7 @@
 //! Fields, groups and types.
 
-use crate::lexer::token::Place;
 use crate::tree::option::ProtobufOption;
+use protobuf_parse_lexer::Place;
 
 /// How many values a field has: at most one, just one, or any number.
 #[derive(Clone, Copy, Debug, PartialEq, Eq)]

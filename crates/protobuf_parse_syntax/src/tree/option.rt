@@ -1,7 +1,7 @@
 //! Options.
 
-use crate::lexer::token::Place;
 use crate::tree::constant::ProtobufConstant;
+use protobuf_parse_lexer::Place;
 
 /// A part of an option's name.
 #[derive(Drop)]

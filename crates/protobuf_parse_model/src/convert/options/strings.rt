@@ -1,9 +1,9 @@
 //! What strings stand for.
 
 ghost use Rattle.std.specs.Prelude.{◌≡◌, option_map, string_bytes, IfOk, OnOk};
-ghost use Rattle.protobuf_parse_syntax.specs.Decoder.{decode, text_of};
+ghost use Rattle.protobuf_parse_lexer.specs.Decoder.{decode, text_of};
+ghost use Rattle.protobuf_parse_lexer.specs.declared.lexer.str_lit.StrLitDecodeError.TheVariants.{Memory};
 ghost use Rattle.protobuf_parse_syntax.specs.Trees.{pieces_of};
-ghost use Rattle.protobuf_parse_syntax.specs.declared.lexer.str_lit.StrLitDecodeError.TheVariants.{Memory};
 ghost use Rattle.protobuf_parse_model.specs.BuiltinOptions.{string_faults};
 ghost use Rattle.protobuf_parse_model.specs.Faults.{Elaborates};
 ghost use Rattle.protobuf_parse_model.specs.Fields.{text_or_empty};

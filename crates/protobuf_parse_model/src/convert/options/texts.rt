@@ -1,6 +1,6 @@
 //! The texts of a field's descriptor that its options set: the default and the JSON name.
 
-ghost use Rattle.std.specs.Prelude.{◌≡◌, Some, option_map, string_bytes};
+ghost use Rattle.std.specs.Prelude.{Some, option_map, string_bytes};
 ghost use Rattle.protobuf_parse_syntax.specs.Trees.{constant_syntax};
 ghost use Rattle.protobuf_parse_model.specs.Faults.{Elaborates};
 ghost use Rattle.protobuf_parse_model.specs.Fields as spec;

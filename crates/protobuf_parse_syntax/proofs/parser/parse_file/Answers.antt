@@ -1,4 +1,4 @@
-use Rattle.protobuf_parse_syntax.specs.Cut.{stream}
+use Rattle.protobuf_parse_lexer.specs.Cut.{stream}
 use Rattle.protobuf_parse_syntax.proofs.File.{only_of, none_of}
 use Rattle.protobuf_parse_syntax.proofs.Sizes.{few_of}
 use Rattle.protobuf_parse_syntax.proofs.Nesting.{shallow_of}

@@ -2,12 +2,12 @@ use Rattle.std.proofs.Common.{◌≡◌, ◌⊎◌, ◌+◌, ◌<◌, length, ma
 use Rattle.std.proofs.lemmas.List.{length-map}
 use Rattle.protobuf_parse_base.specs.Readers.{read}
 use Rattle.protobuf_parse_base.specs.Whole.{whole}
-use Rattle.protobuf_parse_syntax.specs.Tokens.{lexeme}
+use Rattle.protobuf_parse_lexer.specs.Tokens.{lexeme}
+use Rattle.protobuf_parse_lexer.specs.declared.error.ParserError.TheVariants.{IncorrectInput}
 use Rattle.protobuf_parse_syntax.specs.Trees.{file_syntax}
 use Rattle.protobuf_parse_syntax.specs.Nested as nest
 use Rattle.protobuf_parse_syntax.specs.Code.{left, Fails, NoVersion, RefusesFile}
 use Rattle.protobuf_parse_syntax.specs.declared.parser.refusal.Refusal.TheVariants.{Next}
-use Rattle.protobuf_parse_syntax.specs.declared.error.ParserError.TheVariants.{IncorrectInput}
 use Rattle.protobuf_parse_syntax.proofs.File.{found, only, leftover, refused, told}
 use Rattle.protobuf_parse_syntax.proofs.parser.tree_of.Goals as goal
 

@@ -3,10 +3,10 @@ use Rattle.std.proofs.lemmas.Result.{err_from_is_err_and}
 use Rattle.protobuf_parse_base.specs.Relations.{somes}
 use Rattle.protobuf_parse_base.specs.Combinators.{shorter, run_many}
 use Rattle.protobuf_parse_base.specs.Loops.{with_rest, shows_somes, goes_on, stops_here}
+use Rattle.protobuf_parse_lexer.specs.Text.{seen_by}
 use Rattle.protobuf_parse_syntax.specs.Trees.{FieldStatementSyntax, field_statement_syntax}
 use Rattle.protobuf_parse_syntax.specs.Nested as nest
 use Rattle.protobuf_parse_syntax.specs.Code.{left, Gives, fails_first}
-use Rattle.protobuf_parse_syntax.specs.Text.{seen_by}
 use Rattle.protobuf_parse_syntax.proofs.Loops.{pushed, fails}
 use Rattle.protobuf_parse_syntax.proofs.Fields.{field_absent, field_labelled, field_mapped}
 use Rattle.protobuf_parse_syntax.proofs.Fields.{field_unlabelled, field_items_law, field_block_law}

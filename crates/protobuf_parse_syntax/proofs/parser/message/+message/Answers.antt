@@ -3,13 +3,13 @@ use Rattle.std.proofs.lemmas.Result.{err_from_is_err_and}
 use Rattle.protobuf_parse_base.specs.Relations.{somes}
 use Rattle.protobuf_parse_base.specs.Combinators.{shorter}
 use Rattle.protobuf_parse_base.specs.Loops.{shows_somes, goes_on, stops_here}
+use Rattle.protobuf_parse_lexer.specs.Text.{seen_by}
 use Rattle.protobuf_parse_syntax.specs.Productions as parse
 use Rattle.protobuf_parse_syntax.specs.Trees as tree
 use Rattle.protobuf_parse_syntax.specs.Trees.{message_statement_syntax, MessageStatementSyntax}
 use Rattle.protobuf_parse_syntax.specs.Nested as nest
 use Rattle.protobuf_parse_syntax.specs.Nested.{message_zero, message_more}
 use Rattle.protobuf_parse_syntax.specs.Code.{left, too_deep, fails_first}
-use Rattle.protobuf_parse_syntax.specs.Text.{seen_by}
 use Rattle.protobuf_parse_syntax.proofs.Loops.{pushed, fails}
 use Rattle.protobuf_parse_syntax.proofs.Messages.{views_reserved, views_oneof, views_extend}
 use Rattle.protobuf_parse_syntax.proofs.Messages.{views_message, views_enum, views_extensions}

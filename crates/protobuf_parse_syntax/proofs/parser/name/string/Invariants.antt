@@ -2,7 +2,7 @@ use Rattle.std.proofs.Common.{◌≡◌, List, map, string_bytes}
 use Rattle.protobuf_parse_base.specs.Readers.{size}
 use Rattle.protobuf_parse_base.specs.Combinators.{run_many}
 use Rattle.protobuf_parse_base.specs.Loops.{with_rest}
-use Rattle.protobuf_parse_syntax.specs.Text.{Bytes}
+use Rattle.protobuf_parse_lexer.specs.Text.{Bytes}
 use Rattle.protobuf_parse_syntax.specs.Productions as read
 use Rattle.protobuf_parse_syntax.specs.Code.{left}
 use Rattle.protobuf_parse_syntax.proofs.parser.name.string.Given as goal

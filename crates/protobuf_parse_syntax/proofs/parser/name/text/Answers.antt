@@ -1,8 +1,8 @@
 use Rattle.std.proofs.Common.{string_bytes}
 use Rattle.std.proofs.lemmas.Str.{IsUtf8-string_bytes}
-use Rattle.protobuf_parse_syntax.specs.Grammar.{StandsFor}
-use Rattle.protobuf_parse_syntax.specs.Decoder.{text_of}
-use Rattle.protobuf_parse_syntax.specs.DecoderLaws.{text-to, text-from}
+use Rattle.protobuf_parse_lexer.specs.Tokens.{StandsFor}
+use Rattle.protobuf_parse_lexer.specs.Decoder.{text_of}
+use Rattle.protobuf_parse_lexer.specs.DecoderLaws.{text-to, text-from}
 use Rattle.protobuf_parse_syntax.specs.Productions.{reserved_name}
 use Rattle.protobuf_parse_syntax.specs.Trees.{pieces_of}
 use Rattle.protobuf_parse_syntax.specs.Code.{left}

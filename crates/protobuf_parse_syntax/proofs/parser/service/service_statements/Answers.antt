@@ -3,10 +3,10 @@ use Rattle.std.proofs.lemmas.Result.{err_from_is_err_and}
 use Rattle.protobuf_parse_base.specs.Relations.{somes}
 use Rattle.protobuf_parse_base.specs.Combinators.{shorter}
 use Rattle.protobuf_parse_base.specs.Loops.{shows_somes, goes_on, stops_here}
+use Rattle.protobuf_parse_lexer.specs.Text.{seen_by}
 use Rattle.protobuf_parse_syntax.specs.Trees.{service_statement_syntax, ServiceStatementSyntax}
 use Rattle.protobuf_parse_syntax.specs.Nested as nest
 use Rattle.protobuf_parse_syntax.specs.Code.{left}
-use Rattle.protobuf_parse_syntax.specs.Text.{seen_by}
 use Rattle.protobuf_parse_syntax.proofs.Loops.{pushed, fails}
 use Rattle.protobuf_parse_syntax.proofs.Versions.{service_items_run}
 use Rattle.protobuf_parse_syntax.proofs.parser.service.service_statements.Goals as goal

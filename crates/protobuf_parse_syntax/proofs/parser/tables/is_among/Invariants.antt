@@ -1,6 +1,6 @@
 -- Where the word is one of these, it is one of those that are left.
 use Rattle.std.proofs.Common.{◌≡◌, ℕ, List, Bor, map, drop}
-use Rattle.protobuf_parse_syntax.specs.Classes.{is_among}
+use Rattle.protobuf_parse_lexer.specs.Classes.{is_among}
 use Rattle.protobuf_parse_syntax.proofs.parser.tables.is_among.Given as goal
 
 abbrev pub invariant-loop-each : goal.invariant-loop-each

@@ -1,5 +1,5 @@
 use Rattle.std.proofs.Common.{◌∷◌, sym, ◌∙◌}
-use Rattle.protobuf_parse_syntax.specs.Classes.{symbol}
+use Rattle.protobuf_parse_lexer.specs.Classes.{symbol}
 use Rattle.protobuf_parse_syntax.specs.Nested as nest
 use Rattle.protobuf_parse_syntax.specs.Code.{left}
 use Rattle.protobuf_parse_syntax.proofs.Words.{word_starts}

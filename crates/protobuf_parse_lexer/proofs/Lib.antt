@@ -1,0 +1,12 @@
+pub mod Front
+pub mod TextKinds
+pub mod Cuts
+pub mod Unique
+pub mod Refusals
+pub mod Depth
+pub mod Escapes
+pub mod Places
+pub mod Plain
+pub mod Quotes
+pub mod Escaping
+pub mod Lanes

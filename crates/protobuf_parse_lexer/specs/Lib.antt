@@ -1,0 +1,12 @@
+pub mod Text
+pub mod Scan
+pub mod Place
+pub mod TokenKinds
+pub mod Tokens
+pub mod Decoding
+pub mod Escapes
+pub mod Cut
+pub mod Laws
+pub mod Classes
+pub mod Decoder
+pub mod DecoderLaws

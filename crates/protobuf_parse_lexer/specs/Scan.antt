@@ -1,0 +1,67 @@
+-- No public clause rests on this file.
+-- What the scanners of the front of a text answer.
+use Rattle.std.specs.Prelude.{◌≡◌, ◌≤◌, ◌<◌, ◌⊎◌, ℕ, ◌+◌, Bool, true, false, not, nat_lt, ◌&&◌}
+use Rattle.std.specs.Prelude.{◌||◌, if◌then◌else◌, ◌==◌, List, [], ◌∷◌, length, slice_index, Option}
+use Rattle.std.specs.Prelude.{Some, None}
+use Rattle.std.specs.Int.{w64, trailing_zeros}
+use Rattle.protobuf_parse_base.specs.Characters as char
+use Rattle.protobuf_parse_lexer.specs.Text.{Bytes, is_in, AllIn, RunStopsAt, IsBlank, IsToken}
+use Rattle.protobuf_parse_lexer.specs.Text.{IsFault}
+use Rattle.protobuf_parse_lexer.specs.declared.lexer.bytes.ByteClass.TheVariants as class
+use Rattle.protobuf_parse_lexer.specs.declared.lexer.token.TokenKind.{TokenKind}
+use Rattle.protobuf_parse_lexer.specs.declared.lexer.token.TokenKind.TheVariants as kind
+use Rattle.protobuf_parse_lexer.specs.declared.lexer.front.Piece.{Piece}
+use Rattle.protobuf_parse_lexer.specs.declared.lexer.front.Piece.TheVariants as piece
+
+-- The place after the closing quote, for a text that begins at `at`. The test is whether a
+-- backslash takes the first byte.
+abbrev pub closing : ℕ → Bool → ℕ → List ℕ → Option ℕ
+closing quote is_escaped at [] = None
+closing quote true at (b ∷ z) =
+    if b == char.newline || b == char.nul then None else closing quote false (at + 1) z
+closing quote false at (b ∷ z) =
+    if b == char.newline || b == char.nul then None
+    else (if b == quote then Some (at + 1) else closing quote (b == char.backslash) (at + 1) z)
+
+-- the longest fraction after the digits up to `whole` ends at `point`
+pub record EndsFraction (z : Bytes) (whole point : ℕ) : Type 0 where
+  pub within : point ≤ length z
+  pub ends : ((point ≡ whole) × (slice_index z whole ≡ char.dot → ⊥))
+      ⊎ ((slice_index z whole ≡ char.dot) × (whole + 1 ≤ point)
+      × AllIn class.Digit z (whole + 1) point
+      × RunStopsAt class.Digit z point)
+
+abbrev pub BeginsNumber : Bytes → Type 0
+BeginsNumber z = (is_in class.Digit (slice_index z 0) ≡ true)
+    ⊎ ((slice_index z 0 ≡ char.dot) × (is_in class.Digit (slice_index z 1) ≡ true))
+
+-- the bytes from i up to n pass the test
+abbrev pub AllPass : (ℕ → Bool) → Bytes → ℕ → ℕ → Type 0
+AllPass test z i n = (k : ℕ) → i ≤ k → k < n → test (slice_index z k) ≡ true
+
+-- the first `run` of the n bytes from i on pass the test, and the next one of the n does not
+abbrev pub IsRunIn : (ℕ → Bool) → Bytes → ℕ → ℕ → ℕ → Type 0
+IsRunIn test z i n run =
+    ((run ≤ n) × AllPass test z i (i + run))
+    × (run < n → test (slice_index z (i + run)) ≡ false)
+
+-- the place of the lowest bit that is set, or n
+abbrev pub first_set : ℕ → ℕ → ℕ
+first_set mask n = if mask == 0 then n else trailing_zeros w64 mask
+
+-- no line feed, and no byte of a longer character
+abbrev pub is_plain : ℕ → Bool
+is_plain b = nat_lt b 128 && not (b == char.newline)
+
+-- a token's bytes, which are plain unless it is a string or a float
+abbrev pub IsPlain : TokenKind → Bytes → Type 0
+IsPlain kind.Str z = Unit {0}
+IsPlain kind.Float z = Unit {0}
+IsPlain _ z = AllPass is_plain z 0 (length z)
+
+-- the piece stands at the front of the text
+abbrev pub Stands : Bytes → Piece → Type 0
+Stands z piece.End = length z ≡ 0
+Stands z (piece.Blank n) = IsBlank z n
+Stands z (piece.Token n k) = IsToken z n k
+Stands z (piece.Fault e) = IsFault z e

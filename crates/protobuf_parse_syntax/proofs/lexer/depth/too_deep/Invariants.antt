@@ -1,5 +1,0 @@
-use Rattle.protobuf_parse_syntax.proofs.Depth.{Kept}
-use Rattle.protobuf_parse_syntax.proofs.lexer.depth.too_deep.Given as goal
-
-abbrev pub invariant-loop-token : goal.invariant-loop-token
-invariant-loop-token l = Kept l.list l.token-index l.opened l.closed

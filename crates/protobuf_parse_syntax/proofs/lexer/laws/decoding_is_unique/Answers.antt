@@ -1,5 +1,0 @@
-use Rattle.protobuf_parse_syntax.proofs.Escapes.{one_decoding_of_all}
-use Rattle.protobuf_parse_syntax.proofs.lexer.laws.decoding_is_unique.Goals as goal
-
-pub returns : goal.returns
-returns c = λ pieces u v a b. one_decoding_of_all a b

@@ -1,5 +1,0 @@
-use Rattle.protobuf_parse_syntax.proofs.Escaping.{escaped_decode}
-use Rattle.protobuf_parse_syntax.proofs.lexer.laws.escaped_bytes_decode.Goals as goal
-
-pub returns : goal.returns
-returns c = escaped_decode

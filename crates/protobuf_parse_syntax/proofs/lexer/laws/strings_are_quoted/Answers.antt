@@ -1,5 +1,0 @@
-use Rattle.protobuf_parse_syntax.proofs.Quotes.{strings_quoted}
-use Rattle.protobuf_parse_syntax.proofs.lexer.laws.strings_are_quoted.Goals as goal
-
-pub returns : goal.returns
-returns c = strings_quoted
