@@ -1,8 +1,7 @@
 //! The imports of a file.
 
 ghost use Rattle.std.specs.Prelude.{◌≡◌, ◌≤◌, ◌⊎◌, ◌++◌, [], ◌∷◌, length, map, IfOk, IfErr, OnOk};
-ghost use Rattle.std.specs.Prelude.{string_bytes, if◌then◌else◌};
-ghost use Rattle.protobuf_parse_base.specs.PathViews.{path_buf_text};
+ghost use Rattle.std.specs.Prelude.{if◌then◌else◌};
 ghost use Rattle.protobuf_parse_lexer.specs.Cut.{out_of_memory, error_place as place_at};
 ghost use Rattle.protobuf_parse_syntax.specs.Dependencies as spec;
 ghost use Rattle.protobuf_parse_syntax.specs.Dependencies.{dependencies_of, dependencies_view};

@@ -1,6 +1,6 @@
 //! Constants.
 
-ghost use Rattle.std.specs.Prelude.{◌≡◌, ◌≤◌, ◌∷◌, [], map, string_bytes, OnOk, pos};
+ghost use Rattle.std.specs.Prelude.{◌≡◌, ◌≤◌, ◌∷◌, [], map, string_bytes, pos};
 ghost use Rattle.protobuf_parse_base.specs.Characters as char;
 ghost use Rattle.protobuf_parse_base.specs.Readers.{starts};
 ghost use Rattle.protobuf_parse_base.specs.Pairs.{both};

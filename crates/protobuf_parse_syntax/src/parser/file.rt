@@ -1,12 +1,8 @@
 //! Files: their version, imports and packages.
 
-ghost use Rattle.std.specs.Prelude.{◌≡◌, ◌≤◌, ◌∷◌, [], map, string_bytes, OnOk};
+ghost use Rattle.std.specs.Prelude.{map};
 ghost use Rattle.protobuf_parse_base.specs.PathViews.{path_buf_text};
-ghost use Rattle.protobuf_parse_base.specs.Readers.{starts};
-ghost use Rattle.protobuf_parse_lexer.specs.Classes as class;
 ghost use Rattle.protobuf_parse_lexer.specs.Text.{seen_by};
-ghost use Rattle.protobuf_parse_syntax.specs.ClassLaws.{lexicon};
-ghost use Rattle.protobuf_parse_syntax.specs.Grammar as grammar;
 ghost use Rattle.protobuf_parse_syntax.specs.Productions as read;
 ghost use Rattle.protobuf_parse_syntax.specs.Trees as view;
 ghost use Rattle.protobuf_parse_syntax.specs.Code.{left, Gives, GivesOr, Unsaid, NoVersion};

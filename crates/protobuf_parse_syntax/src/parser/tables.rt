@@ -8,7 +8,6 @@ ghost use Rattle.protobuf_parse_syntax.specs.Words.{table_seen};
 
 use protobuf_parse_lexer::byte_at;
 
-
 /// Whether two texts are the same. Most of those that differ have other lengths or begin otherwise,
 /// so that is looked at first.
 #[inline(always)]
