@@ -189,8 +189,9 @@ fn list(
 {
     tokens.symbol('[')?;
     if begins_constant(tokens) {
-        let items = constants(alloc, tokens, levels)?;
+        let mut items = constants(alloc, tokens, levels)?;
         tokens.symbol(']')?;
+        items.shrink_to_fit();
         return Ok(ProtobufConstant::List(items));
     }
     if !tokens.sees_symbol(']') {
@@ -233,8 +234,9 @@ fn message_constant(
         ((nest.message_constant_of (both (nest.constant levels))).low.run (left tokens.old)) }
 {
     tokens.symbol('{')?;
-    let fields = constant_fields(alloc, tokens, levels)?;
+    let mut fields = constant_fields(alloc, tokens, levels)?;
     tokens.symbol('}')?;
+    fields.shrink_to_fit();
     Ok(ProtobufConstant::Message(fields))
 }
 
