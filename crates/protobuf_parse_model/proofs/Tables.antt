@@ -41,8 +41,8 @@ use Rattle.protobuf_parse_model.specs.Tables.{ListsRepeated, TableTells, name_li
 use Rattle.protobuf_parse_model.specs.Tables.{declared_by, declared_in, declared_in_file}
 use Rattle.protobuf_parse_model.specs.Tables.{extension_entry, generated_entry, listed_names}
 use Rattle.protobuf_parse_model.specs.Tables.{type_entry}
-use Rattle.protobuf_parse_model.proofs.Levels.{extensions_of_message, generated_of_message}
-use Rattle.protobuf_parse_model.proofs.Levels.{types_of_message}
+use Rattle.protobuf_parse_model.proofs.DeclaredLevels.{extensions_of_message, generated_of_message}
+use Rattle.protobuf_parse_model.proofs.DeclaredLevels.{types_of_message}
 
 -- ---- a declaration more
 

@@ -14,6 +14,8 @@ use Rattle.protobuf_parse_syntax.specs.Trees.{MessageSyntax, ExtendSyntax, State
 use Rattle.protobuf_parse_syntax.specs.Trees.{file_message, file_enum, file_extend, FileSyntax}
 use Rattle.protobuf_parse_syntax.specs.Trees.{package_of}
 use Rattle.protobuf_parse_model.specs.Descriptors.{Text}
+use Rattle.protobuf_parse_model.specs.declared.descriptor.FieldType.{FieldType}
+use Rattle.protobuf_parse_model.specs.declared.descriptor.FieldType.TheVariants as kind
 use Rattle.protobuf_parse_model.specs.Statements.{field_statement_name, entry_name, is_map}
 use Rattle.protobuf_parse_model.specs.Statements.{oneof_fields}
 
@@ -51,6 +53,11 @@ pub data MessageOrEnum : Type 0 where
 
 abbrev pub DeclaredType : Type 0
 DeclaredType = Declared MessageOrEnum
+
+-- the kind of a field of such a type
+abbrev pub kind_of_type : MessageOrEnum → FieldType
+kind_of_type a_message = kind.Message
+kind_of_type an_enum = kind.Enum
 
 abbrev mutual
   -- what a statement of a body declares

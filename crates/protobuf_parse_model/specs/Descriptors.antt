@@ -4,6 +4,8 @@
 use Rattle.std.specs.Prelude.{◌≡◌, ℕ, ℤ, Bool, List, [], ◌∷◌, Option, map, option_map, refl}
 use Rattle.std.specs.Prelude.{string_bytes}
 use Rattle.protobuf_parse_syntax.specs.declared.tree.field.Label.{Label}
+use Rattle.protobuf_parse_syntax.specs.declared.tree.field.Scalar.{Scalar}
+use Rattle.protobuf_parse_syntax.specs.declared.tree.field.Scalar.TheVariants as word
 use Rattle.protobuf_parse_model.specs.Options.{FileOptionValues, MessageOptionValues}
 use Rattle.protobuf_parse_model.specs.Options.{FieldOptionValues}
 use Rattle.protobuf_parse_model.specs.Options.{OneofOptionValues, EnumOptionValues}
@@ -14,6 +16,7 @@ use Rattle.protobuf_parse_model.specs.Options.{boxed_options_view, oneof_options
 use Rattle.protobuf_parse_model.specs.Options.{enum_options_view, enum_value_options_view}
 use Rattle.protobuf_parse_model.specs.Options.{service_options_view, method_options_view}
 use Rattle.protobuf_parse_model.specs.declared.descriptor.FieldType.{FieldType}
+use Rattle.protobuf_parse_model.specs.declared.descriptor.FieldType.TheVariants as kind
 use Rattle.protobuf_parse_model.specs.declared.descriptor.FieldDescriptorProto.{FieldDescriptorProto}
 use Rattle.protobuf_parse_model.specs.declared.descriptor.OneofDescriptorProto.{OneofDescriptorProto}
 use Rattle.protobuf_parse_model.specs.declared.descriptor.EnumDescriptorProto.{EnumDescriptorProto}
@@ -241,3 +244,23 @@ file_view f = record {
 pub list_of_is : (ms : List MessageDescriptor) → messages_list (messages_of_list ms) ≡ ms
 list_of_is [] = refl
 list_of_is (m ∷ ms) = rw (list_of_is ms) refl
+
+-- ---- the kinds of fields
+
+-- that of a scalar type
+abbrev pub kind_of_scalar : Scalar → FieldType
+kind_of_scalar word.Int32 = kind.Int32
+kind_of_scalar word.Int64 = kind.Int64
+kind_of_scalar word.Uint32 = kind.Uint32
+kind_of_scalar word.Uint64 = kind.Uint64
+kind_of_scalar word.Sint32 = kind.Sint32
+kind_of_scalar word.Sint64 = kind.Sint64
+kind_of_scalar word.Fixed32 = kind.Fixed32
+kind_of_scalar word.Sfixed32 = kind.Sfixed32
+kind_of_scalar word.Fixed64 = kind.Fixed64
+kind_of_scalar word.Sfixed64 = kind.Sfixed64
+kind_of_scalar word.Bool = kind.Bool
+kind_of_scalar word.String = kind.String
+kind_of_scalar word.Bytes = kind.Bytes
+kind_of_scalar word.Float = kind.Float
+kind_of_scalar word.Double = kind.Double

@@ -1,10 +1,12 @@
 -- What the code has of the files that are seen: names, and the table of their declarations.
 use Rattle.std.specs.Prelude.{ℕ, List, [], ◌∷◌, map, nat_eq}
-use Rattle.std.specs.Prelude.{Option, Some, None, option_map, if◌then◌else◌}
+use Rattle.std.specs.Prelude.{Option, Some, None, option_map, if◌then◌else◌, string_bytes}
 use Rattle.std.specs.Borrow.{Bor}
 use Rattle.std.specs.List.{list_any}
 use Rattle.std.specs.BTreeMap.{get_by_text}
 use Rattle.std.specs.Option.{option_or}
+use Rattle.protobuf_parse_model.specs.declared.scope.Context.{Context}
+use Rattle.protobuf_parse_model.specs.declared.scope.Meaning.{Meaning}
 use Rattle.protobuf_parse_model.specs.declared.scope.seen.TypeKind.{TypeKind}
 use Rattle.protobuf_parse_model.specs.declared.scope.seen.TypeKind.TheVariants as kind
 use Rattle.protobuf_parse_model.specs.declared.scope.seen.DeclarationKind.{DeclarationKind}
@@ -17,7 +19,7 @@ use Rattle.protobuf_parse_syntax.specs.Trees.{FileSyntax}
 pub use Rattle.protobuf_parse_model.specs.FileOrder.{listed}
 use Rattle.protobuf_parse_model.specs.Declarations as declared
 use Rattle.protobuf_parse_model.specs.Declarations.{DeclaredType, a_message, an_enum, file_scope}
-use Rattle.protobuf_parse_model.specs.Environment.{Environment, Customs}
+use Rattle.protobuf_parse_model.specs.Environment.{Environment, Customs, no_customs}
 
 -- names as texts
 abbrev pub name_texts : List (Bor (List ℕ)) → List Text
@@ -59,7 +61,25 @@ seen_types seen name =
     option_map (declared_type name)
     (first_type seen.sight.now (declared_as seen.declarations.now name))
 
+-- what a name was found to mean
+abbrev pub meaning_view : Meaning → DeclaredType
+meaning_view m = record { name = string_bytes m.name; what = kind_view m.kind }
+
 -- from where a whole file is seen, by the files that it sees
 abbrev pub environment_of_file : Customs → Seen → FileSyntax → Environment
 environment_of_file customs seen t =
     record { syntax = t.syntax; types = seen_types seen; scope = file_scope t; customs = customs }
+
+-- from where a construct is seen
+abbrev pub environment_in : Customs → Context → Environment
+environment_in customs c =
+    record {
+      syntax = c.syntax;
+      types = seen_types c.seen;
+      scope = name_texts c.scope.now;
+      customs = customs;
+    }
+
+-- the environment that names of types are looked up in, which custom options are no part of
+abbrev pub names_of_context : Context → Environment
+names_of_context c = environment_in no_customs c

@@ -9,8 +9,7 @@ ghost use Rattle.protobuf_parse_model.specs.Environment.{unknown_option};
 ghost use Rattle.protobuf_parse_model.specs.Faults.{Elaborates};
 ghost use Rattle.protobuf_parse_model.specs.BuiltinOptions.{options_seen};
 
-use crate::convert::refuse::fault;
-use crate::error::{ElabErrorKind, ElabFailure};
+use crate::error::{ElabErrorKind, ElabFailure, fault};
 use protobuf_parse_syntax::{ProtobufOption, ProtobufOptionName, ProtobufOptionNamePart};
 use std::alloc::{AllocError, Global};
 

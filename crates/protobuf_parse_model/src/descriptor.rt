@@ -190,7 +190,7 @@ pub struct MethodDescriptorProto {
 }
 
 impl From<Scalar> for FieldType {
-    ghost use Rattle.protobuf_parse_model.specs.Fields.{kind_of_scalar};
+    ghost use Rattle.protobuf_parse_model.specs.Descriptors.{kind_of_scalar};
 
     ghost from_gives = { λ scalar kind. kind ≡ kind_of_scalar scalar };
 

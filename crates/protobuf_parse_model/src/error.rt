@@ -1,9 +1,11 @@
 //! Why a tree has no descriptor.
 
 ghost use Rattle.std.specs.Prelude.{◌≡◌};
+ghost use Rattle.protobuf_parse_model.specs.Duplicates.{fault};
+ghost use Rattle.protobuf_parse_model.specs.Faults.{Blames};
 ghost use Rattle.protobuf_parse_model.specs.declared.error.ElabFailure.TheVariants.{Memory};
 
-use std::alloc::{AllocError, AllocFailed};
+use std::alloc::{AllocError, AllocFailed, Global};
 use std::fmt;
 use thiserror::Error;
 
@@ -142,5 +144,16 @@ impl<T: Drop> From<AllocFailed<T>> for ElabFailure {
 
     fn from(_error: AllocFailed<T>) -> ElabFailure {
         ElabFailure::Memory
+    }
+}
+
+/// The failure that tells a fault of that kind, and the text that it speaks of.
+#[tactic(auto, using(crate::proofs::Blaming::among_fault))]
+pub fn fault(alloc: Global, kind: ElabErrorKind, what: &str) -> ElabFailure
+    ensures { Blames result (fault kind what.now) }
+{
+    match String::from_str(alloc, what) {
+        Ok(what) => ElabFailure::Fault(ElabError { kind, what }),
+        Err(_) => ElabFailure::Memory,
     }
 }

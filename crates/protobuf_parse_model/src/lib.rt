@@ -1,15 +1,13 @@
-//! Descriptors, and what a file's tree becomes.
+//! Descriptors, what the names that files declare mean, and what may be wrong in a file.
 #![tactic(auto)]
 
-mod convert;
 mod customs;
 mod descriptor;
 mod error;
-mod laws;
 mod linking;
+mod made_names;
 mod scope;
 
-pub use convert::{decoded_bytes, decoded_text, elaborate, fault, has_builtin_option};
 pub use customs::{Construct, CustomOptions, NoExtensions, WithoutCustoms, path_text};
 pub use descriptor::{
     CType, DescriptorProto, EnumDescriptorProto, EnumOptions, EnumReservedRange,
@@ -18,7 +16,10 @@ pub use descriptor::{
     Label, MessageOptions, MethodDescriptorProto, MethodOptions, OneofDescriptorProto,
     OneofOptions, OptimizeMode, ReservedRange, ServiceDescriptorProto, ServiceOptions,
 };
-pub use error::{ElabError, ElabErrorKind, ElabFailure};
-pub use laws::{custom_options_are_of_sets, types_are_declared, types_are_looked_up};
+pub use error::{ElabError, ElabErrorKind, ElabFailure, fault};
 pub use linking::link;
-pub use scope::{Declaration, DeclarationKind, Declarations, Seen, TypeKind, full_name};
+pub use made_names::{entry_name, group_field_name};
+pub use scope::{
+    Context, Declaration, DeclarationKind, Declarations, Meaning, ResolvedType, Seen, TypeKind,
+    file_scope, full_name, type_named,
+};

@@ -12,8 +12,7 @@ ghost use Rattle.protobuf_parse_model.specs.Tables.{TableTells, is_of, listed_fa
 ghost use Rattle.protobuf_parse_model.specs.Tables.{listed_names, reached_faults};
 ghost use Rattle.protobuf_parse_model.specs.Tables.{name_faults, picked, times};
 
-use crate::convert::refuse::fault;
-use crate::error::{ElabErrorKind, ElabFailure};
+use crate::error::{ElabErrorKind, ElabFailure, fault};
 use crate::scope::{Declaration, DeclarationKind, Declarations, Seen, declarations_of, in_file};
 use std::alloc::Global;
 

@@ -6,10 +6,10 @@ ghost use Rattle.std.specs.List.{list_any};
 ghost use Rattle.protobuf_parse_base.specs.Characters as char;
 ghost use Rattle.protobuf_parse_model.specs.Declarations as names;
 ghost use Rattle.protobuf_parse_model.specs.Environment.{type_named};
-ghost use Rattle.protobuf_parse_model.specs.Contexts.{names_of_context};
+ghost use Rattle.protobuf_parse_model.specs.SeenFiles.{names_of_context};
 ghost use Rattle.protobuf_parse_model.specs.FileOrder.{FilesAscend};
 ghost use Rattle.protobuf_parse_model.specs.SeenFiles.{declared_as, first_kind, first_type};
-ghost use Rattle.protobuf_parse_model.specs.Contexts.{meaning_view};
+ghost use Rattle.protobuf_parse_model.specs.SeenFiles.{meaning_view};
 ghost use Rattle.protobuf_parse_model.specs.SeenFiles.{declared_type, seen_types};
 ghost use Rattle.protobuf_parse_model.specs.SeenFiles.{name_texts, type_kind};
 
@@ -53,7 +53,7 @@ pub struct ResolvedType {
 
 impl From<TypeKind> for FieldType {
     ghost use Rattle.protobuf_parse_model.specs.SeenFiles.{kind_view};
-    ghost use Rattle.protobuf_parse_model.specs.Fields.{kind_of_type};
+    ghost use Rattle.protobuf_parse_model.specs.Declarations.{kind_of_type};
 
     ghost from_gives = { λ kind field_type. field_type ≡ kind_of_type (kind_view kind) };
 

@@ -16,11 +16,11 @@ use Rattle.protobuf_parse_model.specs.Faults.{Among, here, there}
 use Rattle.protobuf_parse_model.specs.Declarations as names
 use Rattle.protobuf_parse_model.specs.Declarations.{Scope, Declared, declare, DeclaredExtension}
 use Rattle.protobuf_parse_model.specs.Environment.{Environment, env_inside}
-use Rattle.protobuf_parse_model.specs.Fields.{field_statement_of}
-use Rattle.protobuf_parse_model.specs.Messages as bodies
-use Rattle.protobuf_parse_model.specs.Messages.{extending, messages_behind, entries_of}
-use Rattle.protobuf_parse_model.specs.Messages.{message_from, nested_of, nested_in}
-use Rattle.protobuf_parse_model.specs.FileDescriptor as files
+use Rattle.protobuf_parse_elaboration.specs.Fields.{field_statement_of}
+use Rattle.protobuf_parse_elaboration.specs.Messages as bodies
+use Rattle.protobuf_parse_elaboration.specs.Messages.{extending, messages_behind, entries_of}
+use Rattle.protobuf_parse_elaboration.specs.Messages.{message_from, nested_of, nested_in}
+use Rattle.protobuf_parse_elaboration.specs.FileDescriptor as files
 use Rattle.protobuf_parse_wire.specs.Declarations.{Declaration, name_within, declared_message}
 use Rattle.protobuf_parse_wire.specs.Declarations.{declared_messages, package_scope}
 use Rattle.protobuf_parse_wire.specs.Declarations.{extensions_within}

@@ -15,17 +15,17 @@ use Rattle.protobuf_parse_model.specs.Descriptors.{MessageDescriptor, messages, 
 use Rattle.protobuf_parse_model.specs.Descriptors.{MethodDescriptor}
 use Rattle.protobuf_parse_model.specs.Statements.{group_body, message_body, oneof_fields}
 use Rattle.protobuf_parse_model.specs.Environment.{Environment, Customs, env_inside}
-use Rattle.protobuf_parse_model.specs.Fields.{FieldPlace, plain, field_statement_of}
-use Rattle.protobuf_parse_model.specs.Enums.{enum_values, value_of, enum_of}
-use Rattle.protobuf_parse_model.specs.Services.{methods_in, method_of, service_of}
-use Rattle.protobuf_parse_model.specs.Messages as bodies
-use Rattle.protobuf_parse_model.specs.Messages.{message_with, entries_of, messages_behind}
-use Rattle.protobuf_parse_model.specs.Messages.{has_own_oneof, oneofs_of, at_oneof, fields_of}
-use Rattle.protobuf_parse_model.specs.Messages.{fields_from, extending, message_from, nested_of}
-use Rattle.protobuf_parse_model.specs.Messages.{nested_in, message_of}
-use Rattle.protobuf_parse_model.specs.FileDescriptor as files
-use Rattle.protobuf_parse_model.specs.FileDescriptor.{file_messages_of, services_of, file_of}
-use Rattle.protobuf_parse_model.proofs.SameNames.{with_customs}
+use Rattle.protobuf_parse_elaboration.specs.Fields.{FieldPlace, plain, field_statement_of}
+use Rattle.protobuf_parse_elaboration.specs.Enums.{enum_values, value_of, enum_of}
+use Rattle.protobuf_parse_elaboration.specs.Services.{methods_in, method_of, service_of}
+use Rattle.protobuf_parse_elaboration.specs.Messages as bodies
+use Rattle.protobuf_parse_elaboration.specs.Messages.{message_with, entries_of, messages_behind}
+use Rattle.protobuf_parse_elaboration.specs.Messages.{has_own_oneof, oneofs_of, at_oneof, fields_of}
+use Rattle.protobuf_parse_elaboration.specs.Messages.{fields_from, extending, message_from, nested_of}
+use Rattle.protobuf_parse_elaboration.specs.Messages.{nested_in, message_of}
+use Rattle.protobuf_parse_elaboration.specs.FileDescriptor as files
+use Rattle.protobuf_parse_elaboration.specs.FileDescriptor.{file_messages_of, services_of, file_of}
+use Rattle.protobuf_parse_elaboration.proofs.SameNames.{with_customs}
 use Rattle.protobuf_parse_options.specs.WithoutOptions.{bare_field, bare_oneof, bare_value}
 use Rattle.protobuf_parse_options.specs.WithoutOptions.{bare_enum}
 use Rattle.protobuf_parse_options.specs.WithoutOptions.{bare_message, bare_messages, bare_method}

@@ -3,7 +3,7 @@ use Rattle.std.proofs.Common.{◌≡◌, List, [], ◌∷◌, ◌++◌, map, fla
 use Rattle.std.proofs.lemmas.List.{map-append}
 use Rattle.protobuf_parse_model.specs.Descriptors.{Text, FieldDescriptor, FileDescriptor}
 use Rattle.protobuf_parse_model.specs.Faults.{Among, here, there}
-use Rattle.protobuf_parse_model.proofs.Orders.{among-map}
+use Rattle.protobuf_parse_elaboration.proofs.Orders.{among-map}
 use Rattle.protobuf_parse_wire.specs.Declarations.{Declaration, messages_declared_in}
 use Rattle.protobuf_parse_wire.specs.Declarations.{extensions_extending, have_distinct_numbers}
 use Rattle.protobuf_parse_options.specs.WithoutOptions.{bare_field, bare_file, NumbersIgnoreOptions}

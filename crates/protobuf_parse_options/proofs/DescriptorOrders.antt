@@ -15,16 +15,16 @@ use Rattle.protobuf_parse_model.specs.Descriptors.{EnumDescriptor, MessageParts,
 use Rattle.protobuf_parse_model.specs.Faults.{Among, here, there}
 use Rattle.protobuf_parse_model.specs.Declarations.{Scope, Declared}
 use Rattle.protobuf_parse_model.specs.Lookup.{Meanings, declared, meant}
-use Rattle.protobuf_parse_model.specs.FilesByPath.{Trees, among, trees_at}
 use Rattle.protobuf_parse_model.specs.Linking.{type_names, extension_names, occurrences}
 use Rattle.protobuf_parse_model.specs.Linking.{link_faults}
 use Rattle.protobuf_parse_model.specs.declared.customs.Construct.{Construct}
 use Rattle.protobuf_parse_model.specs.Environment.{CustomFaults, CustomBytes, Customs}
 use Rattle.protobuf_parse_model.proofs.Blaming.{among_left, among_right}
-use Rattle.protobuf_parse_model.proofs.Lookups.{found_is}
-use Rattle.protobuf_parse_model.proofs.Orders.{same-text, among-map, counted-from, count-two}
-use Rattle.protobuf_parse_model.proofs.Orders.{of_path, of_trees, finds-same, type-once}
-use Rattle.protobuf_parse_model.proofs.Orders.{extension-once}
+use Rattle.protobuf_parse_elaboration.specs.FilesByPath.{Trees, among, trees_at}
+use Rattle.protobuf_parse_elaboration.proofs.Lookups.{found_is}
+use Rattle.protobuf_parse_elaboration.proofs.Orders.{same-text, among-map, counted-from, count-two}
+use Rattle.protobuf_parse_elaboration.proofs.Orders.{of_path, of_trees, finds-same, type-once}
+use Rattle.protobuf_parse_elaboration.proofs.Orders.{extension-once}
 use Rattle.protobuf_parse_wire.specs.Declarations.{Declaration, messages_declared_in}
 use Rattle.protobuf_parse_wire.specs.Declarations.{declared_extensions}
 use Rattle.protobuf_parse_wire.specs.Declarations.{messages_named}

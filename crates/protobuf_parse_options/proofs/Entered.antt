@@ -17,16 +17,16 @@ use Rattle.protobuf_parse_model.specs.Faults.{Among, here, there}
 use Rattle.protobuf_parse_model.specs.Declarations.{Declared, file_scope, file_types}
 use Rattle.protobuf_parse_model.specs.Declarations.{file_generated}
 use Rattle.protobuf_parse_model.specs.Environment.{no_customs}
-use Rattle.protobuf_parse_model.specs.FileDescriptor.{types_of_files}
-use Rattle.protobuf_parse_model.specs.NamedTypes as model
-use Rattle.protobuf_parse_model.specs.NamedTypes.{down_from, down_from_all}
-use Rattle.protobuf_parse_model.specs.NamedTypes.{declared_message_name}
-use Rattle.protobuf_parse_model.specs.NamedTypes.{messages_declared, has_name}
-use Rattle.protobuf_parse_model.specs.FilesByPath.{Trees, among, trees_at}
 use Rattle.protobuf_parse_model.specs.Linking.{type_names, occurrences}
-use Rattle.protobuf_parse_model.proofs.NamedTypes.{types_are_named, messages_are_named}
-use Rattle.protobuf_parse_model.proofs.Orders.{same-text, first-among, counted-from, count-append}
-use Rattle.protobuf_parse_model.proofs.Orders.{type-once}
+use Rattle.protobuf_parse_elaboration.specs.FileDescriptor.{types_of_files}
+use Rattle.protobuf_parse_elaboration.specs.NamedTypes as model
+use Rattle.protobuf_parse_elaboration.specs.NamedTypes.{down_from, down_from_all}
+use Rattle.protobuf_parse_elaboration.specs.NamedTypes.{declared_message_name}
+use Rattle.protobuf_parse_elaboration.specs.NamedTypes.{messages_declared, has_name}
+use Rattle.protobuf_parse_elaboration.specs.FilesByPath.{Trees, among, trees_at}
+use Rattle.protobuf_parse_elaboration.proofs.NamedTypes.{types_are_named, messages_are_named}
+use Rattle.protobuf_parse_elaboration.proofs.Orders.{same-text, first-among, counted-from, count-append}
+use Rattle.protobuf_parse_elaboration.proofs.Orders.{type-once}
 use Rattle.protobuf_parse_wire.specs.Declarations as wire
 use Rattle.protobuf_parse_wire.specs.Declarations.{Declaration, name_within, package_scope}
 use Rattle.protobuf_parse_wire.specs.Declarations.{declared_message, declared_messages}

@@ -17,13 +17,13 @@ use Rattle.protobuf_parse_model.specs.Faults.{Among}
 use Rattle.protobuf_parse_model.specs.Statements.{message_body, oneof_fields}
 use Rattle.protobuf_parse_model.specs.Declarations.{Declared}
 use Rattle.protobuf_parse_model.specs.Environment.{Environment, env_inside}
-use Rattle.protobuf_parse_model.specs.Enums.{enum_values, value_of, enum_of}
-use Rattle.protobuf_parse_model.specs.Messages as bodies
-use Rattle.protobuf_parse_model.specs.Messages.{entries_of, messages_behind}
-use Rattle.protobuf_parse_model.specs.Messages.{nested_of, nested_in}
-use Rattle.protobuf_parse_model.specs.FileDescriptor as files
-use Rattle.protobuf_parse_model.specs.FileDescriptor.{file_of}
-use Rattle.protobuf_parse_model.proofs.Lookups.{found_is}
+use Rattle.protobuf_parse_elaboration.specs.Enums.{enum_values, value_of, enum_of}
+use Rattle.protobuf_parse_elaboration.specs.Messages as bodies
+use Rattle.protobuf_parse_elaboration.specs.Messages.{entries_of, messages_behind}
+use Rattle.protobuf_parse_elaboration.specs.Messages.{nested_of, nested_in}
+use Rattle.protobuf_parse_elaboration.specs.FileDescriptor as files
+use Rattle.protobuf_parse_elaboration.specs.FileDescriptor.{file_of}
+use Rattle.protobuf_parse_elaboration.proofs.Lookups.{found_is}
 use Rattle.protobuf_parse_wire.specs.Declarations.{Declaration, name_within, package_scope}
 use Rattle.protobuf_parse_wire.specs.Declarations.{declared_message, declared_messages}
 use Rattle.protobuf_parse_wire.specs.Declarations.{messages_declared_in}

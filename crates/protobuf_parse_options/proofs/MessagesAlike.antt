@@ -19,13 +19,13 @@ use Rattle.protobuf_parse_model.specs.Declarations.{file_types, file_generated, 
 use Rattle.protobuf_parse_model.specs.Declarations.{generated_of, generated_in, types_of, types_in}
 use Rattle.protobuf_parse_model.specs.Declarations.{statement_types, statement_generated}
 use Rattle.protobuf_parse_model.specs.Linking.{occurrences}
-use Rattle.protobuf_parse_model.specs.NamedTypes.{declared_message_name}
 use Rattle.protobuf_parse_model.specs.Environment.{Environment, env_inside}
-use Rattle.protobuf_parse_model.specs.Messages.{messages_behind, entries_of, message_from}
-use Rattle.protobuf_parse_model.specs.Messages.{nested_of, nested_in}
-use Rattle.protobuf_parse_model.specs.FileDescriptor as files
-use Rattle.protobuf_parse_model.specs.FileDescriptor.{file_of}
-use Rattle.protobuf_parse_model.proofs.Orders.{count-append}
+use Rattle.protobuf_parse_elaboration.specs.NamedTypes.{declared_message_name}
+use Rattle.protobuf_parse_elaboration.specs.Messages.{messages_behind, entries_of, message_from}
+use Rattle.protobuf_parse_elaboration.specs.Messages.{nested_of, nested_in}
+use Rattle.protobuf_parse_elaboration.specs.FileDescriptor as files
+use Rattle.protobuf_parse_elaboration.specs.FileDescriptor.{file_of}
+use Rattle.protobuf_parse_elaboration.proofs.Orders.{count-append}
 use Rattle.protobuf_parse_wire.specs.Declarations.{Declaration, name_within, declared_message}
 use Rattle.protobuf_parse_options.specs.NamesAlike.{message_names, HasPackageName}
 use Rattle.protobuf_parse_options.proofs.Agreement.{scope_inside, package_is}

@@ -13,8 +13,8 @@ use Rattle.std.proofs.lemmas.List.Folds.{find-append, list_any-append}
 use Rattle.protobuf_parse_model.specs.Descriptors.{Text, FieldDescriptor, EnumValueDescriptor}
 use Rattle.protobuf_parse_model.specs.Descriptors.{EnumDescriptor, MessageParts, FileDescriptor}
 use Rattle.protobuf_parse_model.specs.Declarations.{Scope, Declared}
-use Rattle.protobuf_parse_model.specs.FilesByPath.{Trees, among, trees_at}
 use Rattle.protobuf_parse_model.specs.Linking.{link_faults}
+use Rattle.protobuf_parse_elaboration.specs.FilesByPath.{Trees, among, trees_at}
 use Rattle.protobuf_parse_wire.specs.Declarations.{Declaration, messages_declared_in}
 use Rattle.protobuf_parse_wire.specs.Declarations.{messages_named}
 use Rattle.protobuf_parse_wire.specs.Declarations.{messages_with_name}

@@ -21,11 +21,11 @@ use Rattle.protobuf_parse_model.specs.Declarations.{types_of, types_in, statemen
 use Rattle.protobuf_parse_model.specs.Declarations.{statement_generated}
 use Rattle.protobuf_parse_model.specs.Linking.{occurrences}
 use Rattle.protobuf_parse_model.specs.Environment.{Environment, env_inside}
-use Rattle.protobuf_parse_model.specs.Messages as bodies
-use Rattle.protobuf_parse_model.specs.Messages.{messages_behind, entries_of, message_from}
-use Rattle.protobuf_parse_model.specs.Messages.{nested_of, nested_in}
-use Rattle.protobuf_parse_model.specs.FileDescriptor as files
-use Rattle.protobuf_parse_model.proofs.Orders.{count-append}
+use Rattle.protobuf_parse_elaboration.specs.Messages as bodies
+use Rattle.protobuf_parse_elaboration.specs.Messages.{messages_behind, entries_of, message_from}
+use Rattle.protobuf_parse_elaboration.specs.Messages.{nested_of, nested_in}
+use Rattle.protobuf_parse_elaboration.specs.FileDescriptor as files
+use Rattle.protobuf_parse_elaboration.proofs.Orders.{count-append}
 use Rattle.protobuf_parse_wire.specs.Declarations.{Declaration, name_within, declared_message}
 use Rattle.protobuf_parse_wire.specs.Declarations.{package_scope}
 use Rattle.protobuf_parse_options.specs.OptionFields.{enum_in}

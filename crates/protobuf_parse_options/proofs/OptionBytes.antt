@@ -1,7 +1,7 @@
 -- The bytes of custom options spell what these denote.
 use Rattle.std.proofs.Common.{◌≡◌, List, [], ◌∷◌, flat_map}
 use Rattle.protobuf_parse_model.specs.Faults.{Fault, Among, here, there}
-use Rattle.protobuf_parse_model.specs.OptionSets.{OptionSet, option_sets}
+use Rattle.protobuf_parse_elaboration.specs.OptionSets.{OptionSet, option_sets}
 use Rattle.protobuf_parse_options.specs.CustomOptions.{denotes, scope_of}
 use Rattle.protobuf_parse_options.specs.CustomFaults.{custom_statement_faults}
 use Rattle.protobuf_parse_options.specs.OptionBytes.{OptionBytesSpell}

@@ -59,7 +59,7 @@ use Rattle.protobuf_parse_model.specs.Environment.{part_text, option_path_text}
 use Rattle.protobuf_parse_options.specs.OptionLaw.{IsEntered, fields_at, IsReadable, OptionsAreRead}
 use Rattle.protobuf_parse_wire.proofs.Ranges.{in_range}
 use Rattle.protobuf_parse_wire.proofs.Again as again
-use Rattle.protobuf_parse_model.proofs.Lookups.{found_is, meaning_declared}
+use Rattle.protobuf_parse_elaboration.proofs.Lookups.{found_is, meaning_declared}
 use Rattle.protobuf_parse_options.proofs.Writable.{no_left, no_right, number_kept}
 use Rattle.protobuf_parse_options.proofs.Writable.{plain_step_has_fault}
 

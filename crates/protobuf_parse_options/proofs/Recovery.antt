@@ -15,9 +15,9 @@ use Rattle.protobuf_parse_model.specs.Declarations.{Declared}
 use Rattle.protobuf_parse_model.specs.declared.customs.Construct.{Construct}
 use Rattle.protobuf_parse_model.specs.Environment.{option_path_text}
 use Rattle.protobuf_parse_model.specs.Faults.{Among, here, there}
-use Rattle.protobuf_parse_model.specs.FilesByPath.{Trees, among}
-use Rattle.protobuf_parse_model.specs.OptionSets.{OptionSet, option_sets}
-use Rattle.protobuf_parse_model.proofs.Orders.{same-text}
+use Rattle.protobuf_parse_elaboration.specs.FilesByPath.{Trees, among}
+use Rattle.protobuf_parse_elaboration.specs.OptionSets.{OptionSet, option_sets}
+use Rattle.protobuf_parse_elaboration.proofs.Orders.{same-text}
 use Rattle.protobuf_parse_wire.specs.Declarations.{Declaration, messages_declared_in, extends}
 use Rattle.protobuf_parse_wire.specs.Law.{depth}
 use Rattle.protobuf_parse_options.specs.OptionLaw.{IsEntered, HasSmallValues, IsReadable}

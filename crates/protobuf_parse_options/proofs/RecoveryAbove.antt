@@ -8,10 +8,10 @@ use Rattle.protobuf_parse_syntax.specs.Trees.{FileSyntax}
 use Rattle.protobuf_parse_model.specs.Descriptors.{Text, FileDescriptor}
 use Rattle.protobuf_parse_model.specs.Declarations.{Scope}
 use Rattle.protobuf_parse_model.specs.Faults.{Fault}
-use Rattle.protobuf_parse_model.specs.FilesByPath.{Trees, among, trees_at}
 use Rattle.protobuf_parse_model.specs.Linking.{link_faults}
-use Rattle.protobuf_parse_model.specs.OptionSets.{OptionSet, option_sets}
-use Rattle.protobuf_parse_model.proofs.Orders.{first-among}
+use Rattle.protobuf_parse_elaboration.specs.FilesByPath.{Trees, among, trees_at}
+use Rattle.protobuf_parse_elaboration.specs.OptionSets.{OptionSet, option_sets}
+use Rattle.protobuf_parse_elaboration.proofs.Orders.{first-among}
 use Rattle.protobuf_parse_options.specs.CustomFaults.{custom_statement_faults, custom_option_faults}
 use Rattle.protobuf_parse_options.specs.CustomOptions.{scope_of}
 use Rattle.protobuf_parse_options.specs.DescriptorsByPath.{Environments, described_at}

@@ -22,7 +22,7 @@ use Rattle.protobuf_parse_model.specs.declared.error.ElabErrorKind.TheVariants a
 use Rattle.protobuf_parse_model.specs.Descriptors.{Text, FileDescriptor}
 use Rattle.protobuf_parse_model.specs.declared.customs.Construct.TheVariants as of
 use Rattle.protobuf_parse_model.specs.Environment.{no_customs}
-use Rattle.protobuf_parse_model.specs.FileDescriptor.{environment, file_of}
+use Rattle.protobuf_parse_elaboration.specs.FileDescriptor.{environment, file_of}
 use Rattle.protobuf_parse_wire.specs.declared.kind.Kind.TheVariants as kinds
 use Rattle.protobuf_parse_wire.specs.Trees as trees
 use Rattle.protobuf_parse_wire.specs.Trees.{no_entries, entry}

@@ -23,15 +23,15 @@ use Rattle.protobuf_parse_model.specs.Faults.{Among, here, there}
 use Rattle.protobuf_parse_model.specs.Statements.{group_body, message_body, oneof_fields}
 use Rattle.protobuf_parse_model.specs.Statements.{oneof_statement_options}
 use Rattle.protobuf_parse_model.specs.Declarations.{Scope, inside, file_scope}
-use Rattle.protobuf_parse_model.specs.Enums.{enum_values, options_in_enum}
-use Rattle.protobuf_parse_model.specs.Services.{methods_in, statement_option, options_in_service}
-use Rattle.protobuf_parse_model.specs.Services.{options_of_method}
-use Rattle.protobuf_parse_model.specs.Messages.{options_in_message, options_of_body}
-use Rattle.protobuf_parse_model.specs.FileDescriptor.{options_in_file}
-use Rattle.protobuf_parse_model.specs.OptionSets.{OptionSet, sets_in_group, field_sets, oneof_sets}
-use Rattle.protobuf_parse_model.specs.OptionSets.{extend_sets, value_set, enum_sets, sets_of}
-use Rattle.protobuf_parse_model.specs.OptionSets.{sets_in, message_sets, method_set, service_sets}
-use Rattle.protobuf_parse_model.specs.OptionSets.{statement_sets, option_sets}
+use Rattle.protobuf_parse_elaboration.specs.Enums.{enum_values, options_in_enum}
+use Rattle.protobuf_parse_elaboration.specs.Services.{methods_in, statement_option, options_in_service}
+use Rattle.protobuf_parse_elaboration.specs.Services.{options_of_method}
+use Rattle.protobuf_parse_elaboration.specs.Messages.{options_in_message, options_of_body}
+use Rattle.protobuf_parse_elaboration.specs.FileDescriptor.{options_in_file}
+use Rattle.protobuf_parse_elaboration.specs.OptionSets.{OptionSet, sets_in_group, field_sets, oneof_sets}
+use Rattle.protobuf_parse_elaboration.specs.OptionSets.{extend_sets, value_set, enum_sets, sets_of}
+use Rattle.protobuf_parse_elaboration.specs.OptionSets.{sets_in, message_sets, method_set, service_sets}
+use Rattle.protobuf_parse_elaboration.specs.OptionSets.{statement_sets, option_sets}
 use Rattle.protobuf_parse_options.specs.OptionDepth.{message_levels, list_levels, field_levels}
 use Rattle.protobuf_parse_options.specs.OptionDepth.{OptionIsShallow}
 use Rattle.protobuf_parse_options.proofs.Sound.{SoundOption, SoundOptionStatement, SoundField}

@@ -8,7 +8,7 @@ use Rattle.protobuf_parse_model.specs.Descriptors.{Text, FileDescriptor}
 use Rattle.protobuf_parse_model.specs.Declarations.{Scope}
 use Rattle.protobuf_parse_model.specs.declared.customs.Construct.{Construct}
 use Rattle.protobuf_parse_model.specs.Environment.{CustomFaults, CustomBytes, Environment}
-use Rattle.protobuf_parse_model.specs.FileDescriptor.{file_of}
+use Rattle.protobuf_parse_elaboration.specs.FileDescriptor.{file_of}
 use Rattle.protobuf_parse_wire.specs.Reading.{reader}
 use Rattle.protobuf_parse_wire.specs.Encoded.{encoded}
 use Rattle.protobuf_parse_options.specs.OptionBytes.{known_customs, option_bytes}

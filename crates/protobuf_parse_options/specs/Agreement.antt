@@ -7,9 +7,9 @@ use Rattle.protobuf_parse_model.specs.Faults.{Among}
 use Rattle.protobuf_parse_model.specs.Declarations.{Declared, DeclaredExtension, file_scope}
 use Rattle.protobuf_parse_model.specs.Declarations.{file_extensions}
 use Rattle.protobuf_parse_model.specs.Environment.{Environment}
-use Rattle.protobuf_parse_model.specs.Fields.{field_statement_of}
-use Rattle.protobuf_parse_model.specs.Messages.{extending}
-use Rattle.protobuf_parse_model.specs.FileDescriptor.{file_of}
+use Rattle.protobuf_parse_elaboration.specs.Fields.{field_statement_of}
+use Rattle.protobuf_parse_elaboration.specs.Messages.{extending}
+use Rattle.protobuf_parse_elaboration.specs.FileDescriptor.{file_of}
 use Rattle.protobuf_parse_wire.specs.Declarations.{declared_extensions}
 
 -- where the extension is declared

@@ -30,9 +30,9 @@ use Rattle.protobuf_parse_model.specs.declared.customs.Construct.{Construct}
 use Rattle.protobuf_parse_model.specs.Environment.{no_customs, part_text, option_path_text}
 use Rattle.protobuf_parse_model.specs.BuiltinOptions.{Table, string_faults}
 pub use Rattle.protobuf_parse_model.specs.OptionTables.{table_of, option_names_in}
-use Rattle.protobuf_parse_model.specs.FileDescriptor.{environment, file_faults}
 use Rattle.protobuf_parse_model.specs.Linking.{before_others, link_faults}
-use Rattle.protobuf_parse_model.specs.OptionSets.{OptionSet, option_sets}
+use Rattle.protobuf_parse_elaboration.specs.FileDescriptor.{environment, file_faults}
+use Rattle.protobuf_parse_elaboration.specs.OptionSets.{OptionSet, option_sets}
 use Rattle.protobuf_parse_wire.specs.Kinds.{shape_of_kind, fits}
 use Rattle.protobuf_parse_options.specs.OptionFields.{OptionScope, options_message, field_named}
 use Rattle.protobuf_parse_options.specs.OptionFields.{number_of_value, extension_meant}

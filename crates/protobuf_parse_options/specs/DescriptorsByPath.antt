@@ -7,10 +7,10 @@ use Rattle.std.specs.Prelude.{◌≡◌, true, List, [], map, flat_map, Some, op
 use Rattle.protobuf_parse_syntax.specs.Trees.{FileSyntax}
 use Rattle.protobuf_parse_model.specs.Descriptors.{Text, FileDescriptor}
 use Rattle.protobuf_parse_model.specs.Declarations.{file_scope}
-use Rattle.protobuf_parse_model.specs.FilesByPath.{Trees, among, trees_at}
 use Rattle.protobuf_parse_model.specs.Linking.{link_faults}
 use Rattle.protobuf_parse_model.specs.Environment.{Environment}
-use Rattle.protobuf_parse_model.specs.FileDescriptor.{file_of}
+use Rattle.protobuf_parse_elaboration.specs.FilesByPath.{Trees, among, trees_at}
+use Rattle.protobuf_parse_elaboration.specs.FileDescriptor.{file_of}
 use Rattle.protobuf_parse_options.specs.OptionBytes.{known_customs}
 use Rattle.protobuf_parse_options.specs.NamesAlike.{HasPackageName}
 

@@ -6,9 +6,9 @@ use Rattle.std.specs.Prelude.{◌≡◌, ℤ, true, List, [], Some}
 use Rattle.protobuf_parse_syntax.specs.Trees.{OptionSyntax}
 use Rattle.protobuf_parse_model.specs.Descriptors.{Text, FieldDescriptor, FileDescriptor}
 use Rattle.protobuf_parse_model.specs.Declarations.{Scope, Declared}
-use Rattle.protobuf_parse_model.specs.FilesByPath.{Trees, trees_at}
 use Rattle.protobuf_parse_model.specs.Linking.{link_faults}
 use Rattle.protobuf_parse_model.specs.declared.customs.Construct.{Construct}
+use Rattle.protobuf_parse_elaboration.specs.FilesByPath.{Trees, trees_at}
 use Rattle.protobuf_parse_options.specs.OptionFields.{OptionScope, field_named, number_of_value}
 use Rattle.protobuf_parse_options.specs.OptionFields.{names_message, extension_meant}
 use Rattle.protobuf_parse_options.specs.CustomOptions.{denotes}

@@ -6,7 +6,7 @@ use Rattle.protobuf_parse_model.specs.Descriptors.{FileDescriptor}
 use Rattle.protobuf_parse_model.specs.Declarations.{Declared, file_scope}
 use Rattle.protobuf_parse_model.specs.Linking.{type_names, extension_names, occurrences}
 use Rattle.protobuf_parse_model.specs.Environment.{Environment}
-use Rattle.protobuf_parse_model.specs.FileDescriptor.{file_of}
+use Rattle.protobuf_parse_elaboration.specs.FileDescriptor.{file_of}
 use Rattle.protobuf_parse_wire.specs.Declarations.{Declaration, messages_declared_in}
 use Rattle.protobuf_parse_wire.specs.Declarations.{declared_extensions}
 use Rattle.protobuf_parse_options.specs.OptionFields.{declared_enums}

@@ -10,10 +10,10 @@ use Rattle.protobuf_parse_syntax.specs.Parsing.{HasTree}
 use Rattle.protobuf_parse_model.specs.Descriptors.{Text, FileDescriptor}
 use Rattle.protobuf_parse_model.specs.Faults.{Among}
 use Rattle.protobuf_parse_model.specs.Environment.{no_customs}
-use Rattle.protobuf_parse_model.specs.FileDescriptor.{environment, file_faults}
-use Rattle.protobuf_parse_model.specs.FilesByPath.{Trees, among, trees_at}
 use Rattle.protobuf_parse_model.specs.Linking.{link_faults}
-use Rattle.protobuf_parse_model.specs.OptionSets.{OptionSet, option_sets}
+use Rattle.protobuf_parse_elaboration.specs.FileDescriptor.{environment, file_faults}
+use Rattle.protobuf_parse_elaboration.specs.FilesByPath.{Trees, among, trees_at}
+use Rattle.protobuf_parse_elaboration.specs.OptionSets.{OptionSet, option_sets}
 use Rattle.protobuf_parse_wire.specs.Declarations.{Declaration, messages_declared_in}
 use Rattle.protobuf_parse_wire.specs.Declarations.{extensions_extending}
 use Rattle.protobuf_parse_wire.specs.Declarations.{have_distinct_numbers}

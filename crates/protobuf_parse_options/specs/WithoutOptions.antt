@@ -16,8 +16,8 @@ use Rattle.protobuf_parse_model.specs.Descriptors.{MessageDescriptors, a_message
 use Rattle.protobuf_parse_model.specs.Descriptors.{messages, MethodDescriptor, ServiceDescriptor}
 use Rattle.protobuf_parse_model.specs.Descriptors.{FileDescriptor}
 use Rattle.protobuf_parse_model.specs.Declarations.{Scope}
-use Rattle.protobuf_parse_model.specs.FilesByPath.{Trees}
 use Rattle.protobuf_parse_model.specs.declared.customs.Construct.{Construct}
+use Rattle.protobuf_parse_elaboration.specs.FilesByPath.{Trees}
 use Rattle.protobuf_parse_wire.specs.Reading.{reader}
 use Rattle.protobuf_parse_options.specs.CustomOptions.{denotes}
 use Rattle.protobuf_parse_options.specs.DescriptorsByPath.{Environments, descriptors_at}

@@ -17,7 +17,8 @@ ghost use Rattle.protobuf_parse_wire.specs.Views.{entry_view};
 
 use crate::option_place::OptionPlace;
 use crate::paths::push_path;
-use protobuf_parse_model::{Construct, ElabErrorKind, ElabFailure, fault, has_builtin_option};
+use protobuf_parse_elaboration::has_builtin_option;
+use protobuf_parse_model::{Construct, ElabErrorKind, ElabFailure, fault};
 use protobuf_parse_syntax::{
     ProtobufConstant, ProtobufOption, ProtobufOptionName, ProtobufOptionNamePart,
 };

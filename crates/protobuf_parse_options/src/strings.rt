@@ -13,9 +13,9 @@ ghost use Rattle.protobuf_parse_options.specs.Given.{path_said};
 ghost use Rattle.protobuf_parse_options.specs.OptionFields.{type_takes};
 
 use crate::refuse::not_taken;
+use protobuf_parse_elaboration::{decoded_bytes, decoded_text};
 use protobuf_parse_model::{
-    ElabErrorKind, ElabFailure, FieldDescriptorProto, FieldType, decoded_bytes, decoded_text,
-    fault, path_text,
+    ElabErrorKind, ElabFailure, FieldDescriptorProto, FieldType, fault, path_text,
 };
 use protobuf_parse_syntax::{ProtobufOptionNamePart, StrLit};
 use std::alloc::Global;

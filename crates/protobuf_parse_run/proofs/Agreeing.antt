@@ -7,11 +7,11 @@ use Rattle.protobuf_parse_model.specs.Descriptors.{Text, FileDescriptor}
 use Rattle.protobuf_parse_model.specs.Declarations.{DeclaredType, file_scope}
 use Rattle.protobuf_parse_model.specs.Environment.{Customs, Environment, no_customs}
 use Rattle.protobuf_parse_model.specs.Faults.{Among, Fault}
-use Rattle.protobuf_parse_model.specs.FileDescriptor.{environment, file_faults, file_of}
-use Rattle.protobuf_parse_model.specs.FilesByPath.{AreDistinct, AreJust, leads, stays, trees_at}
 use Rattle.protobuf_parse_model.specs.Linking.{before_others, link_faults}
-use Rattle.protobuf_parse_model.proofs.Orders.{SameMembers, first-among, just-same, link-none}
-use Rattle.protobuf_parse_model.proofs.Orders.{link-told, types-same}
+use Rattle.protobuf_parse_elaboration.specs.FileDescriptor.{environment, file_faults, file_of}
+use Rattle.protobuf_parse_elaboration.specs.FilesByPath.{AreDistinct, AreJust, leads, stays, trees_at}
+use Rattle.protobuf_parse_elaboration.proofs.Orders.{SameMembers, first-among, just-same, link-none}
+use Rattle.protobuf_parse_elaboration.proofs.Orders.{link-told, types-same}
 use Rattle.protobuf_parse_options.specs.OptionBytes.{known_customs}
 use Rattle.protobuf_parse_run.specs.Walks.{Trees, Reaches, HandsOn, Sees, sees_itself, by_import}
 use Rattle.protobuf_parse_run.specs.Walks.{among}

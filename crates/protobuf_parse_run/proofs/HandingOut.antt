@@ -6,9 +6,9 @@ use Rattle.protobuf_parse_syntax.specs.Trees.{FileSyntax}
 use Rattle.protobuf_parse_model.specs.Descriptors as described
 use Rattle.protobuf_parse_model.specs.Descriptors.{Text, FileDescriptor}
 use Rattle.protobuf_parse_model.specs.Faults.{Among, here, there}
-use Rattle.protobuf_parse_model.specs.FileDescriptor.{file_of}
 use Rattle.protobuf_parse_model.specs.declared.descriptor.FileDescriptorProto.{FileDescriptorProto}
-use Rattle.protobuf_parse_model.proofs.Orders.{among-map}
+use Rattle.protobuf_parse_elaboration.specs.FileDescriptor.{file_of}
+use Rattle.protobuf_parse_elaboration.proofs.Orders.{among-map}
 use Rattle.protobuf_parse_options.specs.DescriptorsByPath.{AreWithin, described_at}
 use Rattle.protobuf_parse_options.proofs.Entered.{from_one}
 use Rattle.protobuf_parse_run.specs.Walks.{Input, among}

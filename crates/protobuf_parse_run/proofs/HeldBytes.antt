@@ -35,31 +35,31 @@ use Rattle.protobuf_parse_model.specs.Statements.{group_body, message_body, oneo
 use Rattle.protobuf_parse_model.specs.Declarations.{Scope}
 use Rattle.protobuf_parse_model.specs.Environment.{Environment, Customs, env_inside, customs_bytes}
 use Rattle.protobuf_parse_model.specs.OptionMessages.{message_options}
-use Rattle.protobuf_parse_model.specs.Fields.{FieldPlace, plain, field_of, field_statement_of}
-use Rattle.protobuf_parse_model.specs.Enums.{enum_values, options_of_enum, value_of, enum_of}
-use Rattle.protobuf_parse_model.specs.Services.{methods_in, options_of_service, options_of_method}
-use Rattle.protobuf_parse_model.specs.Services.{method_of, service_of}
-use Rattle.protobuf_parse_model.specs.Messages as messages
-use Rattle.protobuf_parse_model.specs.Messages.{entries_of, messages_behind, own_oneof}
-use Rattle.protobuf_parse_model.specs.Messages.{has_own_oneof, oneof_of, options_in_oneof}
-use Rattle.protobuf_parse_model.specs.Messages.{at_oneof, fields_of, fields_from, extending}
-use Rattle.protobuf_parse_model.specs.Messages.{options_of_body, message_from, nested_of, nested_in}
-use Rattle.protobuf_parse_model.specs.Messages.{message_of, oneofs_of}
-use Rattle.protobuf_parse_model.specs.FileDescriptor as files
-use Rattle.protobuf_parse_model.specs.FileDescriptor.{options_of_statements, environment}
-use Rattle.protobuf_parse_model.specs.FileDescriptor.{file_messages_of, services_of, file_of}
-use Rattle.protobuf_parse_model.specs.OptionSets.{OptionSet, a_set, sets_in_group, field_sets}
-use Rattle.protobuf_parse_model.specs.OptionSets.{oneof_sets, extend_sets, value_set, enum_sets}
-use Rattle.protobuf_parse_model.specs.OptionSets.{message_sets, method_set, service_sets}
-use Rattle.protobuf_parse_model.specs.OptionSets.{sets_of, sets_in, statement_sets, option_sets}
+use Rattle.protobuf_parse_model.proofs.Blaming.{among_left}
+use Rattle.protobuf_parse_elaboration.specs.Fields.{FieldPlace, plain, field_of, field_statement_of}
+use Rattle.protobuf_parse_elaboration.specs.Enums.{enum_values, options_of_enum, value_of, enum_of}
+use Rattle.protobuf_parse_elaboration.specs.Services.{methods_in, options_of_service, options_of_method}
+use Rattle.protobuf_parse_elaboration.specs.Services.{method_of, service_of}
+use Rattle.protobuf_parse_elaboration.specs.Messages as messages
+use Rattle.protobuf_parse_elaboration.specs.Messages.{entries_of, messages_behind, own_oneof}
+use Rattle.protobuf_parse_elaboration.specs.Messages.{has_own_oneof, oneof_of, options_in_oneof}
+use Rattle.protobuf_parse_elaboration.specs.Messages.{at_oneof, fields_of, fields_from, extending}
+use Rattle.protobuf_parse_elaboration.specs.Messages.{options_of_body, message_from, nested_of, nested_in}
+use Rattle.protobuf_parse_elaboration.specs.Messages.{message_of, oneofs_of}
+use Rattle.protobuf_parse_elaboration.specs.FileDescriptor as files
+use Rattle.protobuf_parse_elaboration.specs.FileDescriptor.{options_of_statements, environment}
+use Rattle.protobuf_parse_elaboration.specs.FileDescriptor.{file_messages_of, services_of, file_of}
+use Rattle.protobuf_parse_elaboration.specs.OptionSets.{OptionSet, a_set, sets_in_group, field_sets}
+use Rattle.protobuf_parse_elaboration.specs.OptionSets.{oneof_sets, extend_sets, value_set, enum_sets}
+use Rattle.protobuf_parse_elaboration.specs.OptionSets.{message_sets, method_set, service_sets}
 use Rattle.protobuf_parse_run.specs.StandingBytes.{IsStated, HeldBytes, held, held_in_field}
 use Rattle.protobuf_parse_run.specs.StandingBytes.{held_in_oneof, held_in_value, held_in_enum}
 use Rattle.protobuf_parse_run.specs.StandingBytes.{held_in_message, held_in_messages}
 use Rattle.protobuf_parse_run.specs.StandingBytes.{held_in_method, held_in_service, held_in_file}
 use Rattle.protobuf_parse_run.specs.StandingBytes.{stated, held_by_set, held_behind_map}
 use Rattle.protobuf_parse_run.specs.StandingBytes.{OptionsStand, NoOthersStand, SetsStandOnce}
-use Rattle.protobuf_parse_model.proofs.Blaming.{among_left}
-use Rattle.protobuf_parse_model.proofs.EachOne.{all-among, all-from}
+use Rattle.protobuf_parse_elaboration.specs.OptionSets.{sets_of, sets_in, statement_sets, option_sets}
+use Rattle.protobuf_parse_elaboration.proofs.EachOne.{all-among, all-from}
 use Rattle.protobuf_parse_run.proofs.StandingBytes.{in_none, among_parts}
 
 -- ---- lists

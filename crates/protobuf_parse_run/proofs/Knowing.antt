@@ -8,8 +8,8 @@ use Rattle.protobuf_parse_base.specs.PathViews.{path_buf_text}
 use Rattle.protobuf_parse_syntax.specs.Dependencies.{imported, imports}
 use Rattle.protobuf_parse_syntax.specs.Trees.{FileSyntax, ImportSyntax, StatementSyntax}
 use Rattle.protobuf_parse_model.specs.Descriptors.{Text}
-use Rattle.protobuf_parse_model.specs.FilesByPath.{AreDistinct, Leads, leads, stays}
 use Rattle.protobuf_parse_model.specs.Tables.{TableTells}
+use Rattle.protobuf_parse_elaboration.specs.FilesByPath.{AreDistinct, Leads, leads, stays}
 use Rattle.protobuf_parse_run.specs.declared.tables.Tables.{Tables}
 use Rattle.protobuf_parse_run.specs.Walks.{Trees, Reaches, HandsOn, Sees, sees_itself, by_import}
 use Rattle.protobuf_parse_run.specs.Walks.{among}

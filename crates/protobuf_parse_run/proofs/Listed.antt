@@ -6,8 +6,8 @@ use Rattle.std.specs.Prelude.{bytes_eq}
 use Rattle.protobuf_parse_base.specs.PathViews.{path_buf_text}
 use Rattle.protobuf_parse_syntax.specs.Trees.{FileSyntax}
 use Rattle.protobuf_parse_model.specs.Descriptors.{Text}
-use Rattle.protobuf_parse_model.specs.FilesByPath.{AreJust, leads, stays}
-use Rattle.protobuf_parse_model.proofs.Closing.{closed}
+use Rattle.protobuf_parse_elaboration.specs.FilesByPath.{AreJust, leads, stays}
+use Rattle.protobuf_parse_elaboration.proofs.Closing.{closed}
 use Rattle.protobuf_parse_run.specs.Walks.{Trees, Reaches, HandsOn, Sees, sees_itself, by_import}
 use Rattle.protobuf_parse_run.specs.Walks.{among}
 use Rattle.protobuf_parse_run.specs.Walks.{import_paths, public_paths}

@@ -5,7 +5,7 @@ use Rattle.std.proofs.Common.{append_assoc, append-nil, length, if◌then◌else
 use Rattle.std.specs.Prelude.{bytes_eq, is_some, not, ◌↔◌}
 use Rattle.protobuf_parse_syntax.specs.Trees.{FileSyntax}
 use Rattle.protobuf_parse_model.specs.Descriptors.{Text}
-use Rattle.protobuf_parse_model.specs.FilesByPath.{AreDistinct, leads, stays}
+use Rattle.protobuf_parse_elaboration.specs.FilesByPath.{AreDistinct, leads, stays}
 use Rattle.protobuf_parse_run.specs.Walks.{Asked, the_resolver, Input, named, at, Event, cycle}
 use Rattle.protobuf_parse_run.specs.Walks.{long, load, check, elab, same_event, has, keep, among}
 use Rattle.protobuf_parse_run.specs.Walks.{Trees, Reaches, import_paths, walks_joined}

@@ -8,11 +8,11 @@ use Rattle.protobuf_parse_syntax.specs.Trees.{FileSyntax}
 use Rattle.protobuf_parse_model.specs.Descriptors.{Text}
 use Rattle.protobuf_parse_model.specs.Faults.{Among}
 use Rattle.protobuf_parse_model.specs.Environment.{no_customs}
-use Rattle.protobuf_parse_model.specs.FileDescriptor.{environment, file_faults}
-use Rattle.protobuf_parse_model.specs.FilesByPath.{among, leads, stays, trees_at}
 use Rattle.protobuf_parse_model.specs.Linking.{link_faults}
-use Rattle.protobuf_parse_model.specs.OptionSets.{OptionSet, option_sets}
 use Rattle.protobuf_parse_model.specs.declared.descriptor.FileDescriptorProto.{FileDescriptorProto}
+use Rattle.protobuf_parse_elaboration.specs.FileDescriptor.{environment, file_faults}
+use Rattle.protobuf_parse_elaboration.specs.FilesByPath.{among, leads, stays, trees_at}
+use Rattle.protobuf_parse_elaboration.specs.OptionSets.{OptionSet, option_sets}
 use Rattle.protobuf_parse_options.specs.CustomFaults.{custom_option_faults}
 use Rattle.protobuf_parse_options.specs.CustomOptions.{denotes, scope_of}
 use Rattle.protobuf_parse_wire.specs.Law.{said}

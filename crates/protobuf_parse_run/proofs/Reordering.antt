@@ -2,9 +2,9 @@
 use Rattle.std.proofs.Common.{◌≡◌, true, List, [], Option, Some, None, refl, subst}
 use Rattle.protobuf_parse_syntax.specs.Trees.{FileSyntax}
 use Rattle.protobuf_parse_model.specs.Descriptors.{Text}
-use Rattle.protobuf_parse_model.specs.FilesByPath.{among, trees_at}
 use Rattle.protobuf_parse_model.specs.Linking.{link_faults}
-use Rattle.protobuf_parse_model.proofs.Orders.{SameMembers}
+use Rattle.protobuf_parse_elaboration.specs.FilesByPath.{among, trees_at}
+use Rattle.protobuf_parse_elaboration.proofs.Orders.{SameMembers}
 use Rattle.protobuf_parse_syntax.proofs.PackageNames.{package_has_name}
 use Rattle.protobuf_parse_options.specs.NamesAlike.{HasPackageName}
 use Rattle.protobuf_parse_options.specs.OptionBytes.{known_customs}

@@ -17,14 +17,14 @@ use Rattle.protobuf_parse_model.specs.Declarations.{DeclaredType, file_scope}
 use Rattle.protobuf_parse_model.specs.Environment.{Customs, Environment, no_customs}
 use Rattle.protobuf_parse_model.specs.Faults.{Among, there, fault_view}
 use Rattle.protobuf_parse_model.specs.Faults as elaborating
-use Rattle.protobuf_parse_model.specs.FileDescriptor.{environment, file_faults, file_of}
-use Rattle.protobuf_parse_model.specs.FilesByPath.{AreDistinct, AreJust, leads, stays, trees_at}
 use Rattle.protobuf_parse_model.specs.Linking.{before_others, link_faults}
 use Rattle.protobuf_parse_model.specs.Tables.{picked}
-use Rattle.protobuf_parse_run.specs.declared.tables.Tables.{Tables}
-use Rattle.protobuf_parse_model.proofs.Orders.{SameMembers, just-same, link-none, link-told}
-use Rattle.protobuf_parse_model.proofs.Orders.{types-same}
 use Rattle.protobuf_parse_model.proofs.Picks.{Rises, rises}
+use Rattle.protobuf_parse_elaboration.specs.FileDescriptor.{environment, file_faults, file_of}
+use Rattle.protobuf_parse_run.specs.declared.tables.Tables.{Tables}
+use Rattle.protobuf_parse_elaboration.specs.FilesByPath.{AreDistinct, AreJust, leads, stays, trees_at}
+use Rattle.protobuf_parse_elaboration.proofs.Orders.{SameMembers, just-same, link-none, link-told}
+use Rattle.protobuf_parse_elaboration.proofs.Orders.{types-same}
 use Rattle.protobuf_parse_options.specs.OptionBytes.{known_customs}
 use Rattle.protobuf_parse_run.specs.Walks.{Trees, Reaches, HandsOn, Sees, sees_itself, by_import}
 use Rattle.protobuf_parse_run.specs.Walks.{among}

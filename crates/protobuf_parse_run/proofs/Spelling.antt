@@ -5,19 +5,19 @@ use Rattle.protobuf_parse_syntax.specs.Trees.{FileSyntax, OptionSyntax}
 use Rattle.protobuf_parse_model.specs.Descriptors.{Text, FileDescriptor}
 use Rattle.protobuf_parse_model.specs.Environment.{Customs, no_customs, no_extensions}
 use Rattle.protobuf_parse_model.specs.Descriptors as described
-use Rattle.protobuf_parse_model.specs.CustomSets.{faults_of_set, faults_of_sets}
 use Rattle.protobuf_parse_model.specs.Faults.{Among, here, there, Blames, Fault, fault_view}
-use Rattle.protobuf_parse_model.specs.FilesByPath.{trees_at}
-use Rattle.protobuf_parse_model.specs.FileDescriptor.{environment, file_faults, file_of}
 use Rattle.protobuf_parse_model.specs.Linking.{before_others, link_faults}
-use Rattle.protobuf_parse_model.specs.OptionSets.{OptionSet, option_sets}
 use Rattle.protobuf_parse_model.specs.Tables.{picked}
 use Rattle.protobuf_parse_model.specs.declared.descriptor.FileDescriptorProto.{FileDescriptorProto}
 use Rattle.protobuf_parse_model.specs.declared.error.ElabFailure.{ElabFailure}
 use Rattle.protobuf_parse_model.specs.declared.error.ElabFailure.TheVariants as failure
-use Rattle.protobuf_parse_model.proofs.CustomSets.{faults_are_of_sets, none_is_none_in_sets}
-use Rattle.protobuf_parse_model.proofs.CustomSets.{none_of_sets, options_are_builtin}
-use Rattle.protobuf_parse_model.proofs.SameBytes.{bytes_are_of_sets}
+use Rattle.protobuf_parse_elaboration.specs.CustomSets.{faults_of_set, faults_of_sets}
+use Rattle.protobuf_parse_elaboration.specs.FilesByPath.{trees_at}
+use Rattle.protobuf_parse_elaboration.specs.FileDescriptor.{environment, file_faults, file_of}
+use Rattle.protobuf_parse_elaboration.specs.OptionSets.{OptionSet, option_sets}
+use Rattle.protobuf_parse_elaboration.proofs.CustomSets.{faults_are_of_sets, none_is_none_in_sets}
+use Rattle.protobuf_parse_elaboration.proofs.CustomSets.{none_of_sets, options_are_builtin}
+use Rattle.protobuf_parse_elaboration.proofs.SameBytes.{bytes_are_of_sets}
 use Rattle.protobuf_parse_options.specs.CustomFaults.{custom_name_faults, custom_option_faults}
 use Rattle.protobuf_parse_options.specs.CustomFaults.{custom_statement_faults}
 use Rattle.protobuf_parse_options.specs.CustomOptions.{items_of_option, scope_of}

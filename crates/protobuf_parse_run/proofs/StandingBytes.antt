@@ -22,26 +22,26 @@ use Rattle.protobuf_parse_model.specs.BuiltinOptions.{where_any}
 use Rattle.protobuf_parse_model.specs.Faults.{Among, here, there}
 use Rattle.protobuf_parse_model.specs.Statements.{group_body, message_body, oneof_fields}
 use Rattle.protobuf_parse_model.specs.Environment.{Environment, Customs, env_inside}
-use Rattle.protobuf_parse_model.specs.Fields.{FieldPlace, plain, field_of, field_statement_of}
-use Rattle.protobuf_parse_model.specs.Enums.{enum_values, options_of_enum, value_of, enum_of}
-use Rattle.protobuf_parse_model.specs.Services.{methods_in, options_of_service, options_of_method}
-use Rattle.protobuf_parse_model.specs.Services.{method_of, service_of}
-use Rattle.protobuf_parse_model.specs.Messages as messages
-use Rattle.protobuf_parse_model.specs.Messages.{entries_of, messages_behind}
-use Rattle.protobuf_parse_model.specs.Messages.{options_in_oneof, oneofs_of, at_oneof}
-use Rattle.protobuf_parse_model.specs.Messages.{fields_of, fields_from, extending, options_of_body}
-use Rattle.protobuf_parse_model.specs.Messages.{message_from, nested_of, nested_in, message_of}
-use Rattle.protobuf_parse_model.specs.FileDescriptor as files
-use Rattle.protobuf_parse_model.specs.FileDescriptor.{options_of_statements, environment}
-use Rattle.protobuf_parse_model.specs.FileDescriptor.{file_messages_of, services_of, file_of}
-use Rattle.protobuf_parse_model.specs.OptionSets.{OptionSet, a_set, sets_in_group, field_sets}
-use Rattle.protobuf_parse_model.specs.OptionSets.{value_set, enum_sets, sets_of, sets_in}
-use Rattle.protobuf_parse_model.specs.OptionSets.{message_sets, method_set, service_sets}
-use Rattle.protobuf_parse_model.specs.OptionSets.{statement_sets, option_sets}
-use Rattle.protobuf_parse_model.specs.CustomSets.{bytes_of_set}
+use Rattle.protobuf_parse_elaboration.specs.Fields.{FieldPlace, plain, field_of, field_statement_of}
+use Rattle.protobuf_parse_elaboration.specs.Enums.{enum_values, options_of_enum, value_of, enum_of}
+use Rattle.protobuf_parse_elaboration.specs.Services.{methods_in, options_of_service, options_of_method}
+use Rattle.protobuf_parse_elaboration.specs.Services.{method_of, service_of}
+use Rattle.protobuf_parse_elaboration.specs.Messages as messages
+use Rattle.protobuf_parse_elaboration.specs.Messages.{entries_of, messages_behind}
+use Rattle.protobuf_parse_elaboration.specs.Messages.{options_in_oneof, oneofs_of, at_oneof}
+use Rattle.protobuf_parse_elaboration.specs.Messages.{fields_of, fields_from, extending, options_of_body}
+use Rattle.protobuf_parse_elaboration.specs.Messages.{message_from, nested_of, nested_in, message_of}
+use Rattle.protobuf_parse_elaboration.specs.FileDescriptor as files
+use Rattle.protobuf_parse_elaboration.specs.FileDescriptor.{options_of_statements, environment}
+use Rattle.protobuf_parse_elaboration.specs.FileDescriptor.{file_messages_of, services_of, file_of}
+use Rattle.protobuf_parse_elaboration.specs.OptionSets.{OptionSet, a_set, sets_in_group, field_sets}
+use Rattle.protobuf_parse_elaboration.specs.OptionSets.{value_set, enum_sets, sets_of, sets_in}
+use Rattle.protobuf_parse_elaboration.specs.OptionSets.{message_sets, method_set, service_sets}
+use Rattle.protobuf_parse_elaboration.specs.OptionSets.{statement_sets, option_sets}
+use Rattle.protobuf_parse_elaboration.specs.CustomSets.{bytes_of_set}
 use Rattle.protobuf_parse_run.specs.StandingBytes.{IsStated, BytesStand}
 use Rattle.protobuf_parse_run.proofs.Keeping.{first_same, rest_same}
-use Rattle.protobuf_parse_model.proofs.SameNames.{with_customs}
+use Rattle.protobuf_parse_elaboration.proofs.SameNames.{with_customs}
 
 -- ---- lists
 

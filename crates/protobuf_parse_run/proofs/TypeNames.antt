@@ -8,11 +8,11 @@ use Rattle.protobuf_parse_model.specs.Descriptors.{Text}
 use Rattle.protobuf_parse_model.specs.Declarations.{DeclaredType, file_types, file_generated}
 use Rattle.protobuf_parse_model.specs.Environment.{no_customs}
 use Rattle.protobuf_parse_model.specs.Faults.{Among}
-use Rattle.protobuf_parse_model.specs.FilesByPath.{among, trees_at}
-use Rattle.protobuf_parse_model.specs.FileDescriptor.{types_of_files}
-use Rattle.protobuf_parse_model.specs.NamedTypes.{names_declared}
-use Rattle.protobuf_parse_model.proofs.NamedTypes.{names_are_declared}
-use Rattle.protobuf_parse_model.proofs.Orders.{first-among}
+use Rattle.protobuf_parse_elaboration.specs.FilesByPath.{among, trees_at}
+use Rattle.protobuf_parse_elaboration.specs.FileDescriptor.{types_of_files}
+use Rattle.protobuf_parse_elaboration.specs.NamedTypes.{names_declared}
+use Rattle.protobuf_parse_elaboration.proofs.NamedTypes.{names_are_declared}
+use Rattle.protobuf_parse_elaboration.proofs.Orders.{first-among}
 use Rattle.protobuf_parse_run.specs.Walks.{Trees}
 use Rattle.protobuf_parse_run.specs.Run.{customs_of}
 use Rattle.protobuf_parse_run.specs.TypeNames.{NamesAreReached}

@@ -14,13 +14,13 @@ use Rattle.protobuf_parse_syntax.specs.declared.tree.FileTree.{FileTree}
 use Rattle.protobuf_parse_model.specs.Descriptors as described
 use Rattle.protobuf_parse_model.specs.Descriptors.{Text, FileDescriptor}
 use Rattle.protobuf_parse_model.specs.Environment.{Customs, no_customs}
-use Rattle.protobuf_parse_model.specs.FileDescriptor.{environment, file_of}
-use Rattle.protobuf_parse_model.specs.FilesByPath.{AreDistinct}
 use Rattle.protobuf_parse_model.specs.Tables.{TableTells, picked}
 use Rattle.protobuf_parse_model.specs.declared.descriptor.FileDescriptorProto.{FileDescriptorProto}
 use Rattle.protobuf_parse_model.specs.Faults as elaborating
 use Rattle.protobuf_parse_model.specs.Faults.{Blames, fault_view}
 use Rattle.protobuf_parse_model.specs.declared.error.ElabFailure.{ElabFailure}
+use Rattle.protobuf_parse_elaboration.specs.FileDescriptor.{environment, file_of}
+use Rattle.protobuf_parse_elaboration.specs.FilesByPath.{AreDistinct}
 use Rattle.protobuf_parse_options.specs.CustomFaults.{elaboration_faults}
 use Rattle.protobuf_parse_options.specs.Holding.{Holds}
 use Rattle.protobuf_parse_options.specs.OptionBytes.{known_customs}

@@ -9,9 +9,9 @@ use Rattle.protobuf_parse_syntax.specs.Trees.{FileSyntax}
 use Rattle.protobuf_parse_model.specs.Descriptors as described
 use Rattle.protobuf_parse_model.specs.Descriptors.{Text, FileDescriptor}
 use Rattle.protobuf_parse_model.specs.Faults.{Among}
-use Rattle.protobuf_parse_model.specs.FileDescriptor.{file_of}
-use Rattle.protobuf_parse_model.specs.FilesByPath.{AreDistinct}
 use Rattle.protobuf_parse_model.specs.declared.descriptor.FileDescriptorProto.{FileDescriptorProto}
+use Rattle.protobuf_parse_elaboration.specs.FileDescriptor.{file_of}
+use Rattle.protobuf_parse_elaboration.specs.FilesByPath.{AreDistinct}
 use Rattle.protobuf_parse_options.specs.DescriptorsByPath.{AreWithin}
 use Rattle.protobuf_parse_run.specs.Walks.{Input, input_name, Event, cycle, long, load, Trees}
 use Rattle.protobuf_parse_run.specs.Walks.{Reaches, among, events, import_paths}

@@ -8,12 +8,12 @@ use Rattle.std.specs.Prelude.{◌≡◌, ◌≤◌, ℕ, true, List, [], Option,
 use Rattle.std.specs.Global.{Vec}
 use Rattle.protobuf_parse_syntax.specs.Trees.{FileSyntax}
 use Rattle.protobuf_parse_model.specs.Descriptors.{Text, FileDescriptor}
-use Rattle.protobuf_parse_model.specs.CustomSets.{bytes_of_set}
 use Rattle.protobuf_parse_model.specs.Faults.{Among}
-use Rattle.protobuf_parse_model.specs.FilesByPath.{among, trees_at}
 use Rattle.protobuf_parse_model.specs.Linking.{link_faults}
-use Rattle.protobuf_parse_model.specs.OptionSets.{OptionSet, option_sets}
 use Rattle.protobuf_parse_model.specs.declared.descriptor.FileDescriptorProto.{FileDescriptorProto}
+use Rattle.protobuf_parse_elaboration.specs.CustomSets.{bytes_of_set}
+use Rattle.protobuf_parse_elaboration.specs.FilesByPath.{among, trees_at}
+use Rattle.protobuf_parse_elaboration.specs.OptionSets.{OptionSet, option_sets}
 use Rattle.protobuf_parse_options.specs.CustomOptions.{denotes, scope_of}
 use Rattle.protobuf_parse_options.specs.DescriptorsByPath.{descriptors_at, AreWithin}
 use Rattle.protobuf_parse_wire.specs.Law.{said, depth}

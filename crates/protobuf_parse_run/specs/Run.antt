@@ -14,11 +14,11 @@ use Rattle.protobuf_parse_syntax.specs.Trees.{FileSyntax}
 use Rattle.protobuf_parse_model.specs.Descriptors as described
 use Rattle.protobuf_parse_model.specs.Descriptors.{Text, FileDescriptor}
 use Rattle.protobuf_parse_model.specs.Environment.{Customs, Environment}
-use Rattle.protobuf_parse_model.specs.FileDescriptor.{environment, file_of}
-use Rattle.protobuf_parse_model.specs.FilesByPath.{AreDistinct, AreJust, trees_at}
 use Rattle.protobuf_parse_model.specs.Faults as elaborating
 use Rattle.protobuf_parse_model.specs.Faults.{Among, fault_view}
 use Rattle.protobuf_parse_model.specs.declared.descriptor.FileDescriptorProto.{FileDescriptorProto}
+use Rattle.protobuf_parse_elaboration.specs.FileDescriptor.{environment, file_of}
+use Rattle.protobuf_parse_elaboration.specs.FilesByPath.{AreDistinct, AreJust, trees_at}
 use Rattle.protobuf_parse_options.specs.CustomFaults.{elaboration_faults}
 use Rattle.protobuf_parse_options.specs.DescriptorsByPath.{Environments, described_at}
 use Rattle.protobuf_parse_options.specs.OptionBytes.{known_customs}

@@ -4,10 +4,10 @@ use Rattle.protobuf_parse_syntax.specs.Trees.{FileSyntax}
 use Rattle.protobuf_parse_model.specs.Descriptors as described
 use Rattle.protobuf_parse_model.specs.Descriptors.{Text, FileDescriptor}
 use Rattle.protobuf_parse_model.specs.Faults.{Among, Fault}
-use Rattle.protobuf_parse_model.specs.FileDescriptor.{file_of}
-use Rattle.protobuf_parse_model.specs.FilesByPath.{trees_at}
 use Rattle.protobuf_parse_model.specs.Linking.{link_faults}
 use Rattle.protobuf_parse_model.specs.declared.descriptor.FileDescriptorProto.{FileDescriptorProto}
+use Rattle.protobuf_parse_elaboration.specs.FileDescriptor.{file_of}
+use Rattle.protobuf_parse_elaboration.specs.FilesByPath.{trees_at}
 use Rattle.protobuf_parse_run.specs.declared.log.ReadEntry.{ReadEntry}
 use Rattle.protobuf_parse_run.specs.Walks.{Input, Trees, Reaches, among, elab_paths, events}
 use Rattle.protobuf_parse_run.specs.Run.{Files, AreDescriptors, FilesAreListed, HasTrees, HaveLists}

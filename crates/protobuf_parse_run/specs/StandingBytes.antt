@@ -28,9 +28,9 @@ use Rattle.protobuf_parse_model.specs.Descriptors.{no_messages, messages, Method
 use Rattle.protobuf_parse_model.specs.Descriptors.{ServiceDescriptor, FileDescriptor}
 use Rattle.protobuf_parse_model.specs.Faults.{Among}
 use Rattle.protobuf_parse_model.specs.Environment.{Customs}
-use Rattle.protobuf_parse_model.specs.FileDescriptor.{environment, file_of}
-use Rattle.protobuf_parse_model.specs.OptionSets.{OptionSet, option_sets}
-use Rattle.protobuf_parse_model.specs.CustomSets.{bytes_of_set}
+use Rattle.protobuf_parse_elaboration.specs.FileDescriptor.{environment, file_of}
+use Rattle.protobuf_parse_elaboration.specs.OptionSets.{OptionSet, option_sets}
+use Rattle.protobuf_parse_elaboration.specs.CustomSets.{bytes_of_set}
 
 -- ---- what the options messages of a descriptor hold
 

@@ -7,8 +7,8 @@ use Rattle.protobuf_parse_syntax.specs.Trees.{FileSyntax}
 use Rattle.protobuf_parse_model.specs.Descriptors.{Text}
 use Rattle.protobuf_parse_model.specs.Declarations.{file_generated}
 use Rattle.protobuf_parse_model.specs.Faults.{Among}
-use Rattle.protobuf_parse_model.specs.FileDescriptor.{file_of}
-use Rattle.protobuf_parse_model.specs.NamedTypes.{names_declared, type_names_in}
+use Rattle.protobuf_parse_elaboration.specs.FileDescriptor.{file_of}
+use Rattle.protobuf_parse_elaboration.specs.NamedTypes.{names_declared, type_names_in}
 use Rattle.protobuf_parse_run.specs.Walks.{Input, Trees, Reaches}
 use Rattle.protobuf_parse_run.specs.Run.{Files, environment_of}
 use Rattle.protobuf_parse_run.specs.Stability.{IsClean, IsFileOfRun, WereRead}

@@ -6,7 +6,7 @@ use Rattle.std.specs.Prelude.{bytes_eq}
 use Rattle.std.specs.List.{list_any}
 use Rattle.protobuf_parse_syntax.specs.Trees.{FileSyntax, ImportSyntax, StatementSyntax}
 use Rattle.protobuf_parse_model.specs.Descriptors.{Text}
-pub use Rattle.protobuf_parse_model.specs.FilesByPath.{Trees, among, Leads}
+pub use Rattle.protobuf_parse_elaboration.specs.FilesByPath.{Trees, among, Leads}
 use Rattle.protobuf_parse_syntax.specs.Dependencies.{imported, imports, is_public}
 
 -- an input: found by the resolver, or a file at a path of its own

@@ -6,9 +6,9 @@ ghost use Rattle.protobuf_parse_syntax.specs.Counts.{statements_in};
 ghost use Rattle.protobuf_parse_syntax.specs.Trees.{FileSyntax, file_syntax};
 ghost use Rattle.protobuf_parse_model.specs.Descriptors as described;
 ghost use Rattle.protobuf_parse_model.specs.Faults.{Elaborates};
-ghost use Rattle.protobuf_parse_model.specs.FileDescriptor.{environment, file_faults, file_of};
 ghost use Rattle.protobuf_parse_model.specs.Linking.{link_faults};
 ghost use Rattle.protobuf_parse_model.specs.Tables.{TableTells, picked};
+ghost use Rattle.protobuf_parse_elaboration.specs.FileDescriptor.{environment, file_faults, file_of};
 ghost use Rattle.protobuf_parse_options.specs.Holding.{Holds};
 ghost use Rattle.protobuf_parse_run.specs.Loading.{IndexBegins, Describes, customs_over, plain_in};
 ghost use Rattle.protobuf_parse_run.specs.Loading.{plain_or};
@@ -17,8 +17,9 @@ ghost use Rattle.protobuf_parse_run.specs.Loading.{plain_seen, plains_with};
 use crate::loaded::LoadedFiles;
 use crate::reach::Sights;
 use crate::tables::{RunPlaces, Tables, add_next, plain_of};
+use protobuf_parse_elaboration::elaborate;
 use protobuf_parse_model::{
-    ElabFailure, FileDescriptorProto, NoExtensions, Seen, WithoutCustoms, elaborate, link,
+    ElabFailure, FileDescriptorProto, NoExtensions, Seen, WithoutCustoms, link,
 };
 use protobuf_parse_options::{DeclaredPlaces, KnownFiles, PickedFiles};
 use protobuf_parse_syntax::FileTree;

@@ -47,7 +47,7 @@ pub fn runs_are_stable()
 /// A file reaches each file that it sees. So in an accepted run each name of a type in the
 /// descriptor of a file is the full name of a message or an enum that a file declares which it
 /// reaches, or of a message behind one of its own maps and groups
-/// ([`types_are_declared`](protobuf_parse_model::types_are_declared) says so of the files that it
+/// ([`types_are_declared`](protobuf_parse_elaboration::types_are_declared) says so of the files that it
 /// sees).
 pub fn seen_files_are_reached()
     ensures reached { SeenAreReached }
@@ -63,7 +63,7 @@ pub fn seen_files_are_reached()
 /// same bytes by both (`told`). So what `run_inputs` says of these bytes it says of bytes that it
 /// hands out; which of several options messages of one kind holds them, the definition of what a
 /// file becomes says. That a descriptor depends on no other bytes of custom options is the law
-/// [`custom_options_are_of_sets`](protobuf_parse_model::custom_options_are_of_sets).
+/// [`custom_options_are_of_sets`](protobuf_parse_elaboration::custom_options_are_of_sets).
 pub fn custom_bytes_stand()
     ensures stand { OptionsStand }
     ensures others { NoOthersStand }

@@ -12,7 +12,7 @@ ghost use Rattle.protobuf_parse_model.specs.Tables.{Adds, AddsOne, extension_ent
 
 use super::declare::add_name;
 use super::seen::{Declaration, DeclarationKind, Declarations};
-use crate::convert::field::group_field_name;
+use crate::made_names::group_field_name;
 use protobuf_parse_syntax::{Extend, FieldStatement, FileStatement, Message, MessageStatement};
 use std::alloc::{AllocError, Global};
 

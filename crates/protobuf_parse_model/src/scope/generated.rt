@@ -14,7 +14,7 @@ ghost use Rattle.protobuf_parse_model.specs.Tables.{Adds, generated_entry};
 
 use super::declare::add_name;
 use super::seen::{Declaration, DeclarationKind, Declarations};
-use crate::convert::types::entry_name;
+use crate::made_names::entry_name;
 use protobuf_parse_syntax::{
     Extend, Field, FieldStatement, FileStatement, Message, MessageStatement, OneOf, OneOfStatement,
     Type,

@@ -3,7 +3,7 @@ use Rattle.protobuf_parse_base.specs.Names.{fronts}
 use Rattle.protobuf_parse_model.specs.Declarations.{full_name}
 use Rattle.protobuf_parse_model.specs.Environment.{type_named}
 use Rattle.protobuf_parse_model.specs.Lookup.{declared_in_first}
-use Rattle.protobuf_parse_model.specs.Contexts.{names_of_context}
+use Rattle.protobuf_parse_model.specs.SeenFiles.{names_of_context}
 use Rattle.protobuf_parse_model.specs.SeenFiles.{seen_types, name_texts}
 use Rattle.protobuf_parse_model.proofs.scope.type_named.Given as goal
 

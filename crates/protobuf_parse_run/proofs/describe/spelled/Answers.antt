@@ -7,8 +7,8 @@ use Rattle.protobuf_parse_model.specs.Descriptors as described
 use Rattle.protobuf_parse_model.specs.Descriptors.{FileDescriptor}
 use Rattle.protobuf_parse_model.specs.Environment.{Customs}
 use Rattle.protobuf_parse_model.specs.Faults.{Elaborates}
-use Rattle.protobuf_parse_model.specs.FileDescriptor.{environment, file_faults, file_of}
 use Rattle.protobuf_parse_model.specs.Tables.{picked}
+use Rattle.protobuf_parse_elaboration.specs.FileDescriptor.{environment, file_faults, file_of}
 use Rattle.protobuf_parse_options.specs.OptionBytes.{known_customs}
 use Rattle.protobuf_parse_run.specs.Loading.{picked_plains, plain_seen, plains_with}
 use Rattle.protobuf_parse_run.proofs.Catching.{picked-seen}

@@ -1,0 +1,191 @@
+-- A body with one statement more.
+use Rattle.std.proofs.Common.{◌≡◌, ℕ, ◌+◌, ◌≤◌, Bool, true, false, cond, List, [], ◌∷◌, ◌++◌}
+use Rattle.std.proofs.Common.{flat_map, length, length-append, map, Result, refl, sym, ◌∙◌, ap}
+use Rattle.std.proofs.Common.{arith}
+use Rattle.std.proofs.lemmas.Grind.{flat_map-append}
+use Rattle.std.proofs.lemmas.List.{append-nil, length-map}
+use Rattle.protobuf_parse_syntax.specs.Trees.{ExtendSyntax, file_extend, FieldStatementSyntax}
+use Rattle.protobuf_parse_syntax.specs.Trees.{field, group, OneofSyntax, MessageStatementSyntax}
+use Rattle.protobuf_parse_syntax.specs.Trees.{message_reserved, message_oneof, message_extend}
+use Rattle.protobuf_parse_syntax.specs.Trees.{message_message, message_enum, message_extensions}
+use Rattle.protobuf_parse_syntax.specs.Trees.{message_option, message_field, MessageSyntax}
+use Rattle.protobuf_parse_syntax.specs.Trees.{nested_message}
+use Rattle.protobuf_parse_model.specs.Descriptors.{OneofDescriptor, enum_view, field_view}
+use Rattle.protobuf_parse_model.specs.Descriptors.{message_view, oneof_view, service_view}
+use Rattle.protobuf_parse_model.specs.Environment.{Environment}
+use Rattle.protobuf_parse_model.specs.Faults.{Elaborates, Fault}
+use Rattle.protobuf_parse_model.specs.Statements.{field_statement_name, oneof_fields}
+use Rattle.protobuf_parse_model.specs.declared.error.ElabFailure.{ElabFailure}
+use Rattle.protobuf_parse_elaboration.specs.Contexts.{BodyParts, FieldAndMessage, FieldsAndMessages}
+use Rattle.protobuf_parse_elaboration.specs.Contexts.{body_of, body_view, field_declared_by}
+use Rattle.protobuf_parse_elaboration.specs.Contexts.{fields_declared}
+use Rattle.protobuf_parse_elaboration.specs.Contexts.{with_message, with_body_statement}
+use Rattle.protobuf_parse_elaboration.specs.Fields.{FieldPlace, field_statement_of}
+use Rattle.protobuf_parse_elaboration.specs.Messages.{enums_of, extending, extended_of, fields_of}
+use Rattle.protobuf_parse_elaboration.specs.Messages.{has_own_oneof, at_oneof, message_of, nested_of}
+use Rattle.protobuf_parse_elaboration.specs.Messages.{oneof_of, oneofs_of, own_oneof, own_oneof_of}
+use Rattle.protobuf_parse_elaboration.specs.FileParts.{parts_view, with_file_statement}
+use Rattle.protobuf_parse_elaboration.specs.declared.convert.body.Body.{Body}
+use Rattle.protobuf_parse_elaboration.specs.declared.convert.contents.Contents.{Contents}
+use Rattle.protobuf_parse_elaboration.proofs.Levels.{fields_from-append, nested_of_message}
+
+name_is : (env : Environment) (place : FieldPlace) (s : FieldStatementSyntax)
+    → (field_statement_of env place s).name ≡ field_statement_name s
+name_is env place (field f) = refl
+name_is env place (group at label name number fields) = refl
+
+module _ (env : Environment) (old new : Body) (index : ℕ) (one : OneofDescriptor)
+    (same : index ≡ length old.oneof_decl.items)
+    (oneofs : map oneof_view new.oneof_decl.items ≡ map oneof_view old.oneof_decl.items ++ one ∷ [])
+    (enums : map enum_view new.enum_type.items ≡ map enum_view old.enum_type.items)
+    (extensions : map field_view new.extension.items ≡ map field_view old.extension.items) where
+  place_is : index ≡ length (map oneof_view old.oneof_decl.items)
+  place_is = same ∙ sym (length-map old.oneof_decl.items oneof_view)
+
+  pub with_oneof : (o : OneofSyntax) (d : FieldsAndMessages)
+      → d ≡ fields_declared env (at_oneof index) (flat_map oneof_fields o.body)
+      → one ≡ oneof_of env o → map field_view new.field.items ≡ map field_view old.field.items
+      ++ d.fields → map message_view new.nested_type.items ≡ map message_view old.nested_type.items
+      ++ d.behind → body_view new ≡ with_body_statement env (body_view old) (message_oneof o)
+  with_oneof o d is one_is fields nested =
+      rw (
+        fields,
+        nested,
+        oneofs,
+        enums,
+        extensions,
+        is,
+        one_is,
+        place_is,
+        append-nil (map enum_view old.enum_type.items),
+        append-nil (map field_view old.extension.items),
+      ) refl
+
+  pub with_own : (s : FieldStatementSyntax) (d : FieldAndMessage) → has_own_oneof env s ≡ true
+      → d ≡ field_declared_by env (at_oneof index) s → one ≡ own_oneof_of d.field.name
+      → map field_view new.field.items ≡ map field_view old.field.items ++ d.field ∷ []
+      → map message_view new.nested_type.items ≡ map message_view old.nested_type.items ++ d.behind
+      → body_view new ≡ with_body_statement env (body_view old) (message_field s)
+  with_own s d own is one_is fields nested =
+      rw (
+        fields,
+        nested,
+        oneofs,
+        enums,
+        extensions,
+        one_is,
+        is,
+        name_is env (at_oneof index) s,
+        own,
+        place_is,
+        append-nil (map enum_view old.enum_type.items),
+        append-nil (map field_view old.extension.items),
+      ) refl
+
+pub with_extend : (env : Environment) (old new : Body) (e : ExtendSyntax) (d : FieldsAndMessages)
+    → d ≡ fields_declared env (extending env e.extendee) e.fields
+    → map field_view new.extension.items ≡ map field_view old.extension.items ++ d.fields
+    → map message_view new.nested_type.items ≡ map message_view old.nested_type.items ++ d.behind
+    → map field_view new.field.items ≡ map field_view old.field.items
+    → map oneof_view new.oneof_decl.items ≡ map oneof_view old.oneof_decl.items
+    → map enum_view new.enum_type.items ≡ map enum_view old.enum_type.items
+    → body_view new ≡ with_body_statement env (body_view old) (message_extend e)
+with_extend env old new e d is extensions nested fields oneofs enums =
+    rw (
+      extensions,
+      nested,
+      fields,
+      oneofs,
+      enums,
+      is,
+      append-nil (map field_view old.field.items),
+      append-nil (map oneof_view old.oneof_decl.items),
+      append-nil (map enum_view old.enum_type.items),
+    ) refl
+
+-- the same of what a file declares
+pub file_with_extend : (env : Environment) (old new : Contents) (e : ExtendSyntax)
+    (d : FieldsAndMessages) → d ≡ fields_declared env (extending env e.extendee) e.fields
+    → map field_view new.extension.items ≡ map field_view old.extension.items ++ d.fields
+    → map message_view new.message_type.items ≡ map message_view old.message_type.items ++ d.behind
+    → map enum_view new.enum_type.items ≡ map enum_view old.enum_type.items
+    → map service_view new.service.items ≡ map service_view old.service.items
+    → parts_view new ≡ with_file_statement env (parts_view old) (file_extend e)
+file_with_extend env old new e d is extensions messages enums services =
+    rw (
+      extensions,
+      messages,
+      enums,
+      services,
+      is,
+      append-nil (map enum_view old.enum_type.items),
+      append-nil (map service_view old.service.items),
+    ) refl
+
+-- ---- a body, statement by statement
+
+pub body_more : (env : Environment) (ss : List MessageStatementSyntax) (s : MessageStatementSyntax)
+    → with_body_statement env (body_of env ss) s ≡ body_of env (ss ++ s ∷ [])
+body_more env ss s =
+    let n = length (flat_map (oneofs_of env) ss) in
+    let same : 0 + n ≡ n = omega arith in
+    rw (
+      fields_from-append env 0 ss (s ∷ []),
+      same,
+      flat_map-append (oneofs_of env) ss (s ∷ []),
+      flat_map-append (nested_of env) ss (s ∷ []),
+      flat_map-append (enums_of env) ss (s ∷ []),
+      flat_map-append (extended_of env) ss (s ∷ []),
+      append-nil (fields_of env n s),
+      append-nil (oneofs_of env s),
+      append-nil (nested_of env s),
+      append-nil (enums_of env s),
+      append-nil (extended_of env s),
+    ) refl
+
+-- no statement has more than one oneof
+pub few_more : (env : Environment) (old new : Body) (s : MessageStatementSyntax) (n : ℕ)
+    → body_view new ≡ with_body_statement env (body_view old) s → length old.oneof_decl.items ≤ n
+    → length new.oneof_decl.items ≤ n + 1
+few_more env old new s n is few =
+    let a = length-map new.oneof_decl.items oneof_view in
+    let b = length-map old.oneof_decl.items oneof_view in
+    let c = ap (λ (p : BodyParts). length p.oneof_decl) is in
+    let d = length-append (map oneof_view old.oneof_decl.items) (oneofs_of env s) in
+    let e = at_most s in
+    omega (arith, a, b, c, d, e, few)
+  where
+    own : (b : Bool) (o : OneofDescriptor) → length (cond b (o ∷ []) []) ≤ 1
+    own true o = omega arith
+    own false o = omega arith
+
+    at_most : (s : MessageStatementSyntax) → length (oneofs_of env s) ≤ 1
+    at_most (message_oneof o) = omega arith
+    at_most (message_field f) = own (has_own_oneof env f) (own_oneof f)
+    at_most (message_reserved r) = omega arith
+    at_most (message_extend e) = omega arith
+    at_most (message_message at name body) = omega arith
+    at_most (message_enum e) = omega arith
+    at_most (message_extensions e) = omega arith
+    at_most (message_option o) = omega arith
+
+-- a message inside is a statement
+pub with_nested : (env : Environment) (b : BodyParts) (m : MessageSyntax)
+    → with_message b (message_of env m) ≡ with_body_statement env b (nested_message m)
+with_nested env b m =
+    rw (
+      nested_of_message env m,
+      append-nil b.field,
+      append-nil b.oneof_decl,
+      append-nil b.enum_type,
+      append-nil b.extension,
+    ) refl
+
+-- a message whose statements are right
+pub whole : {X Y : Type 0} (view : X → Y) (r : Result X ElabFailure)
+    (middle statements : List Fault) (value : Y) → statements ≡ [] → Elaborates view r middle value
+    → Elaborates view r (middle ++ statements) value
+whole view r middle statements value s h = rw (s, append-nil middle) h
+
+pub nil-both : (xs ys : List Fault) → xs ≡ [] → ys ≡ [] → xs ++ (ys ++ []) ≡ []
+nil-both xs ys p q = rw (p, q) refl

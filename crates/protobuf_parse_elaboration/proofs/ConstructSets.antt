@@ -1,0 +1,145 @@
+-- What custom options add to the faults of fields, oneofs, extensions, enums and services.
+use Rattle.std.proofs.Common.{List, [], ◌∷◌, ◌++◌, map, flat_map, ap}
+use Rattle.protobuf_parse_syntax.specs.Trees.{FieldSyntax, FieldStatementSyntax, field, group}
+use Rattle.protobuf_parse_syntax.specs.Trees.{OneofSyntax, ExtendSyntax, EnumValueSyntax}
+use Rattle.protobuf_parse_syntax.specs.Trees.{EnumSyntax, MethodSyntax, ServiceSyntax}
+use Rattle.protobuf_parse_model.specs.declared.customs.Construct.TheVariants as of
+use Rattle.protobuf_parse_model.specs.Duplicates.{fault, duplicates}
+use Rattle.protobuf_parse_model.specs.declared.error.ElabErrorKind.TheVariants.{DanglingTypeName}
+use Rattle.protobuf_parse_model.specs.Statements.{group_body, group_field_name, oneof_fields}
+use Rattle.protobuf_parse_model.specs.Environment.{Environment, Customs, no_customs, type_missing}
+use Rattle.protobuf_parse_model.specs.BuiltinOptions.{oneof_table, enum_table, enum_value_table}
+use Rattle.protobuf_parse_model.specs.BuiltinOptions.{service_table, method_table}
+use Rattle.protobuf_parse_elaboration.specs.Fields.{type_of, type_faults, default_faults}
+use Rattle.protobuf_parse_elaboration.specs.Fields.{json_name_faults, field_options_faults, field_faults}
+use Rattle.protobuf_parse_elaboration.specs.Fields.{map_faults, plain, grouped_faults, group_faults}
+use Rattle.protobuf_parse_elaboration.specs.Fields.{field_statement_faults, extension_faults}
+use Rattle.protobuf_parse_elaboration.specs.Enums.{enum_values, options_of_enum, value_faults}
+use Rattle.protobuf_parse_elaboration.specs.Enums.{enum_faults}
+use Rattle.protobuf_parse_elaboration.specs.Services.{methods_in, options_of_method, options_of_service}
+use Rattle.protobuf_parse_elaboration.specs.Services.{method_faults, service_faults}
+use Rattle.protobuf_parse_elaboration.specs.Messages.{options_in_oneof, extension_faults_of}
+use Rattle.protobuf_parse_elaboration.specs.Messages.{extend_faults, oneof_faults}
+use Rattle.protobuf_parse_elaboration.specs.OptionSets.{sets_in_group, field_sets, oneof_sets}
+use Rattle.protobuf_parse_elaboration.specs.OptionSets.{extend_sets, value_set, enum_sets, method_set}
+use Rattle.protobuf_parse_elaboration.specs.OptionSets.{service_sets}
+use Rattle.protobuf_parse_elaboration.proofs.SameNames.{with_customs, fields-names}
+use Rattle.protobuf_parse_elaboration.proofs.AddedFaults.{bare, Adds, adds-none, adds-nothing, adds-own}
+use Rattle.protobuf_parse_elaboration.proofs.AddedFaults.{adds-both, adds-turned, adds-flat, adds-each}
+use Rattle.protobuf_parse_elaboration.proofs.AddedFaults.{adds-options}
+
+module _ (customs : Customs) where
+  -- ---- fields
+
+  -- a field
+  field-adds : (env : Environment) (f : FieldSyntax)
+      → Adds customs (field_faults (with_customs customs env) f) (field_faults (bare env) f)
+      (field_sets env.scope (field f))
+  field-adds env f =
+      let os = f.options in
+      let named = default_faults (type_of env f.name f.type_).kind f.name os
+      ++ json_name_faults os in
+      adds-both customs (adds-nothing customs (type_faults env f.name f.type_))
+      (adds-both customs (adds-nothing customs named)
+      (adds-both customs (adds-nothing customs (field_options_faults os))
+      (adds-own customs of.Field env.scope os)))
+
+  -- one of a group
+  grouped-adds : (env : Environment) (s : FieldStatementSyntax)
+      → Adds customs (grouped_faults (with_customs customs env) s) (grouped_faults (bare env) s)
+      (sets_in_group env.scope s)
+  grouped-adds env (field f) =
+      adds-both customs (adds-nothing customs (map_faults f)) (field-adds env f)
+  grouped-adds env (group at label name number fields) =
+      adds-nothing customs (fault DanglingTypeName (group_field_name name))
+
+  -- those of a group
+  group-adds : (env : Environment) (ss : List FieldStatementSyntax)
+      → Adds customs (group_faults (with_customs customs env) ss) (group_faults (bare env) ss)
+      (flat_map (sets_in_group env.scope) ss)
+  group-adds env ss =
+      adds-both customs
+      (adds-none customs (ap duplicates (fields-names customs no_customs env plain plain ss)))
+      (adds-flat customs (grouped_faults (with_customs customs env)) (grouped_faults (bare env))
+      (sets_in_group env.scope) ss (grouped-adds env))
+
+  -- a field or a group in a message
+  pub field-statement-adds : (env : Environment) (s : FieldStatementSyntax)
+      → Adds customs (field_statement_faults (with_customs customs env) s)
+      (field_statement_faults (bare env) s) (field_sets env.scope s)
+  field-statement-adds env (field f) = field-adds env f
+  field-statement-adds env (group at label name number fields) = group-adds env (group_body fields)
+
+  -- one in an `extend`
+  extension-adds : (env : Environment) (s : FieldStatementSyntax)
+      → Adds customs (extension_faults (with_customs customs env) s) (extension_faults (bare env) s)
+      (field_sets env.scope s)
+  extension-adds env (field f) =
+      adds-both customs (adds-nothing customs (map_faults f)) (field-adds env f)
+  extension-adds env (group at label name number fields) = group-adds env (group_body fields)
+
+  -- ---- oneofs and extensions
+
+  -- a oneof, whose own options come first among its sets
+  pub oneof-adds : (env : Environment) (o : OneofSyntax)
+      → Adds customs (oneof_faults (with_customs customs env) o) (oneof_faults (bare env) o)
+      (oneof_sets env.scope o)
+  oneof-adds env o =
+      adds-turned customs
+      (adds-flat customs (field_statement_faults (with_customs customs env))
+      (field_statement_faults (bare env)) (field_sets env.scope) (flat_map oneof_fields o.body)
+      (field-statement-adds env))
+      (adds-options customs env of.Oneof oneof_table (options_in_oneof o))
+
+  -- an `extend`
+  pub extend-adds : (env : Environment) (e : ExtendSyntax)
+      → Adds customs (extend_faults (with_customs customs env) e) (extend_faults (bare env) e)
+      (extend_sets env.scope e)
+  extend-adds env e =
+      adds-flat customs (extension_faults_of (with_customs customs env) e.extendee)
+      (extension_faults_of (bare env) e.extendee) (field_sets env.scope) e.fields
+      (λ (s : FieldStatementSyntax). adds-both customs
+      (adds-nothing customs (type_missing env e.extendee)) (extension-adds env s))
+
+  -- ---- enums and services
+
+  -- a value
+  value-adds : (env : Environment) (v : EnumValueSyntax)
+      → Adds customs (value_faults (with_customs customs env) v) (value_faults (bare env) v)
+      (value_set env.scope v ∷ [])
+  value-adds env v = adds-options customs env of.EnumValue enum_value_table v.options
+
+  -- an enum
+  pub enum-adds : (env : Environment) (e : EnumSyntax)
+      → Adds customs (enum_faults (with_customs customs env) e) (enum_faults (bare env) e)
+      (enum_sets env.scope e)
+  enum-adds env e =
+      let values = flat_map enum_values e.body in
+      adds-turned customs
+      (adds-both customs
+      (adds-nothing customs (duplicates (map (λ (v : EnumValueSyntax). v.name) values)))
+      (adds-each customs (value_faults (with_customs customs env)) (value_faults (bare env))
+      (value_set env.scope) values (value-adds env)))
+      (adds-options customs env of.Enum enum_table (options_of_enum e))
+
+  -- a method
+  method-adds : (env : Environment) (m : MethodSyntax)
+      → Adds customs (method_faults (with_customs customs env) m) (method_faults (bare env) m)
+      (method_set env.scope m ∷ [])
+  method-adds env m =
+      adds-both customs
+      (adds-nothing customs (type_missing env m.input ++ type_missing env m.output))
+      (adds-options customs env of.Method method_table (options_of_method m))
+
+  -- a service
+  pub service-adds : (env : Environment) (s : ServiceSyntax)
+      → Adds customs (service_faults (with_customs customs env) s) (service_faults (bare env) s)
+      (service_sets env.scope s)
+  service-adds env s =
+      let methods = flat_map methods_in s.body in
+      adds-turned customs
+      (adds-both customs
+      (adds-nothing customs (duplicates (map (λ (m : MethodSyntax). m.name) methods)))
+      (adds-each customs (method_faults (with_customs customs env)) (method_faults (bare env))
+      (method_set env.scope) methods (method-adds env)))
+      (adds-options customs env of.Service service_table (options_of_service s))

@@ -1,0 +1,153 @@
+-- The laws of a file's custom options, by its sets of options.
+use Rattle.std.proofs.Common.{◌≡◌, inl, inr, List, [], ◌∷◌, flat_map, refl, ap, subst}
+use Rattle.protobuf_parse_syntax.specs.Trees.{OptionNameSyntax, builtin, custom, StatementSyntax}
+use Rattle.protobuf_parse_syntax.specs.Trees.{file_message, file_enum, file_extend, file_service}
+use Rattle.protobuf_parse_syntax.specs.Trees.{FileSyntax}
+use Rattle.protobuf_parse_model.specs.declared.customs.Construct.TheVariants as of
+use Rattle.protobuf_parse_model.specs.Descriptors.{Text}
+use Rattle.protobuf_parse_model.specs.Faults.{Among, here, there}
+use Rattle.protobuf_parse_model.specs.Duplicates.{duplicates}
+use Rattle.protobuf_parse_model.specs.Environment.{Environment, Customs, no_customs, no_extensions}
+use Rattle.protobuf_parse_model.specs.Environment.{unknown_name, unknown_option}
+use Rattle.protobuf_parse_model.specs.BuiltinOptions.{file_table}
+use Rattle.protobuf_parse_model.proofs.Blaming.{among_left, among_right}
+use Rattle.protobuf_parse_elaboration.specs.Messages.{message_name}
+use Rattle.protobuf_parse_elaboration.specs.FileDescriptor as files
+use Rattle.protobuf_parse_elaboration.specs.FileDescriptor.{options_of_statements, environment}
+use Rattle.protobuf_parse_elaboration.specs.FileDescriptor.{file_messages_of, services_of}
+use Rattle.protobuf_parse_elaboration.specs.FileDescriptor.{file_faults_of}
+use Rattle.protobuf_parse_elaboration.specs.FileDescriptor.{file_duplicates, file_faults}
+use Rattle.protobuf_parse_elaboration.specs.OptionSets.{OptionSet, statement_sets, option_sets}
+use Rattle.protobuf_parse_elaboration.specs.CustomSets.{faults_of_set, faults_of_sets, FaultsAreOfSets}
+use Rattle.protobuf_parse_elaboration.specs.CustomSets.{NoneIsNoneInSets, OptionsAreBuiltin}
+use Rattle.protobuf_parse_elaboration.proofs.SameNames.{with_customs, flat-named, messages-names}
+use Rattle.protobuf_parse_elaboration.proofs.SameNames.{file-enums-names, file-extensions-names}
+use Rattle.protobuf_parse_elaboration.proofs.SameNames.{services-names}
+use Rattle.protobuf_parse_elaboration.proofs.AddedFaults.{bare, Adds, adds-none, adds-nothing, adds-both}
+use Rattle.protobuf_parse_elaboration.proofs.AddedFaults.{adds-flat, adds-options}
+use Rattle.protobuf_parse_elaboration.proofs.ConstructSets.{extend-adds, enum-adds, service-adds}
+use Rattle.protobuf_parse_elaboration.proofs.MessageSets.{message-adds}
+
+-- ---- what custom options add to the faults of a file
+
+module _ (customs : Customs) where
+  -- a statement of a file
+  statement-adds : (env : Environment) (s : StatementSyntax)
+      → Adds customs (file_faults_of (with_customs customs env) s) (file_faults_of (bare env) s)
+      (statement_sets env.scope s)
+  statement-adds env (file_message m) = message-adds customs env m
+  statement-adds env (file_enum e) = enum-adds customs env e
+  statement-adds env (file_extend e) = extend-adds customs env e
+  statement-adds env (file_service s) = service-adds customs env s
+  statement-adds env _ = adds-nothing customs []
+
+  -- the names that stand twice in a file
+  duplicates-add : (env : Environment) (t : FileSyntax)
+      → Adds customs (file_duplicates (with_customs customs env) t) (file_duplicates (bare env) t)
+      []
+  duplicates-add env t =
+      adds-both customs
+      (adds-both customs
+      (adds-both customs
+      (adds-none customs
+      (ap duplicates
+      (flat-named message_name (file_messages_of (with_customs customs env))
+      (file_messages_of (bare env)) t.statements (messages-names customs no_customs env))))
+      (adds-none customs
+      (ap duplicates
+      (flat-named (λ e. e.name) (files.file_enums_of (with_customs customs env))
+      (files.file_enums_of (bare env)) t.statements (file-enums-names customs no_customs env)))))
+      (adds-none customs
+      (ap duplicates
+      (flat-named (λ f. f.name) (files.file_extensions_of (with_customs customs env))
+      (files.file_extensions_of (bare env)) t.statements
+      (file-extensions-names customs no_customs env)))))
+      (adds-none customs
+      (ap duplicates
+      (flat-named (λ s. s.name) (services_of (with_customs customs env))
+      (services_of (bare env)) t.statements (services-names customs no_customs env))))
+
+  -- a file
+  file-adds : (seen : List FileSyntax) (t : FileSyntax)
+      → Adds customs (file_faults (environment seen customs t) t)
+      (file_faults (environment seen no_customs t) t) (option_sets t)
+  file-adds seen t =
+      let env = environment seen customs t in
+      adds-both customs
+      (adds-both customs (duplicates-add env t)
+      (adds-options customs env of.File file_table (options_of_statements t.statements)))
+      (adds-flat customs (file_faults_of (with_customs customs env)) (file_faults_of (bare env))
+      (statement_sets env.scope) t.statements (statement-adds env))
+
+-- ---- the laws
+
+-- just the faults of a file are those besides custom options and those of its sets
+pub faults_are_of_sets : FaultsAreOfSets
+faults_are_of_sets seen customs t f =
+    let a = file-adds customs seen t in
+    (a.told f, λ h. elim h [ inl k ↦ a.stays f k | inr k ↦ a.added f k ])
+
+-- where nothing stands the list is empty
+none_in : {A : Type 0} (xs : List A) → ((x : A) → Among xs x → ⊥) → xs ≡ []
+none_in [] h = refl
+none_in (x ∷ xs) h = absurd (h x here)
+
+-- in an empty list nothing stands
+in_none : {A : Type 0} {x : A} {xs : List A} → xs ≡ [] → Among xs x → ⊥
+in_none {A} {x} e h = elim (subst (λ (ys : List A). Among ys x) e h) [ ]
+
+-- where each element becomes nothing, all do
+none_of_each : {A B : Type 0} (f : A → List B) (xs : List A) → ((x : A) → Among xs x → f x ≡ [])
+    → flat_map f xs ≡ []
+none_of_each f [] h = refl
+none_of_each f (x ∷ xs) h = rw (h x here, none_of_each f xs (λ y k. h y (there k))) refl
+
+-- where all become nothing, each does
+each_of_none : {A B : Type 0} (f : A → List B) {xs : List A} {x : A} → flat_map f xs ≡ []
+    → Among xs x → f x ≡ []
+each_of_none {A} {B} f {xs} {x} e h = none_in (f x) (λ y k. in_none e (among_all h k))
+  where
+    among_all : {zs : List A} {z : A} {y : B} → Among zs z → Among (f z) y → Among (flat_map f zs) y
+    among_all here k = among_left _ k
+    among_all (there h) k = among_right _ (among_all h k)
+
+-- a file without faults has none in its sets
+pub none_of_sets : (seen : List FileSyntax) (customs : Customs) (t : FileSyntax)
+    → file_faults (environment seen customs t) t ≡ [] → faults_of_sets customs t ≡ []
+none_of_sets seen customs t none =
+    none_in (faults_of_sets customs t) (λ f h. in_none none ((file-adds customs seen t).added f h))
+
+-- a file has no faults just where it has none besides custom options, and none in a set
+pub none_is_none_in_sets : NoneIsNoneInSets
+none_is_none_in_sets seen customs t = (forth, back)
+  where
+    forth : file_faults (environment seen customs t) t ≡ []
+        → (file_faults (environment seen no_customs t) t ≡ [])
+        × ((s : OptionSet) → Among (option_sets t) s → faults_of_set customs s ≡ [])
+    forth none = (
+      none_in (file_faults (environment seen no_customs t) t)
+          (λ f h. in_none none ((file-adds customs seen t).stays f h)),
+      λ s h. each_of_none (faults_of_set customs) (none_of_sets seen customs t none) h,
+    )
+
+    back : (file_faults (environment seen no_customs t) t ≡ [])
+        × ((s : OptionSet) → Among (option_sets t) s → faults_of_set customs s ≡ [])
+        → file_faults (environment seen customs t) t ≡ []
+    back none =
+        let sets : faults_of_sets customs t
+        ≡ [] = none_of_each (faults_of_set customs) (option_sets t) none.1 in
+        none_in (file_faults (environment seen customs t) t)
+        (λ f h. elim ((file-adds customs seen t).told f h)
+        [ inl k ↦ in_none none.0 k | inr k ↦ in_none sets k ])
+
+-- a name that isn't unknown is built in
+builtin_from : (n : OptionNameSyntax) → unknown_name n ≡ [] → (name : Text) × (n ≡ builtin name)
+builtin_from (builtin name) h = (name, refl)
+builtin_from (custom parts) h = absurd cc
+
+-- so is each option's of a file without faults where no extension is known
+pub options_are_builtin : OptionsAreBuiltin
+options_are_builtin seen t s o none h k =
+    let each : flat_map unknown_option s.statements
+    ≡ [] = ((none_is_none_in_sets seen no_extensions t).0 none).1 s h in
+    builtin_from o.name (each_of_none unknown_option each k)

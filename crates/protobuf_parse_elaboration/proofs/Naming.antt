@@ -1,0 +1,72 @@
+-- The names of values are those of what is seen of them.
+use Rattle.std.proofs.Common.{◌≡◌, List, [], ◌∷◌, map, refl, ap, Bor}
+use Rattle.protobuf_parse_syntax.specs.Trees.{EnumValueSyntax, MethodSyntax, method_syntax}
+use Rattle.protobuf_parse_syntax.specs.Trees.{value_syntax}
+use Rattle.protobuf_parse_syntax.specs.declared.tree.declaration.Method.{Method}
+use Rattle.protobuf_parse_syntax.specs.declared.tree.declaration.EnumValue.{EnumValue}
+use Rattle.protobuf_parse_model.specs.declared.descriptor.DescriptorProto.{DescriptorProto}
+use Rattle.protobuf_parse_model.specs.declared.descriptor.EnumDescriptorProto.{EnumDescriptorProto}
+use Rattle.protobuf_parse_model.specs.declared.descriptor.FieldDescriptorProto.{FieldDescriptorProto}
+use Rattle.protobuf_parse_model.specs.declared.descriptor.OneofDescriptorProto.{OneofDescriptorProto}
+use Rattle.protobuf_parse_model.specs.declared.descriptor.ServiceDescriptorProto.{ServiceDescriptorProto}
+use Rattle.protobuf_parse_model.proofs.Blaming.{blames_left, blames_right}
+use Rattle.protobuf_parse_model.specs.Descriptors.{Text, enum_view, field_view, message_view}
+use Rattle.protobuf_parse_model.specs.Descriptors.{oneof_view, service_view}
+use Rattle.protobuf_parse_elaboration.specs.Contexts.{methods_seen, values_seen}
+use Rattle.protobuf_parse_elaboration.specs.Fields.{names_of_fields}
+use Rattle.protobuf_parse_elaboration.specs.FileDescriptor.{names_of_services}
+use Rattle.protobuf_parse_elaboration.specs.Messages.{message_name, names_of_enums, names_of_messages}
+use Rattle.protobuf_parse_elaboration.specs.Messages.{names_of_oneofs}
+
+names_seen : {A B : Type 0} (name : B → Text) (view : A → B) (xs : List A)
+    → map (λ x. name (view x)) xs ≡ map name (map view xs)
+names_seen name view [] = refl
+names_seen name view (x ∷ xs) = ap (λ l. name (view x) ∷ l) (names_seen name view xs)
+
+pub fields_named : (fs : List FieldDescriptorProto)
+    → map (λ (f : FieldDescriptorProto). (field_view f).name) fs
+    ≡ names_of_fields (map field_view fs)
+fields_named fs = names_seen _ field_view fs
+
+pub oneofs_named : (os : List OneofDescriptorProto)
+    → map (λ (o : OneofDescriptorProto). (oneof_view o).name) os
+    ≡ names_of_oneofs (map oneof_view os)
+oneofs_named os = names_seen _ oneof_view os
+
+pub enums_named : (es : List EnumDescriptorProto)
+    → map (λ (e : EnumDescriptorProto). (enum_view e).name) es ≡ names_of_enums (map enum_view es)
+enums_named es = names_seen _ enum_view es
+
+pub messages_named : (ms : List DescriptorProto)
+    → map (λ (m : DescriptorProto). message_name (message_view m)) ms
+    ≡ names_of_messages (map message_view ms)
+messages_named ms = names_seen message_name message_view ms
+
+pub services_named : (ss : List ServiceDescriptorProto)
+    → map (λ (s : ServiceDescriptorProto). (service_view s).name) ss
+    ≡ names_of_services (map service_view ss)
+services_named ss = names_seen _ service_view ss
+
+pub values_named : (vs : List (Bor EnumValue))
+    → map (λ (v : Bor EnumValue). (value_syntax v.now).name) vs
+    ≡ map (λ (v : EnumValueSyntax). v.name) (values_seen vs)
+values_named vs = names_seen (λ (v : EnumValueSyntax). v.name) (λ v. value_syntax v.now) vs
+
+pub methods_named : (ms : List (Bor Method))
+    → map (λ (m : Bor Method). (method_syntax m.now).name) ms
+    ≡ map (λ (m : MethodSyntax). m.name) (methods_seen ms)
+methods_named ms = names_seen (λ (m : MethodSyntax). m.name) (λ m. method_syntax m.now) ms
+
+-- ---- what closes the refusals of what has a name twice
+
+pub ruleset named_in_body =
+    (blames_left, blames_right, fields_named, oneofs_named, enums_named, messages_named)
+
+pub ruleset named_in_file =
+    (blames_left, blames_right, messages_named, enums_named, fields_named, services_named)
+
+pub ruleset named_in_group = (blames_left, blames_right, fields_named)
+
+pub ruleset named_in_enum = (blames_left, blames_right, values_named)
+
+pub ruleset named_in_service = (blames_left, blames_right, methods_named)

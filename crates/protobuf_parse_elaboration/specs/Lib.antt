@@ -1,0 +1,14 @@
+pub mod NameKeys
+pub mod ConstructOptions
+pub mod Fields
+pub mod OptionViews
+pub mod Enums
+pub mod Services
+pub mod Messages
+pub mod Contexts
+pub mod FileDescriptor
+pub mod NamedTypes
+pub mod FilesByPath
+pub mod FileParts
+pub mod OptionSets
+pub mod CustomSets

@@ -1,0 +1,313 @@
+-- What the declaration of a message becomes: a DescriptorProto of google/protobuf/descriptor.proto;
+-- and the faults that stand in it. Where one stands the descriptor may be anything.
+--
+-- Every list is in source order. Behind a map stands the message of its entries, behind a group a
+-- message with the group's fields; they stand among the nested messages where the field stands. In
+-- proto3 each field of the body with the label `optional` is alone in a oneof of its own. Ranges
+-- end behind their last number. Protocol Buffers Language Specification (proto2), "Message
+-- definition", "Reserved", "Extensions", "Oneof and oneof field", "Group field", "Map field",
+-- "Extend"; Protocol Buffers Language Guide, "Maps", "Backwards compatibility", and "Field Presence
+-- in proto3" (https://protobuf.dev).
+use Rattle.std.specs.Prelude.{ℕ, ℤ, pos, ◌+◌, ◌+ℤ◌, Bool, false, List, [], ◌∷◌, ◌++◌, map, flat_map}
+use Rattle.std.specs.Prelude.{length, codes, Option, Some, None, if◌then◌else◌}
+use Rattle.std.specs.Ordering.{int_eq}
+use Rattle.protobuf_parse_syntax.specs.Trees.{OptionSyntax, TypeSyntax, scalar, map_of, named}
+use Rattle.protobuf_parse_syntax.specs.Trees.{FieldStatementSyntax, field, group, RangeSyntax}
+use Rattle.protobuf_parse_syntax.specs.Trees.{ReservedSyntax, OneofSyntax, ExtendSyntax}
+use Rattle.protobuf_parse_syntax.specs.Trees.{MessageStatementSyntax, message_reserved}
+use Rattle.protobuf_parse_syntax.specs.Trees.{message_oneof, message_extend, message_message}
+use Rattle.protobuf_parse_syntax.specs.Trees.{message_enum, message_extensions, message_option}
+use Rattle.protobuf_parse_syntax.specs.Trees.{message_field, MessageStatementList, no_statements}
+use Rattle.protobuf_parse_syntax.specs.Trees.{more_statements, MessageSyntax}
+use Rattle.protobuf_parse_syntax.specs.declared.tree.field.Label.{Label}
+use Rattle.protobuf_parse_syntax.specs.declared.tree.field.Label.TheVariants.{Optional}
+use Rattle.protobuf_parse_model.specs.declared.error.ElabErrorKind.TheVariants.{RangeEndOverflow}
+use Rattle.protobuf_parse_model.specs.Options.{MessageOptionValues}
+use Rattle.protobuf_parse_model.specs.Descriptors.{Text, Range, FieldDescriptor, OneofDescriptor}
+use Rattle.protobuf_parse_model.specs.Descriptors.{EnumDescriptor, MessageDescriptor, a_message}
+use Rattle.protobuf_parse_model.specs.Descriptors.{no_messages, messages_of_list}
+use Rattle.protobuf_parse_model.specs.Faults.{Fault}
+use Rattle.protobuf_parse_model.specs.Statements.{group_body, message_body, entry_name}
+use Rattle.protobuf_parse_model.specs.Statements.{field_statement_name, oneof_fields}
+use Rattle.protobuf_parse_model.specs.Statements as statements
+use Rattle.protobuf_parse_model.specs.Duplicates.{fault_when, duplicates}
+use Rattle.protobuf_parse_model.specs.declared.customs.Construct.TheVariants as of
+use Rattle.protobuf_parse_model.specs.Environment.{Environment, customs_bytes, env_inside}
+use Rattle.protobuf_parse_model.specs.Environment.{type_full_name, type_missing}
+use Rattle.protobuf_parse_model.specs.BuiltinOptions.{message_table, oneof_table}
+use Rattle.protobuf_parse_model.specs.OptionMessages.{message_options, entry_options, oneof_options}
+use Rattle.protobuf_parse_elaboration.specs.ConstructOptions.{construct_faults}
+use Rattle.protobuf_parse_elaboration.specs.Fields.{FieldTypeOf, type_of, says_optional, FieldPlace}
+use Rattle.protobuf_parse_elaboration.specs.Fields.{plain, field_statement_of, names_of_fields}
+use Rattle.protobuf_parse_elaboration.specs.Fields.{fields_of_group, field_statement_faults}
+use Rattle.protobuf_parse_elaboration.specs.Fields.{extension_faults, inner_type_faults}
+use Rattle.protobuf_parse_elaboration.specs.Enums.{enum_of, enum_faults, ranges_reserved, names_reserved}
+
+-- ---- the messages behind maps and groups
+
+-- a message with fields and options alone
+abbrev pub message_with : Text → List FieldDescriptor → Option MessageOptionValues
+    → MessageDescriptor
+message_with name fields options = a_message (record {
+  name = name;
+  field = fields;
+  oneof_decl = [];
+  enum_type = [];
+  extension = [];
+  extension_range = [];
+  reserved_range = [];
+  reserved_name = [];
+  options = options;
+}) no_messages
+
+-- `key` and `value`: the types are those of the map, looked up from where it stands
+abbrev pub entry_field : Text → ℤ → FieldTypeOf → FieldDescriptor
+entry_field name number type_ = record {
+  name = name;
+  number = number;
+  label = Optional;
+  type_ = type_.kind;
+  type_name = type_.name;
+  extendee = None;
+  default_value = None;
+  oneof_index = None;
+  json_name = name;
+  proto3_optional = false;
+  options = None;
+}
+
+abbrev pub entry_message : Text → FieldTypeOf → FieldTypeOf → MessageDescriptor
+entry_message name key value =
+    message_with (entry_name name)
+    (entry_field (codes "key") (pos 1) key ∷ entry_field (codes "value") (pos 2) value ∷ [])
+    entry_options
+
+abbrev pub entry_of : Environment → Text → TypeSyntax → TypeSyntax → MessageDescriptor
+entry_of env name key value = entry_message name (type_of env name key) (type_of env name value)
+
+abbrev pub entries_of : Environment → Text → TypeSyntax → List MessageDescriptor
+entries_of env name (map_of key value) = entry_of env name key value ∷ []
+entries_of env name (scalar s) = []
+entries_of env name (named n) = []
+
+-- what is wrong in the types of that message's fields
+abbrev pub map_entry_faults : Environment → Text → TypeSyntax → List Fault
+map_entry_faults env name (map_of key value) =
+    inner_type_faults env name key ++ inner_type_faults env name value
+map_entry_faults env name (scalar s) = []
+map_entry_faults env name (named n) = []
+
+abbrev pub group_message : Environment → Text → List FieldStatementSyntax → MessageDescriptor
+group_message env name fields = message_with name (fields_of_group env fields) None
+
+-- the message behind a field, if one stands there
+abbrev pub messages_behind : Environment → FieldStatementSyntax → List MessageDescriptor
+messages_behind env (field f) = entries_of env f.name f.type_
+messages_behind env (group at label name number fields) =
+    group_message env name (group_body fields) ∷ []
+
+-- ---- oneofs
+
+-- in proto3 a field with the label `optional` has a oneof of its own, with an underscore before the
+-- field's name
+abbrev pub statement_label : FieldStatementSyntax → Option Label
+statement_label (field f) = f.label
+statement_label (group at label name number fields) = label
+
+abbrev pub has_own_oneof : Environment → FieldStatementSyntax → Bool
+has_own_oneof env f = says_optional env.syntax (statement_label f)
+
+abbrev pub own_oneof_of : Text → OneofDescriptor
+own_oneof_of name = record { name = codes "_" ++ name; options = None }
+
+abbrev pub own_oneof : FieldStatementSyntax → OneofDescriptor
+own_oneof f = own_oneof_of (field_statement_name f)
+
+abbrev pub options_in_oneof : OneofSyntax → List OptionSyntax
+options_in_oneof o = flat_map statements.oneof_statement_options o.body
+
+abbrev pub oneof_of : Environment → OneofSyntax → OneofDescriptor
+oneof_of env o =
+    record {
+      name = o.name;
+      options =
+          oneof_options (customs_bytes env of.Oneof (options_in_oneof o)) (options_in_oneof o);
+    }
+
+abbrev pub oneofs_of : Environment → MessageStatementSyntax → List OneofDescriptor
+oneofs_of env (message_oneof o) = oneof_of env o ∷ []
+oneofs_of env (message_field f) = if has_own_oneof env f then own_oneof f ∷ [] else []
+oneofs_of env _ = []
+
+-- ---- fields
+
+-- in the oneof at that place
+abbrev pub at_oneof : ℕ → FieldPlace
+at_oneof index = record { extendee = None; oneof_index = Some index }
+
+-- the fields of a statement before which so many oneofs stand
+abbrev pub fields_of : Environment → ℕ → MessageStatementSyntax → List FieldDescriptor
+fields_of env index (message_field f) =
+    field_statement_of env (if has_own_oneof env f then at_oneof index else plain) f ∷ []
+fields_of env index (message_oneof o) =
+    map (field_statement_of env (at_oneof index)) (flat_map oneof_fields o.body)
+fields_of env index _ = []
+
+abbrev pub fields_from : Environment → ℕ → List MessageStatementSyntax → List FieldDescriptor
+fields_from env index [] = []
+fields_from env index (s ∷ ss) = fields_of env index s
+    ++ fields_from env (index + length (oneofs_of env s)) ss
+
+-- ---- extensions
+
+abbrev pub extending : Environment → Text → FieldPlace
+extending env extendee = record { extendee = type_full_name env extendee; oneof_index = None }
+
+abbrev pub extend_fields : Environment → ExtendSyntax → List FieldDescriptor
+extend_fields env e = map (field_statement_of env (extending env e.extendee)) e.fields
+
+-- E2 or E3 for an extendee that means nothing
+abbrev pub extension_faults_of : Environment → Text → FieldStatementSyntax → List Fault
+extension_faults_of env extendee f = type_missing env extendee ++ extension_faults env f
+
+abbrev pub extend_faults : Environment → ExtendSyntax → List Fault
+extend_faults env e = flat_map (extension_faults_of env e.extendee) e.fields
+
+abbrev pub extended_of : Environment → MessageStatementSyntax → List FieldDescriptor
+extended_of env (message_extend e) = extend_fields env e
+extended_of env _ = []
+
+-- ---- ranges, names, enums and options
+
+abbrev pub extension_ranges : MessageStatementSyntax → List RangeSyntax
+extension_ranges (message_extensions e) = e.ranges
+extension_ranges _ = []
+
+abbrev pub reserves : MessageStatementSyntax → List ReservedSyntax
+reserves (message_reserved r) = r.reserved ∷ []
+reserves _ = []
+
+-- up to before the number behind the last
+abbrev pub exclusive : RangeSyntax → Range
+exclusive r = record { start = r.from; end = r.to +ℤ pos 1 }
+
+-- E7 for a range whose last number is the largest
+abbrev pub range_faults : Text → RangeSyntax → List Fault
+range_faults name r = fault_when (int_eq r.to (pos 2147483647)) RangeEndOverflow name
+
+abbrev pub enums_of : Environment → MessageStatementSyntax → List EnumDescriptor
+enums_of env (message_enum e) = enum_of env e ∷ []
+enums_of env _ = []
+
+abbrev pub options_in_message : MessageStatementSyntax → List OptionSyntax
+options_in_message (message_option o) = o.option ∷ []
+options_in_message _ = []
+
+abbrev pub options_of_body : List MessageStatementSyntax → List OptionSyntax
+options_of_body body = flat_map options_in_message body
+
+-- ---- messages
+
+-- the message of that name with that body and those messages inside it; its own options are seen
+-- from where it stands
+abbrev pub message_from : Environment → Text → List MessageStatementSyntax → List MessageDescriptor
+    → MessageDescriptor
+message_from env name body nested = a_message (record {
+  name = name;
+  field = fields_from (env_inside env name) 0 body;
+  oneof_decl = flat_map (oneofs_of (env_inside env name)) body;
+  enum_type = flat_map (enums_of (env_inside env name)) body;
+  extension = flat_map (extended_of (env_inside env name)) body;
+  extension_range = map exclusive (flat_map extension_ranges body);
+  reserved_range = map exclusive (flat_map ranges_reserved (flat_map reserves body));
+  reserved_name = flat_map names_reserved (flat_map reserves body);
+  options = message_options (customs_bytes env of.Message (options_of_body body))
+      (options_of_body body);
+}) (messages_of_list nested)
+
+abbrev mutual
+  -- the messages of a statement: those written there, and those behind maps and groups
+  pub nested_of : Environment → MessageStatementSyntax → List MessageDescriptor
+  nested_of env (message_message at name body) =
+      message_from env name (message_body body) (nested_in (env_inside env name) body) ∷ []
+  nested_of env (message_field f) = messages_behind env f
+  nested_of env (message_oneof o) = flat_map (messages_behind env) (flat_map oneof_fields o.body)
+  nested_of env (message_extend e) = flat_map (messages_behind env) e.fields
+  nested_of env _ = []
+
+  pub nested_in : Environment → MessageStatementList → List MessageDescriptor
+  nested_in env no_statements = []
+  nested_in env (more_statements s ss) = nested_of env s ++ nested_in env ss
+
+abbrev pub message_of_body : Environment → Text → List MessageStatementSyntax → MessageDescriptor
+message_of_body env name body =
+    message_from env name body (flat_map (nested_of (env_inside env name)) body)
+
+abbrev pub message_of : Environment → MessageSyntax → MessageDescriptor
+message_of env m = message_of_body env m.name m.body
+
+-- ---- faults
+
+abbrev pub message_name : MessageDescriptor → Text
+message_name (a_message parts nested) = parts.name
+
+abbrev pub names_of_messages : List MessageDescriptor → List Text
+names_of_messages messages = map message_name messages
+
+abbrev pub names_of_oneofs : List OneofDescriptor → List Text
+names_of_oneofs oneofs = map (λ (o : OneofDescriptor). o.name) oneofs
+
+abbrev pub names_of_enums : List EnumDescriptor → List Text
+names_of_enums enums = map (λ (e : EnumDescriptor). e.name) enums
+
+-- E1 for two fields, oneofs, extensions, enums or messages of one body that have one name
+abbrev pub body_duplicates : Environment → List MessageStatementSyntax → List MessageDescriptor
+    → List Fault
+body_duplicates env body nested =
+    duplicates (names_of_fields (fields_from env 0 body))
+    ++ duplicates (names_of_oneofs (flat_map (oneofs_of env) body))
+    ++ duplicates (names_of_fields (flat_map (extended_of env) body))
+    ++ duplicates (names_of_enums (flat_map (enums_of env) body))
+    ++ duplicates (names_of_messages nested)
+
+-- in its ranges and its options
+abbrev pub rest_faults : Environment → Text → List MessageStatementSyntax → List Fault
+rest_faults env name body =
+    flat_map (range_faults name) (flat_map extension_ranges body)
+    ++ flat_map (range_faults name) (flat_map ranges_reserved (flat_map reserves body))
+    ++ construct_faults env of.Message message_table (options_of_body body)
+
+-- of the message of that name, but those that stand in one statement of its body
+abbrev pub whole_faults : Environment → Text → List MessageStatementSyntax → List MessageDescriptor
+    → List Fault
+whole_faults env name body nested =
+    body_duplicates (env_inside env name) body nested ++ rest_faults env name body
+
+abbrev pub oneof_faults : Environment → OneofSyntax → List Fault
+oneof_faults env o =
+    flat_map (field_statement_faults env) (flat_map oneof_fields o.body)
+    ++ construct_faults env of.Oneof oneof_table (options_in_oneof o)
+
+abbrev mutual
+  -- of a statement of a body
+  pub statement_faults : Environment → MessageStatementSyntax → List Fault
+  statement_faults env (message_message at name body) =
+      whole_faults env name (message_body body) (nested_in (env_inside env name) body)
+      ++ faults_in (env_inside env name) body
+  statement_faults env (message_field f) = field_statement_faults env f
+  statement_faults env (message_oneof o) = oneof_faults env o
+  statement_faults env (message_extend e) = extend_faults env e
+  statement_faults env (message_enum e) = enum_faults env e
+  statement_faults env _ = []
+
+  pub faults_in : Environment → MessageStatementList → List Fault
+  faults_in env no_statements = []
+  faults_in env (more_statements s ss) = statement_faults env s ++ faults_in env ss
+
+abbrev pub faults_of_body : Environment → Text → List MessageStatementSyntax → List Fault
+faults_of_body env name body =
+    whole_faults env name body (flat_map (nested_of (env_inside env name)) body)
+    ++ flat_map (statement_faults (env_inside env name)) body
+
+abbrev pub message_faults : Environment → MessageSyntax → List Fault
+message_faults env m = faults_of_body env m.name m.body

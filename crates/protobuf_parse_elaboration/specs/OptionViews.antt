@@ -1,0 +1,38 @@
+-- No public clause rests on this file.
+-- Constants and tables of options as the code holds them.
+use Rattle.std.specs.Prelude.{◌≡◌, ℕ, List, map, Option, option_map, String, string_bytes}
+use Rattle.std.specs.Borrow.{Bor}
+use Rattle.std.specs.Global.{Global}
+use Rattle.protobuf_parse_syntax.specs.Trees.{ConstantSyntax, constant_syntax}
+use Rattle.protobuf_parse_syntax.specs.declared.tree.constant.ProtobufConstant.{ProtobufConstant}
+use Rattle.protobuf_parse_syntax.specs.declared.tree.option.ProtobufOption.{ProtobufOption}
+use Rattle.protobuf_parse_model.specs.BuiltinOptions as spec
+use Rattle.protobuf_parse_model.specs.BuiltinOptions.{options_seen, Words, a_text, a_truth, a_word, Table}
+use Rattle.protobuf_parse_model.specs.Descriptors.{Text}
+use Rattle.protobuf_parse_elaboration.specs.declared.convert.options.tables.BuiltinKind.{BuiltinKind}
+use Rattle.protobuf_parse_elaboration.specs.declared.convert.options.tables.BuiltinKind.TheVariants as kind
+
+abbrev pub constant_seen : Bor ProtobufConstant → ConstantSyntax
+constant_seen c = constant_syntax c.now
+
+-- what the option of that name is set to, if it is
+abbrev pub IsTextOption : List (Bor ProtobufOption) → Text → Option (String Global) → Type 0
+IsTextOption os name text = option_map string_bytes text ≡ spec.text_option (options_seen os) name
+
+-- ---- tables
+
+-- what a built-in option is set to
+abbrev pub kind_seen : BuiltinKind → spec.BuiltinKind
+kind_seen kind.Text = a_text
+kind_seen kind.Truth = a_truth
+kind_seen (kind.Word names) = a_word (map (λ (n : Bor (List ℕ)). n.now) names.now)
+
+abbrev pub entry_seen : Bor (List ℕ) × BuiltinKind → Text × spec.BuiltinKind
+entry_seen entry = (entry.0.now, kind_seen entry.1)
+
+abbrev pub table_seen : List (Bor (List ℕ) × BuiltinKind) → Table
+table_seen table = map entry_seen table
+
+-- the values of an enum by their names
+abbrev pub words_seen : {A : Type 0} → List (Bor (List ℕ) × A) → Words A
+words_seen words = map (λ w. (w.0.now, w.1)) words

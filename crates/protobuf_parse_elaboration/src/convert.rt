@@ -1,0 +1,79 @@
+//! From a file's tree to its descriptor.
+
+mod body;
+mod contents;
+mod enumeration;
+pub mod field;
+mod file;
+mod generated;
+mod heading;
+mod lists;
+mod message;
+mod names;
+mod oneof;
+mod options;
+mod place;
+pub mod refuse;
+mod reserved;
+mod rest;
+mod service;
+mod statement;
+pub mod types;
+mod unlike;
+
+ghost use Rattle.std.specs.Prelude.{List, ◌≤◌};
+ghost use Rattle.protobuf_parse_syntax.specs.Counts.{statements_in};
+ghost use Rattle.protobuf_parse_syntax.specs.Trees.{FileSyntax, file_syntax};
+ghost use Rattle.protobuf_parse_model.specs.SeenFiles.{environment_of_file};
+ghost use Rattle.protobuf_parse_model.specs.Descriptors as described;
+ghost use Rattle.protobuf_parse_model.specs.Faults.{Elaborates};
+ghost use Rattle.protobuf_parse_model.specs.Tables.{TableTells, picked};
+ghost use Rattle.protobuf_parse_elaboration.specs.FileDescriptor.{environment, file_faults, file_of};
+
+use crate::convert::file::file_descriptor;
+pub use options::{decoded_bytes, decoded_text, has_builtin_option};
+use protobuf_parse_model::{CustomOptions, ElabFailure, FileDescriptorProto, Seen};
+use protobuf_parse_syntax::FileTree;
+use std::alloc::Global;
+
+/// The descriptor of a file.
+///
+/// Takes the path that the file is known by, its tree, what it sees: the declarations of files, and
+/// the numbers of those among them whose names it sees, itself with them; and who says what its
+/// custom options become. Where the declarations are those that `Declarations::add` made of files
+/// one after the other, the answer is what the language says of a file that sees the files with
+/// these numbers.
+///
+/// Where no fault stands in the file it gives the descriptor. Else it tells one that stands,
+/// whichever it meets first, unless memory runs out:
+///
+/// - E1: two things of one kind have one name in one scope;
+/// - E2, E3: the name of a type means none;
+/// - E4: a map or a group stands where none may;
+/// - E7: a range of a message has no end behind it;
+/// - E8 to E13: what a built-in option is set to, or its name, is wrong;
+/// - what is wrong in a custom option, by who says what they become.
+///
+/// The tree of a text has at most 2147483647 statements, those of all bodies counted: `parse_file`
+/// says so.
+///
+/// E5 and E6, for full names that the reached files declare twice, are no part of this: `link`
+/// tells them, and is to be called first.
+pub fn elaborate<C: CustomOptions>(
+    alloc: Global,
+    name: &str,
+    tree: &FileTree,
+    seen: &Seen<'_>,
+    custom: &C,
+) -> Result<FileDescriptorProto, ElabFailure>
+    requires few { statements_in (file_syntax tree.now) ≤ 2147483647 }
+    ensures by_table { let t = file_syntax tree.now in
+        let env = environment_of_file (C.customs custom.now) seen.now t in
+        Elaborates described.file_view result (file_faults env t) (file_of env name.now t) }
+    ensures by_files { (files : List FileSyntax) → TableTells seen.now.declarations.now files →
+        let t = file_syntax tree.now in
+        let env = environment (picked files seen.now.sight.now) (C.customs custom.now) t in
+        Elaborates described.file_view result (file_faults env t) (file_of env name.now t) }
+{
+    file_descriptor(alloc, name, tree, seen, custom)
+}

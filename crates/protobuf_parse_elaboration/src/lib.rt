@@ -1,0 +1,8 @@
+//! From a file's tree to its descriptor.
+#![tactic(auto)]
+
+mod convert;
+mod laws;
+
+pub use convert::{decoded_bytes, decoded_text, elaborate, has_builtin_option};
+pub use laws::{custom_options_are_of_sets, types_are_declared, types_are_looked_up};
