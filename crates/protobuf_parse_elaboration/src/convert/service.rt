@@ -24,7 +24,7 @@ use protobuf_parse_model::{
     Construct, Context, CustomOptions, ElabFailure, MethodDescriptorProto, MethodOptions,
     ServiceDescriptorProto, ServiceOptions,
 };
-use protobuf_parse_syntax::{Method, OptionStatement, ProtobufOption, Service, ServiceStatement};
+use protobuf_parse_syntax::{Method, OptionStatement, Service, ServiceStatement};
 use std::alloc::{AllocError, Global};
 
 /// The descriptor of a service.

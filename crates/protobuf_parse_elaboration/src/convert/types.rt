@@ -10,12 +10,11 @@ ghost use Rattle.protobuf_parse_elaboration.specs.Contexts.{resolved_view};
 ghost use Rattle.protobuf_parse_elaboration.specs.Fields.{inner_type_faults, type_faults, type_of};
 ghost use Rattle.protobuf_parse_elaboration.specs.Fields.{type_of_meaning};
 
-use protobuf_parse_base::text::camel_case;
 use protobuf_parse_model::{
     Context, ElabErrorKind, ElabFailure, FieldType, ResolvedType, fault, full_name, type_named,
 };
 use protobuf_parse_syntax::Type;
-use std::alloc::{AllocError, Global};
+use std::alloc::Global;
 
 /// The type of the field of that name, as a descriptor says it.
 ///
