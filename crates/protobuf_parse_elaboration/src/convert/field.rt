@@ -23,7 +23,7 @@ use crate::convert::types::resolved_type;
 use protobuf_parse_base::text::json_name;
 use protobuf_parse_model::{
     Construct, Context, CustomOptions, ElabErrorKind, ElabFailure, FieldDescriptorProto,
-    FieldOptions, FieldType, Label, ResolvedType, fault, full_name,
+    FieldOptions, FieldType, Label, ResolvedType, fault, full_name, group_field_name,
 };
 use protobuf_parse_syntax::{Field, Group, ProtobufOption, Syntax, Type};
 use std::alloc::{AllocError, Global};

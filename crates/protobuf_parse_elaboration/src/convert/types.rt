@@ -11,7 +11,8 @@ ghost use Rattle.protobuf_parse_elaboration.specs.Fields.{inner_type_faults, typ
 ghost use Rattle.protobuf_parse_elaboration.specs.Fields.{type_of_meaning};
 
 use protobuf_parse_model::{
-    Context, ElabErrorKind, ElabFailure, FieldType, ResolvedType, fault, full_name, type_named,
+    Context, ElabErrorKind, ElabFailure, FieldType, ResolvedType, entry_name, fault, full_name,
+    type_named,
 };
 use protobuf_parse_syntax::Type;
 use std::alloc::Global;
