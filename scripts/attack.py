@@ -112,6 +112,12 @@ def lists(n):
         yield f"message M{i} {{ option (deep) = {constant}; }}\n"
 
 
+def items(n):
+    """An option that is a list of n numbers of one digit: all of the text is tokens."""
+    yield OPTIONS + custom_option("File", "repeated int32 items")
+    yield "option (items) = [" + ",".join("1" * n) + "];"
+
+
 def pieces(n):
     """A string of n bytes in pieces of one byte."""
     yield PROTO2 + "message M { optional string s = 1 [default ="

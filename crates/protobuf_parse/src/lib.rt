@@ -14,9 +14,18 @@ pub use protobuf_parse_base::names::{
 };
 pub use protobuf_parse_base::proto_path::{PathError, ProtoPath, ProtoPathBuf};
 pub use protobuf_parse_base::text::{camel_case, snake_case};
+pub use protobuf_parse_elaboration::{
+    custom_options_are_of_sets, types_are_declared, types_are_looked_up,
+};
 pub use protobuf_parse_listing::{builtin_options_are_listed, listing};
-pub use protobuf_parse_elaboration::{custom_options_are_of_sets, types_are_declared, types_are_looked_up};
-pub use protobuf_parse_model::{CType, DescriptorProto, ElabError, ElabErrorKind, EnumDescriptorProto, EnumOptions, EnumReservedRange, EnumValueDescriptorProto, EnumValueOptions, ExtensionRange, FieldDescriptorProto, FieldOptions, FieldType, FileDescriptorProto, FileDescriptorSet, FileOptions, IdempotencyLevel, JSType, Label, MessageOptions, MethodDescriptorProto, MethodOptions, OneofDescriptorProto, OneofOptions, OptimizeMode, ReservedRange, ServiceDescriptorProto, ServiceOptions};
+pub use protobuf_parse_model::{
+    CType, DescriptorProto, ElabError, ElabErrorKind, EnumDescriptorProto, EnumOptions,
+    EnumReservedRange, EnumValueDescriptorProto, EnumValueOptions, ExtensionRange,
+    FieldDescriptorProto, FieldOptions, FieldType, FileDescriptorProto, FileDescriptorSet,
+    FileOptions, IdempotencyLevel, JSType, Label, MessageOptions, MethodDescriptorProto,
+    MethodOptions, OneofDescriptorProto, OneofOptions, OptimizeMode, ReservedRange,
+    ServiceDescriptorProto, ServiceOptions,
+};
 pub use protobuf_parse_options::{extensions_are_looked_up, never_too_deep, options_are_not_read};
 pub use protobuf_parse_run::{
     InputReader, ProtoPathResolver, ReadEntry, ReadInputFault, ReadOutcome, ResolveFault,

@@ -28,10 +28,10 @@ use Rattle.protobuf_parse_model.specs.declared.descriptor.FieldType.TheVariants 
 use Rattle.protobuf_parse_model.specs.declared.error.ElabErrorKind.TheVariants.{DanglingTypeName}
 use Rattle.protobuf_parse_model.specs.declared.error.ElabErrorKind.TheVariants.{DefaultValueIsNotStringLiteral}
 use Rattle.protobuf_parse_model.specs.declared.error.ElabErrorKind.TheVariants.{WrongOptionType}
-use Rattle.protobuf_parse_model.specs.Descriptors.{Text, FieldDescriptor}
+use Rattle.protobuf_parse_model.specs.Descriptors.{Text, FieldDescriptor, kind_of_scalar}
 use Rattle.protobuf_parse_model.specs.Faults.{Fault}
 use Rattle.protobuf_parse_model.specs.Statements.{group_body, group_field_name, entry_name, is_map}
-use Rattle.protobuf_parse_model.specs.Declarations.{full_name, DeclaredType}
+use Rattle.protobuf_parse_model.specs.Declarations.{full_name, DeclaredType, kind_of_type}
 use Rattle.protobuf_parse_model.specs.Duplicates.{fault, fault_when, duplicates}
 use Rattle.protobuf_parse_model.specs.declared.customs.Construct.TheVariants as of
 use Rattle.protobuf_parse_model.specs.Environment.{Environment, customs_bytes, customs_faults}
