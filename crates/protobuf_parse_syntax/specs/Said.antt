@@ -1,3 +1,4 @@
+-- No public clause rests on this file.
 -- Which version of the language and which path of a file a string says, as functions.
 use Rattle.std.proofs.Common.{Bool, true, false, cond, List, Option, Some, None, bytes_eq, codes}
 use Rattle.protobuf_parse_base.specs.Paths.{path_fault}
