@@ -13,7 +13,7 @@ from collections import defaultdict
 from pathlib import Path
 
 MARK = "-- No public clause rests on this file.\n"
-CRATES = ["base", "lexer", "syntax", "model", "elaboration", "wire", "options", "listing", "run", ""]
+CRATES = "base lexer syntax model elaboration wire options listing run".split() + [""]
 TOKEN = re.compile(r"[^\s(){};,λ\[\]`:!&]+")
 USE = r"(?:^|(?<=\n))\s*(?:ghost |pub |unfoldable )*use (Rattle\.[^\s{;]+?)"
 SIGNATURE = re.compile(
