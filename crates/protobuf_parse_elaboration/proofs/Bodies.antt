@@ -9,19 +9,20 @@ use Rattle.protobuf_parse_syntax.specs.Trees.{field, group, OneofSyntax, Message
 use Rattle.protobuf_parse_syntax.specs.Trees.{message_reserved, message_oneof, message_extend}
 use Rattle.protobuf_parse_syntax.specs.Trees.{message_message, message_enum, message_extensions}
 use Rattle.protobuf_parse_syntax.specs.Trees.{message_option, message_field, MessageSyntax}
-use Rattle.protobuf_parse_syntax.specs.Trees.{nested_message}
-use Rattle.protobuf_parse_model.specs.Descriptors.{OneofDescriptor, enum_view, field_view}
+use Rattle.protobuf_parse_syntax.specs.Trees.{nested_message, TypeSyntax, scalar, named, map_of}
+use Rattle.protobuf_parse_model.specs.Descriptors.{OneofDescriptor, Text, enum_view, field_view}
 use Rattle.protobuf_parse_model.specs.Descriptors.{message_view, oneof_view, service_view}
 use Rattle.protobuf_parse_model.specs.Environment.{Environment}
 use Rattle.protobuf_parse_model.specs.Faults.{Elaborates, Fault}
-use Rattle.protobuf_parse_model.specs.Statements.{field_statement_name, oneof_fields}
+use Rattle.protobuf_parse_model.specs.Statements.{field_statement_name, is_map, oneof_fields}
 use Rattle.protobuf_parse_model.specs.declared.error.ElabFailure.{ElabFailure}
-use Rattle.protobuf_parse_elaboration.specs.Contexts.{BodyParts, FieldAndMessage, FieldsAndMessages}
-use Rattle.protobuf_parse_elaboration.specs.Contexts.{body_of, body_view, field_declared_by}
-use Rattle.protobuf_parse_elaboration.specs.Contexts.{fields_declared}
-use Rattle.protobuf_parse_elaboration.specs.Contexts.{with_message, with_body_statement}
+use Rattle.protobuf_parse_elaboration.specs.Parts.{BodyParts, FieldAndMessage, FieldsAndMessages}
+use Rattle.protobuf_parse_elaboration.specs.Parts.{body_of, body_view, field_declared_by}
+use Rattle.protobuf_parse_elaboration.specs.Parts.{fields_declared}
+use Rattle.protobuf_parse_elaboration.specs.Parts.{with_message, with_body_statement}
 use Rattle.protobuf_parse_elaboration.specs.Fields.{FieldPlace, field_statement_of}
-use Rattle.protobuf_parse_elaboration.specs.Messages.{enums_of, extending, extended_of, fields_of}
+use Rattle.protobuf_parse_elaboration.specs.Messages.{entries_of, enums_of, extending, extended_of}
+use Rattle.protobuf_parse_elaboration.specs.Messages.{fields_of}
 use Rattle.protobuf_parse_elaboration.specs.Messages.{has_own_oneof, at_oneof, message_of, nested_of}
 use Rattle.protobuf_parse_elaboration.specs.Messages.{oneof_of, oneofs_of, own_oneof, own_oneof_of}
 use Rattle.protobuf_parse_elaboration.specs.FileParts.{parts_view, with_file_statement}
@@ -189,3 +190,10 @@ whole view r middle statements value s h = rw (s, append-nil middle) h
 
 pub nil-both : (xs ys : List Fault) → xs ≡ [] → ys ≡ [] → xs ++ (ys ++ []) ≡ []
 nil-both xs ys p q = rw (p, q) refl
+
+-- behind a field that is no map stands no message
+pub no_entries : (env : Environment) (name : Text) (t : TypeSyntax) → is_map t ≡ false
+    → entries_of env name t ≡ []
+no_entries env name (scalar s) h = refl
+no_entries env name (named n) h = refl
+no_entries env name (map_of key value) h = absurd cc

@@ -1,6 +1,9 @@
 -- The laws of a file's custom options, by its sets of options.
 use Rattle.std.proofs.Common.{◌≡◌, inl, inr, List, [], ◌∷◌, flat_map, refl, ap, subst}
+use Rattle.std.proofs.Common.{Bool, true, false, ◌||◌}
+use Rattle.std.specs.List.{list_any}
 use Rattle.protobuf_parse_syntax.specs.Trees.{OptionNameSyntax, builtin, custom, StatementSyntax}
+use Rattle.protobuf_parse_syntax.specs.Trees.{OptionSyntax}
 use Rattle.protobuf_parse_syntax.specs.Trees.{file_message, file_enum, file_extend, file_service}
 use Rattle.protobuf_parse_syntax.specs.Trees.{FileSyntax}
 use Rattle.protobuf_parse_model.specs.declared.customs.Construct.TheVariants as of
@@ -20,6 +23,7 @@ use Rattle.protobuf_parse_elaboration.specs.FileDescriptor.{file_duplicates, fil
 use Rattle.protobuf_parse_elaboration.specs.OptionSets.{OptionSet, statement_sets, option_sets}
 use Rattle.protobuf_parse_elaboration.specs.CustomSets.{faults_of_set, faults_of_sets, FaultsAreOfSets}
 use Rattle.protobuf_parse_elaboration.specs.CustomSets.{NoneIsNoneInSets, OptionsAreBuiltin}
+use Rattle.protobuf_parse_elaboration.specs.CustomSets.{is_custom, is_custom_name, sets_custom}
 use Rattle.protobuf_parse_elaboration.proofs.SameNames.{with_customs, flat-named, messages-names}
 use Rattle.protobuf_parse_elaboration.proofs.SameNames.{file-enums-names, file-extensions-names}
 use Rattle.protobuf_parse_elaboration.proofs.SameNames.{services-names}
@@ -151,3 +155,33 @@ options_are_builtin seen t s o none h k =
     let each : flat_map unknown_option s.statements
     ≡ [] = ((none_is_none_in_sets seen no_extensions t).0 none).1 s h in
     builtin_from o.name (each_of_none unknown_option each k)
+
+-- where neither of two is true
+none_first : (b c : Bool) → (b || c) ≡ false → b ≡ false
+none_first true c e = absurd cc
+none_first false c e = refl
+
+none_later : (b c : Bool) → (b || c) ≡ false → c ≡ false
+none_later true c e = absurd cc
+none_later false c e = e
+
+-- nothing in a list passes the test, where none does
+not_any : {A : Type 0} (test : A → Bool) (xs : List A) (x : A) → list_any test xs ≡ false
+    → Among xs x → test x ≡ false
+not_any test [] x e h = elim h [ ]
+not_any test (y ∷ xs) x e here = none_first (test y) (list_any test xs) e
+not_any test (y ∷ xs) x e (there h) =
+    not_any test xs x (none_later (test y) (list_any test xs) e) h
+
+builtin_by_test : (n : OptionNameSyntax) → is_custom_name n ≡ false
+    → (name : Text) × (n ≡ builtin name)
+builtin_by_test (builtin name) h = (name, refl)
+builtin_by_test (custom parts) h = absurd cc
+
+-- where no set has a custom option, each option is a built-in one
+pub none_is_custom : (t : FileSyntax) (s : OptionSet) (o : OptionSyntax)
+    → list_any sets_custom (option_sets t) ≡ false → Among (option_sets t) s
+    → Among s.statements o → (name : Text) × (o.name ≡ builtin name)
+none_is_custom t s o none h k =
+    builtin_by_test o.name
+    (not_any is_custom s.statements o (not_any sets_custom (option_sets t) s none h) k)

@@ -1,15 +1,12 @@
 -- The faults of a whole file, by those of its parts.
-use Rattle.std.proofs.Common.{◌≡◌, List, [], ◌∷◌, ◌++◌, Option, Result, Ok, Err, refl, subst}
+use Rattle.std.proofs.Common.{◌≡◌, List, [], ◌∷◌, ◌++◌, Result, Ok, Err, refl, subst}
 use Rattle.std.proofs.Common.{sym}
 use Rattle.std.specs.Result.{IsErr, IsErrAnd}
-use Rattle.protobuf_parse_syntax.specs.Dependencies.{FileImports}
-use Rattle.protobuf_parse_model.specs.Descriptors.{Text}
-use Rattle.protobuf_parse_model.specs.Options.{FileOptionValues}
 use Rattle.protobuf_parse_model.specs.declared.error.ElabFailure.{ElabFailure}
 use Rattle.protobuf_parse_model.specs.declared.error.ElabFailure.TheVariants as failure
 use Rattle.protobuf_parse_model.specs.Faults.{Among, here, there, Blames, Elaborates, Fault}
 use Rattle.protobuf_parse_model.proofs.Blaming.{among_right}
-use Rattle.protobuf_parse_elaboration.specs.FileParts.{FileParts, file_with}
+use Rattle.protobuf_parse_elaboration.specs.FileParts.{FileHeading, FileParts, file_with}
 
 among_around : {A : Type 0} {x : A} (xs ys zs : List A) → Among (xs ++ zs) x
     → Among (xs ++ ys ++ zs) x
@@ -37,10 +34,6 @@ faultless (x ∷ xs) ys zs no_x no_y = absurd cc
 faultless [] ys zs no_z no_y = rw (no_y, no_z) refl
 
 -- a descriptor, by what its parts say
-pub same_file : {name name' : Text} {«package» package' : Option Text} {syntax syntax' : Text}
-    {imports imports' : FileImports} {parts parts' : FileParts}
-    {options options' : Option FileOptionValues} → name ≡ name' → «package» ≡ package'
-    → syntax ≡ syntax' → imports ≡ imports' → parts ≡ parts' → options ≡ options'
-    → file_with name «package» syntax imports parts options
-    ≡ file_with name' package' syntax' imports' parts' options'
-same_file a b c d e f = rw (a, b, c, d, e, f) refl
+pub same_file : {heading heading' : FileHeading} {parts parts' : FileParts} → heading ≡ heading'
+    → parts ≡ parts' → file_with heading parts ≡ file_with heading' parts'
+same_file a b = rw (a, b) refl

@@ -12,7 +12,7 @@ use Rattle.protobuf_parse_model.specs.declared.descriptor.ServiceDescriptorProto
 use Rattle.protobuf_parse_model.proofs.Blaming.{blames_left, blames_right}
 use Rattle.protobuf_parse_model.specs.Descriptors.{Text, enum_view, field_view, message_view}
 use Rattle.protobuf_parse_model.specs.Descriptors.{oneof_view, service_view}
-use Rattle.protobuf_parse_elaboration.specs.Contexts.{methods_seen, values_seen}
+use Rattle.protobuf_parse_elaboration.specs.Parts.{methods_seen, values_seen}
 use Rattle.protobuf_parse_elaboration.specs.Fields.{names_of_fields}
 use Rattle.protobuf_parse_elaboration.specs.FileDescriptor.{names_of_services}
 use Rattle.protobuf_parse_elaboration.specs.Messages.{message_name, names_of_enums, names_of_messages}

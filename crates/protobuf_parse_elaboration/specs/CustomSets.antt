@@ -6,13 +6,26 @@
 -- the file's sets of options, and its name is looked up from the scope of that set alone. So all
 -- that is wrong in a file is wrong besides custom options or in one of its sets, and its descriptor
 -- holds no bytes of custom options but those of its sets.
-use Rattle.std.specs.Prelude.{◌≡◌, ◌⊎◌, ◌↔◌, List, [], flat_map}
-use Rattle.protobuf_parse_syntax.specs.Trees.{OptionSyntax, builtin, FileSyntax}
+use Rattle.std.specs.Prelude.{◌≡◌, ◌⊎◌, ◌↔◌, Bool, true, false, List, [], flat_map}
+use Rattle.std.specs.List.{list_any}
+use Rattle.protobuf_parse_syntax.specs.Trees.{OptionNameSyntax, OptionSyntax, builtin, custom}
+use Rattle.protobuf_parse_syntax.specs.Trees.{FileSyntax}
 use Rattle.protobuf_parse_model.specs.Descriptors.{Text}
 use Rattle.protobuf_parse_model.specs.Faults.{Among, Fault}
 use Rattle.protobuf_parse_model.specs.Environment.{Customs, no_customs, no_extensions}
 use Rattle.protobuf_parse_elaboration.specs.FileDescriptor.{environment, file_of, file_faults}
 use Rattle.protobuf_parse_elaboration.specs.OptionSets.{OptionSet, option_sets}
+
+abbrev pub is_custom_name : OptionNameSyntax → Bool
+is_custom_name (builtin name) = false
+is_custom_name (custom parts) = true
+
+abbrev pub is_custom : OptionSyntax → Bool
+is_custom o = is_custom_name o.name
+
+-- whether a custom option is among those of a set
+abbrev pub sets_custom : OptionSet → Bool
+sets_custom s = list_any is_custom s.statements
 
 -- what is wrong in the custom options of a set
 abbrev pub faults_of_set : Customs → OptionSet → List Fault

@@ -1,22 +1,29 @@
 -- No public clause rests on this file.
--- What the statements of a file declare, as the code collects it.
-use Rattle.std.specs.Prelude.{List, ◌++◌, map, flat_map, Option, Some}
-use Rattle.protobuf_parse_syntax.specs.Dependencies.{FileImports}
-use Rattle.protobuf_parse_syntax.specs.Trees.{StatementSyntax}
+-- What a file says of itself and what its statements declare, as the code collects it.
+use Rattle.std.specs.Prelude.{List, [], ◌++◌, map, flat_map, Option, Some, option_map, string_bytes}
+use Rattle.protobuf_parse_syntax.specs.Dependencies.{FileImports, dependencies_view, imports}
+use Rattle.protobuf_parse_syntax.specs.Dependencies.{imports_of}
+use Rattle.protobuf_parse_syntax.specs.Trees.{StatementSyntax, FileSyntax, package_of}
 use Rattle.protobuf_parse_model.specs.Descriptors.{Text, FieldDescriptor, EnumDescriptor}
 use Rattle.protobuf_parse_model.specs.Descriptors.{MessageDescriptor, ServiceDescriptor, enum_view}
 use Rattle.protobuf_parse_model.specs.Descriptors.{field_view, message_view, service_view}
 use Rattle.protobuf_parse_model.specs.Descriptors.{FileDescriptor}
-use Rattle.protobuf_parse_model.specs.Options.{FileOptionValues}
+use Rattle.protobuf_parse_model.specs.Options.{FileOptionValues, file_options_view}
+use Rattle.protobuf_parse_model.specs.OptionMessages.{file_options}
+use Rattle.protobuf_parse_model.specs.BuiltinOptions.{file_table}
 use Rattle.protobuf_parse_model.specs.Duplicates.{duplicates}
-use Rattle.protobuf_parse_model.specs.Environment.{Environment}
+use Rattle.protobuf_parse_model.specs.Environment.{Environment, customs_bytes}
 use Rattle.protobuf_parse_model.specs.Faults.{Fault}
+use Rattle.protobuf_parse_model.specs.declared.customs.Construct.TheVariants as of
 use Rattle.protobuf_parse_elaboration.specs.declared.convert.contents.Contents.{Contents}
+use Rattle.protobuf_parse_elaboration.specs.declared.convert.heading.Heading.{Heading}
+use Rattle.protobuf_parse_elaboration.specs.ConstructOptions.{construct_faults}
 use Rattle.protobuf_parse_elaboration.specs.Fields.{names_of_fields}
 use Rattle.protobuf_parse_elaboration.specs.Messages.{names_of_messages, names_of_enums}
 use Rattle.protobuf_parse_elaboration.specs.FileDescriptor.{file_enums_of, file_extensions_of}
 use Rattle.protobuf_parse_elaboration.specs.FileDescriptor.{file_messages_of}
 use Rattle.protobuf_parse_elaboration.specs.FileDescriptor.{names_of_services, services_of}
+use Rattle.protobuf_parse_elaboration.specs.FileDescriptor.{options_of_statements, syntax_text}
 
 pub record FileParts : Type 0 where
   pub message_type : List MessageDescriptor
@@ -34,6 +41,9 @@ parts_view c =
       extension =
           map field_view c.extension.items;
     }
+
+abbrev pub no_parts : FileParts
+no_parts = record { message_type = []; enum_type = []; service = []; extension = [] }
 
 -- with one statement more
 abbrev pub with_file_statement : Environment → FileParts → StatementSyntax → FileParts
@@ -64,19 +74,52 @@ parts_faults p =
     ++ duplicates (names_of_fields p.extension)
     ++ duplicates (names_of_services p.service)
 
--- a file of these parts
-abbrev pub file_with : (name : Text) («package» : Option Text) (syntax : Text)
-    → FileImports → FileParts → Option FileOptionValues → FileDescriptor
-file_with name «package» syntax imports parts options = record {
-  name = Some name;
-  «package» = «package»;
-  syntax = Some syntax;
-  dependency = imports.paths;
-  public_dependency = imports.public;
-  weak_dependency = imports.weak;
+-- ---- what it says of itself
+
+pub record FileHeading : Type 0 where
+  pub name : Text
+  pub syntax : Text
+  pub package_name : Option Text
+  pub dependencies : FileImports
+  pub options : Option FileOptionValues
+
+abbrev pub heading_view : Heading → FileHeading
+heading_view h = record {
+  name = string_bytes h.name;
+  syntax = string_bytes h.syntax;
+  package_name = option_map string_bytes h.package_name;
+  dependencies = dependencies_view h.imports;
+  options = option_map file_options_view h.options;
+}
+
+-- that of the file that is known by the path
+abbrev pub heading_of : Environment → Text → FileSyntax → FileHeading
+heading_of env path t = record {
+  name = path;
+  syntax = syntax_text t.syntax;
+  package_name = package_of t;
+  dependencies = imports_of (imports t.statements);
+  options = file_options (customs_bytes env of.File (options_of_statements t.statements))
+      (options_of_statements t.statements);
+}
+
+-- what is wrong in its options
+abbrev pub heading_faults : Environment → FileSyntax → List Fault
+heading_faults env t =
+    construct_faults env of.File file_table (options_of_statements t.statements)
+
+-- a file of this heading and these parts
+abbrev pub file_with : FileHeading → FileParts → FileDescriptor
+file_with heading parts = record {
+  name = Some heading.name;
+  «package» = heading.package_name;
+  syntax = Some heading.syntax;
+  dependency = heading.dependencies.paths;
+  public_dependency = heading.dependencies.public;
+  weak_dependency = heading.dependencies.weak;
   message_type = parts.message_type;
   enum_type = parts.enum_type;
   service = parts.service;
   extension = parts.extension;
-  options = options;
+  options = heading.options;
 }

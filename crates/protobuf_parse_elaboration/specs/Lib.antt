@@ -5,7 +5,7 @@ pub mod OptionViews
 pub mod Enums
 pub mod Services
 pub mod Messages
-pub mod Contexts
+pub mod Parts
 pub mod FileDescriptor
 pub mod NamedTypes
 pub mod FilesByPath

@@ -30,7 +30,7 @@ ghost use Rattle.protobuf_parse_model.specs.Faults.{Elaborates};
 ghost use Rattle.protobuf_parse_model.specs.Tables.{TableTells, picked};
 ghost use Rattle.protobuf_parse_elaboration.specs.FileDescriptor.{environment, file_faults, file_of};
 
-use crate::convert::file::file_descriptor;
+use crate::convert::file::{descriptor_of_owned, file_descriptor};
 pub use options::{decoded_bytes, decoded_text, has_builtin_option};
 use protobuf_parse_model::{CustomOptions, ElabFailure, FileDescriptorProto, Seen};
 use protobuf_parse_syntax::FileTree;
@@ -76,4 +76,25 @@ pub fn elaborate<C: CustomOptions>(
         Elaborates described.file_view result (file_faults env t) (file_of env name.now t) }
 {
     file_descriptor(alloc, name, tree, seen, custom)
+}
+
+/// As `elaborate`, of a tree that is not needed any more: each of its statements is dropped as soon
+/// as its descriptor stands, so that tree and descriptor don't stand beside each other as a whole.
+pub fn elaborate_owned<C: CustomOptions>(
+    alloc: Global,
+    name: &str,
+    tree: FileTree,
+    seen: &Seen<'_>,
+    custom: &C,
+) -> Result<FileDescriptorProto, ElabFailure>
+    requires few { statements_in (file_syntax tree) ≤ 2147483647 }
+    ensures by_table { let t = file_syntax tree in
+        let env = environment_of_file (C.customs custom.now) seen.now t in
+        Elaborates described.file_view result (file_faults env t) (file_of env name.now t) }
+    ensures by_files { (files : List FileSyntax) → TableTells seen.now.declarations.now files →
+        let t = file_syntax tree in
+        let env = environment (picked files seen.now.sight.now) (C.customs custom.now) t in
+        Elaborates described.file_view result (file_faults env t) (file_of env name.now t) }
+{
+    descriptor_of_owned(alloc, name, tree, seen, custom)
 }

@@ -22,6 +22,7 @@ use Rattle.protobuf_parse_syntax.proofs.Messages.{view_parts, views_message}
 use Rattle.protobuf_parse_syntax.specs.declared.tree.declaration.Message.{Message}
 use Rattle.protobuf_parse_syntax.specs.declared.tree.declaration.MessageStatement.TheVariants as statement
 use Rattle.protobuf_parse_syntax.specs.declared.tree.field.FieldStatement.{FieldStatement}
+use Rattle.protobuf_parse_syntax.specs.Trees.{name_bytes}
 use Rattle.protobuf_parse_syntax.specs.Trees.{ExtendSyntax, FieldStatementSyntax, FileSyntax}
 use Rattle.protobuf_parse_syntax.specs.Trees.{field_statement_syntax, MessageSyntax}
 use Rattle.protobuf_parse_syntax.specs.Trees.{message_statement_syntax, message_syntax}
@@ -352,21 +353,21 @@ extensions_of-view scope m = ap (extensions_of scope) (views_message m)
     ∙ extensions_of_message scope (message_syntax m)
 
 pub message_types-view : (scope : Scope) (m : Message)
-    → message_types scope (message_syntax m) ≡ declare scope (string_bytes m.name) a_message
-    ∷ flat_map (types_of (inside scope (string_bytes m.name)))
+    → message_types scope (message_syntax m) ≡ declare scope (name_bytes m.name) a_message
+    ∷ flat_map (types_of (inside scope (name_bytes m.name)))
     (map message_statement_syntax m.body.items)
 message_types-view scope m = ap (message_types scope) (view_parts m)
 
 pub generated-view : (scope : Scope) (m : Message)
     → flat_map (generated_of (inside scope (message_syntax m).name)) (message_syntax m).body
-    ≡ flat_map (generated_of (inside scope (string_bytes m.name)))
+    ≡ flat_map (generated_of (inside scope (name_bytes m.name)))
     (map message_statement_syntax m.body.items)
 generated-view scope m =
     ap (λ (x : MessageSyntax). flat_map (generated_of (inside scope x.name)) x.body) (view_parts m)
 
 pub extensions-view : (scope : Scope) (m : Message)
     → flat_map (extensions_of (inside scope (message_syntax m).name)) (message_syntax m).body
-    ≡ flat_map (extensions_of (inside scope (string_bytes m.name)))
+    ≡ flat_map (extensions_of (inside scope (name_bytes m.name)))
     (map message_statement_syntax m.body.items)
 extensions-view scope m =
     ap (λ (x : MessageSyntax). flat_map (extensions_of (inside scope x.name)) x.body) (view_parts m)

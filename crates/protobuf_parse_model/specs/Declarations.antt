@@ -3,7 +3,7 @@
 -- the declaration's own name. Protocol Buffers Language Guide (proto2), "Nested Types", "Packages
 -- and Name Resolution", "Extensions", "Maps"; Protocol Buffers Language Specification, "Package",
 -- "Group field", "Map field", "Extend" (https://protobuf.dev).
-use Rattle.std.specs.Prelude.{List, [], ◌∷◌, ◌++◌, map, flat_map, unwrap_or, if◌then◌else◌}
+use Rattle.std.specs.Prelude.{List, [], ◌∷◌, ◌++◌, map, flat_map, Option, unwrap_or, if◌then◌else◌}
 use Rattle.protobuf_parse_base.specs.Characters as char
 use Rattle.protobuf_parse_base.specs.Names.{absolute_text, relative_idents}
 use Rattle.protobuf_parse_syntax.specs.Trees.{FieldStatementSyntax, field, group}
@@ -41,9 +41,13 @@ pub record Declared (A : Type 0) : Type 0 where
 abbrev pub declare : {A : Type 0} → Scope → Text → A → Declared A
 declare scope name what = record { name = full_name scope name; what = what }
 
--- the package, which the last `package` statement names; a file without one has none
+-- that of a package; there is none where a file has no `package` statement
+abbrev pub scope_of_package : Option Text → Scope
+scope_of_package name = relative_idents (unwrap_or name [])
+
+-- the package, which the last `package` statement names
 abbrev pub file_scope : FileSyntax → Scope
-file_scope t = relative_idents (unwrap_or (package_of t) [])
+file_scope t = scope_of_package (package_of t)
 
 -- ---- messages and enums
 

@@ -20,6 +20,6 @@ pub use error::{ElabError, ElabErrorKind, ElabFailure, fault};
 pub use linking::link;
 pub use made_names::{entry_name, group_field_name};
 pub use scope::{
-    Context, Declaration, DeclarationKind, Declarations, Meaning, ResolvedType, Seen, TypeKind,
-    file_scope, full_name, type_named,
+    Context, Declaration, DeclarationKind, Declarations, Meaning, Seen, TypeKind, file_scope,
+    full_name, scope_of_package, type_named,
 };

@@ -20,7 +20,7 @@ mod ordered;
 mod seen;
 
 use crate::descriptor::FieldType;
-pub use declare::file_scope;
+pub use declare::{file_scope, scope_of_package};
 pub use ordered::in_file;
 use protobuf_parse_syntax::Syntax;
 pub use seen::{Declaration, DeclarationKind, Declarations, Seen, TypeKind};
@@ -41,14 +41,6 @@ pub struct Meaning {
     /// The full name, with the first dot.
     pub name: String,
     pub kind: TypeKind,
-}
-
-/// A type as a descriptor says it.
-#[derive(Drop)]
-pub struct ResolvedType {
-    pub kind: FieldType,
-    /// The full name of a message or an enum, with the first dot.
-    pub name: Option<String>,
 }
 
 impl From<TypeKind> for FieldType {

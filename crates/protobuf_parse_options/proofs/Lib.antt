@@ -35,3 +35,4 @@ pub mod Placing
 pub mod Picks
 pub mod Positioning
 pub mod Holding
+pub mod CustomParts

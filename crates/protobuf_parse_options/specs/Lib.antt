@@ -18,3 +18,4 @@ pub mod ByName
 pub mod Places
 pub mod Positions
 pub mod Holding
+pub mod CustomParts

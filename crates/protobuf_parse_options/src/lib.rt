@@ -2,6 +2,7 @@
 #![tactic(auto)]
 
 mod constants;
+mod custom_parts;
 mod fields;
 mod known;
 mod known_files;
@@ -19,6 +20,7 @@ mod statements;
 mod strings;
 mod values;
 
+pub use custom_parts::has_custom_option;
 pub use known_files::KnownFiles;
 pub use laws::{
     any_order, extensions_are_looked_up, more_files, never_too_deep, option_bytes_spell,

@@ -1,9 +1,10 @@
 -- What custom options add to a file: faults beside its others, and bytes in its descriptor.
 use Rattle.std.proofs.Common.{◌≡◌, inl, inr, ℕ, List, [], ◌∷◌, flat_map, Some, None}
-use Rattle.std.proofs.Common.{Ok, Err, refl, ◌∙◌, ap, subst}
+use Rattle.std.proofs.Common.{Ok, Err, refl, ◌∙◌, ap, subst, false}
+use Rattle.std.specs.List.{list_any}
 use Rattle.protobuf_parse_syntax.specs.Trees.{FileSyntax, OptionSyntax}
 use Rattle.protobuf_parse_model.specs.Descriptors.{Text, FileDescriptor}
-use Rattle.protobuf_parse_model.specs.Environment.{Customs, no_customs, no_extensions}
+use Rattle.protobuf_parse_model.specs.Environment.{Customs, no_customs}
 use Rattle.protobuf_parse_model.specs.Descriptors as described
 use Rattle.protobuf_parse_model.specs.Faults.{Among, here, there, Blames, Fault, fault_view}
 use Rattle.protobuf_parse_model.specs.Linking.{before_others, link_faults}
@@ -11,12 +12,12 @@ use Rattle.protobuf_parse_model.specs.Tables.{picked}
 use Rattle.protobuf_parse_model.specs.declared.descriptor.FileDescriptorProto.{FileDescriptorProto}
 use Rattle.protobuf_parse_model.specs.declared.error.ElabFailure.{ElabFailure}
 use Rattle.protobuf_parse_model.specs.declared.error.ElabFailure.TheVariants as failure
-use Rattle.protobuf_parse_elaboration.specs.CustomSets.{faults_of_set, faults_of_sets}
+use Rattle.protobuf_parse_elaboration.specs.CustomSets.{faults_of_set, faults_of_sets, sets_custom}
 use Rattle.protobuf_parse_elaboration.specs.FilesByPath.{trees_at}
 use Rattle.protobuf_parse_elaboration.specs.FileDescriptor.{environment, file_faults, file_of}
 use Rattle.protobuf_parse_elaboration.specs.OptionSets.{OptionSet, option_sets}
-use Rattle.protobuf_parse_elaboration.proofs.CustomSets.{faults_are_of_sets, none_is_none_in_sets}
-use Rattle.protobuf_parse_elaboration.proofs.CustomSets.{none_of_sets, options_are_builtin}
+use Rattle.protobuf_parse_elaboration.proofs.CustomSets.{faults_are_of_sets, none_is_custom}
+use Rattle.protobuf_parse_elaboration.proofs.CustomSets.{none_of_sets}
 use Rattle.protobuf_parse_elaboration.proofs.SameBytes.{bytes_are_of_sets}
 use Rattle.protobuf_parse_options.specs.CustomFaults.{custom_name_faults, custom_option_faults}
 use Rattle.protobuf_parse_options.specs.CustomFaults.{custom_statement_faults}
@@ -55,44 +56,33 @@ module _ (seen : List FileSyntax) (files visible : List FileDescriptor) (t : Fil
   abbrev known : Customs
   known = known_customs files visible
 
-  -- ** where nothing is wrong though no extension is known, no custom option is set
+  -- ** where no custom option is set
 
-  pub plain-faultless : file_faults (environment seen no_extensions t) t ≡ []
-      → file_faults (environment seen no_customs t) t ≡ []
-  plain-faultless none = ((none_is_none_in_sets seen no_extensions t).0 none).0
+  module _ (none : list_any sets_custom (option_sets t) ≡ false) where
+    -- nothing is wrong in any set of options, and none denotes anything
+    module _ (s : OptionSet) (m : Among (option_sets t) s) where
+      abbrev at : OptionScope
+      at = scope_of files visible s
 
-  -- so nothing is wrong in any set of options, and none denotes anything
-  module _ (none : file_faults (environment seen no_extensions t) t ≡ []) (s : OptionSet)
-      (m : Among (option_sets t) s) where
-    abbrev at : OptionScope
-    at = scope_of files visible s
+      set-faultless : custom_statement_faults at s.construct s.statements ≡ []
+      set-faultless =
+          all-nothing (λ (o : OptionSyntax). custom_name_faults at s.construct o.value o.name)
+          s.statements
+          (λ o h. let b = none_is_custom t s o none m h in rw b.1 refl)
 
-    set-faultless : custom_statement_faults at s.construct s.statements ≡ []
-    set-faultless =
-        all-nothing (λ (o : OptionSyntax). custom_name_faults at s.construct o.value o.name)
-        s.statements
-        (λ o h. let b = options_are_builtin seen t s o none m h in rw b.1 refl)
+      set-empty : flat_map (items_of_option at s.construct) s.statements ≡ []
+      set-empty = all-nothing (items_of_option at s.construct) s.statements
+          (λ o h. let b = none_is_custom t s o none m h in rw b.1 refl)
 
-    set-empty : flat_map (items_of_option at s.construct) s.statements ≡ []
-    set-empty = all-nothing (items_of_option at s.construct) s.statements
-        (λ o h. let b = options_are_builtin seen t s o none m h in rw b.1 refl)
+      set-unspelled : [] ≡ option_bytes files visible s.construct s.scope s.statements
+      set-unspelled = rw set-empty refl
 
-    set-unspelled : [] ≡ option_bytes files visible s.construct s.scope s.statements
-    set-unspelled = rw set-empty refl
+    pub nothing-wrong : custom_option_faults files visible t ≡ []
+    nothing-wrong = all-nothing (faults_of_set known) (option_sets t) set-faultless
 
-  pub nothing-wrong : file_faults (environment seen no_extensions t) t ≡ []
-      → custom_option_faults files visible t ≡ []
-  nothing-wrong none = all-nothing (faults_of_set known) (option_sets t) (set-faultless none)
-
-  pub nothing-spelled : (path : Text) → file_faults (environment seen no_extensions t) t ≡ []
-      → file_of (environment seen no_extensions t) path t
-      ≡ file_of (environment seen known t) path t
-  nothing-spelled path none =
-      bytes_are_of_sets seen no_extensions known path t (set-unspelled none)
-
-  pub plain-same : (path : Text) → file_of (environment seen no_extensions t) path t
-      ≡ file_of (environment seen no_customs t) path t
-  plain-same path = bytes_are_of_sets seen no_extensions no_customs path t (λ s m. refl)
+    pub nothing-spelled : (path : Text) → file_of (environment seen no_customs t) path t
+        ≡ file_of (environment seen known t) path t
+    nothing-spelled path = bytes_are_of_sets seen no_customs known path t set-unspelled
 
   -- ** what is wrong with extensions known
 
@@ -133,16 +123,15 @@ module _ (loaded : List LoadedEntry) (files : List FileSyntax) (reach sight : Li
   all-faultless own options = rw (linked, own) options
 
   -- no custom option is set
-  pub none-set : (d : FileDescriptorProto)
-      → file_faults (environment seen no_extensions t) t ≡ []
-      → described.file_view d ≡ file_of (environment seen no_extensions t) path t
+  pub none-set : (d : FileDescriptorProto) → list_any sets_custom (option_sets t) ≡ false
+      → file_faults (environment seen no_customs t) t ≡ []
+      → described.file_view d ≡ plain_over files sight path t
       → Describes loaded files reach sight path t
       (Ok (record { descriptor = d; plain = None }))
-  none-set d none is = (
-    all-faultless (plain-faultless seen reached_plains seen_plains t none)
-        (nothing-wrong seen reached_plains seen_plains t none),
-    is ∙ nothing-spelled seen reached_plains seen_plains t path none,
-    is ∙ plain-same seen reached_plains seen_plains t path,
+  none-set d none own is = (
+    all-faultless own (nothing-wrong seen reached_plains seen_plains t none),
+    is ∙ nothing-spelled seen reached_plains seen_plains t none path,
+    is,
   )
 
   -- some may be set

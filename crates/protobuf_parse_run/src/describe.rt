@@ -17,11 +17,9 @@ ghost use Rattle.protobuf_parse_run.specs.Loading.{plain_seen, plains_with};
 use crate::loaded::LoadedFiles;
 use crate::reach::Sights;
 use crate::tables::{RunPlaces, Tables, add_next, plain_of};
-use protobuf_parse_elaboration::elaborate;
-use protobuf_parse_model::{
-    ElabFailure, FileDescriptorProto, NoExtensions, Seen, WithoutCustoms, link,
-};
-use protobuf_parse_options::{DeclaredPlaces, KnownFiles, PickedFiles};
+use protobuf_parse_elaboration::{elaborate, elaborate_owned};
+use protobuf_parse_model::{ElabFailure, FileDescriptorProto, Seen, WithoutCustoms, link};
+use protobuf_parse_options::{DeclaredPlaces, KnownFiles, PickedFiles, has_custom_option};
 use protobuf_parse_syntax::FileTree;
 use std::alloc::{AllocError, Global};
 
@@ -34,23 +32,23 @@ pub struct Described {
 }
 
 /// What a file becomes over the files that it reaches and sees, if none of their names is declared
-/// twice.
+/// twice. Its tree is dropped on the way, statement by statement.
 pub fn elaborated(
     alloc: Global,
     loaded: &LoadedFiles,
     tables: &mut Tables,
     sights: &Sights,
     path: &str,
-    tree: &FileTree,
+    tree: FileTree,
 ) -> Result<Described, ElabFailure>
-    requires few { statements_in (file_syntax tree.now) ≤ 2147483647 }
+    requires few { statements_in (file_syntax tree) ≤ 2147483647 }
     requires reach { IsStrictlyIncreasing sights.now.reach.items }
     requires sight { IsStrictlyIncreasing sights.now.sight.items }
     requires begins { IndexBegins tables.old.places (map plain_in loaded.now.entries) }
     ensures names { tables.new.names ≡ tables.old.names }
     ensures describes { (files : List FileSyntax) → TableTells tables.old.names files
         → Describes loaded.now.entries files sights.now.reach.items sights.now.sight.items path.now
-        (file_syntax tree.now) result }
+        (file_syntax tree) result }
     ensures begins { IfOk result (λ d. IndexBegins tables.new.places
         (plains_with loaded.now.entries (plain_or d.plain d.descriptor))) }
 {
@@ -60,15 +58,14 @@ pub fn elaborated(
         reach: &sights.reach,
     };
     link(alloc, &seen)?;
-    match elaborate(alloc, path, tree, &seen, &NoExtensions) {
-        Ok(descriptor) => Ok(Described {
+    if has_custom_option(&tree) {
+        with_customs(alloc, loaded, &mut tables.places, &seen, path, tree)
+    } else {
+        let descriptor = elaborate_owned(alloc, path, tree, &seen, &WithoutCustoms)?;
+        Ok(Described {
             descriptor,
             plain: None,
-        }),
-        Err(ElabFailure::Memory) => Err(ElabFailure::Memory),
-        Err(ElabFailure::Fault(_)) => {
-            with_customs(alloc, loaded, &mut tables.places, &seen, path, tree)
-        }
+        })
     }
 }
 
@@ -80,18 +77,18 @@ fn with_customs(
     places: &mut RunPlaces,
     seen: &Seen<'_>,
     path: &str,
-    tree: &FileTree,
+    tree: FileTree,
 ) -> Result<Described, ElabFailure>
-    requires few { statements_in (file_syntax tree.now) ≤ 2147483647 }
+    requires few { statements_in (file_syntax tree) ≤ 2147483647 }
     requires begins { IndexBegins places.old (map plain_in loaded.now.entries) }
     ensures describes { (files : List FileSyntax) → TableTells seen.now.declarations.now files
         → link_faults (picked files seen.now.reach.now) ≡ []
         → Describes loaded.now.entries files seen.now.reach.now seen.now.sight.now path.now
-        (file_syntax tree.now) result }
+        (file_syntax tree) result }
     ensures begins { IfOk result (λ d. IndexBegins places.new
         (plains_with loaded.now.entries (plain_or d.plain d.descriptor))) }
 {
-    let plain = elaborate(alloc, path, tree, seen, &WithoutCustoms)?;
+    let plain = elaborate(alloc, path, &tree, seen, &WithoutCustoms)?;
     add_next(places, alloc, loaded, &plain)?;
     let descriptor = spelled(alloc, loaded, &places.declared, seen, &plain, path, tree)?;
     Ok(Described {
@@ -108,16 +105,16 @@ fn spelled(
     seen: &Seen<'_>,
     plain: &FileDescriptorProto,
     path: &str,
-    tree: &FileTree,
+    tree: FileTree,
 ) -> Result<FileDescriptorProto, ElabFailure>
-    requires few { statements_in (file_syntax tree.now) ≤ 2147483647 }
+    requires few { statements_in (file_syntax tree) ≤ 2147483647 }
     requires holds { Holds places.now
         (plains_with loaded.now.entries (described.file_view plain.now)) }
     ensures { (files : List FileSyntax) → TableTells seen.now.declarations.now files
         → let plains = plains_with loaded.now.entries (described.file_view plain.now) in
         let sight = seen.now.sight.now in
         let customs = customs_over plains seen.now.reach.now sight in
-        let t = file_syntax tree.now in let env = environment (picked files sight) customs t in
+        let t = file_syntax tree in let env = environment (picked files sight) customs t in
         Elaborates described.file_view result (file_faults env t) (file_of env path.now t) }
 {
     let reached = plains(alloc, loaded, plain, seen.reach)?;
@@ -131,7 +128,7 @@ fn spelled(
         files: &visible,
     };
     let known = KnownFiles::new(places, reach, sight);
-    elaborate(alloc, path, tree, seen, &known)
+    elaborate_owned(alloc, path, tree, seen, &known)
 }
 
 /// The descriptors of the files with these numbers, without custom options. The next file's is

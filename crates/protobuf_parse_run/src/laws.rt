@@ -47,8 +47,8 @@ pub fn runs_are_stable()
 /// A file reaches each file that it sees. So in an accepted run each name of a type in the
 /// descriptor of a file is the full name of a message or an enum that a file declares which it
 /// reaches, or of a message behind one of its own maps and groups
-/// ([`types_are_declared`](protobuf_parse_elaboration::types_are_declared) says so of the files that it
-/// sees).
+/// ([`types_are_declared`](protobuf_parse_elaboration::types_are_declared) says so of the files
+/// that it sees).
 pub fn seen_files_are_reached()
     ensures reached { SeenAreReached }
     ensures names { NamesAreReached }

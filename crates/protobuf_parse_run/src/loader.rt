@@ -528,7 +528,8 @@ fn settle(
 {
     let sights = sights_of(alloc, &loader.loaded, imports)?;
     loader.tables.names.add(alloc, loader.loaded.len(), &tree)?;
-    let described = descriptor_of(alloc, loader, &sights, &path, &tree, read)?;
+    let kept = Snapshot::of(&tree);
+    let described = descriptor_of(alloc, loader, &sights, &path, tree, read)?;
     let Described { descriptor, plain } = described;
     let Sights {
         reach,
@@ -536,7 +537,7 @@ fn settle(
         ..
     } = sights;
     let file = LoadedFile {
-        tree: Snapshot::of(&tree),
+        tree: kept,
         height,
         reach,
         handed_on,
@@ -566,10 +567,10 @@ fn descriptor_of(
     loader: &mut Loader,
     sights: &Sights,
     path: &str,
-    tree: &FileTree,
+    tree: FileTree,
     read: usize,
 ) -> Result<Described, RunFault>
-    requires few { statements_in (file_syntax tree.now) ≤ 2147483647 }
+    requires few { statements_in (file_syntax tree) ≤ 2147483647 }
     requires reach { IsStrictlyIncreasing sights.now.reach.items }
     requires sight { IsStrictlyIncreasing sights.now.sight.items }
     requires begins { HasIndex loader.old }
@@ -581,9 +582,9 @@ fn descriptor_of(
     ensures ok { (files : List FileSyntax) → TableTells loader.old.tables.names files →
         IfOk result
         (λ d. Describes loader.old.loaded.entries files sights.now.reach.items
-        sights.now.sight.items path.now (file_syntax tree.now) (Ok d)) }
+        sights.now.sight.items path.now (file_syntax tree) (Ok d)) }
     ensures err { (files : List FileSyntax) → TableTells loader.old.tables.names files
-        → let t = file_syntax tree.now in
+        → let t = file_syntax tree in
         IfErr result (λ f. (e : ReadEntry) → slice_get loader.old.reads.items read ≡ Some e
         → path_buf_text e.path ≡ path.now
         → OrMemory f (StandsInElab (origin_given path.now (Some e.outcome))

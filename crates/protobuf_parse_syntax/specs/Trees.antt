@@ -20,6 +20,8 @@ use Rattle.protobuf_parse_syntax.specs.declared.tree.constant.ProtobufConstant.T
 use Rattle.protobuf_parse_syntax.specs.declared.tree.constant.ConstantField.{ConstantField}
 use Rattle.protobuf_parse_syntax.specs.declared.tree.constant.ConstantFieldName.{ConstantFieldName}
 use Rattle.protobuf_parse_syntax.specs.declared.tree.constant.ConstantFieldName.TheVariants as constant_name
+use Rattle.protobuf_parse_syntax.specs.declared.tree.name.DeclaredName.{DeclaredName}
+use Rattle.protobuf_parse_syntax.specs.declared.tree.name.DeclaredName.TheVariants as declared_name
 use Rattle.protobuf_parse_syntax.specs.declared.tree.option.ProtobufOptionNamePart.{ProtobufOptionNamePart}
 use Rattle.protobuf_parse_syntax.specs.declared.tree.option.ProtobufOptionNamePart.TheVariants as option_part
 use Rattle.protobuf_parse_syntax.specs.declared.tree.option.ProtobufOptionName.{ProtobufOptionName}
@@ -58,6 +60,13 @@ use Rattle.protobuf_parse_syntax.specs.declared.tree.declaration.MessageStatemen
 use Rattle.protobuf_parse_syntax.specs.declared.tree.declaration.MessageStatement.{fold-MessageStatement}
 use Rattle.protobuf_parse_syntax.specs.declared.tree.declaration.MessageStatement.TheOpen.{MessageStatement-F}
 use Rattle.protobuf_parse_syntax.specs.declared.tree.declaration.MessageStatement.TheOpen.{Message-F}
+
+-- ---- names
+
+-- the text of the name of what is declared
+abbrev pub name_bytes : DeclaredName → Bytes
+name_bytes (declared_name.Short s) = s.bytes
+name_bytes (declared_name.Long s) = string_bytes s
 
 -- ---- strings
 
@@ -194,7 +203,7 @@ field_syntax f = record {
   place = f.place;
   label = f.label;
   type_ = type_syntax f.type_;
-  name = string_bytes f.name;
+  name = name_bytes f.name;
   number = f.number;
   options = map option_syntax f.options.items;
 }
@@ -227,7 +236,7 @@ abbrev pub group_step : Group-F FieldStatementSyntax GroupSyntax → GroupSyntax
 group_step g = record {
   place = g.place;
   label = g.label;
-  name = string_bytes g.name;
+  name = name_bytes g.name;
   number = g.number;
   fields = g.fields.items;
 }
@@ -245,7 +254,7 @@ abbrev pub group_syntax : Group → GroupSyntax
 group_syntax g = record {
   place = g.place;
   label = g.label;
-  name = string_bytes g.name;
+  name = name_bytes g.name;
   number = g.number;
   fields = map field_statement_syntax g.fields.items;
 }
@@ -319,7 +328,7 @@ oneof_statement_syntax (oneof_statement.Field f) = oneof_field (field_statement_
 abbrev pub oneof_syntax : OneOf → OneofSyntax
 oneof_syntax o = record {
   place = o.place;
-  name = string_bytes o.name;
+  name = name_bytes o.name;
   body = map oneof_statement_syntax o.body.items;
 }
 
@@ -333,7 +342,7 @@ extend_syntax e = record {
 abbrev pub value_syntax : EnumValue → EnumValueSyntax
 value_syntax v = record {
   place = v.place;
-  name = string_bytes v.name;
+  name = name_bytes v.name;
   number = v.number;
   options = map option_syntax v.options.items;
 }
@@ -346,7 +355,7 @@ enum_statement_syntax (enum_statement.Value v) = enum_value (value_syntax v)
 abbrev pub enum_syntax : Enumeration → EnumSyntax
 enum_syntax e = record {
   place = e.place;
-  name = string_bytes e.name;
+  name = name_bytes e.name;
   body = map enum_statement_syntax e.body.items;
 }
 
@@ -380,7 +389,7 @@ abbrev pub nested_message : MessageSyntax → MessageStatementSyntax
 nested_message m = message_message m.place m.name (message_statements m.body)
 
 abbrev pub message_step : Message-F MessageStatementSyntax MessageSyntax → MessageSyntax
-message_step m = record { place = m.place; name = string_bytes m.name; body = m.body.items }
+message_step m = record { place = m.place; name = name_bytes m.name; body = m.body.items }
 
 abbrev pub message_statement_step :
     MessageStatement-F MessageStatementSyntax MessageSyntax → MessageStatementSyntax
@@ -425,7 +434,7 @@ pub record ServiceSyntax : Type 0 where
 abbrev pub method_syntax : Method → MethodSyntax
 method_syntax m = record {
   place = m.place;
-  name = string_bytes m.name;
+  name = name_bytes m.name;
   input = string_bytes m.input;
   output = string_bytes m.output;
   client_streaming = m.client_streaming;
@@ -440,7 +449,7 @@ service_statement_syntax (service_statement.Option o) = service_option (option_s
 abbrev pub service_syntax : Service → ServiceSyntax
 service_syntax s = record {
   place = s.place;
-  name = string_bytes s.name;
+  name = name_bytes s.name;
   body = map service_statement_syntax s.body.items;
 }
 

@@ -15,9 +15,9 @@ pub use protobuf_parse_lexer::{
     unquoted,
 };
 pub use tree::{
-    ConstantField, ConstantFieldName, EnumStatement, EnumValue, Enumeration, Extend, Extensions,
-    Field, FieldNumberRange, FieldStatement, FileStatement, FileTree, Group, Import, ImportVis,
-    Label, Message, MessageStatement, Method, OneOf, OneOfStatement, OptionStatement, Package,
-    ProtobufConstant, ProtobufOption, ProtobufOptionName, ProtobufOptionNamePart, Reserved,
-    ReservedStatement, Scalar, Service, ServiceStatement, Syntax, Type,
+    ConstantField, ConstantFieldName, DeclaredName, EnumStatement, EnumValue, Enumeration, Extend,
+    Extensions, Field, FieldNumberRange, FieldStatement, FileStatement, FileTree, Group, Import,
+    ImportVis, Label, Message, MessageStatement, Method, OneOf, OneOfStatement, OptionStatement,
+    Package, ProtobufConstant, ProtobufOption, ProtobufOptionName, ProtobufOptionNamePart,
+    Reserved, ReservedStatement, Scalar, Service, ServiceStatement, Syntax, Type,
 };

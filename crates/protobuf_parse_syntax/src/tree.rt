@@ -4,6 +4,7 @@
 mod constant;
 mod declaration;
 mod field;
+mod name;
 mod option;
 
 ghost use Rattle.std.specs.Prelude.{◌≡◌};
@@ -19,6 +20,7 @@ pub use declaration::{
     ServiceStatement,
 };
 pub use field::{Field, FieldStatement, Group, Label, Scalar, Type};
+pub use name::DeclaredName;
 pub use option::{OptionStatement, ProtobufOption, ProtobufOptionName, ProtobufOptionNamePart};
 use protobuf_parse_base::proto_path::ProtoPathBuf;
 use protobuf_parse_lexer::Place;
@@ -49,6 +51,17 @@ impl Drop for FileTree {
 }
 
 impl FileTree {
+    /// Its statements.
+    pub fn into_statements(self) -> Vec<FileStatement>
+        ensures { result ≡ self.statements }
+    {
+        let FileTree {
+            syntax: _,
+            statements,
+        } = self;
+        statements
+    }
+
     /// The file's package, without a dot before it: the name of the last `package` statement, since
     /// it is the one that counts, and `None` where there is none.
     pub fn package(&self) -> Option<&str>
@@ -74,7 +87,6 @@ fn package_behind<'a>(statement: &'a FileStatement, before: Option<&'a str>) -> 
 }
 
 /// A statement of a file.
-#[derive(Drop)]
 pub enum FileStatement {
     Import(Import),
     Package(Package),
@@ -83,6 +95,21 @@ pub enum FileStatement {
     Enumeration(Enumeration),
     Extend(Extend),
     Service(Service),
+}
+
+// Written out, as that of `FileTree`.
+impl Drop for FileStatement {
+    fn drop(self) {
+        match self {
+            FileStatement::Import(_)
+            | FileStatement::Package(_)
+            | FileStatement::Option(_)
+            | FileStatement::Message(_)
+            | FileStatement::Enumeration(_)
+            | FileStatement::Extend(_)
+            | FileStatement::Service(_) => {}
+        }
+    }
 }
 
 /// How an imported file is seen.

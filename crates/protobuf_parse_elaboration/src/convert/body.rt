@@ -5,14 +5,16 @@ ghost use Rattle.protobuf_parse_syntax.specs.Trees as tree;
 ghost use Rattle.protobuf_parse_model.specs.SeenFiles.{environment_in};
 ghost use Rattle.protobuf_parse_model.specs.Descriptors as described;
 ghost use Rattle.protobuf_parse_model.specs.Faults.{Elaborates};
-ghost use Rattle.protobuf_parse_elaboration.specs.Contexts.{body_view};
-ghost use Rattle.protobuf_parse_elaboration.specs.Contexts.{message_of_both, rest_view};
-ghost use Rattle.protobuf_parse_elaboration.specs.Contexts.{with_body_statement};
+ghost use Rattle.protobuf_parse_model.specs.Statements as statements;
+ghost use Rattle.protobuf_parse_elaboration.specs.Parts.{body_view};
+ghost use Rattle.protobuf_parse_elaboration.specs.Parts.{message_of_both, rest_view};
+ghost use Rattle.protobuf_parse_elaboration.specs.Parts.{with_body_statement};
 ghost use Rattle.protobuf_parse_elaboration.specs.Enums.{enum_faults};
 ghost use Rattle.protobuf_parse_elaboration.specs.Fields.{field_statement_faults};
 ghost use Rattle.protobuf_parse_elaboration.specs.Messages.{extend_faults, has_own_oneof, oneof_faults};
 
 use crate::convert::enumeration::enum_descriptor;
+use crate::convert::field::{field_descriptor, is_map};
 use crate::convert::lists::{append_declared, fields_of_extend, fields_of_oneof, shrunk};
 use crate::convert::oneof::{has_own_oneof, oneof_descriptor, own_oneof};
 use crate::convert::place::FieldPlace;
@@ -22,7 +24,7 @@ use protobuf_parse_model::{
     Context, CustomOptions, DescriptorProto, ElabFailure, EnumDescriptorProto,
     FieldDescriptorProto, OneofDescriptorProto,
 };
-use protobuf_parse_syntax::{Enumeration, Extend, FieldStatement, OneOf};
+use protobuf_parse_syntax::{Enumeration, Extend, Field, FieldStatement, OneOf};
 use std::alloc::Global;
 
 /// What the statements of a message's body declare, each list in source order.
@@ -98,6 +100,56 @@ pub fn add_field<C: CustomOptions>(
 
 /// Adds a field that is in no oneof.
 fn add_plain<C: CustomOptions>(
+    alloc: Global,
+    context: &Context<'_>,
+    custom: &C,
+    body: &mut Body,
+    statement: &FieldStatement,
+) -> Result<(), ElabFailure>
+    requires { has_own_oneof (environment_in (C.customs custom.now) context.now)
+        (tree.field_statement_syntax statement.now) ≡ false }
+    ensures { let env = environment_in (C.customs custom.now) context.now in
+        let s = tree.field_statement_syntax statement.now in
+        Elaborates (λ _. body_view body.new) result (field_statement_faults env s)
+        (with_body_statement env (body_view body.old) (tree.message_field s)) }
+{
+    match statement {
+        FieldStatement::Field(field) if !is_map(&field.type_) => {
+            add_without_message(alloc, context, custom, body, field)
+        }
+        _ => add_with_message(alloc, context, custom, body, statement),
+    }
+}
+
+/// Adds a field that is in no oneof, and behind which no message stands.
+#[inline(always)]
+#[tactic(auto, using(crate::proofs::Bodies::no_entries))]
+fn add_without_message<C: CustomOptions>(
+    alloc: Global,
+    context: &Context<'_>,
+    custom: &C,
+    body: &mut Body,
+    field: &Field,
+) -> Result<(), ElabFailure>
+    requires plain { statements.is_map (tree.type_syntax field.now.type_) ≡ false }
+    requires own { has_own_oneof (environment_in (C.customs custom.now) context.now)
+        (tree.field (tree.field_syntax field.now)) ≡ false }
+    ensures { let env = environment_in (C.customs custom.now) context.now in
+        let s = tree.field (tree.field_syntax field.now) in
+        Elaborates (λ _. body_view body.new) result (field_statement_faults env s)
+        (with_body_statement env (body_view body.old) (tree.message_field s)) }
+{
+    let place = FieldPlace {
+        extendee: None,
+        oneof_index: None,
+    };
+    let descriptor = field_descriptor(alloc, context, custom, &place, field)?;
+    body.field.push(descriptor)?;
+    Ok(())
+}
+
+/// Adds a field that is in no oneof, and the message behind it, if one stands there.
+fn add_with_message<C: CustomOptions>(
     alloc: Global,
     context: &Context<'_>,
     custom: &C,

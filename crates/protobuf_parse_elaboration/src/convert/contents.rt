@@ -1,17 +1,15 @@
 //! What the statements of a file declare.
 
-ghost use Rattle.std.specs.Prelude.{◌≡◌, ◌++◌, ◌≤◌, map, flat_map, option_map, string_bytes};
-ghost use Rattle.std.specs.Prelude.{sum_by};
+ghost use Rattle.std.specs.Prelude.{◌≡◌, ◌++◌, ◌≤◌, map, flat_map, sum_by};
 ghost use Rattle.protobuf_parse_syntax.specs.Counts.{statement_count};
-ghost use Rattle.protobuf_parse_syntax.specs.Dependencies.{dependencies_view};
 ghost use Rattle.protobuf_parse_syntax.specs.Trees.{extend_syntax, file_extend, statement_syntax};
 ghost use Rattle.protobuf_parse_model.specs.SeenFiles.{environment_in};
 ghost use Rattle.protobuf_parse_model.specs.Descriptors as described;
 ghost use Rattle.protobuf_parse_model.specs.Faults.{Elaborates};
-ghost use Rattle.protobuf_parse_model.specs.Options.{file_options_view};
 ghost use Rattle.protobuf_parse_elaboration.specs.FileDescriptor.{file_faults_of};
 ghost use Rattle.protobuf_parse_elaboration.specs.FileParts.{parts_faults, parts_of_file, parts_view};
-ghost use Rattle.protobuf_parse_elaboration.specs.FileParts.{file_with, with_file_statement};
+ghost use Rattle.protobuf_parse_elaboration.specs.FileParts.{file_with, heading_view, no_parts};
+ghost use Rattle.protobuf_parse_elaboration.specs.FileParts.{with_file_statement};
 ghost use Rattle.protobuf_parse_elaboration.specs.Messages.{extend_faults};
 
 use crate::convert::enumeration::enum_descriptor;
@@ -22,9 +20,9 @@ use crate::convert::names::check_unlike;
 use crate::convert::service::service_descriptor;
 use protobuf_parse_model::{
     Context, CustomOptions, DescriptorProto, ElabFailure, EnumDescriptorProto,
-    FieldDescriptorProto, FileDescriptorProto, FileOptions, ServiceDescriptorProto,
+    FieldDescriptorProto, FileDescriptorProto, ServiceDescriptorProto,
 };
-use protobuf_parse_syntax::{Dependencies, Extend, FileStatement};
+use protobuf_parse_syntax::{Extend, FileStatement};
 use std::alloc::Global;
 
 /// What the statements of a file declare, each list in source order.
@@ -48,16 +46,21 @@ impl Drop for Contents {
 }
 
 impl Contents {
-    /// The file with these contents.
-    pub fn into_file(
-        self,
-        heading: Heading,
-        imports: Dependencies,
-        options: Option<FileOptions>,
-    ) -> FileDescriptorProto
-        ensures { described.file_view result ≡ file_with (string_bytes heading.name)
-            (option_map string_bytes heading.package_name) (string_bytes heading.syntax)
-            (dependencies_view imports) (parts_view self) (option_map file_options_view options) }
+    /// None.
+    fn new(alloc: Global) -> Self
+        ensures { parts_view result ≡ no_parts }
+    {
+        Contents {
+            message_type: Vec::new(alloc),
+            enum_type: Vec::new(alloc),
+            service: Vec::new(alloc),
+            extension: Vec::new(alloc),
+        }
+    }
+
+    /// The file with this heading and these contents.
+    pub fn into_file(self, heading: Heading) -> FileDescriptorProto
+        ensures { described.file_view result ≡ file_with (heading_view heading) (parts_view self) }
     {
         let Contents {
             message_type,
@@ -65,6 +68,7 @@ impl Contents {
             service,
             extension,
         } = self;
+        let imports = heading.imports;
         FileDescriptorProto {
             name: Some(heading.name),
             package: heading.package_name,
@@ -76,7 +80,7 @@ impl Contents {
             enum_type: shrunk(enum_type),
             service: shrunk(service),
             extension: shrunk(extension),
-            options,
+            options: heading.options,
         }
     }
 }
@@ -126,14 +130,50 @@ fn declared<C: CustomOptions>(
         let ss = map statement_syntax statements.now in
         Elaborates parts_view result (flat_map (file_faults_of env) ss) (parts_of_file env ss) }
 {
-    let mut contents = Contents {
-        message_type: Vec::new(alloc),
-        enum_type: Vec::new(alloc),
-        service: Vec::new(alloc),
-        extension: Vec::new(alloc),
-    };
+    let mut contents = Contents::new(alloc);
     for statement in statements {
         add_statement(alloc, context, custom, &mut contents, statement)?;
+    }
+    Ok(contents)
+}
+
+/// As `contents_of`, of statements that are dropped one by one, so that not all of them stand
+/// beside all that they become.
+#[tactic(auto, using(protobuf_parse_model::proofs::Blaming::blames_left, protobuf_parse_model::proofs::Blaming::blames_right))]
+pub fn contents_of_owned<C: CustomOptions>(
+    alloc: Global,
+    context: &Context<'_>,
+    custom: &C,
+    statements: Vec<FileStatement>,
+) -> Result<Contents, ElabFailure>
+    requires few { sum_by statement_count (map statement_syntax statements.items) ≤ 2147483647 }
+    ensures { let env = environment_in (C.customs custom.now) context.now in
+        let ss = map statement_syntax statements.items in
+        Elaborates parts_view result
+        (parts_faults (parts_of_file env ss) ++ flat_map (file_faults_of env) ss)
+        (parts_of_file env ss) }
+{
+    let contents = declared_by_owned(alloc, context, custom, statements)?;
+    check_names(alloc, &contents)?;
+    Ok(contents)
+}
+
+/// What these statements declare, each dropped once that is known.
+#[tactic(auto, using(protobuf_parse_model::proofs::Blaming::blames_at))]
+fn declared_by_owned<C: CustomOptions>(
+    alloc: Global,
+    context: &Context<'_>,
+    custom: &C,
+    statements: Vec<FileStatement>,
+) -> Result<Contents, ElabFailure>
+    requires few { sum_by statement_count (map statement_syntax statements.items) ≤ 2147483647 }
+    ensures { let env = environment_in (C.customs custom.now) context.now in
+        let ss = map statement_syntax statements.items in
+        Elaborates parts_view result (flat_map (file_faults_of env) ss) (parts_of_file env ss) }
+{
+    let mut contents = Contents::new(alloc);
+    for statement in statements {
+        add_statement(alloc, context, custom, &mut contents, &statement)?;
     }
     Ok(contents)
 }

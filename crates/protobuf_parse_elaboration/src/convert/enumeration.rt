@@ -11,8 +11,8 @@ ghost use Rattle.protobuf_parse_model.specs.declared.customs.Construct.TheVarian
 ghost use Rattle.protobuf_parse_model.specs.Options.{enum_options_view};
 ghost use Rattle.protobuf_parse_model.specs.OptionMessages as sets;
 ghost use Rattle.protobuf_parse_elaboration.specs.ConstructOptions.{construct_faults};
-ghost use Rattle.protobuf_parse_elaboration.specs.Contexts.{reserves_seen};
-ghost use Rattle.protobuf_parse_elaboration.specs.Contexts.{values_seen};
+ghost use Rattle.protobuf_parse_elaboration.specs.Parts.{reserves_seen};
+ghost use Rattle.protobuf_parse_elaboration.specs.Parts.{values_seen};
 ghost use Rattle.protobuf_parse_elaboration.specs.Enums as enums;
 
 use crate::convert::names::check_unlike;
@@ -43,7 +43,7 @@ pub fn enum_descriptor<C: CustomOptions>(
 {
     let value = enum_values(alloc, context, custom, &enumeration.body)?;
     let reserved = reserved(alloc, &enumeration.body)?;
-    let name = enumeration.name.clone()?;
+    let name = enumeration.name.text(alloc)?;
     let options = checked_options(alloc, context, custom, &enumeration.body)?;
     Ok(EnumDescriptorProto {
         name,
@@ -136,7 +136,7 @@ fn value_descriptor<C: CustomOptions>(
     let options = options_of(alloc, &value.options)?;
     let bytes = checked_customs(alloc, context, custom, Construct::EnumValue, &options)?;
     Ok(EnumValueDescriptorProto {
-        name: value.name.clone()?,
+        name: value.name.text(alloc)?,
         number: value.number,
         options: enum_value_options(&options, bytes),
     })

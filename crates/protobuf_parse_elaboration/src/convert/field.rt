@@ -10,20 +10,20 @@ ghost use Rattle.protobuf_parse_model.specs.BuiltinOptions.{options_seen};
 ghost use Rattle.protobuf_parse_model.specs.Descriptors as described;
 ghost use Rattle.protobuf_parse_model.specs.Faults.{Elaborates};
 ghost use Rattle.protobuf_parse_model.specs.Statements as statements;
-ghost use Rattle.protobuf_parse_elaboration.specs.Contexts.{field_place_view};
-ghost use Rattle.protobuf_parse_elaboration.specs.Contexts.{resolved_view};
-ghost use Rattle.protobuf_parse_elaboration.specs.Contexts.{said_by, said_view};
+ghost use Rattle.protobuf_parse_elaboration.specs.Parts.{field_place_view};
+ghost use Rattle.protobuf_parse_elaboration.specs.Parts.{resolved_view};
+ghost use Rattle.protobuf_parse_elaboration.specs.Parts.{said_by, said_view};
 ghost use Rattle.protobuf_parse_elaboration.specs.Fields as fields;
 
 use crate::convert::options::{
     checked_field_customs, default_value, field_options, json_name_of, options_of,
 };
 use crate::convert::place::FieldPlace;
-use crate::convert::types::resolved_type;
+use crate::convert::types::{ResolvedType, resolved_type};
 use protobuf_parse_base::text::json_name;
 use protobuf_parse_model::{
     Construct, Context, CustomOptions, ElabErrorKind, ElabFailure, FieldDescriptorProto,
-    FieldOptions, FieldType, Label, ResolvedType, fault, full_name, group_field_name,
+    FieldOptions, FieldType, Label, fault, full_name, group_field_name,
 };
 use protobuf_parse_syntax::{Field, Group, ProtobufOption, Syntax, Type};
 use std::alloc::{AllocError, Global};
@@ -60,7 +60,7 @@ fn field_with<C: CustomOptions>(
         (fields.faults_of_options env resolved.kind f.name f.options)
         (fields.field_with env (field_place_view place.now) f (resolved_view resolved)) }
 {
-    let name = field.name.clone()?;
+    let name = field.name.text(alloc)?;
     let extendee = place.extendee(alloc)?;
     let said = field_said(
         alloc,

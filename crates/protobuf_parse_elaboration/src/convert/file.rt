@@ -1,29 +1,20 @@
 //! Files.
 
-ghost use Rattle.std.specs.Prelude.{◌≤◌, map, option_map};
+ghost use Rattle.std.specs.Prelude.{◌≤◌};
 ghost use Rattle.protobuf_parse_syntax.specs.Counts.{statements_in};
-ghost use Rattle.protobuf_parse_syntax.specs.Trees.{file_syntax, statement_syntax};
-ghost use Rattle.protobuf_parse_model.specs.BuiltinOptions.{file_table};
+ghost use Rattle.protobuf_parse_syntax.specs.Trees.{file_syntax};
 ghost use Rattle.protobuf_parse_model.specs.SeenFiles.{environment_in};
 ghost use Rattle.protobuf_parse_model.specs.SeenFiles.{environment_of_file};
 ghost use Rattle.protobuf_parse_model.specs.Descriptors as described;
 ghost use Rattle.protobuf_parse_model.specs.Faults.{Elaborates};
-ghost use Rattle.protobuf_parse_model.specs.Environment.{customs_bytes};
-ghost use Rattle.protobuf_parse_model.specs.Options.{file_options_view};
-ghost use Rattle.protobuf_parse_model.specs.OptionMessages as sets;
-ghost use Rattle.protobuf_parse_model.specs.declared.customs.Construct.TheVariants as of;
-ghost use Rattle.protobuf_parse_elaboration.specs.ConstructOptions.{construct_faults};
 ghost use Rattle.protobuf_parse_elaboration.specs.FileDescriptor.{file_faults, file_of};
-ghost use Rattle.protobuf_parse_elaboration.specs.FileDescriptor.{options_of_statements};
 
-use crate::convert::contents::contents_of;
-use crate::convert::heading::heading_of;
-use crate::convert::options::{checked_customs, file_options, options_in};
+use crate::convert::contents::{contents_of, contents_of_owned};
+use crate::convert::heading::{heading_of, package_of};
 use protobuf_parse_model::{
-    Construct, Context, CustomOptions, ElabFailure, FileDescriptorProto, FileOptions, Seen,
-    file_scope,
+    Context, CustomOptions, ElabFailure, FileDescriptorProto, Seen, file_scope, scope_of_package,
 };
-use protobuf_parse_syntax::{FileStatement, FileTree, imports_of};
+use protobuf_parse_syntax::FileTree;
 use std::alloc::Global;
 
 /// The descriptor of a file that is known by the path `name`, by what it sees.
@@ -53,7 +44,6 @@ pub fn file_descriptor<C: CustomOptions>(
 }
 
 /// The descriptor of a file, of which each construct is seen from the context.
-#[tactic(auto, using(protobuf_parse_model::proofs::Blaming::blames_left, protobuf_parse_model::proofs::Blaming::blames_right))]
 fn descriptor_in<C: CustomOptions>(
     alloc: Global,
     context: &Context<'_>,
@@ -66,28 +56,48 @@ fn descriptor_in<C: CustomOptions>(
         let env = environment_in (C.customs custom.now) context.now in
         Elaborates described.file_view result (file_faults env t) (file_of env name.now t) }
 {
+    let heading = heading_of(alloc, context, custom, name, tree)?;
     let contents = contents_of(alloc, context, custom, &tree.statements)?;
-    let imports = imports_of(alloc, &tree.statements)?;
-    let heading = heading_of(alloc, name, tree)?;
-    let options = checked_options(alloc, context, custom, &tree.statements)?;
-    Ok(contents.into_file(heading, imports, options))
+    Ok(contents.into_file(heading))
 }
 
-/// What the options of a file set, and the faults in them.
-#[tactic(auto, using(crate::proofs::StatedOptions::set_in_file))]
-fn checked_options<C: CustomOptions>(
+/// As `file_descriptor`, of a tree whose statements are dropped one by one.
+pub fn descriptor_of_owned<C: CustomOptions>(
+    alloc: Global,
+    name: &str,
+    tree: FileTree,
+    seen: &Seen<'_>,
+    custom: &C,
+) -> Result<FileDescriptorProto, ElabFailure>
+    requires few { statements_in (file_syntax tree) ≤ 2147483647 }
+    ensures { let t = file_syntax tree in
+        let env = environment_of_file (C.customs custom.now) seen.now t in
+        Elaborates described.file_view result (file_faults env t) (file_of env name.now t) }
+{
+    let package_name = package_of(alloc, &tree)?;
+    let scope = scope_of_package(alloc, package_name.as_deref())?;
+    let context = Context {
+        syntax: tree.syntax,
+        seen: *seen,
+        scope: &scope,
+    };
+    owned_in(alloc, &context, custom, name, tree)
+}
+
+/// The descriptor of a file, of which each construct is seen from the context.
+fn owned_in<C: CustomOptions>(
     alloc: Global,
     context: &Context<'_>,
     custom: &C,
-    statements: &[FileStatement],
-) -> Result<Option<FileOptions>, ElabFailure>
-    ensures { let env = environment_in (C.customs custom.now) context.now in
-        let os = options_of_statements (map statement_syntax statements.now) in
-        Elaborates (λ o. option_map file_options_view o) result
-        (construct_faults env of.File file_table os)
-        (sets.file_options (customs_bytes env of.File os) os) }
+    name: &str,
+    tree: FileTree,
+) -> Result<FileDescriptorProto, ElabFailure>
+    requires few { statements_in (file_syntax tree) ≤ 2147483647 }
+    ensures { let t = file_syntax tree in
+        let env = environment_in (C.customs custom.now) context.now in
+        Elaborates described.file_view result (file_faults env t) (file_of env name.now t) }
 {
-    let options = options_in(alloc, statements)?;
-    let bytes = checked_customs(alloc, context, custom, Construct::File, &options)?;
-    Ok(file_options(alloc, &options, bytes)?)
+    let heading = heading_of(alloc, context, custom, name, &tree)?;
+    let contents = contents_of_owned(alloc, context, custom, tree.into_statements())?;
+    Ok(contents.into_file(heading))
 }

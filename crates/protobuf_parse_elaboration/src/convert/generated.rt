@@ -10,18 +10,18 @@ ghost use Rattle.protobuf_parse_model.specs.SeenFiles.{names_of_context};
 ghost use Rattle.protobuf_parse_model.specs.Descriptors as described;
 ghost use Rattle.protobuf_parse_model.specs.Faults.{Elaborates};
 ghost use Rattle.protobuf_parse_model.specs.Options.{message_options_view};
-ghost use Rattle.protobuf_parse_elaboration.specs.Contexts.{resolved_view};
-ghost use Rattle.protobuf_parse_elaboration.specs.Contexts.{behind_seen};
+ghost use Rattle.protobuf_parse_elaboration.specs.Parts.{resolved_view};
+ghost use Rattle.protobuf_parse_elaboration.specs.Parts.{behind_seen};
 ghost use Rattle.protobuf_parse_elaboration.specs.Fields as fields;
 ghost use Rattle.protobuf_parse_elaboration.specs.Messages as messages;
 
 use crate::convert::field::{check_no_map, field_descriptor};
 use crate::convert::names::check_unlike;
 use crate::convert::place::FieldPlace;
-use crate::convert::types::inner_type;
+use crate::convert::types::{ResolvedType, inner_type};
 use protobuf_parse_model::{
     Context, CustomOptions, DescriptorProto, ElabErrorKind, ElabFailure, FieldDescriptorProto,
-    Label, MessageOptions, ResolvedType, entry_name, fault, group_field_name,
+    Label, MessageOptions, entry_name, fault, group_field_name,
 };
 use protobuf_parse_syntax::{Field, FieldStatement, Group, Type};
 use std::alloc::{AllocError, Global};
@@ -164,7 +164,7 @@ pub fn group_message<C: CustomOptions>(
 {
     let field = grouped_fields(alloc, context, custom, &group.fields)?;
     check_unlike(alloc, &field)?;
-    Ok(message_with(alloc, group.name.clone()?, field, None))
+    Ok(message_with(alloc, group.name.text(alloc)?, field, None))
 }
 
 /// The fields of a group.

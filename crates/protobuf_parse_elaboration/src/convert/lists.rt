@@ -6,8 +6,8 @@ ghost use Rattle.protobuf_parse_syntax.specs.Trees.{oneof_syntax};
 ghost use Rattle.protobuf_parse_model.specs.SeenFiles.{environment_in};
 ghost use Rattle.protobuf_parse_model.specs.Faults.{Elaborates};
 ghost use Rattle.protobuf_parse_model.specs.Statements.{oneof_fields};
-ghost use Rattle.protobuf_parse_elaboration.specs.Contexts.{fields_declared, fields_view};
-ghost use Rattle.protobuf_parse_elaboration.specs.Contexts.{field_place_view, statements_seen};
+ghost use Rattle.protobuf_parse_elaboration.specs.Parts.{fields_declared, fields_view};
+ghost use Rattle.protobuf_parse_elaboration.specs.Parts.{field_place_view, statements_seen};
 ghost use Rattle.protobuf_parse_elaboration.specs.Fields.{extension_faults, field_statement_faults};
 ghost use Rattle.protobuf_parse_elaboration.specs.Messages.{extending, extension_faults_of};
 

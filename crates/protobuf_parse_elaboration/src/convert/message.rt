@@ -10,9 +10,9 @@ ghost use Rattle.protobuf_parse_model.specs.Declarations as names;
 ghost use Rattle.protobuf_parse_model.specs.Descriptors as described;
 ghost use Rattle.protobuf_parse_model.specs.Environment.{env_inside};
 ghost use Rattle.protobuf_parse_model.specs.Faults.{Elaborates};
-ghost use Rattle.protobuf_parse_elaboration.specs.Contexts as contexts;
-ghost use Rattle.protobuf_parse_elaboration.specs.Contexts.{body_view, names_faults};
-ghost use Rattle.protobuf_parse_elaboration.specs.Contexts.{with_body_statement};
+ghost use Rattle.protobuf_parse_elaboration.specs.Parts as contexts;
+ghost use Rattle.protobuf_parse_elaboration.specs.Parts.{body_view, names_faults};
+ghost use Rattle.protobuf_parse_elaboration.specs.Parts.{with_body_statement};
 ghost use Rattle.protobuf_parse_elaboration.specs.Messages as messages;
 
 use crate::convert::body::{Body, add_enum, add_extend, add_field, add_oneof};

@@ -37,7 +37,7 @@ pub fn oneof_descriptor<C: CustomOptions>(
         (construct_faults env of.Oneof oneof_table (messages.options_in_oneof o))
         (messages.oneof_of env o) }
 {
-    let name = oneof.name.clone()?;
+    let name = oneof.name.text(alloc)?;
     let options = checked_options(alloc, context, custom, &oneof.body)?;
     Ok(OneofDescriptorProto { name, options })
 }

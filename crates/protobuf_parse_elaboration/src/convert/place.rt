@@ -15,7 +15,7 @@ pub struct FieldPlace<'a> {
 }
 
 impl FieldPlace<'_> {
-    ghost use Rattle.protobuf_parse_elaboration.specs.Contexts.{field_place_view};
+    ghost use Rattle.protobuf_parse_elaboration.specs.Parts.{field_place_view};
 
     /// The message that the field extends, in a text of its own.
     pub fn extendee(&self, alloc: Global) -> Result<Option<String>, AllocError>

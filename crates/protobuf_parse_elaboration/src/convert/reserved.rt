@@ -4,7 +4,7 @@ ghost use Rattle.std.specs.Prelude.{◌≡◌, ◌++◌, map, flat_map, string_b
 ghost use Rattle.protobuf_parse_syntax.specs.Trees.{range_syntax, reserved_syntax};
 ghost use Rattle.protobuf_parse_model.specs.Descriptors as described;
 ghost use Rattle.protobuf_parse_model.specs.Faults.{Elaborates};
-ghost use Rattle.protobuf_parse_elaboration.specs.Contexts.{reserves_seen};
+ghost use Rattle.protobuf_parse_elaboration.specs.Parts.{reserves_seen};
 ghost use Rattle.protobuf_parse_elaboration.specs.Enums.{inclusive, names_reserved, ranges_reserved};
 ghost use Rattle.protobuf_parse_elaboration.specs.Messages.{exclusive, range_faults};
 

@@ -11,8 +11,8 @@ ghost use Rattle.protobuf_parse_model.specs.declared.customs.Construct.TheVarian
 ghost use Rattle.protobuf_parse_model.specs.Options.{message_options_view};
 ghost use Rattle.protobuf_parse_model.specs.OptionMessages as sets;
 ghost use Rattle.protobuf_parse_elaboration.specs.ConstructOptions.{construct_faults};
-ghost use Rattle.protobuf_parse_elaboration.specs.Contexts.{reserved_views};
-ghost use Rattle.protobuf_parse_elaboration.specs.Contexts.{reserves_seen, rest_of, rest_view};
+ghost use Rattle.protobuf_parse_elaboration.specs.Parts.{reserved_views};
+ghost use Rattle.protobuf_parse_elaboration.specs.Parts.{reserves_seen, rest_of, rest_view};
 ghost use Rattle.protobuf_parse_elaboration.specs.Enums as enums;
 ghost use Rattle.protobuf_parse_elaboration.specs.Messages as messages;
 

@@ -14,7 +14,7 @@ ghost use Rattle.protobuf_parse_model.specs.Faults.{Elaborates};
 ghost use Rattle.protobuf_parse_model.specs.Options.{method_options_view, service_options_view};
 ghost use Rattle.protobuf_parse_model.specs.OptionMessages as sets;
 ghost use Rattle.protobuf_parse_elaboration.specs.ConstructOptions.{construct_faults};
-ghost use Rattle.protobuf_parse_elaboration.specs.Contexts.{methods_seen};
+ghost use Rattle.protobuf_parse_elaboration.specs.Parts.{methods_seen};
 ghost use Rattle.protobuf_parse_elaboration.specs.Services as services;
 
 use crate::convert::names::check_unlike;
@@ -44,7 +44,7 @@ pub fn service_descriptor<C: CustomOptions>(
         (services.service_of env s) }
 {
     let method = service_methods(alloc, context, custom, &service.body)?;
-    let name = service.name.clone()?;
+    let name = service.name.text(alloc)?;
     let options = checked_options(alloc, context, custom, &service.body)?;
     Ok(ServiceDescriptorProto {
         name,
@@ -135,7 +135,7 @@ fn method_descriptor<C: CustomOptions>(
 {
     let input_type = method_type(alloc, context, &method.input)?;
     let output_type = method_type(alloc, context, &method.output)?;
-    let name = method.name.clone()?;
+    let name = method.name.text(alloc)?;
     let options = checked_method_options(alloc, context, custom, &method.options)?;
     Ok(MethodDescriptorProto {
         name,

@@ -6,9 +6,9 @@ ghost use Rattle.protobuf_parse_syntax.specs.Trees.{field_syntax, field_statemen
 ghost use Rattle.protobuf_parse_syntax.specs.Trees.{group_syntax};
 ghost use Rattle.protobuf_parse_model.specs.SeenFiles.{environment_in};
 ghost use Rattle.protobuf_parse_model.specs.Faults.{Elaborates};
-ghost use Rattle.protobuf_parse_elaboration.specs.Contexts.{behind_seen, declared_view};
-ghost use Rattle.protobuf_parse_elaboration.specs.Contexts.{field_declared_by};
-ghost use Rattle.protobuf_parse_elaboration.specs.Contexts.{field_place_view};
+ghost use Rattle.protobuf_parse_elaboration.specs.Parts.{behind_seen, declared_view};
+ghost use Rattle.protobuf_parse_elaboration.specs.Parts.{field_declared_by};
+ghost use Rattle.protobuf_parse_elaboration.specs.Parts.{field_place_view};
 ghost use Rattle.protobuf_parse_elaboration.specs.Fields as fields;
 
 use crate::convert::field::{check_no_map, field_descriptor, group_field};

@@ -6,16 +6,23 @@ ghost use Rattle.protobuf_parse_model.specs.SeenFiles.{names_of_context};
 ghost use Rattle.protobuf_parse_model.specs.Environment.{missing_name, type_full_name};
 ghost use Rattle.protobuf_parse_model.specs.Environment.{type_missing, type_named};
 ghost use Rattle.protobuf_parse_model.specs.Faults.{Blames, Elaborates};
-ghost use Rattle.protobuf_parse_elaboration.specs.Contexts.{resolved_view};
+ghost use Rattle.protobuf_parse_elaboration.specs.Parts.{resolved_view};
 ghost use Rattle.protobuf_parse_elaboration.specs.Fields.{inner_type_faults, type_faults, type_of};
 ghost use Rattle.protobuf_parse_elaboration.specs.Fields.{type_of_meaning};
 
 use protobuf_parse_model::{
-    Context, ElabErrorKind, ElabFailure, FieldType, ResolvedType, entry_name, fault, full_name,
-    type_named,
+    Context, ElabErrorKind, ElabFailure, FieldType, entry_name, fault, full_name, type_named,
 };
 use protobuf_parse_syntax::Type;
 use std::alloc::Global;
+
+/// A type as a descriptor says it.
+#[derive(Drop)]
+pub struct ResolvedType {
+    pub kind: FieldType,
+    /// The full name of a message or an enum, with the first dot.
+    pub name: Option<String>,
+}
 
 /// The type of the field of that name, as a descriptor says it.
 ///

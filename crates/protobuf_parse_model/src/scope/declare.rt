@@ -5,6 +5,7 @@ ghost use Rattle.std.specs.Prelude.{nat_eq};
 ghost use Rattle.std.specs.Prelude.{bytes_eq, if◌then◌else◌, string_bytes, Contains, IfOk, OnOk};
 ghost use Rattle.std.specs.BTreeMap.{get_by_text};
 ghost use Rattle.protobuf_parse_base.specs.Names.{relative_idents};
+ghost use Rattle.protobuf_parse_lexer.specs.Text.{seen_by};
 ghost use Rattle.protobuf_parse_syntax.specs.Trees.{FileSyntax, file_syntax};
 ghost use Rattle.protobuf_parse_syntax.specs.Trees.{message_statement_syntax};
 ghost use Rattle.protobuf_parse_syntax.specs.Trees.{message_syntax, statement_syntax};
@@ -97,8 +98,19 @@ fn add_declared<'a>(
 pub fn file_scope<'a>(alloc: Global, tree: &'a FileTree) -> Result<Vec<&'a str>, AllocError>
     ensures { IfOk result (λ v. name_texts v.items ≡ names.file_scope (file_syntax tree.now)) }
 {
-    match tree.package() {
-        Some(package) => identifiers(alloc, package),
+    scope_of_package(alloc, tree.package())
+}
+
+/// The identifiers of the package of that name: none without one.
+pub fn scope_of_package<'a>(
+    alloc: Global,
+    name: Option<&'a str>,
+) -> Result<Vec<&'a str>, AllocError>
+    ensures { IfOk result (λ v. name_texts v.items
+        ≡ names.scope_of_package (seen_by (λ z. z.now) name.entry)) }
+{
+    match name {
+        Some(name) => identifiers(alloc, name),
         None => Ok(Vec::new(alloc)),
     }
 }

@@ -15,7 +15,7 @@ use crate::parser::name::text;
 use crate::parser::option::{option, options};
 use crate::parser::refusal::Refusal;
 use crate::tree::{
-    EnumStatement, EnumValue, Enumeration, Extensions, FieldNumberRange, Reserved,
+    DeclaredName, EnumStatement, EnumValue, Enumeration, Extensions, FieldNumberRange, Reserved,
     ReservedStatement,
 };
 use protobuf_parse_lexer::ParserError;
@@ -36,7 +36,7 @@ pub fn enumeration(
 {
     let place = tokens.place();
     tokens.word("enum")?;
-    let name = tokens.ident(alloc)?;
+    let name = tokens.declared_name(alloc)?;
     tokens.symbol('{')?;
     let mut body = enum_statements(alloc, tokens, levels)?;
     tokens.symbol('}')?;
@@ -129,13 +129,13 @@ fn enum_value(
 
 /// `ident`, but `reserved` or `option`
 #[tactic(auto, unfolding(crate::specs::Productions::value_name), using(crate::specs::Code::fails_first))]
-fn value_name(alloc: Global, tokens: &mut Cursor<'_, '_>) -> Result<String, Refusal>
-    ensures { Gives string_bytes result (left tokens.new) (read.value_name.run (left tokens.old)) }
+fn value_name(alloc: Global, tokens: &mut Cursor<'_, '_>) -> Result<DeclaredName, Refusal>
+    ensures { Gives view.name_bytes result (left tokens.new) (read.value_name.run (left tokens.old)) }
 {
     if begins_other_statement(tokens) {
         return Err(Refusal::Next(ParserError::IncorrectInput));
     }
-    tokens.ident(alloc)
+    tokens.declared_name(alloc)
 }
 
 /// Whether `reserved` or `option` comes next.

@@ -1,5 +1,6 @@
 //! Fields, groups and types.
 
+use crate::tree::name::DeclaredName;
 use crate::tree::option::ProtobufOption;
 use protobuf_parse_lexer::Place;
 
@@ -51,7 +52,7 @@ pub struct Field {
     /// From 0 to 2147483647.
     pub number: i32,
     pub type_: Type,
-    pub name: String,
+    pub name: DeclaredName,
     pub options: Vec<ProtobufOption>,
 }
 
@@ -62,7 +63,7 @@ pub struct Group {
     /// The place of the label, or of the word `group` where there is none.
     pub place: Place,
     pub label: Option<Label>,
-    pub name: String,
+    pub name: DeclaredName,
     /// From 0 to 2147483647.
     pub number: i32,
     pub fields: Vec<FieldStatement>,

@@ -20,7 +20,7 @@ listed fs = flat_map option_to_list (map (option_map plain_seen) fs)
 
 pub returns : goal.returns
 returns c files told =
-    let t = file_syntax c.args.tree.now in
+    let t = file_syntax c.args.tree in
     let seen = picked files c.args.seen.now.sight.now in
     let plains = plains_with c.args.loaded.now.entries (described.file_view c.args.plain.now) in
     let reach = c.args.seen.now.reach.now in
@@ -32,6 +32,6 @@ returns c files told =
     let known = c.new-known.ensures
     ∙ ap (λ (ds : List FileDescriptor). known_customs ds (listed c.deref-2.result.now)) reached
     ∙ ap (λ (ds : List FileDescriptor). known_customs (picked_plains plains reach) ds) visible in
-    subst (λ (k : Customs). Elaborates described.file_view c.elaborate.result
+    subst (λ (k : Customs). Elaborates described.file_view c.elaborate_owned.result
     (file_faults (environment seen k t) t) (file_of (environment seen k t) c.args.path.now t))
-    known (c.elaborate.ensures.by_files files told)
+    known (c.elaborate_owned.ensures.by_files files told)

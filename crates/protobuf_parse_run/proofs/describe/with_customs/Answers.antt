@@ -14,7 +14,7 @@ returns-in_err-plain-clause-describes c files told linked =
     rw (e.1, e.2)
     (own-told c.args.loaded.now.entries files c.args.seen.now.reach.now
     c.args.seen.now.sight.now c.args.path.now
-    (file_syntax c.args.tree.now) linked c.in_err-plain.field-0.0
+    (file_syntax c.args.tree) linked c.in_err-plain.field-0.0
     (c.in_err-plain.ensures.by_files files told))
 
 pub returns-in_err-descriptor-clause-describes : goal.returns-in_err-descriptor-clause-describes
@@ -28,7 +28,7 @@ returns-in_err-descriptor-clause-describes c files told linked =
     let e = err_from_is_err_and c.from_residual-in_err-descriptor.result
     c.from_residual-in_err-descriptor.ensures.1 in
     rw (e.1, e.2)
-    (customs-told loaded files reach sight c.args.path.now (file_syntax c.args.tree.now) linked
+    (customs-told loaded files reach sight c.args.path.now (file_syntax c.args.tree) linked
     (customs_over plains reach sight) c.in_err-descriptor.field-0.0 same own.0
     (c.in_err-descriptor.ensures files told))
 
@@ -41,7 +41,7 @@ returns-clause-describes c files told linked =
     let whole = c.in_ok-descriptor.ensures files told in
     let plains = plains_with loaded (described.file_view c.in_ok-plain.plain) in
     let same = ap (λ (d : FileDescriptor). customs_over (plains_with loaded d) reach sight) own.1 in
-    some-set loaded files reach sight c.args.path.now (file_syntax c.args.tree.now) linked
+    some-set loaded files reach sight c.args.path.now (file_syntax c.args.tree) linked
     (customs_over plains reach sight) c.in_ok-plain.plain c.in_ok-descriptor.descriptor same
     own.0 own.1 whole.0 whole.1
 

@@ -14,7 +14,7 @@ returns-in-Err-Memory-clause-err c files told e found named = inr refl
 
 pub returns-in-Err-Fault-clause-err : goal.returns-in-Err-Fault-clause-err
 returns-in-Err-Fault-clause-err c files told e found named =
-    let t = file_syntax c.args.tree.now in
+    let t = file_syntax c.args.tree in
     let sight = c.args.sights.now.sight.items in
     let plains = plains_over c.args.loader.now.loaded.entries files sight c.args.path.now t in
     elab-stands (origin_given c.args.path.now (Some e.outcome))

@@ -3,7 +3,7 @@ use Rattle.std.proofs.lemmas.List.{map-append}
 use Rattle.protobuf_parse_syntax.specs.Trees.{field_statement_syntax}
 use Rattle.protobuf_parse_model.specs.SeenFiles.{environment_in}
 use Rattle.protobuf_parse_model.specs.Descriptors.{field_view, message_view, oneof_view}
-use Rattle.protobuf_parse_elaboration.specs.Contexts.{declared_view}
+use Rattle.protobuf_parse_elaboration.specs.Parts.{declared_view}
 use Rattle.protobuf_parse_elaboration.proofs.Bodies.{with_own}
 use Rattle.protobuf_parse_elaboration.proofs.convert.body.add_in_own_oneof.Goals as goal
 

@@ -5,7 +5,7 @@ use Rattle.protobuf_parse_model.specs.SeenFiles.{environment_in}
 use Rattle.protobuf_parse_model.specs.Descriptors.{field_view, message_view, oneof_view}
 use Rattle.protobuf_parse_model.specs.BuiltinOptions.{oneof_table}
 use Rattle.protobuf_parse_model.specs.declared.customs.Construct.TheVariants as of
-use Rattle.protobuf_parse_elaboration.specs.Contexts.{fields_view}
+use Rattle.protobuf_parse_elaboration.specs.Parts.{fields_view}
 use Rattle.protobuf_parse_elaboration.specs.ConstructOptions.{construct_faults}
 use Rattle.protobuf_parse_elaboration.specs.Messages.{options_in_oneof}
 use Rattle.protobuf_parse_elaboration.proofs.Bodies.{with_oneof}

@@ -4,7 +4,7 @@ use Rattle.protobuf_parse_syntax.specs.declared.tree.field.FieldStatement.{Field
 use Rattle.protobuf_parse_syntax.specs.Trees.{extend_syntax, field_statement_syntax}
 use Rattle.protobuf_parse_model.specs.SeenFiles.{environment_in}
 use Rattle.protobuf_parse_model.specs.Descriptors.{Text, field_view, message_view}
-use Rattle.protobuf_parse_elaboration.specs.Contexts.{fields_declared, fields_view}
+use Rattle.protobuf_parse_elaboration.specs.Parts.{fields_declared, fields_view}
 use Rattle.protobuf_parse_elaboration.specs.Messages.{extending, extension_faults_of}
 use Rattle.protobuf_parse_elaboration.proofs.Bodies.{file_with_extend}
 use Rattle.protobuf_parse_elaboration.proofs.convert.contents.add_extensions.Goals as goal

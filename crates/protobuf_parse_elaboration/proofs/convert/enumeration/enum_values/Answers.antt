@@ -5,7 +5,7 @@ use Rattle.protobuf_parse_model.specs.SeenFiles.{environment_in}
 use Rattle.protobuf_parse_model.specs.Descriptors.{enum_value_view}
 use Rattle.protobuf_parse_model.specs.Faults.{Elaborates}
 use Rattle.protobuf_parse_model.specs.declared.descriptor.EnumValueDescriptorProto.{EnumValueDescriptorProto}
-use Rattle.protobuf_parse_elaboration.specs.Contexts.{values_seen}
+use Rattle.protobuf_parse_elaboration.specs.Parts.{values_seen}
 use Rattle.protobuf_parse_elaboration.specs.Enums.{value_of, values_faults}
 use Rattle.protobuf_parse_elaboration.proofs.convert.enumeration.enum_values.Goals as goal
 

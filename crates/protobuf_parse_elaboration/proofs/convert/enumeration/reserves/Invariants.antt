@@ -1,6 +1,6 @@
 use Rattle.std.proofs.Common.{◌≡◌, map, take, flat_map}
 use Rattle.protobuf_parse_syntax.specs.Trees.{enum_statement_syntax}
-use Rattle.protobuf_parse_elaboration.specs.Contexts.{reserves_seen}
+use Rattle.protobuf_parse_elaboration.specs.Parts.{reserves_seen}
 use Rattle.protobuf_parse_elaboration.specs.Enums.{enum_reserves}
 use Rattle.protobuf_parse_elaboration.proofs.convert.enumeration.reserves.Given as goal
 

@@ -1,7 +1,7 @@
 use Rattle.std.proofs.Common.{◌≡◌, [], map, take, flat_map}
 use Rattle.protobuf_parse_model.specs.SeenFiles.{environment_in}
 use Rattle.protobuf_parse_model.specs.Descriptors.{enum_value_view}
-use Rattle.protobuf_parse_elaboration.specs.Contexts.{values_seen}
+use Rattle.protobuf_parse_elaboration.specs.Parts.{values_seen}
 use Rattle.protobuf_parse_elaboration.specs.Enums.{value_faults, value_of}
 use Rattle.protobuf_parse_elaboration.proofs.convert.enumeration.value_descriptors.Given as goal
 

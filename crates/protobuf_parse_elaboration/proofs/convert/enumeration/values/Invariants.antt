@@ -1,6 +1,6 @@
 use Rattle.std.proofs.Common.{◌≡◌, map, take, flat_map}
 use Rattle.protobuf_parse_syntax.specs.Trees.{enum_statement_syntax}
-use Rattle.protobuf_parse_elaboration.specs.Contexts.{values_seen}
+use Rattle.protobuf_parse_elaboration.specs.Parts.{values_seen}
 use Rattle.protobuf_parse_elaboration.specs.Enums.{enum_values}
 use Rattle.protobuf_parse_elaboration.proofs.convert.enumeration.values.Given as goal
 

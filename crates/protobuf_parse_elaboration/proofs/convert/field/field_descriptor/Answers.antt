@@ -1,7 +1,7 @@
 use Rattle.std.proofs.lemmas.Result.{err_from_is_err_and}
 use Rattle.protobuf_parse_syntax.specs.Trees.{field_syntax}
 use Rattle.protobuf_parse_model.specs.Descriptors as described
-use Rattle.protobuf_parse_elaboration.specs.Contexts.{field_place_view, resolved_view}
+use Rattle.protobuf_parse_elaboration.specs.Parts.{field_place_view, resolved_view}
 use Rattle.protobuf_parse_elaboration.proofs.SameTypes.{blames_type, field_elaborates}
 use Rattle.protobuf_parse_elaboration.proofs.convert.field.field_descriptor.Goals as goal
 

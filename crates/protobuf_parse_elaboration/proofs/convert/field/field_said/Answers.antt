@@ -3,7 +3,7 @@ use Rattle.protobuf_parse_syntax.specs.Trees.{OptionSyntax}
 use Rattle.protobuf_parse_model.specs.SeenFiles.{environment_in}
 use Rattle.protobuf_parse_model.specs.Faults.{Elaborates}
 use Rattle.protobuf_parse_model.specs.BuiltinOptions.{options_seen}
-use Rattle.protobuf_parse_elaboration.specs.Contexts.{said_by, said_view}
+use Rattle.protobuf_parse_elaboration.specs.Parts.{said_by, said_view}
 use Rattle.protobuf_parse_elaboration.specs.Fields.{faults_of_options}
 use Rattle.protobuf_parse_elaboration.proofs.convert.field.field_said.Goals as goal
 

@@ -2,7 +2,7 @@ use Rattle.std.proofs.Common.{◌≡◌, [], map, take, flat_map}
 use Rattle.protobuf_parse_syntax.specs.Trees.{field_statement_syntax}
 use Rattle.protobuf_parse_model.specs.SeenFiles.{environment_in}
 use Rattle.protobuf_parse_model.specs.Descriptors.{field_view, message_view}
-use Rattle.protobuf_parse_elaboration.specs.Contexts.{field_place_view}
+use Rattle.protobuf_parse_elaboration.specs.Parts.{field_place_view}
 use Rattle.protobuf_parse_elaboration.specs.Fields.{extension_faults, field_statement_of}
 use Rattle.protobuf_parse_elaboration.specs.Messages.{messages_behind}
 use Rattle.protobuf_parse_elaboration.proofs.convert.lists.declared_extensions.Given as goal

@@ -4,7 +4,7 @@ use Rattle.protobuf_parse_syntax.specs.Trees.{field_statement_syntax}
 use Rattle.protobuf_parse_model.specs.SeenFiles.{environment_in}
 use Rattle.protobuf_parse_model.specs.Descriptors.{Text}
 use Rattle.protobuf_parse_model.specs.Faults.{Elaborates, Fault}
-use Rattle.protobuf_parse_elaboration.specs.Contexts.{fields_declared, fields_view}
+use Rattle.protobuf_parse_elaboration.specs.Parts.{fields_declared, fields_view}
 use Rattle.protobuf_parse_elaboration.specs.Fields.{FieldPlace}
 use Rattle.protobuf_parse_elaboration.specs.Messages.{extending, extension_faults_of}
 use Rattle.protobuf_parse_elaboration.proofs.Extending.{extendee_known, extendee_missing, extending_it}

@@ -3,8 +3,8 @@ use Rattle.protobuf_parse_syntax.specs.Trees.{FieldStatementSyntax, oneof_statem
 use Rattle.protobuf_parse_model.specs.SeenFiles.{environment_in}
 use Rattle.protobuf_parse_model.specs.Faults.{Elaborates}
 use Rattle.protobuf_parse_model.specs.Statements.{oneof_fields}
-use Rattle.protobuf_parse_elaboration.specs.Contexts.{fields_declared, fields_view}
-use Rattle.protobuf_parse_elaboration.specs.Contexts.{field_place_view, statements_seen}
+use Rattle.protobuf_parse_elaboration.specs.Parts.{fields_declared, fields_view}
+use Rattle.protobuf_parse_elaboration.specs.Parts.{field_place_view, statements_seen}
 use Rattle.protobuf_parse_elaboration.specs.Fields.{field_statement_faults}
 use Rattle.protobuf_parse_elaboration.proofs.convert.lists.fields_of_oneof.Goals as goal
 

@@ -1,8 +1,9 @@
 use Rattle.std.proofs.Common.{◌≡◌, ◌∙◌, ◌+◌, ◌++◌, ◌<◌, ◌≤◌, [], ◌∷◌, ℕ, List, ap, arith, flat_map}
-use Rattle.std.proofs.Common.{length, map, sym, subst, string_bytes, sum_by, take}
+use Rattle.std.proofs.Common.{length, map, sym, subst, sum_by, take}
 use Rattle.std.proofs.lemmas.Grind.{flat_map-append}
 use Rattle.std.proofs.lemmas.List.{map_more}
 use Rattle.std.proofs.lemmas.Result.{err_from_is_err_and}
+use Rattle.protobuf_parse_syntax.specs.Trees.{name_bytes}
 use Rattle.protobuf_parse_syntax.specs.Trees.{MessageStatementSyntax, nested_message}
 use Rattle.protobuf_parse_syntax.specs.Trees.{message_statement_syntax, message_syntax}
 use Rattle.protobuf_parse_syntax.specs.Counts.{message_statement_count}
@@ -18,9 +19,9 @@ use Rattle.protobuf_parse_model.specs.Environment.{Environment}
 use Rattle.protobuf_parse_model.specs.Faults.{Elaborates, Fault}
 use Rattle.protobuf_parse_model.proofs.Blaming.{blames_right}
 use Rattle.protobuf_parse_model.proofs.TreeViews.{views_nested}
-use Rattle.protobuf_parse_elaboration.specs.Contexts.{BodyParts, body_of, body_view}
-use Rattle.protobuf_parse_elaboration.specs.Contexts.{with_message}
-use Rattle.protobuf_parse_elaboration.specs.Contexts.{with_body_statement}
+use Rattle.protobuf_parse_elaboration.specs.Parts.{BodyParts, body_of, body_view}
+use Rattle.protobuf_parse_elaboration.specs.Parts.{with_message}
+use Rattle.protobuf_parse_elaboration.specs.Parts.{with_body_statement}
 use Rattle.protobuf_parse_elaboration.specs.Messages.{faults_of_body, message_of, message_of_body}
 use Rattle.protobuf_parse_elaboration.specs.Messages.{statement_faults}
 use Rattle.protobuf_parse_elaboration.proofs.Bodies.{body_more, few_more, nil-both, with_nested}
@@ -39,8 +40,8 @@ message_descriptor-returns g t c =
     c.message_of_body.ensures in
     let whole = subst
     (λ (ss : List MessageStatementSyntax). Elaborates described.message_view r
-    (faults_of_body env (string_bytes m.name) ss)
-    (message_of_body env (string_bytes m.name) ss)) (ap
+    (faults_of_body env (name_bytes m.name) ss)
+    (message_of_body env (name_bytes m.name) ss)) (ap
     (map message_statement_syntax) c.deref-2.ensures.value) named in
     rw (view_parts m) whole
 

@@ -2,7 +2,7 @@ use Rattle.std.proofs.Common.{◌≡◌, ◌≤◌, ◌+◌, ◌*◌, [], length
 use Rattle.protobuf_parse_syntax.specs.Counts.{in_message, message_statement_count}
 use Rattle.protobuf_parse_syntax.specs.Trees.{message_statement_syntax, message_syntax}
 use Rattle.protobuf_parse_model.specs.SeenFiles.{environment_in}
-use Rattle.protobuf_parse_elaboration.specs.Contexts.{body_of, body_view}
+use Rattle.protobuf_parse_elaboration.specs.Parts.{body_of, body_view}
 use Rattle.protobuf_parse_elaboration.specs.Messages.{statement_faults}
 use Rattle.protobuf_parse_elaboration.proofs.convert.message.+message.Given as goal
 

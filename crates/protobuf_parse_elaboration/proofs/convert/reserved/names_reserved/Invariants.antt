@@ -1,5 +1,5 @@
 use Rattle.std.proofs.Common.{◌≡◌, map, take, flat_map, string_bytes}
-use Rattle.protobuf_parse_elaboration.specs.Contexts.{reserves_seen}
+use Rattle.protobuf_parse_elaboration.specs.Parts.{reserves_seen}
 use Rattle.protobuf_parse_elaboration.specs.Enums.{names_reserved}
 use Rattle.protobuf_parse_elaboration.proofs.convert.reserved.names_reserved.Given as goal
 

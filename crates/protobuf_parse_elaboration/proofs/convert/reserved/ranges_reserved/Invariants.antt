@@ -1,6 +1,6 @@
 use Rattle.std.proofs.Common.{◌≡◌, map, take, flat_map}
 use Rattle.protobuf_parse_syntax.specs.Trees.{range_syntax}
-use Rattle.protobuf_parse_elaboration.specs.Contexts.{reserves_seen}
+use Rattle.protobuf_parse_elaboration.specs.Parts.{reserves_seen}
 use Rattle.protobuf_parse_elaboration.specs.Enums.{ranges_reserved}
 use Rattle.protobuf_parse_elaboration.proofs.convert.reserved.ranges_reserved.Given as goal
 

@@ -1,7 +1,7 @@
 use Rattle.std.proofs.Common.{◌∙◌, List, ap, flat_map, map, subst}
 use Rattle.protobuf_parse_syntax.specs.Trees.{ReservedSyntax}
 use Rattle.protobuf_parse_model.specs.Faults.{Elaborates}
-use Rattle.protobuf_parse_elaboration.specs.Contexts.{reserved_views, reserves_seen}
+use Rattle.protobuf_parse_elaboration.specs.Parts.{reserved_views, reserves_seen}
 use Rattle.protobuf_parse_elaboration.specs.Enums.{names_reserved, ranges_reserved}
 use Rattle.protobuf_parse_elaboration.specs.Messages.{exclusive, range_faults}
 use Rattle.protobuf_parse_elaboration.proofs.convert.rest.reserved.Goals as goal

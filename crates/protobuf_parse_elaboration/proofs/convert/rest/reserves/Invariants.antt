@@ -1,6 +1,6 @@
 use Rattle.std.proofs.Common.{◌≡◌, map, take, flat_map}
 use Rattle.protobuf_parse_syntax.specs.Trees.{message_statement_syntax}
-use Rattle.protobuf_parse_elaboration.specs.Contexts.{reserves_seen}
+use Rattle.protobuf_parse_elaboration.specs.Parts.{reserves_seen}
 use Rattle.protobuf_parse_elaboration.specs.Messages.{reserves}
 use Rattle.protobuf_parse_elaboration.proofs.convert.rest.reserves.Given as goal
 

@@ -1,7 +1,7 @@
 use Rattle.std.proofs.Common.{◌≡◌, [], map, take, flat_map}
 use Rattle.protobuf_parse_model.specs.SeenFiles.{environment_in}
 use Rattle.protobuf_parse_model.specs.Descriptors.{method_view}
-use Rattle.protobuf_parse_elaboration.specs.Contexts.{methods_seen}
+use Rattle.protobuf_parse_elaboration.specs.Parts.{methods_seen}
 use Rattle.protobuf_parse_elaboration.specs.Services.{method_faults, method_of}
 use Rattle.protobuf_parse_elaboration.proofs.convert.service.method_descriptors.Given as goal
 

@@ -1,6 +1,6 @@
 use Rattle.std.proofs.Common.{◌≡◌, map, take, flat_map}
 use Rattle.protobuf_parse_syntax.specs.Trees.{service_statement_syntax}
-use Rattle.protobuf_parse_elaboration.specs.Contexts.{methods_seen}
+use Rattle.protobuf_parse_elaboration.specs.Parts.{methods_seen}
 use Rattle.protobuf_parse_elaboration.specs.Services.{methods_in}
 use Rattle.protobuf_parse_elaboration.proofs.convert.service.methods.Given as goal
 

@@ -5,7 +5,7 @@ use Rattle.protobuf_parse_model.specs.SeenFiles.{environment_in}
 use Rattle.protobuf_parse_model.specs.Descriptors.{method_view}
 use Rattle.protobuf_parse_model.specs.Faults.{Elaborates}
 use Rattle.protobuf_parse_model.specs.declared.descriptor.MethodDescriptorProto.{MethodDescriptorProto}
-use Rattle.protobuf_parse_elaboration.specs.Contexts.{methods_seen}
+use Rattle.protobuf_parse_elaboration.specs.Parts.{methods_seen}
 use Rattle.protobuf_parse_elaboration.specs.Services.{method_of, methods_faults}
 use Rattle.protobuf_parse_elaboration.proofs.convert.service.service_methods.Goals as goal
 

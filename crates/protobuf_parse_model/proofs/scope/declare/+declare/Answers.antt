@@ -1,7 +1,8 @@
-use Rattle.std.proofs.Common.{◌∙◌, ◌∷◌, [], ap, sym, subst, string_bytes, List, map, flat_map}
+use Rattle.std.proofs.Common.{◌∙◌, ◌∷◌, [], ap, sym, subst, List, map, flat_map}
 use Rattle.std.proofs.lemmas.List.{take_all}
 use Rattle.std.proofs.lemmas.Result.{on_ok_weaker}
 use Rattle.protobuf_parse_syntax.specs.declared.tree.declaration.MessageStatement.{MessageStatement}
+use Rattle.protobuf_parse_syntax.specs.Trees.{name_bytes}
 use Rattle.protobuf_parse_syntax.specs.Trees.{message_statement_syntax}
 use Rattle.protobuf_parse_model.specs.Declarations.{DeclaredType, Scope, a_message, declare, inside}
 use Rattle.protobuf_parse_model.specs.Declarations.{types_of}
@@ -13,7 +14,7 @@ use Rattle.protobuf_parse_model.proofs.scope.declare.+declare.Goals as goal
 pub add_message-loop-statement-preserved : goal.add_message-loop-statement-preserved
 add_message-loop-statement-preserved t c =
     let outer = name_texts c.args.scope.now.items in
-    let name = string_bytes c.args.message.now.name in
+    let name = name_bytes c.args.message.now.name in
     let within = c.loop-statement.invariant.within in
     let more = subst
     (λ (s : Scope). Adds type_entry c.loop-statement.table c.add_statement.new.table c.args.file
@@ -31,7 +32,7 @@ add_message-loop-statement-preserved t c =
 pub add_message-returns-clause-adds : goal.add_message-returns-clause-adds
 add_message-returns-clause-adds t c =
     let outer = name_texts c.args.scope.now.items in
-    let name = string_bytes c.args.message.now.name in
+    let name = name_bytes c.args.message.now.name in
     let items = take_all c.loop-statement.statement-index c.deref-statement-items.result.now
     c.loop-statement-test.false ∙ c.deref-statement-items.ensures.value in
     let is = ap (λ (xs : List MessageStatement). declare outer name a_message

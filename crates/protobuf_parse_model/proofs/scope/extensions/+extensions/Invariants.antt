@@ -1,4 +1,5 @@
-use Rattle.std.proofs.Common.{◌≡◌, map, flat_map, take, string_bytes}
+use Rattle.std.proofs.Common.{◌≡◌, map, flat_map, take}
+use Rattle.protobuf_parse_syntax.specs.Trees.{name_bytes}
 use Rattle.protobuf_parse_syntax.specs.Trees.{message_statement_syntax}
 use Rattle.protobuf_parse_model.specs.Declarations.{inside, extensions_of}
 use Rattle.protobuf_parse_model.specs.SeenFiles.{name_texts}
@@ -7,7 +8,7 @@ use Rattle.protobuf_parse_model.proofs.scope.extensions.+extensions.Given as goa
 
 abbrev pub invariant-add_in_message-loop-statement : goal.invariant-add_in_message-loop-statement
 invariant-add_in_message-loop-statement l =
-    let scope = inside (name_texts l.fn.scope.items) (string_bytes l.message.name) in
+    let scope = inside (name_texts l.fn.scope.items) (name_bytes l.message.name) in
     record {
       within : name_texts l.scope.items ≡ scope;
       adds : Adds extension_entry l.fn.table l.table l.file

@@ -1,7 +1,8 @@
-use Rattle.std.proofs.Common.{◌∙◌, [], ap, sym, subst, string_bytes, List, map, flat_map}
+use Rattle.std.proofs.Common.{◌∙◌, [], ap, sym, subst, List, map, flat_map}
 use Rattle.std.proofs.lemmas.List.{take_all}
 use Rattle.std.proofs.lemmas.Result.{on_ok_weaker}
 use Rattle.protobuf_parse_syntax.specs.declared.tree.declaration.MessageStatement.{MessageStatement}
+use Rattle.protobuf_parse_syntax.specs.Trees.{name_bytes}
 use Rattle.protobuf_parse_syntax.specs.Trees.{message_statement_syntax}
 use Rattle.protobuf_parse_model.specs.Descriptors.{Text}
 use Rattle.protobuf_parse_model.specs.Declarations.{Scope, inside, generated_of}
@@ -12,7 +13,7 @@ use Rattle.protobuf_parse_model.proofs.scope.generated.+generated.Goals as goal
 
 pub add_in_message-loop-statement-preserved : goal.add_in_message-loop-statement-preserved
 add_in_message-loop-statement-preserved t c =
-    let scope = inside (name_texts c.args.scope.now.items) (string_bytes c.args.message.now.name) in
+    let scope = inside (name_texts c.args.scope.now.items) (name_bytes c.args.message.now.name) in
     let within = c.loop-statement.invariant.within in
     let more = subst
     (λ (s : Scope). Adds generated_entry c.loop-statement.table c.add_in_body.new.table
@@ -34,7 +35,7 @@ add_in_message-returns-clause-adds t c =
     c.loop-statement-test.false ∙ c.deref-statement-items.ensures.value in
     let is =
     ap (λ (xs : List MessageStatement). flat_map
-    (generated_of (inside outer (string_bytes c.args.message.now.name)))
+    (generated_of (inside outer (name_bytes c.args.message.now.name)))
     (map message_statement_syntax xs)) items ∙ sym (generated-view outer c.args.message.now) in
     subst (λ (ds : List Text). Adds generated_entry c.args.table.now c.loop-statement.table
     c.args.file ds) is c.loop-statement.invariant.adds

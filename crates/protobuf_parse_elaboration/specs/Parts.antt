@@ -4,7 +4,7 @@ use Rattle.std.specs.Prelude.{ℕ, List, [], ◌∷◌, ◌++◌, map, flat_map,
 use Rattle.std.specs.Prelude.{String, Option, option_map, option_to_list}
 use Rattle.std.specs.Borrow.{Bor}
 use Rattle.std.specs.Global.{Global, Vec, Box}
-use Rattle.protobuf_parse_model.specs.declared.scope.ResolvedType.{ResolvedType}
+use Rattle.protobuf_parse_elaboration.specs.declared.convert.types.ResolvedType.{ResolvedType}
 use Rattle.protobuf_parse_model.specs.Descriptors.{a_message as message_descriptor}
 use Rattle.protobuf_parse_model.specs.Descriptors.{messages_of_list, Text, Range}
 use Rattle.protobuf_parse_model.specs.Descriptors.{extension_range_view, reserved_range_view}
