@@ -1,11 +1,11 @@
 -- The custom options of a file, by its sets of options: what they add to its faults, and to its
 -- descriptor.
 --
--- A custom option is one whose name has a part in parentheses (Protocol Buffers Language
--- Specification, "Option"; Protocol Buffers Language Guide, "Custom Options"). It stands in one of
--- the file's sets of options, and its name is looked up from the scope of that set alone. So all
--- that is wrong in a file is wrong besides custom options or in one of its sets, and its descriptor
--- holds no bytes of custom options but those of its sets.
+-- A custom option is one whose name is not a single plain part: as a rule a part of it stands in
+-- parentheses (Protocol Buffers Language Specification, "Option"; Protocol Buffers Language Guide,
+-- "Custom Options"). It stands in one of the file's sets of options, and its name is looked up from
+-- the scope of that set alone. So all that is wrong in a file is wrong besides custom options or in
+-- one of its sets, and its descriptor holds no bytes of custom options but those of its sets.
 use Rattle.std.specs.Prelude.{◌≡◌, ◌⊎◌, ◌↔◌, Bool, true, false, List, [], flat_map}
 use Rattle.std.specs.List.{list_any}
 use Rattle.protobuf_parse_syntax.specs.Trees.{OptionNameSyntax, OptionSyntax, builtin, custom}
@@ -16,6 +16,7 @@ use Rattle.protobuf_parse_model.specs.Environment.{Customs, no_customs, no_exten
 use Rattle.protobuf_parse_elaboration.specs.FileDescriptor.{environment, file_of, file_faults}
 use Rattle.protobuf_parse_elaboration.specs.OptionSets.{OptionSet, option_sets}
 
+-- whether an option is custom, by its name
 abbrev pub is_custom_name : OptionNameSyntax → Bool
 is_custom_name (builtin name) = false
 is_custom_name (custom parts) = true

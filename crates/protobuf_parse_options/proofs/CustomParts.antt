@@ -1,17 +1,17 @@
 -- A custom option is set in a part of a file just where one of the part's sets has it.
 use Rattle.std.proofs.Common.{◌≡◌, ◌∙◌, ◌<◌, ◌+◌, ℕ, zero, suc, Bool, true, false, ◌||◌, List, []}
-use Rattle.std.proofs.Common.{◌∷◌, ◌++◌, map, flat_map, take, length, refl, ap, sym, arith}
+use Rattle.std.proofs.Common.{◌∷◌, ◌++◌, map, flat_map, length, refl, ap, sym, arith}
 use Rattle.std.specs.List.{list_any}
 use Rattle.std.specs.Prelude.{slice_index_or}
-use Rattle.std.proofs.lemmas.Grind.{flat_map-append}
+use Rattle.std.proofs.Math.Bool.{or-false}
 use Rattle.std.proofs.lemmas.List.{map-append}
 use Rattle.std.proofs.lemmas.List.Folds.{list_any-append}
 use Rattle.protobuf_parse_syntax.specs.Trees as tree
 use Rattle.protobuf_parse_syntax.specs.Trees.{OptionSyntax, FieldStatementSyntax, field, group}
 use Rattle.protobuf_parse_syntax.specs.Trees.{OneofStatementSyntax, oneof_option, oneof_field}
 use Rattle.protobuf_parse_syntax.specs.Trees.{EnumStatementSyntax, enum_option, enum_value}
-use Rattle.protobuf_parse_syntax.specs.Trees.{enum_reserved, EnumValueSyntax, ServiceStatementSyntax}
-use Rattle.protobuf_parse_syntax.specs.Trees.{service_method, service_option, MethodSyntax}
+use Rattle.protobuf_parse_syntax.specs.Trees.{enum_reserved, ServiceStatementSyntax}
+use Rattle.protobuf_parse_syntax.specs.Trees.{service_method, service_option}
 use Rattle.protobuf_parse_syntax.specs.Trees.{MessageStatementSyntax, message_oneof, message_extend}
 use Rattle.protobuf_parse_syntax.specs.Trees.{message_message, message_enum, message_option}
 use Rattle.protobuf_parse_syntax.specs.Trees.{message_field, message_reserved, message_extensions}
@@ -33,23 +33,21 @@ use Rattle.protobuf_parse_syntax.specs.declared.tree.option.ProtobufOption.{Prot
 use Rattle.protobuf_parse_model.specs.Statements.{group_body, message_body, oneof_fields}
 use Rattle.protobuf_parse_model.specs.Statements.{oneof_statement_options}
 use Rattle.protobuf_parse_model.specs.Declarations.{Scope, inside, file_scope}
+use Rattle.protobuf_parse_model.proofs.Tables.{flat_map-inside}
 use Rattle.protobuf_parse_elaboration.specs.Enums.{enum_values, options_in_enum}
 use Rattle.protobuf_parse_elaboration.specs.Services.{methods_in, options_in_service, statement_option}
 use Rattle.protobuf_parse_elaboration.specs.Messages.{options_in_message}
 use Rattle.protobuf_parse_elaboration.specs.FileDescriptor.{options_in_file}
 use Rattle.protobuf_parse_elaboration.specs.OptionSets.{OptionSet, sets_in_group, field_sets}
-use Rattle.protobuf_parse_elaboration.specs.OptionSets.{oneof_sets, extend_sets, value_set}
-use Rattle.protobuf_parse_elaboration.specs.OptionSets.{enum_sets, sets_of, sets_in, message_sets}
+use Rattle.protobuf_parse_elaboration.specs.OptionSets.{oneof_sets, value_set}
+use Rattle.protobuf_parse_elaboration.specs.OptionSets.{enum_sets, sets_of, sets_in}
 use Rattle.protobuf_parse_elaboration.specs.OptionSets.{method_set, service_sets, statement_sets}
 use Rattle.protobuf_parse_elaboration.specs.OptionSets.{option_sets}
 use Rattle.protobuf_parse_elaboration.specs.CustomSets.{is_custom, sets_custom}
 use Rattle.protobuf_parse_options.specs.CustomParts as part
+use Rattle.protobuf_parse_options.proofs.BareDeclarations.{any-becomes}
 
 -- ---- truths
-
-or-none : (b : Bool) → (b || false) ≡ b
-or-none true = refl
-or-none false = refl
 
 or-both : (a b c d : Bool) → ((a || b) || (c || d)) ≡ ((a || c) || (b || d))
 or-both true b c d = refl
@@ -69,12 +67,6 @@ any-flat test f q each (x ∷ xs) =
     ∙ ap (λ b. b || list_any test (flat_map f xs)) (each x)
     ∙ ap (λ b. q x || b) (any-flat test f q each xs)
 
--- of what elements become
-any-map : {X Y : Type 0} (test : Y → Bool) (f : X → Y) (xs : List X)
-    → list_any test (map f xs) ≡ list_any (λ x. test (f x)) xs
-any-map test f [] = refl
-any-map test f (x ∷ xs) = ap (λ b. test (f x) || b) (any-map test f xs)
-
 -- of two tests of each element
 any-both : {X : Type 0} (p r q : X → Bool) → ((x : X) → (p x || r x) ≡ q x) → (xs : List X)
     → (list_any p xs || list_any r xs) ≡ list_any q xs
@@ -85,20 +77,20 @@ any-both p r q each (x ∷ xs) =
     ∙ ap (λ b. q x || b) (any-both p r q each xs)
 
 -- of what is seen of a list
-pub any_seen : {X Y : Type 0} (test : Y → Bool) (view : X → Y) (xs : List X)
+any_seen : {X Y : Type 0} (test : Y → Bool) (view : X → Y) (xs : List X)
     → list_any (λ x. test (view x)) xs ≡ list_any test (map view xs)
-any_seen test view xs = sym (any-map test view xs)
+any_seen test view xs = sym (any-becomes view test xs)
 
 -- ---- fields
 
 grouped-custom : (scope : Scope) (s : FieldStatementSyntax)
     → list_any sets_custom (sets_in_group scope s) ≡ part.custom_in_grouped s
-grouped-custom scope (field f) = or-none (list_any is_custom f.options)
+grouped-custom scope (field f) = or-false (list_any is_custom f.options)
 grouped-custom scope (group place label name number fields) = refl
 
 field-custom : (scope : Scope) (s : FieldStatementSyntax)
     → list_any sets_custom (field_sets scope s) ≡ part.custom_in_field s
-field-custom scope (field f) = or-none (list_any is_custom f.options)
+field-custom scope (field f) = or-false (list_any is_custom f.options)
 field-custom scope (group place label name number fields) =
     any-flat sets_custom (sets_in_group scope) part.custom_in_grouped (grouped-custom scope)
     (group_body fields)
@@ -126,12 +118,6 @@ module _ {X : Type 0} (options : X → List OptionSyntax) (sets : X → List Opt
       each xs
 
 -- what each of what each becomes
-flat-twice : {X Y Z : Type 0} (f : Y → List Z) (g : X → List Y) (xs : List X)
-    → flat_map f (flat_map g xs) ≡ flat_map (λ x. flat_map f (g x)) xs
-flat-twice f g [] = refl
-flat-twice f g (x ∷ xs) = flat_map-append f (g x) (flat_map g xs)
-    ∙ ap (λ l. flat_map f (g x) ++ l) (flat-twice f g xs)
-
 map-flat : {X Y Z : Type 0} (f : Y → Z) (g : X → List Y) (xs : List X)
     → map f (flat_map g xs) ≡ flat_map (λ x. map f (g x)) xs
 map-flat f g [] = refl
@@ -142,15 +128,15 @@ oneof-custom : (scope : Scope) (o : OneofSyntax)
     → list_any sets_custom (oneof_sets scope o) ≡ list_any part.custom_in_oneof o.body
 oneof-custom scope o =
     ap (λ l. list_any is_custom (flat_map oneof_statement_options o.body)
-    || list_any sets_custom l) (flat-twice (field_sets scope) oneof_fields o.body)
+    || list_any sets_custom l) (sym (flat_map-inside (field_sets scope) oneof_fields o.body))
     ∙ in-statements oneof_statement_options (λ s. flat_map (field_sets scope) (oneof_fields s))
     part.custom_in_oneof at o.body
   where
     at : (s : OneofStatementSyntax) → (list_any is_custom (oneof_statement_options s)
         || list_any sets_custom (flat_map (field_sets scope) (oneof_fields s)))
         ≡ part.custom_in_oneof s
-    at (oneof_option o) = or-none (is_custom o.option || false) ∙ or-none (is_custom o.option)
-    at (oneof_field f) = fields-custom scope (f ∷ []) ∙ or-none (part.custom_in_field f)
+    at (oneof_option o) = or-false (is_custom o.option || false) ∙ or-false (is_custom o.option)
+    at (oneof_field f) = fields-custom scope (f ∷ []) ∙ or-false (part.custom_in_field f)
 
 enum-custom : (scope : Scope) (e : EnumSyntax)
     → list_any sets_custom (enum_sets scope e) ≡ list_any part.custom_in_enum e.body
@@ -162,8 +148,8 @@ enum-custom scope e =
   where
     at : (s : EnumStatementSyntax) → (list_any is_custom (options_in_enum s)
         || list_any sets_custom (map (value_set scope) (enum_values s))) ≡ part.custom_in_enum s
-    at (enum_option o) = or-none (is_custom o.option || false) ∙ or-none (is_custom o.option)
-    at (enum_value v) = or-none (list_any is_custom v.options)
+    at (enum_option o) = or-false (is_custom o.option || false) ∙ or-false (is_custom o.option)
+    at (enum_value v) = or-false (list_any is_custom v.options)
     at (enum_reserved r) = refl
 
 service-custom : (scope : Scope) (s : ServiceSyntax)
@@ -176,9 +162,9 @@ service-custom scope s =
   where
     at : (z : ServiceStatementSyntax) → (list_any is_custom (options_in_service z)
         || list_any sets_custom (map (method_set scope) (methods_in z))) ≡ part.custom_in_service z
-    at (service_option o) = or-none (is_custom o.option || false) ∙ or-none (is_custom o.option)
-    at (service_method m) = or-none (list_any is_custom (map statement_option m.options))
-        ∙ any-map is_custom statement_option m.options
+    at (service_option o) = or-false (is_custom o.option || false) ∙ or-false (is_custom o.option)
+    at (service_method m) = or-false (list_any is_custom (map statement_option m.options))
+        ∙ any-becomes statement_option is_custom m.options
 
 -- ---- messages
 
@@ -192,7 +178,7 @@ mutual
   message-custom scope (message_message place name body) = body-custom (inside scope name) body
   message-custom scope (message_enum e) = enum-custom scope e
   message-custom scope (message_option o) =
-      or-none (is_custom o.option || false) ∙ or-none (is_custom o.option)
+      or-false (is_custom o.option || false) ∙ or-false (is_custom o.option)
   message-custom scope (message_reserved r) = refl
   message-custom scope (message_extensions e) = refl
 
@@ -230,7 +216,7 @@ statement-custom : (scope : Scope) (s : StatementSyntax)
 statement-custom scope (file_import i) = refl
 statement-custom scope (file_package p) = refl
 statement-custom scope (file_option o) =
-    or-none (is_custom o.option || false) ∙ or-none (is_custom o.option)
+    or-false (is_custom o.option || false) ∙ or-false (is_custom o.option)
 statement-custom scope (file_message m) =
     in-statements options_in_message (sets_of (inside scope m.name)) part.custom_in_message
     (message-custom (inside scope m.name)) m.body

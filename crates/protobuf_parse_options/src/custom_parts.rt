@@ -12,7 +12,7 @@ use protobuf_parse_syntax::{
     OptionStatement, ProtobufOption, ProtobufOptionName, ServiceStatement,
 };
 
-/// Whether a custom option is set in the file: one whose name has a part in parentheses.
+/// Whether a custom option is set in the file: one whose name is not a single plain part.
 pub fn has_custom_option(tree: &FileTree) -> bool
     ensures { result ≡ list_any sets_custom (option_sets (view.file_syntax tree.now)) }
 {

@@ -1,5 +1,5 @@
-use Rattle.std.proofs.Common.{◌≡◌, ◌∙◌, ◌++◌, List, [], ap, arith, flat_map, map, sym}
-use Rattle.protobuf_parse_syntax.specs.Trees.{file_syntax, statement_syntax}
+use Rattle.std.proofs.Common.{◌++◌, arith, flat_map}
+use Rattle.protobuf_parse_syntax.specs.Trees.{file_syntax}
 use Rattle.protobuf_parse_syntax.proofs.Counts.{file_length}
 use Rattle.protobuf_parse_model.specs.SeenFiles.{environment_in}
 use Rattle.protobuf_parse_model.specs.Descriptors as described
