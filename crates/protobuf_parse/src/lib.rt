@@ -5,6 +5,7 @@ mod front;
 pub mod pure;
 
 pub use front::{FsReader, FsResolver, ParsedAndTypechecked, Parser, fs_resolver, program};
+pub use protobuf_parse_base::Name;
 pub use protobuf_parse_base::names::laws::{
     into_absolute_undoes_to_root_rel, pop_undoes_push, remove_undoes_concat,
 };

@@ -1,12 +1,12 @@
 -- Spellings of a name: by bytes and by characters, and what a second spelling gives.
 use Rattle.std.specs.Prelude.{if◌then◌else◌, encode_utf8_all}
 use Rattle.std.proofs.Common.{◌≡◌, ℕ, ◌==◌, ◌<◌, ◌≤◌, ◌+◌, ◌++◌, ◌&&◌, List, [], ◌∷◌, Bool, true, false}
-use Rattle.std.proofs.Common.{length, get_or, drop, refl, sym, ap, ◌∙◌, append_assoc, append-nil}
+use Rattle.std.proofs.Common.{length, get_or, take, drop, refl, sym, ap, ◌∙◌, append_assoc, append-nil}
 use Rattle.std.proofs.Common.{arith, inl, inr, suc}
 use Rattle.std.proofs.lemmas.Bool.{cases_Bool, cases_lt, cond-true, cond-false}
 use Rattle.std.proofs.lemmas.Bool.{or_parts, or_from, and_parts, and_from, and_right}
 use Rattle.std.proofs.lemmas.Bool.Decides.{nat_tests}
-use Rattle.std.proofs.lemmas.List.{at_drop_more, drop_all}
+use Rattle.std.proofs.lemmas.List.{at_drop_more, drop_all, take_all}
 use Rattle.std.proofs.lemmas.List.Folds.{list_any-append}
 use Rattle.std.proofs.lemmas.Str.{encodes-append, chars_from_encodes, encodes-chars, scalars-chars}
 use Rattle.std.proofs.lemmas.Str.{inside_one, length-encode, len_utf8_bounds, encode_ascii}
@@ -156,6 +156,15 @@ joined_words-same [] h = refl
 joined_words-same (c ∷ cs) h =
     let both = or_parts (c == 95) (has_underscore cs) h in
     cond-false (c == 95) _ _ both.0 ∙ ap (λ rest. c ∷ rest) (joined_words-same cs both.1)
+
+-- a name of which each byte stands before the first underscore stays as it is
+pub joined_words-plain : (n : ℕ) (bytes : List ℕ) → length bytes ≤ n
+    → take n bytes ++ joined_words false (drop n bytes) ≡ joined_words false bytes
+    → joined_words false bytes ≡ bytes
+joined_words-plain n bytes h e =
+    sym e
+    ∙ (ap (λ front. front ++ joined_words false (drop n bytes)) (take_all n bytes h)
+    ∙ (ap (λ rest. bytes ++ joined_words false rest) (drop_all n bytes h) ∙ append-nil bytes))
 
 camel_case_of-twice : (cs : List ℕ) → camel_case_of (camel_case_of cs) ≡ camel_case_of cs
 camel_case_of-twice [] = refl

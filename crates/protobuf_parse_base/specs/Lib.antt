@@ -1,6 +1,7 @@
 pub mod Characters
 pub mod Names
 pub mod NameViews
+pub mod DeclaredNames
 pub mod Undo
 pub mod Paths
 pub mod PathViews

@@ -3,6 +3,9 @@
 #![tactic(auto)]
 
 mod joins;
+mod name;
 pub mod names;
 pub mod proto_path;
 pub mod text;
+
+pub use name::Name;

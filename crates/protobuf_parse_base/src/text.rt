@@ -1,15 +1,19 @@
 //! Spellings of names, and bytes as the inside of a string literal.
 ghost use Rattle.std.specs.Prelude.{◌≡◌, ◌==◌, ◌&&◌, ◌<◌, ◌+◌, [], ◌∷◌, ◌++◌, false, IfOk, OnOk};
-ghost use Rattle.std.specs.Prelude.{encode_utf8_all, if◌then◌else◌, take};
+ghost use Rattle.std.specs.Prelude.{encode_utf8_all, if◌then◌else◌, ◌≤◌, length, take, drop};
 ghost use Rattle.std.specs.Char.{is_ascii_uppercase, to_ascii_lowercase};
 ghost use Rattle.std.specs.String.{string_bytes};
-ghost use Rattle.std.specs.Str.{chars};
+ghost use Rattle.std.specs.Str.{chars, IsUtf8};
 ghost use Rattle.protobuf_parse_base.specs.Characters as char;
+ghost use Rattle.protobuf_parse_base.specs.DeclaredNames.{name_bytes};
 ghost use Rattle.protobuf_parse_base.specs.Cases.{camel_case_text, json_name_text, snake_case_text};
 ghost use Rattle.protobuf_parse_base.specs.Cases.{joined_words, has_underscore};
 ghost use Rattle.protobuf_parse_base.specs.Escapes.{escaped_byte, escaped_bytes, said_bytes};
 
+use crate::name::Name;
+use arrayvec::ArrayVec;
 use std::alloc::{AllocError, Global};
+use std::str;
 use ucd_derived::is_lowercase;
 
 /// The name in camel case: without underscores, and with its first character and each that directly
@@ -28,10 +32,32 @@ pub fn camel_case(alloc: Global, name: &str) -> Result<String, AllocError>
 /// followed one in ASCII upper case. The one error is that memory is short.
 ///
 /// See the Protocol Buffers Language Guide, "ProtoJSON Format" (<https://protobuf.dev>).
-pub fn json_name(alloc: Global, name: &str) -> Result<String, AllocError>
-    ensures { IfOk result (λ json. string_bytes json ≡ json_name_text name.now) }
+pub fn json_name(alloc: Global, name: &str) -> Result<Name, AllocError>
+    ensures { IfOk result (λ json. name_bytes json ≡ json_name_text name.now) }
 {
-    join_words(alloc, name, false)
+    let front = before_underscore(name.as_bytes());
+    if front == name.len() {
+        return Name::new(alloc, name);
+    }
+    let mut short = ArrayVec::<u8, 24>::new();
+    if short.try_extend_from_slice(name.as_bytes()).is_err() {
+        return Ok(Name::from(join_words(alloc, name, false)?));
+    }
+    json_name_in_place(alloc, short.as_mut_slice(), front)
+}
+
+/// The same of the bytes of a name, which change behind those of that number.
+#[inline]
+fn json_name_in_place(alloc: Global, bytes: &mut [u8], front: usize) -> Result<Name, AllocError>
+    requires text { IsUtf8 bytes.old }
+    requires within { front ≤ length bytes.old }
+    requires kept { take front bytes.old ++ joined_words false (drop front bytes.old)
+        ≡ joined_words false bytes.old }
+    ensures { IfOk result (λ json. name_bytes json ≡ json_name_text bytes.old) }
+{
+    let kept = join_in_place(bytes, front, false);
+    // Those of a text become a text, so they need not be gone through once more.
+    Name::new(alloc, unsafe { str::from_utf8_unchecked(&bytes[..kept]) })
 }
 
 /// The name without underscores, each character that directly followed one in ASCII upper case, and
@@ -50,22 +76,24 @@ fn join_bytes(alloc: Global, name: &[u8], raise: bool) -> Result<Vec<u8>, AllocE
     ensures { IfOk result (λ joined. joined.items ≡ joined_words raise name.now) }
 {
     let mut joined = Vec::from_slice(alloc, name)?;
-    let kept = join_in_place(&mut joined, raise);
+    let kept = join_in_place(&mut joined, 0, raise);
     joined.truncate(kept);
     Ok(joined)
 }
 
-/// Moves what the bytes of a name become to their front, and gives its length. What stands before
-/// the first underscore stays where it is, unless its first byte is raised.
-fn join_in_place(bytes: &mut [u8], raise: bool) -> usize
-    ensures { take result bytes.new ≡ joined_words raise bytes.old }
+/// Moves what the bytes of a name become to their front, and gives its length. Those of that number
+/// stay where they are.
+#[inline]
+fn join_in_place(bytes: &mut [u8], front: usize, raise: bool) -> usize
+    requires within { front ≤ length bytes.old }
+    requires kept { take front bytes.old ++ joined_words raise (drop front bytes.old)
+        ≡ joined_words raise bytes.old }
+    ensures within { result ≤ length bytes.new }
+    ensures value { take result bytes.new ≡ joined_words raise bytes.old }
 {
-    let mut kept = 0;
-    'first: while !raise && kept < bytes.len() && bytes[kept] != b'_' {
-        kept += 1;
-    }
+    let mut kept = front;
     let mut raise_next = raise;
-    for i in kept..bytes.len() {
+    for i in front..bytes.len() {
         let byte = bytes[i];
         if byte == b'_' {
             raise_next = true;
@@ -77,6 +105,21 @@ fn join_in_place(bytes: &mut [u8], raise: bool) -> usize
             bytes[kept] = byte;
             kept += 1;
         }
+    }
+    kept
+}
+
+/// How many bytes stand before the first underscore. None of them changes, where the first is not
+/// raised.
+#[inline]
+fn before_underscore(bytes: &[u8]) -> usize
+    ensures within { result ≤ length bytes.now }
+    ensures kept { take result bytes.now ++ joined_words false (drop result bytes.now)
+        ≡ joined_words false bytes.now }
+{
+    let mut kept = 0;
+    'first: while kept < bytes.len() && bytes[kept] != b'_' {
+        kept += 1;
     }
     kept
 }

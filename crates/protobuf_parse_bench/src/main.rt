@@ -4,7 +4,8 @@
 //!
 //! - `--files N`: loads N files that import each other, and prints how often files were met;
 //! - `--same TEXT PATHS`: loads a file of this text for each line of PATHS;
-//! - `--read TEXT N`: reads N empty messages in option bytes, each the field 1 of the message `Wide` of TEXT;
+//! - `--read TEXT N`: reads N empty messages in option bytes, each the field 1 of the message `Wide`
+//!   of TEXT;
 //! - `--damage N TEXT..`: N texts that differ in a few bytes from these, and what becomes of them;
 //! - `--damage-bytes N TEXT`: the same of the option bytes of the last message of TEXT.
 //!

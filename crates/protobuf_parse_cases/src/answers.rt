@@ -83,7 +83,7 @@ fn answer_by_memory(alloc: Global, verb: &str, text: &str) -> Option<Result<Stri
         "host_path" => names::host_path(alloc, text),
         "camel_case" => protobuf_parse::camel_case(alloc, text),
         "snake_case" => protobuf_parse::snake_case(alloc, text),
-        "json_name" => protobuf_parse_base::text::json_name(alloc, text),
+        "json_name" => names::json_name(alloc, text),
         _ => return None,
     })
 }

@@ -62,7 +62,7 @@ fn add_message<'a>(
         names.push(Named {
             of: scope.clone()?,
             number: field.number,
-            name: field.name.clone()?,
+            name: field.name.text(*names.allocator())?,
             field: Some(field),
         })?;
     }
@@ -103,7 +103,7 @@ fn add_values(
             names.push(Named {
                 of: format!(in alloc; "{scope}.{}", each.name)?,
                 number: value.number,
-                name: value.name.clone()?,
+                name: value.name.text(alloc)?,
                 field: None,
             })?;
         }

@@ -45,14 +45,14 @@ all-flat Q f P each (x ∷ xs) h =
     all-both Q (f x) (flat_map f xs) (each x h.0) (all-flat Q f P each xs h.1)
 
 -- the same where each becomes one
-pub all-map : {A B : Type 0} (Q : B → Type 0) (f : A → B) (P : A → Type 0) → ((x : A) → P x → Q (f x))
-    → (xs : List A) → AllByRecursion P xs → AllByRecursion Q (map f xs)
+pub all-map : {A B : Type 0} (Q : B → Type 0) (f : A → B) (P : A → Type 0)
+    → ((x : A) → P x → Q (f x)) → (xs : List A) → AllByRecursion P xs → AllByRecursion Q (map f xs)
 all-map Q f P each [] h = tt
 all-map Q f P each (x ∷ xs) h = (each x h.0, all-map Q f P each xs h.1)
 
 -- what holds of each holds of one that stands there
-pub all-among : {A : Type 0} (P : A → Type 0) {xs : List A} {x : A} → Among xs x → AllByRecursion P xs
-    → P x
+pub all-among : {A : Type 0} (P : A → Type 0) {xs : List A} {x : A} → Among xs x
+    → AllByRecursion P xs → P x
 all-among P here h = h.0
 all-among P (there k) h = all-among P k h.1
 
@@ -78,8 +78,8 @@ pub record IsClean {A : Type 0} (faults : A → List Fault) (P : Text → Type 0
   pub each : AllByRecursion P (generated x)
 
 -- what holds of a list in this way holds of each element
-pub clean-each : {A : Type 0} (faults : A → List Fault) (P : Text → Type 0) (generated : A → List Text)
-    (xs : List A) → flat_map faults xs ≡ [] → AllByRecursion P (flat_map generated xs)
+pub clean-each : {A : Type 0} (faults : A → List Fault) (P : Text → Type 0)
+    (generated : A → List Text) (xs : List A) → flat_map faults xs ≡ [] → AllByRecursion P (flat_map generated xs)
     → AllByRecursion (IsClean faults P generated) xs
 clean-each faults P generated [] h k = tt
 clean-each faults P generated (x ∷ xs) h k = (

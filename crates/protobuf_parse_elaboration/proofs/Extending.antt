@@ -21,7 +21,8 @@ pub extendee_known : (env : Environment) (extendee : Text) (ss : List FieldState
     → flat_map (extension_faults env) ss ≡ flat_map (extension_faults_of env extendee) ss
 extendee_known env extendee [] known = refl
 extendee_known env extendee (s ∷ ss) known =
-    ap (λ faults. (faults ++ extension_faults env s) ++ flat_map (extension_faults env) ss) (sym known)
+    ap (λ faults. (faults ++ extension_faults env s) ++ flat_map (extension_faults env) ss)
+    (sym known)
     ∙ ap (λ faults. extension_faults_of env extendee s ++ faults)
     (extendee_known env extendee ss known)
 

@@ -252,7 +252,8 @@ an_enum =
       place = nowhere;
       name = codes "E";
       body =
-          enum_reserved (record { place = nowhere; reserved = reserved_ranges (range 5 9 ∷ []) }) ∷ [];
+          enum_reserved (record { place = nowhere; reserved = reserved_ranges (range 5 9 ∷ []) })
+          ∷ [];
     }
 
 enum_ranges_have_both_ends : (enum_of (alone with_map) an_enum).reserved_range

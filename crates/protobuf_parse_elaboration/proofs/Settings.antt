@@ -30,7 +30,8 @@ pub last_value_more : (name : Text) (os : List (Bor ProtobufOption)) (i : ℕ)
     → values ≡ value_if_named name (option_syntax o.now).value (option_syntax o.now).name
     → last_or last values ≡ last_value name (options_seen (take (i + 1) os))
 last_value_more name os i o last values lt is before said =
-    let of : OptionSyntax → List ConstantSyntax = λ (s : OptionSyntax). value_if_named name s.value s.name in
+    let of : OptionSyntax → List ConstantSyntax =
+    λ (s : OptionSyntax). value_if_named name s.value s.name in
     let more : options_seen (take (i + 1) os) ≡ options_seen (take i os)
     ++ option_syntax (slice_index_or os i o).now ∷ [] =
     map_more (λ (b : Bor ProtobufOption). option_syntax b.now) os i o lt in

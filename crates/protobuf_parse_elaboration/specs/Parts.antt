@@ -4,6 +4,7 @@ use Rattle.std.specs.Prelude.{ℕ, List, [], ◌∷◌, ◌++◌, map, flat_map,
 use Rattle.std.specs.Prelude.{String, Option, option_map, option_to_list}
 use Rattle.std.specs.Borrow.{Bor}
 use Rattle.std.specs.Global.{Global, Vec, Box}
+use Rattle.protobuf_parse_base.specs.DeclaredNames.{name_bytes}
 use Rattle.protobuf_parse_elaboration.specs.declared.convert.types.ResolvedType.{ResolvedType}
 use Rattle.protobuf_parse_model.specs.Descriptors.{a_message as message_descriptor}
 use Rattle.protobuf_parse_model.specs.Descriptors.{messages_of_list, Text, Range}
@@ -220,7 +221,7 @@ said_view s =
     record {
       default_value = option_map string_bytes s.default_value;
       json_name =
-          string_bytes s.json_name;
+          name_bytes s.json_name;
       options = option_map boxed_options_view s.options;
     }
 

@@ -1,5 +1,6 @@
 -- No public clause rests on this file.
--- The function that says what string literals mean agrees with the relations of `Tokens`, both ways.
+-- The function that says what string literals mean agrees with the relations of `Tokens`,
+-- both ways.
 use Rattle.std.proofs.Common.{◌≡◌, ◌<◌, ◌≤◌, ℕ, zero, suc, ◌+◌, ◌-◌, min, nat_le, ◌==◌, Bool, true}
 use Rattle.std.proofs.Common.{false, cond, List, [], ◌∷◌, ◌++◌, length, take, drop, slice_index}
 use Rattle.std.proofs.Common.{slice_range, Option, Some, None, MatchOption, refl}

@@ -1,9 +1,9 @@
 -- No public clause rests on this file.
 -- A message's lines, one level deep, and a field's words after its label.
 use Rattle.std.specs.Prelude.{◌≡◌, ℕ, ◌+◌, List, [], ◌∷◌, ◌++◌, codes, flat_map, map, refl}
-use Rattle.std.specs.Prelude.{string_bytes}
 use Rattle.std.specs.Fmt.{signed_decimal}
 use Rattle.std.proofs.Common.{append_assoc}
+use Rattle.protobuf_parse_base.specs.DeclaredNames.{name_bytes}
 use Rattle.protobuf_parse_model.specs.Descriptors.{FieldDescriptor, MessageDescriptor, Text}
 use Rattle.protobuf_parse_model.specs.Descriptors.{messages_of_list}
 use Rattle.protobuf_parse_model.specs.Descriptors.{message_parts, message_view, message_view_is}
@@ -22,7 +22,7 @@ all_message_lines_is level (m ∷ ms) = rw (all_message_lines_is level ms) refl
 
 pub message_lines_is : (level : ℕ) (m : DescriptorProto)
     → message_lines level (message_view m)
-    ≡ line level (codes "message " ++ string_bytes (out-DescriptorProto m).name)
+    ≡ line level (codes "message " ++ name_bytes (out-DescriptorProto m).name)
     ++ (message_front (level + 1) (message_parts m)
     ++ flat_map (message_lines (level + 1))
     (map message_view (out-DescriptorProto m).nested_type.items)

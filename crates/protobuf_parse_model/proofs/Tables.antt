@@ -22,7 +22,7 @@ use Rattle.protobuf_parse_syntax.proofs.Messages.{view_parts, views_message}
 use Rattle.protobuf_parse_syntax.specs.declared.tree.declaration.Message.{Message}
 use Rattle.protobuf_parse_syntax.specs.declared.tree.declaration.MessageStatement.TheVariants as statement
 use Rattle.protobuf_parse_syntax.specs.declared.tree.field.FieldStatement.{FieldStatement}
-use Rattle.protobuf_parse_syntax.specs.Trees.{name_bytes}
+use Rattle.protobuf_parse_base.specs.DeclaredNames.{name_bytes}
 use Rattle.protobuf_parse_syntax.specs.Trees.{ExtendSyntax, FieldStatementSyntax, FileSyntax}
 use Rattle.protobuf_parse_syntax.specs.Trees.{field_statement_syntax, MessageSyntax}
 use Rattle.protobuf_parse_syntax.specs.Trees.{message_statement_syntax, message_syntax}

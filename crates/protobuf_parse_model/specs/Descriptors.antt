@@ -3,6 +3,7 @@
 -- absent text or list of options is None.
 use Rattle.std.specs.Prelude.{◌≡◌, ℕ, ℤ, Bool, List, [], ◌∷◌, Option, map, option_map, refl}
 use Rattle.std.specs.Prelude.{string_bytes}
+use Rattle.protobuf_parse_base.specs.DeclaredNames.{name_bytes}
 use Rattle.protobuf_parse_syntax.specs.declared.tree.field.Label.{Label}
 use Rattle.protobuf_parse_syntax.specs.declared.tree.field.Scalar.{Scalar}
 use Rattle.protobuf_parse_syntax.specs.declared.tree.field.Scalar.TheVariants as word
@@ -134,7 +135,7 @@ pub record FileDescriptor : Type 0 where
 
 abbrev pub field_view : FieldDescriptorProto → FieldDescriptor
 field_view f = record {
-  name = string_bytes f.name;
+  name = name_bytes f.name;
   number = f.number;
   label = f.label;
   type_ = f.type_;
@@ -142,19 +143,19 @@ field_view f = record {
   extendee = option_map string_bytes f.extendee;
   default_value = option_map string_bytes f.default_value;
   oneof_index = f.oneof_index;
-  json_name = string_bytes f.json_name;
+  json_name = name_bytes f.json_name;
   proto3_optional = f.proto3_optional;
   options = option_map boxed_options_view f.options;
 }
 
 abbrev pub oneof_view : OneofDescriptorProto → OneofDescriptor
 oneof_view o =
-    record { name = string_bytes o.name; options = option_map oneof_options_view o.options }
+    record { name = name_bytes o.name; options = option_map oneof_options_view o.options }
 
 abbrev pub enum_value_view : EnumValueDescriptorProto → EnumValueDescriptor
 enum_value_view v =
     record {
-      name = string_bytes v.name;
+      name = name_bytes v.name;
       number = v.number;
       options =
           option_map enum_value_options_view v.options;
@@ -171,7 +172,7 @@ reserved_range_view r = record { start = r.start; end = r.end }
 
 abbrev pub enum_view : EnumDescriptorProto → EnumDescriptor
 enum_view e = record {
-  name = string_bytes e.name;
+  name = name_bytes e.name;
   value = map enum_value_view e.value.items;
   reserved_range = map enum_range_view e.reserved_range.items;
   reserved_name = map string_bytes e.reserved_name.items;
@@ -181,7 +182,7 @@ enum_view e = record {
 -- all of a message but the messages inside it
 abbrev pub parts_of_message : {X : Type 0} → DescriptorProto-F X → MessageParts
 parts_of_message m = record {
-  name = string_bytes m.name;
+  name = name_bytes m.name;
   field = map field_view m.field.items;
   oneof_decl = map oneof_view m.oneof_decl.items;
   enum_type = map enum_view m.enum_type.items;
@@ -209,7 +210,7 @@ message_view_is m = fold_out-DescriptorProto MessageDescriptor message_step m
 
 abbrev pub method_view : MethodDescriptorProto → MethodDescriptor
 method_view m = record {
-  name = string_bytes m.name;
+  name = name_bytes m.name;
   input_type = string_bytes m.input_type;
   output_type = string_bytes m.output_type;
   client_streaming = m.client_streaming;
@@ -220,7 +221,7 @@ method_view m = record {
 abbrev pub service_view : ServiceDescriptorProto → ServiceDescriptor
 service_view s =
     record {
-      name = string_bytes s.name;
+      name = name_bytes s.name;
       method = map method_view s.method.items;
       options =
           option_map service_options_view s.options;

@@ -1,16 +1,15 @@
 //! Custom options: who says what they become.
 
-ghost use Rattle.std.specs.Prelude.{◌≡◌, ◌++◌, map, flat_map, string_bytes, IfOk, OnOk};
-ghost use Rattle.protobuf_parse_syntax.specs.Trees.{option_part_syntax, option_syntax};
+ghost use Rattle.std.specs.Prelude.{◌≡◌, ◌++◌, map, string_bytes, IfOk, OnOk};
+ghost use Rattle.protobuf_parse_syntax.specs.Trees.{option_part_syntax};
 ghost use Rattle.protobuf_parse_model.specs.SeenFiles.{name_texts};
-ghost use Rattle.protobuf_parse_model.specs.Environment.{Customs, no_customs, no_extensions};
+ghost use Rattle.protobuf_parse_model.specs.Environment.{Customs, no_customs};
 ghost use Rattle.protobuf_parse_model.specs.Environment.{part_text, option_path_text};
-ghost use Rattle.protobuf_parse_model.specs.Environment.{unknown_option};
 ghost use Rattle.protobuf_parse_model.specs.Faults.{Elaborates};
 ghost use Rattle.protobuf_parse_model.specs.BuiltinOptions.{options_seen};
 
-use crate::error::{ElabErrorKind, ElabFailure, fault};
-use protobuf_parse_syntax::{ProtobufOption, ProtobufOptionName, ProtobufOptionNamePart};
+use crate::error::ElabFailure;
+use protobuf_parse_syntax::{ProtobufOption, ProtobufOptionNamePart};
 use std::alloc::{AllocError, Global};
 
 /// What has options: each kind has an options message of its own in
@@ -50,25 +49,6 @@ pub trait CustomOptions {
             (c.bytes construct (name_texts scope.now) os) };
 }
 
-/// Knows no extension: a custom option is refused as one that isn't there, E11.
-#[derive(Clone, Copy)]
-pub struct NoExtensions;
-
-impl CustomOptions for NoExtensions {
-    ghost customs = { λ c. no_extensions };
-
-    fn bytes(
-        &self,
-        alloc: Global,
-        _construct: Construct,
-        _scope: &[&str],
-        options: &[&ProtobufOption],
-    ) -> Result<Vec<u8>, ElabFailure> {
-        refuse_customs(alloc, options)?;
-        Ok(Vec::new(alloc))
-    }
-}
-
 /// Leaves custom options out: nothing is wrong in any, and each becomes no bytes.
 #[derive(Clone, Copy)]
 pub struct WithoutCustoms;
@@ -84,30 +64,6 @@ impl CustomOptions for WithoutCustoms {
         _options: &[&ProtobufOption],
     ) -> Result<Vec<u8>, ElabFailure> {
         Ok(Vec::new(alloc))
-    }
-}
-
-/// Refuses custom options: E11.
-#[tactic(auto, using(crate::proofs::Blaming::blames_at))]
-fn refuse_customs(alloc: Global, options: &[&ProtobufOption]) -> Result<(), ElabFailure>
-    ensures { let os = options_seen options.now in
-        Elaborates (λ u. u) result (flat_map unknown_option os) tt }
-{
-    for option in options {
-        refuse_custom(alloc, option)?;
-    }
-    Ok(())
-}
-
-fn refuse_custom(alloc: Global, option: &ProtobufOption) -> Result<(), ElabFailure>
-    ensures { Elaborates (λ u. u) result (unknown_option (option_syntax option.now)) tt }
-{
-    match &option.name {
-        ProtobufOptionName::Builtin(_) => Ok(()),
-        ProtobufOptionName::Custom(parts) => {
-            let name = path_text(alloc, parts)?;
-            Err(fault(alloc, ElabErrorKind::BuiltinOptionNotFound, &name))
-        }
     }
 }
 

@@ -9,6 +9,7 @@ pub use options::{
     CType, EnumOptions, EnumValueOptions, FieldOptions, FileOptions, IdempotencyLevel, JSType,
     MessageOptions, MethodOptions, OneofOptions, OptimizeMode, ServiceOptions,
 };
+use protobuf_parse_base::Name;
 pub use protobuf_parse_syntax::Label;
 use protobuf_parse_syntax::Scalar;
 
@@ -63,7 +64,7 @@ impl Drop for FileDescriptorProto {
 /// A message.
 #[derive(Debug, PartialEq, Eq, Drop)]
 pub struct DescriptorProto {
-    pub name: String,
+    pub name: Name,
     pub field: Vec<FieldDescriptorProto>,
     pub oneof_decl: Vec<OneofDescriptorProto>,
     pub nested_type: Vec<DescriptorProto>,
@@ -92,7 +93,7 @@ pub struct ReservedRange {
 /// A field of a message, or an extension.
 #[derive(Debug, PartialEq, Eq, Drop)]
 pub struct FieldDescriptorProto {
-    pub name: String,
+    pub name: Name,
     /// The field's number, from 0 to 2147483647.
     pub number: i32,
     pub label: Label,
@@ -108,7 +109,7 @@ pub struct FieldDescriptorProto {
     /// The position in `oneof_decl` of the oneof that the field is in.
     pub oneof_index: Option<i32>,
     /// The name in the JSON mapping.
-    pub json_name: String,
+    pub json_name: Name,
     /// In a place of their own, since most fields have none.
     pub options: Option<Box<FieldOptions>>,
 }
@@ -139,14 +140,14 @@ pub enum FieldType {
 /// A oneof of a message.
 #[derive(Debug, PartialEq, Eq, Drop)]
 pub struct OneofDescriptorProto {
-    pub name: String,
+    pub name: Name,
     pub options: Option<OneofOptions>,
 }
 
 /// An enum.
 #[derive(Debug, PartialEq, Eq, Drop)]
 pub struct EnumDescriptorProto {
-    pub name: String,
+    pub name: Name,
     pub value: Vec<EnumValueDescriptorProto>,
     pub reserved_range: Vec<EnumReservedRange>,
     pub reserved_name: Vec<String>,
@@ -163,7 +164,7 @@ pub struct EnumReservedRange {
 /// A value of an enum.
 #[derive(Debug, PartialEq, Eq, Drop)]
 pub struct EnumValueDescriptorProto {
-    pub name: String,
+    pub name: Name,
     pub number: i32,
     pub options: Option<EnumValueOptions>,
 }
@@ -171,7 +172,7 @@ pub struct EnumValueDescriptorProto {
 /// A service.
 #[derive(Debug, PartialEq, Eq, Drop)]
 pub struct ServiceDescriptorProto {
-    pub name: String,
+    pub name: Name,
     pub method: Vec<MethodDescriptorProto>,
     pub options: Option<ServiceOptions>,
 }
@@ -179,7 +180,7 @@ pub struct ServiceDescriptorProto {
 /// A method of a service.
 #[derive(Debug, PartialEq, Eq, Drop)]
 pub struct MethodDescriptorProto {
-    pub name: String,
+    pub name: Name,
     /// The full name of the message that is sent, with its first dot.
     pub input_type: String,
     /// The full name of the message that comes back, with its first dot.

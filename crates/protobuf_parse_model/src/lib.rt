@@ -8,7 +8,7 @@ mod linking;
 mod made_names;
 mod scope;
 
-pub use customs::{Construct, CustomOptions, NoExtensions, WithoutCustoms, path_text};
+pub use customs::{Construct, CustomOptions, WithoutCustoms, path_text};
 pub use descriptor::{
     CType, DescriptorProto, EnumDescriptorProto, EnumOptions, EnumReservedRange,
     EnumValueDescriptorProto, EnumValueOptions, ExtensionRange, FieldDescriptorProto, FieldOptions,

@@ -102,16 +102,22 @@ module _ (of : Meanings FieldDescriptor) where
   abbrev barely : Meanings FieldDescriptor
   barely name = option_map bare_extension (of name)
 
-  in-first-bare : (name : Text) (scopes : List Scope) → declared_in_first barely name scopes ≡ option_map bare_extension (declared_in_first of name scopes)
+  in-first-bare : (name : Text) (scopes : List Scope)
+      → declared_in_first barely name scopes
+      ≡ option_map bare_extension (declared_in_first of name scopes)
   in-first-bare name [] = refl
   in-first-bare name (scope ∷ scopes) =
       ap (option_or (barely (full_name scope name))) (in-first-bare name scopes)
       ∙ first-becomes bare_extension (of (full_name scope name)) (declared_in_first of name scopes)
 
-  meant-bare : (scope : Scope) (name : Text) → meant barely scope name ≡ option_map bare_extension (meant of scope name)
+  meant-bare : (scope : Scope) (name : Text)
+      → meant barely scope name ≡ option_map bare_extension (meant of scope name)
   meant-bare scope name = at (begins_with_dot name)
     where
-      at : (b : Bool) → cond b (barely name) (declared_in_first barely name (fronts scope)) ≡ option_map bare_extension (cond b (of name) (declared_in_first of name (fronts scope)))
+      at : (b : Bool)
+          → cond b (barely name) (declared_in_first barely name (fronts scope))
+          ≡ option_map bare_extension
+          (cond b (of name) (declared_in_first of name (fronts scope)))
       at true = refl
       at false = in-first-bare name (fronts scope)
 

@@ -105,7 +105,8 @@ fields-custom scope fs =
 -- where a statement sets options of its construct, or has sets of its own
 module _ {X : Type 0} (options : X → List OptionSyntax) (sets : X → List OptionSet)
     (custom : X → Bool)
-    (each : (x : X) → (list_any is_custom (options x) || list_any sets_custom (sets x)) ≡ custom x) where
+    (each : (x : X)
+    → (list_any is_custom (options x) || list_any sets_custom (sets x)) ≡ custom x) where
   in-statements : (xs : List X)
       → (list_any is_custom (flat_map options xs) || list_any sets_custom (flat_map sets xs))
       ≡ list_any custom xs

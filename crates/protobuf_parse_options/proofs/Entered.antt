@@ -522,7 +522,8 @@ module _ (trees : Trees) (sees : Text → List Text) (reached : List Text)
 
   of_one : (message : Text) (f : FieldDescriptor) → Among (fields_at files message) f → IsOfFile f
   of_one message f h =
-      elim (split_among (fields_of_message files message) (extensions_extending files message) f h) [
+      elim (split_among
+      (fields_of_message files message) (extensions_extending files message) f h) [
         | left k ↦ field_of_one message f k
         | right k ↦ extension_of_one message f k
       ]

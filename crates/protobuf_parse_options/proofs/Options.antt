@@ -258,7 +258,8 @@ enters files name items m h =
       once = m.once;
       distinct = m.distinct;
       inside =
-          subst (λ fs. Suit files fs (entries_of_list items)) (fields_are files name m.parts m.once) h;
+          subst (λ fs. Suit files fs (entries_of_list items))
+          (fields_are files name m.parts m.once) h;
     }
 
 named : (f : FieldDescriptor) (name : Text) → f.type_name ≡ Some name → type_name_of f ≡ name
@@ -273,7 +274,8 @@ held_inside at r message f a items s h =
       held.0,
       held.1,
       enters at.files held.0 items held.2
-          (subst (λ name. Suits at.files (fields_at at.files name) items) (named f held.0 held.1) h),
+          (subst (λ name. Suits at.files (fields_at at.files name) items)
+          (named f held.0 held.1) h),
     )
 
 -- ---- numbers

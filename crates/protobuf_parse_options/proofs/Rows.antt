@@ -226,7 +226,8 @@ packaged = file (
       name = codes "E";
       body =
           enum_value (record { place = nowhere; name = codes "A"; number = pos 0; options = [] })
-          ∷ enum_value (record { place = nowhere; name = codes "B"; number = negsuc 0; options = [] })
+          ∷ enum_value
+          (record { place = nowhere; name = codes "B"; number = negsuc 0; options = [] })
           ∷ [];
     })
     ∷ file_message
@@ -284,7 +285,8 @@ enum_extended = file (
       place = nowhere;
       name = codes "FileOptions";
       body =
-          enum_value (record { place = nowhere; name = codes "A"; number = pos 0; options = [] }) ∷ [];
+          enum_value (record { place = nowhere; name = codes "A"; number = pos 0; options = [] })
+          ∷ [];
     })
     ∷ an_extend (codes "FileOptions") (a_field Optional (scalar word.Int32) (codes "o") 50001 ∷ [])
     ∷ [])

@@ -308,7 +308,8 @@ options d = either (do any; options ← separated (assignment d); any; nothing o
 plain_field : (d : ℕ) (T : List Lexeme → tree.TypeSyntax → Type 0) (place : Place)
     (label : Option Label) → Says (PlainFieldOf d T place label) SoundField
 unfolding PlainFieldOf
-plain_field d T place label = do type_ ← any; name ← any; any; number ← any; options ← options d; any; nothing options.1
+plain_field d T place label =
+    do type_ ← any; name ← any; any; number ← any; options ← options d; any; nothing options.1
 
 fields_sound : (fs : List FieldStatementSyntax) → AllByRecursion SoundField fs
     → SoundFields (tree.field_statements fs)
@@ -318,7 +319,13 @@ fields_sound (f ∷ fs) h = (h.0, fields_sound fs h.1)
 group_of : {F : List Lexeme → FieldStatementSyntax → Type 0} (place : Place) (label : Option Label)
     → Says F SoundField → Says (GroupOf F place label) SoundField
 unfolding GroupOf
-group_of place label f = do any; name ← any; any; number ← any; fields ← braced f; nothing (fields_sound fields.0 fields.1)
+group_of place label f = do
+  any
+  name ← any
+  any
+  number ← any
+  fields ← braced f
+  nothing (fields_sound fields.0 fields.1)
 
 after_label : (d : ℕ) {F : List Lexeme → FieldStatementSyntax → Type 0} (place : Place)
     (label : Option Label) → Says F SoundField → Says (AfterLabel d F place label) SoundField
@@ -328,8 +335,13 @@ after_label d place label f = either (group_of place label f) (plain_field d _ p
 field_of : (syntax : Syntax) (d : ℕ) {F : List Lexeme → FieldStatementSyntax → Type 0}
     → Says F SoundField → Says (FieldOf syntax d F) SoundField
 unfolding FieldOf
-field_of Proto2 d f = at_place (λ t. either (do l ← any; after_label (suc d) t.place (Some l.0) f) (plain_field (suc d) _ t.place None))
-field_of Proto3 d f = at_place (λ t. either (do l ← any; after_label (suc d) t.place (Some l.0) f) (unless {test = is_one_of (words (table_words labels ++ statement_words))} (after_label (suc d) t.place None f)))
+field_of Proto2 d f =
+    at_place (λ t. either (do l ← any; after_label (suc d) t.place (Some l.0) f)
+    (plain_field (suc d) _ t.place None))
+field_of Proto3 d f =
+    at_place (λ t. either (do l ← any; after_label (suc d) t.place (Some l.0) f)
+    (unless {test = is_one_of (words (table_words labels ++ statement_words))}
+    (after_label (suc d) t.place None f)))
 
 field : (syntax : Syntax) (d : ℕ) → Says (IsField syntax d) SoundField
 unfolding Level
@@ -347,23 +359,33 @@ oneof_field syntax d =
 
 oneof_statement : (syntax : Syntax) (d : ℕ) → Says (IsOneofStatement syntax d) SoundOneofStatement
 unfolding IsOneofStatement
-oneof_statement syntax d = either (do o ← option d; nothing o.1) (do f ← oneof_field syntax d; nothing f.1)
+oneof_statement syntax d =
+    either (do o ← option d; nothing o.1) (do f ← oneof_field syntax d; nothing f.1)
 
 oneof : (syntax : Syntax) (d : ℕ) → Says (IsOneof syntax d) SoundOneof
 unfolding IsOneof
-oneof syntax d = at_place (λ t. do any; name ← any; body ← braced (oneof_statement syntax d); nothing body.1)
+oneof syntax d =
+    at_place (λ t. do any; name ← any; body ← braced (oneof_statement syntax d); nothing body.1)
 
 extend : (syntax : Syntax) (d : ℕ) → Says (IsExtend syntax d) SoundExtend
 unfolding IsExtend
-extend syntax d = at_place (λ t. do any; name ← any; fields ← braced (field syntax d); nothing fields.1)
+extend syntax d =
+    at_place (λ t. do any; name ← any; fields ← braced (field syntax d); nothing fields.1)
 
 enum_value : (d : ℕ) → Says (IsEnumValue d) SoundValue
 unfolding IsEnumValue
-enum_value d = at_place (λ t. do name ← any; any; number ← enum_number; options ← options d; nothing (record { small = number.1; short = options.1 }))
+enum_value d = at_place (λ t. do
+  name ← any
+  any
+  number ← enum_number
+  options ← options d
+  nothing (record { small = number.1; short = options.1 }))
 
 enum_statement : (d : ℕ) → Says (IsEnumStatement d) SoundEnumStatement
 unfolding IsEnumStatement
-enum_statement d = either (do r ← any; nothing tt) (either (do o ← option d; nothing o.1) (do v ← enum_value d; nothing v.1))
+enum_statement d =
+    either (do r ← any; nothing tt)
+    (either (do o ← option d; nothing o.1) (do v ← enum_value d; nothing v.1))
 
 enum : (d : ℕ) → Says (IsEnum d) SoundEnum
 unfolding IsEnum
@@ -392,7 +414,11 @@ message_statement syntax d m =
 message : (syntax : Syntax) (d : ℕ) → Says (IsMessage syntax d) SoundMessage
 unfolding Level MessageOf
 message syntax zero = never
-message syntax (suc d) = at_place (λ t. do any; name ← any; body ← braced (message_statement syntax d (message syntax d)); nothing body.1)
+message syntax (suc d) = at_place (λ t. do
+  any
+  name ← any
+  body ← braced (message_statement syntax d (message syntax d))
+  nothing body.1)
 
 -- ---- services
 
@@ -402,11 +428,27 @@ method_end d = either (do any; nothing tt) (braced (option d))
 
 rpc : (d : ℕ) → Says (IsRpc d) SoundMethod
 unfolding IsRpc
-rpc d = at_place (λ t. do any; name ← any; input ← any; any; output ← any; options ← method_end d; nothing options.1)
+rpc d = at_place (λ t. do
+  any
+  name ← any
+  input ← any
+  any
+  output ← any
+  options ← method_end d
+  nothing options.1)
 
 stream : (d : ℕ) → Says (IsStream d) SoundMethod
 unfolding IsStream
-stream d = at_place (λ t. do any; name ← any; any; input ← any; any; output ← any; any; options ← method_end d; nothing options.1)
+stream d = at_place (λ t. do
+  any
+  name ← any
+  any
+  input ← any
+  any
+  output ← any
+  any
+  options ← method_end d
+  nothing options.1)
 
 stream_in : (syntax : Syntax) (d : ℕ) → Says (IsStreamIn syntax d) SoundMethod
 unfolding IsStreamIn
@@ -416,11 +458,17 @@ stream_in Proto3 d = never
 service_statement : (syntax : Syntax) (d : ℕ)
     → Says (IsServiceStatement syntax d) SoundServiceStatement
 unfolding IsServiceStatement
-service_statement syntax d = either (do m ← rpc d; nothing m.1) (either (do m ← stream_in syntax d; nothing m.1) (do o ← option d; nothing o.1))
+service_statement syntax d =
+    either (do m ← rpc d; nothing m.1)
+    (either (do m ← stream_in syntax d; nothing m.1) (do o ← option d; nothing o.1))
 
 service : (syntax : Syntax) (d : ℕ) → Says (IsService syntax d) SoundService
 unfolding IsService
-service syntax d = at_place (λ t. do any; name ← any; body ← braced (service_statement syntax d); nothing body.1)
+service syntax d = at_place (λ t. do
+  any
+  name ← any
+  body ← braced (service_statement syntax d)
+  nothing body.1)
 
 -- ---- files
 

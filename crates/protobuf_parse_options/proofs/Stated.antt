@@ -2,6 +2,8 @@
 use Rattle.std.proofs.Common.{◌≡◌, ◌≤◌, List, [], ◌∷◌, ◌++◌, map, flat_map, length, get_or, Result}
 use Rattle.std.proofs.Common.{String, string_bytes, refl, sym, ap, subst, ◌∙◌, arith}
 use Rattle.std.specs.Global.{Global}
+use Rattle.protobuf_parse_base.specs.DeclaredNames.{name_bytes}
+use Rattle.protobuf_parse_base.specs.declared.name.Name.{Name}
 use Rattle.protobuf_parse_syntax.specs.Trees.{ConstantSyntax, OptionPartSyntax, direct, extension}
 use Rattle.protobuf_parse_syntax.specs.Trees.{option_part_syntax, OptionSyntax}
 use Rattle.protobuf_parse_syntax.specs.declared.tree.option.ProtobufOptionNamePart.{ProtobufOptionNamePart}
@@ -27,8 +29,8 @@ parts_of xs = map option_part_syntax xs
 -- a plain part
 pub plain_blamed : (e : ElabFailure) (at : OptionScope) (construct : Construct)
     (value : ConstantSyntax) (xs : List ProtobufOptionNamePart) (x : ProtobufOptionNamePart)
-    (s : String Global) (name : Text) → 1 ≤ length xs → x ≡ get_or xs 0 x → x ≡ Direct s
-    → name ≡ string_bytes s
+    (s : Name) (name : Text) → 1 ≤ length xs → x ≡ get_or xs 0 x → x ≡ Direct s
+    → name ≡ name_bytes s
     → Blames e (builtin_step_faults (table_of construct) name)
     → Blames e (custom_faults at construct value (map option_part_syntax xs))
 plain_blamed e at construct value [] x s name some is plain named h = absurd (omega arith)

@@ -1,5 +1,6 @@
 -- What the views of messages and of each of their statements say.
 use Rattle.std.proofs.Common.{◌≡◌, map, ap, sym, ◌∙◌}
+use Rattle.protobuf_parse_base.specs.DeclaredNames.{name_bytes}
 use Rattle.protobuf_parse_syntax.specs.Trees as tree
 use Rattle.protobuf_parse_syntax.specs.Trees.{MessageSyntax, MessageStatementSyntax}
 use Rattle.protobuf_parse_syntax.specs.declared.tree.declaration.ReservedStatement.{ReservedStatement}
@@ -18,7 +19,7 @@ pub view_parts : (m : Message)
     → tree.message_syntax m
     ≡ record {
       place = m.place;
-      name = tree.name_bytes m.name;
+      name = name_bytes m.name;
       body =
           map tree.message_statement_syntax m.body.items;
     }

@@ -2,6 +2,7 @@
 -- tree.
 use Rattle.std.specs.Prelude.{ℤ, pos, Bool, List, [], ◌∷◌, map, fold, Option, Some, None}
 use Rattle.std.specs.Prelude.{string_bytes}
+use Rattle.protobuf_parse_base.specs.DeclaredNames.{name_bytes}
 use Rattle.protobuf_parse_base.specs.PathViews.{path_buf_text}
 use Rattle.protobuf_parse_lexer.specs.Text.{Bytes}
 use Rattle.protobuf_parse_lexer.specs.declared.lexer.token.Place.{Place}
@@ -20,8 +21,6 @@ use Rattle.protobuf_parse_syntax.specs.declared.tree.constant.ProtobufConstant.T
 use Rattle.protobuf_parse_syntax.specs.declared.tree.constant.ConstantField.{ConstantField}
 use Rattle.protobuf_parse_syntax.specs.declared.tree.constant.ConstantFieldName.{ConstantFieldName}
 use Rattle.protobuf_parse_syntax.specs.declared.tree.constant.ConstantFieldName.TheVariants as constant_name
-use Rattle.protobuf_parse_syntax.specs.declared.tree.name.DeclaredName.{DeclaredName}
-use Rattle.protobuf_parse_syntax.specs.declared.tree.name.DeclaredName.TheVariants as declared_name
 use Rattle.protobuf_parse_syntax.specs.declared.tree.option.ProtobufOptionNamePart.{ProtobufOptionNamePart}
 use Rattle.protobuf_parse_syntax.specs.declared.tree.option.ProtobufOptionNamePart.TheVariants as option_part
 use Rattle.protobuf_parse_syntax.specs.declared.tree.option.ProtobufOptionName.{ProtobufOptionName}
@@ -60,13 +59,6 @@ use Rattle.protobuf_parse_syntax.specs.declared.tree.declaration.MessageStatemen
 use Rattle.protobuf_parse_syntax.specs.declared.tree.declaration.MessageStatement.{fold-MessageStatement}
 use Rattle.protobuf_parse_syntax.specs.declared.tree.declaration.MessageStatement.TheOpen.{MessageStatement-F}
 use Rattle.protobuf_parse_syntax.specs.declared.tree.declaration.MessageStatement.TheOpen.{Message-F}
-
--- ---- names
-
--- the text of the name of what is declared
-abbrev pub name_bytes : DeclaredName → Bytes
-name_bytes (declared_name.Short s) = s.bytes
-name_bytes (declared_name.Long s) = string_bytes s
 
 -- ---- strings
 
@@ -116,7 +108,7 @@ constant_fields [] = no_fields
 constant_fields (f ∷ fs) = more_fields f.name f.value (constant_fields fs)
 
 abbrev pub constant_name_syntax : ConstantFieldName → ConstantNameSyntax
-constant_name_syntax (constant_name.Regular n) = regular_name (string_bytes n)
+constant_name_syntax (constant_name.Regular n) = regular_name (name_bytes n)
 constant_name_syntax (constant_name.Extension n) = extension_name (string_bytes n)
 constant_name_syntax (constant_name.AnyUrl n) = url_name (string_bytes n)
 
@@ -162,11 +154,11 @@ pub record OptionStatementSyntax : Type 0 where
   pub option : OptionSyntax
 
 abbrev pub option_part_syntax : ProtobufOptionNamePart → OptionPartSyntax
-option_part_syntax (option_part.Direct n) = direct (string_bytes n)
+option_part_syntax (option_part.Direct n) = direct (name_bytes n)
 option_part_syntax (option_part.Ext n) = extension (string_bytes n)
 
 abbrev pub option_name_syntax : ProtobufOptionName → OptionNameSyntax
-option_name_syntax (option_name.Builtin n) = builtin (string_bytes n)
+option_name_syntax (option_name.Builtin n) = builtin (name_bytes n)
 option_name_syntax (option_name.Custom parts) = custom (map option_part_syntax parts.items)
 
 abbrev pub option_syntax : ProtobufOption → OptionSyntax

@@ -8,6 +8,7 @@ mod tree;
 pub use dependencies::{Dependencies, imports_of, parse_dependencies};
 pub use parser::laws::trees_are_shallow;
 pub use parser::{parse_file, tree_of};
+pub use protobuf_parse_base::Name;
 pub use protobuf_parse_lexer::{
     ParserError, ParserErrorWithLocation, Place, StrLit, StrLitDecodeError, Token, TokenKind,
     TokenStream, cuts_are_unique, decoding_is_unique, escaped_bytes_decode,
@@ -15,9 +16,9 @@ pub use protobuf_parse_lexer::{
     unquoted,
 };
 pub use tree::{
-    ConstantField, ConstantFieldName, DeclaredName, EnumStatement, EnumValue, Enumeration, Extend,
-    Extensions, Field, FieldNumberRange, FieldStatement, FileStatement, FileTree, Group, Import,
-    ImportVis, Label, Message, MessageStatement, Method, OneOf, OneOfStatement, OptionStatement,
-    Package, ProtobufConstant, ProtobufOption, ProtobufOptionName, ProtobufOptionNamePart,
-    Reserved, ReservedStatement, Scalar, Service, ServiceStatement, Syntax, Type,
+    ConstantField, ConstantFieldName, EnumStatement, EnumValue, Enumeration, Extend, Extensions,
+    Field, FieldNumberRange, FieldStatement, FileStatement, FileTree, Group, Import, ImportVis,
+    Label, Message, MessageStatement, Method, OneOf, OneOfStatement, OptionStatement, Package,
+    ProtobufConstant, ProtobufOption, ProtobufOptionName, ProtobufOptionNamePart, Reserved,
+    ReservedStatement, Scalar, Service, ServiceStatement, Syntax, Type,
 };

@@ -4,7 +4,6 @@
 mod constant;
 mod declaration;
 mod field;
-mod name;
 mod option;
 
 ghost use Rattle.std.specs.Prelude.{◌≡◌};
@@ -20,7 +19,6 @@ pub use declaration::{
     ServiceStatement,
 };
 pub use field::{Field, FieldStatement, Group, Label, Scalar, Type};
-pub use name::DeclaredName;
 pub use option::{OptionStatement, ProtobufOption, ProtobufOptionName, ProtobufOptionNamePart};
 use protobuf_parse_base::proto_path::ProtoPathBuf;
 use protobuf_parse_lexer::Place;

@@ -4,7 +4,7 @@ use protobuf_parse::{
     CType, DescriptorProto, EnumDescriptorProto, EnumOptions, EnumReservedRange,
     EnumValueDescriptorProto, EnumValueOptions, ExtensionRange, FieldDescriptorProto, FieldOptions,
     FieldType, FileDescriptorProto, FileOptions, IdempotencyLevel, JSType, Label, MessageOptions,
-    MethodDescriptorProto, MethodOptions, OneofDescriptorProto, OneofOptions, OptimizeMode,
+    MethodDescriptorProto, MethodOptions, Name, OneofDescriptorProto, OneofOptions, OptimizeMode,
     ReservedRange, ServiceDescriptorProto, ServiceOptions, listing,
 };
 use std::alloc::{AllocError, Global};
@@ -38,7 +38,7 @@ fn no_file(alloc: Global) -> FileDescriptorProto {
 
 fn no_message(alloc: Global, name: &str) -> Result<DescriptorProto, AllocError> {
     Ok(DescriptorProto {
-        name: text(alloc, name)?,
+        name: Name::new(alloc, name)?,
         field: Vec::new(alloc),
         oneof_decl: Vec::new(alloc),
         nested_type: Vec::new(alloc),
@@ -53,7 +53,7 @@ fn no_message(alloc: Global, name: &str) -> Result<DescriptorProto, AllocError> 
 
 fn plain_field(alloc: Global, name: &str) -> Result<FieldDescriptorProto, AllocError> {
     Ok(FieldDescriptorProto {
-        name: text(alloc, name)?,
+        name: Name::new(alloc, name)?,
         number: 1,
         label: Label::Optional,
         type_: FieldType::Bool,
@@ -61,15 +61,15 @@ fn plain_field(alloc: Global, name: &str) -> Result<FieldDescriptorProto, AllocE
         extendee: None,
         default_value: None,
         oneof_index: None,
-        json_name: text(alloc, name)?,
+        json_name: Name::new(alloc, name)?,
         proto3_optional: false,
         options: None,
     })
 }
 
 fn full_field(alloc: Global) -> Result<FieldDescriptorProto, AllocError> {
-    let name = text(alloc, "f")?;
-    let json_name = text(alloc, "f")?;
+    let name = Name::new(alloc, "f")?;
+    let json_name = Name::new(alloc, "f")?;
     let type_name = text(alloc, ".M.F")?;
     let extendee = text(alloc, ".Q")?;
     let default_value = text(alloc, "a\"\u{e9}")?;
@@ -101,11 +101,11 @@ fn full_field(alloc: Global) -> Result<FieldDescriptorProto, AllocError> {
 }
 
 fn full_enum(alloc: Global) -> Result<EnumDescriptorProto, AllocError> {
-    let name = text(alloc, "E")?;
+    let name = Name::new(alloc, "E")?;
     let reserved_range = one(alloc, EnumReservedRange { start: -4, end: 4 })?;
     let reserved_name = one(alloc, text(alloc, "x")?)?;
     let value = EnumValueDescriptorProto {
-        name: text(alloc, "V")?,
+        name: Name::new(alloc, "V")?,
         number: -1,
         options: Some(EnumValueOptions {
             deprecated: Some(true),
@@ -128,7 +128,7 @@ fn full_enum(alloc: Global) -> Result<EnumDescriptorProto, AllocError> {
 }
 
 fn full_oneof(alloc: Global) -> Result<OneofDescriptorProto, AllocError> {
-    let name = text(alloc, "o")?;
+    let name = Name::new(alloc, "o")?;
     let custom = vec![in alloc; 1]?;
     Ok(OneofDescriptorProto {
         name,
@@ -162,7 +162,7 @@ fn full_message(alloc: Global) -> Result<DescriptorProto, AllocError> {
 }
 
 fn full_method(alloc: Global) -> Result<MethodDescriptorProto, AllocError> {
-    let name = text(alloc, "G")?;
+    let name = Name::new(alloc, "G")?;
     let input_type = text(alloc, ".A")?;
     let output_type = text(alloc, ".B")?;
     Ok(MethodDescriptorProto {
@@ -180,7 +180,7 @@ fn full_method(alloc: Global) -> Result<MethodDescriptorProto, AllocError> {
 }
 
 fn full_service(alloc: Global) -> Result<ServiceDescriptorProto, AllocError> {
-    let name = text(alloc, "S")?;
+    let name = Name::new(alloc, "S")?;
     let method = one(alloc, full_method(alloc)?)?;
     Ok(ServiceDescriptorProto {
         name,

@@ -1,6 +1,6 @@
 -- An index that grows by messages and extensions.
 use Rattle.std.proofs.Common.{◌≡◌, ℕ, ◌+◌, ◌<◌, ◌≤◌, Bool, true, false, cond, List, [], ◌∷◌, ◌++◌}
-use Rattle.std.proofs.Common.{map, take, drop, suc, get_or, length, string_bytes, refl, sym, ap}
+use Rattle.std.proofs.Common.{map, take, drop, suc, get_or, length, refl, sym, ap}
 use Rattle.std.proofs.Common.{subst, ◌∙◌, append_assoc, append-nil}
 use Rattle.std.specs.Borrow.{Bor}
 use Rattle.std.specs.List.{flat_map, filter}
@@ -9,6 +9,7 @@ use Rattle.std.proofs.lemmas.List.{take_more, take_all, take-append-drop, map-ap
 use Rattle.std.proofs.Math.Seq.{drop-cons}
 use Rattle.std.proofs.lemmas.List.Elements.{filter-append}
 use Rattle.std.proofs.lemmas.Grind.{flat_map-append}
+use Rattle.protobuf_parse_base.specs.DeclaredNames.{name_bytes}
 use Rattle.protobuf_parse_model.specs.declared.descriptor.DescriptorProto.{DescriptorProto}
 use Rattle.protobuf_parse_model.specs.declared.descriptor.DescriptorProto.{out-DescriptorProto}
 use Rattle.protobuf_parse_model.specs.Descriptors.{Text, FileDescriptor, FieldDescriptor}
@@ -144,7 +145,7 @@ added_parts scope name m parts ms r old a b new is apart named same put extensio
 
 -- a message, its extensions and the messages inside it
 pub message_added : (scope name : Text) (r : Bor DescriptorProto) (old a b new : Index)
-    → name ≡ name_within scope (string_bytes (out-DescriptorProto r.now).name)
+    → name ≡ name_within scope (name_bytes (out-DescriptorProto r.now).name)
     → indexed_extensions a ≡ indexed_extensions old
     → ((q : Text) → group a.messages q
     ≡ cond (bytes_eq q name) (group old.messages q ++ r ∷ []) (group old.messages q))

@@ -16,6 +16,11 @@ pub fn identifier(alloc: Global, text: &str) -> Result<String, AllocError> {
     yes_or_no(alloc, ProtobufIdentRef::is_ident(text))
 }
 
+/// The name in JSON of the field of that name.
+pub fn json_name(alloc: Global, text: &str) -> Result<String, AllocError> {
+    protobuf_parse_base::text::json_name(alloc, text)?.text(alloc)
+}
+
 /// Whether the text is a relative path.
 pub fn relative(alloc: Global, text: &str) -> Result<String, AllocError> {
     yes_or_no(alloc, ProtobufRelPathRef::is_rel(text))

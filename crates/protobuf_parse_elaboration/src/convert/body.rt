@@ -1,6 +1,7 @@
 //! What the statements of a message's body declare.
 
-ghost use Rattle.std.specs.Prelude.{◌≡◌, ◌<◌, ◌^◌, true, false, length, string_bytes};
+ghost use Rattle.std.specs.Prelude.{◌≡◌, ◌<◌, ◌^◌, true, false, length};
+ghost use Rattle.protobuf_parse_base.specs.DeclaredNames.{name_bytes};
 ghost use Rattle.protobuf_parse_syntax.specs.Trees as tree;
 ghost use Rattle.protobuf_parse_model.specs.SeenFiles.{environment_in};
 ghost use Rattle.protobuf_parse_model.specs.Descriptors as described;
@@ -20,6 +21,7 @@ use crate::convert::oneof::{has_own_oneof, oneof_descriptor, own_oneof};
 use crate::convert::place::FieldPlace;
 use crate::convert::rest::Rest;
 use crate::convert::statement::declared_field;
+use protobuf_parse_base::Name;
 use protobuf_parse_model::{
     Context, CustomOptions, DescriptorProto, ElabFailure, EnumDescriptorProto,
     FieldDescriptorProto, OneofDescriptorProto,
@@ -51,8 +53,8 @@ impl Drop for Body {
 
 impl Body {
     /// The message of that name with this body.
-    pub fn into_message(self, name: String, rest: Rest) -> DescriptorProto
-        ensures { described.message_view result ≡ message_of_both (string_bytes name)
+    pub fn into_message(self, name: Name, rest: Rest) -> DescriptorProto
+        ensures { described.message_view result ≡ message_of_both (name_bytes name)
             (body_view self) (rest_view rest) }
     {
         let Body {

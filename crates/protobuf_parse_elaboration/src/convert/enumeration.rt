@@ -43,7 +43,7 @@ pub fn enum_descriptor<C: CustomOptions>(
 {
     let value = enum_values(alloc, context, custom, &enumeration.body)?;
     let reserved = reserved(alloc, &enumeration.body)?;
-    let name = enumeration.name.text(alloc)?;
+    let name = enumeration.name.clone()?;
     let options = checked_options(alloc, context, custom, &enumeration.body)?;
     Ok(EnumDescriptorProto {
         name,
@@ -136,7 +136,7 @@ fn value_descriptor<C: CustomOptions>(
     let options = options_of(alloc, &value.options)?;
     let bytes = checked_customs(alloc, context, custom, Construct::EnumValue, &options)?;
     Ok(EnumValueDescriptorProto {
-        name: value.name.text(alloc)?,
+        name: value.name.clone()?,
         number: value.number,
         options: enum_value_options(&options, bytes),
     })

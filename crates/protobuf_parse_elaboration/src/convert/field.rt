@@ -20,6 +20,7 @@ use crate::convert::options::{
 };
 use crate::convert::place::FieldPlace;
 use crate::convert::types::{ResolvedType, resolved_type};
+use protobuf_parse_base::Name;
 use protobuf_parse_base::text::json_name;
 use protobuf_parse_model::{
     Construct, Context, CustomOptions, ElabErrorKind, ElabFailure, FieldDescriptorProto,
@@ -60,7 +61,7 @@ fn field_with<C: CustomOptions>(
         (fields.faults_of_options env resolved.kind f.name f.options)
         (fields.field_with env (field_place_view place.now) f (resolved_view resolved)) }
 {
-    let name = field.name.text(alloc)?;
+    let name = field.name.clone()?;
     let extendee = place.extendee(alloc)?;
     let said = field_said(
         alloc,
@@ -89,7 +90,7 @@ fn field_with<C: CustomOptions>(
 #[derive(Drop)]
 pub struct FieldSaid {
     pub default_value: Option<String>,
-    pub json_name: String,
+    pub json_name: Name,
     pub options: Option<Box<FieldOptions>>,
 }
 
@@ -156,7 +157,7 @@ pub fn group_field(
         described.field_view d ≡ fields.group_field (names_of_context context.now)
         (field_place_view place.now) g.label g.name g.number) }
 {
-    let name = group_field_name(alloc, &group.name)?;
+    let name = Name::from(group_field_name(alloc, &group.name)?);
     let json_name = json_name(alloc, &name)?;
     let type_name = full_name(alloc, context.scope, &group.name)?;
     let extendee = place.extendee(alloc)?;

@@ -1,7 +1,8 @@
 //! The messages that stand behind maps and groups.
 
 ghost use Rattle.std.specs.Prelude.{◌≡◌, ◌++◌, map, flat_map, option_map};
-ghost use Rattle.std.specs.Prelude.{string_bytes, IfOk};
+ghost use Rattle.std.specs.Prelude.{IfOk};
+ghost use Rattle.protobuf_parse_base.specs.DeclaredNames.{name_bytes};
 ghost use Rattle.protobuf_parse_syntax.specs.Trees.{field_statement_syntax, field_syntax};
 ghost use Rattle.protobuf_parse_syntax.specs.Trees.{group_syntax};
 ghost use Rattle.protobuf_parse_syntax.specs.Trees.{type_syntax};
@@ -19,6 +20,7 @@ use crate::convert::field::{check_no_map, field_descriptor};
 use crate::convert::names::check_unlike;
 use crate::convert::place::FieldPlace;
 use crate::convert::types::{ResolvedType, inner_type};
+use protobuf_parse_base::Name;
 use protobuf_parse_model::{
     Context, CustomOptions, DescriptorProto, ElabErrorKind, ElabFailure, FieldDescriptorProto,
     Label, MessageOptions, entry_name, fault, group_field_name,
@@ -89,7 +91,7 @@ fn entry_message(
     let mut field = Vec::with_capacity(alloc, 2)?;
     field.push(entry_field(alloc, "key", 1, key)?)?;
     field.push(entry_field(alloc, "value", 2, value)?)?;
-    let name = entry_name(alloc, name)?;
+    let name = Name::from(entry_name(alloc, name)?);
     let options = MessageOptions {
         message_set_wire_format: None,
         no_standard_descriptor_accessor: None,
@@ -110,7 +112,7 @@ fn entry_field(
         (λ f. described.field_view f ≡ messages.entry_field name.now number (resolved_view type_)) }
 {
     Ok(FieldDescriptorProto {
-        name: String::from_str(alloc, name)?,
+        name: Name::new(alloc, name)?,
         number,
         label: Label::Optional,
         type_: type_.kind,
@@ -118,7 +120,7 @@ fn entry_field(
         extendee: None,
         default_value: None,
         oneof_index: None,
-        json_name: String::from_str(alloc, name)?,
+        json_name: Name::new(alloc, name)?,
         proto3_optional: false,
         options: None,
     })
@@ -127,12 +129,12 @@ fn entry_field(
 /// A message with fields and options alone.
 fn message_with(
     alloc: Global,
-    name: String,
+    name: Name,
     field: Vec<FieldDescriptorProto>,
     options: Option<MessageOptions>,
 ) -> DescriptorProto
     ensures { described.message_view result
-        ≡ messages.message_with (string_bytes name) (map described.field_view field.items)
+        ≡ messages.message_with (name_bytes name) (map described.field_view field.items)
         (option_map message_options_view options) }
 {
     DescriptorProto {
@@ -164,7 +166,7 @@ pub fn group_message<C: CustomOptions>(
 {
     let field = grouped_fields(alloc, context, custom, &group.fields)?;
     check_unlike(alloc, &field)?;
-    Ok(message_with(alloc, group.name.text(alloc)?, field, None))
+    Ok(message_with(alloc, group.name.clone()?, field, None))
 }
 
 /// The fields of a group.

@@ -18,6 +18,7 @@ ghost use Rattle.protobuf_parse_elaboration.specs.Messages as messages;
 use crate::convert::body::{Body, add_enum, add_extend, add_field, add_oneof};
 use crate::convert::names::check_unlike;
 use crate::convert::rest::rest_of_message;
+use protobuf_parse_base::Name;
 use protobuf_parse_model::{Context, CustomOptions, DescriptorProto, ElabFailure};
 use protobuf_parse_syntax::{Message, MessageStatement};
 use std::alloc::{AllocError, Global};
@@ -79,7 +80,7 @@ fn finished<C: CustomOptions>(
         (contexts.message_of_both name.now (body_view parts) (contexts.rest_of env ss)) }
 {
     check_names(alloc, &parts)?;
-    let copy = String::from_str(alloc, name)?;
+    let copy = Name::new(alloc, name)?;
     let rest = rest_of_message(alloc, context, custom, name, body)?;
     Ok(parts.into_message(copy, rest))
 }

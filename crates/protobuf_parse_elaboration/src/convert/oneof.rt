@@ -18,6 +18,7 @@ ghost use Rattle.protobuf_parse_elaboration.specs.Messages as messages;
 use crate::convert::field::says_optional;
 use crate::convert::options::{checked_customs, oneof_options, options_in};
 use crate::convert::statement::DeclaredField;
+use protobuf_parse_base::Name;
 use protobuf_parse_model::{
     Construct, Context, CustomOptions, ElabFailure, OneofDescriptorProto, OneofOptions,
 };
@@ -37,7 +38,7 @@ pub fn oneof_descriptor<C: CustomOptions>(
         (construct_faults env of.Oneof oneof_table (messages.options_in_oneof o))
         (messages.oneof_of env o) }
 {
-    let name = oneof.name.text(alloc)?;
+    let name = oneof.name.clone()?;
     let options = checked_options(alloc, context, custom, &oneof.body)?;
     Ok(OneofDescriptorProto { name, options })
 }
@@ -84,7 +85,7 @@ pub fn own_oneof(
     let mut name = String::from_str(alloc, "_")?;
     name.push_str(&declared.field.name)?;
     Ok(OneofDescriptorProto {
-        name,
+        name: Name::from(name),
         options: None,
     })
 }

@@ -44,7 +44,7 @@ pub fn service_descriptor<C: CustomOptions>(
         (services.service_of env s) }
 {
     let method = service_methods(alloc, context, custom, &service.body)?;
-    let name = service.name.text(alloc)?;
+    let name = service.name.clone()?;
     let options = checked_options(alloc, context, custom, &service.body)?;
     Ok(ServiceDescriptorProto {
         name,
@@ -135,7 +135,7 @@ fn method_descriptor<C: CustomOptions>(
 {
     let input_type = method_type(alloc, context, &method.input)?;
     let output_type = method_type(alloc, context, &method.output)?;
-    let name = method.name.text(alloc)?;
+    let name = method.name.clone()?;
     let options = checked_method_options(alloc, context, custom, &method.options)?;
     Ok(MethodDescriptorProto {
         name,

@@ -8,8 +8,8 @@ ghost use Rattle.protobuf_parse_elaboration.specs.NameKeys.{key_of};
 
 use std::alloc::{AllocError, Global};
 
-/// Whether these names have different keys, so that no name stands among those before it. Names that
-/// differ seldom share a key; where some do, this is no answer.
+/// Whether these names have different keys, so that no name stands among those before it. Names
+/// that differ seldom share a key; where some do, this is no answer.
 pub fn have_unlike_keys(alloc: Global, names: &[&str]) -> Result<bool, AllocError>
     ensures { IfOk result (λ unlike. unlike ≡ true
         → duplicates (map (λ (s : Bor (List ℕ)). s.now) names.now) ≡ []) }

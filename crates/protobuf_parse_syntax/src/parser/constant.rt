@@ -325,7 +325,7 @@ fn constant_name(alloc: Global, tokens: &mut Cursor<'_, '_>) -> Result<ConstantF
         (read.constant_name.run (left tokens.old)) }
 {
     if tokens.sees_ident() {
-        return Ok(ConstantFieldName::Regular(tokens.ident(alloc)?));
+        return Ok(ConstantFieldName::Regular(tokens.ident_name(alloc)?));
     }
     tokens.symbol('[')?;
     let first = name(alloc, tokens)?;

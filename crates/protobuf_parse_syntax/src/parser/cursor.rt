@@ -1,6 +1,7 @@
 //! A cursor over the tokens of a file.
 
 ghost use Rattle.std.specs.Prelude.{◌≡◌, ◌≤◌, ◌∷◌, [], map, string_bytes};
+ghost use Rattle.protobuf_parse_base.specs.DeclaredNames.{name_bytes};
 ghost use Rattle.protobuf_parse_base.specs.Whole.{whole};
 ghost use Rattle.protobuf_parse_base.specs.Readers.{starts};
 ghost use Rattle.protobuf_parse_base.specs.Conditions.{mark_of};
@@ -10,14 +11,13 @@ ghost use Rattle.protobuf_parse_lexer.specs.Text.{seen_by};
 ghost use Rattle.protobuf_parse_syntax.specs.ClassLaws.{lexicon};
 ghost use Rattle.protobuf_parse_syntax.specs.Grammar.{place_of};
 ghost use Rattle.protobuf_parse_syntax.specs.Productions as read;
-ghost use Rattle.protobuf_parse_syntax.specs.Trees.{name_bytes};
 ghost use Rattle.protobuf_parse_syntax.specs.Code.{left, Gives, AtOneToken, is_end};
 ghost use Rattle.protobuf_parse_syntax.specs.Code.{next_ident, floats_second};
 ghost use Rattle.protobuf_parse_syntax.specs.Words.{behind_next};
 
 use crate::parser::refusal::Refusal;
 use crate::parser::tables::is_same;
-use crate::tree::DeclaredName;
+use protobuf_parse_base::Name;
 use protobuf_parse_lexer::{ParserError, Place, Token, TokenKind, unquoted};
 use std::alloc::Global;
 
@@ -169,23 +169,23 @@ impl<'t, 'text> Cursor<'t, 'text> {
     /// Reads the name of what is declared, an identifier, which may be any word. S8 at any other
     /// token.
     #[inline]
-    pub fn declared_name(&mut self, alloc: Global) -> Result<DeclaredName, Refusal>
+    pub fn ident_name(&mut self, alloc: Global) -> Result<Name, Refusal>
         ensures { Gives name_bytes result (left self.new) (read.ident.run (left self.old)) }
     {
         let text = self.ident_text()?;
-        Ok(DeclaredName::new(alloc, text)?)
+        Ok(Name::new(alloc, text)?)
     }
 
     /// Reads a group's name, an identifier that begins with an ASCII capital. S13 at any other
     /// identifier, S8 at any other token.
-    pub fn group_name(&mut self, alloc: Global) -> Result<DeclaredName, Refusal>
+    pub fn group_name(&mut self, alloc: Global) -> Result<Name, Refusal>
         ensures { Gives name_bytes result (left self.new) (read.capital.run (left self.old)) }
     {
         match self.next_word() {
             Some(name) => {
                 let bytes = name.as_bytes();
                 if !bytes.is_empty() && bytes[0].is_ascii_uppercase() {
-                    self.declared_name(alloc)
+                    self.ident_name(alloc)
                 } else {
                     Err(Refusal::Next(ParserError::GroupNameShouldStartWithUpperCase))
                 }

@@ -1,6 +1,7 @@
 //! Enums, reserved numbers and names, and ranges.
 
 ghost use Rattle.std.specs.Prelude.{◌≡◌, map, string_bytes};
+ghost use Rattle.protobuf_parse_base.specs.DeclaredNames.{name_bytes};
 ghost use Rattle.protobuf_parse_base.specs.Readers.{starts};
 ghost use Rattle.protobuf_parse_lexer.specs.Text.{seen_by};
 ghost use Rattle.protobuf_parse_syntax.specs.ClassLaws.{lexicon};
@@ -15,9 +16,10 @@ use crate::parser::name::text;
 use crate::parser::option::{option, options};
 use crate::parser::refusal::Refusal;
 use crate::tree::{
-    DeclaredName, EnumStatement, EnumValue, Enumeration, Extensions, FieldNumberRange, Reserved,
+    EnumStatement, EnumValue, Enumeration, Extensions, FieldNumberRange, Reserved,
     ReservedStatement,
 };
+use protobuf_parse_base::Name;
 use protobuf_parse_lexer::ParserError;
 use std::alloc::Global;
 
@@ -36,7 +38,7 @@ pub fn enumeration(
 {
     let place = tokens.place();
     tokens.word("enum")?;
-    let name = tokens.declared_name(alloc)?;
+    let name = tokens.ident_name(alloc)?;
     tokens.symbol('{')?;
     let mut body = enum_statements(alloc, tokens, levels)?;
     tokens.symbol('}')?;
@@ -129,13 +131,13 @@ fn enum_value(
 
 /// `ident`, but `reserved` or `option`
 #[tactic(auto, unfolding(crate::specs::Productions::value_name), using(crate::specs::Code::fails_first))]
-fn value_name(alloc: Global, tokens: &mut Cursor<'_, '_>) -> Result<DeclaredName, Refusal>
-    ensures { Gives view.name_bytes result (left tokens.new) (read.value_name.run (left tokens.old)) }
+fn value_name(alloc: Global, tokens: &mut Cursor<'_, '_>) -> Result<Name, Refusal>
+    ensures { Gives name_bytes result (left tokens.new) (read.value_name.run (left tokens.old)) }
 {
     if begins_other_statement(tokens) {
         return Err(Refusal::Next(ParserError::IncorrectInput));
     }
-    tokens.declared_name(alloc)
+    tokens.ident_name(alloc)
 }
 
 /// Whether `reserved` or `option` comes next.

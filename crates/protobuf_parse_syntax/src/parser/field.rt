@@ -282,7 +282,7 @@ fn after_type(
     ensures { Gives (λ f. view.field (view.field_syntax f)) result (left tokens.new)
         ((nest.after_type levels place label (view.type_syntax type_)).low.run (left tokens.old)) }
 {
-    let name = tokens.declared_name(alloc)?;
+    let name = tokens.ident_name(alloc)?;
     tokens.symbol('=')?;
     let number = tokens.field_number()?;
     let options = options(alloc, tokens, levels)?;

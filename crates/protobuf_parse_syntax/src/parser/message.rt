@@ -54,7 +54,7 @@ fn message_of(
 {
     let place = tokens.place();
     tokens.word("message")?;
-    let name = tokens.declared_name(alloc)?;
+    let name = tokens.ident_name(alloc)?;
     tokens.symbol('{')?;
     let mut body = message_statements(alloc, tokens, syntax, levels)?;
     let fault = field_fault(tokens, syntax);
@@ -150,7 +150,7 @@ fn oneof(
 {
     let place = tokens.place();
     tokens.word("oneof")?;
-    let name = tokens.declared_name(alloc)?;
+    let name = tokens.ident_name(alloc)?;
     tokens.symbol('{')?;
     let mut body = oneof_statements(alloc, tokens, syntax, levels)?;
     let fault = oneof_fault(tokens);

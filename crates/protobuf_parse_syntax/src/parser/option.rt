@@ -153,7 +153,7 @@ fn parts(
     ensures { GivesOr TooMany (λ v. map view.option_part_syntax v.items) result (left tokens.new)
         (with_first (view.option_part_syntax first) ((read.parts_up_to 99).run (left tokens.old))) }
 {
-    let mut parts = Vec::new(alloc);
+    let mut parts = Vec::with_capacity(alloc, 2)?;
     parts.push(first)?;
     let mut room = MAX_OTHER_PARTS;
     'others: while room > 0 {
@@ -214,7 +214,7 @@ fn option_part(
         (read.option_part.run (left tokens.old)) }
 {
     if tokens.sees_ident() {
-        return Ok(ProtobufOptionNamePart::Direct(tokens.ident(alloc)?));
+        return Ok(ProtobufOptionNamePart::Direct(tokens.ident_name(alloc)?));
     }
     tokens.symbol('(')?;
     let name = name(alloc, tokens)?;

@@ -29,7 +29,7 @@ pub fn service(
 {
     let place = tokens.place();
     tokens.word("service")?;
-    let name = tokens.declared_name(alloc)?;
+    let name = tokens.ident_name(alloc)?;
     tokens.symbol('{')?;
     let body = service_statements(alloc, tokens, syntax, levels)?;
     tokens.symbol('}')?;
@@ -100,7 +100,7 @@ fn rpc(alloc: Global, tokens: &mut Cursor<'_, '_>, levels: usize) -> Result<Meth
 {
     let place = tokens.place();
     tokens.word("rpc")?;
-    let name = tokens.declared_name(alloc)?;
+    let name = tokens.ident_name(alloc)?;
     let (client_streaming, input) = streamed(alloc, tokens)?;
     tokens.word("returns")?;
     let (server_streaming, output) = streamed(alloc, tokens)?;
@@ -140,7 +140,7 @@ fn stream(alloc: Global, tokens: &mut Cursor<'_, '_>, levels: usize) -> Result<M
 {
     let place = tokens.place();
     tokens.word("stream")?;
-    let method_name = tokens.declared_name(alloc)?;
+    let method_name = tokens.ident_name(alloc)?;
     tokens.symbol('(')?;
     let input = name(alloc, tokens)?;
     tokens.symbol(',')?;

@@ -9,6 +9,7 @@ ghost use Rattle.protobuf_parse_syntax.specs.Formats as spec;
 ghost use Rattle.protobuf_parse_syntax.specs.Trees.{constant_syntax, constant_field_syntax};
 ghost use Rattle.protobuf_parse_syntax.specs.Trees.{constant_name_syntax, pieces_of};
 
+use protobuf_parse_base::Name;
 use protobuf_parse_lexer::StrLit;
 use std::alloc::{AllocError, Global};
 use std::fmt;
@@ -40,7 +41,7 @@ pub struct ConstantField {
 /// The name of a field in a message constant.
 #[derive(Drop)]
 pub enum ConstantFieldName {
-    Regular(String),
+    Regular(Name),
     /// The name of an extension, which stands in brackets.
     Extension(String),
     /// A type URL, which stands in brackets: two names with a slash between them.

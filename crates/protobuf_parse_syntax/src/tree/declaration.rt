@@ -1,8 +1,8 @@
 //! Messages, enums, extensions and services.
 
 use crate::tree::field::FieldStatement;
-use crate::tree::name::DeclaredName;
 use crate::tree::option::{OptionStatement, ProtobufOption};
+use protobuf_parse_base::Name;
 use protobuf_parse_lexer::Place;
 
 /// `message NAME { .. }`.
@@ -11,7 +11,7 @@ use protobuf_parse_lexer::Place;
 pub struct Message {
     /// The place of the word `message`.
     pub place: Place,
-    pub name: DeclaredName,
+    pub name: Name,
     pub body: Vec<MessageStatement>,
 }
 
@@ -34,7 +34,7 @@ pub enum MessageStatement {
 pub struct OneOf {
     /// The place of the word `oneof`.
     pub place: Place,
-    pub name: DeclaredName,
+    pub name: Name,
     pub body: Vec<OneOfStatement>,
 }
 
@@ -92,7 +92,7 @@ pub struct ReservedStatement {
 pub struct Enumeration {
     /// The place of the word `enum`.
     pub place: Place,
-    pub name: DeclaredName,
+    pub name: Name,
     pub body: Vec<EnumStatement>,
 }
 
@@ -109,7 +109,7 @@ pub enum EnumStatement {
 pub struct EnumValue {
     /// The place of the name.
     pub place: Place,
-    pub name: DeclaredName,
+    pub name: Name,
     pub number: i32,
     pub options: Vec<ProtobufOption>,
 }
@@ -119,7 +119,7 @@ pub struct EnumValue {
 pub struct Service {
     /// The place of the word `service`.
     pub place: Place,
-    pub name: DeclaredName,
+    pub name: Name,
     pub body: Vec<ServiceStatement>,
 }
 
@@ -136,7 +136,7 @@ pub enum ServiceStatement {
 pub struct Method {
     /// The place of the word `rpc` or `stream`.
     pub place: Place,
-    pub name: DeclaredName,
+    pub name: Name,
     pub input: String,
     pub output: String,
     pub client_streaming: bool,

@@ -1,7 +1,7 @@
 //! Fields, groups and types.
 
-use crate::tree::name::DeclaredName;
 use crate::tree::option::ProtobufOption;
+use protobuf_parse_base::Name;
 use protobuf_parse_lexer::Place;
 
 /// How many values a field has: at most one, just one, or any number.
@@ -52,7 +52,7 @@ pub struct Field {
     /// From 0 to 2147483647.
     pub number: i32,
     pub type_: Type,
-    pub name: DeclaredName,
+    pub name: Name,
     pub options: Vec<ProtobufOption>,
 }
 
@@ -63,7 +63,7 @@ pub struct Group {
     /// The place of the label, or of the word `group` where there is none.
     pub place: Place,
     pub label: Option<Label>,
-    pub name: DeclaredName,
+    pub name: Name,
     /// From 0 to 2147483647.
     pub number: i32,
     pub fields: Vec<FieldStatement>,

@@ -1,13 +1,14 @@
 //! Options.
 
 use crate::tree::constant::ProtobufConstant;
+use protobuf_parse_base::Name;
 use protobuf_parse_lexer::Place;
 
 /// A part of an option's name.
 #[derive(Drop)]
 pub enum ProtobufOptionNamePart {
     /// A field's name.
-    Direct(String),
+    Direct(Name),
     /// The name of an extension, which stands in parentheses: identifiers with dots between them,
     /// and a dot before the first if the name begins at the root.
     Ext(String),
@@ -17,7 +18,7 @@ pub enum ProtobufOptionNamePart {
 #[derive(Drop)]
 pub enum ProtobufOptionName {
     /// One part without parentheses.
-    Builtin(String),
+    Builtin(Name),
     /// One to 100 parts, the first in parentheses or followed by others.
     Custom(Vec<ProtobufOptionNamePart>),
 }

@@ -1,6 +1,7 @@
 //! Descriptors made by hand, by their words.
 
 use anyhow::{Result, bail};
+use protobuf_parse_base::Name;
 use protobuf_parse_model::{
     DescriptorProto, FieldDescriptorProto, FieldType, FileDescriptorProto, Label,
 };
@@ -32,7 +33,7 @@ fn field(
     extendee: Option<&str>,
 ) -> Result<FieldDescriptorProto, AllocError> {
     Ok(FieldDescriptorProto {
-        name: String::from_str(alloc, "f")?,
+        name: Name::new(alloc, "f")?,
         number,
         label: Label::Optional,
         type_,
@@ -40,7 +41,7 @@ fn field(
         extendee: owned(alloc, extendee)?,
         default_value: None,
         oneof_index: None,
-        json_name: String::from_str(alloc, "f")?,
+        json_name: Name::new(alloc, "f")?,
         proto3_optional: false,
         options: None,
     })
@@ -53,7 +54,7 @@ fn message(
     extension: Vec<FieldDescriptorProto>,
 ) -> Result<DescriptorProto, AllocError> {
     Ok(DescriptorProto {
-        name: String::from_str(alloc, name)?,
+        name: Name::new(alloc, name)?,
         field,
         oneof_decl: Vec::new(alloc),
         nested_type: Vec::new(alloc),

@@ -1,6 +1,7 @@
 //! The texts of a field's descriptor that its options set: the default and the JSON name.
 
 ghost use Rattle.std.specs.Prelude.{Some, option_map, string_bytes};
+ghost use Rattle.protobuf_parse_base.specs.DeclaredNames.{name_bytes};
 ghost use Rattle.protobuf_parse_syntax.specs.Trees.{constant_syntax};
 ghost use Rattle.protobuf_parse_model.specs.Faults.{Elaborates};
 ghost use Rattle.protobuf_parse_model.specs.BuiltinOptions.{options_seen};
@@ -8,6 +9,7 @@ ghost use Rattle.protobuf_parse_elaboration.specs.Fields as spec;
 
 use crate::convert::options::said::first_value;
 use crate::convert::options::strings::{bytes_given, text_given};
+use protobuf_parse_base::Name;
 use protobuf_parse_base::text::{escape_bytes, json_name};
 use protobuf_parse_model::{ElabErrorKind, ElabFailure, FieldType, fault};
 use protobuf_parse_syntax::{ProtobufConstant, ProtobufOption};
@@ -85,16 +87,18 @@ pub fn json_name_of(
     alloc: Global,
     name: &str,
     options: &[&ProtobufOption],
-) -> Result<String, ElabFailure>
+) -> Result<Name, ElabFailure>
     ensures { let os = options_seen options.now in
-        Elaborates string_bytes result (spec.json_name_faults os)
+        Elaborates name_bytes result (spec.json_name_faults os)
         (spec.field_json_name name.now os) }
 {
     let Some(value) = first_value(options, "json_name") else {
         return Ok(json_name(alloc, name)?);
     };
     match value {
-        ProtobufConstant::String(string) => text_given(alloc, "json_name", string),
+        ProtobufConstant::String(string) => {
+            Ok(Name::from(text_given(alloc, "json_name", string)?))
+        }
         _ => Err(fault(alloc, ElabErrorKind::WrongOptionType, "json_name")),
     }
 }

@@ -23,5 +23,7 @@ scopes-preserved c =
     ∙ ap of (c.deref.ensures ∙ c.in_ok-full_name.ensures) in
     record {
       bound = omega arith;
-      none_longer = none-here of c.args.name.now c.args.scope.now c.scopes.length _ c.scopes-test.true c.scopes.invariant.bound c.scopes.invariant.none_longer e;
+      none_longer =
+          none-here of c.args.name.now c.args.scope.now c.scopes.length _ c.scopes-test.true
+          c.scopes.invariant.bound c.scopes.invariant.none_longer e;
     }

@@ -2,7 +2,7 @@ use Rattle.std.proofs.Common.{◌∙◌, ◌∷◌, [], ap, sym, subst, List, ma
 use Rattle.std.proofs.lemmas.List.{take_all}
 use Rattle.std.proofs.lemmas.Result.{on_ok_weaker}
 use Rattle.protobuf_parse_syntax.specs.declared.tree.declaration.MessageStatement.{MessageStatement}
-use Rattle.protobuf_parse_syntax.specs.Trees.{name_bytes}
+use Rattle.protobuf_parse_base.specs.DeclaredNames.{name_bytes}
 use Rattle.protobuf_parse_syntax.specs.Trees.{message_statement_syntax}
 use Rattle.protobuf_parse_model.specs.Declarations.{DeclaredType, Scope, a_message, declare, inside}
 use Rattle.protobuf_parse_model.specs.Declarations.{types_of}

@@ -1,5 +1,5 @@
 use Rattle.std.proofs.Common.{◌≡◌, map, flat_map, take}
-use Rattle.protobuf_parse_syntax.specs.Trees.{name_bytes}
+use Rattle.protobuf_parse_base.specs.DeclaredNames.{name_bytes}
 use Rattle.protobuf_parse_syntax.specs.Trees.{message_statement_syntax}
 use Rattle.protobuf_parse_model.specs.Declarations.{inside, generated_of}
 use Rattle.protobuf_parse_model.specs.SeenFiles.{name_texts}

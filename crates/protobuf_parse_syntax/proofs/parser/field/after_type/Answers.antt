@@ -46,7 +46,7 @@ returns-in_err-options c =
     c.from_residual-in_err-options.ensures.1 in
     rw (p.1, p.2)
     (fails_field_options c.args.levels c.in_err-options.field-0.0 (left c.args.tokens.now)
-    (left c.declared_name.new.self) (left c.symbol.new.self) (left c.field_number.new.self)
+    (left c.ident_name.new.self) (left c.symbol.new.self) (left c.field_number.new.self)
     (left c.options.new.tokens) _ _ c.args.place c.args.label (type_syntax c.args.type_)
     c.in_ok-name.ensures c.in_ok-symbol.ensures c.in_ok-number.ensures c.in_err-options.ensures)
 

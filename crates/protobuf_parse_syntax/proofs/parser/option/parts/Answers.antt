@@ -13,7 +13,7 @@ others-init c =
     let e : map option_part_syntax c.push.new.self.items ≡ option_part_syntax c.args.first
     ∷ [] = ap (map option_part_syntax)
     (c.in_ok-push.ensures.items
-    ∙ ap (λ (v : List _). v ++ c.args.first ∷ []) c.new-parts.ensures.items) in
+    ∙ ap (λ (v : List _). v ++ c.args.first ∷ []) c.in_ok-parts.ensures.items) in
     ap (λ (v : List OptionPartSyntax). behind v ((parts_up_to 99).run (left c.args.tokens.now)))
     (sym e)
 
