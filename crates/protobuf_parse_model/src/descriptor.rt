@@ -41,8 +41,8 @@ pub struct FileDescriptorProto {
     pub options: Option<FileOptions>,
 }
 
-// Written out: a crate above calls it, and need not prove anew how each kind of descriptor is
-// dropped.
+// Written out, as those below: a crate above calls it, and need not prove anew how each kind of
+// descriptor is dropped.
 impl Drop for FileDescriptorProto {
     fn drop(self) {
         let FileDescriptorProto {
@@ -91,7 +91,7 @@ pub struct ReservedRange {
 }
 
 /// A field of a message, or an extension.
-#[derive(Debug, PartialEq, Eq, Drop)]
+#[derive(Debug, PartialEq, Eq)]
 pub struct FieldDescriptorProto {
     pub name: Name,
     /// The field's number, from 0 to 2147483647.
@@ -112,6 +112,24 @@ pub struct FieldDescriptorProto {
     pub json_name: Name,
     /// In a place of their own, since most fields have none.
     pub options: Option<Box<FieldOptions>>,
+}
+
+impl Drop for FieldDescriptorProto {
+    fn drop(self) {
+        let FieldDescriptorProto {
+            name: _,
+            number: _,
+            label: _,
+            type_: _,
+            proto3_optional: _,
+            type_name: _,
+            extendee: _,
+            default_value: _,
+            oneof_index: _,
+            json_name: _,
+            options: _,
+        } = self;
+    }
 }
 
 /// The type of a field's values: the scalar types, and three that are declared elsewhere.
@@ -138,20 +156,41 @@ pub enum FieldType {
 }
 
 /// A oneof of a message.
-#[derive(Debug, PartialEq, Eq, Drop)]
+#[derive(Debug, PartialEq, Eq)]
 pub struct OneofDescriptorProto {
     pub name: Name,
     pub options: Option<OneofOptions>,
 }
 
+impl Drop for OneofDescriptorProto {
+    fn drop(self) {
+        let OneofDescriptorProto {
+            name: _,
+            options: _,
+        } = self;
+    }
+}
+
 /// An enum.
-#[derive(Debug, PartialEq, Eq, Drop)]
+#[derive(Debug, PartialEq, Eq)]
 pub struct EnumDescriptorProto {
     pub name: Name,
     pub value: Vec<EnumValueDescriptorProto>,
     pub reserved_range: Vec<EnumReservedRange>,
     pub reserved_name: Vec<String>,
     pub options: Option<EnumOptions>,
+}
+
+impl Drop for EnumDescriptorProto {
+    fn drop(self) {
+        let EnumDescriptorProto {
+            name: _,
+            value: _,
+            reserved_range: _,
+            reserved_name: _,
+            options: _,
+        } = self;
+    }
 }
 
 /// Numbers that no value may have: from `start` to `end`, both among them.
@@ -162,23 +201,43 @@ pub struct EnumReservedRange {
 }
 
 /// A value of an enum.
-#[derive(Debug, PartialEq, Eq, Drop)]
+#[derive(Debug, PartialEq, Eq)]
 pub struct EnumValueDescriptorProto {
     pub name: Name,
     pub number: i32,
     pub options: Option<EnumValueOptions>,
 }
 
+impl Drop for EnumValueDescriptorProto {
+    fn drop(self) {
+        let EnumValueDescriptorProto {
+            name: _,
+            number: _,
+            options: _,
+        } = self;
+    }
+}
+
 /// A service.
-#[derive(Debug, PartialEq, Eq, Drop)]
+#[derive(Debug, PartialEq, Eq)]
 pub struct ServiceDescriptorProto {
     pub name: Name,
     pub method: Vec<MethodDescriptorProto>,
     pub options: Option<ServiceOptions>,
 }
 
+impl Drop for ServiceDescriptorProto {
+    fn drop(self) {
+        let ServiceDescriptorProto {
+            name: _,
+            method: _,
+            options: _,
+        } = self;
+    }
+}
+
 /// A method of a service.
-#[derive(Debug, PartialEq, Eq, Drop)]
+#[derive(Debug, PartialEq, Eq)]
 pub struct MethodDescriptorProto {
     pub name: Name,
     /// The full name of the message that is sent, with its first dot.
@@ -188,6 +247,19 @@ pub struct MethodDescriptorProto {
     pub client_streaming: bool,
     pub server_streaming: bool,
     pub options: Option<MethodOptions>,
+}
+
+impl Drop for MethodDescriptorProto {
+    fn drop(self) {
+        let MethodDescriptorProto {
+            name: _,
+            input_type: _,
+            output_type: _,
+            client_streaming: _,
+            server_streaming: _,
+            options: _,
+        } = self;
+    }
 }
 
 impl From<Scalar> for FieldType {
