@@ -8,10 +8,14 @@ use std::alloc::{AllocError, Global};
 use std::fmt;
 use std::ops::DerefStr;
 
-/// The name of something that is declared, or that of a field in JSON: a text. One of at most 24
-/// bytes, as most are, lies in the value itself.
+/// How many bytes of a text lie in a [`Name`] itself, at most.
+pub(crate) const IN_PLACE: usize = 24;
+
+/// The name of something that is declared, or that of a field in JSON: a text. One of at most
+/// `IN_PLACE` bytes, as most are, lies in the value itself. But a name that was made of a `String`
+/// keeps that `String`, short or not.
 pub enum Name {
-    Short(ArrayString<24>),
+    Short(ArrayString<IN_PLACE>),
     Long(String),
 }
 

@@ -1,6 +1,7 @@
 //! Spellings of names, and bytes as the inside of a string literal.
 ghost use Rattle.std.specs.Prelude.{◌≡◌, ◌==◌, ◌&&◌, ◌<◌, ◌+◌, [], ◌∷◌, ◌++◌, false, IfOk, OnOk};
-ghost use Rattle.std.specs.Prelude.{encode_utf8_all, if◌then◌else◌, ◌≤◌, length, take, drop};
+ghost use Rattle.std.specs.Prelude.{encode_utf8_all, if◌then◌else◌, ◌≤◌, length};
+ghost use Rattle.std.specs.Prelude.{take, drop, slice_index};
 ghost use Rattle.std.specs.Char.{is_ascii_uppercase, to_ascii_lowercase};
 ghost use Rattle.std.specs.String.{string_bytes};
 ghost use Rattle.std.specs.Str.{chars, IsUtf8};
@@ -10,7 +11,7 @@ ghost use Rattle.protobuf_parse_base.specs.Cases.{camel_case_text, json_name_tex
 ghost use Rattle.protobuf_parse_base.specs.Cases.{joined_words, has_underscore};
 ghost use Rattle.protobuf_parse_base.specs.Escapes.{escaped_byte, escaped_bytes, said_bytes};
 
-use crate::name::Name;
+use crate::name::{IN_PLACE, Name};
 use arrayvec::ArrayVec;
 use std::alloc::{AllocError, Global};
 use std::str;
@@ -39,14 +40,14 @@ pub fn json_name(alloc: Global, name: &str) -> Result<Name, AllocError>
     if front == name.len() {
         return Name::new(alloc, name);
     }
-    let mut short = ArrayVec::<u8, 24>::new();
+    let mut short = ArrayVec::<u8, IN_PLACE>::new();
     if short.try_extend_from_slice(name.as_bytes()).is_err() {
         return Ok(Name::from(join_words(alloc, name, false)?));
     }
     json_name_in_place(alloc, short.as_mut_slice(), front)
 }
 
-/// The same of the bytes of a name, which change behind those of that number.
+/// The same of the bytes of a name, in their place. The first `front` bytes stay where they are.
 #[inline]
 fn json_name_in_place(alloc: Global, bytes: &mut [u8], front: usize) -> Result<Name, AllocError>
     requires text { IsUtf8 bytes.old }
@@ -81,8 +82,8 @@ fn join_bytes(alloc: Global, name: &[u8], raise: bool) -> Result<Vec<u8>, AllocE
     Ok(joined)
 }
 
-/// Moves what the bytes of a name become to their front, and gives its length. Those of that number
-/// stay where they are.
+/// Moves what the bytes of a name become to their front, and gives its length. The first `front`
+/// bytes stay where they are.
 #[inline]
 fn join_in_place(bytes: &mut [u8], front: usize, raise: bool) -> usize
     requires within { front ≤ length bytes.old }
@@ -109,11 +110,13 @@ fn join_in_place(bytes: &mut [u8], front: usize, raise: bool) -> usize
     kept
 }
 
-/// How many bytes stand before the first underscore. None of them changes, where the first is not
-/// raised.
+/// How many bytes stand before the first underscore: all of them, if there is none. None of those
+/// changes, where the first is not raised.
 #[inline]
 fn before_underscore(bytes: &[u8]) -> usize
     ensures within { result ≤ length bytes.now }
+    ensures none { has_underscore (take result bytes.now) ≡ false }
+    ensures first { result < length bytes.now → slice_index bytes.now result ≡ char.underscore }
     ensures kept { take result bytes.now ++ joined_words false (drop result bytes.now)
         ≡ joined_words false bytes.now }
 {
