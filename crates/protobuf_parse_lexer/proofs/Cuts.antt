@@ -23,7 +23,7 @@ use Rattle.protobuf_parse_lexer.specs.declared.lexer.bytes.ByteClass.TheVariants
 use Rattle.protobuf_parse_lexer.specs.declared.lexer.token.TokenKind.{TokenKind}
 use Rattle.protobuf_parse_lexer.specs.declared.lexer.token.TokenKind.TheVariants as kind
 use Rattle.protobuf_parse_lexer.specs.Escapes.{chosen}
-use Rattle.protobuf_parse_lexer.proofs.Front.{octal_hex}
+use Rattle.protobuf_parse_lexer.specs.Front.{octal_hex}
 use Rattle.protobuf_parse_lexer.proofs.TextKinds.{token_kind}
 use Rattle.protobuf_parse_lexer.specs.TokenKinds.{kind_of}
 use lib.Utf8.{encode}

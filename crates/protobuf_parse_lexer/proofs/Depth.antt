@@ -71,8 +71,8 @@ module _ (xs : List Token) (i : ℕ) (d : Token) (within : i < length xs) where
   deep_there o c p q more = omega arith
 
   pub deepens : (o c o' c' : ℕ) → o ≡ opened (take i (map lexeme xs))
-      → c ≡ closed (take i (map lexeme xs)) → Counts (lexeme (get_or xs i d)).kind o c o' c' → 100 < o' - c'
-      →
+      → c ≡ closed (take i (map lexeme xs)) → Counts (lexeme (get_or xs i d)).kind o c o' c'
+      → 100 < o' - c' →
       ((n : ℕ) → n ≤ i → IsDeep (take n (map lexeme xs)) → ⊥)
       → DeepensAt (map lexeme xs) (get_or xs i d).place
   deepens o c o' c' p q counts more earlier =
@@ -87,8 +87,8 @@ module _ (xs : List Token) (i : ℕ) (d : Token) (within : i < length xs) where
       }
 
   pub still_shallow : (o c o' c' : ℕ) → o ≡ opened (take i (map lexeme xs))
-      → c ≡ closed (take i (map lexeme xs)) → Counts (lexeme (get_or xs i d)).kind o c o' c' → o' - c' ≤ 100
-      →
+      → c ≡ closed (take i (map lexeme xs)) → Counts (lexeme (get_or xs i d)).kind o c o' c'
+      → o' - c' ≤ 100 →
       ((n : ℕ) → n ≤ i → IsDeep (take n (map lexeme xs)) → ⊥) → (n : ℕ) → n ≤ i + 1
       → IsDeep (take n (map lexeme xs)) → ⊥
   still_shallow o c o' c' p q counts few earlier n less deep =
@@ -120,7 +120,8 @@ pub kept : (xs : List Token) (i : ℕ) (d : Token) (o c o' c' : ℕ) → i < len
     → Counts (lexeme (get_or xs i d)).kind o c o' c' → o' - c' ≤ 100 → Kept xs (i + 1) o' c'
 kept xs i d o c o' c' within was counts few =
     let now = next xs i d within o c o' c' was.opened was.closed counts in
-    let small = few_more (lexeme (get_or xs i d)).kind i o c o' c' was.few_opened was.few_closed counts in
+    let small = few_more (lexeme (get_or xs i d)).kind i o c o' c' was.few_opened was.few_closed
+    counts in
     record {
       opened = now.0;
       closed = now.1;

@@ -15,7 +15,7 @@ use Rattle.protobuf_parse_base.specs.Escapes.{escaped_byte, escaped_bytes}
 use Rattle.protobuf_parse_lexer.specs.Laws.{EscapedBytesDecode}
 use Rattle.protobuf_parse_lexer.specs.declared.lexer.bytes.ByteClass.TheVariants as class
 use Rattle.protobuf_parse_lexer.proofs.Quotes.{unquoted-quoted}
-use Rattle.protobuf_parse_lexer.proofs.Front.{string_answer, long_string}
+use Rattle.protobuf_parse_lexer.specs.Front.{string_answer, long_string}
 
 -- the ways in which one byte is written
 data Written (b : ℕ) : List ℕ → Type 0 where

@@ -1,4 +1,3 @@
-pub mod Front
 pub mod TextKinds
 pub mod Cuts
 pub mod Unique
@@ -10,3 +9,4 @@ pub mod Plain
 pub mod Quotes
 pub mod Escaping
 pub mod Lanes
+pub mod Ahead

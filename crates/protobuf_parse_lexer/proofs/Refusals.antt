@@ -105,3 +105,16 @@ refuses text (Err f) ok (inr h) e at is =
     let same = one_refusal text f.error e (error_place f) at (ways text f.error (error_place f) h)
     (ways text e at is) in
     inr (ap (λ x. located x (error_place f)) same.0 ∙ ap (λ x. located e x) same.1)
+
+-- a text with tokens has no fault
+pub read_not_refused : (text : Bytes) (s : Stream) (e : ParserError) (at : Place)
+    → HasTokens text s → IsRefused text e at → ⊥
+read_not_refused text s e at has is = no_both text s e at has (ways text e at is)
+
+-- the error of a text's fault
+pub one_error : (text : Bytes) (f : ParserErrorWithLocation) (e : ParserError) (at : Place)
+    → IsRefused text f.error (error_place f) → IsRefused text e at → f ≡ located e at
+one_error text f e at h is =
+    let same = one_refusal text f.error e (error_place f) at
+    (ways text f.error (error_place f) h) (ways text e at is) in
+    ap (λ x. located x (error_place f)) same.0 ∙ ap (λ x. located e x) same.1

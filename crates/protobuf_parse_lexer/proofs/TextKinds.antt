@@ -1,5 +1,5 @@
 -- A token's text tells its kind.
-use Rattle.std.proofs.Common.{◌≡◌, ℕ, suc, ◌+◌, ◌-◌, ◌<◌, ◌≤◌, Bool, true, false, ◌&&◌, ◌||◌, eqb, not}
+use Rattle.std.proofs.Common.{◌≡◌, ℕ, suc, ◌+◌, ◌-◌, ◌<◌, ◌≤◌, Bool, true, false, ◌&&◌, ◌||◌, eqb}
 use Rattle.std.proofs.Common.{[], ◌∷◌, length, take, drop, get_or, refl, sym, ap}
 use Rattle.std.proofs.Common.{◌∙◌, subst, inl, inr, ⊎_elim, ◌⊎◌, arith, get_or-drop, get_or-take}
 use Rattle.std.proofs.Common.{length-drop}
@@ -18,9 +18,8 @@ use Rattle.protobuf_parse_lexer.specs.Text.{Bytes, is_in, AllIn, IsQuote, IsFloa
 use Rattle.protobuf_parse_lexer.specs.Text.{IsIntegerText, IsToken, is_symbol}
 use Rattle.protobuf_parse_lexer.specs.TokenKinds.{integer_kind, number_kind, kind_of}
 use Rattle.protobuf_parse_lexer.specs.Tokens.{is_opening, is_closing}
-use Rattle.protobuf_parse_lexer.specs.Classes.{is_ident_token, is_string, is_symbol_token}
-use Rattle.protobuf_parse_lexer.proofs.Front.{number_first, octal_digits, after_whole, x_no_float}
-use Rattle.protobuf_parse_lexer.proofs.Front.{x_no_digit}
+use Rattle.protobuf_parse_lexer.specs.Front.{number_first, octal_digits, after_whole, x_no_float}
+use Rattle.protobuf_parse_lexer.specs.Front.{x_no_digit}
 use Rattle.protobuf_parse_lexer.proofs.Unique.{no_digit, no_ident, symbol_tests, not_true}
 use Rattle.protobuf_parse_lexer.proofs.Unique.{and_true, or_true, same_byte}
 
@@ -232,7 +231,7 @@ digits_before z n f h =
           ∙ h))
     ]
 
-true_or_false : (b : Bool) → (b ≡ true) ⊎ (b ≡ false)
+pub true_or_false : (b : Bool) → (b ≡ true) ⊎ (b ≡ false)
 true_or_false true = inl refl
 true_or_false false = inr refl
 
@@ -511,89 +510,3 @@ closing_first w =
           (λ c r ds. either is_closing (list_all (is_in c) ds && nat_lt (digits_value r ds) (2 ^ 64))
           (digits_value r ds) refl refl) refl refl refl h ∙ sym h
     ]
-
--- ---- identifiers, strings and symbols
-
-ident_by : (d w q p : Bool) (k : TokenKind) (b : ℕ) → is_ident_token k ≡ false
-    → is_ident_token (kind_by d w q p k b) ≡ (w && not d)
-ident_by true w q p k b none = none ∙ sym (and_no w false refl)
-ident_by false true q p k b none = refl
-ident_by false false true p k b none = refl
-ident_by false false false true k b none = refl
-ident_by false false false false k b none = refl
-
-string_by : (d w p : Bool) (k : TokenKind) (b : ℕ) → is_string k ≡ false
-    → is_string (kind_by d w false p k b) ≡ false
-string_by true w p k b none = none
-string_by false true p k b none = refl
-string_by false false true k b none = refl
-string_by false false false k b none = refl
-
-symbol_by : (c : ℕ) (d w q p : Bool) (k : TokenKind) (b : ℕ) → is_symbol_token c k ≡ false
-    → (d ≡ true → w ≡ true) → is_symbol_token c (kind_by d w q p k b)
-    ≡ (p && (eqb b c && (not w && not q)))
-symbol_by c true true q true k b none word = none ∙ sym (and_no (eqb b c) false refl)
-symbol_by c true true q false k b none word = none
-symbol_by c true false q p k b none word = absurd (false≢true (word refl))
-symbol_by c false true q true k b none word = sym (and_no (eqb b c) false refl)
-symbol_by c false true q false k b none word = refl
-symbol_by c false false true true k b none word = sym (and_no (eqb b c) false refl)
-symbol_by c false false true false k b none word = refl
-symbol_by c false false false true k b none word = sym (and_yes (eqb b c))
-symbol_by c false false false false k b none word = refl
-
-number_alone : (test : TokenKind → Bool)
-    → ((n : ℕ) → test (kind.Integer n) ≡ false) → test kind.Float ≡ false → (w : Bytes) →
-    test (number_kind w) ≡ false
-unfolding number_kind
-number_alone test integer float w =
-    number_tested test
-    (λ c r ds. either test (list_all (is_in c) ds && nat_lt (digits_value r ds) (2 ^ 64))
-    (digits_value r ds) (integer (digits_value r ds)) float) (has_zero w) (has_x w) w
-
-digit_is_ident : (b : ℕ) → is_in class.Digit b ≡ true → is_in class.Ident b ≡ true
-digit_is_ident b h = grind (arith, nat_tests)
-
-pub ident_by_first : (w : Bytes) → is_ident_token (kind_of w)
-    ≡ (is_in class.Ident (get_or w 0 0) && not (is_in class.Digit (get_or w 0 0)))
-unfolding kind_of
-ident_by_first w =
-    ident_by (is_in class.Digit (get_or w 0 0)) (is_in class.Ident (get_or w 0 0))
-    (is_quoted (get_or w 0 0)) (is_single w) (number_kind w) (get_or w 0 0)
-    (number_alone is_ident_token (λ n. refl) refl w)
-
-quoted_is : (b : ℕ) → is_quoted b ≡ true → IsQuote b
-quoted_is b h =
-    ⊎_elim (λ e. inl (same_byte b 34 e)) (λ e. inr (same_byte b 39 e))
-    (or_true (eqb b 34) (eqb b 39) h)
-
-string_not : (w : Bytes) (q : Bool) → q ≡ false → is_string
-    (kind_by (is_in class.Digit (get_or w 0 0)) (is_in class.Ident (get_or w 0 0)) q (is_single w)
-    (number_kind w) (get_or w 0 0)) ≡ false
-string_not w true e = absurd (false≢true (sym e))
-string_not w false e =
-    string_by (is_in class.Digit (get_or w 0 0)) (is_in class.Ident (get_or w 0 0)) (is_single w)
-    (number_kind w) (get_or w 0 0) (number_alone is_string (λ n. refl) refl w)
-
-string_no : (w : Bytes) → is_quoted (get_or w 0 0) ≡ false → is_string (kind_of w) ≡ false
-unfolding kind_of
-string_no w h = string_not w (is_quoted (get_or w 0 0)) h
-
-pub string_by_first : (w : Bytes) → is_string (kind_of w)
-    ≡ (eqb (get_or w 0 0) 34 || eqb (get_or w 0 0) 39)
-string_by_first w =
-    elim (true_or_false (is_quoted (get_or w 0 0))) [
-      | inl h ↦
-          let q = quote_tests (get_or w 0 0) (quoted_is (get_or w 0 0) h) in
-          ap is_string (quote_kind w q.0 q.1 q.2) ∙ sym h
-      | inr h ↦ string_no w h ∙ sym h
-    ]
-
-pub symbol_by_first : (c : ℕ) (w : Bytes) → is_symbol_token c (kind_of w)
-    ≡ (eqb (length w) 1 && (eqb (get_or w 0 0) c && (not (is_in class.Ident (get_or w 0 0))
-    && not (eqb (get_or w 0 0) 34 || eqb (get_or w 0 0) 39))))
-unfolding kind_of
-symbol_by_first c w =
-    symbol_by c (is_in class.Digit (get_or w 0 0)) (is_in class.Ident (get_or w 0 0))
-    (is_quoted (get_or w 0 0)) (is_single w) (number_kind w) (get_or w 0 0)
-    (number_alone (is_symbol_token c) (λ n. refl) refl w) (digit_is_ident (get_or w 0 0))

@@ -23,9 +23,9 @@ use Rattle.protobuf_parse_lexer.specs.Tokens.{Lexeme}
 use Rattle.protobuf_parse_lexer.specs.Place.{after}
 use Rattle.protobuf_parse_lexer.specs.declared.lexer.token.Place.{Place}
 use Rattle.protobuf_parse_lexer.specs.Laws.{Ends, IsOneCut, IsOneFault}
-use Rattle.protobuf_parse_lexer.proofs.Front.{number_first, number_from_integer, point_float}
-use Rattle.protobuf_parse_lexer.proofs.Front.{octal_digits, x_no_digit, digits_no_float}
-use Rattle.protobuf_parse_lexer.proofs.Front.{hex_no_float}
+use Rattle.protobuf_parse_lexer.specs.Front.{number_first, number_from_integer, point_float}
+use Rattle.protobuf_parse_lexer.specs.Front.{octal_digits, x_no_digit, digits_no_float}
+use Rattle.protobuf_parse_lexer.specs.Front.{hex_no_float}
 
 -- ---- the first two bytes say what may stand there
 

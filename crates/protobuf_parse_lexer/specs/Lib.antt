@@ -10,3 +10,7 @@ pub mod Laws
 pub mod Classes
 pub mod Decoder
 pub mod DecoderLaws
+pub mod Front
+pub mod Total
+pub mod Ahead
+pub mod Tokenizers

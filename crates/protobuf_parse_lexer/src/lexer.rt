@@ -15,6 +15,7 @@ mod number;
 pub mod place;
 pub mod str_lit;
 pub mod token;
+pub mod tokenizer;
 
 use crate::error::{ParserError, ParserErrorWithLocation};
 use crate::lexer::depth::too_deep;

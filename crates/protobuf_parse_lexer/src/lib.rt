@@ -14,3 +14,4 @@ pub use lexer::laws::{
 pub use lexer::str_lit::{StrLit, StrLitDecodeError, unquoted};
 pub use lexer::token::{Place, Token, TokenKind, TokenStream};
 pub use lexer::tokenize;
+pub use lexer::tokenizer::{NextToken, Tokenizer};

@@ -1,10 +1,9 @@
 -- What the reader of a file gives, said of the grammar.
-use Rattle.std.proofs.Common.{◌≡◌, ℕ, ◌<◌, List, [], ◌∷◌, ◌++◌, length, true, false, Result, Ok}
-use Rattle.std.proofs.Common.{Err, IfOk, IfErr, refl, sym, ap, subst, ◌∙◌, inl, inr, ◌⊎◌}
+use Rattle.std.proofs.Common.{◌≡◌, ℕ, ◌<◌, List, [], ◌∷◌, ◌++◌, length, true, false}
+use Rattle.std.proofs.Common.{refl, sym, ap, subst, ◌∙◌, inl, inr, ◌⊎◌}
 use Rattle.protobuf_parse_base.specs.Readers.{Rest, end, token, onto, onto-append, read, stuck}
 use Rattle.protobuf_parse_base.specs.Readers.{wrong, Begins, starts}
 use Rattle.protobuf_parse_base.specs.Relations.{BeginsOtherwise}
-use Rattle.protobuf_parse_lexer.specs.Text.{Bytes}
 use Rattle.protobuf_parse_lexer.specs.Tokens.{Lexeme}
 use Rattle.protobuf_parse_base.specs.Conditions.{mark_of}
 use Rattle.protobuf_parse_base.specs.Whole.{whole, left_whole, local_stuck, local_wrong}
@@ -12,7 +11,7 @@ use Rattle.protobuf_parse_base.specs.Relations.{StopsAt}
 use Rattle.protobuf_parse_base.specs.Whole.{deep_found, deep_only, deep_wrong, deep_never}
 use Rattle.protobuf_parse_base.specs.Whole.{deep_stops, deep_leaves}
 use Rattle.protobuf_parse_lexer.specs.Classes.{symbol, float, text, is_one_of, is_floating}
-use Rattle.protobuf_parse_lexer.specs.Cut.{Stream, HasTokens, out_of_memory}
+use Rattle.protobuf_parse_lexer.specs.Cut.{out_of_memory}
 use Rattle.protobuf_parse_lexer.specs.Cut.{error_place as place_at}
 use Rattle.protobuf_parse_lexer.specs.declared.error.ParserErrorWithLocation.{ParserErrorWithLocation}
 use Rattle.protobuf_parse_lexer.specs.declared.lexer.token.Place.{Place}
@@ -20,13 +19,13 @@ use Rattle.protobuf_parse_lexer.specs.declared.error.ParserError.{ParserError}
 use Rattle.protobuf_parse_lexer.specs.declared.error.ParserError.TheVariants as error
 use Rattle.protobuf_parse_syntax.proofs.Strings.{str_ends}
 use Rattle.protobuf_parse_syntax.proofs.Wrongs.{says_behind}
-use Rattle.protobuf_parse_syntax.specs.Trees.{Pieces, FileSyntax, file_syntax}
+use Rattle.protobuf_parse_syntax.specs.Trees.{Pieces, FileSyntax}
 use Rattle.protobuf_parse_syntax.specs.ClassLaws.{lexicon}
 use Rattle.protobuf_parse_syntax.specs.Grammar.{IsFile, IsStr, place_of}
 use Rattle.protobuf_parse_syntax.specs.Productions as parse
 use Rattle.protobuf_parse_syntax.specs.Nested as nest
 use Rattle.protobuf_parse_syntax.specs.Readings.{steady-near}
-use Rattle.protobuf_parse_syntax.specs.Parsing.{HasTree, NoTree, StandsAt, LargeToken}
+use Rattle.protobuf_parse_syntax.specs.Parsing.{NoTree, StandsAt, LargeToken}
 use Rattle.protobuf_parse_syntax.specs.Parsing.{EndsWithParts}
 use Rattle.protobuf_parse_syntax.specs.Parsing.{NextPart, Floats, StandsBehind, WrongStrings}
 use Rattle.protobuf_parse_syntax.specs.Parsing.{SaysNothing, IsGrammarFault}
@@ -36,7 +35,6 @@ use Rattle.protobuf_parse_syntax.specs.Code.{is_end, RefusesFile, error_at}
 use Rattle.protobuf_parse_syntax.specs.declared.parser.refusal.Refusal.{Refusal}
 use Rattle.protobuf_parse_syntax.specs.declared.parser.refusal.Refusal.TheVariants.{Memory, Next}
 use Rattle.protobuf_parse_syntax.specs.declared.parser.refusal.Refusal.TheVariants.{Here}
-use Rattle.protobuf_parse_syntax.specs.declared.tree.FileTree.{FileTree}
 
 -- ---- a token at a place
 
@@ -165,6 +163,21 @@ module _ (ts : List Lexeme) (m : Place) (n : ℕ) where
       deep_found (λ i. (nest.file i).low) (steady-near nest.file nest.file-same) refl n ts m k a e
   found a (token t rest) e h = absurd cc
 
+  -- what was read goes on to the end
+  pub ends_there : (a : FileSyntax) (after : Rest Lexeme Place)
+      → (nest.files n).low.run (whole ts m) ≡ read a after → is_end after ≡ true
+      → mark_of place_of after ≡ m
+  ends_there a (end k) e h =
+      let l = (nest.files n).low.sound (whole ts m) a (end k) e in
+      let b = left_whole ts l.used m (end k) l.parts in
+      same_end b.0 k b.1
+    where
+      same_end : (back : List Lexeme) (k : Place)
+          → (let r : Rest Lexeme Place = end k in r ≡ whole back m) → k ≡ m
+      same_end [] k f = cc
+      same_end (t ∷ back) k f = absurd cc
+  ends_there a (token t rest) e h = absurd cc
+
   pub leftover : (a : FileSyntax) (after : Rest Lexeme Place)
       → (nest.files n).low.run (whole ts m) ≡ read a after → is_end after ≡ false
       → StopsAt place_of IsFile ts m (mark_of place_of after)
@@ -286,15 +299,6 @@ module _ (ts : List Lexeme) (m : Place) (n : ℕ) where
     refused (Here e) after (inl h) = here_fault e after h.0 h.1 h.2
     refused (Here e) after (inr h) = version_fault e after h
 
-pub told : (ts : List Lexeme) (m : Place) (e : Refusal) (next : Place) (r : ParserErrorWithLocation)
-    → RefusesFile ts m e next → r ≡ error_at e next
-    → (r ≡ out_of_memory) ⊎ IsGrammarFault ts m r.error (place_at r)
-told ts m Memory next r h e = inl e
-told ts m (Next x) next r h e = inr (rw e h)
-told ts m (Here x) next r h e = inr (rw e h)
-
--- ---- a text
-
 -- where a fault stands there is no tree
 pub fault_none : (ts : List Lexeme) (last place : Place) (e : ParserError)
     → IsGrammarFault ts last e place → NoTree ts
@@ -320,20 +324,10 @@ fault_none ts last place error.BadNumber h = absurd h
 fault_none ts last place error.NestingTooDeep h = absurd h
 fault_none ts last place error.TextTooLong h = absurd h
 
-module _ (text : Bytes) (s : Stream) (same : (v : Stream) → HasTokens text v → s ≡ v) where
-  its_tree : (u : FileSyntax) → HasTree text u → IsFile s.tokens u
-  its_tree u w = subst (λ (v : Stream). IsFile v.tokens u) (sym (same w.stream w.tokens)) w.file
-
-  pub only_of : (r : Result FileTree ParserErrorWithLocation)
-      → IfOk r (λ t. (u : FileSyntax) → IsFile s.tokens u → u ≡ file_syntax t)
-      → IfOk r (λ t. (u : FileSyntax) → HasTree text u → u ≡ file_syntax t)
-  only_of (Ok t) h = λ u w. h u (its_tree u w)
-  only_of (Err e) h = h
-
-  pub none_of : (r : Result FileTree ParserErrorWithLocation)
-      → IfErr r (λ e. (e ≡ out_of_memory) ⊎ IsGrammarFault s.tokens s.end e.error (place_at e))
-      → IfErr r (λ e. (e ≡ out_of_memory) ⊎ ((u : FileSyntax) → HasTree text u → ⊥))
-  none_of (Ok t) h = h
-  none_of (Err e) (inl h) = inl h
-  none_of (Err e) (inr h) =
-      inr (λ u w. fault_none s.tokens s.end (place_at e) e.error h u (its_tree u w))
+-- what a refusal says, or else
+pub told_or : {A : Type 0} (ts : List Lexeme) (m : Place) (e : Refusal) (next : Place)
+    (r : ParserErrorWithLocation) → RefusesFile ts m e next → r ≡ error_at e next
+    → (r ≡ out_of_memory) ⊎ A ⊎ IsGrammarFault ts m r.error (place_at r)
+told_or ts m Memory next r h e = inl e
+told_or ts m (Next x) next r h e = inr (inr (rw e h))
+told_or ts m (Here x) next r h e = inr (inr (rw e h))

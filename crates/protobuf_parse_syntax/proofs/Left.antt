@@ -1,23 +1,21 @@
 -- What a cursor has left.
-use Rattle.std.proofs.Common.{◌≡◌, ℕ, suc, List, [], ◌∷◌, length, map, false, ◌||◌, eqb, refl, sym}
-use Rattle.std.proofs.Common.{arith}
-use Rattle.std.proofs.lemmas.Bool.{eqb-true}
-use Rattle.protobuf_parse_base.specs.Readers.{Rest, starts, starts-append, false_by}
+use Rattle.std.proofs.Common.{◌≡◌, List, [], ◌∷◌, ◌||◌, refl, Option, Some, None, is_none}
+use Rattle.protobuf_parse_base.specs.Readers.{Rest, starts, starts-append}
 use Rattle.protobuf_parse_base.specs.Whole.{whole}
-use Rattle.protobuf_parse_lexer.specs.Tokens.{Lexeme, lexeme}
+use Rattle.protobuf_parse_lexer.specs.Tokenizers.{with_next}
+use Rattle.protobuf_parse_lexer.specs.Text.{Bytes}
+use Rattle.protobuf_parse_lexer.specs.Tokens.{Lexeme}
 use Rattle.protobuf_parse_lexer.specs.Classes.{Class}
 use Rattle.protobuf_parse_lexer.specs.declared.lexer.token.Place.{Place}
-use Rattle.protobuf_parse_lexer.specs.declared.lexer.token.Token.{Token}
+use Rattle.protobuf_parse_lexer.specs.declared.lexer.tokenizer.Brackets.{Brackets}
+use Rattle.protobuf_parse_lexer.specs.declared.lexer.tokenizer.NextToken.{NextToken}
 use Rattle.protobuf_parse_syntax.specs.ClassLaws.{lexicon}
 use Rattle.protobuf_parse_syntax.specs.Code.{is_end}
 
-not_none : (n : ℕ) → eqb (suc n) 0 ≡ false
-not_none n = false_by _ (λ e. let p = eqb-true (suc n) 0 e in absurd (omega (arith, p)))
-
-pub ends_empty : (ts : List Token) (m : Place)
-    → is_end (whole (map lexeme ts) m) ≡ eqb (length ts) 0
-ends_empty [] m = refl
-ends_empty (t ∷ ts) m = sym (not_none (length ts))
+pub ends_none : (next : Option NextToken) (b : Brackets) (p : Place) (z : Bytes)
+    → is_end (let s = with_next next b p z in whole s.tokens s.end) ≡ is_none next
+ends_none None b p z = refl
+ends_none (Some t) b p z = refl
 
 -- a class, or one of the others, comes next
 pub starts_more : (c d : Class) (cs : List Class) (rest : Rest Lexeme Place)

@@ -22,3 +22,4 @@ pub mod Messages
 pub mod Strings
 pub mod Parts
 pub mod PackageNames
+pub mod Texts

@@ -2,14 +2,12 @@
 use Rattle.std.proofs.Common.{◌≡◌, ℕ, zero, suc, ◌+◌, ◌≤◌, Bool, true, false, List, [], ◌∷◌, ◌++◌}
 use Rattle.std.proofs.Common.{Option, Some, None, refl, ap, arith, All, cond, append-nil, ℤ}
 use Rattle.std.proofs.Common.{slice_index, codes}
-use Rattle.std.specs.Prelude.{IfOk, Result, Ok, Err}
 use Rattle.std.proofs.lemmas.List.Elements.{All-nil, All-tail, All-head}
 use Rattle.protobuf_parse_base.specs.Relations.{Level, One}
 use Rattle.protobuf_parse_lexer.specs.Tokens.{Lexeme}
 use Rattle.protobuf_parse_lexer.specs.declared.lexer.token.Place.{Place}
 use Rattle.protobuf_parse_lexer.specs.Text.{Bytes}
 use Rattle.protobuf_parse_lexer.specs.Classes.{is_one_of, words}
-use Rattle.protobuf_parse_lexer.specs.Cut.{Stream, HasTokens}
 use Rattle.protobuf_parse_syntax.specs.declared.tree.Syntax.{Syntax}
 use Rattle.protobuf_parse_syntax.specs.declared.tree.Syntax.TheVariants.{Proto2, Proto3}
 use Rattle.protobuf_parse_syntax.specs.declared.tree.field.Label.{Label}
@@ -32,13 +30,12 @@ use Rattle.protobuf_parse_syntax.specs.Grammar.{MessageStatementOf, MessageOf, I
 use Rattle.protobuf_parse_syntax.specs.Grammar.{IsMethodEnd, IsStreamed, IsRpc, IsStream}
 use Rattle.protobuf_parse_syntax.specs.Grammar.{IsStreamIn, IsServiceStatement, IsService}
 use Rattle.protobuf_parse_syntax.specs.Grammar.{IsVersion, IsSyntax, IsVisibility, IsPath, IsImport}
-use Rattle.protobuf_parse_syntax.specs.Grammar.{IsPackage, IsFileStatement, IsFileOf, IsFile}
+use Rattle.protobuf_parse_syntax.specs.Grammar.{IsPackage, IsFileStatement, IsFileOf}
 use Rattle.protobuf_parse_syntax.specs.Trees as tree
 use Rattle.protobuf_parse_syntax.specs.Trees.{ConstantSyntax, ConstantFieldSyntax, TypeSyntax}
 use Rattle.protobuf_parse_syntax.specs.Trees.{FieldStatementSyntax, MessageStatementSyntax}
 use Rattle.protobuf_parse_syntax.specs.Trees.{MessageSyntax, FileSyntax, file_syntax}
 use Rattle.protobuf_parse_syntax.specs.Parsing.{HasTree}
-use Rattle.protobuf_parse_syntax.specs.declared.tree.FileTree.{FileTree}
 use Rattle.std.specs.Prelude.{max}
 use Rattle.protobuf_parse_syntax.specs.Trees.{StatementSyntax}
 use Rattle.protobuf_parse_syntax.specs.Nesting.{constant_depth, constants_depth}
@@ -635,9 +632,3 @@ trees_shallow ts t h shallow =
 -- so in the tree of a text
 pub tree_shallow : (text : Bytes) (t : FileSyntax) → HasTree text t → ShallowFile t
 tree_shallow text t h = trees_shallow h.stream.tokens t h.file h.tokens.shallow
-
-pub shallow_of : {E : Type 0} (text : Bytes) (s : Stream) → HasTokens text s →
-    (r : Result FileTree E) → IfOk r (λ t. IsFile s.tokens (file_syntax t)) →
-    IfOk r (λ t. ShallowFile (file_syntax t))
-shallow_of text s tokens (Ok t) h = trees_shallow s.tokens (file_syntax t) h tokens.shallow
-shallow_of text s tokens (Err e) h = h

@@ -1,16 +1,14 @@
 -- A text has no more tokens than bytes, and its tree no more statements than tokens.
 use Rattle.std.proofs.Common.{◌≤◌, List, length, length-drop, arith}
-use Rattle.std.specs.Prelude.{Result, Ok, Err, IfOk}
 use Rattle.protobuf_parse_lexer.specs.Text.{Bytes}
 use Rattle.protobuf_parse_lexer.specs.Tokens.{Lexeme}
 use Rattle.protobuf_parse_lexer.specs.Cut.{Cut, done, blank, token, mark_len, Stream, HasTokens}
 use Rattle.protobuf_parse_lexer.specs.declared.lexer.token.Place.{Place}
 use Rattle.protobuf_parse_lexer.proofs.Cuts.{token_some}
-use Rattle.protobuf_parse_syntax.specs.Trees.{FileSyntax, file_syntax}
+use Rattle.protobuf_parse_syntax.specs.Trees.{FileSyntax}
 use Rattle.protobuf_parse_syntax.specs.Counts.{statements_in}
 use Rattle.protobuf_parse_syntax.specs.Grammar.{IsFile}
 use Rattle.protobuf_parse_syntax.specs.Parsing.{HasTree}
-use Rattle.protobuf_parse_syntax.specs.declared.tree.FileTree.{FileTree}
 use Rattle.protobuf_parse_syntax.proofs.Counting.{file_cost}
 
 cut_size : {p q : Place} {z rest : Bytes} {ts : List Lexeme} → Cut p z ts q rest →
@@ -33,9 +31,3 @@ few text s t tokens is =
 -- the tree of a text has at most 2147483647 statements
 pub tree_size : (text : Bytes) (t : FileSyntax) → HasTree text t → statements_in t ≤ 2147483647
 tree_size text t h = few text h.stream t h.tokens h.file
-
-pub few_of : {E : Type 0} (text : Bytes) (s : Stream) → HasTokens text s →
-    (r : Result FileTree E) → IfOk r (λ t. IsFile s.tokens (file_syntax t)) →
-    IfOk r (λ t. statements_in (file_syntax t) ≤ 2147483647)
-few_of text s tokens (Ok t) h = few text s (file_syntax t) tokens h
-few_of text s tokens (Err e) h = h

@@ -146,19 +146,23 @@ behind_import ts vis h = go h.second
 
 pub fails_comma : (e : Refusal) (ts after : Rest Lexeme Place)
     → Fails e after ((parse.symbol 44).run ts) → Fails e after (parse.comma_name.run ts)
-fails_comma e ts after h = fails_from_first (do parse.symbol 44; parse.reserved_name) e ts after (fails_first e after ((parse.symbol 44).run ts) (λ u us. parse.reserved_name.run us) h)
+fails_comma e ts after h =
+    fails_from_first (do parse.symbol 44; parse.reserved_name) e ts after
+    (fails_first e after ((parse.symbol 44).run ts) (λ u us. parse.reserved_name.run us) h)
 
 pub fails_comma_name : (e : Refusal) (ts us after : Rest Lexeme Place)
     → (parse.symbol 44).run ts ≡ read tt us
     → Fails e after (parse.reserved_name.run us)
     ⊎ Unsaid of_text us e after (parse.reserved_name.run us)
     → Fails e after (parse.comma_name.run ts)
-fails_comma_name e ts us after is (inl h) = fails_from_first (do parse.symbol 44; parse.reserved_name) e ts after (rw is h)
+fails_comma_name e ts us after is (inl h) =
+    fails_from_first (do parse.symbol 44; parse.reserved_name) e ts after (rw is h)
 fails_comma_name e ts us after is (inr (x, told, here, stands, w, says)) =
     let l = (parse.symbol 44).sound ts tt us is in
     let w' : bind ((parse.symbol 44).run ts) (λ u vs. parse.reserved_name.run vs)
     ≡ wrong us = rw is w in
-    fails_behind (do parse.symbol 44; parse.reserved_name) x e ts us after us l.used here stands l.parts w' (inr (inr (inl (told, behind_symbol 44 l.used l.holds, rw told at says))))
+    fails_behind (do parse.symbol 44; parse.reserved_name) x e ts us after us l.used here stands
+    l.parts w' (inr (inr (inl (told, behind_symbol 44 l.used l.holds, rw told at says))))
 
 -- ---- reserved names
 

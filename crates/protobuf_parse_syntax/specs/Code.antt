@@ -1,6 +1,6 @@
 -- No public clause rests on this file.
 -- What the parser's functions say of readers.
-use Rattle.std.specs.Prelude.{◌≡◌, ◌⊎◌, ℕ, Bool, true, false, Option, None, List, [], ◌∷◌, map}
+use Rattle.std.specs.Prelude.{◌≡◌, ◌⊎◌, ℕ, Bool, true, false, Option, None, List, [], ◌∷◌}
 use Rattle.std.specs.Prelude.{Result, Ok, Err}
 use Rattle.std.proofs.Common.{ap, ◌∙◌, refl}
 use Rattle.protobuf_parse_base.specs.Characters as char
@@ -10,10 +10,12 @@ use Rattle.protobuf_parse_base.specs.Relations.{Many}
 use Rattle.protobuf_parse_base.specs.Whole.{whole}
 use Rattle.protobuf_parse_base.specs.declared.proto_path.error.PathError.{PathError}
 use Rattle.protobuf_parse_lexer.specs.Text.{Bytes}
-use Rattle.protobuf_parse_lexer.specs.Tokens.{Lexeme, lexeme}
+use Rattle.protobuf_parse_lexer.specs.Tokenizers.{lies_ahead}
+use Rattle.protobuf_parse_lexer.specs.Tokens.{Lexeme}
 use Rattle.protobuf_parse_lexer.specs.Classes.{Class, symbol, ident, is_one_of, float}
 use Rattle.protobuf_parse_lexer.specs.Classes.{is_floating}
-use Rattle.protobuf_parse_lexer.specs.Cut.{out_of_memory, located as located_at}
+use Rattle.protobuf_parse_lexer.specs.Cut.{Stream, out_of_memory, error_place}
+use Rattle.protobuf_parse_lexer.specs.Cut.{located as located_at}
 use Rattle.protobuf_parse_lexer.specs.declared.lexer.token.Place.{Place}
 use Rattle.protobuf_parse_lexer.specs.declared.error.ParserError.{ParserError}
 use Rattle.protobuf_parse_lexer.specs.declared.error.ParserErrorWithLocation.{ParserErrorWithLocation}
@@ -33,7 +35,7 @@ use Rattle.protobuf_parse_syntax.specs.declared.parser.cursor.Cursor.{Cursor}
 
 -- the tokens that are left, and the place of the end
 abbrev pub left : Cursor → Rest Lexeme Place
-left c = whole (map lexeme c.rest.now) c.end
+left c = whole (lies_ahead c.tokens).tokens (lies_ahead c.tokens).end
 
 -- no token is left
 abbrev pub is_end : Rest Lexeme Place → Bool
@@ -240,3 +242,7 @@ abbrev pub error_at : Refusal → Place → ParserErrorWithLocation
 error_at Memory next = out_of_memory
 error_at (Next e) next = located_at e next
 error_at (Here e) next = located_at e next
+
+-- the error says of these tokens what cannot stand there
+abbrev pub IsFaultOfTokens : Stream → ParserErrorWithLocation → Type 0
+IsFaultOfTokens s e = IsGrammarFault s.tokens s.end e.error (error_place e)

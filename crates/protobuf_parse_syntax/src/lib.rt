@@ -7,7 +7,7 @@ mod tree;
 
 pub use dependencies::{Dependencies, imports_of, parse_dependencies};
 pub use parser::laws::trees_are_shallow;
-pub use parser::{parse_file, tree_of};
+pub use parser::parse_file;
 pub use protobuf_parse_base::Name;
 pub use protobuf_parse_lexer::{
     ParserError, ParserErrorWithLocation, Place, StrLit, StrLitDecodeError, Token, TokenKind,

@@ -15,13 +15,15 @@ mod service;
 mod tables;
 mod words;
 
-ghost use Rattle.std.specs.Prelude.{◌≡◌, ◌≤◌, ◌⊎◌, IfOk, IfErr};
-ghost use Rattle.protobuf_parse_lexer.specs.Cut.{out_of_memory, stream as tokens_of};
+ghost use Rattle.std.specs.Prelude.{◌≡◌, ◌≤◌, ◌<◌, ◌⊎◌, length, IfOk, IfErr};
+ghost use Rattle.protobuf_parse_lexer.specs.Cut.{out_of_memory};
 ghost use Rattle.protobuf_parse_lexer.specs.Cut.{error_place as place_at};
+ghost use Rattle.protobuf_parse_lexer.specs.Tokenizers.{lies_ahead};
+ghost use Rattle.protobuf_parse_syntax.specs.Code.{IsFaultOfTokens};
 ghost use Rattle.protobuf_parse_syntax.specs.Counts.{statements_in};
 ghost use Rattle.protobuf_parse_syntax.specs.Grammar.{IsFile};
 ghost use Rattle.protobuf_parse_syntax.specs.Nesting.{ShallowFile};
-ghost use Rattle.protobuf_parse_syntax.specs.Parsing.{IsGrammarFault, HasTree, IsFaultOf};
+ghost use Rattle.protobuf_parse_syntax.specs.Parsing.{HasTree, IsFaultOf};
 ghost use Rattle.protobuf_parse_syntax.specs.Parsing.{TellsFaults};
 ghost use Rattle.protobuf_parse_syntax.specs.Trees.{FileSyntax, file_syntax};
 
@@ -29,7 +31,7 @@ use crate::parser::cursor::Cursor;
 use crate::parser::file::file;
 use crate::parser::refusal::Refusal;
 use crate::tree::FileTree;
-use protobuf_parse_lexer::{ParserError, ParserErrorWithLocation, TokenStream, tokenize};
+use protobuf_parse_lexer::{ParserError, ParserErrorWithLocation, Tokenizer, tokenize};
 use std::alloc::Global;
 
 /// The tree of a file's text, by the Protocol Buffers Language Specifications (proto2 and proto3).
@@ -58,30 +60,47 @@ pub fn parse_file(alloc: Global, text: &str) -> Result<FileTree, ParserErrorWith
     // A text that has no tokens is refused with its fault.
     ensures tells { TellsFaults text.now result }
 {
-    let stream = tokenize(alloc, text)?;
-    tree_of(alloc, &stream)
+    let tokens = Tokenizer::new(text)?;
+    // No part nests deeper than there are tokens, and these are no more than bytes.
+    match tree_of(alloc, tokens, text.len() + 1) {
+        Ok(tree) => Ok(tree),
+        Err(error) => {
+            // A fault of the tokens comes before any of the grammar, wherever it stands.
+            tokenize(alloc, text)?;
+            Err(error)
+        }
+    }
 }
 
-/// The tree of a file's tokens.
-pub fn tree_of(alloc: Global, stream: &TokenStream<'_>) -> Result<FileTree, ParserErrorWithLocation>
-    // What is read is the one tree that the tokens say.
-    ensures found { IfOk result (λ t. IsFile (tokens_of stream.now).tokens (file_syntax t)) }
-    ensures only { IfOk result (λ t. (u : FileSyntax) → IsFile (tokens_of stream.now).tokens u
+/// The tree of the tokens, of which there are less than `levels`.
+fn tree_of(
+    alloc: Global,
+    tokens: Tokenizer<'_>,
+    levels: usize,
+) -> Result<FileTree, ParserErrorWithLocation>
+    requires { length (lies_ahead tokens).tokens < levels }
+    // What is read is the one tree that the tokens say, and they go on to the text's end.
+    ensures found { IfOk result (λ t. IsFile (lies_ahead tokens.entry).tokens (file_syntax t)) }
+    ensures only { IfOk result (λ t. (u : FileSyntax) → IsFile (lies_ahead tokens.entry).tokens u
         → u ≡ file_syntax t) }
+    ensures whole { IfOk result (λ t. (lies_ahead tokens.entry).end.line ≡ 0 → ⊥) }
 
-    // What is refused has that fault there.
+    // What is refused has that fault there, or the tokens don't go on to the text's end.
     ensures refused { IfErr result (λ e. (e ≡ out_of_memory)
-        ⊎ IsGrammarFault (tokens_of stream.now).tokens stream.now.end e.error (place_at e)) }
+        ⊎ ((lies_ahead tokens.entry).end.line ≡ 0)
+        ⊎ IsFaultOfTokens (lies_ahead tokens.entry) e) }
 {
-    let mut tokens = Cursor::new(stream.tokens.as_slice(), stream.end);
-    // No part nests deeper than there are tokens.
-    let levels = stream.tokens.len() + 1;
-    let tree = match file(alloc, &mut tokens, levels) {
+    let mut left = Cursor::new(tokens);
+    let tree = match file(alloc, &mut left, levels) {
         Ok(tree) => tree,
-        Err(refusal) => return Err(refusal.located(tokens.place())),
+        Err(refusal) => return Err(refusal.located(left.place())),
     };
-    if !tokens.is_empty() {
-        return Err(Refusal::Next(ParserError::IncorrectInput).located(tokens.place()));
+    let end = left.place();
+    if !left.is_empty() {
+        return Err(Refusal::Next(ParserError::IncorrectInput).located(end));
+    }
+    if end.line == 0 {
+        return Err(Refusal::Next(ParserError::IncorrectInput).located(end));
     }
     Ok(tree)
 }

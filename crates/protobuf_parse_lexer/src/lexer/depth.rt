@@ -8,7 +8,7 @@ ghost use Rattle.protobuf_parse_lexer.specs.Tokens.{lexeme, IsShallow, DeepensAt
 use crate::lexer::token::{Place, Token};
 
 /// The deepest nesting that a text may have.
-const MAX_DEPTH: usize = 100;
+pub const MAX_DEPTH: usize = 100;
 
 /// The place of the opening bracket with which more are open than may be, where there is one.
 pub fn too_deep(list: &[Token]) -> Option<Place>

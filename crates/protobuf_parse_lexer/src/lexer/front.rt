@@ -80,6 +80,7 @@ fn ident_end(text: &[u8]) -> usize
 }
 
 /// What stands at the front, where it is no blank and no comment.
+#[inline(always)]
 fn token_piece(text: &[u8]) -> Piece
     requires some { 0 < length text.now }
     requires no_blank { is_in ByteClass.Blank (slice_index text.now 0) ≡ false }
@@ -109,6 +110,7 @@ fn token_piece(text: &[u8]) -> Piece
 }
 
 /// What stands at the front of a text.
+#[inline(always)]
 pub fn front_piece(text: &[u8]) -> Piece
     ensures { Stands text.now result }
 {

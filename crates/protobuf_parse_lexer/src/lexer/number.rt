@@ -171,6 +171,7 @@ fn float_piece(text: &[u8], end: usize) -> Piece
 }
 
 /// The number at the front.
+#[inline(always)]
 pub fn number_piece(text: &[u8]) -> Piece
     requires some { 0 < length text.now }
     requires begins { BeginsNumber text.now }

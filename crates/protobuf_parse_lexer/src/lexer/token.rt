@@ -2,9 +2,7 @@
 
 ghost use Rattle.std.specs.Prelude.{◌≡◌};
 ghost use Rattle.protobuf_parse_lexer.specs.TokenKinds as kinds;
-ghost use Rattle.protobuf_parse_lexer.specs.Classes as class;
 
-use crate::lexer::bytes::{ByteClass, byte_at, is_in};
 use crate::lexer::kind::kind_of;
 
 /// A line and a column, both from 1. A column counts characters.
@@ -45,43 +43,6 @@ impl<'a> Token<'a> {
         ensures { result ≡ kinds.kind_of self.now.text.now }
     {
         kind_of(self.text.as_bytes())
-    }
-
-    /// Whether the token is an identifier.
-    #[inline]
-    #[tactic(auto, using(crate::proofs::TextKinds::ident_by_first))]
-    pub fn is_ident(&self) -> bool
-        ensures { result ≡ class.is_ident_token (kinds.kind_of self.now.text.now) }
-    {
-        let first = byte_at(self.text.as_bytes(), 0);
-        is_in(ByteClass::Ident, first) && !is_in(ByteClass::Digit, first)
-    }
-
-    /// Whether the token is a string.
-    #[inline]
-    #[tactic(auto, using(crate::proofs::TextKinds::string_by_first))]
-    pub fn is_str(&self) -> bool
-        ensures { result ≡ class.is_string (kinds.kind_of self.now.text.now) }
-    {
-        let first = byte_at(self.text.as_bytes(), 0);
-        first == b'"' || first == b'\''
-    }
-
-    /// Whether the token is this symbol.
-    #[inline]
-    #[tactic(auto, using(crate::proofs::TextKinds::symbol_by_first))]
-    pub fn is_symbol(&self, symbol: char) -> bool
-        ensures { result ≡ class.is_symbol_token symbol (kinds.kind_of self.now.text.now) }
-    {
-        match self.text.as_bytes() {
-            [first] => {
-                char::from(*first) == symbol
-                    && !is_in(ByteClass::Ident, *first)
-                    && *first != b'"'
-                    && *first != b'\''
-            }
-            _ => false,
-        }
     }
 }
 

@@ -24,7 +24,7 @@ use std::alloc::Global;
 #[tactic(auto, using(crate::specs::Nested::constant_zero, crate::specs::Nested::constant_more))]
 pub fn constant(
     alloc: Global,
-    tokens: &mut Cursor<'_, '_>,
+    tokens: &mut Cursor<'_>,
     levels: usize,
 ) -> Result<ProtobufConstant, Refusal>
     ensures { Gives view.constant_syntax result (left tokens.new)
@@ -41,7 +41,7 @@ pub fn constant(
 #[tactic(auto, unfolding(crate::specs::Nested::constant_of, crate::specs::Productions::integer_constant), using(crate::specs::Code::fails_first, crate::proofs::Views::views_text, crate::proofs::Constants::str_absent))]
 fn constant_of(
     alloc: Global,
-    tokens: &mut Cursor<'_, '_>,
+    tokens: &mut Cursor<'_>,
     levels: usize,
 ) -> Result<ProtobufConstant, Refusal>
     ensures { Gives view.constant_syntax result (left tokens.new)
@@ -67,7 +67,7 @@ fn constant_of(
 
 /// Why no constant begins with the next token.
 #[tactic(auto, using(crate::proofs::Constants::float_stands))]
-fn constant_fault(tokens: &Cursor<'_, '_>) -> ParserError
+fn constant_fault(tokens: &Cursor<'_>) -> ParserError
     ensures { Stands result (left tokens.now) }
 {
     if tokens.sees_float() {
@@ -81,7 +81,7 @@ fn constant_fault(tokens: &Cursor<'_, '_>) -> ParserError
 
 /// `true`, `false`, or a name that begins with neither.
 #[tactic(auto, unfolding(crate::specs::Productions::word_constant), using(crate::specs::Code::fails_first, crate::specs::Productions::word_constant_name))]
-fn word_constant(alloc: Global, tokens: &mut Cursor<'_, '_>) -> Result<ProtobufConstant, Refusal>
+fn word_constant(alloc: Global, tokens: &mut Cursor<'_>) -> Result<ProtobufConstant, Refusal>
     ensures { Gives view.constant_syntax result (left tokens.new)
         (read.word_constant.run (left tokens.old)) }
 {
@@ -98,7 +98,7 @@ fn word_constant(alloc: Global, tokens: &mut Cursor<'_, '_>) -> Result<ProtobufC
 
 /// Whether a constant may begin with the next token.
 #[tactic(auto, using(crate::proofs::Left::starts_more))]
-fn begins_constant(tokens: &Cursor<'_, '_>) -> bool
+fn begins_constant(tokens: &Cursor<'_>) -> bool
     ensures { result ≡ starts lexicon nest.constant_firsts (left tokens.now) }
 {
     tokens.sees_symbol('{')
@@ -109,7 +109,7 @@ fn begins_constant(tokens: &Cursor<'_, '_>) -> bool
 }
 
 #[tactic(auto, using(crate::proofs::Left::starts_more))]
-fn begins_integer(tokens: &Cursor<'_, '_>) -> bool
+fn begins_integer(tokens: &Cursor<'_>) -> bool
     ensures { result ≡ starts lexicon
         (class.integer ∷ class.symbol char.plus ∷ class.symbol char.minus ∷ [])
         (left tokens.now) }
@@ -119,7 +119,7 @@ fn begins_integer(tokens: &Cursor<'_, '_>) -> bool
 
 /// `[ "+" | "-" ] int`
 #[tactic(auto, unfolding(crate::specs::Productions::integer_constant, crate::specs::Productions::signed), using(crate::specs::Code::fails_first, crate::proofs::Views::views_number, crate::proofs::Views::views_signed))]
-fn integer(tokens: &mut Cursor<'_, '_>) -> Result<ProtobufConstant, Refusal>
+fn integer(tokens: &mut Cursor<'_>) -> Result<ProtobufConstant, Refusal>
     ensures { Gives view.constant_syntax result (left tokens.new)
         (read.integer_constant.run (left tokens.old)) }
 {
@@ -134,7 +134,7 @@ fn integer(tokens: &mut Cursor<'_, '_>) -> Result<ProtobufConstant, Refusal>
 
 /// `"+" int`. S18 at the sign before a float, `inf` or `nan`.
 #[tactic(auto, using(crate::specs::Code::fails_first, crate::proofs::Constants::plus_absent, crate::proofs::Constants::plus_fails, crate::proofs::Constants::plus_plain))]
-fn plus(tokens: &mut Cursor<'_, '_>) -> Result<u64, Refusal>
+fn plus(tokens: &mut Cursor<'_>) -> Result<u64, Refusal>
     ensures { Gives pos result (left tokens.new) (read.plus.run (left tokens.old)) }
 {
     if !tokens.sees_symbol('+') {
@@ -149,7 +149,7 @@ fn plus(tokens: &mut Cursor<'_, '_>) -> Result<u64, Refusal>
 
 /// `"-" int`. S18 at the sign before a float, `inf` or `nan`.
 #[tactic(auto, using(crate::specs::Code::fails_first, crate::proofs::Constants::minus_absent, crate::proofs::Constants::minus_fails, crate::proofs::Constants::minus_plain))]
-fn minus(tokens: &mut Cursor<'_, '_>) -> Result<i64, Refusal>
+fn minus(tokens: &mut Cursor<'_>) -> Result<i64, Refusal>
     ensures { Gives (λ n. n) result (left tokens.new) (read.minus.run (left tokens.old)) }
 {
     if !tokens.sees_symbol('-') {
@@ -179,11 +179,7 @@ fn negative(number: u64) -> i64
 /// `list = "[" "]" | "[" constant { "," constant } "]"`
 #[cycle(constant)]
 #[tactic(auto, unfolding(crate::specs::Nested::list_of), using(crate::specs::Code::fails_first, crate::proofs::Views::views_list, crate::proofs::Constants::symbol_absent))]
-fn list(
-    alloc: Global,
-    tokens: &mut Cursor<'_, '_>,
-    levels: usize,
-) -> Result<ProtobufConstant, Refusal>
+fn list(alloc: Global, tokens: &mut Cursor<'_>, levels: usize) -> Result<ProtobufConstant, Refusal>
     ensures { Gives view.constant_syntax result (left tokens.new)
         ((nest.list_of (both (nest.constant levels))).low.run (left tokens.old)) }
 {
@@ -206,7 +202,7 @@ fn list(
 #[tactic(auto, unfolding(crate::specs::Nested::constants_of), using(crate::specs::Code::fails_first))]
 fn constants(
     alloc: Global,
-    tokens: &mut Cursor<'_, '_>,
+    tokens: &mut Cursor<'_>,
     levels: usize,
 ) -> Result<Vec<ProtobufConstant>, Refusal>
     ensures { Gives (λ v. map view.constant_syntax v.items) result (left tokens.new)
@@ -227,7 +223,7 @@ fn constants(
 #[tactic(auto, unfolding(crate::specs::Nested::message_constant_of), using(crate::specs::Code::fails_first, crate::proofs::Views::views_fields))]
 fn message_constant(
     alloc: Global,
-    tokens: &mut Cursor<'_, '_>,
+    tokens: &mut Cursor<'_>,
     levels: usize,
 ) -> Result<ProtobufConstant, Refusal>
     ensures { Gives view.constant_syntax result (left tokens.new)
@@ -244,7 +240,7 @@ fn message_constant(
 #[tactic(auto, unfolding(crate::specs::Nested::constant_fields_of), using(crate::proofs::Loops::with_all))]
 fn constant_fields(
     alloc: Global,
-    tokens: &mut Cursor<'_, '_>,
+    tokens: &mut Cursor<'_>,
     levels: usize,
 ) -> Result<Vec<ConstantField>, Refusal>
     ensures { Gives (λ v. map view.constant_field_syntax v.items) result (left tokens.new)
@@ -263,7 +259,7 @@ fn constant_fields(
 #[tactic(auto, unfolding(crate::specs::Nested::constant_field_of), using(crate::specs::Code::fails_first))]
 fn constant_field(
     alloc: Global,
-    tokens: &mut Cursor<'_, '_>,
+    tokens: &mut Cursor<'_>,
     levels: usize,
 ) -> Result<ConstantField, Refusal>
     ensures { Gives view.constant_field_syntax result (left tokens.new)
@@ -280,7 +276,7 @@ fn constant_field(
 #[tactic(auto, unfolding(crate::specs::Nested::value_of), using(crate::specs::Code::fails_first, crate::proofs::Constants::no_other_constant))]
 fn field_value(
     alloc: Global,
-    tokens: &mut Cursor<'_, '_>,
+    tokens: &mut Cursor<'_>,
     levels: usize,
 ) -> Result<ProtobufConstant, Refusal>
     ensures { Gives view.constant_syntax result (left tokens.new)
@@ -298,7 +294,7 @@ fn field_value(
 
 /// `[ "," | ";" ]`
 #[tactic(auto, unfolding(crate::specs::Productions::field_end), using(crate::specs::Code::fails_first))]
-fn field_end(tokens: &mut Cursor<'_, '_>) -> Result<(), Refusal>
+fn field_end(tokens: &mut Cursor<'_>) -> Result<(), Refusal>
     ensures { Gives (λ u. tt) result (left tokens.new) (read.field_end.run (left tokens.old)) }
 {
     if tokens.sees_symbol(',') {
@@ -311,7 +307,7 @@ fn field_end(tokens: &mut Cursor<'_, '_>) -> Result<(), Refusal>
 }
 
 #[tactic(auto, using(crate::proofs::Left::starts_more))]
-fn begins_constant_name(tokens: &Cursor<'_, '_>) -> bool
+fn begins_constant_name(tokens: &Cursor<'_>) -> bool
     ensures { result ≡ starts lexicon (class.ident [] ∷ class.symbol char.open_bracket ∷ [])
         (left tokens.now) }
 {
@@ -320,7 +316,7 @@ fn begins_constant_name(tokens: &Cursor<'_, '_>) -> bool
 
 /// `cname = ident | "[" name "]" | "[" name "/" name "]"`
 #[tactic(auto, unfolding(crate::specs::Productions::constant_name, crate::specs::Productions::bracketed_name), using(crate::specs::Code::fails_first))]
-fn constant_name(alloc: Global, tokens: &mut Cursor<'_, '_>) -> Result<ConstantFieldName, Refusal>
+fn constant_name(alloc: Global, tokens: &mut Cursor<'_>) -> Result<ConstantFieldName, Refusal>
     ensures { Gives view.constant_name_syntax result (left tokens.new)
         (read.constant_name.run (left tokens.old)) }
 {
@@ -338,7 +334,7 @@ fn constant_name(alloc: Global, tokens: &mut Cursor<'_, '_>) -> Result<ConstantF
 #[tactic(auto, unfolding(crate::specs::Productions::after_slash), using(crate::specs::Code::fails_first))]
 fn after_slash(
     alloc: Global,
-    tokens: &mut Cursor<'_, '_>,
+    tokens: &mut Cursor<'_>,
     first: String,
 ) -> Result<ConstantFieldName, Refusal>
     ensures { Gives view.constant_name_syntax result (left tokens.new)

@@ -1,11 +1,11 @@
 //! A cursor over the tokens of a file.
 
-ghost use Rattle.std.specs.Prelude.{◌≡◌, ◌≤◌, ◌∷◌, [], map, string_bytes};
+ghost use Rattle.std.specs.Prelude.{◌≡◌, ◌≤◌, ◌∷◌, [], string_bytes};
 ghost use Rattle.protobuf_parse_base.specs.DeclaredNames.{name_bytes};
 ghost use Rattle.protobuf_parse_base.specs.Whole.{whole};
 ghost use Rattle.protobuf_parse_base.specs.Readers.{starts};
 ghost use Rattle.protobuf_parse_base.specs.Conditions.{mark_of};
-ghost use Rattle.protobuf_parse_lexer.specs.Tokens.{lexeme};
+ghost use Rattle.protobuf_parse_lexer.specs.Tokenizers.{lies_ahead};
 ghost use Rattle.protobuf_parse_lexer.specs.Classes as class;
 ghost use Rattle.protobuf_parse_lexer.specs.Text.{seen_by};
 ghost use Rattle.protobuf_parse_syntax.specs.ClassLaws.{lexicon};
@@ -18,39 +18,38 @@ ghost use Rattle.protobuf_parse_syntax.specs.Words.{behind_next};
 use crate::parser::refusal::Refusal;
 use crate::parser::tables::is_same;
 use protobuf_parse_base::Name;
-use protobuf_parse_lexer::{ParserError, Place, Token, TokenKind, unquoted};
+use protobuf_parse_lexer::{ParserError, Place, TokenKind, Tokenizer, unquoted};
 use std::alloc::Global;
 
 /// The tokens that are not read yet. A call that refuses a token leaves the cursor before it.
 #[derive(Clone, Copy)]
-pub struct Cursor<'t, 'text> {
-    rest: &'t [Token<'text>],
-    end: Place,
+pub struct Cursor<'text> {
+    tokens: Tokenizer<'text>,
 }
 
-impl<'t, 'text> Cursor<'t, 'text> {
+impl<'text> Cursor<'text> {
     /// A cursor before the first token.
-    pub fn new(rest: &'t [Token<'text>], end: Place) -> Cursor<'t, 'text>
-        ensures { left result ≡ whole (map lexeme rest.now) end }
+    pub fn new(tokens: Tokenizer<'text>) -> Cursor<'text>
+        ensures { left result ≡ whole (lies_ahead tokens.entry).tokens (lies_ahead tokens.entry).end }
     {
-        Cursor { rest, end }
+        Cursor { tokens }
     }
 
     /// Whether no token is left.
-    #[tactic(auto, using(crate::proofs::Left::ends_empty))]
+    #[tactic(auto, using(crate::proofs::Left::ends_none))]
     pub fn is_empty(&self) -> bool
         ensures { result ≡ is_end (left self.now) }
     {
-        self.rest.is_empty()
+        self.tokens.next.is_none()
     }
 
     /// The place of the next token, or of the end of the text.
     pub fn place(&self) -> Place
         ensures { result ≡ mark_of place_of (left self.now) }
     {
-        match self.rest {
-            [token, ..] => token.place,
-            [] => self.end,
+        match self.tokens.next {
+            Some(token) => token.place,
+            None => self.tokens.after,
         }
     }
 
@@ -59,9 +58,9 @@ impl<'t, 'text> Cursor<'t, 'text> {
     pub fn sees_symbol(&self, symbol: char) -> bool
         ensures { result ≡ starts lexicon (class.symbol symbol ∷ []) (left self.now) }
     {
-        match self.rest {
-            [token, ..] => token.is_symbol(symbol),
-            [] => false,
+        match self.tokens.next {
+            Some(token) => token.is_symbol(symbol),
+            None => false,
         }
     }
 
@@ -81,9 +80,10 @@ impl<'t, 'text> Cursor<'t, 'text> {
         ensures { Gives (λ u. tt) result (left self.new)
             ((read.symbol symbol).run (left self.old)) }
     {
-        match self.rest {
-            [token, rest @ ..] if token.is_symbol(symbol) => {
-                self.rest = rest;
+        let next = self.tokens.next;
+        match next {
+            Some(token) if token.is_symbol(symbol) => {
+                self.tokens.advance();
                 Ok(())
             }
             _ => Err(Refusal::Next(fault)),
@@ -95,9 +95,9 @@ impl<'t, 'text> Cursor<'t, 'text> {
     pub fn sees_word(&self, word: &str) -> bool
         ensures { result ≡ starts lexicon (class.word word.now ∷ []) (left self.now) }
     {
-        match self.rest {
-            [token, ..] => is_same(token.text, word) && token.is_ident(),
-            [] => false,
+        match self.tokens.next {
+            Some(token) => is_same(token.text, word) && token.is_ident(),
+            None => false,
         }
     }
 
@@ -106,9 +106,10 @@ impl<'t, 'text> Cursor<'t, 'text> {
         ensures { Gives (λ u. tt) result (left self.new)
             ((read.word word.now).run (left self.old)) }
     {
-        match self.rest {
-            [token, rest @ ..] if is_same(token.text, word) && token.is_ident() => {
-                self.rest = rest;
+        let next = self.tokens.next;
+        match next {
+            Some(token) if is_same(token.text, word) && token.is_ident() => {
+                self.tokens.advance();
                 Ok(())
             }
             _ => Err(Refusal::Next(ParserError::IncorrectInput)),
@@ -120,9 +121,9 @@ impl<'t, 'text> Cursor<'t, 'text> {
     pub fn sees_ident(&self) -> bool
         ensures { result ≡ starts lexicon (class.ident [] ∷ []) (left self.now) }
     {
-        match self.rest {
-            [token, ..] => token.is_ident(),
-            [] => false,
+        match self.tokens.next {
+            Some(token) => token.is_ident(),
+            None => false,
         }
     }
 
@@ -130,8 +131,8 @@ impl<'t, 'text> Cursor<'t, 'text> {
     pub fn next_word(&self) -> Option<&'text str>
         ensures { seen_by (λ z. z.now) result ≡ next_ident (left self.now) }
     {
-        match self.rest {
-            [token, ..] if token.is_ident() => Some(token.text),
+        match self.tokens.next {
+            Some(token) if token.is_ident() => Some(token.text),
             _ => None,
         }
     }
@@ -140,18 +141,17 @@ impl<'t, 'text> Cursor<'t, 'text> {
     pub fn skip(&mut self)
         ensures { left self.new ≡ behind_next (left self.old) }
     {
-        if let [_, rest @ ..] = self.rest {
-            self.rest = rest;
-        }
+        self.tokens.advance();
     }
 
     /// Reads an identifier, which may be any word. S8 at any other token.
     pub fn ident_text(&mut self) -> Result<&'text str, Refusal>
         ensures { Gives (λ z. z.now) result (left self.new) (read.ident.run (left self.old)) }
     {
-        match self.rest {
-            [token, rest @ ..] if token.is_ident() => {
-                self.rest = rest;
+        let next = self.tokens.next;
+        match next {
+            Some(token) if token.is_ident() => {
+                self.tokens.advance();
                 Ok(token.text)
             }
             _ => Err(Refusal::Next(ParserError::IncorrectInput)),
@@ -199,9 +199,9 @@ impl<'t, 'text> Cursor<'t, 'text> {
     pub fn sees_integer(&self) -> bool
         ensures { result ≡ starts lexicon (class.integer ∷ []) (left self.now) }
     {
-        match self.rest {
-            [token, ..] => matches!(token.kind(), TokenKind::Integer(_)),
-            [] => false,
+        match self.tokens.next {
+            Some(token) => matches!(token.kind, TokenKind::Integer(_)),
+            None => false,
         }
     }
 
@@ -209,15 +209,15 @@ impl<'t, 'text> Cursor<'t, 'text> {
     pub fn number(&mut self) -> Result<u64, Refusal>
         ensures { Gives (λ n. n) result (left self.new) (read.number.run (left self.old)) }
     {
-        match self.rest {
-            [token, rest @ ..] => match token.kind() {
+        match self.tokens.next {
+            Some(token) => match token.kind {
                 TokenKind::Integer(number) => {
-                    self.rest = rest;
+                    self.tokens.advance();
                     Ok(number)
                 }
                 _ => Err(Refusal::Next(ParserError::IncorrectInput)),
             },
-            [] => Err(Refusal::Next(ParserError::IncorrectInput)),
+            None => Err(Refusal::Next(ParserError::IncorrectInput)),
         }
     }
 
@@ -227,18 +227,18 @@ impl<'t, 'text> Cursor<'t, 'text> {
         ensures { Gives (λ n. n) result (left self.new)
             ((read.number_up_to limit).run (left self.old)) }
     {
-        match self.rest {
-            [token, rest @ ..] => match token.kind() {
+        match self.tokens.next {
+            Some(token) => match token.kind {
                 TokenKind::Integer(number) => {
                     if number > limit {
                         return Err(Refusal::Next(ParserError::IntegerOverflow));
                     }
-                    self.rest = rest;
+                    self.tokens.advance();
                     Ok(number)
                 }
                 _ => Err(Refusal::Next(ParserError::IncorrectInput)),
             },
-            [] => Err(Refusal::Next(ParserError::IncorrectInput)),
+            None => Err(Refusal::Next(ParserError::IncorrectInput)),
         }
     }
 
@@ -257,9 +257,9 @@ impl<'t, 'text> Cursor<'t, 'text> {
     pub fn sees_str(&self) -> bool
         ensures { result ≡ starts lexicon (class.text ∷ []) (left self.now) }
     {
-        match self.rest {
-            [token, ..] => token.is_str(),
-            [] => false,
+        match self.tokens.next {
+            Some(token) => token.is_str(),
+            None => false,
         }
     }
 
@@ -267,10 +267,11 @@ impl<'t, 'text> Cursor<'t, 'text> {
     pub fn piece(&mut self, alloc: Global) -> Result<String, Refusal>
         ensures { Gives string_bytes result (left self.new) (read.piece.run (left self.old)) }
     {
-        match self.rest {
-            [token, rest @ ..] if token.is_str() => {
+        let next = self.tokens.next;
+        match next {
+            Some(token) if token.is_str() => {
                 let piece = String::from_str(alloc, unquoted(token.text))?;
-                self.rest = rest;
+                self.tokens.advance();
                 Ok(piece)
             }
             _ => Err(Refusal::Next(ParserError::IncorrectInput)),
@@ -282,9 +283,9 @@ impl<'t, 'text> Cursor<'t, 'text> {
     pub fn sees_float(&self) -> bool
         ensures { result ≡ starts lexicon (class.float ∷ []) (left self.now) }
     {
-        match self.rest {
-            [token, ..] => matches!(token.kind(), TokenKind::Float),
-            [] => false,
+        match self.tokens.next {
+            Some(token) => matches!(token.kind, TokenKind::Float),
+            None => false,
         }
     }
 
@@ -292,13 +293,15 @@ impl<'t, 'text> Cursor<'t, 'text> {
     pub fn sees_float_second(&self) -> bool
         ensures { result ≡ floats_second (left self.now) }
     {
-        match self.rest {
-            [_, token, ..] => match token.kind() {
+        let mut second = self.tokens;
+        second.advance();
+        match second.next {
+            Some(token) => match token.kind {
                 TokenKind::Float => true,
                 TokenKind::Ident => matches!(token.text, "inf" | "nan"),
                 _ => false,
             },
-            _ => false,
+            None => false,
         }
     }
 }

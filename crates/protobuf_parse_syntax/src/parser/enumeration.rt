@@ -30,7 +30,7 @@ const MAX_FIELD_NUMBER: i32 = 536870911;
 #[tactic(auto, unfolding(crate::specs::Nested::enumeration_pair), using(crate::specs::Code::fails_first))]
 pub fn enumeration(
     alloc: Global,
-    tokens: &mut Cursor<'_, '_>,
+    tokens: &mut Cursor<'_>,
     levels: usize,
 ) -> Result<Enumeration, Refusal>
     ensures { Gives view.enum_syntax result (left tokens.new)
@@ -49,7 +49,7 @@ pub fn enumeration(
 #[tactic(auto, unfolding(crate::specs::Nested::enum_items), using(crate::specs::Code::fails_first))]
 fn enum_statements(
     alloc: Global,
-    tokens: &mut Cursor<'_, '_>,
+    tokens: &mut Cursor<'_>,
     levels: usize,
 ) -> Result<Vec<EnumStatement>, Refusal>
     ensures { Gives (λ v. map view.enum_statement_syntax v.items) result (left tokens.new)
@@ -65,7 +65,7 @@ fn enum_statements(
 
 /// Whether a statement of an enum, or a semicolon, comes next.
 #[tactic(auto, unfolding(protobuf_parse_base::specs::Readers::starts))]
-fn begins_enum_item(tokens: &Cursor<'_, '_>) -> bool
+fn begins_enum_item(tokens: &Cursor<'_>) -> bool
     ensures { result ≡ starts lexicon nest.enum_firsts (left tokens.now) }
 {
     tokens.sees_symbol(';') || tokens.sees_ident()
@@ -75,7 +75,7 @@ fn begins_enum_item(tokens: &Cursor<'_, '_>) -> bool
 #[tactic(auto, unfolding(crate::specs::Nested::enum_item), using(crate::specs::Code::fails_first))]
 fn enum_item(
     alloc: Global,
-    tokens: &mut Cursor<'_, '_>,
+    tokens: &mut Cursor<'_>,
     levels: usize,
 ) -> Result<Option<EnumStatement>, Refusal>
     ensures { Gives (seen_by view.enum_statement_syntax) result (left tokens.new)
@@ -91,7 +91,7 @@ fn enum_item(
 #[tactic(auto, unfolding(crate::specs::Nested::enum_statement), using(crate::specs::Code::fails_first))]
 fn enum_statement(
     alloc: Global,
-    tokens: &mut Cursor<'_, '_>,
+    tokens: &mut Cursor<'_>,
     levels: usize,
 ) -> Result<EnumStatement, Refusal>
     ensures { Gives view.enum_statement_syntax result (left tokens.new)
@@ -108,11 +108,7 @@ fn enum_statement(
 
 /// `value = ident "=" [ "-" ] int [ options ]`
 #[tactic(auto, unfolding(crate::specs::Nested::enum_value_parts), using(crate::specs::Code::fails_first))]
-fn enum_value(
-    alloc: Global,
-    tokens: &mut Cursor<'_, '_>,
-    levels: usize,
-) -> Result<EnumValue, Refusal>
+fn enum_value(alloc: Global, tokens: &mut Cursor<'_>, levels: usize) -> Result<EnumValue, Refusal>
     ensures { Gives view.value_syntax result (left tokens.new)
         ((nest.enum_value levels).low.run (left tokens.old)) }
 {
@@ -131,7 +127,7 @@ fn enum_value(
 
 /// `ident`, but `reserved` or `option`
 #[tactic(auto, unfolding(crate::specs::Productions::value_name), using(crate::specs::Code::fails_first))]
-fn value_name(alloc: Global, tokens: &mut Cursor<'_, '_>) -> Result<Name, Refusal>
+fn value_name(alloc: Global, tokens: &mut Cursor<'_>) -> Result<Name, Refusal>
     ensures { Gives name_bytes result (left tokens.new) (read.value_name.run (left tokens.old)) }
 {
     if begins_other_statement(tokens) {
@@ -142,7 +138,7 @@ fn value_name(alloc: Global, tokens: &mut Cursor<'_, '_>) -> Result<Name, Refusa
 
 /// Whether `reserved` or `option` comes next.
 #[tactic(auto, unfolding(protobuf_parse_base::specs::Readers::starts))]
-fn begins_other_statement(tokens: &Cursor<'_, '_>) -> bool
+fn begins_other_statement(tokens: &Cursor<'_>) -> bool
     ensures { result ≡ starts lexicon read.other_statements (left tokens.now) }
 {
     tokens.sees_word("reserved") || tokens.sees_word("option")
@@ -150,7 +146,7 @@ fn begins_other_statement(tokens: &Cursor<'_, '_>) -> bool
 
 /// `[ "-" ] int`, from -2147483648 to 2147483647
 #[tactic(auto, unfolding(crate::specs::Productions::enum_number), using(crate::specs::Code::fails_first))]
-fn enum_number(tokens: &mut Cursor<'_, '_>) -> Result<i32, Refusal>
+fn enum_number(tokens: &mut Cursor<'_>) -> Result<i32, Refusal>
     ensures { Gives (λ n. n) result (left tokens.new) (read.enum_number.run (left tokens.old)) }
 {
     if tokens.sees_integer() {
@@ -163,7 +159,7 @@ fn enum_number(tokens: &mut Cursor<'_, '_>) -> Result<i32, Refusal>
 
 /// `reserved = "reserved" ( str { "," str } | range { "," range } ) ";"`
 #[tactic(auto, unfolding(crate::specs::Productions::reserved_parts), using(crate::specs::Code::fails_first))]
-pub fn reserved(alloc: Global, tokens: &mut Cursor<'_, '_>) -> Result<ReservedStatement, Refusal>
+pub fn reserved(alloc: Global, tokens: &mut Cursor<'_>) -> Result<ReservedStatement, Refusal>
     ensures { Gives view.reserved_statement_syntax result (left tokens.new)
         (read.reserved.run (left tokens.old)) }
 {
@@ -176,7 +172,7 @@ pub fn reserved(alloc: Global, tokens: &mut Cursor<'_, '_>) -> Result<ReservedSt
 
 /// `str { "," str } | range { "," range }`
 #[tactic(auto, unfolding(crate::specs::Productions::reserved_items), using(crate::specs::Code::fails_first))]
-fn reserved_items(alloc: Global, tokens: &mut Cursor<'_, '_>) -> Result<Reserved, Refusal>
+fn reserved_items(alloc: Global, tokens: &mut Cursor<'_>) -> Result<Reserved, Refusal>
     ensures { GivesOr (Unsaid of_text (left tokens.old)) view.reserved_syntax result
         (left tokens.new) (read.reserved_items.run (left tokens.old)) }
 {
@@ -188,7 +184,7 @@ fn reserved_items(alloc: Global, tokens: &mut Cursor<'_, '_>) -> Result<Reserved
 
 /// `str { "," str }`, each of which is a text
 #[tactic(auto, unfolding(crate::specs::Productions::names), using(crate::specs::Code::fails_first))]
-fn names(alloc: Global, tokens: &mut Cursor<'_, '_>) -> Result<Vec<String>, Refusal>
+fn names(alloc: Global, tokens: &mut Cursor<'_>) -> Result<Vec<String>, Refusal>
     ensures { GivesOr (Unsaid of_text (left tokens.old)) (λ v. map string_bytes v.items) result
         (left tokens.new) (read.names.run (left tokens.old)) }
 {
@@ -203,7 +199,7 @@ fn names(alloc: Global, tokens: &mut Cursor<'_, '_>) -> Result<Vec<String>, Refu
 
 /// `"," str`
 #[tactic(auto, using(crate::specs::Code::fails_first))]
-fn comma_name(alloc: Global, tokens: &mut Cursor<'_, '_>) -> Result<String, Refusal>
+fn comma_name(alloc: Global, tokens: &mut Cursor<'_>) -> Result<String, Refusal>
     ensures { Gives string_bytes result (left tokens.new) (read.comma_name.run (left tokens.old)) }
 {
     tokens.symbol(',')?;
@@ -212,7 +208,7 @@ fn comma_name(alloc: Global, tokens: &mut Cursor<'_, '_>) -> Result<String, Refu
 
 /// `extensions = "extensions" range { "," range }`
 #[tactic(auto, unfolding(crate::specs::Productions::extensions), using(crate::specs::Code::fails_first))]
-pub fn extensions(alloc: Global, tokens: &mut Cursor<'_, '_>) -> Result<Extensions, Refusal>
+pub fn extensions(alloc: Global, tokens: &mut Cursor<'_>) -> Result<Extensions, Refusal>
     ensures { Gives view.extensions_syntax result (left tokens.new)
         (read.extensions.run (left tokens.old)) }
 {
@@ -224,7 +220,7 @@ pub fn extensions(alloc: Global, tokens: &mut Cursor<'_, '_>) -> Result<Extensio
 
 /// `range { "," range }`
 #[tactic(auto, unfolding(crate::specs::Productions::ranges), using(crate::specs::Code::fails_first))]
-fn ranges(alloc: Global, tokens: &mut Cursor<'_, '_>) -> Result<Vec<FieldNumberRange>, Refusal>
+fn ranges(alloc: Global, tokens: &mut Cursor<'_>) -> Result<Vec<FieldNumberRange>, Refusal>
     ensures { Gives (λ v. map view.range_syntax v.items) result (left tokens.new)
         (read.ranges.run (left tokens.old)) }
 {
@@ -239,7 +235,7 @@ fn ranges(alloc: Global, tokens: &mut Cursor<'_, '_>) -> Result<Vec<FieldNumberR
 
 /// `"," range`
 #[tactic(auto, using(crate::specs::Code::fails_first))]
-fn comma_range(tokens: &mut Cursor<'_, '_>) -> Result<FieldNumberRange, Refusal>
+fn comma_range(tokens: &mut Cursor<'_>) -> Result<FieldNumberRange, Refusal>
     ensures { Gives view.range_syntax result (left tokens.new)
         (read.comma_range.run (left tokens.old)) }
 {
@@ -249,7 +245,7 @@ fn comma_range(tokens: &mut Cursor<'_, '_>) -> Result<FieldNumberRange, Refusal>
 
 /// `range = int [ "to" ( int | "max" ) ]`
 #[tactic(auto, unfolding(crate::specs::Productions::range), using(crate::specs::Code::fails_first))]
-fn range(tokens: &mut Cursor<'_, '_>) -> Result<FieldNumberRange, Refusal>
+fn range(tokens: &mut Cursor<'_>) -> Result<FieldNumberRange, Refusal>
     ensures { Gives view.range_syntax result (left tokens.new) (read.range.run (left tokens.old)) }
 {
     let from = tokens.field_number()?;
@@ -259,7 +255,7 @@ fn range(tokens: &mut Cursor<'_, '_>) -> Result<FieldNumberRange, Refusal>
 
 /// `[ "to" ( int | "max" ) ]`
 #[tactic(auto, unfolding(crate::specs::Productions::range_end), using(crate::specs::Code::fails_first))]
-fn range_end(tokens: &mut Cursor<'_, '_>, from: i32) -> Result<i32, Refusal>
+fn range_end(tokens: &mut Cursor<'_>, from: i32) -> Result<i32, Refusal>
     ensures { Gives (λ n. n) result (left tokens.new)
         ((read.range_end from).run (left tokens.old)) }
 {

@@ -31,7 +31,7 @@ use std::alloc::Global;
 #[tactic(auto, using(crate::specs::Fields::field_zero, crate::specs::Fields::field_more))]
 pub fn field(
     alloc: Global,
-    tokens: &mut Cursor<'_, '_>,
+    tokens: &mut Cursor<'_>,
     syntax: Syntax,
     levels: usize,
 ) -> Result<FieldStatement, Refusal>
@@ -50,7 +50,7 @@ pub fn field(
 #[cycle(field)]
 fn field_of(
     alloc: Global,
-    tokens: &mut Cursor<'_, '_>,
+    tokens: &mut Cursor<'_>,
     syntax: Syntax,
     levels: usize,
     inner: usize,
@@ -73,7 +73,7 @@ fn field_of(
 }
 
 /// The label that begins a field, if one does.
-fn label(tokens: &mut Cursor<'_, '_>, syntax: Syntax) -> Option<Label>
+fn label(tokens: &mut Cursor<'_>, syntax: Syntax) -> Option<Label>
     ensures { Finds (labels_in syntax) result (left tokens.old) (left tokens.new) }
 {
     match tokens.next_word() {
@@ -92,7 +92,7 @@ fn label(tokens: &mut Cursor<'_, '_>, syntax: Syntax) -> Option<Label>
 #[tactic(auto, using(crate::proofs::Fields::oneof_field_law))]
 pub fn oneof_field(
     alloc: Global,
-    tokens: &mut Cursor<'_, '_>,
+    tokens: &mut Cursor<'_>,
     syntax: Syntax,
     levels: usize,
 ) -> Result<FieldStatement, Refusal>
@@ -112,7 +112,7 @@ pub fn oneof_field(
 #[tactic(auto, unfolding(crate::specs::Nested::after_label), using(crate::specs::Code::fails_first, crate::proofs::FieldViews::views_plain, crate::proofs::FieldViews::views_group))]
 fn after_label(
     alloc: Global,
-    tokens: &mut Cursor<'_, '_>,
+    tokens: &mut Cursor<'_>,
     syntax: Syntax,
     levels: usize,
     inner: usize,
@@ -136,7 +136,7 @@ fn after_label(
 #[tactic(auto, unfolding(crate::specs::Nested::group_of), using(crate::specs::Code::fails_first))]
 fn group(
     alloc: Global,
-    tokens: &mut Cursor<'_, '_>,
+    tokens: &mut Cursor<'_>,
     syntax: Syntax,
     levels: usize,
     place: Place,
@@ -164,7 +164,7 @@ fn group(
 #[tactic(auto, using(crate::specs::Code::fails_first, crate::proofs::Fields::field_block_law))]
 fn group_body(
     alloc: Global,
-    tokens: &mut Cursor<'_, '_>,
+    tokens: &mut Cursor<'_>,
     syntax: Syntax,
     levels: usize,
 ) -> Result<Vec<FieldStatement>, Refusal>
@@ -182,7 +182,7 @@ fn group_body(
 #[tactic(auto, unfolding(crate::specs::Nested::extend_body), using(crate::specs::Code::fails_first, crate::proofs::Fields::field_block_law))]
 pub fn extend_body(
     alloc: Global,
-    tokens: &mut Cursor<'_, '_>,
+    tokens: &mut Cursor<'_>,
     syntax: Syntax,
     levels: usize,
 ) -> Result<Vec<FieldStatement>, Refusal>
@@ -199,7 +199,7 @@ pub fn extend_body(
 #[cycle(field)]
 fn field_statements(
     alloc: Global,
-    tokens: &mut Cursor<'_, '_>,
+    tokens: &mut Cursor<'_>,
     syntax: Syntax,
     levels: usize,
 ) -> Result<Vec<FieldStatement>, Refusal>
@@ -219,7 +219,7 @@ fn field_statements(
 #[tactic(auto, using(crate::specs::Code::fails_first, crate::proofs::Fields::field_item_law))]
 fn field_item(
     alloc: Global,
-    tokens: &mut Cursor<'_, '_>,
+    tokens: &mut Cursor<'_>,
     syntax: Syntax,
     levels: usize,
 ) -> Result<Option<FieldStatement>, Refusal>
@@ -237,7 +237,7 @@ fn field_item(
 #[tactic(auto, unfolding(crate::specs::Nested::plain_field), using(crate::specs::Code::fails_first))]
 fn plain_field(
     alloc: Global,
-    tokens: &mut Cursor<'_, '_>,
+    tokens: &mut Cursor<'_>,
     levels: usize,
     place: Place,
     label: Option<Label>,
@@ -255,7 +255,7 @@ fn plain_field(
 #[tactic(auto, using(crate::specs::Code::fails_first, crate::proofs::FieldViews::views_plain))]
 fn map_field(
     alloc: Global,
-    tokens: &mut Cursor<'_, '_>,
+    tokens: &mut Cursor<'_>,
     levels: usize,
     inner: usize,
     place: Place,
@@ -273,7 +273,7 @@ fn map_field(
 #[tactic(auto, unfolding(crate::specs::Nested::after_type_parts), using(crate::specs::Code::fails_first))]
 fn after_type(
     alloc: Global,
-    tokens: &mut Cursor<'_, '_>,
+    tokens: &mut Cursor<'_>,
     levels: usize,
     place: Place,
     label: Option<Label>,
@@ -300,7 +300,7 @@ fn after_type(
 /// A type of at most so many levels.
 #[cycle(types)]
 #[tactic(auto, using(crate::specs::Fields::type_zero, crate::specs::Fields::type_more))]
-fn field_type(alloc: Global, tokens: &mut Cursor<'_, '_>, levels: usize) -> Result<Type, Refusal>
+fn field_type(alloc: Global, tokens: &mut Cursor<'_>, levels: usize) -> Result<Type, Refusal>
     ensures { Gives view.type_syntax result (left tokens.new)
         ((nest.type_ levels).run (left tokens.old)) }
 {
@@ -313,7 +313,7 @@ fn field_type(alloc: Global, tokens: &mut Cursor<'_, '_>, levels: usize) -> Resu
 /// `type = scalar | "map" "<" type "," type ">" | name`
 #[cycle(types)]
 #[tactic(auto, unfolding(crate::specs::Nested::type_of))]
-fn type_of(alloc: Global, tokens: &mut Cursor<'_, '_>, levels: usize) -> Result<Type, Refusal>
+fn type_of(alloc: Global, tokens: &mut Cursor<'_>, levels: usize) -> Result<Type, Refusal>
     ensures { Gives view.type_syntax result (left tokens.new)
         ((type_in levels).run (left tokens.old)) }
 {
@@ -329,7 +329,7 @@ fn type_of(alloc: Global, tokens: &mut Cursor<'_, '_>, levels: usize) -> Result<
 }
 
 /// The scalar type that comes next, if one does.
-fn scalar(tokens: &mut Cursor<'_, '_>) -> Option<Scalar>
+fn scalar(tokens: &mut Cursor<'_>) -> Option<Scalar>
     ensures { Finds grammar.scalars result (left tokens.old) (left tokens.new) }
 {
     match tokens.next_word() {
@@ -347,7 +347,7 @@ fn scalar(tokens: &mut Cursor<'_, '_>) -> Option<Scalar>
 /// `"map" "<" type "," type ">"`
 #[cycle(types)]
 #[tactic(auto, unfolding(crate::specs::Nested::map_of), using(crate::specs::Code::fails_first))]
-fn map(alloc: Global, tokens: &mut Cursor<'_, '_>, levels: usize) -> Result<Type, Refusal>
+fn map(alloc: Global, tokens: &mut Cursor<'_>, levels: usize) -> Result<Type, Refusal>
     ensures { Gives view.type_syntax result (left tokens.new)
         ((map_in levels).run (left tokens.old)) }
 {

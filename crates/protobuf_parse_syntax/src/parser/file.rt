@@ -26,7 +26,7 @@ use std::alloc::Global;
 /// `file = [ syntax ] { import | package | option | message | enum | extend | service | ";" }`.
 /// Tokens may be left behind it.
 #[tactic(auto, unfolding(crate::specs::Nested::file), using(crate::specs::Code::fails_first))]
-pub fn file(alloc: Global, tokens: &mut Cursor<'_, '_>, levels: usize) -> Result<FileTree, Refusal>
+pub fn file(alloc: Global, tokens: &mut Cursor<'_>, levels: usize) -> Result<FileTree, Refusal>
     ensures { GivesOr (NoVersion (left tokens.old)) view.file_syntax result (left tokens.new)
         ((nest.files levels).low.run (left tokens.old)) }
 {
@@ -37,7 +37,7 @@ pub fn file(alloc: Global, tokens: &mut Cursor<'_, '_>, levels: usize) -> Result
 
 /// `[ "syntax" "=" str ";" ]`; proto2 where it is absent.
 #[tactic(auto, unfolding(crate::specs::Productions::version_statement, crate::specs::Productions::syntax_parts), using(crate::specs::Code::fails_first))]
-fn version(alloc: Global, tokens: &mut Cursor<'_, '_>) -> Result<Syntax, Refusal>
+fn version(alloc: Global, tokens: &mut Cursor<'_>) -> Result<Syntax, Refusal>
     ensures { GivesOr (NoVersion (left tokens.old)) (λ s. s) result (left tokens.new)
         (read.version_statement.run (left tokens.old)) }
 {
@@ -53,7 +53,7 @@ fn version(alloc: Global, tokens: &mut Cursor<'_, '_>) -> Result<Syntax, Refusal
 
 /// The version that a string says: S15 at one that does not decode, S10 at any other text.
 #[tactic(auto, using(crate::specs::Code::fails_first))]
-fn said(alloc: Global, tokens: &mut Cursor<'_, '_>) -> Result<Syntax, Refusal>
+fn said(alloc: Global, tokens: &mut Cursor<'_>) -> Result<Syntax, Refusal>
     ensures { GivesOr (Unsaid of_version (left tokens.old)) (λ s. s) result (left tokens.new)
         (read.version.run (left tokens.old)) }
 {
@@ -72,7 +72,7 @@ fn said(alloc: Global, tokens: &mut Cursor<'_, '_>) -> Result<Syntax, Refusal>
 /// The statements of a file, up to the first token that begins none.
 fn file_statements(
     alloc: Global,
-    tokens: &mut Cursor<'_, '_>,
+    tokens: &mut Cursor<'_>,
     syntax: Syntax,
     levels: usize,
 ) -> Result<Vec<FileStatement>, Refusal>
@@ -91,7 +91,7 @@ fn file_statements(
 #[tactic(auto, unfolding(crate::specs::Nested::file_item), using(crate::specs::Code::fails_first))]
 fn file_item(
     alloc: Global,
-    tokens: &mut Cursor<'_, '_>,
+    tokens: &mut Cursor<'_>,
     syntax: Syntax,
     levels: usize,
 ) -> Result<Option<FileStatement>, Refusal>
@@ -109,7 +109,7 @@ fn file_item(
 #[tactic(auto, unfolding(crate::specs::Nested::file_statement), using(crate::specs::Code::fails_first))]
 fn file_statement(
     alloc: Global,
-    tokens: &mut Cursor<'_, '_>,
+    tokens: &mut Cursor<'_>,
     syntax: Syntax,
     levels: usize,
 ) -> Result<FileStatement, Refusal>
@@ -139,7 +139,7 @@ fn file_statement(
 
 /// `import = "import" [ "weak" | "public" ] str ";"`
 #[tactic(auto, unfolding(crate::specs::Productions::import_parts), using(crate::specs::Code::fails_first))]
-fn import(alloc: Global, tokens: &mut Cursor<'_, '_>) -> Result<Import, Refusal>
+fn import(alloc: Global, tokens: &mut Cursor<'_>) -> Result<Import, Refusal>
     ensures { Gives view.import_syntax result (left tokens.new)
         (read.imported.run (left tokens.old)) }
 {
@@ -153,7 +153,7 @@ fn import(alloc: Global, tokens: &mut Cursor<'_, '_>) -> Result<Import, Refusal>
 
 /// `[ "weak" | "public" ]`
 #[tactic(auto, unfolding(crate::specs::Productions::visibility), using(crate::specs::Code::fails_first))]
-fn visibility(tokens: &mut Cursor<'_, '_>) -> Result<ImportVis, Refusal>
+fn visibility(tokens: &mut Cursor<'_>) -> Result<ImportVis, Refusal>
     ensures { Gives (λ v. v) result (left tokens.new) (read.visibility.run (left tokens.old)) }
 {
     if tokens.sees_word("weak") {
@@ -169,7 +169,7 @@ fn visibility(tokens: &mut Cursor<'_, '_>) -> Result<ImportVis, Refusal>
 
 /// The proto path that a string says: S15 at one that does not decode, S19 at any other text.
 #[tactic(auto, using(crate::specs::Code::fails_first))]
-fn path(alloc: Global, tokens: &mut Cursor<'_, '_>) -> Result<ProtoPathBuf, Refusal>
+fn path(alloc: Global, tokens: &mut Cursor<'_>) -> Result<ProtoPathBuf, Refusal>
     ensures { GivesOr (Unsaid of_path (left tokens.old)) path_buf_text result (left tokens.new)
         (read.path.run (left tokens.old)) }
 {
@@ -186,7 +186,7 @@ fn path(alloc: Global, tokens: &mut Cursor<'_, '_>) -> Result<ProtoPathBuf, Refu
 
 /// `package = "package" ident { "." ident } ";"`
 #[tactic(auto, unfolding(crate::specs::Productions::package_name), using(crate::specs::Code::fails_first))]
-fn package(alloc: Global, tokens: &mut Cursor<'_, '_>) -> Result<Package, Refusal>
+fn package(alloc: Global, tokens: &mut Cursor<'_>) -> Result<Package, Refusal>
     ensures { Gives view.package_syntax result (left tokens.new)
         (read.package_name.run (left tokens.old)) }
 {

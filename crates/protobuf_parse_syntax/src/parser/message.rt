@@ -25,7 +25,7 @@ use std::alloc::Global;
 #[tactic(auto, using(crate::specs::Nested::message_zero, crate::specs::Nested::message_more))]
 pub fn message(
     alloc: Global,
-    tokens: &mut Cursor<'_, '_>,
+    tokens: &mut Cursor<'_>,
     syntax: Syntax,
     levels: usize,
 ) -> Result<Message, Refusal>
@@ -45,7 +45,7 @@ pub fn message(
 #[tactic(auto, using(crate::specs::Code::fails_first, crate::proofs::Versions::message_in_runs, crate::proofs::Messages::view_parts))]
 fn message_of(
     alloc: Global,
-    tokens: &mut Cursor<'_, '_>,
+    tokens: &mut Cursor<'_>,
     syntax: Syntax,
     levels: usize,
 ) -> Result<Message, Refusal>
@@ -67,7 +67,7 @@ fn message_of(
 #[cycle(message)]
 fn message_statements(
     alloc: Global,
-    tokens: &mut Cursor<'_, '_>,
+    tokens: &mut Cursor<'_>,
     syntax: Syntax,
     levels: usize,
 ) -> Result<Vec<MessageStatement>, Refusal>
@@ -87,7 +87,7 @@ fn message_statements(
 #[tactic(auto, using(crate::specs::Code::fails_first, crate::proofs::Versions::message_item_runs))]
 fn message_item(
     alloc: Global,
-    tokens: &mut Cursor<'_, '_>,
+    tokens: &mut Cursor<'_>,
     syntax: Syntax,
     levels: usize,
 ) -> Result<Option<MessageStatement>, Refusal>
@@ -106,7 +106,7 @@ fn message_item(
 #[cycle(message)]
 fn message_statement(
     alloc: Global,
-    tokens: &mut Cursor<'_, '_>,
+    tokens: &mut Cursor<'_>,
     syntax: Syntax,
     levels: usize,
 ) -> Result<MessageStatement, Refusal>
@@ -141,7 +141,7 @@ fn message_statement(
 #[tactic(auto, unfolding(crate::specs::Nested::oneof_pair), using(crate::specs::Code::fails_first))]
 fn oneof(
     alloc: Global,
-    tokens: &mut Cursor<'_, '_>,
+    tokens: &mut Cursor<'_>,
     syntax: Syntax,
     levels: usize,
 ) -> Result<OneOf, Refusal>
@@ -162,7 +162,7 @@ fn oneof(
 /// The statements of a oneof, up to the first token that begins none.
 fn oneof_statements(
     alloc: Global,
-    tokens: &mut Cursor<'_, '_>,
+    tokens: &mut Cursor<'_>,
     syntax: Syntax,
     levels: usize,
 ) -> Result<Vec<OneOfStatement>, Refusal>
@@ -181,7 +181,7 @@ fn oneof_statements(
 #[tactic(auto, unfolding(crate::specs::Nested::oneof_item, crate::specs::Nested::oneof_statement), using(crate::specs::Code::fails_first))]
 fn oneof_item(
     alloc: Global,
-    tokens: &mut Cursor<'_, '_>,
+    tokens: &mut Cursor<'_>,
     syntax: Syntax,
     levels: usize,
 ) -> Result<Option<OneOfStatement>, Refusal>
@@ -204,7 +204,7 @@ fn oneof_item(
 #[tactic(auto, unfolding(crate::specs::Nested::extend_pair), using(crate::specs::Code::fails_first))]
 pub fn extend(
     alloc: Global,
-    tokens: &mut Cursor<'_, '_>,
+    tokens: &mut Cursor<'_>,
     syntax: Syntax,
     levels: usize,
 ) -> Result<Extend, Refusal>

@@ -13,7 +13,7 @@ use std::alloc::Global;
 
 /// `ident { "." ident }`, without blanks.
 #[tactic(auto, unfolding(crate::specs::Productions::dotted), using(crate::specs::Code::fails_first))]
-pub fn dotted(alloc: Global, tokens: &mut Cursor<'_, '_>) -> Result<String, Refusal>
+pub fn dotted(alloc: Global, tokens: &mut Cursor<'_>) -> Result<String, Refusal>
     ensures { Gives string_bytes result (left tokens.new) (read.dotted.run (left tokens.old)) }
 {
     let mut name = tokens.ident(alloc)?;
@@ -27,7 +27,7 @@ pub fn dotted(alloc: Global, tokens: &mut Cursor<'_, '_>) -> Result<String, Refu
 
 /// `"." ident`
 #[tactic(auto, using(crate::specs::Code::fails_first))]
-fn dot_ident<'text>(tokens: &mut Cursor<'_, 'text>) -> Result<&'text str, Refusal>
+fn dot_ident<'text>(tokens: &mut Cursor<'text>) -> Result<&'text str, Refusal>
     ensures { Gives (λ z. z.now) result (left tokens.new) (read.dot_ident.run (left tokens.old)) }
 {
     tokens.symbol('.')?;
@@ -36,7 +36,7 @@ fn dot_ident<'text>(tokens: &mut Cursor<'_, 'text>) -> Result<&'text str, Refusa
 
 /// `name = [ "." ] ident { "." ident }`, without blanks.
 #[tactic(auto, unfolding(crate::specs::Productions::name, crate::specs::Productions::root), using(crate::specs::Code::fails_first))]
-pub fn name(alloc: Global, tokens: &mut Cursor<'_, '_>) -> Result<String, Refusal>
+pub fn name(alloc: Global, tokens: &mut Cursor<'_>) -> Result<String, Refusal>
     ensures { Gives string_bytes result (left tokens.new) (read.name.run (left tokens.old)) }
 {
     if !tokens.sees_symbol('.') {
@@ -51,7 +51,7 @@ pub fn name(alloc: Global, tokens: &mut Cursor<'_, '_>) -> Result<String, Refusa
 
 /// `str = string token { string token }`
 #[tactic(auto, unfolding(crate::specs::Productions::str), using(crate::specs::Code::fails_first))]
-pub fn string(alloc: Global, tokens: &mut Cursor<'_, '_>) -> Result<StrLit, Refusal>
+pub fn string(alloc: Global, tokens: &mut Cursor<'_>) -> Result<StrLit, Refusal>
     ensures { Gives pieces_of result (left tokens.new) (read.str.run (left tokens.old)) }
 {
     let mut pieces = Vec::with_capacity(alloc, 1)?;
@@ -65,7 +65,7 @@ pub fn string(alloc: Global, tokens: &mut Cursor<'_, '_>) -> Result<StrLit, Refu
 
 /// The text that a string stands for. S15 at the string where it stands for none.
 #[tactic(auto, unfolding(crate::specs::Productions::reserved_name), using(crate::specs::Code::fails_first))]
-pub fn text(alloc: Global, tokens: &mut Cursor<'_, '_>) -> Result<String, Refusal>
+pub fn text(alloc: Global, tokens: &mut Cursor<'_>) -> Result<String, Refusal>
     ensures { GivesOr (Unsaid of_text (left tokens.old)) string_bytes result (left tokens.new)
         (read.reserved_name.run (left tokens.old)) }
 {

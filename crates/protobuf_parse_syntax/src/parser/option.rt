@@ -30,7 +30,7 @@ const MAX_OTHER_PARTS: usize = 99;
 #[tactic(auto, unfolding(crate::specs::Nested::option_parts))]
 pub fn option(
     alloc: Global,
-    tokens: &mut Cursor<'_, '_>,
+    tokens: &mut Cursor<'_>,
     levels: usize,
 ) -> Result<OptionStatement, Refusal>
     ensures { Gives view.option_statement_syntax result (left tokens.new)
@@ -47,7 +47,7 @@ pub fn option(
 #[tactic(auto, unfolding(crate::specs::Nested::options_pair))]
 pub fn options(
     alloc: Global,
-    tokens: &mut Cursor<'_, '_>,
+    tokens: &mut Cursor<'_>,
     levels: usize,
 ) -> Result<Vec<ProtobufOption>, Refusal>
     ensures { GivesOr (LongBehind (IsListFront levels) (left tokens.old))
@@ -64,7 +64,7 @@ pub fn options(
 #[tactic(auto, unfolding(crate::specs::Nested::bracket_parts))]
 fn bracketed_options(
     alloc: Global,
-    tokens: &mut Cursor<'_, '_>,
+    tokens: &mut Cursor<'_>,
     levels: usize,
 ) -> Result<Vec<ProtobufOption>, Refusal>
     ensures { GivesOr (LongBehind (IsListFront levels) (left tokens.old))
@@ -79,7 +79,7 @@ fn bracketed_options(
 
 fn assignments(
     alloc: Global,
-    tokens: &mut Cursor<'_, '_>,
+    tokens: &mut Cursor<'_>,
     levels: usize,
 ) -> Result<Vec<ProtobufOption>, Refusal>
     ensures { GivesOr (LongBehind (AreEarlier levels) (left tokens.old))
@@ -98,7 +98,7 @@ fn assignments(
 /// `"," optname "=" constant`
 fn comma_assignment(
     alloc: Global,
-    tokens: &mut Cursor<'_, '_>,
+    tokens: &mut Cursor<'_>,
     levels: usize,
 ) -> Result<ProtobufOption, Refusal>
     ensures { GivesOr (LongBehind IsCommaAlone (left tokens.old)) view.option_syntax result
@@ -112,7 +112,7 @@ fn comma_assignment(
 #[tactic(auto, unfolding(crate::specs::Nested::assignment), using(crate::specs::Code::fails_first))]
 fn assignment(
     alloc: Global,
-    tokens: &mut Cursor<'_, '_>,
+    tokens: &mut Cursor<'_>,
     levels: usize,
 ) -> Result<ProtobufOption, Refusal>
     ensures { GivesOr (LongName (left tokens.old)) view.option_syntax result (left tokens.new)
@@ -126,7 +126,7 @@ fn assignment(
 
 /// `optname = optpart { "." optpart }`, of at most 100 parts
 #[tactic(auto, unfolding(crate::specs::Productions::option_name_parts), using(crate::specs::Code::fails_first))]
-fn option_name(alloc: Global, tokens: &mut Cursor<'_, '_>) -> Result<ProtobufOptionName, Refusal>
+fn option_name(alloc: Global, tokens: &mut Cursor<'_>) -> Result<ProtobufOptionName, Refusal>
     ensures { GivesOr (LongName (left tokens.old)) view.option_name_syntax result (left tokens.new)
         (read.option_name.run (left tokens.old)) }
 {
@@ -147,7 +147,7 @@ fn option_name(alloc: Global, tokens: &mut Cursor<'_, '_>) -> Result<ProtobufOpt
 /// The first part and `{ "." optpart }` behind it.
 fn parts(
     alloc: Global,
-    tokens: &mut Cursor<'_, '_>,
+    tokens: &mut Cursor<'_>,
     first: ProtobufOptionNamePart,
 ) -> Result<Vec<ProtobufOptionNamePart>, Refusal>
     ensures { GivesOr TooMany (λ v. map view.option_part_syntax v.items) result (left tokens.new)
@@ -170,7 +170,7 @@ fn parts(
 
 /// `"." optpart`
 #[tactic(auto, unfolding(crate::specs::Productions::next_part), using(crate::specs::Code::fails_first))]
-fn next_part(alloc: Global, tokens: &mut Cursor<'_, '_>) -> Result<ProtobufOptionNamePart, Refusal>
+fn next_part(alloc: Global, tokens: &mut Cursor<'_>) -> Result<ProtobufOptionNamePart, Refusal>
     ensures { Gives view.option_part_syntax result (left tokens.new)
         (read.next_part.run (left tokens.old)) }
 {
@@ -180,7 +180,7 @@ fn next_part(alloc: Global, tokens: &mut Cursor<'_, '_>) -> Result<ProtobufOptio
 
 /// That no part follows the 100th. S7 at the first token of another part, S8 at a dot with no part
 /// behind it.
-fn no_more_parts(tokens: &mut Cursor<'_, '_>) -> Result<(), Refusal>
+fn no_more_parts(tokens: &mut Cursor<'_>) -> Result<(), Refusal>
     ensures { GivesOr TooMany (λ u. []) result (left tokens.new)
         ((read.parts_up_to 0).run (left tokens.old)) }
 {
@@ -198,7 +198,7 @@ fn no_more_parts(tokens: &mut Cursor<'_, '_>) -> Result<(), Refusal>
 
 /// Whether a part of an option's name comes next.
 #[tactic(auto, unfolding(protobuf_parse_base::specs::Readers::starts))]
-fn begins_option_part(tokens: &Cursor<'_, '_>) -> bool
+fn begins_option_part(tokens: &Cursor<'_>) -> bool
     ensures { result ≡ begins_part (left tokens.now) }
 {
     tokens.sees_ident() || tokens.sees_symbol('(')
@@ -206,10 +206,7 @@ fn begins_option_part(tokens: &Cursor<'_, '_>) -> bool
 
 /// `optpart = ident | "(" name ")"`
 #[tactic(auto, unfolding(crate::specs::Productions::option_part), using(crate::specs::Code::fails_first))]
-fn option_part(
-    alloc: Global,
-    tokens: &mut Cursor<'_, '_>,
-) -> Result<ProtobufOptionNamePart, Refusal>
+fn option_part(alloc: Global, tokens: &mut Cursor<'_>) -> Result<ProtobufOptionNamePart, Refusal>
     ensures { Gives view.option_part_syntax result (left tokens.new)
         (read.option_part.run (left tokens.old)) }
 {
@@ -226,7 +223,7 @@ fn option_part(
 #[tactic(auto, unfolding(crate::specs::Nested::option_body), using(crate::specs::Code::fails_first))]
 pub fn option_body(
     alloc: Global,
-    tokens: &mut Cursor<'_, '_>,
+    tokens: &mut Cursor<'_>,
     levels: usize,
 ) -> Result<Vec<OptionStatement>, Refusal>
     ensures { Gives (λ v. map view.option_statement_syntax v.items) result (left tokens.new)
@@ -241,7 +238,7 @@ pub fn option_body(
 #[tactic(auto, unfolding(crate::specs::Nested::option_items))]
 fn option_statements(
     alloc: Global,
-    tokens: &mut Cursor<'_, '_>,
+    tokens: &mut Cursor<'_>,
     levels: usize,
 ) -> Result<Vec<OptionStatement>, Refusal>
     ensures { Gives (λ v. map view.option_statement_syntax v.items) result (left tokens.new)
@@ -256,7 +253,7 @@ fn option_statements(
 }
 
 #[tactic(auto, using(crate::proofs::Left::starts_more))]
-fn begins_option_item(tokens: &Cursor<'_, '_>) -> bool
+fn begins_option_item(tokens: &Cursor<'_>) -> bool
     ensures { result ≡ starts lexicon
         (class.symbol char.semicolon ∷ class.word (codes "option") ∷ []) (left tokens.now) }
 {
@@ -267,7 +264,7 @@ fn begins_option_item(tokens: &Cursor<'_, '_>) -> bool
 #[tactic(auto, unfolding(crate::specs::Nested::option_item), using(crate::specs::Code::fails_first))]
 fn option_item(
     alloc: Global,
-    tokens: &mut Cursor<'_, '_>,
+    tokens: &mut Cursor<'_>,
     levels: usize,
 ) -> Result<Option<OptionStatement>, Refusal>
     ensures { Gives (seen_by view.option_statement_syntax) result (left tokens.new)

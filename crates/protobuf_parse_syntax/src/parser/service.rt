@@ -20,7 +20,7 @@ use std::alloc::Global;
 #[tactic(auto, using(crate::specs::Code::fails_first, crate::proofs::Versions::service_runs))]
 pub fn service(
     alloc: Global,
-    tokens: &mut Cursor<'_, '_>,
+    tokens: &mut Cursor<'_>,
     syntax: Syntax,
     levels: usize,
 ) -> Result<Service, Refusal>
@@ -39,7 +39,7 @@ pub fn service(
 /// The statements of a service, up to the first token that begins none.
 fn service_statements(
     alloc: Global,
-    tokens: &mut Cursor<'_, '_>,
+    tokens: &mut Cursor<'_>,
     syntax: Syntax,
     levels: usize,
 ) -> Result<Vec<ServiceStatement>, Refusal>
@@ -58,7 +58,7 @@ fn service_statements(
 #[tactic(auto, using(crate::specs::Code::fails_first, crate::proofs::Versions::service_item_runs))]
 fn service_item(
     alloc: Global,
-    tokens: &mut Cursor<'_, '_>,
+    tokens: &mut Cursor<'_>,
     syntax: Syntax,
     levels: usize,
 ) -> Result<Option<ServiceStatement>, Refusal>
@@ -76,7 +76,7 @@ fn service_item(
 #[tactic(auto, using(crate::specs::Code::fails_first, crate::proofs::Versions::service_statement_runs))]
 fn service_statement(
     alloc: Global,
-    tokens: &mut Cursor<'_, '_>,
+    tokens: &mut Cursor<'_>,
     syntax: Syntax,
     levels: usize,
 ) -> Result<ServiceStatement, Refusal>
@@ -94,7 +94,7 @@ fn service_statement(
 
 /// `rpc = "rpc" ident "(" [ "stream" ] name ")" "returns" "(" [ "stream" ] name ")" end`
 #[tactic(auto, unfolding(crate::specs::Nested::rpc), using(crate::specs::Code::fails_first))]
-fn rpc(alloc: Global, tokens: &mut Cursor<'_, '_>, levels: usize) -> Result<Method, Refusal>
+fn rpc(alloc: Global, tokens: &mut Cursor<'_>, levels: usize) -> Result<Method, Refusal>
     ensures { Gives view.method_syntax result (left tokens.new)
         ((nest.rpc levels).low.run (left tokens.old)) }
 {
@@ -118,7 +118,7 @@ fn rpc(alloc: Global, tokens: &mut Cursor<'_, '_>, levels: usize) -> Result<Meth
 
 /// `"(" [ "stream" ] name ")"`: whether the word stands there, and the name.
 #[tactic(auto, unfolding(crate::specs::Productions::streamed), using(crate::specs::Code::fails_first))]
-fn streamed(alloc: Global, tokens: &mut Cursor<'_, '_>) -> Result<(bool, String), Refusal>
+fn streamed(alloc: Global, tokens: &mut Cursor<'_>) -> Result<(bool, String), Refusal>
     ensures { Gives (λ s. (s.0, string_bytes s.1)) result (left tokens.new)
         (read.streamed.run (left tokens.old)) }
 {
@@ -134,7 +134,7 @@ fn streamed(alloc: Global, tokens: &mut Cursor<'_, '_>) -> Result<(bool, String)
 
 /// `stream = "stream" ident "(" name "," name ")" end`
 #[tactic(auto, unfolding(crate::specs::Nested::stream), using(crate::specs::Code::fails_first))]
-fn stream(alloc: Global, tokens: &mut Cursor<'_, '_>, levels: usize) -> Result<Method, Refusal>
+fn stream(alloc: Global, tokens: &mut Cursor<'_>, levels: usize) -> Result<Method, Refusal>
     ensures { Gives view.method_syntax result (left tokens.new)
         ((nest.stream levels).low.run (left tokens.old)) }
 {
@@ -162,7 +162,7 @@ fn stream(alloc: Global, tokens: &mut Cursor<'_, '_>, levels: usize) -> Result<M
 #[tactic(auto, unfolding(crate::specs::Nested::method_end), using(crate::specs::Code::fails_first))]
 fn method_end(
     alloc: Global,
-    tokens: &mut Cursor<'_, '_>,
+    tokens: &mut Cursor<'_>,
     levels: usize,
 ) -> Result<Vec<OptionStatement>, Refusal>
     ensures { Gives (λ v. map view.option_statement_syntax v.items) result (left tokens.new)

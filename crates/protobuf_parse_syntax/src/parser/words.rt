@@ -103,7 +103,7 @@ fn word_begins_field(word: &str, syntax: Syntax) -> bool
 /// Whether a field of a message, a group or an `extend` begins with the next token.
 #[inline(always)]
 #[tactic(auto, using(crate::proofs::Words::word_starts, crate::proofs::Words::signs_start, crate::proofs::Words::nothing_starts))]
-pub fn begins_field(tokens: &Cursor<'_, '_>, syntax: Syntax) -> bool
+pub fn begins_field(tokens: &Cursor<'_>, syntax: Syntax) -> bool
     ensures { result ≡ starts lexicon (nest.field_firsts syntax) (left tokens.now) }
 {
     match tokens.next_word() {
@@ -117,7 +117,7 @@ pub fn begins_field(tokens: &Cursor<'_, '_>, syntax: Syntax) -> bool
 
 /// Whether a field of a message, a group or an `extend`, or a semicolon, comes next.
 #[tactic(auto, using(crate::proofs::Words::semicolon_or))]
-pub fn begins_field_item(tokens: &Cursor<'_, '_>, syntax: Syntax) -> bool
+pub fn begins_field_item(tokens: &Cursor<'_>, syntax: Syntax) -> bool
     ensures { result ≡ starts lexicon (class.symbol char.semicolon ∷ nest.field_firsts syntax)
         (left tokens.now) }
 {
@@ -133,7 +133,7 @@ fn word_begins_no_oneof_field(word: &str) -> bool
 
 /// Whether a word with which no field of a oneof begins comes next.
 #[tactic(auto, using(crate::proofs::Words::signs_start, crate::proofs::Words::nothing_starts))]
-pub fn begins_no_oneof_field(tokens: &Cursor<'_, '_>) -> bool
+pub fn begins_no_oneof_field(tokens: &Cursor<'_>) -> bool
     ensures { result ≡ starts lexicon (class.words nest.no_oneof_words) (left tokens.now) }
 {
     match tokens.next_word() {
@@ -152,7 +152,7 @@ fn word_begins_oneof_statement(word: &str) -> bool
 
 /// Whether a statement of a oneof begins with the next token.
 #[tactic(auto, using(crate::proofs::Words::signs_start, crate::proofs::Words::either_starts))]
-pub fn begins_oneof_statement(tokens: &Cursor<'_, '_>) -> bool
+pub fn begins_oneof_statement(tokens: &Cursor<'_>) -> bool
     ensures { result ≡ starts lexicon (nest.oneof_firsts) (left tokens.now) }
 {
     match tokens.next_word() {
@@ -173,7 +173,7 @@ fn word_begins_message_statement(word: &str, syntax: Syntax) -> bool
 
 /// Whether a statement of a message begins with the next token.
 #[tactic(auto, using(crate::proofs::Words::signs_start, crate::proofs::Words::either_starts))]
-pub fn begins_message_statement(tokens: &Cursor<'_, '_>, syntax: Syntax) -> bool
+pub fn begins_message_statement(tokens: &Cursor<'_>, syntax: Syntax) -> bool
     ensures { result ≡ starts lexicon (class.symbol char.semicolon ∷ nest.statement_firsts syntax)
         (left tokens.now) }
 {
@@ -198,7 +198,7 @@ fn word_begins_service_statement(word: &str, syntax: Syntax) -> bool
 
 /// Whether a statement of a service begins with the next token.
 #[tactic(auto, using(crate::proofs::Words::signs_start))]
-pub fn begins_service_statement(tokens: &Cursor<'_, '_>, syntax: Syntax) -> bool
+pub fn begins_service_statement(tokens: &Cursor<'_>, syntax: Syntax) -> bool
     ensures { result ≡ starts lexicon (class.symbol char.semicolon ∷ nest.service_firsts syntax)
         (left tokens.now) }
 {
@@ -220,7 +220,7 @@ fn word_begins_file_statement(word: &str) -> bool
 
 /// Whether a statement of a file begins with the next token.
 #[tactic(auto, using(crate::proofs::Words::signs_start))]
-pub fn begins_file_statement(tokens: &Cursor<'_, '_>) -> bool
+pub fn begins_file_statement(tokens: &Cursor<'_>) -> bool
     ensures { result ≡ starts lexicon (class.symbol char.semicolon ∷ nest.file_firsts)
         (left tokens.now) }
 {
@@ -232,7 +232,7 @@ pub fn begins_file_statement(tokens: &Cursor<'_, '_>) -> bool
 
 /// Why no field begins with the next token: S11 at a label that is not allowed, S12 where a label
 /// lacks, else S8.
-pub fn field_fault(tokens: &Cursor<'_, '_>, syntax: Syntax) -> ParserError
+pub fn field_fault(tokens: &Cursor<'_>, syntax: Syntax) -> ParserError
     ensures { AtOneToken result }
 {
     match tokens.next_word() {
@@ -251,7 +251,7 @@ pub fn field_fault(tokens: &Cursor<'_, '_>, syntax: Syntax) -> ParserError
 }
 
 /// Why no statement of an `extend` begins with the next token.
-pub fn extend_fault(tokens: &Cursor<'_, '_>, syntax: Syntax) -> ParserError
+pub fn extend_fault(tokens: &Cursor<'_>, syntax: Syntax) -> ParserError
     ensures { AtOneToken result }
 {
     field_fault(tokens, syntax)
@@ -259,7 +259,7 @@ pub fn extend_fault(tokens: &Cursor<'_, '_>, syntax: Syntax) -> ParserError
 
 /// Why no statement of a group begins with the next token: S16 at `oneof`, S17 at the word of
 /// another statement, else as for a field.
-pub fn group_fault(tokens: &Cursor<'_, '_>, syntax: Syntax) -> ParserError
+pub fn group_fault(tokens: &Cursor<'_>, syntax: Syntax) -> ParserError
     ensures { AtOneToken result }
 {
     match tokens.next_word() {
@@ -270,7 +270,7 @@ pub fn group_fault(tokens: &Cursor<'_, '_>, syntax: Syntax) -> ParserError
 }
 
 /// Why no statement of a oneof begins with the next token: S11 at a label, S14 at `map`, else S8.
-pub fn oneof_fault(tokens: &Cursor<'_, '_>) -> ParserError
+pub fn oneof_fault(tokens: &Cursor<'_>) -> ParserError
     ensures { AtOneToken result }
 {
     match tokens.next_word() {

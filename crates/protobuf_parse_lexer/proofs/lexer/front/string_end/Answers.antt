@@ -1,6 +1,6 @@
 use Rattle.std.proofs.Common.{rules, arith}
 use Rattle.std.proofs.lemmas.Grind.{common_steps}
-use Rattle.protobuf_parse_lexer.proofs.Front.{string_answer}
+use Rattle.protobuf_parse_lexer.specs.Front.{string_answer}
 use Rattle.protobuf_parse_lexer.proofs.lexer.front.string_end.Goals as goal
 
 pub returns : goal.returns

@@ -1,5 +1,5 @@
 use Rattle.std.proofs.Common.{sym}
-use Rattle.protobuf_parse_lexer.proofs.Front.{long_ident}
+use Rattle.protobuf_parse_lexer.specs.Front.{long_ident}
 use Rattle.protobuf_parse_lexer.proofs.lexer.front.token_piece.Goals as goal
 
 pub returns-then-is_in-3 : goal.returns-then-is_in-3

@@ -1,6 +1,6 @@
 use Rattle.std.proofs.Common.{arith, ap, ◌*◌}
 use Rattle.std.proofs.lemmas.Int.Digits.{digits_value_more}
-use Rattle.protobuf_parse_lexer.proofs.Front.{value_so_far}
+use Rattle.protobuf_parse_lexer.specs.Front.{value_so_far}
 use Rattle.protobuf_parse_lexer.proofs.lexer.number.digits_value.Goals as goal
 
 pub returns-in_default : goal.returns-in_default

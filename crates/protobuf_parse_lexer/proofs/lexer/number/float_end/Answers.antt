@@ -1,5 +1,5 @@
 use Rattle.std.proofs.Common.{arith, inl, inr}
-use Rattle.protobuf_parse_lexer.proofs.Front.{exponent_float, plain_float, no_float}
+use Rattle.protobuf_parse_lexer.specs.Front.{exponent_float, plain_float, no_float}
 use Rattle.protobuf_parse_lexer.proofs.lexer.number.float_end.Goals as goal
 use Rattle.protobuf_parse_lexer.proofs.lexer.number.float_end.Goals.{else-whole-eq0-via-then-whole-eq0+else-point-le1}
 use Rattle.protobuf_parse_lexer.proofs.lexer.number.float_end.Goals.{else-whole-eq0-via-else-whole-eq0}

@@ -1,5 +1,5 @@
 use Rattle.std.proofs.Common.{sym, ◌∙◌, arith, inr}
-use Rattle.protobuf_parse_lexer.proofs.Front.{long_float}
+use Rattle.protobuf_parse_lexer.specs.Front.{long_float}
 use Rattle.protobuf_parse_lexer.proofs.lexer.number.float_piece.Goals as goal
 use Rattle.protobuf_parse_lexer.proofs.lexer.number.float_piece.Goals.{else-end-text-via-then-end-text+else-is_in}
 use Rattle.protobuf_parse_lexer.proofs.lexer.number.float_piece.Goals.{else-end-text-via-else-end-text}

@@ -1,6 +1,6 @@
 use Rattle.std.proofs.Common.{arith, refl, sym, ◌∙◌}
 use Rattle.protobuf_parse_lexer.specs.Escapes.{in_range}
-use Rattle.protobuf_parse_lexer.proofs.Front.{number_from_integer}
+use Rattle.protobuf_parse_lexer.specs.Front.{number_from_integer}
 use Rattle.protobuf_parse_lexer.proofs.lexer.number.integer_piece.Goals as goal
 use Rattle.protobuf_parse_lexer.proofs.lexer.number.integer_piece.Goals.{else-end-text-via-then-end-text+else-is_in}
 use Rattle.protobuf_parse_lexer.proofs.lexer.number.integer_piece.Goals.{else-end-text-via-else-end-text}

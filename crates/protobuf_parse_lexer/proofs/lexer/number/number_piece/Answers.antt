@@ -1,4 +1,4 @@
-use Rattle.protobuf_parse_lexer.proofs.Front.{long_hex, long_decimal, long_octal, digit_begins}
+use Rattle.protobuf_parse_lexer.specs.Front.{long_hex, long_decimal, long_octal, digit_begins}
 use Rattle.protobuf_parse_lexer.proofs.lexer.number.number_piece.Goals as goal
 
 pub integer_piece-requires-clause-longest : goal.integer_piece-requires-clause-longest

@@ -1,3 +1,4 @@
+-- No public clause rests on this file.
 -- What the scanners' answers say of the front of a text.
 use Rattle.std.proofs.Common.{MatchOption, length-drop, ◌||◌, ◌≡◌, ℕ, zero, suc, ◌+◌, ◌-◌, ◌*◌, ◌<◌}
 use Rattle.std.proofs.Common.{◌≤◌, Bool, true, false, eqb, List, [], ◌∷◌, length, take, drop}
@@ -50,7 +51,7 @@ quote_is_no_digit : (b : ℕ) → IsQuote b → is_in class.Digit b ≡ true →
 quote_is_no_digit b (inl e) h = false≢true (subst (λ x. is_in class.Digit x ≡ true) e h)
 quote_is_no_digit b (inr e) h = false≢true (subst (λ x. is_in class.Digit x ≡ true) e h)
 
-quote_is_no_ident : (b : ℕ) → IsQuote b → is_in class.Ident b ≡ true → ⊥
+pub quote_is_no_ident : (b : ℕ) → IsQuote b → is_in class.Ident b ≡ true → ⊥
 quote_is_no_ident b (inl e) h = false≢true (subst (λ x. is_in class.Ident x ≡ true) e h)
 quote_is_no_ident b (inr e) h = false≢true (subst (λ x. is_in class.Ident x ≡ true) e h)
 
@@ -116,7 +117,7 @@ number_first z m (inr (inl h)) = inl (zero_is_digit _ h.first)
 number_first z m (inr (inr (inl h))) = inl (zero_is_digit _ h.first)
 number_first z m (inr (inr (inr f))) = float_first z m f
 
-begins_no_quote : (z : Bytes) → BeginsNumber z → IsQuote (slice_index z 0) → ⊥
+pub begins_no_quote : (z : Bytes) → BeginsNumber z → IsQuote (slice_index z 0) → ⊥
 begins_no_quote z (inl h) q = quote_is_no_digit _ q h
 begins_no_quote z (inr h) q = point_no_quote _ h.0 q
 
@@ -416,7 +417,7 @@ module _ (z : Bytes) (whole point : ℕ) (each : AllIn class.Digit z 0 whole)
             [ inl b ↦ omega (arith, x.some) | inr b ↦ omega (arith, x.some, b.0) ]
       ]
 
-  same_whole : (n : ℕ) (f : IsFloat z n) → f.whole ≡ whole
+  pub same_whole : (n : ℕ) (f : IsFloat z n) → f.whole ≡ whole
   same_whole n f =
       elim (cases_lt whole f.whole) [
         | inl more ↦ absurd
@@ -432,7 +433,7 @@ module _ (z : Bytes) (whole point : ℕ) (each : AllIn class.Digit z 0 whole)
   after_it : whole ≤ point
   after_it = elim fraction.ends [ inl q ↦ omega (arith, q.0) | inr q ↦ omega (arith, q.1) ]
 
-  below : (n : ℕ) (f : IsFloat z n) → f.point ≤ point
+  pub below : (n : ℕ) (f : IsFloat z n) → f.point ≤ point
   below n f =
       let e = same_whole n f in
       let inside = within_float n f in

@@ -1,0 +1,237 @@
+//! Tokens that are cut one by one.
+
+ghost use Rattle.std.specs.Prelude.{◌≡◌, ◌≤◌, ◌<◌, ◌+◌, ◌-◌, ◌^◌, ◌⊎◌, ℕ, length, true, false};
+ghost use Rattle.std.specs.Prelude.{IfOk, IfErr, MatchOption, slice_index};
+ghost use Rattle.protobuf_parse_base.specs.Characters as char;
+ghost use Rattle.protobuf_parse_lexer.specs.Text.{IsBlank};
+ghost use Rattle.protobuf_parse_lexer.specs.Ahead as ahead;
+ghost use Rattle.protobuf_parse_lexer.specs.Classes as class;
+ghost use Rattle.protobuf_parse_lexer.specs.Tokens as tokens;
+
+use crate::error::{ParserError, ParserErrorWithLocation};
+use crate::lexer::bytes::{ByteClass, is_in};
+use crate::lexer::depth::MAX_DEPTH;
+use crate::lexer::front::{Piece, front_piece};
+use crate::lexer::place::{located, place_after, place_past};
+use crate::lexer::token::{Place, TokenKind};
+use crate::lexer::{MAX_TEXT_LEN, past_mark};
+
+/// The place of the end where a text goes on with what is no token.
+const NOWHERE: Place = Place { line: 0, col: 0 };
+
+/// How many brackets were opened and closed.
+#[derive(Clone, Copy)]
+struct Brackets {
+    opened: usize,
+    closed: usize,
+}
+
+/// A token of which the kind is known.
+#[derive(Clone, Copy)]
+pub struct NextToken<'text> {
+    pub kind: TokenKind,
+    /// The part of the text that the token is; a string's has its quotes.
+    pub text: &'text str,
+    /// Where its first character stands.
+    pub place: Place,
+}
+
+impl<'text> NextToken<'text> {
+    /// Whether the token is an identifier.
+    #[inline(always)]
+    pub fn is_ident(&self) -> bool
+        ensures { result ≡ class.is_ident_token self.now.kind }
+    {
+        matches!(self.kind, TokenKind::Ident)
+    }
+
+    /// Whether the token is a string.
+    #[inline(always)]
+    pub fn is_str(&self) -> bool
+        ensures { result ≡ class.is_string self.now.kind }
+    {
+        matches!(self.kind, TokenKind::Str)
+    }
+
+    /// Whether the token is this symbol.
+    #[inline(always)]
+    pub fn is_symbol(&self, symbol: char) -> bool
+        ensures { result ≡ class.is_symbol_token symbol self.now.kind }
+    {
+        match self.kind {
+            TokenKind::Symbol(it) => it == symbol,
+            _ => false,
+        }
+    }
+}
+
+/// The tokens of a text, each of which is cut when the one before it is read. They go on to the end
+/// of the text, to its first fault, or to the first bracket that is the 101st inside one another.
+#[derive(Clone, Copy)]
+pub struct Tokenizer<'text> {
+    /// The next token, if one is left.
+    pub next: Option<NextToken<'text>>,
+    /// The place behind it. Where none is left it is the place of the text's end, or 0:0 if the
+    /// tokens don't go on to there.
+    pub after: Place,
+    rest: &'text str,
+    brackets: Brackets,
+    ghost lines: { after.line + length rest.now ≤ 2147483648 },
+    ghost cols: { after.col + length rest.now ≤ 2147483648 },
+    ghost opens: { brackets.opened + length rest.now ≤ 2147483647 },
+    ghost closes: { brackets.closed + length rest.now ≤ 2147483647 },
+}
+
+impl<'text> Tokenizer<'text> {
+    ghost use Rattle.protobuf_parse_lexer.specs.Ahead.{ahead, behind, ends_at, nowhere};
+    ghost use Rattle.protobuf_parse_lexer.specs.Cut.{Stream, HasTokens, IsRefused, error_place};
+    ghost use Rattle.protobuf_parse_lexer.specs.Tokenizers.{lies_ahead};
+
+    /// The tokens of a text. S20 at 1:1 if it has over 2147483647 bytes.
+    pub fn new(text: &'text str) -> Result<Tokenizer<'text>, ParserErrorWithLocation>
+        // They are the text's tokens, unless it is refused, and then their end is nowhere.
+        ensures read { IfOk result (λ t. ((lies_ahead t).end ≡ nowhere)
+            ⊎ HasTokens text.now (lies_ahead t)) }
+        ensures reads { IfOk result (λ t. (s : Stream) → HasTokens text.now s → lies_ahead t ≡ s) }
+
+        // There are no more of them than bytes.
+        ensures few { IfOk result (λ t. length (lies_ahead t).tokens ≤ length text.now) }
+
+        // What is too long is refused.
+        ensures refused { IfErr result (λ e. IsRefused text.now e.error (error_place e)) }
+    {
+        let start = Place { line: 1, col: 1 };
+        if text.len() > MAX_TEXT_LEN {
+            return Err(located(ParserError::TextTooLong, start));
+        }
+        let mut tokens = Tokenizer {
+            next: None,
+            after: start,
+            rest: past_mark(text),
+            brackets: Brackets {
+                opened: 0,
+                closed: 0,
+            },
+        };
+        tokens.cut_next();
+        Ok(tokens)
+    }
+
+    /// Goes past the next token, if one is left.
+    #[inline(always)]
+    pub fn advance(&mut self)
+        ensures { lies_ahead self.new ≡ behind (lies_ahead self.old) }
+    {
+        if self.next.is_some() {
+            self.cut_next();
+        }
+    }
+
+    /// Cuts the token that comes first in the rest of the text.
+    #[inline(never)]
+    fn cut_next(&mut self)
+        ensures { lies_ahead self.new
+            ≡ ahead self.old.brackets.opened self.old.brackets.closed self.old.after
+            self.old.rest.now }
+    {
+        let (mut place, mut rest) = past_space(self.after, self.rest);
+        'pieces: loop {
+            match front_piece(rest.as_bytes()) {
+                Piece::End => return self.end(place, rest),
+                Piece::Blank(len) => {
+                    let (blank, after) = rest.split_at(len);
+                    place = place_after(place, blank.as_bytes());
+                    rest = after;
+                }
+                Piece::Token(len, kind) => {
+                    let Some(brackets) = brackets_past(self.brackets, kind) else {
+                        return self.end(NOWHERE, rest);
+                    };
+                    let (text, after) = rest.split_at(len);
+                    self.next = Some(NextToken { kind, text, place });
+                    self.after = place_past(place, kind, text.as_bytes());
+                    self.rest = after;
+                    self.brackets = brackets;
+                    return;
+                }
+                Piece::Fault(_) => return self.end(NOWHERE, rest),
+            }
+        }
+    }
+
+    /// No token is left.
+    fn end(&mut self, after: Place, rest: &'text str)
+        requires lines { after.line + length rest.now ≤ 2147483648 }
+        requires cols { after.col + length rest.now ≤ 2147483648 }
+        requires less { length rest.now ≤ length self.old.rest.now }
+        ensures { lies_ahead self.new ≡ ends_at after }
+    {
+        self.next = None;
+        self.after = after;
+        self.rest = rest;
+    }
+}
+
+/// The counts behind the token, unless with it over 100 brackets are open.
+#[inline(always)]
+fn brackets_past(before: Brackets, kind: TokenKind) -> Option<Brackets>
+    requires opens { before.opened ≤ 2147483647 }
+    requires closes { before.closed ≤ 2147483647 }
+    ensures { MatchOption result
+        (ahead.deepens before.opened before.closed kind ≡ true)
+        (λ b. (ahead.deepens before.opened before.closed kind ≡ false)
+        × (b.opened ≡ ahead.counted (tokens.is_opening kind) before.opened)
+        × (b.closed ≡ ahead.counted (tokens.is_closing kind) before.closed)) }
+{
+    let Brackets { opened, closed } = before;
+    match kind {
+        TokenKind::Symbol('{' | '[' | '<') => {
+            if closed + MAX_DEPTH < opened + 1 {
+                return None;
+            }
+            Some(Brackets {
+                opened: opened + 1,
+                closed,
+            })
+        }
+        TokenKind::Symbol('}' | ']' | '>') => Some(Brackets {
+            opened,
+            closed: closed + 1,
+        }),
+        _ => Some(before),
+    }
+}
+
+/// The place and the text behind a space that stands alone at the front of a text, as mostly
+/// between tokens; and those that are given where none does.
+#[inline(always)]
+fn past_space(place: Place, text: &str) -> (Place, &str)
+    requires { place.col < 2 ^ 32 - 1 }
+    ensures line { result.0.line + length result.1.now ≤ place.line + length text.now }
+    ensures col { result.0.col + length result.1.now ≤ place.col + length text.now }
+    ensures len { length result.1.now ≤ length text.now }
+    ensures same { (o c : ℕ)
+        → ahead.ahead o c result.0 result.1.now ≡ ahead.ahead o c place text.now }
+{
+    if !is_one_space(text.as_bytes()) {
+        return (place, text);
+    }
+    let (_, rest) = text.split_at(1);
+    let behind = Place {
+        line: place.line,
+        col: place.col + 1,
+    };
+    (behind, rest)
+}
+
+/// Whether a space stands at the front, and no other blank behind it, as mostly between tokens.
+#[inline(always)]
+fn is_one_space(text: &[u8]) -> bool
+    ensures blank { result ≡ true → IsBlank text.now 1 }
+    ensures space { result ≡ true → slice_index text.now 0 ≡ char.space }
+{
+    match text {
+        [b' ', second, ..] => !is_in(ByteClass::Blank, *second),
+        _ => false,
+    }
+}
