@@ -17,6 +17,9 @@ pub use laws::builtin_options_are_listed;
 use protobuf_parse_model::FileDescriptorProto;
 use std::alloc::{AllocError, Global};
 
+/// How many bytes the line of a field has, about.
+const LINE_LEN: usize = 72;
+
 /// The listing of the files, in order. Each line ends with a line feed. An absent text prints as
 /// nothing. The one error is that memory is short.
 ///
@@ -35,9 +38,21 @@ use std::alloc::{AllocError, Global};
 pub fn listing(alloc: Global, files: &[FileDescriptorProto]) -> Result<String, AllocError>
     ensures { IfOk result (λ s. string_bytes s ≡ listing_of (map file_view files.now)) }
 {
-    let mut text = String::new(alloc);
+    let mut text = String::with_capacity(alloc, room_for(files))?;
     for file in files {
         put_file(alloc, &mut text, file)?;
     }
     Ok(text)
+}
+
+/// Room for the lines of the fields, as long as most are, so that a long text is not copied while it
+/// grows.
+fn room_for(files: &[FileDescriptorProto]) -> usize {
+    let mut fields: usize = 0;
+    for file in files {
+        for message in &file.message_type {
+            fields = fields.saturating_add(message.field.len());
+        }
+    }
+    fields.saturating_mul(LINE_LEN)
 }
