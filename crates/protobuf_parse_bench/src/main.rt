@@ -4,8 +4,8 @@
 //!
 //! - `--files N`: loads N files that import each other, and prints how often files were met;
 //! - `--same TEXT PATHS`: loads a file of this text for each line of PATHS;
-//! - `--read TEXT N`: reads N empty messages in option bytes, each the field 1 of the message `Wide`
-//!   of TEXT;
+//! - `--read TEXT N`: reads N empty messages in option bytes, each the field 1 of the message
+//!   `Wide` of TEXT;
 //! - `--damage N TEXT..`: N texts that differ in a few bytes from these, and what becomes of them;
 //! - `--damage-bytes N TEXT`: the same of the option bytes of the last message of TEXT.
 //!
@@ -56,8 +56,8 @@ fn statements<R: Runtime<A = Global>>(rt: &R, text: &str) -> Result<usize> {
     }
 }
 
-/// Prints how long lexing the text takes, how long lexing and parsing it, how long all that leads to
-/// descriptors, and how long listing these.
+/// Prints how long lexing the text takes, how long parsing it with its tokens cut one by one, how
+/// long all that leads to descriptors, and how long listing these.
 fn measure<R: Runtime<A = Global>>(rt: &R, text: &str) -> Result<()> {
     let start = Instant::now(rt)?;
     let count = tokens(rt, text)?;

@@ -79,7 +79,8 @@ pub record IsClean {A : Type 0} (faults : A → List Fault) (P : Text → Type 0
 
 -- what holds of a list in this way holds of each element
 pub clean-each : {A : Type 0} (faults : A → List Fault) (P : Text → Type 0)
-    (generated : A → List Text) (xs : List A) → flat_map faults xs ≡ [] → AllByRecursion P (flat_map generated xs)
+    (generated : A → List Text) (xs : List A) → flat_map faults xs ≡ []
+    → AllByRecursion P (flat_map generated xs)
     → AllByRecursion (IsClean faults P generated) xs
 clean-each faults P generated [] h k = tt
 clean-each faults P generated (x ∷ xs) h k = (
