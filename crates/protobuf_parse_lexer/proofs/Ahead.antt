@@ -1,5 +1,5 @@
 -- What lies ahead in a text are its tokens.
-use Rattle.std.proofs.Common.{◌≡◌, ℕ, zero, suc, ◌+◌, ◌<◌, ◌≤◌, Bool, true, false, ◌&&◌, nat_lt}
+use Rattle.std.proofs.Common.{◌≡◌, ℕ, zero, suc, ◌+◌, ◌<◌, ◌≤◌, Bool, true, false, nat_lt}
 use Rattle.std.proofs.Common.{List}
 use Rattle.std.proofs.Common.{[], ◌∷◌, length, take, drop, refl, sym, ap, ◌∙◌, subst, inl, inr, ◌⊎◌}
 use Rattle.std.proofs.Common.{arith, length-drop, count_by, cond, if◌then◌else◌, eqb, nat_le, ◌||◌}
@@ -19,10 +19,10 @@ use Rattle.protobuf_parse_lexer.specs.declared.lexer.front.Piece.{Piece}
 use Rattle.protobuf_parse_lexer.specs.declared.lexer.front.Piece.TheVariants as piece
 use Rattle.protobuf_parse_lexer.specs.declared.lexer.token.Place.{Place}
 use Rattle.protobuf_parse_lexer.specs.declared.lexer.token.TokenKind.{TokenKind}
-use Rattle.protobuf_parse_lexer.proofs.Cuts.{token_some}
+use Rattle.protobuf_parse_lexer.proofs.Cuts.{token_some, nil_at_end}
 use Rattle.protobuf_parse_lexer.proofs.Depth.{opening_is_no_closing}
-use Rattle.protobuf_parse_lexer.specs.Total.{total}
-use Rattle.protobuf_parse_lexer.proofs.TextKinds.{true_or_false}
+use Rattle.protobuf_parse_lexer.specs.Total.{total, true_or_false}
+use Rattle.protobuf_parse_lexer.proofs.TextKinds.{and_both}
 use Rattle.protobuf_parse_lexer.proofs.Unique.{one, not_true, and_true}
 
 -- ---- each piece leaves less of the text
@@ -97,9 +97,6 @@ is_less m n e = grind (arith, nat_tests)
 
 less_test : (m n : ℕ) → m < n → nat_lt m n ≡ true
 less_test m n h = grind (arith, nat_tests)
-
-both_true : (a b : Bool) → a ≡ true → b ≡ true → (a && b) ≡ true
-both_true a b e f = rw (e, f) refl
 
 counted_none : (b : Bool) (n : ℕ) → b ≡ false → counted b n ≡ n
 counted_none b n e = rw e refl
@@ -196,10 +193,6 @@ deep_step o c p z n k is deep = sym (ahead_is o c p z (piece.Token n k) is ∙ r
 abbrev WholeOr : ℕ → ℕ → Place → Bytes → Stream → Type 0
 WholeOr o c p z s = (s.end ≡ nowhere) ⊎ (Cut p z s.tokens s.end [] × ShallowFrom o c s.tokens)
 
-nil_at_end : (z : Bytes) → length z ≡ 0 → z ≡ []
-nil_at_end [] e = refl
-nil_at_end (b ∷ z) e = absurd (omega arith)
-
 shallow_none : (o c : ℕ) → (c + 100 < o → ⊥) → ShallowFrom o c []
 shallow_none o c few zero deep = few (omega (arith, deep))
 shallow_none o c few (suc n) deep = few (omega (arith, deep))
@@ -212,7 +205,7 @@ few_more o c k few flat more =
       | inl opens ↦
           let a = opening_more k o opens in
           let b = closing_few k c opens in
-          false≢true (sym flat ∙ both_true (is_opening k) (nat_lt (c + 100) (o + 1)) opens
+          false≢true (sym flat ∙ and_both (is_opening k) (nat_lt (c + 100) (o + 1)) opens
           (less_test (c + 100) (o + 1) (omega (arith, a, b, more))))
       | inr none ↦
           let a = counted_none (is_opening k) o none in

@@ -230,7 +230,7 @@ pub push_step : (ts : List Token) (t : Token) (more : List Lexeme)
 push_step ts t more = ap (λ l. l ++ more) (map_push lexeme ts t)
     ∙ append_assoc (map lexeme ts) (lexeme t ∷ []) more
 
-nil_at_end : (z : Bytes) → length z ≡ 0 → z ≡ []
+pub nil_at_end : (z : Bytes) → length z ≡ 0 → z ≡ []
 nil_at_end [] e = refl
 nil_at_end (b ∷ z) e = absurd (omega arith)
 

@@ -20,6 +20,7 @@ use Rattle.protobuf_parse_lexer.specs.TokenKinds.{integer_kind, number_kind, kin
 use Rattle.protobuf_parse_lexer.specs.Tokens.{is_opening, is_closing}
 use Rattle.protobuf_parse_lexer.specs.Front.{number_first, octal_digits, after_whole, x_no_float}
 use Rattle.protobuf_parse_lexer.specs.Front.{x_no_digit}
+use Rattle.protobuf_parse_lexer.specs.Total.{true_or_false}
 use Rattle.protobuf_parse_lexer.proofs.Unique.{no_digit, no_ident, symbol_tests, not_true}
 use Rattle.protobuf_parse_lexer.proofs.Unique.{and_true, or_true, same_byte}
 
@@ -167,7 +168,7 @@ module _ (w : Bytes) where
 not_one : (n : ℕ) → 1 < n → eqb n 1 ≡ false
 not_one n h = grind (arith, nat_tests)
 
-and_both : (a b : Bool) → a ≡ true → b ≡ true → (a && b) ≡ true
+pub and_both : (a b : Bool) → a ≡ true → b ≡ true → (a && b) ≡ true
 and_both a b p q = rw (p, q) refl
 
 and_no : (a b : Bool) → b ≡ false → (a && b) ≡ false
@@ -230,10 +231,6 @@ digits_before z n f h =
           (subst (λ k. (get_or z k 0 ≡ 46) ⊎ IsLetterE (get_or z k 0)) is (after_whole z n f)))
           ∙ h))
     ]
-
-pub true_or_false : (b : Bool) → (b ≡ true) ⊎ (b ≡ false)
-true_or_false true = inl refl
-true_or_false false = inr refl
 
 zero_is_digit : (b : ℕ) → b ≡ 48 → is_in class.Digit b ≡ true
 zero_is_digit b e = rw e refl

@@ -34,7 +34,7 @@ Ending Is z = ((n : ℕ) × Longest Is z n) ⊎ NoFront Is z
 
 -- ---- bytes
 
-true_or_false : (b : Bool) → (b ≡ true) ⊎ (b ≡ false)
+pub true_or_false : (b : Bool) → (b ≡ true) ⊎ (b ≡ false)
 true_or_false true = inl refl
 true_or_false false = inr refl
 

@@ -1,22 +1,17 @@
 -- What the readers of constants read, where the next tokens are known.
-use Rattle.std.proofs.Common.{◌≡◌, ℕ, ℤ, pos, List, [], ◌∷◌, Option, Some, None, Bool, true, false}
-use Rattle.std.proofs.Common.{◌||◌, map, length, get_or, ◌<◌, ◌≤◌, bytes_eq, codes, refl, inl, inr}
-use Rattle.std.proofs.Common.{arith}
-use Rattle.std.proofs.lemmas.Slice.Eq.{bytes_eq-Decides}
+use Rattle.std.proofs.Common.{◌≡◌, ℕ, ℤ, pos, [], ◌∷◌, Option, Some, None, Bool, true, false}
+use Rattle.std.proofs.Common.{◌||◌, refl, inl, inr}
 use Rattle.protobuf_parse_base.specs.Readers.{Rest, end, token, Read, read, stuck, wrong, bind}
 use Rattle.protobuf_parse_base.specs.Readers.{starts, or_true, or_left}
 use Rattle.protobuf_parse_base.specs.Relations.{seen}
 use Rattle.protobuf_parse_base.specs.Combinators.{run_one, taken}
-use Rattle.protobuf_parse_base.specs.Readers.{false_by, all_apart-law}
-use Rattle.protobuf_parse_base.specs.Whole.{whole}
+use Rattle.protobuf_parse_base.specs.Readers.{all_apart-law}
 use Rattle.protobuf_parse_base.specs.Conditions.{meaning}
-use Rattle.protobuf_parse_lexer.specs.Tokens.{Lexeme, lexeme}
+use Rattle.protobuf_parse_lexer.specs.Tokens.{Lexeme}
 use Rattle.protobuf_parse_lexer.specs.Text.{Bytes}
-use Rattle.protobuf_parse_lexer.specs.TokenKinds.{kind_of}
 use Rattle.protobuf_parse_lexer.specs.Classes.{sees, symbol as symbol_class, integer, float, text}
 use Rattle.protobuf_parse_lexer.specs.Classes.{is_one_of, is_floating, is_string}
 use Rattle.protobuf_parse_lexer.specs.declared.lexer.token.Place.{Place}
-use Rattle.protobuf_parse_lexer.specs.declared.lexer.token.Token.{Token}
 use Rattle.protobuf_parse_lexer.specs.declared.lexer.token.TokenKind.{TokenKind}
 use Rattle.protobuf_parse_lexer.specs.declared.lexer.token.TokenKind.TheVariants as kind
 use Rattle.protobuf_parse_lexer.specs.declared.error.ParserError.TheVariants as error
@@ -28,32 +23,6 @@ use Rattle.protobuf_parse_syntax.specs.Productions.{or_floating, plus, minus, nu
 use Rattle.protobuf_parse_syntax.specs.Productions.{str}
 use Rattle.protobuf_parse_syntax.specs.Code.{off, comes, Fails, SignedFloat, floats_second}
 use Rattle.protobuf_parse_syntax.specs.declared.parser.refusal.Refusal.TheVariants.{Here}
-
--- ---- the second token
-
-pub short_floats : (ts : List Token) (m : Place) → length ts < 2
-    → false ≡ floats_second (whole (map lexeme ts) m)
-short_floats [] m h = refl
-short_floats (t ∷ []) m h = refl
-short_floats (t ∷ u ∷ ts) m h = absurd (omega (arith, h))
-
-no_float : (k : TokenKind) (w : Bytes) (p : Place) → k ≡ kind.Ident → (w ≡ codes "nan" → ⊥)
-    → (w ≡ codes "inf" → ⊥) → false ≡ is_floating (record { kind = k; text = w; place = p })
-no_float k w p e n i =
-    let x : bytes_eq w (codes "inf")
-    ≡ false = false_by (bytes_eq w (codes "inf"))
-    (λ h. i ((bytes_eq-Decides w (codes "inf")).0 h)) in
-    let y : bytes_eq w (codes "nan")
-    ≡ false = false_by (bytes_eq w (codes "nan"))
-    (λ h. n ((bytes_eq-Decides w (codes "nan")).0 h)) in
-    rw (e, x, y) refl
-
-pub other_second : (ts : List Token) (m : Place) (d : Token) → 2 ≤ length ts
-    → kind_of (get_or ts 1 d).text.now ≡ kind.Ident → ((get_or ts 1 d).text.now ≡ codes "nan" → ⊥)
-    → ((get_or ts 1 d).text.now ≡ codes "inf" → ⊥) → false ≡ floats_second (whole (map lexeme ts) m)
-other_second [] m d h e n i = absurd (omega (arith, h))
-other_second (t ∷ []) m d h e n i = absurd (omega (arith, h))
-other_second (t ∷ u ∷ ts) m d h e n i = no_float (kind_of u.text.now) u.text.now u.place e n i
 
 -- ---- signs
 

@@ -96,11 +96,8 @@ fn tree_of(
         Err(refusal) => return Err(refusal.located(left.place())),
     };
     let end = left.place();
-    if !left.is_empty() {
-        return Err(Refusal::Next(ParserError::IncorrectInput).located(end));
+    if left.is_empty() && end.line > 0 {
+        return Ok(tree);
     }
-    if end.line == 0 {
-        return Err(Refusal::Next(ParserError::IncorrectInput).located(end));
-    }
-    Ok(tree)
+    Err(Refusal::Next(ParserError::IncorrectInput).located(end))
 }
