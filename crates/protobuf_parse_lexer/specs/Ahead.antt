@@ -1,6 +1,6 @@
--- No public clause rests on this file.
 -- What lies ahead in a text: its tokens up to its end, to a fault, or to the bracket with which it
--- nests too deep.
+-- nests too deep. The clauses of a tokenizer name `nowhere` and `behind`; its view rests on all of
+-- this, and that what it shows are the text's tokens is what those clauses say.
 use Rattle.std.specs.Prelude.{ℕ, zero, suc, ◌+◌, Bool, ◌&&◌, nat_lt, if◌then◌else◌, [], ◌∷◌}
 use Rattle.std.specs.Prelude.{length, take, drop}
 use Rattle.protobuf_parse_lexer.specs.Cut.{Stream}

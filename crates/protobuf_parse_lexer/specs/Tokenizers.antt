@@ -1,5 +1,4 @@
--- No public clause rests on this file.
--- What a tokenizer has left.
+-- What a tokenizer has left: of this list its clauses say what it is.
 use Rattle.std.specs.Prelude.{Option, Some, None}
 use Rattle.protobuf_parse_lexer.specs.Ahead.{ahead, ends_at, in_front}
 use Rattle.protobuf_parse_lexer.specs.Cut.{Stream}
