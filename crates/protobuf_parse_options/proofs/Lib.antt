@@ -23,6 +23,7 @@ pub mod BareLookups
 pub mod WithoutOptions
 pub mod MessagesAlike
 pub mod Entered
+pub mod ItemBytes
 pub mod KeptLookups
 pub mod MoreFiles
 pub mod Recovery

@@ -1,5 +1,5 @@
 -- What lists and message constants give, part by part.
-use Rattle.std.proofs.Common.{◌≡◌, ◌-◌, ◌==◌, arith, drop, get_or, length, take, List, [], ◌∷◌}
+use Rattle.std.proofs.Common.{◌≡◌, ℕ, ◌-◌, ◌==◌, arith, drop, get_or, length, take, List, [], ◌∷◌}
 use Rattle.std.proofs.Common.{◌++◌, map, flat_map, Bool, true, false}
 use Rattle.std.proofs.Common.{option_to_list, refl, sym, ap, subst, ◌∙◌, Result}
 use Rattle.std.specs.Global.{Vec}
@@ -21,11 +21,12 @@ use Rattle.protobuf_parse_options.specs.CustomFaults.{message_value_faults, part
 use Rattle.protobuf_parse_options.specs.CustomFaults.{path_faults}
 use Rattle.protobuf_parse_options.specs.CustomOptions.{value_items, list_items, field_items}
 use Rattle.protobuf_parse_options.specs.CustomOptions.{item_of_message, path_items}
-use Rattle.protobuf_parse_options.specs.Given.{field_faults_of, given_field_items, through_faults}
-use Rattle.protobuf_parse_options.specs.Given.{through_items}
+use Rattle.protobuf_parse_options.specs.Given.{bytes_of_items, field_faults_of, given_field_items}
+use Rattle.protobuf_parse_options.specs.Given.{through_faults, through_items, value_bytes}
 use Rattle.protobuf_parse_options.specs.OptionFields.{OptionScope, part_field, type_takes}
 use Rattle.protobuf_parse_options.specs.OptionFields.{type_name_of}
 use Rattle.protobuf_parse_wire.specs.Views.{WireItem}
+use Rattle.protobuf_parse_options.proofs.ItemBytes.{bytes_flat_map}
 
 pub list_faults_are : (at : OptionScope) (option : Text) (f : FieldDescriptor)
     (cs : List ConstantSyntax) → list_faults at option f (constants cs) ≡ flat_map
@@ -54,41 +55,42 @@ field_items_are at message (f ∷ fs) = ap (λ xs. given_field_items at message 
 
 -- ---- what the code holds of them
 
-pub list_given : {X : Type 0} (view : X → List WireItem) (r : Result X ElabFailure)
+pub list_given : {X : Type 0} (view : X → List ℕ) (r : Result X ElabFailure)
     (at : OptionScope) (option : Text) (f : FieldDescriptor) (c : ProtobufConstant)
-    (v : Vec ProtobufConstant) (xs : List ProtobufConstant) (old : List WireItem)
+    (v : Vec ProtobufConstant) (xs : List ProtobufConstant) (old : List ℕ)
     → c ≡ Constants v → xs ≡ v.items
     → Elaborates view r (flat_map (constant_faults at option f) (map constant_syntax xs))
-    (old ++ flat_map (value_items at f) (map constant_syntax xs))
+    (old ++ flat_map (value_bytes at f) (map constant_syntax xs))
     → Elaborates view r (constant_faults at option f (constant_syntax c))
-    (old ++ value_items at f (constant_syntax c))
+    (old ++ value_bytes at f (constant_syntax c))
 list_given view r at option f c v xs old is same h =
     let cs = map constant_syntax v.items in
     let e : constant_syntax c ≡ list (constants cs) = ap constant_syntax is ∙ views_list v in
     let fs : flat_map (constant_faults at option f) cs ≡ constant_faults at option f
     (constant_syntax c) = sym (ap (constant_faults at option f) e
     ∙ list_faults_are at option f cs) in
-    let vs : flat_map (value_items at f) cs ≡ value_items at f (constant_syntax c) = sym
-    (ap (value_items at f) e ∙ list_items_are at f cs) in
+    let vs : flat_map (value_bytes at f) cs ≡ value_bytes at f (constant_syntax c) = sym
+    (ap (value_bytes at f) e ∙ ap bytes_of_items (list_items_are at f cs)
+    ∙ bytes_flat_map (value_items at f) cs) in
     let all = subst (λ (ys : List ProtobufConstant). Elaborates view r
     (flat_map (constant_faults at option f) (map constant_syntax ys))
-    (old ++ flat_map (value_items at f) (map constant_syntax ys))) same h in
-    subst (λ (items : List WireItem). Elaborates view r
+    (old ++ flat_map (value_bytes at f) (map constant_syntax ys))) same h in
+    subst (λ (bytes : List ℕ). Elaborates view r
     (constant_faults at option f (constant_syntax c))
-    (old ++ items)) vs
+    (old ++ bytes)) vs
     (subst (λ (faults : List Fault). Elaborates view r faults
-    (old ++ flat_map (value_items at f) cs)) fs all)
+    (old ++ flat_map (value_bytes at f) cs)) fs all)
 
-pub message_given : {X : Type 0} (view : X → List WireItem) (r : Result X ElabFailure)
+pub message_given : {X : Type 0} (view : X → List ℕ) (r : Result X ElabFailure)
     (at : OptionScope) (option : Text) (f : FieldDescriptor) (c : ProtobufConstant)
-    (v : Vec ConstantField) (xs : List ConstantField) (old : List WireItem)
+    (v : Vec ConstantField) (xs : List ConstantField) (old : List ℕ)
     → c ≡ Fields v → xs ≡ v.items
     → Elaborates view r (message_value_faults f.name (type_takes f.type_)
     (flat_map (field_faults_of at option (type_name_of f)) (map constant_field_syntax xs)))
-    (old ++ item_of_message f (flat_map (given_field_items at (type_name_of f))
-    (map constant_field_syntax xs)))
+    (old ++ bytes_of_items (item_of_message f (flat_map (given_field_items at (type_name_of f))
+    (map constant_field_syntax xs))))
     → Elaborates view r (constant_faults at option f (constant_syntax c))
-    (old ++ value_items at f (constant_syntax c))
+    (old ++ value_bytes at f (constant_syntax c))
 message_given view r at option f c v xs old is same h =
     let cs = map constant_field_syntax v.items in
     let name = type_name_of f in
@@ -98,19 +100,20 @@ message_given view r at option f c v xs old is same h =
     (flat_map (field_faults_of at option name) cs) ≡ constant_faults at option f
     (constant_syntax c) = sym (ap (constant_faults at option f) e ∙ ap
     (message_value_faults f.name (type_takes f.type_)) (field_faults_are at option name cs)) in
-    let vs : item_of_message f (flat_map (given_field_items at name) cs) ≡ value_items at f
-    (constant_syntax c) = sym (ap (value_items at f) e ∙ ap (item_of_message f)
+    let vs : bytes_of_items (item_of_message f (flat_map (given_field_items at name) cs))
+    ≡ value_bytes at f (constant_syntax c) = sym (ap (value_bytes at f) e
+    ∙ ap (λ (items : List WireItem). bytes_of_items (item_of_message f items))
     (field_items_are at name cs)) in
     let all = subst (λ (ys : List ConstantField). Elaborates view r
     (message_value_faults f.name (type_takes f.type_)
     (flat_map (field_faults_of at option name) (map constant_field_syntax ys)))
-    (old ++ item_of_message f (flat_map (given_field_items at name)
-    (map constant_field_syntax ys)))) same h in
-    subst (λ (items : List WireItem). Elaborates view r
+    (old ++ bytes_of_items (item_of_message f (flat_map (given_field_items at name)
+    (map constant_field_syntax ys))))) same h in
+    subst (λ (bytes : List ℕ). Elaborates view r
     (constant_faults at option f (constant_syntax c))
-    (old ++ items)) vs
+    (old ++ bytes)) vs
     (subst (λ (faults : List Fault). Elaborates view r faults
-    (old ++ item_of_message f (flat_map (given_field_items at name) cs))) fs all)
+    (old ++ bytes_of_items (item_of_message f (flat_map (given_field_items at name) cs)))) fs all)
 
 -- whether parts follow
 abbrev pub none_follow : List ProtobufOptionNamePart → Bool
@@ -118,41 +121,41 @@ none_follow [] = true
 none_follow (y ∷ ys) = false
 
 -- a part that others follow
-pub path_long : {X : Type 0} (view : X → List WireItem) (r : Result X ElabFailure)
+pub path_long : {X : Type 0} (view : X → List ℕ) (r : Result X ElabFailure)
     (at : OptionScope)
     (option : Text) (value : ConstantSyntax) (message : Text) (xs : List ProtobufOptionNamePart)
-    (x : ProtobufOptionNamePart) (ys : List ProtobufOptionNamePart) (old : List WireItem)
+    (x : ProtobufOptionNamePart) (ys : List ProtobufOptionNamePart) (old : List ℕ)
     → xs ≡ x ∷ ys → none_follow ys ≡ false
     → Elaborates view r (part_faults at message (option_part_syntax x) ++ flat_map
     (through_faults at option value (option_part_syntax x) (map option_part_syntax ys))
     (option_to_list (part_field at message (option_part_syntax x))))
-    (old ++ flat_map (through_items at value (map option_part_syntax ys))
-    (option_to_list (part_field at message (option_part_syntax x))))
+    (old ++ bytes_of_items (flat_map (through_items at value (map option_part_syntax ys))
+    (option_to_list (part_field at message (option_part_syntax x)))))
     → Elaborates view r (path_faults at option value message (map option_part_syntax xs))
-    (old ++ path_items at value message (map option_part_syntax xs))
+    (old ++ bytes_of_items (path_items at value message (map option_part_syntax xs)))
 path_long view r at option value message xs x [] old is some h = absurd cc
 path_long view r at option value message xs x (y ∷ zs) old is some h =
     subst (λ (ps : List ProtobufOptionNamePart). Elaborates view r
     (path_faults at option value message (map option_part_syntax ps))
-    (old ++ path_items at value message (map option_part_syntax ps))) (sym is) h
+    (old ++ bytes_of_items (path_items at value message (map option_part_syntax ps)))) (sym is) h
 
 follow : (ys : List ProtobufOptionNamePart) → (length ys == 0) ≡ false → none_follow ys ≡ false
 follow [] e = absurd cc
 follow (y ∷ ys) e = refl
 
-pub path_given : {X : Type 0} (view : X → List WireItem) (r : Result X ElabFailure)
+pub path_given : {X : Type 0} (view : X → List ℕ) (r : Result X ElabFailure)
     (at : OptionScope) (option : Text) (value : ConstantSyntax) (message : Text)
-    (xs : List ProtobufOptionNamePart) (x : ProtobufOptionNamePart) (old : List WireItem)
+    (xs : List ProtobufOptionNamePart) (x : ProtobufOptionNamePart) (old : List ℕ)
     → x ≡ get_or xs 0 x → (length (take (length xs - 1) (drop 1 xs)) == 0) ≡ false
     → Elaborates view r (part_faults at message (option_part_syntax x) ++ flat_map
     (through_faults at option value (option_part_syntax x)
     (map option_part_syntax (take (length xs - 1) (drop 1 xs))))
     (option_to_list (part_field at message (option_part_syntax x))))
-    (old ++ flat_map (through_items at value
+    (old ++ bytes_of_items (flat_map (through_items at value
     (map option_part_syntax (take (length xs - 1) (drop 1 xs))))
-    (option_to_list (part_field at message (option_part_syntax x))))
+    (option_to_list (part_field at message (option_part_syntax x)))))
     → Elaborates view r (path_faults at option value message (map option_part_syntax xs))
-    (old ++ path_items at value message (map option_part_syntax xs))
+    (old ++ bytes_of_items (path_items at value message (map option_part_syntax xs)))
 path_given view r at option value message [] x old is some h = absurd cc
 path_given view r at option value message (z ∷ zs) x old is some h =
     let all : take (length (z ∷ zs) - 1) (drop 1 (z ∷ zs)) ≡ zs = take_all
@@ -161,8 +164,8 @@ path_given view r at option value message (z ∷ zs) x old is some h =
     (part_faults at message (option_part_syntax x) ++ flat_map
     (through_faults at option value (option_part_syntax x) (map option_part_syntax ys))
     (option_to_list (part_field at message (option_part_syntax x))))
-    (old ++ flat_map (through_items at value (map option_part_syntax ys))
-    (option_to_list (part_field at message (option_part_syntax x))))) all h in
+    (old ++ bytes_of_items (flat_map (through_items at value (map option_part_syntax ys))
+    (option_to_list (part_field at message (option_part_syntax x)))))) all h in
     path_long view r at option value message (z ∷ zs) x zs old
     (ap (λ (w : ProtobufOptionNamePart). w ∷ zs) (sym is))
     (follow zs (subst (λ (ys : List ProtobufOptionNamePart). (length ys == 0)

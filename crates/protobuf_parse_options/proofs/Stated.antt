@@ -1,11 +1,11 @@
--- What a statement gives, by the first part of its name; and what all of them give.
-use Rattle.std.proofs.Common.{◌≡◌, ◌≤◌, List, [], ◌∷◌, ◌++◌, map, flat_map, length, get_or, Result}
+-- What a statement gives, by the first part of its name.
+use Rattle.std.proofs.Common.{◌≡◌, ◌≤◌, ℕ, List, [], ◌∷◌, ◌++◌, map, length, get_or, Result}
 use Rattle.std.proofs.Common.{String, string_bytes, refl, sym, ap, subst, ◌∙◌, arith}
 use Rattle.std.specs.Global.{Global}
 use Rattle.protobuf_parse_base.specs.DeclaredNames.{name_bytes}
 use Rattle.protobuf_parse_base.specs.declared.name.Name.{Name}
 use Rattle.protobuf_parse_syntax.specs.Trees.{ConstantSyntax, OptionPartSyntax, direct, extension}
-use Rattle.protobuf_parse_syntax.specs.Trees.{option_part_syntax, OptionSyntax}
+use Rattle.protobuf_parse_syntax.specs.Trees.{option_part_syntax}
 use Rattle.protobuf_parse_syntax.specs.declared.tree.option.ProtobufOptionNamePart.{ProtobufOptionNamePart}
 use Rattle.protobuf_parse_syntax.specs.declared.tree.option.ProtobufOptionNamePart.TheVariants.{Direct}
 use Rattle.protobuf_parse_syntax.specs.declared.tree.option.ProtobufOptionNamePart.TheVariants.{Ext}
@@ -15,13 +15,11 @@ use Rattle.protobuf_parse_model.specs.Descriptors.{Text}
 use Rattle.protobuf_parse_model.specs.Environment.{option_path_text}
 use Rattle.protobuf_parse_model.specs.Faults.{Blames, Elaborates, Fault}
 use Rattle.protobuf_parse_model.specs.OptionTables.{table_of}
-use Rattle.protobuf_parse_wire.specs.declared.entry.Entry.{Entry}
 use Rattle.protobuf_parse_options.specs.CustomFaults.{builtin_step_faults, custom_faults}
 use Rattle.protobuf_parse_options.specs.CustomFaults.{path_faults}
-use Rattle.protobuf_parse_options.specs.CustomOptions.{denotes, items_of_option, path_items}
-use Rattle.protobuf_parse_options.specs.Given.{path_said}
+use Rattle.protobuf_parse_options.specs.CustomOptions.{path_items}
+use Rattle.protobuf_parse_options.specs.Given.{bytes_of_items, path_said}
 use Rattle.protobuf_parse_options.specs.OptionFields.{OptionScope, options_message}
-use Rattle.protobuf_parse_wire.specs.Views.{WireItem, entries_of_list, entries_view, entry_view}
 
 abbrev parts_of : List ProtobufOptionNamePart → List OptionPartSyntax
 parts_of xs = map option_part_syntax xs
@@ -55,29 +53,21 @@ extension_first at construct value (y ∷ ys) x s some is ext =
     (p ∷ parts_of ys)) (sym first) refl
 
 -- an extension
-pub extension_given : {X : Type 0} (view : X → List WireItem) (r : Result X ElabFailure)
+pub extension_given : {X : Type 0} (view : X → List ℕ) (r : Result X ElabFailure)
     (at : OptionScope) (construct : Construct) (value : ConstantSyntax)
     (xs : List ProtobufOptionNamePart) (x : ProtobufOptionNamePart) (s : String Global)
-    (message : Text) (old : List WireItem) → 1 ≤ length xs → x ≡ get_or xs 0 x → x ≡ Ext s
+    (message : Text) (old : List ℕ) → 1 ≤ length xs → x ≡ get_or xs 0 x → x ≡ Ext s
     → message ≡ options_message construct
     → Elaborates view r (path_faults at (path_said xs) value message (map option_part_syntax xs))
-    (old ++ path_items at value message (map option_part_syntax xs))
+    (old ++ bytes_of_items (path_items at value message (map option_part_syntax xs)))
     → Elaborates view r (custom_faults at construct value (map option_part_syntax xs))
-    (old ++ path_items at value (options_message construct) (map option_part_syntax xs))
+    (old ++ bytes_of_items
+    (path_items at value (options_message construct) (map option_part_syntax xs)))
 extension_given view r at construct value xs x s message old some is ext holds h =
     let ps = parts_of xs in
     let m = options_message construct in
-    let items = old ++ path_items at value m ps in
+    let bytes = old ++ bytes_of_items (path_items at value m ps) in
     let a = subst (λ (t : Text). Elaborates view r (path_faults at (path_said xs) value t ps)
-    (old ++ path_items at value t ps)) holds h in
-    subst (λ (faults : List Fault). Elaborates view r faults items)
+    (old ++ bytes_of_items (path_items at value t ps))) holds h in
+    subst (λ (faults : List Fault). Elaborates view r faults bytes)
     (sym (extension_first at construct value xs x s some is ext)) a
-
--- all of them, added to nothing
-pub denoted : (at : OptionScope) (construct : Construct) (os : List OptionSyntax)
-    (old new read : List Entry) → old ≡ [] → read ≡ new
-    → map entry_view new ≡ map entry_view old ++ flat_map (items_of_option at construct) os
-    → entries_view read ≡ denotes at construct os
-denoted at construct os old new read none same is =
-    ap entries_view same ∙ ap entries_of_list (is ∙ ap (λ (es : List Entry). map entry_view es
-    ++ flat_map (items_of_option at construct) os) none)

@@ -31,6 +31,7 @@ use Rattle.protobuf_parse_wire.specs.Writing.{AreWritable}
 use Rattle.protobuf_parse_options.specs.OptionFields.{OptionScope, options_message, number_of_value}
 use Rattle.protobuf_parse_options.specs.OptionFields.{part_field, constant_field, type_name_of}
 use Rattle.protobuf_parse_options.specs.OptionFields.{integers, type_takes}
+use Rattle.protobuf_parse_options.specs.Given.{AreFit}
 use Rattle.protobuf_parse_options.specs.OptionLaw.{HasSmallValues}
 use Rattle.protobuf_parse_options.specs.CustomOptions.{value_items, list_items, field_items}
 use Rattle.protobuf_parse_options.specs.CustomOptions.{path_items, item_of_message, named_items}
@@ -56,9 +57,6 @@ no_left (x ∷ xs) ys e = absurd cc
 pub no_right : {A : Type 0} (xs ys : List A) → xs ++ ys ≡ [] → ys ≡ []
 no_right [] ys e = e
 no_right (x ∷ xs) ys e = absurd cc
-
-abbrev AreFit : List WireItem → Type 0
-AreFit items = AreWritable (entries_of_list items)
 
 fit_append : (xs ys : List WireItem) → AreFit xs → AreFit ys → AreFit (xs ++ ys)
 fit_append [] ys p q = q
@@ -90,7 +88,7 @@ number_kept k name v e =
     kept (shape_of_kind k) v (fits (shape_of_kind k) v)
     (record { kind = IntegerOutOfRange; what = name }) refl e
 
-number_fit : (name : Text) (t : FieldType) (n : ℕ) (z : ℤ) → integer_faults name (type_takes t) z
+pub number_fit : (name : Text) (t : FieldType) (n : ℕ) (z : ℤ) → integer_faults name (type_takes t) z
     ≡ []
     → AreFit (item_at n t (trees.number z))
 number_fit name types.Int32 n z e = (number_kept kinds.Int32 name z e, tt)
@@ -105,12 +103,12 @@ number_fit name types.Fixed64 n z e = (number_kept kinds.Fixed64 name z e, tt)
 number_fit name types.Sfixed64 n z e = (number_kept kinds.Sfixed64 name z e, tt)
 number_fit name _ n z e = absurd cc
 
-truth_fit : (name : Text) (t : FieldType) (n : ℕ) (b : Bool) → truth_faults name (type_takes t) ≡ []
+pub truth_fit : (name : Text) (t : FieldType) (n : ℕ) (b : Bool) → truth_faults name (type_takes t) ≡ []
     → AreFit (item_at n t (trees.truth b))
 truth_fit name types.Bool n b e = (tt, tt)
 truth_fit name _ n b e = absurd cc
 
-string_fit : (option name : Text) (t : FieldType) (n : ℕ) (pieces : Pieces) (bs : List ℕ)
+pub string_fit : (option name : Text) (t : FieldType) (n : ℕ) (pieces : Pieces) (bs : List ℕ)
     → string_value_faults option name (type_takes t) pieces ≡ []
     → AreFit (item_at n t (trees.bytes bs))
 string_fit option name types.String n pieces bs e = (tt, tt)
@@ -129,16 +127,22 @@ step_fit : (part : Text) (t : FieldType) (n : ℕ) (inside : List Fault) (items 
 step_fit part types.Message n inside items e f = ((tt, f e), tt)
 step_fit part _ n inside items e f = absurd cc
 
+pub value_fits : (name value : Text) (t : FieldType) (n : ℕ) (z : ℤ) → FitsSigned w32 z
+    → value_name_faults name (type_takes t) value (Some z) ≡ []
+    → AreFit (item_at n t (trees.number z))
+value_fits name value types.Enum n z small e =
+    (in_range (shape_of_kind kinds.Enum) z small, tt)
+value_fits name value _ n z small e = absurd cc
+
 abbrev numbers : ℕ → FieldType → Option ℤ → List WireItem
 numbers n t o = flat_map (λ (z : ℤ). item_at n t (trees.number z)) (option_to_list o)
 
 value_name_fit : (name value : Text) (t : FieldType) (n : ℕ) (o : Option ℤ)
     → ((z : ℤ) → o ≡ Some z → FitsSigned w32 z) → value_name_faults name (type_takes t) value o ≡ []
     → AreFit (numbers n t o)
-value_name_fit name value types.Enum n (Some z) small e =
-    (in_range (shape_of_kind kinds.Enum) z (small z refl), tt)
-value_name_fit name value types.Enum n None small e = tt
-value_name_fit name value _ n o small e = absurd cc
+value_name_fit name value t n (Some z) small e =
+    fit_append (item_at n t (trees.number z)) [] (value_fits name value t n z (small z refl) e) tt
+value_name_fit name value t n None small e = tt
 
 -- ---- constants
 

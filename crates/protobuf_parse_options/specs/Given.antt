@@ -1,9 +1,10 @@
 -- No public clause rests on this file.
--- What the constants of lists and of message constants give, as lists; and from where the code sees
--- options.
-use Rattle.std.specs.Prelude.{List, ◌++◌, map, flat_map, option_to_list}
+-- What the constants of lists and of message constants give, as lists and as bytes; and from where
+-- the code sees options.
+use Rattle.std.specs.Prelude.{ℕ, List, ◌++◌, map, flat_map, option_to_list}
 use Rattle.protobuf_parse_syntax.specs.Trees.{ConstantSyntax, ConstantFieldSyntax, OptionPartSyntax}
-use Rattle.protobuf_parse_syntax.specs.Trees.{option_part_syntax}
+use Rattle.protobuf_parse_syntax.specs.Trees.{option_part_syntax, OptionSyntax}
+use Rattle.protobuf_parse_model.specs.declared.customs.Construct.{Construct}
 use Rattle.protobuf_parse_syntax.specs.declared.tree.option.ProtobufOptionNamePart.{ProtobufOptionNamePart}
 use Rattle.protobuf_parse_model.specs.SeenFiles.{name_texts}
 use Rattle.protobuf_parse_model.specs.Descriptors.{Text, FieldDescriptor}
@@ -13,11 +14,14 @@ use Rattle.protobuf_parse_options.specs.declared.option_place.OptionPlace.{Optio
 use Rattle.protobuf_parse_options.specs.CustomFaults.{constant_name_faults, number_faults}
 use Rattle.protobuf_parse_options.specs.CustomFaults.{path_faults}
 use Rattle.protobuf_parse_options.specs.CustomFaults.{step_faults, constant_faults}
-use Rattle.protobuf_parse_options.specs.CustomOptions.{item_of_message, path_items, value_items}
+use Rattle.protobuf_parse_options.specs.CustomOptions.{item_of_message, items_of_option}
+use Rattle.protobuf_parse_options.specs.CustomOptions.{path_items, value_items}
 use Rattle.protobuf_parse_options.specs.Holding.{files_seen}
 use Rattle.protobuf_parse_options.specs.OptionFields.{OptionScope, constant_field, type_takes}
 use Rattle.protobuf_parse_options.specs.OptionFields.{type_name_of}
-use Rattle.protobuf_parse_wire.specs.Views.{WireItem}
+use Rattle.protobuf_parse_wire.specs.Encoded.{encoded}
+use Rattle.protobuf_parse_wire.specs.Views.{WireItem, entries_of_list}
+use Rattle.protobuf_parse_wire.specs.Writing.{AreWritable}
 
 abbrev pub option_place_view : OptionPlace → OptionScope
 option_place_view p = record {
@@ -44,6 +48,23 @@ given_items at c g = value_items at g c
 abbrev pub given_field_items : OptionScope → Text → ConstantFieldSyntax → List WireItem
 given_field_items at message f = flat_map (given_items at f.value)
     (option_to_list (constant_field at message f.name))
+
+-- They can be written.
+abbrev pub AreFit : List WireItem → Type 0
+AreFit items = AreWritable (entries_of_list items)
+
+-- the bytes that spell them
+abbrev pub bytes_of_items : List WireItem → List ℕ
+bytes_of_items items = encoded (entries_of_list items)
+
+abbrev pub value_bytes : OptionScope → FieldDescriptor → ConstantSyntax → List ℕ
+value_bytes at f c = bytes_of_items (value_items at f c)
+
+abbrev pub given_field_bytes : OptionScope → Text → ConstantFieldSyntax → List ℕ
+given_field_bytes at message f = bytes_of_items (given_field_items at message f)
+
+abbrev pub bytes_of_option : OptionScope → Construct → OptionSyntax → List ℕ
+bytes_of_option at construct o = bytes_of_items (items_of_option at construct o)
 
 -- of a field that other parts follow, which the part means
 abbrev pub through_faults : OptionScope → Text → ConstantSyntax → OptionPartSyntax

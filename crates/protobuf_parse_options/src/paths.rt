@@ -8,21 +8,19 @@ ghost use Rattle.protobuf_parse_model.specs.Environment.{part_text};
 ghost use Rattle.protobuf_parse_model.specs.Faults.{Blames, Elaborates, Fault};
 ghost use Rattle.protobuf_parse_options.specs.CustomFaults.{part_faults, path_faults, step_faults};
 ghost use Rattle.protobuf_parse_options.specs.CustomOptions.{path_items};
-ghost use Rattle.protobuf_parse_options.specs.Given.{option_place_view, path_said};
+ghost use Rattle.protobuf_parse_options.specs.Given.{bytes_of_items, option_place_view, path_said};
 ghost use Rattle.protobuf_parse_options.specs.Given.{through_faults, through_items};
 ghost use Rattle.protobuf_parse_options.specs.OptionFields.{messages, part_field, type_takes};
-ghost use Rattle.protobuf_parse_wire.specs.Views.{entry_view};
 
 use crate::constants::push_given;
 use crate::fields::{part_field, type_name_of};
 use crate::option_place::OptionPlace;
-use crate::values::{check_number, push_item};
+use crate::values::{check_number, push_inside};
 use protobuf_parse_model::{ElabErrorKind, ElabFailure, FieldDescriptorProto, FieldType, fault};
 use protobuf_parse_syntax::{ProtobufConstant, ProtobufOptionNamePart};
-use protobuf_parse_wire::{Entry, EntryValue};
 use std::alloc::{AllocError, Global};
 
-/// Adds the entries that the constant gives to the field that the parts lead to, from the message
+/// Adds the bytes of what the constant gives to the field that the parts lead to, from the message
 /// on, for the option of that name.
 #[cycle(path)]
 pub fn push_path(
@@ -32,21 +30,21 @@ pub fn push_path(
     option: &[ProtobufOptionNamePart],
     value: &ProtobufConstant,
     message: &str,
-    entries: &mut Vec<Entry>,
+    out: &mut Vec<u8>,
 ) -> Result<(), ElabFailure>
     ensures { let s = option_place_view at.now in let ps = map option_part_syntax parts.now in
         let c = constant_syntax value.now in
-        Elaborates (λ u. map entry_view entries.new.items) result
+        Elaborates (λ u. out.new.items) result
         (path_faults s (path_said option.now) c message.now ps)
-        (map entry_view entries.old.items ++ path_items s c message.now ps) }
+        (out.old.items ++ bytes_of_items (path_items s c message.now ps)) }
 {
     let [part, others @ ..] = parts else {
         return Ok(());
     };
     if others.is_empty() {
-        return push_last(part, alloc, at, option, value, message, entries);
+        return push_last(part, alloc, at, option, value, message, out);
     }
-    push_first(others, part, alloc, at, option, value, message, entries)
+    push_first(others, part, alloc, at, option, value, message, out)
 }
 
 /// As [`push_path`], of a part that others follow.
@@ -60,21 +58,21 @@ fn push_first(
     option: &[ProtobufOptionNamePart],
     value: &ProtobufConstant,
     message: &str,
-    entries: &mut Vec<Entry>,
+    out: &mut Vec<u8>,
 ) -> Result<(), ElabFailure>
     ensures { let s = option_place_view at.now in let p = option_part_syntax part.now in
         let ps = map option_part_syntax others.now in let c = constant_syntax value.now in
-        Elaborates (λ u. map entry_view entries.new.items) result
+        Elaborates (λ u. out.new.items) result
         (part_faults s message.now p ++ flat_map (through_faults s (path_said option.now) c p ps)
         (option_to_list (part_field s message.now p)))
-        (map entry_view entries.old.items ++ flat_map (through_items s c ps)
-        (option_to_list (part_field s message.now p))) }
+        (out.old.items ++ bytes_of_items (flat_map (through_items s c ps)
+        (option_to_list (part_field s message.now p)))) }
 {
     let field = part_field(alloc, at, message, part)?;
-    push_through(others, part, alloc, at, option, value, field, entries)
+    push_through(others, part, alloc, at, option, value, field, out)
 }
 
-/// Adds the entry of the field with the message in which the other parts stand.
+/// Adds the bytes of the message in which the other parts stand, under the field's number.
 #[cycle(path)]
 #[tactic(auto, using(protobuf_parse_model::proofs::Blaming::blames_left, protobuf_parse_model::proofs::Blaming::blames_right))]
 fn push_through(
@@ -85,14 +83,14 @@ fn push_through(
     option: &[ProtobufOptionNamePart],
     value: &ProtobufConstant,
     field: &FieldDescriptorProto,
-    entries: &mut Vec<Entry>,
+    out: &mut Vec<u8>,
 ) -> Result<(), ElabFailure>
     ensures { let s = option_place_view at.now in let p = option_part_syntax part.now in
         let ps = map option_part_syntax others.now in let c = constant_syntax value.now in
         let f = field_view field.now in
-        Elaborates (λ u. map entry_view entries.new.items) result
+        Elaborates (λ u. out.new.items) result
         (through_faults s (path_said option.now) c p ps f)
-        (map entry_view entries.old.items ++ through_items s c ps f) }
+        (out.old.items ++ bytes_of_items (through_items s c ps f)) }
 {
     check_number(alloc, field)?;
     check_step(alloc, part, field)?;
@@ -106,11 +104,11 @@ fn push_through(
         type_name_of(field),
         &mut inside,
     )?;
-    push_item(entries, field, EntryValue::Message(inside))?;
+    push_inside(out, field, &inside)?;
     Ok(())
 }
 
-/// Adds the entries that the constant gives to the field of the message that the only part means.
+/// Adds the bytes of what the constant gives to the field of the message that the only part means.
 #[tactic(auto, using(protobuf_parse_model::proofs::Blaming::blames_left))]
 pub fn push_last(
     part: &ProtobufOptionNamePart,
@@ -119,16 +117,16 @@ pub fn push_last(
     option: &[ProtobufOptionNamePart],
     value: &ProtobufConstant,
     message: &str,
-    entries: &mut Vec<Entry>,
+    out: &mut Vec<u8>,
 ) -> Result<(), ElabFailure>
     ensures { let s = option_place_view at.now in let ps = option_part_syntax part.now ∷ [] in
         let c = constant_syntax value.now in
-        Elaborates (λ u. map entry_view entries.new.items) result
+        Elaborates (λ u. out.new.items) result
         (path_faults s (path_said option.now) c message.now ps)
-        (map entry_view entries.old.items ++ path_items s c message.now ps) }
+        (out.old.items ++ bytes_of_items (path_items s c message.now ps)) }
 {
     let field = part_field(alloc, at, message, part)?;
-    push_given(value, alloc, at, option, field, entries)
+    push_given(value, alloc, at, option, field, out)
 }
 
 /// Refuses a field that other parts follow and that is no message: E24 for a group, E16 for any

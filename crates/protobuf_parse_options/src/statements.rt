@@ -9,11 +9,11 @@ ghost use Rattle.protobuf_parse_model.specs.BuiltinOptions.{options_seen};
 ghost use Rattle.protobuf_parse_options.specs.CustomFaults.{builtin_step_faults, custom_faults};
 ghost use Rattle.protobuf_parse_options.specs.CustomFaults.{custom_name_faults};
 ghost use Rattle.protobuf_parse_options.specs.CustomFaults.{custom_statement_faults};
-ghost use Rattle.protobuf_parse_options.specs.CustomOptions.{denotes, items_of_option, path_items};
+ghost use Rattle.protobuf_parse_options.specs.CustomOptions.{denotes, path_items};
 ghost use Rattle.protobuf_parse_wire.specs.Encoded.{encoded};
+ghost use Rattle.protobuf_parse_options.specs.Given.{bytes_of_items, bytes_of_option};
 ghost use Rattle.protobuf_parse_options.specs.Given.{option_place_view};
 ghost use Rattle.protobuf_parse_options.specs.OptionFields.{options_message};
-ghost use Rattle.protobuf_parse_wire.specs.Views.{entry_view};
 
 use crate::option_place::OptionPlace;
 use crate::paths::push_path;
@@ -22,7 +22,6 @@ use protobuf_parse_model::{Construct, ElabErrorKind, ElabFailure, fault};
 use protobuf_parse_syntax::{
     ProtobufConstant, ProtobufOption, ProtobufOptionName, ProtobufOptionNamePart,
 };
-use protobuf_parse_wire::{Entry, encode};
 use std::alloc::Global;
 
 /// The bytes that spell what the statements of the construct denote.
@@ -36,28 +35,27 @@ pub fn bytes_of(
         Elaborates (λ v. v.items) result (custom_statement_faults s construct os)
         (encoded (denotes s construct os)) }
 {
-    let mut entries = Vec::with_capacity(alloc, options.len())?;
-    push_options(alloc, at, construct, options, &mut entries)?;
-    let bytes = encode(alloc, &entries)?;
+    let mut bytes = Vec::new(alloc);
+    push_options(alloc, at, construct, options, &mut bytes)?;
     Ok(bytes)
 }
 
-/// Adds the entries that the statements give, in their order.
+/// Adds the bytes of what the statements give, in their order.
 #[tactic(auto, using(protobuf_parse_model::proofs::Blaming::blames_at))]
 fn push_options(
     alloc: Global,
     at: &OptionPlace<'_, '_>,
     construct: Construct,
     options: &[&ProtobufOption],
-    entries: &mut Vec<Entry>,
+    out: &mut Vec<u8>,
 ) -> Result<(), ElabFailure>
     ensures { let s = option_place_view at.now in let os = options_seen options.now in
-        Elaborates (λ u. map entry_view entries.new.items) result
+        Elaborates (λ u. out.new.items) result
         (custom_statement_faults s construct os)
-        (map entry_view entries.old.items ++ flat_map (items_of_option s construct) os) }
+        (out.old.items ++ flat_map (bytes_of_option s construct) os) }
 {
     'options: for option in options {
-        push_option(alloc, at, construct, option, entries)?;
+        push_option(alloc, at, construct, option, out)?;
     }
     Ok(())
 }
@@ -67,17 +65,17 @@ fn push_option(
     at: &OptionPlace<'_, '_>,
     construct: Construct,
     option: &ProtobufOption,
-    entries: &mut Vec<Entry>,
+    out: &mut Vec<u8>,
 ) -> Result<(), ElabFailure>
     ensures { let s = option_place_view at.now in let o = option_syntax option.now in
-        Elaborates (λ u. map entry_view entries.new.items) result
+        Elaborates (λ u. out.new.items) result
         (custom_name_faults s construct o.value o.name)
-        (map entry_view entries.old.items ++ items_of_option s construct o) }
+        (out.old.items ++ bytes_of_option s construct o) }
 {
     match &option.name {
         ProtobufOptionName::Builtin(_) => Ok(()),
         ProtobufOptionName::Custom(parts) => {
-            push_custom(alloc, at, construct, parts, &option.value, entries)
+            push_custom(alloc, at, construct, parts, &option.value, out)
         }
     }
 }
@@ -88,12 +86,12 @@ fn push_custom(
     construct: Construct,
     parts: &[ProtobufOptionNamePart],
     value: &ProtobufConstant,
-    entries: &mut Vec<Entry>,
+    out: &mut Vec<u8>,
 ) -> Result<(), ElabFailure>
     ensures { let s = option_place_view at.now in let ps = map option_part_syntax parts.now in
         let c = constant_syntax value.now in
-        Elaborates (λ u. map entry_view entries.new.items) result (custom_faults s construct c ps)
-        (map entry_view entries.old.items ++ path_items s c (options_message construct) ps) }
+        Elaborates (λ u. out.new.items) result (custom_faults s construct c ps)
+        (out.old.items ++ bytes_of_items (path_items s c (options_message construct) ps)) }
 {
     let [first, ..] = parts else {
         return Ok(());
@@ -102,7 +100,7 @@ fn push_custom(
         ProtobufOptionNamePart::Direct(name) => Err(plain_first(alloc, construct, name)),
         ProtobufOptionNamePart::Ext(_) => {
             let message = options_message(construct);
-            push_path(parts, alloc, at, parts, value, message, entries)
+            push_path(parts, alloc, at, parts, value, message, out)
         }
     }
 }

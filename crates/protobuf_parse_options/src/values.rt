@@ -1,38 +1,57 @@
 //! Values that are no lists and no messages.
 
-ghost use Rattle.std.specs.Prelude.{◌≡◌, ◌++◌, map, OnOk};
+ghost use Rattle.std.specs.Prelude.{◌≡◌, ◌++◌, List, OnOk};
+ghost use Rattle.protobuf_parse_model.specs.declared.descriptor.FieldType.TheVariants.{Message};
 ghost use Rattle.protobuf_parse_model.specs.Descriptors.{field_view};
 ghost use Rattle.protobuf_parse_model.specs.Faults.{Elaborates};
 ghost use Rattle.protobuf_parse_options.specs.CustomFaults.{integer_faults, truth_faults};
 ghost use Rattle.protobuf_parse_options.specs.CustomFaults.{value_name_faults, number_faults};
-ghost use Rattle.protobuf_parse_options.specs.CustomOptions.{item_of};
+ghost use Rattle.protobuf_parse_options.specs.CustomOptions.{item_of, item_of_message};
+ghost use Rattle.protobuf_parse_options.specs.Given.{AreFit, bytes_of_items};
 ghost use Rattle.protobuf_parse_options.specs.OptionFields.{integer_kind, type_takes};
-ghost use Rattle.protobuf_parse_wire.specs.Views.{entry_view, entry_value_view};
+ghost use Rattle.protobuf_parse_wire.specs.Views.{WireItem, entry_value_view};
 
 use crate::refuse::not_taken;
 use protobuf_parse_model::{ElabErrorKind, ElabFailure, FieldDescriptorProto, FieldType, fault};
-use protobuf_parse_wire::{Entry, EntryValue, Kind};
+use protobuf_parse_wire::{Entry, EntryValue, Kind, encode_into, put_message};
 use std::alloc::{AllocError, Global};
+use std::slice;
 
-/// Adds the entry of the field with the value.
-#[inline(always)]
+/// Adds the bytes of the field with the value, which is one of the field's type.
 pub fn push_item(
-    entries: &mut Vec<Entry>,
+    alloc: Global,
+    out: &mut Vec<u8>,
     field: &FieldDescriptorProto,
     value: EntryValue,
 ) -> Result<(), AllocError>
-    ensures { OnOk result (map entry_view entries.new.items ≡ map entry_view entries.old.items
-        ++ item_of (field_view field.now) (entry_value_view value)) }
+    requires { AreFit (item_of (field_view field.now) (entry_value_view value)) }
+    ensures { OnOk result (out.new.items ≡ out.old.items
+        ++ bytes_of_items (item_of (field_view field.now) (entry_value_view value))) }
 {
     if let Some(kind) = Kind::of(field.type_) {
         let number = field.number.unsigned_abs();
-        entries.push(Entry {
+        let entry = Entry {
             number,
             kind,
             value,
-        })?;
+        };
+        encode_into(alloc, out, slice::from_ref(&entry))?;
     }
     Ok(())
+}
+
+/// Adds the bytes of the field with the message whose bytes are these.
+pub fn push_inside(
+    out: &mut Vec<u8>,
+    field: &FieldDescriptorProto,
+    inside: &[u8],
+) -> Result<(), AllocError>
+    requires { (field_view field.now).type_ ≡ Message }
+    ensures { OnOk result ((items : List WireItem) → inside.now ≡ bytes_of_items items
+        → out.new.items ≡ out.old.items
+        ++ bytes_of_items (item_of_message (field_view field.now) items)) }
+{
+    put_message(out, field.number.unsigned_abs(), inside)
 }
 
 /// The kind of the integers that a field of the type takes.

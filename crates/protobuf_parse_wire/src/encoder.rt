@@ -1,6 +1,6 @@
 //! Writing entries at the end of bytes.
 
-ghost use Rattle.std.specs.Prelude.{◌≡◌, ◌++◌, [], OnOk, IfOk};
+ghost use Rattle.std.specs.Prelude.{◌≡◌, ◌+◌, ◌*◌, ◌++◌, [], OnOk, IfOk};
 ghost use Rattle.protobuf_parse_wire.specs.Kinds.{InRange, shape_of_kind, wire_type};
 ghost use Rattle.protobuf_parse_wire.specs.Wire.{Spells, zigzag_of};
 ghost use Rattle.protobuf_parse_wire.specs.Writing.{AreWritable, IsWritable};
@@ -43,6 +43,15 @@ pub fn encode_into(alloc: Global, out: &mut Vec<u8>, entries: &[Entry]) -> Resul
         put_value(alloc, out, entry.kind, &entry.value)?;
     }
     Ok(())
+}
+
+/// Writes the record of a message with that field number, whose bytes are written already.
+pub fn put_message(out: &mut Vec<u8>, number: u32, inside: &[u8]) -> Result<(), AllocError>
+    ensures { OnOk result
+        (out.new.items ≡ out.old.items ++ (varint_of (number * 8 + 2) ++ delimited inside.now)) }
+{
+    put_varint(out, u64::from(number) * 8 + 2)?;
+    put_delimited(out, inside)
 }
 
 #[cycle(entry)]

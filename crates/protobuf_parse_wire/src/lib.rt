@@ -9,7 +9,7 @@ mod kind;
 mod law;
 mod reader;
 
-pub use encoder::{encode, encode_into};
+pub use encoder::{encode, encode_into, put_message};
 pub use entry::{Entry, EntryValue};
 pub use fault::ReadFault;
 pub use field::{ReadField, ReadValue};

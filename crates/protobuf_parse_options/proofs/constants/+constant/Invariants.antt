@@ -2,11 +2,9 @@ use Rattle.std.proofs.Common.{◌≡◌, ◌++◌, [], map, flat_map, take}
 use Rattle.protobuf_parse_syntax.specs.Trees.{constant_field_syntax, constant_syntax}
 use Rattle.protobuf_parse_model.specs.Descriptors.{field_view}
 use Rattle.protobuf_parse_options.specs.CustomFaults.{constant_faults}
-use Rattle.protobuf_parse_options.specs.CustomOptions.{value_items}
-use Rattle.protobuf_parse_options.specs.Given.{field_faults_of, given_field_items}
+use Rattle.protobuf_parse_options.specs.Given.{field_faults_of, given_field_bytes, value_bytes}
 use Rattle.protobuf_parse_options.specs.Given.{option_place_view}
 use Rattle.protobuf_parse_options.specs.Given.{path_said}
-use Rattle.protobuf_parse_wire.specs.Views.{entry_view}
 use Rattle.protobuf_parse_options.proofs.constants.+constant.Given as goal
 
 abbrev pub invariant-push_list-items : goal.invariant-push_list-items
@@ -15,8 +13,7 @@ invariant-push_list-items l =
     let cs = map constant_syntax (take l.item-index l.items) in
     record {
       no_fault : flat_map (constant_faults s (path_said l.option) (field_view l.field)) cs ≡ [];
-      all : map entry_view l.entries.items ≡ map entry_view l.fn.entries.items ++ flat_map
-          (value_items s (field_view l.field)) cs;
+      all : l.out.items ≡ l.fn.out.items ++ flat_map (value_bytes s (field_view l.field)) cs;
     }
 
 abbrev pub invariant-push_fields-fields : goal.invariant-push_fields-fields
@@ -25,6 +22,5 @@ invariant-push_fields-fields l =
     let fs = map constant_field_syntax (take l.field-index l.fields) in
     record {
       no_fault : flat_map (field_faults_of s (path_said l.option) l.message) fs ≡ [];
-      all : map entry_view l.entries.items ≡ map entry_view l.fn.entries.items ++ flat_map
-          (given_field_items s l.message) fs;
+      all : l.out.items ≡ l.fn.out.items ++ flat_map (given_field_bytes s l.message) fs;
     }

@@ -1,7 +1,6 @@
-use Rattle.std.proofs.Common.{map, arith}
+use Rattle.std.proofs.Common.{arith}
 use Rattle.protobuf_parse_syntax.specs.Trees.{constant_syntax}
 use Rattle.protobuf_parse_options.specs.Given.{option_place_view}
-use Rattle.protobuf_parse_wire.specs.Views.{entry_view}
 use Rattle.protobuf_parse_options.proofs.Stated.{extension_given, plain_blamed}
 use Rattle.protobuf_parse_options.proofs.statements.push_custom.Goals as goal
 
@@ -14,9 +13,9 @@ returns-in-Direct c =
 
 pub returns-in-Ext : goal.returns-in-Ext
 returns-in-Ext c =
-    extension_given (λ u. map entry_view c.push_path.new.entries.items) c.push_path.result
+    extension_given (λ u. c.push_path.new.out.items) c.push_path.result
     (option_place_view c.args.at.now) c.args.construct
     (constant_syntax c.args.value.now) c.args.parts.now
     c.first-item.result c.in-Ext.field-0 c.options_message-message.result.now
-    (map entry_view c.args.entries.now.items) (omega arith)
+    c.args.out.now.items (omega arith)
     c.first-item.is c.in-Ext.is c.options_message-message.ensures c.push_path.ensures

@@ -1,9 +1,7 @@
-use Rattle.std.proofs.Common.{◌≡◌, ◌++◌, [], map, flat_map, take}
+use Rattle.std.proofs.Common.{◌≡◌, ◌++◌, [], flat_map, take}
 use Rattle.protobuf_parse_model.specs.BuiltinOptions.{options_seen}
 use Rattle.protobuf_parse_options.specs.CustomFaults.{custom_statement_faults}
-use Rattle.protobuf_parse_options.specs.CustomOptions.{items_of_option}
-use Rattle.protobuf_parse_options.specs.Given.{option_place_view}
-use Rattle.protobuf_parse_wire.specs.Views.{entry_view}
+use Rattle.protobuf_parse_options.specs.Given.{bytes_of_option, option_place_view}
 use Rattle.protobuf_parse_options.proofs.statements.push_options.Given as goal
 
 abbrev pub invariant-options : goal.invariant-options
@@ -12,6 +10,5 @@ invariant-options l =
     let os = options_seen (take l.option-index l.options) in
     record {
       no_fault : custom_statement_faults s l.construct os ≡ [];
-      all : map entry_view l.entries.items ≡ map entry_view l.fn.entries.items ++ flat_map
-          (items_of_option s l.construct) os;
+      all : l.out.items ≡ l.fn.out.items ++ flat_map (bytes_of_option s l.construct) os;
     }
