@@ -293,8 +293,8 @@ def comment(n):
 
 # ---- names that collide
 
-# The hash maps have keys that are known: each step multiplies the state, mixed with eight bytes of
-# the name, by the eight bytes behind them. Where the state is just these bytes the product is 0,
+# The hash has keys that are known: each step multiplies the state, mixed with eight bytes of the
+# name, by the eight bytes behind them. Where the state is just these bytes the product is 0,
 # whatever stands behind them.
 WORD = (1 << 64) - 1
 FACTOR = 0x9E3779B97F4A7C15
@@ -311,20 +311,28 @@ def word(text):
     return int.from_bytes(text.encode(), "little")
 
 
-def colliding_front(length):
-    """24 characters behind which eight others don't count for a name of this length."""
+def mixed(state, text):
+    """The hash's state after 16 more characters."""
+    return folded(word(text[:8]) ^ state, word(text[8:]) ^ FACTOR)
+
+
+def colliding_front(before):
+    """24 characters behind which eight others don't count. The name is `before`, of a multiple of
+    16 characters, and 48 more."""
     is_letter = set(map(ord, LETTERS))
-    state = START + length & WORD
+    state = START + len(before) + 48 & WORD
+    for at in range(0, len(before), 16):
+        state = mixed(state, before[at : at + 16])
     for i in range(1 << 30):
         front = "a" + format(i, "015d")
-        after = folded(word(front[:8]) ^ state, word(front[8:]) ^ FACTOR).to_bytes(8, "little")
+        after = mixed(state, front).to_bytes(8, "little")
         if is_letter.issuperset(after):
             return front + after.decode()
 
 
-def colliding(n):
-    """n names of 48 characters that have one hash."""
-    front = colliding_front(48)
+def colliding(n, before=""):
+    """n names that have one hash: `before`, of a multiple of 16 characters, and 48 more."""
+    front = before + colliding_front(before)
     return (f"{front}{i:08d}abcdefghijklmnop" for i in range(n))
 
 
@@ -336,18 +344,11 @@ def collisions(n):
 
 
 def agreeing(n):
-    """One message with n fields, 1024 at most, whose names differ and have one number each: the sum
-    of their bytes times powers of an odd number, modulo 2^64, is the same for both of two words that
-    are made from one another over and over."""
-    words = ("a", "b")
-    for _ in range(10):
-        words = (words[0] + words[1], words[1] + words[0])
+    """One message with n fields whose names have one hash and 10,240 characters, all alike but for
+    eight near their end: 10.5 MB at n = 1024."""
+    alike = list(colliding(n, "a" * 10192))
     yield PROTO2
-    yield from block(
-        "message M",
-        n,
-        lambda i: f"optional int32 {''.join(words[i >> bit & 1] for bit in range(10))} = {i + 1};",
-    )
+    yield from block("message M", n, lambda i: f"optional int32 {alike[i]} = {field_number(i)};")
 
 
 def paths(n):
@@ -382,6 +383,7 @@ HELPERS = (
     wide_option,
     folded,
     word,
+    mixed,
     colliding_front,
     colliding,
     declared_options,

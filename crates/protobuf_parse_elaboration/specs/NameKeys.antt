@@ -1,15 +1,8 @@
 -- No public clause rests on this file.
 -- A number by which names are told apart quickly.
-use Rattle.std.specs.Prelude.{ℕ, ◌+◌, ◌*◌, ◌%◌, ◌^◌, List, [], ◌∷◌}
+use Rattle.std.specs.Prelude.{ℕ, List}
+use Rattle.std.specs.Hash.FoldHasher.{initial, write, finish}
 
--- the number after one more byte
-abbrev pub key_with : ℕ → ℕ → ℕ
-key_with key byte = (key * 1099511628211 % 2 ^ 64 + byte) % 2 ^ 64
-
--- the number after more bytes
-abbrev pub key_after : ℕ → List ℕ → ℕ
-key_after key [] = key
-key_after key (b ∷ bs) = key_after (key_with key b) bs
-
+-- what the hasher of std's maps makes of a name's bytes
 abbrev pub key_of : List ℕ → ℕ
-key_of name = key_after 0 name
+key_of name = finish (write initial name)

@@ -7,6 +7,7 @@ ghost use Rattle.protobuf_parse_model.specs.Duplicates.{duplicates};
 ghost use Rattle.protobuf_parse_elaboration.specs.NameKeys.{key_of};
 
 use std::alloc::{AllocError, Global};
+use std::hash::{FoldHasher, Hasher};
 
 /// Whether these names have different keys, so that no name stands among those before it. Names
 /// that differ seldom share a key; where some do, this is no answer.
@@ -31,15 +32,13 @@ fn keys_of(alloc: Global, names: &[&str]) -> Result<Vec<u64>, AllocError>
     Ok(keys)
 }
 
-/// A number that each byte of a name changes.
+/// A name's hash: a multiplication for each sixteen bytes.
 fn key_of(name: &[u8]) -> u64
     ensures { result ≡ key_of name.now }
 {
-    let mut key: u64 = 0;
-    for byte in name {
-        key = key.wrapping_mul(1099511628211).wrapping_add(*byte as u64);
-    }
-    key
+    let mut hasher = FoldHasher::default();
+    hasher.write(name);
+    hasher.finish()
 }
 
 /// Whether each number is larger than the one before it.
