@@ -1,3 +1,4 @@
 pub mod Appending
 pub mod OptionLines
+pub mod PlainRuns
 pub mod Quoting

@@ -13,7 +13,7 @@ ghost use Rattle.protobuf_parse_listing.specs.Listing as spec;
 
 use crate::fields::{put_extensions, put_fields, put_words_if};
 use crate::pieces::{
-    begin_line, end_line, put_equals, put_line, put_line_if_some, put_number, put_optional_line,
+    begin_line, end_line, put_line, put_line_if_some, put_number, put_optional_line,
     put_range_line, put_reserved_names,
 };
 use crate::settings::{
@@ -376,7 +376,7 @@ fn put_enum_value_words(
         ++ spec.enum_value_words (enum_value_view value.now)) }
 {
     text.push_str(&value.name)?;
-    put_equals(text)?;
+    text.push_str(" = ")?;
     put_number(text, value.number)
 }
 

@@ -8,7 +8,7 @@ ghost use Rattle.protobuf_parse_model.specs.Descriptors.{field_view};
 ghost use Rattle.protobuf_parse_listing.specs.Listing as spec;
 ghost use Rattle.protobuf_parse_listing.specs.Parts.{after_label, front_after_label};
 
-use crate::pieces::{begin_line, end_line, put_equals, put_number, put_quoted};
+use crate::pieces::{begin_line, end_line, end_quoted, put_number};
 use crate::settings::put_field_options;
 use protobuf_parse_model::{FieldDescriptorProto, FieldType, Label};
 use std::alloc::{AllocError, Global};
@@ -130,7 +130,7 @@ fn put_field_front(text: &mut String, field: &FieldDescriptorProto) -> Result<()
 {
     put_type(text, field.type_, &field.type_name)?;
     text.push_str(&field.name)?;
-    put_equals(text)?;
+    text.push_str(" = ")?;
     put_number(text, field.number)
 }
 
@@ -153,7 +153,7 @@ fn put_type(
 }
 
 /// ` json "J"`, and what else is set.
-#[tactic(auto, unfolding(crate::specs::Listing::field_back))]
+#[tactic(auto, unfolding(crate::specs::Listing::field_back, crate::specs::Listing::quoted))]
 fn put_field_back(
     alloc: Global,
     text: &mut String,
@@ -162,13 +162,14 @@ fn put_field_back(
     ensures { OnOk result
         (string_bytes text.new ≡ string_bytes text.old ++ spec.field_back (field_view field.now)) }
 {
-    text.push_str(" json ")?;
-    put_quoted(alloc, text, &field.json_name)?;
+    text.push_str(" json \"")?;
+    end_quoted(alloc, text, &field.json_name)?;
     put_default(alloc, text, &field.default_value)?;
     put_oneof_index(text, field.oneof_index)?;
     put_words_if(text, field.proto3_optional, " proto3_optional")
 }
 
+#[tactic(auto, unfolding(crate::specs::Listing::quoted))]
 fn put_default(alloc: Global, text: &mut String, value: &Option<String>) -> Result<(), AllocError>
     ensures { OnOk result
         (string_bytes text.new ≡ string_bytes text.old
@@ -177,8 +178,8 @@ fn put_default(alloc: Global, text: &mut String, value: &Option<String>) -> Resu
     match value {
         None => Ok(()),
         Some(value) => {
-            text.push_str(" default ")?;
-            put_quoted(alloc, text, value)
+            text.push_str(" default \"")?;
+            end_quoted(alloc, text, value)
         }
     }
 }

@@ -1,7 +1,7 @@
 //! What lines are made of.
 
-ghost use Rattle.std.specs.Prelude.{◌≡◌, ◌*◌, [], ◌∷◌, ◌++◌, OnOk, codes, flat_map, map};
-ghost use Rattle.std.specs.Prelude.{option_map, replicate};
+ghost use Rattle.std.specs.Prelude.{◌≡◌, ◌<◌, ◌≤◌, ◌+◌, ◌*◌, [], ◌∷◌, ◌++◌, OnOk, codes};
+ghost use Rattle.std.specs.Prelude.{drop, flat_map, length, map, option_map, replicate, take};
 ghost use Rattle.std.specs.Fmt.{signed_decimal};
 ghost use Rattle.std.specs.List.{list_all};
 ghost use Rattle.std.specs.String.{string_bytes};
@@ -13,6 +13,10 @@ ghost use Rattle.protobuf_parse_listing.specs.Plain as plain;
 use itoa::Buffer;
 use protobuf_parse_base::text::escape_bytes;
 use std::alloc::{AllocError, Global};
+use std::simd::prelude::*;
+
+// How many bytes are printable in ASCII, the first of them the space.
+const PRINTABLE: u8 = b'~' - b' ' + 1;
 
 // Each byte that is not escaped stands at its own place, and an apostrophe at every other place.
 static PLAIN_MAP: [u8; 256] = *b"\
@@ -116,16 +120,6 @@ fn put_range_words(text: &mut String, start: i32, end: i32) -> Result<(), AllocE
     put_number(text, end)
 }
 
-/// ` = `, by characters, which costs less than a call that copies them.
-#[inline(always)]
-pub fn put_equals(text: &mut String) -> Result<(), AllocError>
-    ensures { OnOk result (string_bytes text.new ≡ string_bytes text.old ++ codes " = ") }
-{
-    text.push(' ')?;
-    text.push('=')?;
-    text.push(' ')
-}
-
 /// The number in decimal digits: most have one.
 #[inline(always)]
 #[tactic(auto, using(std::proofs::lemmas::Fmt::decimal_digit))]
@@ -147,17 +141,9 @@ fn put_indent(text: &mut String, level: usize) -> Result<(), AllocError>
         (string_bytes text.new ≡ string_bytes text.old ++ replicate (2 * level) char.space) }
 {
     for done in 0..level {
-        put_two_spaces(text)?;
+        text.push_str("  ")?;
     }
     Ok(())
-}
-
-/// By characters too.
-fn put_two_spaces(text: &mut String) -> Result<(), AllocError>
-    ensures { OnOk result (string_bytes text.new ≡ string_bytes text.old ++ codes "  ") }
-{
-    text.push(' ')?;
-    text.push(' ')
 }
 
 /// The words in double quotes, escaped.
@@ -166,27 +152,91 @@ pub fn put_quoted(alloc: Global, text: &mut String, words: &str) -> Result<(), A
     ensures { OnOk result (string_bytes text.new ≡ string_bytes text.old ++ spec.quoted words.now) }
 {
     text.push('"')?;
+    end_quoted(alloc, text, words)
+}
+
+/// The words as they are escaped between double quotes, and the closing one.
+#[inline(always)]
+pub fn end_quoted(alloc: Global, text: &mut String, words: &str) -> Result<(), AllocError>
+    ensures { OnOk result
+        (string_bytes text.new ≡ string_bytes text.old
+        ++ (escaped_bytes words.now ++ char.quote ∷ [])) }
+{
     put_escaped(alloc, text, words)?;
     text.push('"')
 }
 
 /// The words as they are escaped between double quotes: most as they are.
+#[inline(always)]
 fn put_escaped(alloc: Global, text: &mut String, words: &str) -> Result<(), AllocError>
     ensures { OnOk result
         (string_bytes text.new ≡ string_bytes text.old ++ escaped_bytes words.now) }
 {
     if is_plain(words) {
-        return text.push_str(words);
+        text.push_str(words)
+    } else {
+        put_escapes(alloc, text, words)
     }
+}
+
+/// The same where some byte is escaped: apart, so that the room of this is not cleared for each
+/// name.
+#[inline(never)]
+fn put_escapes(alloc: Global, text: &mut String, words: &str) -> Result<(), AllocError>
+    ensures { OnOk result
+        (string_bytes text.new ≡ string_bytes text.old ++ escaped_bytes words.now) }
+{
     let escaped = escape_bytes(alloc, words.as_bytes())?;
     text.push_str(&escaped)
 }
 
-/// Whether each byte stands between double quotes as it is.
+/// Whether each byte stands between double quotes as it is: in short words one by one.
+#[inline(always)]
 fn is_plain(words: &str) -> bool
     ensures { result ≡ list_all plain.is_plain_byte words.now }
 {
-    words.as_bytes().iter().all(|byte| is_plain_byte(*byte))
+    let bytes = words.as_bytes();
+    if bytes.len() >= 16 {
+        return are_plain::<16>(bytes);
+    }
+    if bytes.len() >= 8 {
+        return are_plain::<8>(bytes);
+    }
+    bytes.iter().all(|byte| is_plain_byte(*byte))
+}
+
+/// The same, N bytes at a time. The last N are looked at together, even if some of them were
+/// before.
+#[inline(always)]
+fn are_plain<const N: usize>(bytes: &[u8]) -> bool
+    requires lanes { (0 < N) × (N ≤ 64) }
+    requires long { N ≤ length bytes.now }
+    ensures { result ≡ list_all plain.is_plain_byte bytes.now }
+{
+    let last = bytes.len() - N;
+    let mut at = 0;
+    'by_run: while at < last {
+        if !is_plain_run::<N>(bytes, at) {
+            return false;
+        }
+        at += N;
+    }
+    is_plain_run::<N>(bytes, last)
+}
+
+#[inline(always)]
+fn is_plain_run<const N: usize>(bytes: &[u8], at: usize) -> bool
+    requires lanes { N ≤ 64 }
+    requires room { at + N ≤ length bytes.now }
+    ensures { result ≡ list_all plain.is_plain_byte (take N (drop at bytes.now)) }
+{
+    let next = Simd::<u8, N>::from_slice(&bytes[at..]);
+    let from_space = next - Simd::splat(b' ');
+    let stops = from_space.simd_ge(Simd::splat(PRINTABLE))
+        | next.simd_eq(Simd::splat(b'"'))
+        | next.simd_eq(Simd::splat(b'\''))
+        | next.simd_eq(Simd::splat(b'\\'));
+    stops.to_bitmask() == 0
 }
 
 fn is_plain_byte(byte: u8) -> bool
@@ -222,7 +272,7 @@ fn put_reserved_name(
     ensures { OnOk result
         (string_bytes text.new ≡ string_bytes text.old ++ spec.reserved_name_line level name.now) }
 {
-    begin_line(text, level, "reserved_name ")?;
-    put_quoted(alloc, text, name)?;
+    begin_line(text, level, "reserved_name \"")?;
+    end_quoted(alloc, text, name)?;
     end_line(text)
 }

@@ -11,7 +11,7 @@ ghost use Rattle.protobuf_parse_model.specs.Options.{oneof_options_view, service
 ghost use Rattle.protobuf_parse_listing.specs.Listing as spec;
 ghost use Rattle.protobuf_parse_listing.specs.Settings.{setting_view, value_words};
 
-use crate::pieces::{begin_line, end_line, put_equals, put_line, put_quoted};
+use crate::pieces::{begin_line, end_line, put_line, put_quoted};
 use protobuf_parse_model::{
     CType, EnumOptions, EnumValueOptions, FieldOptions, FileOptions, IdempotencyLevel, JSType,
     MessageOptions, MethodOptions, OneofOptions, OptimizeMode, ServiceOptions,
@@ -223,7 +223,7 @@ fn put_setting(
         Some(value) => {
             begin_line(text, level, "option ")?;
             text.push_str(setting.name)?;
-            put_equals(text)?;
+            text.push_str(" = ")?;
             put_value(alloc, text, value)?;
             end_line(text)
         }
