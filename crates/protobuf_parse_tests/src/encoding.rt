@@ -4,7 +4,7 @@ ghost use Rattle.protobuf_parse_wire.specs.Kinds.{shape_of_kind};
 ghost use Rattle.protobuf_parse_wire.specs.Views.{entry_value_view};
 ghost use Rattle.protobuf_parse_wire.specs.Writing.{IsWritable};
 
-use protobuf_parse_wire::{Entry, EntryValue, Kind, encode};
+use protobuf_parse_wire::{Entry, EntryValue, Kind, encode, put_message};
 use std::alloc::{AllocError, Global};
 use std::slice;
 use std::test::Fail;
@@ -57,5 +57,11 @@ fn writes_messages(rt: HostRuntime) -> Result<(), Fail> {
     })?;
     let nested = written(alloc, 50003, Kind::Message, EntryValue::Message(entries))?;
     assert_eq!(rt; nested.as_str(), "9ab51803120178");
+    let mut bytes = Vec::new(alloc);
+    put_message(&mut bytes, 50003, &[0x12, 0x01, 0x78])?;
+    assert_eq!(rt;
+        hex::encode(alloc, bytes.as_slice())?.as_str(),
+        "9ab51803120178"
+    );
     Ok(())
 }
