@@ -7,8 +7,7 @@ use Rattle.std.specs.Global.{Vec}
 use Rattle.std.proofs.lemmas.List.{append-nil}
 use Rattle.protobuf_parse_model.specs.declared.descriptor.FieldType.{FieldType}
 use Rattle.protobuf_parse_model.specs.declared.descriptor.FieldType.TheVariants.{Message}
-use Rattle.protobuf_parse_model.specs.Descriptors.{FieldDescriptor, Text}
-use Rattle.protobuf_parse_model.specs.Faults.{Fault}
+use Rattle.protobuf_parse_model.specs.Descriptors.{FieldDescriptor}
 use Rattle.protobuf_parse_wire.specs.declared.kind.Kind.{Kind}
 use Rattle.protobuf_parse_wire.specs.declared.entry.EntryValue.{fold_out-EntryValue, the_lemmas}
 use Rattle.protobuf_parse_wire.specs.declared.entry.EntryValue.TheVariants.{Number, Bool as Truth, Bytes}
@@ -16,10 +15,7 @@ use Rattle.protobuf_parse_wire.specs.Encoded.{delimited, payload, varint_of}
 use Rattle.protobuf_parse_wire.specs.Kinds.{kind_of_field_type, shape_of_kind, wire_type}
 use Rattle.protobuf_parse_wire.specs.Trees as trees
 use Rattle.protobuf_parse_wire.specs.Views.{WireItem, entries_of_list, entry_value_view}
-use Rattle.protobuf_parse_options.specs.CustomFaults.{message_value_faults, number_faults}
-use Rattle.protobuf_parse_options.specs.CustomFaults.{step_faults}
 use Rattle.protobuf_parse_options.specs.CustomOptions.{item_of_message}
-use Rattle.protobuf_parse_options.specs.OptionFields.{messages, type_takes}
 use Rattle.protobuf_parse_options.specs.Given.{bytes_of_items}
 
 pub bytes_append : (xs ys : List WireItem)
@@ -54,7 +50,7 @@ bytes_seen v = search (rules, the_lemmas, fold_out-EntryValue)
 
 -- ---- messages
 
--- a message is written as its bytes, with their number before them
+-- a message is its tag, the number of its bytes, and these
 message_at : (n : ℕ) (t : FieldType) (items : List WireItem) → t ≡ Message
     → bytes_of_items (map (λ (k : Kind). record {
       number = n;
@@ -65,17 +61,6 @@ message_at : (n : ℕ) (t : FieldType) (items : List WireItem) → t ≡ Message
 message_at n Message items e = ap (λ (bs : List ℕ). varint_of (n * 8 + 2) ++ bs)
     (append-nil (delimited (bytes_of_items items)))
 message_at n _ items e = absurd cc
-
--- where no fault stands before it or in it
-pub no_message_fault : (name : Text) (t : FieldType) (inside : List Fault) → t ≡ Message
-    → inside ≡ [] → message_value_faults name (type_takes t) inside ≡ []
-no_message_fault name Message inside e h = h
-no_message_fault name _ inside e h = absurd cc
-
-pub no_step_fault : (f : FieldDescriptor) (part : Text) (inside : List Fault)
-    → number_faults f ≡ [] → type_takes f.type_ ≡ messages → inside ≡ []
-    → number_faults f ++ step_faults part (type_takes f.type_) inside ≡ []
-no_step_fault f part inside number takes h = rw (number, takes) h
 
 pub message_bytes : (f : FieldDescriptor) (items : List WireItem) → f.type_ ≡ Message
     → bytes_of_items (item_of_message f items)

@@ -13,18 +13,20 @@ use Rattle.protobuf_parse_syntax.specs.declared.tree.constant.ProtobufConstant.{
 use Rattle.protobuf_parse_syntax.specs.declared.tree.constant.ProtobufConstant.TheVariants.{List as Constants}
 use Rattle.protobuf_parse_syntax.specs.declared.tree.constant.ProtobufConstant.TheVariants.{Message as Fields}
 use Rattle.protobuf_parse_syntax.proofs.Views.{views_list, views_fields}
+use Rattle.protobuf_parse_model.specs.declared.descriptor.FieldType.{FieldType}
+use Rattle.protobuf_parse_model.specs.declared.descriptor.FieldType.TheVariants.{Message}
 use Rattle.protobuf_parse_model.specs.declared.error.ElabFailure.{ElabFailure}
 use Rattle.protobuf_parse_model.specs.Faults.{Elaborates, Fault}
 use Rattle.protobuf_parse_model.specs.Descriptors.{Text, FieldDescriptor}
 use Rattle.protobuf_parse_options.specs.CustomFaults.{constant_faults, list_faults, member_faults}
-use Rattle.protobuf_parse_options.specs.CustomFaults.{message_value_faults, part_faults}
-use Rattle.protobuf_parse_options.specs.CustomFaults.{path_faults}
+use Rattle.protobuf_parse_options.specs.CustomFaults.{message_value_faults, number_faults}
+use Rattle.protobuf_parse_options.specs.CustomFaults.{part_faults, path_faults, step_faults}
 use Rattle.protobuf_parse_options.specs.CustomOptions.{value_items, list_items, field_items}
 use Rattle.protobuf_parse_options.specs.CustomOptions.{item_of_message, path_items}
 use Rattle.protobuf_parse_options.specs.Given.{bytes_of_items, field_faults_of, given_field_items}
 use Rattle.protobuf_parse_options.specs.Given.{through_faults, through_items, value_bytes}
-use Rattle.protobuf_parse_options.specs.OptionFields.{OptionScope, part_field, type_takes}
-use Rattle.protobuf_parse_options.specs.OptionFields.{type_name_of}
+use Rattle.protobuf_parse_options.specs.OptionFields.{OptionScope, messages, part_field}
+use Rattle.protobuf_parse_options.specs.OptionFields.{type_name_of, type_takes}
 use Rattle.protobuf_parse_wire.specs.Views.{WireItem}
 use Rattle.protobuf_parse_options.proofs.ItemBytes.{bytes_flat_map}
 
@@ -52,6 +54,18 @@ pub field_items_are : (at : OptionScope) (message : Text) (fs : List ConstantFie
 field_items_are at message [] = refl
 field_items_are at message (f ∷ fs) = ap (λ xs. given_field_items at message f ++ xs)
     (field_items_are at message fs)
+
+-- ---- messages without faults
+
+pub no_message_fault : (name : Text) (t : FieldType) (inside : List Fault) → t ≡ Message
+    → inside ≡ [] → message_value_faults name (type_takes t) inside ≡ []
+no_message_fault name Message inside e h = h
+no_message_fault name _ inside e h = absurd cc
+
+pub no_step_fault : (f : FieldDescriptor) (part : Text) (inside : List Fault)
+    → number_faults f ≡ [] → type_takes f.type_ ≡ messages → inside ≡ []
+    → number_faults f ++ step_faults part (type_takes f.type_) inside ≡ []
+no_step_fault f part inside number takes h = rw (number, takes) h
 
 -- ---- what the code holds of them
 

@@ -88,8 +88,8 @@ number_kept k name v e =
     kept (shape_of_kind k) v (fits (shape_of_kind k) v)
     (record { kind = IntegerOutOfRange; what = name }) refl e
 
-pub number_fit : (name : Text) (t : FieldType) (n : ℕ) (z : ℤ) → integer_faults name (type_takes t) z
-    ≡ []
+pub number_fit : (name : Text) (t : FieldType) (n : ℕ) (z : ℤ)
+    → integer_faults name (type_takes t) z ≡ []
     → AreFit (item_at n t (trees.number z))
 number_fit name types.Int32 n z e = (number_kept kinds.Int32 name z e, tt)
 number_fit name types.Int64 n z e = (number_kept kinds.Int64 name z e, tt)
@@ -103,7 +103,8 @@ number_fit name types.Fixed64 n z e = (number_kept kinds.Fixed64 name z e, tt)
 number_fit name types.Sfixed64 n z e = (number_kept kinds.Sfixed64 name z e, tt)
 number_fit name _ n z e = absurd cc
 
-pub truth_fit : (name : Text) (t : FieldType) (n : ℕ) (b : Bool) → truth_faults name (type_takes t) ≡ []
+pub truth_fit : (name : Text) (t : FieldType) (n : ℕ) (b : Bool)
+    → truth_faults name (type_takes t) ≡ []
     → AreFit (item_at n t (trees.truth b))
 truth_fit name types.Bool n b e = (tt, tt)
 truth_fit name _ n b e = absurd cc

@@ -49,7 +49,7 @@ abbrev pub given_field_items : OptionScope → Text → ConstantFieldSyntax → 
 given_field_items at message f = flat_map (given_items at f.value)
     (option_to_list (constant_field at message f.name))
 
--- They can be written.
+-- The items can be written.
 abbrev pub AreFit : List WireItem → Type 0
 AreFit items = AreWritable (entries_of_list items)
 

@@ -1,4 +1,4 @@
-//! Values that are no lists and no messages.
+//! Values that are no lists, of messages those whose bytes are there.
 
 ghost use Rattle.std.specs.Prelude.{◌≡◌, ◌++◌, List, OnOk};
 ghost use Rattle.protobuf_parse_model.specs.declared.descriptor.FieldType.TheVariants.{Message};

@@ -5,8 +5,8 @@ use Rattle.protobuf_parse_options.specs.Given.{field_faults_of, given_field_byte
 use Rattle.protobuf_parse_options.specs.Given.{given_field_items}
 use Rattle.protobuf_parse_options.specs.Given.{option_place_view, path_said}
 use Rattle.protobuf_parse_options.specs.OptionFields.{type_name_of}
-use Rattle.protobuf_parse_options.proofs.ItemBytes.{bytes_flat_map, no_message_fault}
-use Rattle.protobuf_parse_options.proofs.Parts.{list_given, message_given}
+use Rattle.protobuf_parse_options.proofs.ItemBytes.{bytes_flat_map}
+use Rattle.protobuf_parse_options.proofs.Parts.{list_given, message_given, no_message_fault}
 use Rattle.protobuf_parse_options.proofs.constants.+constant.Goals as goal
 
 pub push_value-returns-in-List : goal.push_value-returns-in-List
@@ -38,8 +38,10 @@ push_message-returns-in_ok-push_inside-in-Message t c =
     × (c.push_fields.new.out.items ≡ flat_map (given_field_bytes s message) fs))
     c.type_name_of.ensures (
       c.in_ok-push_fields-in-Message.ensures.0,
-      c.in_ok-push_fields-in-Message.ensures.1 ∙ ap (λ (old : List ℕ). old
-          ++ flat_map (given_field_bytes s c.type_name_of.result.now) fs) c.new-inside.ensures.items,
+      c.in_ok-push_fields-in-Message.ensures.1
+          ∙ ap (λ (old : List ℕ). old
+          ++ flat_map (given_field_bytes s c.type_name_of.result.now) fs)
+          c.new-inside.ensures.items,
     ) in (
       no_message_fault f.name f.type_ _ c.in-Message.is given.0,
       c.in_ok-push_inside-in-Message.ensures _ (c.deref.ensures.value ∙ given.1

@@ -4,8 +4,7 @@ use Rattle.protobuf_parse_options.specs.CustomFaults.{path_faults}
 use Rattle.protobuf_parse_options.specs.CustomOptions.{path_items}
 use Rattle.protobuf_parse_options.specs.Given.{bytes_of_items, option_place_view, path_said}
 use Rattle.protobuf_parse_options.specs.OptionFields.{type_name_of}
-use Rattle.protobuf_parse_options.proofs.ItemBytes.{no_step_fault}
-use Rattle.protobuf_parse_options.proofs.Parts.{path_given}
+use Rattle.protobuf_parse_options.proofs.Parts.{no_step_fault, path_given}
 use Rattle.protobuf_parse_model.specs.Descriptors.{field_view, Text}
 use Rattle.protobuf_parse_options.proofs.paths.+path.Goals as goal
 
@@ -30,8 +29,10 @@ push_through-returns t c =
     × (c.push_path.new.out.items ≡ bytes_of_items (path_items s value message ps)))
     c.type_name_of.ensures (
       c.in_ok-push_path.ensures.0,
-      c.in_ok-push_path.ensures.1 ∙ ap (λ (old : List ℕ). old
-          ++ bytes_of_items (path_items s value c.type_name_of.result.now ps)) c.new-inside.ensures.items,
+      c.in_ok-push_path.ensures.1
+          ∙ ap (λ (old : List ℕ). old
+          ++ bytes_of_items (path_items s value c.type_name_of.result.now ps))
+          c.new-inside.ensures.items,
     )
     in (
       no_step_fault f _ _ c.in_ok-check_number.ensures.0 c.in_ok-check_step.ensures given.0,
