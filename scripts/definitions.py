@@ -13,7 +13,8 @@ from collections import defaultdict
 from pathlib import Path
 
 MARK = "-- No public clause rests on this file.\n"
-CRATES = "base lexer syntax model elaboration wire options listing run".split() + [""]
+CRATES = "base lexer syntax model elaboration wire options descriptor_set listing rules index".split()
+CRATES += ["run", ""]
 TOKEN = re.compile(r"[^\s(){};,λ\[\]`:!&]+")
 USE = r"(?:^|(?<=\n))\s*(?:ghost |pub |unfoldable )*use (Rattle\.[^\s{;]+?)"
 SIGNATURE = re.compile(
@@ -144,18 +145,21 @@ def public_clauses(crate):
     names, modules = exported(crate)
     for path in sorted((crate_folder(crate) / "src").rglob("*.rt")):
         lines = path.read_text().split("\n")
-        inside = None
+        inside, inherent = None, False
         for number, line in enumerate(lines):
             if re.match(r"(pub )?(impl|trait)\b", line):
                 inside = type_of(line)
+                inherent = "trait " not in line and " for " not in line
             if line == "}":
                 inside = None
             found = re.match(r"(\s*)(pub )?fn (\w+)", line)
             if found:
                 name = inside if found.group(1) else found.group(3)
-                if (found.group(2) or inside) and is_public(path, name, names, modules):
+                # a method of a trait is public without the word
+                shown = found.group(2) or (inside and not inherent)
+                if shown and is_public(path, name, names, modules):
                     yield lines, clauses_from(lines, number + 1)
-            elif inside and re.match(r"\s+ghost \w+[ :=]", line):
+            elif inside and re.match(r"\s+ghost (?!use )\w+[ :=]", line):
                 if is_public(path, inside, names, modules):
                     yield lines, "\n".join(lines[number : number + 6])
 

@@ -6,8 +6,10 @@
 For each row of the files of cases (or of those that are named), and for the program on some files
 (where nothing is named, or the word program), it runs the built program with its first request for
 memory refused, then with its second one, and so on until a run meets no refusal. Each run must say
-that it is out of memory, or give the row's answer; the last one gives the answer. Rows that make
-more than N requests (5000) have only each seventh, or each 70th, refused."""
+that it is out of memory, or give the row's answer; the last one gives the answer. The program may
+tell its usage too, in the runs where its arguments can't be read. Rows that make more than N
+requests (5000) have only each seventh, or each 70th, refused. The status is 0 if all runs are
+right."""
 
 import argparse
 import concurrent.futures
@@ -22,9 +24,14 @@ TOP = os.path.normpath(os.path.join(os.path.dirname(os.path.abspath(__file__)), 
 DATA = f"{TOP}/crates/protobuf_parse_cases/data"
 WELL = "one.cases: 1 of 1\n"
 MEMORY = "out of memory"
+# The rows of the program that have its two arguments, and one that has not. Where a request for the
+# arguments is refused, `main` hands over none, and the former tell their usage as the latter does.
+PROGRAM_ROWS = ("d/x.proto d", "d/b.proto d", "top.proto .", "a b")
+USAGE_ROW = "a"
+USAGE = "usage: parse-and-typecheck <input.proto> <include>\n"
 # What stands for it where the program that runs the cases lacks memory itself.
 OWN = re.compile(
-    r"(Error: (.*: )?|one.cases can't be read: (line \d+: )?)"
+    r"(Error: (.*: |one.cases\n\nCaused by:\n +)?|one.cases can't be read: (line \d+: )?)"
     r"(memory allocation failed|[Oo]ut of memory)\n"
 )
 SHORT = re.compile(
@@ -113,9 +120,7 @@ def is_right(status, text, verb):
         return True
     if found.startswith(f"{MEMORY} |"):
         return is_begun(found, wanted)
-    return bool(SHORT.fullmatch(found)) or (
-        verb == "fronts" and found.endswith(f" is at 0:0: {MEMORY}")
-    )
+    return bool(SHORT.fullmatch(found))
 
 
 def judged(title, runs, last):
@@ -145,18 +150,22 @@ def try_row(refuser, options, name, line, content):
         return judged(f"{name}:{line}", runs, right)
 
 
-def try_program(refuser, options, folder, words):
-    wanted = subprocess.run(
-        [options.program, *words], cwd=folder, stdout=subprocess.PIPE, stderr=subprocess.STDOUT
-    )
-    wanted = (wanted.returncode, wanted.stdout.decode())
+def try_program(refuser, options, folder, row):
+    words = [options.program, *row.split()]
+    run = subprocess.run(words, cwd=folder, stdout=subprocess.PIPE, stderr=subprocess.STDOUT)
+    wanted = (run.returncode, run.stdout.decode())
+    # Arguments are read before all else.
+    are_read = row == USAGE_ROW
 
     def right(status, text, met):
-        is_short = text == f"{MEMORY}\n" and os.waitstatus_to_exitcode(status) == 1
-        return (os.waitstatus_to_exitcode(status), text) == wanted or (met and is_short)
+        nonlocal are_read
+        told = (os.waitstatus_to_exitcode(status), text)
+        if not are_read and met and told == (1, USAGE):
+            return True
+        are_read = True
+        return told == wanted or (met and told == (1, f"{MEMORY}\n"))
 
-    runs = refuser.runs([options.program, *words], folder, options.most)
-    return judged(f"program {' '.join(words)}", runs, right)
+    return judged(f"program {row}", refuser.runs(words, folder, options.most), right)
 
 
 def tasks(refuser, options):
@@ -169,14 +178,8 @@ def tasks(refuser, options):
         for line, content in rows_of(f"{DATA}/{name}"):
             yield try_row, (refuser, options, name, line, content)
     if not options.names or "program" in options.names:
-        for words in (
-            ["d/x.proto", "d"],
-            ["d/b.proto", "d"],
-            ["top.proto", "."],
-            ["a", "b"],
-            ["a"],
-        ):
-            yield try_program, (refuser, options, DATA, words)
+        for row in (*PROGRAM_ROWS, USAGE_ROW):
+            yield try_program, (refuser, options, DATA, row)
 
 
 def main():

@@ -1,2 +1,3 @@
 pub mod Including
 pub mod Building
+mod NumbersApart

@@ -3,3 +3,4 @@ pub mod NameSets
 pub mod Includes
 pub mod Folders
 pub mod Parsers
+pub mod ApartInRuns

@@ -8,3 +8,4 @@ mod includes;
 pub use builder::{ParsedAndTypechecked, Parser};
 pub use command::program;
 pub use files::{FsReader, FsResolver, fs_resolver};
+pub use includes::proto_path_of;

@@ -2,9 +2,14 @@
 #![tactic(auto)]
 
 mod front;
+mod laws;
 pub mod pure;
+pub mod trees;
 
-pub use front::{FsReader, FsResolver, ParsedAndTypechecked, Parser, fs_resolver, program};
+pub use front::{
+    FsReader, FsResolver, ParsedAndTypechecked, Parser, fs_resolver, program, proto_path_of,
+};
+pub use laws::numbers_are_apart_in_runs;
 pub use protobuf_parse_base::Name;
 pub use protobuf_parse_base::names::laws::{
     into_absolute_undoes_to_root_rel, pop_undoes_push, remove_undoes_concat,
@@ -15,6 +20,9 @@ pub use protobuf_parse_base::names::{
 };
 pub use protobuf_parse_base::proto_path::{PathError, ProtoPath, ProtoPathBuf};
 pub use protobuf_parse_base::text::{camel_case, snake_case};
+pub use protobuf_parse_descriptor_set::{
+    custom_options_are_fields, descriptor_set, oneofs_are_moved,
+};
 pub use protobuf_parse_elaboration::{
     custom_options_are_of_sets, types_are_declared, types_are_looked_up,
 };
@@ -28,6 +36,7 @@ pub use protobuf_parse_model::{
     ServiceDescriptorProto, ServiceOptions,
 };
 pub use protobuf_parse_options::{extensions_are_looked_up, never_too_deep, options_are_not_read};
+pub use protobuf_parse_rules::{NamedKind, Rule, Violation, numbers_are_apart, violations};
 pub use protobuf_parse_run::{
     InputReader, ProtoPathResolver, ReadEntry, ReadInputFault, ReadOutcome, ResolveFault,
     ResolvedProtoFile, RunFault, RunInput, RunLog, bundled_files, custom_bytes_stand,
@@ -35,5 +44,6 @@ pub use protobuf_parse_run::{
 };
 pub use protobuf_parse_syntax::{ParserError, ParserErrorWithLocation};
 pub use protobuf_parse_wire::{
-    ReadFault, ReadField, ReadValue, read_custom, reader_reads_records, spelled_is_read,
+    ReadFault, ReadField, ReadValue, read_custom, reader_reads_records, reader_reads_varints,
+    spelled_is_read,
 };

@@ -19,6 +19,12 @@ use std::alloc::Global;
 ///
 /// The error is that of the text: S1 to S20 at their line and column, both counted from 1, the
 /// column in characters; or want of memory, at 0:0.
+///
+/// ```
+/// for path in &parse_dependencies(alloc, text)?.dependency {
+///     write!(lines, "{path}\n")?;
+/// }
+/// ```
 pub fn parse_dependencies(
     alloc: Global,
     text: &str,

@@ -2,8 +2,12 @@
 use Rattle.std.specs.Prelude.{List, ℕ}
 use Rattle.std.specs.String.{string_bytes}
 use Rattle.protobuf_parse_base.specs.declared.name.Name.{Name}
-use Rattle.protobuf_parse_base.specs.declared.name.Name.TheVariants as name
+use Rattle.protobuf_parse_base.specs.declared.name.Text.{Text}
+use Rattle.protobuf_parse_base.specs.declared.name.Text.TheVariants as text
+
+abbrev pub text_bytes : Text → List ℕ
+text_bytes (text.Short s) = s.bytes
+text_bytes (text.Long s) = string_bytes s
 
 abbrev pub name_bytes : Name → List ℕ
-name_bytes (name.Short s) = s.bytes
-name_bytes (name.Long s) = string_bytes s
+name_bytes name = text_bytes name.text

@@ -5,6 +5,7 @@ pub mod DeclaredNames
 pub mod Undo
 pub mod Paths
 pub mod PathViews
+pub mod ByText
 pub mod Cases
 pub mod Escapes
 pub mod Relations
@@ -15,3 +16,4 @@ pub mod Depth
 pub mod Pairs
 pub mod Whole
 pub mod Loops
+pub mod Multimaps

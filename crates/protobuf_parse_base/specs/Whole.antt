@@ -1,7 +1,7 @@
 -- No public clause rests on this file.
 -- What a reader of whole lists says of its relation: the one value, no other, and where none can
 -- be.
-use Rattle.std.proofs.Common.{◌≡◌, ℕ, zero, suc, ◌+◌, ◌<◌, List, [], ◌∷◌, ◌++◌, length}
+use Rattle.std.proofs.Common.{◌≡◌, ℕ, zero, suc, ◌+◌, List, [], ◌∷◌, ◌++◌, length}
 use Rattle.std.proofs.Common.{true, false, Result, Ok, refl, sym, ap, subst, ◌∙◌, inl}
 use Rattle.std.proofs.Common.{inr, ◌⊎◌, arith, add-zero, zero-add}
 use Rattle.std.proofs.Math.Nat.{add-suc}
@@ -159,32 +159,17 @@ module _ {Tok Mark Class A : Type 0} {L : Lexicon Tok Mark Class} {R : ℕ → L
       (grown (n + j) ts (read a rest) (λ h. cc)
       (subst (λ r. NearAt (n + j) ts r ((p (suc (n + j))).run ts)) i (near (n + j) ts)))
 
-  settled : (n : ℕ) (ts : Rest Tok Mark) (r r' : Read Tok Mark A) → size ts < n → NearAt n ts r r'
-      → r' ≡ r
-  settled n ts r r' h (inl e) = sym e.0
-  settled n ts r r' h (inr e) = absurd (omega (arith, h, e.1))
+  -- from this depth on nothing is too deep
+  abbrev pub CalmFrom : ℕ → Rest Tok Mark → Type 0
+  CalmFrom n ts = (j : ℕ) → (p (n + j)).run ts ≡ deep → ⊥
 
-  -- at a depth above the count of tokens everything is read as at every greater one
-  pub settles : (j n : ℕ) (ts : Rest Tok Mark) → size ts < n → (p (n + j)).run ts ≡ (p n).run ts
-  settles zero n ts h = rw add-zero refl
-  settles (suc j) n ts h =
-      let k : size ts < n + j = omega (arith, h) in
+  -- and then everything is read as at every greater depth
+  pub settles : (j n : ℕ) (ts : Rest Tok Mark) → CalmFrom n ts
+      → (p (n + j)).run ts ≡ (p n).run ts
+  settles zero n ts calm = rw add-zero refl
+  settles (suc j) n ts calm =
       rw add-suc
-      (settled (n + j) ts ((p (n + j)).run ts) ((p (suc (n + j))).run ts) k (near (n + j) ts)
-      ∙ settles j n ts h)
-
-  -- and there they never nest too deep
-  never_too_deep : (n : ℕ) (ts : Rest Tok Mark) (r r' : Read Tok Mark A) → size ts < n
-      → NearAt n ts r r' → r ≡ deep → ⊥
-  never_too_deep n ts r r' h (inl e) d = e.1 d
-  never_too_deep n ts r r' h (inr e) d = absurd (omega (arith, h, e.1))
-
-  pub deep_never : (n : ℕ) (ts : List Tok) (m : Mark) → length ts < n
-      → (p n).run (whole ts m) ≡ deep → ⊥
-  deep_never n ts m h e =
-      let l : size (whole ts m) < n = rw (size-whole ts m) h in
-      never_too_deep n (whole ts m) ((p n).run (whole ts m)) ((p (suc n)).run (whole ts m)) l
-      (near n (whole ts m)) e
+      (grown (n + j) ts ((p (n + j)).run ts) (calm j) (near (n + j) ts) ∙ settles j n ts calm)
 
   -- of two depths one is so much greater
   either_way : (n k : ℕ) → ((j : ℕ) × (k ≡ n + j)) ⊎ ((j : ℕ) × (n ≡ k + j))
@@ -197,8 +182,8 @@ module _ {Tok Mark Class A : Type 0} {L : Lexicon Tok Mark Class} {R : ℕ → L
       go (inl e) = inl (e.0, omega (arith, e.1))
       go (inr e) = inr (e.0, omega (arith, e.1))
 
-  -- what is read at any depth is read at one above the count of tokens
-  pub read_at : (n k : ℕ) (ts : Rest Tok Mark) (a : A) (rest : Rest Tok Mark) → size ts < n
+  -- what is read at any depth is read there
+  pub read_at : (n k : ℕ) (ts : Rest Tok Mark) (a : A) (rest : Rest Tok Mark) → CalmFrom n ts
       → (p k).run ts ≡ read a rest → (p n).run ts ≡ read a rest
   read_at n k ts a rest h e = go (either_way n k)
     where
@@ -210,18 +195,16 @@ module _ {Tok Mark Class A : Type 0} {L : Lexicon Tok Mark Class} {R : ℕ → L
       → (p n).run (whole ts m) ≡ read a (end k) → AtSomeDepth R ts a
   deep_found n ts m k a e = (n, whole_read (p n) fine ts m k a e)
 
-  pub deep_only : (n : ℕ) (ts : List Tok) (m k : Mark) (a b : A) → length ts < n
+  pub deep_only : (n : ℕ) (ts : List Tok) (m k : Mark) (a b : A) → CalmFrom n (whole ts m)
       → (p n).run (whole ts m) ≡ read a (end k) → AtSomeDepth R ts b → b ≡ a
   deep_only n ts m k a b h e r =
-      let l : size (whole ts m) < n = rw (size-whole ts m) h in
-      let i = read_at n r.0 (whole ts m) b (end m) l (reads_whole (p r.0) fine ts m b r.1) in
+      let i = read_at n r.0 (whole ts m) b (end m) h (reads_whole (p r.0) fine ts m b r.1) in
       (read_parts b a (end m) (end k) (sym i ∙ e)).0
 
-  pub deep_wrong : (n : ℕ) (ts : List Tok) (m : Mark) (rest : Rest Tok Mark) (a : A) → length ts < n
-      → (p n).run (whole ts m) ≡ wrong rest → AtSomeDepth R ts a → ⊥
+  pub deep_wrong : (n : ℕ) (ts : List Tok) (m : Mark) (rest : Rest Tok Mark) (a : A)
+      → CalmFrom n (whole ts m) → (p n).run (whole ts m) ≡ wrong rest → AtSomeDepth R ts a → ⊥
   deep_wrong n ts m rest a h e r =
-      let l : size (whole ts m) < n = rw (size-whole ts m) h in
-      let i = read_at n r.0 (whole ts m) a (end m) l (reads_whole (p r.0) fine ts m a r.1) in cc
+      let i = read_at n r.0 (whole ts m) a (end m) h (reads_whole (p r.0) fine ts m a r.1) in cc
 
   same_used : (ts used used' : List Tok) (m : Mark) (rest : Rest Tok Mark)
       → whole ts m ≡ onto used rest → whole ts m ≡ onto used' rest → used' ≡ used
@@ -233,17 +216,16 @@ module _ {Tok Mark Class A : Type 0} {L : Lexicon Tok Mark Class} {R : ℕ → L
       (ap (λ (x : List Tok). used' ++ x) (sym same.0) ∙ sym k'.2 ∙ k.2)
 
   never_deep : (n k : ℕ) (ts other : List Tok) (m : Mark) (rest : Rest Tok Mark) (a : A)
-      → length ts < n → (p n).run (whole ts m) ≡ stuck rest
+      → CalmFrom n (whole ts m) → (p n).run (whole ts m) ≡ stuck rest
       → (l : LocalStuck (p n).run (whole ts m) rest) → next (whole other m) ≡ next rest
       → (p k).run (whole (l.used ++ other) m) ≡ read a (end m) → ⊥
   never_deep n k ts other m rest a h e l g r = go (either_way n k)
     where
       go : ((j : ℕ) × (k ≡ n + j)) ⊎ ((j : ℕ) × (n ≡ k + j)) → ⊥
       go (inl x) =
-          let less : size (whole ts m) < n = rw (size-whole ts m) h in
           let e' : (p k).run (whole ts m)
           ≡ stuck rest = subst (λ v. (p v).run (whole ts m) ≡ stuck rest) (sym x.1)
-          (settles x.0 n (whole ts m) less ∙ e) in
+          (settles x.0 n (whole ts m) h ∙ e) in
           let l' = local_stuck (p k) fine (whole ts m) rest e' in
           let same = same_used ts l.used l'.used m rest l.parts l'.parts in
           l'.again (whole other m) g a (end m)
@@ -257,8 +239,8 @@ module _ {Tok Mark Class A : Type 0} {L : Lexicon Tok Mark Class} {R : ℕ → L
           l.again (whole other m) g a (end m)
           (sym (ap (p n).run (onto-append l.used other (end m))) ∙ r')
 
-  pub deep_stops : (n : ℕ) (ts : List Tok) (m : Mark) (rest : Rest Tok Mark) → length ts < n
-      → (p n).run (whole ts m) ≡ stuck rest
+  pub deep_stops : (n : ℕ) (ts : List Tok) (m : Mark) (rest : Rest Tok Mark)
+      → CalmFrom n (whole ts m) → (p n).run (whole ts m) ≡ stuck rest
       → StopsAt L.mark (AtSomeDepth R) ts m (mark_of L.mark rest)
   deep_stops n ts m rest h e =
       let l = local_stuck (p n) fine (whole ts m) rest e in

@@ -2,7 +2,9 @@
 //! the spellings of names and bytes.
 #![tactic(auto)]
 
+pub mod by_text;
 mod joins;
+pub mod multimap;
 mod name;
 pub mod names;
 pub mod proto_path;

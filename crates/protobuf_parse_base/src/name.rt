@@ -5,7 +5,10 @@ ghost use Rattle.protobuf_parse_base.specs.DeclaredNames.{name_bytes};
 
 use arrayvec::ArrayString;
 use std::alloc::{AllocError, Global};
+use std::cmp::Ordering;
+use std::convert::AsStr;
 use std::fmt;
+use std::hash::{Hash, Hasher};
 use std::ops::DerefStr;
 
 /// How many bytes of a text lie in a [`Name`] itself, at most.
@@ -14,18 +17,22 @@ pub(crate) const IN_PLACE: usize = 24;
 /// The name of something that is declared, or that of a field in JSON: a text. One of at most
 /// `IN_PLACE` bytes, as most are, lies in the value itself. But a name that was made of a `String`
 /// keeps that `String`, short or not.
-pub enum Name {
+pub struct Name {
+    text: Text,
+}
+
+/// A text, in the value itself or in a place of its own.
+#[derive(Drop)]
+enum Text {
     Short(ArrayString<IN_PLACE>),
     Long(String),
 }
 
-// Written out: a crate above that drops one calls it, and need not prove anew how each kind of name
+// Written out: a crate above that drops one calls it, and need not prove anew how each kind of text
 // is dropped.
 impl Drop for Name {
     fn drop(self) {
-        match self {
-            Name::Short(_) | Name::Long(_) => {}
-        }
+        let Name { text: _ } = self;
     }
 }
 
@@ -35,10 +42,11 @@ impl Name {
     pub fn new(alloc: Global, text: &str) -> Result<Name, AllocError>
         ensures { IfOk result (λ n. name_bytes n ≡ text.now) }
     {
-        match ArrayString::from(text) {
-            Ok(short) => Ok(Name::Short(short)),
-            Err(_) => Ok(Name::Long(String::from_str(alloc, text)?)),
-        }
+        let text = match ArrayString::from(text) {
+            Ok(short) => Text::Short(short),
+            Err(_) => Text::Long(String::from_str(alloc, text)?),
+        };
+        Ok(Name { text })
     }
 
     /// Its text.
@@ -46,18 +54,30 @@ impl Name {
     pub fn as_str(&self) -> &str
         ensures { result.now ≡ name_bytes self.now }
     {
-        match self {
-            Name::Short(short) => short.as_str(),
-            Name::Long(long) => long.as_str(),
+        match &self.text {
+            Text::Short(short) => short.as_str(),
+            Text::Long(long) => long.as_str(),
         }
     }
 
-    /// Its text, in a place of its own. The one error is that memory is short.
+    /// A copy of its text. The one error is that memory is short.
     #[inline]
     pub fn text(&self, alloc: Global) -> Result<String, AllocError>
         ensures { IfOk result (λ s. string_bytes s ≡ name_bytes self.now) }
     {
         String::from_str(alloc, self.as_str())
+    }
+
+    /// Its text. One that has a place of its own is handed out without a copy, and takes no memory.
+    /// The one error is that memory is short.
+    pub fn into_string(self, alloc: Global) -> Result<String, AllocError>
+        ensures { IfOk result (λ s. string_bytes s ≡ name_bytes self) }
+    {
+        let Name { text } = self;
+        match text {
+            Text::Short(short) => String::from_str(alloc, short.as_str()),
+            Text::Long(long) => Ok(long),
+        }
     }
 }
 
@@ -66,7 +86,9 @@ impl From<String> for Name {
     ghost from_gives = { λ text name. name_bytes name ≡ string_bytes text };
 
     fn from(text: String) -> Name {
-        Name::Long(text)
+        Name {
+            text: Text::Long(text),
+        }
     }
 }
 
@@ -80,16 +102,27 @@ impl DerefStr for Name {
     }
 }
 
+/// As [`Name::as_str`] gives it.
+impl AsStr for Name {
+    ghost text = { name_bytes };
+
+    #[inline]
+    fn as_str(&self) -> &str {
+        self.as_str()
+    }
+}
+
 /// A name with the same text. The one error is that memory is short.
 impl Clone for Name {
     ghost is_clone = { λ n copy. name_bytes copy ≡ name_bytes n };
 
     #[inline]
     fn clone(&self) -> Result<Name, AllocError> {
-        match self {
-            Name::Short(short) => Ok(Name::Short(*short)),
-            Name::Long(long) => Ok(Name::Long(long.clone()?)),
-        }
+        let text = match &self.text {
+            Text::Short(short) => Text::Short(*short),
+            Text::Long(long) => Text::Long(long.clone()?),
+        };
+        Ok(Name { text })
     }
 }
 
@@ -115,6 +148,57 @@ impl Eq for Name {
     ghost laws = { on_equiv name_bytes nat_list_eq_equiv };
 }
 
+/// In the order of their texts.
+impl PartialOrd for Name {
+    ghost use Rattle.std.specs.Prelude.{Some};
+    ghost use Rattle.std.specs.Ordering.{nat_cmp};
+    ghost use Rattle.std.specs.Cmp.{on_po};
+    ghost use Rattle.std.specs.Cmp.Lexicographic.{slice_cmp, texts_po};
+
+    ghost partial_cmp = { λ n m. Some (slice_cmp nat_cmp (name_bytes n) (name_bytes m)) };
+
+    ghost laws = { on_po name_bytes texts_po };
+
+    fn partial_cmp(&self, other: &Name) -> Option<Ordering> {
+        Some(self.cmp(other))
+    }
+}
+
+impl Ord for Name {
+    ghost use Rattle.std.specs.Prelude.{refl};
+    ghost use Rattle.std.specs.Ordering.{nat_cmp};
+    ghost use Rattle.std.specs.Cmp.{on_total};
+    ghost use Rattle.std.specs.Cmp.Lexicographic.{slice_cmp, nat_list_cmp_total, texts_ties};
+
+    ghost cmp = { λ n m. slice_cmp nat_cmp (name_bytes n) (name_bytes m) };
+
+    ghost total = { on_total name_bytes nat_list_cmp_total };
+
+    ghost matches_partial_cmp = { λ n m. refl };
+
+    ghost matches_eq = { λ n m. texts_ties (name_bytes n) (name_bytes m) };
+
+    fn cmp(&self, other: &Name) -> Ordering {
+        self.as_str().cmp(other.as_str())
+    }
+}
+
+/// What is hashed is the text.
+impl Hash for Name {
+    ghost use Rattle.std.specs.Cmp.Rules.{hashing};
+    ghost use Rattle.std.specs.Hash as fed;
+    ghost use Rattle.std.proofs.Common.{rules};
+
+    ghost hash_input = { λ n. fed.str (name_bytes n) };
+
+    ghost respects_eq = { Prim.search (hashing, rules) };
+
+    fn hash<H: Hasher>(&self, state: &mut H) {
+        self.as_str().hash(state);
+    }
+}
+
+/// As the text's.
 impl fmt::Debug for Name {
     fn fmt<W: fmt::Write>(&self, f: &mut fmt::Formatter<W>) -> fmt::Result {
         fmt::Debug::fmt(&self.as_str(), f)

@@ -1,11 +1,15 @@
-//! Lexes, parses, describes and lists the file that its argument names, and prints how many tokens,
-//! statements and files there are, how long the listing is, and how long each took; or does what a
-//! word says:
+//! Lexes, parses, describes and lists the file that its argument names, and makes its descriptor
+//! set; and prints how many tokens, statements and files there are, how long listing and set are,
+//! and how long each took; or does what a word says:
 //!
 //! - `--files N`: loads N files that import each other, and prints how often files were met;
 //! - `--same TEXT PATHS`: loads a file of this text for each line of PATHS;
 //! - `--read TEXT N`: reads N empty messages in option bytes, each the field 1 of the message
 //!   `Wide` of TEXT;
+//! - `--sets LIST`: writes descriptor sets: a line of LIST has a file that is written, includes
+//!   with `:` between them and an input, with tabs between the three, and the set has the input and
+//!   all that it imports;
+//! - `--rules FOLDER INPUT`: looks for violations in INPUT, below FOLDER, and all that it imports;
 //! - `--damage N TEXT..`: N texts that differ in a few bytes from these, and what becomes of them;
 //! - `--damage-bytes N TEXT`: the same of the option bytes of the last message of TEXT.
 //!
@@ -16,11 +20,15 @@ mod damage;
 mod graph;
 mod mutate;
 mod numbers;
+mod rules;
 mod same;
+mod sets;
 
 use crate::damage::{damage_bytes, damage_texts};
 use crate::graph::load;
+use crate::rules::measure_rules;
 use crate::same::{described, load_same, read_small};
+use crate::sets::{measure_set, write_sets};
 use anyhow::{Result, anyhow};
 use protobuf_parse::listing;
 use protobuf_parse_syntax::{parse_file, tokenize};
@@ -78,7 +86,7 @@ fn measure<R: Runtime<A = Global>>(rt: &R, text: &str) -> Result<()> {
     let count = listing(rt.alloc(), &files)?.len();
     let writing = start.elapsed(rt)?.as_micros();
     println!(rt; "{count} bytes of listing in {writing} microseconds")?;
-    Ok(())
+    measure_set(rt, &files)
 }
 
 /// Prints how long so many files take.
@@ -133,6 +141,7 @@ fn run_word<R: Runtime<A = Global>>(rt: &R, word: &str, first: &str, second: &st
             let count = read_small(rt.alloc(), &text, second.parse()?)?;
             println!(rt; "{count} fields")?;
         }
+        "--rules" => measure_rules(rt, first, second)?,
         "--damage-bytes" => {
             let text = fs::read(rt, second)?;
             let start = Instant::now(rt)?;
@@ -152,6 +161,9 @@ fn run<R: Runtime<A = Global>>(rt: &R, given: &[String]) -> Result<()> {
         [word, files] if word.as_str() == "--files" => measure_files(rt, files.parse()?),
         [word, count, names @ ..] if word.as_str() == "--damage" => {
             damage_files(rt, count.parse()?, names)
+        }
+        [word, list] if word.as_str() == "--sets" => {
+            write_sets(rt, fs::read_to_string(rt, list.as_str())?.as_str())
         }
         [word, first, second] => run_word(rt, word, first, second),
         _ => Err(anyhow!("what to do?")),

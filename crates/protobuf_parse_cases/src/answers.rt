@@ -4,10 +4,13 @@ mod again;
 mod bytes;
 mod calls;
 mod customs;
+mod imports;
 mod names;
 pub mod parsers;
 mod runs;
+mod sets;
 mod texts;
+mod told;
 
 use crate::cases::{Case, Row};
 use crate::notation::text_of;
@@ -31,8 +34,12 @@ impl Answers for Plain {
             "reads" => runs::reads(alloc, case, given),
             "list" => runs::list(alloc, case, row),
             "shipped" => runs::shipped(alloc, case, given),
-            "answers" => runs::answers(alloc, given),
+            "violations" => runs::violated(alloc, case, row),
+            "told" => told::told(alloc, case, row),
+            "answers" => runs::answers(alloc, case, given),
             "customs" => customs::customs(alloc, case, row),
+            "set" => sets::set(alloc, case, row),
+            "set_read" => sets::set_read(alloc, case, row),
             "read" => bytes::read(alloc, case, given),
             "write" => bytes::write(alloc, case, given),
             "escape" => names::escape(alloc, given),
@@ -57,6 +64,7 @@ fn text_answer(alloc: Global, case: &Case, given: &[u8]) -> Result<String> {
     match case.verb.as_str() {
         "constant" => return texts::constant(alloc, text),
         "again" => return again::again(alloc, text),
+        "imports" => return imports::imports(alloc, text),
         "call" => return calls::called(alloc, text),
         _ => {}
     }
@@ -74,7 +82,6 @@ fn answer_by_memory(alloc: Global, verb: &str, text: &str) -> Option<Result<Stri
         "parse" => texts::parse(alloc, text),
         "fronts" => texts::fronts(alloc, text),
         "trees" => texts::trees(alloc, text),
-        "imports" => texts::imports(alloc, text),
         "package" => texts::package(alloc, text),
         "identifier" => names::identifier(alloc, text),
         "relative" => names::relative(alloc, text),

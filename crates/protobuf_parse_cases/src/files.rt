@@ -58,10 +58,11 @@ impl<'a> InputReader for Files<'a> {
     }
 }
 
-/// A resolver and a reader that give these answers in turn, whatever is asked, and then have no
-/// file. An answer is `none`, the word of a fault, or a content.
+/// A resolver and a reader of that name, which give these answers in turn, whatever is asked, and
+/// then have no file. An answer is `none`, the word of a fault, or a content.
 #[derive(Drop)]
 pub struct InTurn<'a> {
+    pub name: &'a str,
     pub answers: &'a [&'a str],
     pub calls: Cell<usize>,
 }
@@ -76,7 +77,7 @@ impl<'a> InTurn<'a> {
 
 impl<'a> fmt::Display for InTurn<'a> {
     fn fmt<W: fmt::Write>(&self, f: &mut fmt::Formatter<W>) -> fmt::Result {
-        f.write_str("Files")
+        f.write_str(self.name)
     }
 }
 
@@ -93,6 +94,7 @@ impl<'a> ProtoPathResolver for InTurn<'a> {
             "memory" => Err(ResolveFault::Memory),
             "unread" => Err(unread(alloc, path.to_str())),
             "refused" => Err(refused(alloc, path.to_str())),
+            "unsaid" => Err(ResolveFault::Refused(String::new(alloc))),
             content => answered(alloc, path.to_str(), content.as_bytes()),
         }
     }

@@ -9,7 +9,7 @@ use std::alloc::{AllocError, Global};
 #[derive(Drop)]
 pub struct Report {
     pub text: String,
-    /// Whether the file can be read and each answer is the one that is wanted.
+    /// Whether the file can be read, has rows, and each answer is the one that is wanted.
     pub is_well: bool,
 }
 
@@ -51,7 +51,7 @@ pub fn report_of<A: Answers>(
     write!(&mut text, "{name}: {well} of {count}\n")?;
     Ok(Report {
         text,
-        is_well: well == count,
+        is_well: count > 0 && well == count,
     })
 }
 

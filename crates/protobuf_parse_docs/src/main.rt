@@ -2,7 +2,6 @@
 //! others are the inputs: `protobuf_parse_docs schemas schemas/item.proto schemas/order.proto`.
 #![tactic(auto)]
 
-mod names;
 mod options;
 mod page;
 mod types;

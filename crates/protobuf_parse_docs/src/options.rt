@@ -1,53 +1,25 @@
 //! Custom options as text.
 
-use crate::names::{Named, find, names_of};
 use anyhow::{Context, Result};
-use protobuf_parse::{
-    FieldDescriptorProto, FieldType, FileDescriptorProto, ProtobufAbsPathRef, ReadField, ReadValue,
-    read_custom,
-};
-use std::alloc::{AllocError, Global};
+use protobuf_parse::{FieldDescriptorProto, FieldType, ProtobufAbsPathRef, ReadField, ReadValue};
+use protobuf_parse_index::{Index, custom_options};
+use std::alloc::AllocError;
 
-/// What custom options are read and named by: all files of the run.
-#[derive(Drop)]
-pub struct Known<'a> {
-    files: &'a [FileDescriptorProto],
-    names: Vec<Named<'a>>,
-}
-
-impl<'a> Known<'a> {
-    pub fn new(alloc: Global, files: &'a [FileDescriptorProto]) -> Result<Self, AllocError> {
-        let names = names_of(alloc, files)?;
-        Ok(Known { files, names })
-    }
-
-    /// Adds what these bytes of an options message say, as `(owner) = "stock"` with commas between.
-    pub fn put_options(&self, text: &mut String, message: &str, custom: &[u8]) -> Result<()> {
-        if custom.is_empty() {
-            return Ok(());
-        }
-        let path = ProtobufAbsPathRef::try_new(message).context("no absolute name")?;
-        let fields = read_custom(*text.allocator(), self.files, path, custom)?;
-        put_fields(text, &self.names, message, &fields)?;
-        Ok(())
-    }
-}
-
-#[cycle(value_text)]
-fn put_fields(
+/// Adds what these bytes of an options message say, as `(owner) = "stock"` with commas between.
+pub fn put_options(
     text: &mut String,
-    names: &[Named<'_>],
+    index: &Index<'_>,
     message: &str,
-    fields: &[ReadField],
-) -> Result<(), AllocError> {
-    for (i, field) in fields.iter().enumerate() {
+    custom: &[u8],
+) -> Result<()> {
+    let path = ProtobufAbsPathRef::try_new(message).context("no absolute name")?;
+    let options = custom_options(*text.allocator(), index, path, custom)?;
+    for (i, option) in options.iter().enumerate() {
         if i > 0 {
             text.push_str(", ")?;
         }
-        if let Some(known) = find(names, message, i128::from(field.number)) {
-            write!(text, "`{}` = ", known.name)?;
-            put_value(text, names, known.field, &field.value)?;
-        }
+        write!(text, "`{}` = ", option.name)?;
+        put_value(text, index, option.field, &option.value)?;
     }
     Ok(())
 }
@@ -55,27 +27,45 @@ fn put_fields(
 #[cycle(value_text)]
 fn put_value(
     text: &mut String,
-    names: &[Named<'_>],
-    field: Option<&FieldDescriptorProto>,
+    index: &Index<'_>,
+    field: &FieldDescriptorProto,
     value: &ReadValue,
 ) -> Result<(), AllocError> {
-    let Some(field) = field else {
-        return Ok(());
-    };
     let type_name = field.type_name.as_deref().unwrap_or("");
     match value {
-        ReadValue::Number(number) => match find(names, type_name, *number) {
-            Some(value) => text.push_str(&value.name),
+        ReadValue::Number(number) => match index.value_read(type_name, value) {
+            Some(name) => text.push_str(name),
             None => write!(text, "{number}"),
         },
         ReadValue::Bool(truth) => write!(text, "{truth}"),
         ReadValue::Bytes(bytes) => put_bytes(text, field.type_, bytes),
         ReadValue::Message(fields) => {
             text.push_str("{ ")?;
-            put_fields(text, names, type_name, fields)?;
+            put_fields(text, index, type_name, fields)?;
             text.push_str(" }")
         }
     }
+}
+
+/// The fields of a message inside an option.
+#[cycle(value_text)]
+fn put_fields(
+    text: &mut String,
+    index: &Index<'_>,
+    message: &str,
+    fields: &[ReadField],
+) -> Result<(), AllocError> {
+    for (i, read) in fields.iter().enumerate() {
+        if i > 0 {
+            text.push_str(", ")?;
+        }
+        let name = index.field_name(*text.allocator(), message, read)?;
+        if let (Some(name), Some(field)) = (name, index.field_read(message, read)) {
+            write!(text, "`{name}` = ")?;
+            put_value(text, index, field, &read.value)?;
+        }
+    }
+    Ok(())
 }
 
 /// A string in quotes, with what means something in Markdown escaped; or bytes as numbers.

@@ -1,28 +1,28 @@
 //! The page: a section for each file, and in it one for each message, enum and service.
 
-use crate::names::package_scope;
-use crate::options::Known;
+use crate::options::put_options;
 use crate::types::{is_map_entry, is_shipped, put_label_and_type, put_link, put_type};
 use anyhow::Result;
 use protobuf_parse::{
     DescriptorProto, EnumDescriptorProto, FieldDescriptorProto, FileDescriptorProto,
     MethodDescriptorProto, ServiceDescriptorProto,
 };
+use protobuf_parse_index::Index;
 use std::alloc::{AllocError, Global};
 
 /// The page of all files but those that come with the library.
 pub fn page_of(alloc: Global, files: &[FileDescriptorProto]) -> Result<String> {
-    let known = Known::new(alloc, files)?;
+    let index = Index::of(alloc, files)?;
     let mut text = String::new(alloc);
     for file in files {
         if !is_shipped(file.package.as_deref().unwrap_or("")) {
-            put_file(&mut text, &known, file)?;
+            put_file(&mut text, &index, file)?;
         }
     }
     Ok(text)
 }
 
-fn put_file(text: &mut String, known: &Known<'_>, file: &FileDescriptorProto) -> Result<()> {
+fn put_file(text: &mut String, index: &Index<'_>, file: &FileDescriptorProto) -> Result<()> {
     write!(text, "# {}\n\n", file.name.as_deref().unwrap_or("?"))?;
     if let Some(package) = &file.package {
         write!(text, "- package `{package}`\n")?;
@@ -33,16 +33,24 @@ fn put_file(text: &mut String, known: &Known<'_>, file: &FileDescriptorProto) ->
     text.push('\n')?;
     let scope = package_scope(*text.allocator(), file)?;
     for message in &file.message_type {
-        put_message(text, known, &scope, message)?;
+        put_message(text, index, &scope, message)?;
     }
     for declared in &file.enum_type {
-        put_enum(text, known, &scope, declared)?;
+        put_enum(text, index, &scope, declared)?;
     }
     for service in &file.service {
-        put_service(text, known, &scope, service)?;
+        put_service(text, index, &scope, service)?;
     }
     put_extensions(text, &file.extension)?;
     Ok(())
+}
+
+/// What stands before the names of a file's declarations, with its first dot and without its last.
+fn package_scope(alloc: Global, file: &FileDescriptorProto) -> Result<String, AllocError> {
+    match &file.package {
+        Some(package) => format!(in alloc; ".{package}"),
+        None => Ok(String::new(alloc)),
+    }
 }
 
 /// The head of a section, where links lead.
@@ -54,32 +62,37 @@ fn put_section(text: &mut String, kind: &str, scope: &str) -> Result<(), AllocEr
 /// The section of a message, and those of what is declared in it.
 fn put_message(
     text: &mut String,
-    known: &Known<'_>,
+    index: &Index<'_>,
     scope: &str,
     message: &DescriptorProto,
 ) -> Result<()> {
     let scope = format!(in *text.allocator(); "{scope}.{}", message.name)?;
     put_section(text, "message", &scope)?;
     if let Some(options) = &message.options {
-        known.put_options(text, ".google.protobuf.MessageOptions", &options.custom)?;
+        put_options(
+            text,
+            index,
+            ".google.protobuf.MessageOptions",
+            &options.custom,
+        )?;
         text.push_str("\n\n")?;
     }
-    put_fields(text, known, &scope, message)?;
+    put_fields(text, index, &scope, message)?;
     put_extensions(text, &message.extension)?;
     for nested in &message.nested_type {
         if !is_map_entry(nested) {
-            put_message(text, known, &scope, nested)?;
+            put_message(text, index, &scope, nested)?;
         }
     }
     for declared in &message.enum_type {
-        put_enum(text, known, &scope, declared)?;
+        put_enum(text, index, &scope, declared)?;
     }
     Ok(())
 }
 
 fn put_fields(
     text: &mut String,
-    known: &Known<'_>,
+    index: &Index<'_>,
     scope: &str,
     message: &DescriptorProto,
 ) -> Result<()> {
@@ -89,7 +102,12 @@ fn put_fields(
         put_label_and_type(text, scope, message, field)?;
         text.push_str(" | ")?;
         if let Some(options) = &field.options {
-            known.put_options(text, ".google.protobuf.FieldOptions", &options.custom)?;
+            put_options(
+                text,
+                index,
+                ".google.protobuf.FieldOptions",
+                &options.custom,
+            )?;
         }
         text.push_str(" |\n")?;
     }
@@ -117,7 +135,7 @@ fn put_extensions(
 
 fn put_enum(
     text: &mut String,
-    known: &Known<'_>,
+    index: &Index<'_>,
     scope: &str,
     declared: &EnumDescriptorProto,
 ) -> Result<()> {
@@ -127,7 +145,12 @@ fn put_enum(
     for value in &declared.value {
         write!(text, "| {} | `{}` | ", value.number, value.name)?;
         if let Some(options) = &value.options {
-            known.put_options(text, ".google.protobuf.EnumValueOptions", &options.custom)?;
+            put_options(
+                text,
+                index,
+                ".google.protobuf.EnumValueOptions",
+                &options.custom,
+            )?;
         }
         text.push_str(" |\n")?;
     }
@@ -137,7 +160,7 @@ fn put_enum(
 
 fn put_service(
     text: &mut String,
-    known: &Known<'_>,
+    index: &Index<'_>,
     scope: &str,
     service: &ServiceDescriptorProto,
 ) -> Result<()> {
@@ -145,20 +168,25 @@ fn put_service(
     put_section(text, "service", &scope)?;
     text.push_str("| method | takes | returns | options |\n|---|---|---|---|\n")?;
     for method in &service.method {
-        put_method(text, known, method)?;
+        put_method(text, index, method)?;
     }
     text.push('\n')?;
     Ok(())
 }
 
-fn put_method(text: &mut String, known: &Known<'_>, method: &MethodDescriptorProto) -> Result<()> {
+fn put_method(text: &mut String, index: &Index<'_>, method: &MethodDescriptorProto) -> Result<()> {
     write!(text, "| `{}` | ", method.name)?;
     put_payload(text, method.client_streaming, &method.input_type)?;
     text.push_str(" | ")?;
     put_payload(text, method.server_streaming, &method.output_type)?;
     text.push_str(" | ")?;
     if let Some(options) = &method.options {
-        known.put_options(text, ".google.protobuf.MethodOptions", &options.custom)?;
+        put_options(
+            text,
+            index,
+            ".google.protobuf.MethodOptions",
+            &options.custom,
+        )?;
     }
     text.push_str(" |\n")?;
     Ok(())

@@ -1,6 +1,7 @@
 //! Labels and types of fields.
 
-use protobuf_parse::{DescriptorProto, FieldDescriptorProto, FieldType, Label};
+use protobuf_parse::{DescriptorProto, FieldDescriptorProto};
+use protobuf_parse_index::{label_word, type_word};
 use std::alloc::AllocError;
 
 /// Whether a package or a type comes with the library. The page has no section for it.
@@ -22,7 +23,7 @@ pub fn put_link(text: &mut String, type_name: &str) -> Result<(), AllocError> {
 pub fn put_type(text: &mut String, field: &FieldDescriptorProto) -> Result<(), AllocError> {
     match &field.type_name {
         Some(name) => put_link(text, name),
-        None => text.push_str(word_of(field.type_)),
+        None => text.push_str(type_word(field.type_)),
     }
 }
 
@@ -54,11 +55,7 @@ fn put_label(
             return write!(text, "one of `{}`", oneof.name);
         }
     }
-    text.push_str(match field.label {
-        Label::Optional => "optional",
-        Label::Required => "required",
-        Label::Repeated => "repeated",
-    })
+    text.push_str(label_word(field.label))
 }
 
 /// The key and the value of a map: the fields of the message that stands behind it.
@@ -82,28 +79,5 @@ pub fn is_map_entry(message: &DescriptorProto) -> bool {
     match &message.options {
         Some(options) => options.map_entry == Some(true),
         None => false,
-    }
-}
-
-fn word_of(type_: FieldType) -> &'static str {
-    match type_ {
-        FieldType::Int32 => "int32",
-        FieldType::Int64 => "int64",
-        FieldType::Uint32 => "uint32",
-        FieldType::Uint64 => "uint64",
-        FieldType::Sint32 => "sint32",
-        FieldType::Sint64 => "sint64",
-        FieldType::Fixed32 => "fixed32",
-        FieldType::Sfixed32 => "sfixed32",
-        FieldType::Fixed64 => "fixed64",
-        FieldType::Sfixed64 => "sfixed64",
-        FieldType::Bool => "bool",
-        FieldType::String => "string",
-        FieldType::Bytes => "bytes",
-        FieldType::Float => "float",
-        FieldType::Double => "double",
-        FieldType::Message => "message",
-        FieldType::Enum => "enum",
-        FieldType::Group => "group",
     }
 }

@@ -4,6 +4,7 @@ use Rattle.std.proofs.Common.{subst}
 use Rattle.std.proofs.lemmas.Grind.{flat_map-append}
 use Rattle.std.proofs.lemmas.List.{append-nil}
 use Rattle.protobuf_parse_syntax.specs.Trees.{OptionSyntax}
+use Rattle.protobuf_parse_model.specs.Descriptors.{Text}
 use Rattle.protobuf_parse_model.specs.declared.customs.Construct.{Construct}
 use Rattle.protobuf_parse_model.specs.Faults.{Among, here, there, Fault}
 use Rattle.protobuf_parse_model.specs.Declarations.{Scope}
@@ -75,8 +76,8 @@ module _ (customs : Customs) where
   adds-nothing faults = adds-none refl
 
   -- the faults of one set
-  pub adds-own : (construct : Construct) (scope : Scope) (os : List OptionSyntax)
-      → Adds (customs.faults construct scope os) [] (a_set construct scope os ∷ [])
+  pub adds-own : {name : Text} (construct : Construct) (scope : Scope) (os : List OptionSyntax)
+      → Adds (customs.faults construct scope os) [] (a_set construct name scope os ∷ [])
   adds-own construct scope os = record {
     told = λ (f : Fault) h. inr (among_left [] h);
     stays = λ (f : Fault) h. absurd (in_none h);
@@ -133,9 +134,9 @@ module _ (customs : Customs) where
   adds-each whole plain set (x ∷ xs) each = adds-both (each x) (adds-each whole plain set xs each)
 
   -- the options of a construct that has those of a table
-  pub adds-options : (env : Environment) (construct : Construct) (table : Table)
+  pub adds-options : {name : Text} (env : Environment) (construct : Construct) (table : Table)
       (os : List OptionSyntax)
       → Adds (construct_faults (with_customs customs env) construct table os)
-      (construct_faults (bare env) construct table os) (a_set construct env.scope os ∷ [])
+      (construct_faults (bare env) construct table os) (a_set construct name env.scope os ∷ [])
   adds-options env construct table os =
       adds-both (adds-nothing (options_faults table os)) (adds-own construct env.scope os)

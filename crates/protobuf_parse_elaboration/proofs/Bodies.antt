@@ -8,8 +8,8 @@ use Rattle.protobuf_parse_syntax.specs.Trees.{ExtendSyntax, file_extend, FieldSt
 use Rattle.protobuf_parse_syntax.specs.Trees.{field, group, OneofSyntax, MessageStatementSyntax}
 use Rattle.protobuf_parse_syntax.specs.Trees.{message_reserved, message_oneof, message_extend}
 use Rattle.protobuf_parse_syntax.specs.Trees.{message_message, message_enum, message_extensions}
-use Rattle.protobuf_parse_syntax.specs.Trees.{message_option, message_field, MessageSyntax}
-use Rattle.protobuf_parse_syntax.specs.Trees.{nested_message, TypeSyntax, scalar, named, map_of}
+use Rattle.protobuf_parse_syntax.specs.Trees.{message_option, message_field, TypeSyntax, scalar}
+use Rattle.protobuf_parse_syntax.specs.Trees.{named, map_of}
 use Rattle.protobuf_parse_model.specs.Descriptors.{OneofDescriptor, Text, enum_view, field_view}
 use Rattle.protobuf_parse_model.specs.Descriptors.{message_view, oneof_view, service_view}
 use Rattle.protobuf_parse_model.specs.Environment.{Environment}
@@ -18,17 +18,17 @@ use Rattle.protobuf_parse_model.specs.Statements.{field_statement_name, is_map, 
 use Rattle.protobuf_parse_model.specs.declared.error.ElabFailure.{ElabFailure}
 use Rattle.protobuf_parse_elaboration.specs.Parts.{BodyParts, FieldAndMessage, FieldsAndMessages}
 use Rattle.protobuf_parse_elaboration.specs.Parts.{body_of, body_view, field_declared_by}
-use Rattle.protobuf_parse_elaboration.specs.Parts.{fields_declared}
-use Rattle.protobuf_parse_elaboration.specs.Parts.{with_message, with_body_statement}
+use Rattle.protobuf_parse_elaboration.specs.Parts.{extensions_declared, fields_declared}
+use Rattle.protobuf_parse_elaboration.specs.Parts.{with_body_statement}
 use Rattle.protobuf_parse_elaboration.specs.Fields.{FieldPlace, field_statement_of}
 use Rattle.protobuf_parse_elaboration.specs.Messages.{entries_of, enums_of, extending, extended_of}
 use Rattle.protobuf_parse_elaboration.specs.Messages.{fields_of}
-use Rattle.protobuf_parse_elaboration.specs.Messages.{has_own_oneof, at_oneof, message_of, nested_of}
+use Rattle.protobuf_parse_elaboration.specs.Messages.{has_own_oneof, at_oneof, nested_of}
 use Rattle.protobuf_parse_elaboration.specs.Messages.{oneof_of, oneofs_of, own_oneof, own_oneof_of}
 use Rattle.protobuf_parse_elaboration.specs.FileParts.{parts_view, with_file_statement}
 use Rattle.protobuf_parse_elaboration.specs.declared.convert.body.Body.{Body}
 use Rattle.protobuf_parse_elaboration.specs.declared.convert.contents.Contents.{Contents}
-use Rattle.protobuf_parse_elaboration.proofs.Levels.{fields_from-append, nested_of_message}
+use Rattle.protobuf_parse_elaboration.proofs.Levels.{fields_from-append}
 
 name_is : (env : Environment) (place : FieldPlace) (s : FieldStatementSyntax)
     → (field_statement_of env place s).name ≡ field_statement_name s
@@ -84,7 +84,7 @@ module _ (env : Environment) (old new : Body) (index : ℕ) (one : OneofDescript
       ) refl
 
 pub with_extend : (env : Environment) (old new : Body) (e : ExtendSyntax) (d : FieldsAndMessages)
-    → d ≡ fields_declared env (extending env e.extendee) e.fields
+    → d ≡ extensions_declared env (extending env e.extendee) e.fields
     → map field_view new.extension.items ≡ map field_view old.extension.items ++ d.fields
     → map message_view new.nested_type.items ≡ map message_view old.nested_type.items ++ d.behind
     → map field_view new.field.items ≡ map field_view old.field.items
@@ -106,7 +106,7 @@ with_extend env old new e d is extensions nested fields oneofs enums =
 
 -- the same of what a file declares
 pub file_with_extend : (env : Environment) (old new : Contents) (e : ExtendSyntax)
-    (d : FieldsAndMessages) → d ≡ fields_declared env (extending env e.extendee) e.fields
+    (d : FieldsAndMessages) → d ≡ extensions_declared env (extending env e.extendee) e.fields
     → map field_view new.extension.items ≡ map field_view old.extension.items ++ d.fields
     → map message_view new.message_type.items ≡ map message_view old.message_type.items ++ d.behind
     → map enum_view new.enum_type.items ≡ map enum_view old.enum_type.items
@@ -169,18 +169,6 @@ few_more env old new s n is few =
     at_most (message_enum e) = omega arith
     at_most (message_extensions e) = omega arith
     at_most (message_option o) = omega arith
-
--- a message inside is a statement
-pub with_nested : (env : Environment) (b : BodyParts) (m : MessageSyntax)
-    → with_message b (message_of env m) ≡ with_body_statement env b (nested_message m)
-with_nested env b m =
-    rw (
-      nested_of_message env m,
-      append-nil b.field,
-      append-nil b.oneof_decl,
-      append-nil b.enum_type,
-      append-nil b.extension,
-    ) refl
 
 -- a message whose statements are right
 pub whole : {X Y : Type 0} (view : X → Y) (r : Result X ElabFailure)

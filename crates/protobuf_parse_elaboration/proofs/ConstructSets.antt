@@ -4,6 +4,8 @@ use Rattle.protobuf_parse_syntax.specs.Trees.{FieldSyntax, FieldStatementSyntax,
 use Rattle.protobuf_parse_syntax.specs.Trees.{OneofSyntax, ExtendSyntax, EnumValueSyntax}
 use Rattle.protobuf_parse_syntax.specs.Trees.{EnumSyntax, MethodSyntax, ServiceSyntax}
 use Rattle.protobuf_parse_model.specs.declared.customs.Construct.TheVariants as of
+use Rattle.protobuf_parse_model.specs.Descriptors.{Text}
+use Rattle.protobuf_parse_model.specs.Declarations.{Scope, inside}
 use Rattle.protobuf_parse_model.specs.Duplicates.{fault, duplicates}
 use Rattle.protobuf_parse_model.specs.declared.error.ElabErrorKind.TheVariants.{DanglingTypeName}
 use Rattle.protobuf_parse_model.specs.Statements.{group_body, group_field_name, oneof_fields}
@@ -20,7 +22,7 @@ use Rattle.protobuf_parse_elaboration.specs.Services.{methods_in, options_of_met
 use Rattle.protobuf_parse_elaboration.specs.Services.{method_faults, service_faults}
 use Rattle.protobuf_parse_elaboration.specs.Messages.{options_in_oneof, extension_faults_of}
 use Rattle.protobuf_parse_elaboration.specs.Messages.{extend_faults, oneof_faults}
-use Rattle.protobuf_parse_elaboration.specs.OptionSets.{sets_in_group, field_sets, oneof_sets}
+use Rattle.protobuf_parse_elaboration.specs.OptionSets.{a_set, sets_in_group, field_sets, oneof_sets}
 use Rattle.protobuf_parse_elaboration.specs.OptionSets.{extend_sets, value_set, enum_sets, method_set}
 use Rattle.protobuf_parse_elaboration.specs.OptionSets.{service_sets}
 use Rattle.protobuf_parse_elaboration.proofs.SameNames.{with_customs, fields-names}
@@ -32,9 +34,9 @@ module _ (customs : Customs) where
   -- ---- fields
 
   -- a field
-  field-adds : (env : Environment) (f : FieldSyntax)
+  field-adds : {name : Text} (env : Environment) (f : FieldSyntax)
       → Adds customs (field_faults (with_customs customs env) f) (field_faults (bare env) f)
-      (field_sets env.scope (field f))
+      (a_set of.Field name env.scope f.options ∷ [])
   field-adds env f =
       let os = f.options in
       let named = default_faults (type_of env f.name f.type_).kind f.name os
@@ -45,30 +47,31 @@ module _ (customs : Customs) where
       (adds-own customs of.Field env.scope os)))
 
   -- one of a group
-  grouped-adds : (env : Environment) (s : FieldStatementSyntax)
+  grouped-adds : (env : Environment) (within : Scope) (s : FieldStatementSyntax)
       → Adds customs (grouped_faults (with_customs customs env) s) (grouped_faults (bare env) s)
-      (sets_in_group env.scope s)
-  grouped-adds env (field f) =
+      (sets_in_group env.scope within s)
+  grouped-adds env within (field f) =
       adds-both customs (adds-nothing customs (map_faults f)) (field-adds env f)
-  grouped-adds env (group at label name number fields) =
+  grouped-adds env within (group at label name number fields) =
       adds-nothing customs (fault DanglingTypeName (group_field_name name))
 
   -- those of a group
-  group-adds : (env : Environment) (ss : List FieldStatementSyntax)
+  group-adds : (env : Environment) (within : Scope) (ss : List FieldStatementSyntax)
       → Adds customs (group_faults (with_customs customs env) ss) (group_faults (bare env) ss)
-      (flat_map (sets_in_group env.scope) ss)
-  group-adds env ss =
+      (flat_map (sets_in_group env.scope within) ss)
+  group-adds env within ss =
       adds-both customs
       (adds-none customs (ap duplicates (fields-names customs no_customs env plain plain ss)))
       (adds-flat customs (grouped_faults (with_customs customs env)) (grouped_faults (bare env))
-      (sets_in_group env.scope) ss (grouped-adds env))
+      (sets_in_group env.scope within) ss (grouped-adds env within))
 
   -- a field or a group in a message
   pub field-statement-adds : (env : Environment) (s : FieldStatementSyntax)
       → Adds customs (field_statement_faults (with_customs customs env) s)
       (field_statement_faults (bare env) s) (field_sets env.scope s)
   field-statement-adds env (field f) = field-adds env f
-  field-statement-adds env (group at label name number fields) = group-adds env (group_body fields)
+  field-statement-adds env (group at label name number fields) =
+      group-adds env (inside env.scope name) (group_body fields)
 
   -- one in an `extend`
   extension-adds : (env : Environment) (s : FieldStatementSyntax)
@@ -76,7 +79,8 @@ module _ (customs : Customs) where
       (field_sets env.scope s)
   extension-adds env (field f) =
       adds-both customs (adds-nothing customs (map_faults f)) (field-adds env f)
-  extension-adds env (group at label name number fields) = group-adds env (group_body fields)
+  extension-adds env (group at label name number fields) =
+      group-adds env (inside env.scope name) (group_body fields)
 
   -- ---- oneofs and extensions
 
@@ -104,10 +108,10 @@ module _ (customs : Customs) where
   -- ---- enums and services
 
   -- a value
-  value-adds : (env : Environment) (v : EnumValueSyntax)
+  value-adds : (env : Environment) (within : Scope) (v : EnumValueSyntax)
       → Adds customs (value_faults (with_customs customs env) v) (value_faults (bare env) v)
-      (value_set env.scope v ∷ [])
-  value-adds env v = adds-options customs env of.EnumValue enum_value_table v.options
+      (value_set env.scope within v ∷ [])
+  value-adds env within v = adds-options customs env of.EnumValue enum_value_table v.options
 
   -- an enum
   pub enum-adds : (env : Environment) (e : EnumSyntax)
@@ -119,14 +123,15 @@ module _ (customs : Customs) where
       (adds-both customs
       (adds-nothing customs (duplicates (map (λ (v : EnumValueSyntax). v.name) values)))
       (adds-each customs (value_faults (with_customs customs env)) (value_faults (bare env))
-      (value_set env.scope) values (value-adds env)))
+      (value_set env.scope (inside env.scope e.name)) values
+      (value-adds env (inside env.scope e.name))))
       (adds-options customs env of.Enum enum_table (options_of_enum e))
 
   -- a method
-  method-adds : (env : Environment) (m : MethodSyntax)
+  method-adds : (env : Environment) (within : Scope) (m : MethodSyntax)
       → Adds customs (method_faults (with_customs customs env) m) (method_faults (bare env) m)
-      (method_set env.scope m ∷ [])
-  method-adds env m =
+      (method_set env.scope within m ∷ [])
+  method-adds env within m =
       adds-both customs
       (adds-nothing customs (type_missing env m.input ++ type_missing env m.output))
       (adds-options customs env of.Method method_table (options_of_method m))
@@ -141,5 +146,6 @@ module _ (customs : Customs) where
       (adds-both customs
       (adds-nothing customs (duplicates (map (λ (m : MethodSyntax). m.name) methods)))
       (adds-each customs (method_faults (with_customs customs env)) (method_faults (bare env))
-      (method_set env.scope) methods (method-adds env)))
+      (method_set env.scope (inside env.scope s.name)) methods
+      (method-adds env (inside env.scope s.name))))
       (adds-options customs env of.Service service_table (options_of_service s))

@@ -3,15 +3,14 @@ use Rattle.std.proofs.Common.{◌≡◌, inl, inr, List, [], ◌∷◌, flat_map
 use Rattle.std.proofs.Common.{Bool, true, false, ◌||◌}
 use Rattle.std.specs.List.{list_any}
 use Rattle.protobuf_parse_syntax.specs.Trees.{OptionNameSyntax, builtin, custom, StatementSyntax}
-use Rattle.protobuf_parse_syntax.specs.Trees.{OptionSyntax}
+use Rattle.protobuf_parse_syntax.specs.Trees.{OptionSyntax, nested_message}
 use Rattle.protobuf_parse_syntax.specs.Trees.{file_message, file_enum, file_extend, file_service}
 use Rattle.protobuf_parse_syntax.specs.Trees.{FileSyntax}
 use Rattle.protobuf_parse_model.specs.declared.customs.Construct.TheVariants as of
 use Rattle.protobuf_parse_model.specs.Descriptors.{Text}
 use Rattle.protobuf_parse_model.specs.Faults.{Among, here, there}
 use Rattle.protobuf_parse_model.specs.Duplicates.{duplicates}
-use Rattle.protobuf_parse_model.specs.Environment.{Environment, Customs, no_customs, no_extensions}
-use Rattle.protobuf_parse_model.specs.Environment.{unknown_name, unknown_option}
+use Rattle.protobuf_parse_model.specs.Environment.{Environment, Customs, no_customs}
 use Rattle.protobuf_parse_model.specs.BuiltinOptions.{file_table}
 use Rattle.protobuf_parse_model.proofs.Blaming.{among_left, among_right}
 use Rattle.protobuf_parse_elaboration.specs.Messages.{message_name}
@@ -22,7 +21,7 @@ use Rattle.protobuf_parse_elaboration.specs.FileDescriptor.{file_faults_of}
 use Rattle.protobuf_parse_elaboration.specs.FileDescriptor.{file_duplicates, file_faults}
 use Rattle.protobuf_parse_elaboration.specs.OptionSets.{OptionSet, statement_sets, option_sets}
 use Rattle.protobuf_parse_elaboration.specs.CustomSets.{faults_of_set, faults_of_sets, FaultsAreOfSets}
-use Rattle.protobuf_parse_elaboration.specs.CustomSets.{NoneIsNoneInSets, OptionsAreBuiltin}
+use Rattle.protobuf_parse_elaboration.specs.CustomSets.{NoneIsNoneInSets}
 use Rattle.protobuf_parse_elaboration.specs.CustomSets.{is_custom, is_custom_name, sets_custom}
 use Rattle.protobuf_parse_elaboration.proofs.SameNames.{with_customs, flat-named, messages-names}
 use Rattle.protobuf_parse_elaboration.proofs.SameNames.{file-enums-names, file-extensions-names}
@@ -30,7 +29,7 @@ use Rattle.protobuf_parse_elaboration.proofs.SameNames.{services-names}
 use Rattle.protobuf_parse_elaboration.proofs.AddedFaults.{bare, Adds, adds-none, adds-nothing, adds-both}
 use Rattle.protobuf_parse_elaboration.proofs.AddedFaults.{adds-flat, adds-options}
 use Rattle.protobuf_parse_elaboration.proofs.ConstructSets.{extend-adds, enum-adds, service-adds}
-use Rattle.protobuf_parse_elaboration.proofs.MessageSets.{message-adds}
+use Rattle.protobuf_parse_elaboration.proofs.MessageSets as bodies
 
 -- ---- what custom options add to the faults of a file
 
@@ -39,7 +38,7 @@ module _ (customs : Customs) where
   statement-adds : (env : Environment) (s : StatementSyntax)
       → Adds customs (file_faults_of (with_customs customs env) s) (file_faults_of (bare env) s)
       (statement_sets env.scope s)
-  statement-adds env (file_message m) = message-adds customs env m
+  statement-adds env (file_message m) = bodies.statement-adds customs env (nested_message m)
   statement-adds env (file_enum e) = enum-adds customs env e
   statement-adds env (file_extend e) = extend-adds customs env e
   statement-adds env (file_service s) = service-adds customs env s
@@ -143,18 +142,6 @@ none_is_none_in_sets seen customs t = (forth, back)
         none_in (file_faults (environment seen customs t) t)
         (λ f h. elim ((file-adds customs seen t).told f h)
         [ inl k ↦ in_none none.0 k | inr k ↦ in_none sets k ])
-
--- a name that isn't unknown is built in
-builtin_from : (n : OptionNameSyntax) → unknown_name n ≡ [] → (name : Text) × (n ≡ builtin name)
-builtin_from (builtin name) h = (name, refl)
-builtin_from (custom parts) h = absurd cc
-
--- so is each option's of a file without faults where no extension is known
-pub options_are_builtin : OptionsAreBuiltin
-options_are_builtin seen t s o none h k =
-    let each : flat_map unknown_option s.statements
-    ≡ [] = ((none_is_none_in_sets seen no_extensions t).0 none).1 s h in
-    builtin_from o.name (each_of_none unknown_option each k)
 
 -- where neither of two is true
 none_first : (b c : Bool) → (b || c) ≡ false → b ≡ false

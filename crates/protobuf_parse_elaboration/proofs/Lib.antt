@@ -2,7 +2,6 @@ pub mod Naming
 pub mod Repeats
 pub mod Unlike
 pub mod Lookups
-pub mod Sights
 mod Rows
 pub mod SameTypes
 pub mod Levels
@@ -16,6 +15,7 @@ pub mod Orders
 pub mod Closing
 pub mod EachOne
 pub mod DeclaredMessages
+mod ExtendGroups
 pub mod NamedTypes
 pub mod SameNames
 pub mod AddedFaults

@@ -3,7 +3,7 @@ use Rattle.std.proofs.Common.{◌≡◌, List, [], ◌∷◌, ◌++◌, flat_map
 use Rattle.protobuf_parse_syntax.specs.Trees.{MessageStatementSyntax, message_oneof, message_extend}
 use Rattle.protobuf_parse_syntax.specs.Trees.{message_message, message_enum, message_field}
 use Rattle.protobuf_parse_syntax.specs.Trees.{MessageStatementList, no_statements, more_statements}
-use Rattle.protobuf_parse_syntax.specs.Trees.{MessageSyntax}
+use Rattle.protobuf_parse_model.specs.Declarations.{full_name}
 use Rattle.protobuf_parse_model.specs.declared.customs.Construct.TheVariants as of
 use Rattle.protobuf_parse_model.specs.Descriptors.{Text, MessageDescriptor}
 use Rattle.protobuf_parse_model.specs.Duplicates.{duplicates}
@@ -11,18 +11,17 @@ use Rattle.protobuf_parse_model.specs.Statements.{message_body}
 use Rattle.protobuf_parse_model.specs.Environment.{Environment, Customs, no_customs, env_inside}
 use Rattle.protobuf_parse_model.specs.BuiltinOptions.{message_table}
 use Rattle.protobuf_parse_elaboration.specs.Enums.{ranges_reserved}
-use Rattle.protobuf_parse_elaboration.specs.Messages.{message_name, oneofs_of, extension_ranges, reserves}
-use Rattle.protobuf_parse_elaboration.specs.Messages.{range_faults, options_of_body, nested_of, nested_in}
+use Rattle.protobuf_parse_elaboration.specs.Messages.{oneofs_of, extension_ranges, reserves}
+use Rattle.protobuf_parse_elaboration.specs.Messages.{range_faults, options_of_body, nested_in}
 use Rattle.protobuf_parse_elaboration.specs.Messages.{names_of_messages, body_duplicates}
 use Rattle.protobuf_parse_elaboration.specs.Messages.{whole_faults, statement_faults, faults_in}
-use Rattle.protobuf_parse_elaboration.specs.Messages.{message_faults}
 use Rattle.protobuf_parse_elaboration.specs.Messages as messages
-use Rattle.protobuf_parse_elaboration.specs.OptionSets.{a_set, sets_of, sets_in, message_sets}
+use Rattle.protobuf_parse_elaboration.specs.OptionSets.{a_set, sets_of, sets_in}
 use Rattle.protobuf_parse_elaboration.proofs.SameNames.{with_customs, flat-named, fields-from-names}
 use Rattle.protobuf_parse_elaboration.proofs.SameNames.{oneofs-names, extensions-names, enums-names}
-use Rattle.protobuf_parse_elaboration.proofs.SameNames.{nested-names, nested-in-names}
+use Rattle.protobuf_parse_elaboration.proofs.SameNames.{nested-in-names}
 use Rattle.protobuf_parse_elaboration.proofs.AddedFaults.{bare, Adds, adds-none, adds-nothing, adds-both}
-use Rattle.protobuf_parse_elaboration.proofs.AddedFaults.{adds-flat, adds-options}
+use Rattle.protobuf_parse_elaboration.proofs.AddedFaults.{adds-options}
 use Rattle.protobuf_parse_elaboration.proofs.ConstructSets.{field-statement-adds, oneof-adds, extend-adds}
 use Rattle.protobuf_parse_elaboration.proofs.ConstructSets.{enum-adds}
 
@@ -57,7 +56,7 @@ module _ (customs : Customs) where
       (ms ns : List MessageDescriptor) → names_of_messages ms ≡ names_of_messages ns
       → Adds customs (whole_faults (with_customs customs env) name body ms)
       (whole_faults (bare env) name body ns)
-      (a_set of.Message env.scope (options_of_body body) ∷ [])
+      (a_set of.Message (full_name env.scope name) env.scope (options_of_body body) ∷ [])
   whole-adds env name body ms ns same =
       adds-both customs (duplicates-add (env_inside env name) body ms ns same)
       (adds-both customs
@@ -68,7 +67,7 @@ module _ (customs : Customs) where
 
   mutual
     -- a statement of a body
-    statement-adds : (env : Environment) (s : MessageStatementSyntax)
+    pub statement-adds : (env : Environment) (s : MessageStatementSyntax)
         → Adds customs (statement_faults (with_customs customs env) s)
         (statement_faults (bare env) s) (sets_of env.scope s)
     statement-adds env (message_message at name body) =
@@ -91,20 +90,3 @@ module _ (customs : Customs) where
     statements-add env no_statements = adds-nothing customs []
     statements-add env (more_statements s ss) =
         adds-both customs (statement-adds env s) (statements-add env ss)
-
-  -- a message of a file
-  pub message-adds : (env : Environment) (m : MessageSyntax)
-      → Adds customs (message_faults (with_customs customs env) m) (message_faults (bare env) m)
-      (message_sets env.scope m)
-  message-adds env m =
-      let ms = flat_map (nested_of (with_customs customs (env_inside env m.name))) m.body in
-      let ns = flat_map (nested_of (bare (env_inside env m.name))) m.body in
-      adds-both customs
-      (whole-adds env m.name m.body ms ns
-      (flat-named message_name (nested_of (with_customs customs (env_inside env m.name)))
-      (nested_of (bare (env_inside env m.name))) m.body
-      (nested-names customs no_customs (env_inside env m.name))))
-      (adds-flat customs (statement_faults (with_customs customs (env_inside env m.name)))
-      (statement_faults (bare (env_inside env m.name))) (sets_of (env_inside env m.name).scope)
-      m.body
-      (statement-adds (env_inside env m.name)))

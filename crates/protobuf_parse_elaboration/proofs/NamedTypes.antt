@@ -3,14 +3,14 @@
 use Rattle.std.proofs.Common.{◌≡◌, ℕ, ◌+◌, ℤ, pos, Bool, true, false, List, [], ◌∷◌, ◌++◌, map}
 use Rattle.std.proofs.Common.{flat_map, length, Option, Some, None, is_some, IsSome, option_map}
 use Rattle.std.proofs.Common.{option_to_list, unwrap_or, if◌then◌else◌, codes, refl, ap, subst}
-use Rattle.std.proofs.Common.{◌∙◌}
+use Rattle.std.proofs.Common.{◌∙◌, sym}
 use Rattle.std.specs.List.{AllByRecursion}
 use Rattle.protobuf_parse_syntax.specs.Trees.{TypeSyntax, scalar, map_of, named, FieldSyntax}
 use Rattle.protobuf_parse_syntax.specs.Trees.{FieldStatementSyntax, field, group, OneofSyntax}
 use Rattle.protobuf_parse_syntax.specs.Trees.{ExtendSyntax, MessageStatementSyntax, message_oneof}
 use Rattle.protobuf_parse_syntax.specs.Trees.{message_extend, message_message, message_field}
 use Rattle.protobuf_parse_syntax.specs.Trees.{MessageStatementList, no_statements, more_statements}
-use Rattle.protobuf_parse_syntax.specs.Trees.{MessageSyntax, MethodSyntax, ServiceSyntax}
+use Rattle.protobuf_parse_syntax.specs.Trees.{nested_message, MethodSyntax, ServiceSyntax}
 use Rattle.protobuf_parse_syntax.specs.Trees.{StatementSyntax, file_message, file_extend}
 use Rattle.protobuf_parse_syntax.specs.Trees.{file_service, FileSyntax}
 use Rattle.protobuf_parse_syntax.specs.declared.tree.field.Scalar.{Scalar}
@@ -25,7 +25,7 @@ use Rattle.protobuf_parse_model.specs.Descriptors.{FileDescriptor}
 use Rattle.protobuf_parse_model.specs.Faults.{Among, Fault}
 use Rattle.protobuf_parse_model.specs.Duplicates.{fault_when, duplicates}
 use Rattle.protobuf_parse_model.specs.Statements.{group_body, message_body, entry_name, is_map}
-use Rattle.protobuf_parse_model.specs.Statements.{oneof_fields}
+use Rattle.protobuf_parse_model.specs.Statements.{oneof_fields, groups}
 use Rattle.protobuf_parse_model.specs.Declarations.{Scope, full_name, DeclaredType, MessageOrEnum}
 use Rattle.protobuf_parse_model.specs.Declarations.{a_message, an_enum, generated_by, generated_of}
 use Rattle.protobuf_parse_model.specs.Declarations.{generated_in, statement_generated}
@@ -54,8 +54,7 @@ use Rattle.protobuf_parse_elaboration.specs.Messages.{messages_behind, has_own_o
 use Rattle.protobuf_parse_elaboration.specs.Messages.{oneofs_of, at_oneof, fields_of, fields_from}
 use Rattle.protobuf_parse_elaboration.specs.Messages.{extending, extend_fields, extension_faults_of}
 use Rattle.protobuf_parse_elaboration.specs.Messages.{extend_faults, message_from, nested_of, nested_in}
-use Rattle.protobuf_parse_elaboration.specs.Messages.{message_of, whole_faults, oneof_faults, faults_in}
-use Rattle.protobuf_parse_elaboration.specs.Messages.{message_faults}
+use Rattle.protobuf_parse_elaboration.specs.Messages.{whole_faults, oneof_faults, faults_in}
 use Rattle.protobuf_parse_elaboration.specs.Services.{methods_in, options_of_method, options_of_service}
 use Rattle.protobuf_parse_elaboration.specs.Services.{method_of, service_of, method_faults}
 use Rattle.protobuf_parse_elaboration.specs.Services.{methods_faults, service_faults}
@@ -77,6 +76,7 @@ use Rattle.protobuf_parse_elaboration.proofs.Orders.{among-map}
 use Rattle.protobuf_parse_elaboration.proofs.EachOne.{no-left, no-right, all-left, all-right, all-both}
 use Rattle.protobuf_parse_elaboration.proofs.EachOne.{all-flat, all-map, all-among, all-from, none-each}
 use Rattle.protobuf_parse_elaboration.proofs.EachOne.{IsClean, clean-each}
+use Rattle.protobuf_parse_elaboration.proofs.ExtendGroups.{generates-none, groups-tell, stands-alone}
 
 -- ---- kinds and faults
 
@@ -396,25 +396,31 @@ module _ (P M : Text → Type 0) (any : (name : Text) → M name → P name) (cu
 
   -- the fields of an `extend`
   extend-named : (env : Environment) → Known env → (e : ExtendSyntax) → extend_faults env e ≡ []
-      → AllByRecursion M (flat_map (generated_by env.scope) e.fields)
+      → AllByRecursion M (flat_map (generated_by env.scope) (flat_map groups e.fields))
       → AllByRecursion ExtensionIsNamed (extend_fields (with_customs env) e)
   extend-named env known e h g =
       all-map ExtensionIsNamed
       (field_statement_of (with_customs env) (extending (with_customs env) e.extendee))
       (ExtensionIsClean env e.extendee) (extension-named env known e.extendee) e.fields
-      (clean-each (extension_faults_of env e.extendee) M (generated_by env.scope) e.fields h g)
+      (clean-each (extension_faults_of env e.extendee) M (generated_by env.scope) e.fields h
+      (subst (AllByRecursion M)
+      (groups-tell env e.extendee (generated_by env.scope) (generates-none env) e.fields h) g))
 
   -- the messages behind them
   extend-behind : (env : Environment) → Known env → (e : ExtendSyntax) → extend_faults env e ≡ []
-      → AllByRecursion MessageIsNamed (flat_map (messages_behind (with_customs env)) e.fields)
+      → AllByRecursion MessageIsNamed
+      (flat_map (messages_behind (with_customs env)) (flat_map groups e.fields))
   extend-behind env known e h =
-      all-flat MessageIsNamed (messages_behind (with_customs env))
+      subst (AllByRecursion MessageIsNamed)
+      (sym (groups-tell env e.extendee (messages_behind (with_customs env))
+      (stands-alone (with_customs env)) e.fields h))
+      (all-flat MessageIsNamed (messages_behind (with_customs env))
       (λ (s : FieldStatementSyntax). extension_faults_of env e.extendee s ≡ [])
       (λ (s : FieldStatementSyntax) (k : extension_faults_of env e.extendee s ≡ []). behind-named
       env known s
       (extension-none env s
       (no-right (type_missing env e.extendee) (extension_faults env s) k)))
-      e.fields (none-each (extension_faults_of env e.extendee) e.fields h)
+      e.fields (none-each (extension_faults_of env e.extendee) e.fields h))
 
   -- ---- the statements of a message
 
@@ -559,26 +565,6 @@ module _ (P M : Text → Type 0) (any : (name : Text) → M name → P name) (cu
         (nested-in env known ss (no-right (messages.statement_faults env s) (faults_in env ss) h)
         (all-right M (generated_of env.scope s) (generated_in env.scope ss) g))
 
-  -- a message of a file
-  message-of-named : (env : Environment) → Known env → (m : MessageSyntax)
-      → message_faults env m ≡ []
-      → AllByRecursion M (flat_map (generated_of (env_inside env m.name).scope) m.body)
-      → MessageIsNamed (message_of (with_customs env) m)
-  message-of-named env known m h g =
-      let none : flat_map (messages.statement_faults (env_inside env m.name)) m.body
-      ≡ [] = no-right
-      (whole_faults env m.name m.body (flat_map (nested_of (env_inside env m.name)) m.body))
-      (flat_map (messages.statement_faults (env_inside env m.name)) m.body) h in
-      let clean : AllByRecursion (StatementIsClean (env_inside env m.name)) m.body =
-      clean-each (messages.statement_faults (env_inside env m.name)) M
-      (generated_of (env_inside env m.name).scope) m.body none g in
-      message-named env known m.name m.body
-      (flat_map (nested_of (with_customs (env_inside env m.name))) m.body) clean
-      (all-flat MessageIsNamed (nested_of (with_customs (env_inside env m.name)))
-      (StatementIsClean (env_inside env m.name))
-      (λ (s : MessageStatementSyntax) (c : StatementIsClean (env_inside env m.name) s). nested-of
-      (env_inside env m.name) known s c.none c.each) m.body clean)
-
   -- ---- services
 
   -- a method
@@ -623,7 +609,7 @@ module _ (P M : Text → Type 0) (any : (name : Text) → M name → P name) (cu
   -- the messages of a statement
   messages-of : (env : Environment) → Known env → (s : StatementSyntax) → FileStatementIsClean env s
       → AllByRecursion MessageIsNamed (file_messages_of (with_customs env) s)
-  messages-of env known (file_message m) c = (message-of-named env known m c.none c.each, tt)
+  messages-of env known (file_message m) c = nested-of env known (nested_message m) c.none c.each
   messages-of env known (file_extend e) c = extend-behind env known e c.none
   messages-of env known _ c = tt
 

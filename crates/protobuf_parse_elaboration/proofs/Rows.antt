@@ -263,7 +263,7 @@ enum_ranges_have_both_ends = refl
 -- ---- defaults and JSON names
 
 abbrev set : Text → ConstantSyntax → OptionSyntax
-set name value = record { name = builtin name; value = value }
+set name value = record { place = nowhere; name = builtin name; value = value }
 
 abbrev with_option : TypeSyntax → OptionSyntax → FieldSyntax
 with_option type_ o = a_field (Some Optional) type_ (codes "foo__bar_1") 1 (o ∷ [])

@@ -6,14 +6,14 @@ use Rattle.protobuf_parse_syntax.specs.Trees.{TypeSyntax, scalar, map_of, named,
 use Rattle.protobuf_parse_syntax.specs.Trees.{EnumSyntax, MessageStatementSyntax, message_oneof}
 use Rattle.protobuf_parse_syntax.specs.Trees.{message_extend, message_message, message_enum}
 use Rattle.protobuf_parse_syntax.specs.Trees.{message_field, MessageStatementList, no_statements}
-use Rattle.protobuf_parse_syntax.specs.Trees.{more_statements, MessageSyntax, MethodSyntax}
+use Rattle.protobuf_parse_syntax.specs.Trees.{more_statements, nested_message, MethodSyntax}
 use Rattle.protobuf_parse_syntax.specs.Trees.{ServiceSyntax, StatementSyntax, file_message}
 use Rattle.protobuf_parse_syntax.specs.Trees.{file_enum, file_extend, file_service, FileSyntax}
 use Rattle.protobuf_parse_model.specs.declared.customs.Construct.TheVariants as of
 use Rattle.protobuf_parse_model.specs.Descriptors.{Text, MessageDescriptor}
 use Rattle.protobuf_parse_model.specs.Faults.{Among, here, there}
-use Rattle.protobuf_parse_model.specs.Statements.{group_body, message_body, oneof_fields}
-use Rattle.protobuf_parse_model.specs.Declarations.{Scope}
+use Rattle.protobuf_parse_model.specs.Statements.{group_body, message_body, oneof_fields, groups}
+use Rattle.protobuf_parse_model.specs.Declarations.{Scope, inside, full_name}
 use Rattle.protobuf_parse_model.specs.Environment.{Environment, Customs, env_inside}
 use Rattle.protobuf_parse_model.proofs.Blaming.{among_left, among_right}
 use Rattle.protobuf_parse_elaboration.specs.Fields.{FieldPlace, plain, field_of, field_statement_of}
@@ -25,13 +25,12 @@ use Rattle.protobuf_parse_elaboration.specs.Messages.{entries_of, messages_behin
 use Rattle.protobuf_parse_elaboration.specs.Messages.{options_in_oneof, oneofs_of, at_oneof}
 use Rattle.protobuf_parse_elaboration.specs.Messages.{fields_of, fields_from, extending}
 use Rattle.protobuf_parse_elaboration.specs.Messages.{options_of_body, message_from, nested_of, nested_in}
-use Rattle.protobuf_parse_elaboration.specs.Messages.{message_of}
 use Rattle.protobuf_parse_elaboration.specs.FileDescriptor as files
 use Rattle.protobuf_parse_elaboration.specs.FileDescriptor.{options_of_statements, environment}
 use Rattle.protobuf_parse_elaboration.specs.FileDescriptor.{file_messages_of, services_of, file_of}
 use Rattle.protobuf_parse_elaboration.specs.OptionSets.{OptionSet, a_set, sets_in_group, field_sets}
 use Rattle.protobuf_parse_elaboration.specs.OptionSets.{value_set, enum_sets, sets_of, sets_in}
-use Rattle.protobuf_parse_elaboration.specs.OptionSets.{message_sets, method_set, service_sets}
+use Rattle.protobuf_parse_elaboration.specs.OptionSets.{method_set, service_sets}
 use Rattle.protobuf_parse_elaboration.specs.OptionSets.{statement_sets, option_sets}
 use Rattle.protobuf_parse_elaboration.specs.CustomSets.{bytes_of_set, BytesAreOfSets}
 use Rattle.protobuf_parse_elaboration.proofs.SameNames.{with_customs}
@@ -110,15 +109,18 @@ module _ (one other : Customs) where
       → Same (field_sets env.scope s)
       → field_statement_of (by_one env) p s ≡ field_statement_of (by_other env) p s
   statement-same env p (field f) h =
-      field-same env p f (h (a_set of.Field env.scope f.options) here)
+      field-same env p f
+      (h (a_set of.Field (full_name env.scope f.name) env.scope f.options) here)
   statement-same env p (group at label name number fields) h = refl
 
   -- one of a group
-  grouped-same : (env : Environment) (s : FieldStatementSyntax) → Same (sets_in_group env.scope s)
+  grouped-same : (env : Environment) (within : Scope) (s : FieldStatementSyntax)
+      → Same (sets_in_group env.scope within s)
       → field_statement_of (by_one env) plain s ≡ field_statement_of (by_other env) plain s
-  grouped-same env (field f) h =
-      field-same env plain f (h (a_set of.Field env.scope f.options) here)
-  grouped-same env (group at label name number fields) h = refl
+  grouped-same env within (field f) h =
+      field-same env plain f
+      (h (a_set of.Field (full_name within f.name) env.scope f.options) here)
+  grouped-same env within (group at label name number fields) h = refl
 
   -- several in one place
   fields-same : (env : Environment) (p : FieldPlace) (ss : List FieldStatementSyntax)
@@ -141,8 +143,9 @@ module _ (one other : Customs) where
   behind-same env (field f) h = entries-same env f.name f.type_
   behind-same env (group at label name number fields) h =
       ap (λ fs. messages.message_with name fs None ∷ [])
-      (map-same (sets_in_group env.scope) (field_statement_of (by_one env) plain)
-      (field_statement_of (by_other env) plain) (grouped-same env) (group_body fields) h)
+      (map-same (sets_in_group env.scope (inside env.scope name))
+      (field_statement_of (by_one env) plain) (field_statement_of (by_other env) plain)
+      (grouped-same env (inside env.scope name)) (group_body fields) h)
 
   -- the messages behind several
   behinds-same : (env : Environment) (ss : List FieldStatementSyntax)
@@ -152,25 +155,42 @@ module _ (one other : Customs) where
       flat-same (field_sets env.scope) (messages_behind (by_one env))
       (messages_behind (by_other env)) (behind-same env) ss h
 
+  -- the messages behind the groups among them
+  grouped-behind-same : (env : Environment) (ss : List FieldStatementSyntax)
+      → Same (flat_map (field_sets env.scope) ss)
+      → flat_map (messages_behind (by_one env)) (flat_map groups ss)
+      ≡ flat_map (messages_behind (by_other env)) (flat_map groups ss)
+  grouped-behind-same env [] h = refl
+  grouped-behind-same env (field f ∷ ss) h =
+      grouped-behind-same env ss
+      (right (field_sets env.scope (field f)) (flat_map (field_sets env.scope) ss) h)
+  grouped-behind-same env (group at label name number fields ∷ ss) h =
+      let s = group at label name number fields in
+      both_same
+      (behind-same env s
+      (left (field_sets env.scope s) (flat_map (field_sets env.scope) ss) h))
+      (grouped-behind-same env ss
+      (right (field_sets env.scope s) (flat_map (field_sets env.scope) ss) h))
+
   -- ---- enums and services
 
   -- an enum
   enum-same : (env : Environment) (e : EnumSyntax) → Same (enum_sets env.scope e)
       → enum_of (by_one env) e ≡ enum_of (by_other env) e
   enum-same env e h =
-      let values = each-same (value_set env.scope) (value_of (by_one env)) (value_of (by_other env))
+      let values = each-same (value_set env.scope (inside env.scope e.name)) (value_of (by_one env)) (value_of (by_other env))
       (λ (v : EnumValueSyntax) k. rw k refl) (flat_map enum_values e.body)
       (λ s k. h s (there k)) in
-      rw (values, h (a_set of.Enum env.scope (options_of_enum e)) here) refl
+      rw (values, h (a_set of.Enum (full_name env.scope e.name) env.scope (options_of_enum e)) here) refl
 
   -- a service
   service-same : (env : Environment) (s : ServiceSyntax) → Same (service_sets env.scope s)
       → service_of (by_one env) s ≡ service_of (by_other env) s
   service-same env s h =
-      let methods = each-same (method_set env.scope) (method_of (by_one env))
+      let methods = each-same (method_set env.scope (inside env.scope s.name)) (method_of (by_one env))
       (method_of (by_other env)) (λ (m : MethodSyntax) k. rw k refl)
       (flat_map methods_in s.body) (λ x k. h x (there k)) in
-      rw (methods, h (a_set of.Service env.scope (options_of_service s)) here) refl
+      rw (methods, h (a_set of.Service (full_name env.scope s.name) env.scope (options_of_service s)) here) refl
 
   -- ---- the statements of a body
 
@@ -189,7 +209,7 @@ module _ (one other : Customs) where
   oneofs-same : (env : Environment) (s : MessageStatementSyntax) → Same (sets_of env.scope s)
       → oneofs_of (by_one env) s ≡ oneofs_of (by_other env) s
   oneofs-same env (message_oneof o) h =
-      rw (h (a_set of.Oneof env.scope (options_in_oneof o)) here) refl
+      rw (h (a_set of.Oneof (full_name env.scope o.name) env.scope (options_in_oneof o)) here) refl
   oneofs-same env (message_field f) h = refl
   oneofs-same env _ h = refl
 
@@ -254,13 +274,14 @@ module _ (one other : Customs) where
         (message-from-same env name (message_body body)
         (nested_in (by_one (env_inside env name)) body)
         (nested_in (by_other (env_inside env name)) body)
-        (h (a_set of.Message env.scope (options_of_body (message_body body))) here)
+        (h (a_set of.Message (full_name env.scope name) env.scope
+        (options_of_body (message_body body))) here)
         (subst Same (sets-in (env_inside env name).scope body) (λ s k. h s (there k)))
         (nested-in-same (env_inside env name) body (λ s k. h s (there k))))
     nested-same env (message_field f) h = behind-same env f h
     nested-same env (message_oneof o) h =
         behinds-same env (flat_map oneof_fields o.body) (λ s k. h s (there k))
-    nested-same env (message_extend e) h = behinds-same env e.fields h
+    nested-same env (message_extend e) h = grouped-behind-same env e.fields h
     nested-same env _ h = refl
 
     -- those of a body
@@ -271,27 +292,13 @@ module _ (one other : Customs) where
         both_same (nested-same env s (left (sets_of env.scope s) (sets_in env.scope ss) h))
         (nested-in-same env ss (right (sets_of env.scope s) (sets_in env.scope ss) h))
 
-  -- a message of a file
-  message-same : (env : Environment) (m : MessageSyntax) → Same (message_sets env.scope m)
-      → message_of (by_one env) m ≡ message_of (by_other env) m
-  message-same env m h =
-      message-from-same env m.name m.body
-      (flat_map (nested_of (by_one (env_inside env m.name))) m.body)
-      (flat_map (nested_of (by_other (env_inside env m.name))) m.body)
-      (h (a_set of.Message env.scope (options_of_body m.body)) here)
-      (λ s k. h s (there k))
-      (flat-same (sets_of (env_inside env m.name).scope)
-      (nested_of (by_one (env_inside env m.name)))
-      (nested_of (by_other (env_inside env m.name))) (nested-same (env_inside env m.name)) m.body
-      (λ s k. h s (there k)))
-
   -- ---- files
 
   -- the messages of a statement
   messages-same : (env : Environment) (s : StatementSyntax) → Same (statement_sets env.scope s)
       → file_messages_of (by_one env) s ≡ file_messages_of (by_other env) s
-  messages-same env (file_message m) h = ap (λ d. d ∷ []) (message-same env m h)
-  messages-same env (file_extend e) h = behinds-same env e.fields h
+  messages-same env (file_message m) h = nested-same env (nested_message m) h
+  messages-same env (file_extend e) h = grouped-behind-same env e.fields h
   messages-same env _ h = refl
 
   -- its enums
@@ -332,7 +339,7 @@ module _ (one other : Customs) where
         enums,
         extensions,
         services,
-        h (a_set of.File env.scope (options_of_statements t.statements)) here,
+        h (a_set of.File [] env.scope (options_of_statements t.statements)) here,
       ) refl
 
 -- where the bytes of each set are the same, so is the file

@@ -9,7 +9,7 @@ use Rattle.protobuf_parse_syntax.specs.Trees.{message_enum, message_field, Messa
 use Rattle.protobuf_parse_syntax.specs.Trees.{no_statements, more_statements, StatementSyntax}
 use Rattle.protobuf_parse_syntax.specs.Trees.{file_message, file_enum, file_extend, file_service}
 use Rattle.protobuf_parse_model.specs.Descriptors.{Text}
-use Rattle.protobuf_parse_model.specs.Statements.{oneof_fields}
+use Rattle.protobuf_parse_model.specs.Statements.{oneof_fields, groups}
 use Rattle.protobuf_parse_model.specs.Environment.{Environment, Customs}
 use Rattle.protobuf_parse_elaboration.specs.Fields.{FieldPlace, plain, field_statement_of}
 use Rattle.protobuf_parse_elaboration.specs.Fields.{names_of_fields}
@@ -141,7 +141,7 @@ module _ (one other : Customs) where
   nested-names env (message_message at name body) = refl
   nested-names env (message_field f) = behind-names env f
   nested-names env (message_oneof o) = behinds-names env (flat_map oneof_fields o.body)
-  nested-names env (message_extend e) = behinds-names env e.fields
+  nested-names env (message_extend e) = behinds-names env (flat_map groups e.fields)
   nested-names env _ = refl
 
   -- those of a body
@@ -161,7 +161,7 @@ module _ (one other : Customs) where
       → names_of_messages (file_messages_of (with_customs one env) s)
       ≡ names_of_messages (file_messages_of (with_customs other env) s)
   messages-names env (file_message m) = refl
-  messages-names env (file_extend e) = behinds-names env e.fields
+  messages-names env (file_extend e) = behinds-names env (flat_map groups e.fields)
   messages-names env _ = refl
 
   -- its enums

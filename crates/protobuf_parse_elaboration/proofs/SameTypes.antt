@@ -9,11 +9,11 @@ use Rattle.protobuf_parse_model.specs.SeenFiles.{environment_in, names_of_contex
 use Rattle.protobuf_parse_model.specs.Environment.{Customs, Environment, type_missing}
 use Rattle.protobuf_parse_model.specs.Faults.{Blames, Elaborates, Fault}
 use Rattle.protobuf_parse_model.proofs.Blaming.{blames_left}
-use Rattle.protobuf_parse_elaboration.specs.Parts.{FieldAndMessage}
+use Rattle.protobuf_parse_elaboration.specs.Parts.{FieldAndMessage, map_entry_faults}
 use Rattle.protobuf_parse_elaboration.specs.Fields.{FieldPlace, FieldTypeOf, faults_of_options}
 use Rattle.protobuf_parse_elaboration.specs.Fields.{field_faults, field_of, field_with, inner_type_faults}
 use Rattle.protobuf_parse_elaboration.specs.Fields.{type_faults, type_of}
-use Rattle.protobuf_parse_elaboration.specs.Messages.{entries_of, map_entry_faults}
+use Rattle.protobuf_parse_elaboration.specs.Messages.{entries_of}
 
 module _ (customs : Customs) (c : Context) (name : Text) where
   pub same_type : (t : TypeSyntax)

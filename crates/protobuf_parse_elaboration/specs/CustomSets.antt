@@ -12,7 +12,7 @@ use Rattle.protobuf_parse_syntax.specs.Trees.{OptionNameSyntax, OptionSyntax, bu
 use Rattle.protobuf_parse_syntax.specs.Trees.{FileSyntax}
 use Rattle.protobuf_parse_model.specs.Descriptors.{Text}
 use Rattle.protobuf_parse_model.specs.Faults.{Among, Fault}
-use Rattle.protobuf_parse_model.specs.Environment.{Customs, no_customs, no_extensions}
+use Rattle.protobuf_parse_model.specs.Environment.{Customs, no_customs}
 use Rattle.protobuf_parse_elaboration.specs.FileDescriptor.{environment, file_of, file_faults}
 use Rattle.protobuf_parse_elaboration.specs.OptionSets.{OptionSet, option_sets}
 
@@ -61,11 +61,3 @@ abbrev pub BytesAreOfSets : Type 0
 BytesAreOfSets = (seen : List FileSyntax) (one other : Customs) (path : Text) (t : FileSyntax)
     → ((s : OptionSet) → Among (option_sets t) s → bytes_of_set one s ≡ bytes_of_set other s)
     → file_of (environment seen one t) path t ≡ file_of (environment seen other t) path t
-
--- Where no extension is known and no fault stands in the file, each option that a statement of a
--- set sets is a built-in one.
-abbrev pub OptionsAreBuiltin : Type 0
-OptionsAreBuiltin = (seen : List FileSyntax) (t : FileSyntax) (s : OptionSet) (o : OptionSyntax)
-    → file_faults (environment seen no_extensions t) t ≡ []
-    → Among (option_sets t) s → Among s.statements o
-    → (name : Text) × (o.name ≡ builtin name)

@@ -8,7 +8,8 @@
 use Rattle.std.specs.Prelude.{List, [], ◌∷◌, ◌++◌, map, flat_map, codes, Some}
 use Rattle.protobuf_parse_syntax.specs.Trees.{OptionSyntax, StatementSyntax, file_option}
 use Rattle.protobuf_parse_syntax.specs.Trees.{file_message, file_enum, file_extend, file_service}
-use Rattle.protobuf_parse_syntax.specs.Trees.{FileSyntax, package_of}
+use Rattle.protobuf_parse_syntax.specs.Trees.{FileSyntax, package_of, nested_message}
+use Rattle.protobuf_parse_syntax.specs.Trees.{message_extend}
 use Rattle.protobuf_parse_syntax.specs.Dependencies.{imports, imports_of}
 use Rattle.protobuf_parse_syntax.specs.declared.tree.Syntax.{Syntax}
 use Rattle.protobuf_parse_syntax.specs.declared.tree.Syntax.TheVariants.{Proto2, Proto3}
@@ -26,7 +27,7 @@ use Rattle.protobuf_parse_model.specs.OptionMessages.{file_options}
 use Rattle.protobuf_parse_elaboration.specs.ConstructOptions.{construct_faults}
 use Rattle.protobuf_parse_elaboration.specs.Fields.{names_of_fields}
 use Rattle.protobuf_parse_elaboration.specs.Enums.{enum_of, enum_faults}
-use Rattle.protobuf_parse_elaboration.specs.Messages.{messages_behind, message_of, message_faults}
+use Rattle.protobuf_parse_elaboration.specs.Messages.{nested_of, statement_faults}
 use Rattle.protobuf_parse_elaboration.specs.Messages.{extend_fields, extend_faults, names_of_messages}
 use Rattle.protobuf_parse_elaboration.specs.Messages.{names_of_enums}
 use Rattle.protobuf_parse_elaboration.specs.Services.{service_of, service_faults}
@@ -57,10 +58,11 @@ environment seen customs t = record {
 
 -- ---- the descriptor
 
--- the messages of a statement: those written there, and those behind the groups of an `extend`
+-- the messages of a statement: those written there, and those behind the groups of an `extend`, as
+-- the same statement of a message has them
 abbrev pub file_messages_of : Environment → StatementSyntax → List MessageDescriptor
-file_messages_of env (file_message m) = message_of env m ∷ []
-file_messages_of env (file_extend e) = flat_map (messages_behind env) e.fields
+file_messages_of env (file_message m) = nested_of env (nested_message m)
+file_messages_of env (file_extend e) = nested_of env (message_extend e)
 file_messages_of env _ = []
 
 abbrev pub file_extensions_of : Environment → StatementSyntax → List FieldDescriptor
@@ -99,7 +101,7 @@ file_of env path t = record {
 -- ---- faults
 
 abbrev pub file_faults_of : Environment → StatementSyntax → List Fault
-file_faults_of env (file_message m) = message_faults env m
+file_faults_of env (file_message m) = statement_faults env (nested_message m)
 file_faults_of env (file_enum e) = enum_faults env e
 file_faults_of env (file_extend e) = extend_faults env e
 file_faults_of env (file_service s) = service_faults env s

@@ -1,5 +1,6 @@
 -- What the declaration of a message becomes: a DescriptorProto of google/protobuf/descriptor.proto;
--- and the faults that stand in it. Where one stands the descriptor may be anything.
+-- and the faults that stand in it. Where one stands the descriptor may be anything. A message of a
+-- file becomes what the same message inside another does, in the file's environment.
 --
 -- Every list is in source order. Behind a map stands the message of its entries, behind a group a
 -- message with the group's fields; they stand among the nested messages where the field stands. In
@@ -18,7 +19,7 @@ use Rattle.protobuf_parse_syntax.specs.Trees.{MessageStatementSyntax, message_re
 use Rattle.protobuf_parse_syntax.specs.Trees.{message_oneof, message_extend, message_message}
 use Rattle.protobuf_parse_syntax.specs.Trees.{message_enum, message_extensions, message_option}
 use Rattle.protobuf_parse_syntax.specs.Trees.{message_field, MessageStatementList, no_statements}
-use Rattle.protobuf_parse_syntax.specs.Trees.{more_statements, MessageSyntax}
+use Rattle.protobuf_parse_syntax.specs.Trees.{more_statements}
 use Rattle.protobuf_parse_syntax.specs.declared.tree.field.Label.{Label}
 use Rattle.protobuf_parse_syntax.specs.declared.tree.field.Label.TheVariants.{Optional}
 use Rattle.protobuf_parse_model.specs.declared.error.ElabErrorKind.TheVariants.{RangeEndOverflow}
@@ -28,7 +29,7 @@ use Rattle.protobuf_parse_model.specs.Descriptors.{EnumDescriptor, MessageDescri
 use Rattle.protobuf_parse_model.specs.Descriptors.{no_messages, messages_of_list}
 use Rattle.protobuf_parse_model.specs.Faults.{Fault}
 use Rattle.protobuf_parse_model.specs.Statements.{group_body, message_body, entry_name}
-use Rattle.protobuf_parse_model.specs.Statements.{field_statement_name, oneof_fields}
+use Rattle.protobuf_parse_model.specs.Statements.{field_statement_name, oneof_fields, groups}
 use Rattle.protobuf_parse_model.specs.Statements as statements
 use Rattle.protobuf_parse_model.specs.Duplicates.{fault_when, duplicates}
 use Rattle.protobuf_parse_model.specs.declared.customs.Construct.TheVariants as of
@@ -40,7 +41,7 @@ use Rattle.protobuf_parse_elaboration.specs.ConstructOptions.{construct_faults}
 use Rattle.protobuf_parse_elaboration.specs.Fields.{FieldTypeOf, type_of, says_optional, FieldPlace}
 use Rattle.protobuf_parse_elaboration.specs.Fields.{plain, field_statement_of, names_of_fields}
 use Rattle.protobuf_parse_elaboration.specs.Fields.{fields_of_group, field_statement_faults}
-use Rattle.protobuf_parse_elaboration.specs.Fields.{extension_faults, inner_type_faults}
+use Rattle.protobuf_parse_elaboration.specs.Fields.{extension_faults}
 use Rattle.protobuf_parse_elaboration.specs.Enums.{enum_of, enum_faults, ranges_reserved, names_reserved}
 
 -- ---- the messages behind maps and groups
@@ -89,13 +90,6 @@ abbrev pub entries_of : Environment → Text → TypeSyntax → List MessageDesc
 entries_of env name (map_of key value) = entry_of env name key value ∷ []
 entries_of env name (scalar s) = []
 entries_of env name (named n) = []
-
--- what is wrong in the types of that message's fields
-abbrev pub map_entry_faults : Environment → Text → TypeSyntax → List Fault
-map_entry_faults env name (map_of key value) =
-    inner_type_faults env name key ++ inner_type_faults env name value
-map_entry_faults env name (scalar s) = []
-map_entry_faults env name (named n) = []
 
 abbrev pub group_message : Environment → Text → List FieldStatementSyntax → MessageDescriptor
 group_message env name fields = message_with name (fields_of_group env fields) None
@@ -226,25 +220,19 @@ message_from env name body nested = a_message (record {
 }) (messages_of_list nested)
 
 abbrev mutual
-  -- the messages of a statement: those written there, and those behind maps and groups
+  -- the messages of a statement: those written there, and those behind maps and groups, of an
+  -- `extend` behind its groups alone
   pub nested_of : Environment → MessageStatementSyntax → List MessageDescriptor
   nested_of env (message_message at name body) =
       message_from env name (message_body body) (nested_in (env_inside env name) body) ∷ []
   nested_of env (message_field f) = messages_behind env f
   nested_of env (message_oneof o) = flat_map (messages_behind env) (flat_map oneof_fields o.body)
-  nested_of env (message_extend e) = flat_map (messages_behind env) e.fields
+  nested_of env (message_extend e) = flat_map (messages_behind env) (flat_map groups e.fields)
   nested_of env _ = []
 
   pub nested_in : Environment → MessageStatementList → List MessageDescriptor
   nested_in env no_statements = []
   nested_in env (more_statements s ss) = nested_of env s ++ nested_in env ss
-
-abbrev pub message_of_body : Environment → Text → List MessageStatementSyntax → MessageDescriptor
-message_of_body env name body =
-    message_from env name body (flat_map (nested_of (env_inside env name)) body)
-
-abbrev pub message_of : Environment → MessageSyntax → MessageDescriptor
-message_of env m = message_of_body env m.name m.body
 
 -- ---- faults
 
@@ -303,11 +291,3 @@ abbrev mutual
   pub faults_in : Environment → MessageStatementList → List Fault
   faults_in env no_statements = []
   faults_in env (more_statements s ss) = statement_faults env s ++ faults_in env ss
-
-abbrev pub faults_of_body : Environment → Text → List MessageStatementSyntax → List Fault
-faults_of_body env name body =
-    whole_faults env name body (flat_map (nested_of (env_inside env name)) body)
-    ++ flat_map (statement_faults (env_inside env name)) body
-
-abbrev pub message_faults : Environment → MessageSyntax → List Fault
-message_faults env m = faults_of_body env m.name m.body

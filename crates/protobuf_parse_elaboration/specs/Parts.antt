@@ -1,6 +1,6 @@
 -- No public clause rests on this file.
 -- What the parts that the code makes of a construct say.
-use Rattle.std.specs.Prelude.{ℕ, List, [], ◌∷◌, ◌++◌, map, flat_map, length, string_bytes}
+use Rattle.std.specs.Prelude.{ℕ, List, [], ◌++◌, map, flat_map, length, string_bytes}
 use Rattle.std.specs.Prelude.{String, Option, option_map, option_to_list}
 use Rattle.std.specs.Borrow.{Bor}
 use Rattle.std.specs.Global.{Global, Vec, Box}
@@ -15,10 +15,11 @@ use Rattle.protobuf_parse_model.specs.Descriptors.{enum_view, message_view}
 use Rattle.protobuf_parse_model.specs.declared.descriptor.FieldType.{FieldType}
 use Rattle.protobuf_parse_model.specs.declared.descriptor.DescriptorProto.{DescriptorProto}
 use Rattle.protobuf_parse_model.specs.Faults.{Fault}
+use Rattle.protobuf_parse_model.specs.Statements.{groups}
 use Rattle.protobuf_parse_model.specs.Duplicates.{duplicates}
 use Rattle.protobuf_parse_model.specs.declared.descriptor.ReservedRange.{ReservedRange}
 use Rattle.protobuf_parse_model.specs.Options.{FieldOptionValues, MessageOptionValues}
-use Rattle.protobuf_parse_model.specs.Options.{boxed_options_view, message_options_view}
+use Rattle.protobuf_parse_model.specs.Options.{field_options_view, message_options_view}
 use Rattle.protobuf_parse_model.specs.OptionMessages.{field_options, message_options}
 use Rattle.protobuf_parse_model.specs.declared.customs.Construct.TheVariants as of
 use Rattle.protobuf_parse_model.specs.Environment.{Environment, customs_bytes}
@@ -30,6 +31,7 @@ use Rattle.protobuf_parse_elaboration.specs.Messages.{messages_behind, oneofs_of
 use Rattle.protobuf_parse_elaboration.specs.Messages.{nested_of, enums_of, extended_of}
 use Rattle.protobuf_parse_elaboration.specs.Messages.{extension_ranges, reserves, options_of_body}
 use Rattle.protobuf_parse_syntax.specs.Trees.{OptionSyntax, FieldStatementSyntax}
+use Rattle.protobuf_parse_syntax.specs.Trees.{TypeSyntax, scalar, map_of, named}
 use Rattle.protobuf_parse_syntax.specs.Trees.{MessageStatementSyntax, ReservedSyntax}
 use Rattle.protobuf_parse_syntax.specs.Trees.{EnumValueSyntax, MethodSyntax, reserved_syntax}
 use Rattle.protobuf_parse_syntax.specs.Trees.{value_syntax, method_syntax, field_statement_syntax}
@@ -44,7 +46,7 @@ use Rattle.protobuf_parse_elaboration.specs.Fields.{names_of_fields}
 use Rattle.protobuf_parse_elaboration.specs.declared.convert.rest.Rest.{Rest}
 use Rattle.protobuf_parse_elaboration.specs.declared.convert.lists.DeclaredFields.{DeclaredFields}
 use Rattle.protobuf_parse_elaboration.specs.declared.convert.body.Body.{Body}
-use Rattle.protobuf_parse_elaboration.specs.Fields.{FieldTypeOf}
+use Rattle.protobuf_parse_elaboration.specs.Fields.{FieldTypeOf, inner_type_faults}
 
 abbrev pub resolved_view : ResolvedType → FieldTypeOf
 resolved_view r = record { kind = r.kind; name = option_map string_bytes r.name }
@@ -61,6 +63,13 @@ methods_seen ms = map (λ (m : Bor Method). method_syntax m.now) ms
 
 abbrev pub statements_seen : List (Bor FieldStatement) → List FieldStatementSyntax
 statements_seen ss = map (λ (s : Bor FieldStatement). field_statement_syntax s.now) ss
+
+-- what is wrong in the types of the fields of a map's entry
+abbrev pub map_entry_faults : Environment → Text → TypeSyntax → List Fault
+map_entry_faults env name (map_of key value) =
+    inner_type_faults env name key ++ inner_type_faults env name value
+map_entry_faults env name (scalar s) = []
+map_entry_faults env name (named n) = []
 
 -- a field, and the message behind it, if one stands there
 pub record FieldAndMessage : Type 0 where
@@ -80,6 +89,15 @@ abbrev pub field_declared_by : Environment → fields.FieldPlace → FieldStatem
 field_declared_by env place s =
     record { field = fields.field_statement_of env place s; behind = messages_behind env s }
 
+-- the same in an `extend`, where a message stands behind a group alone
+abbrev pub extension_declared_by : Environment → fields.FieldPlace → FieldStatementSyntax
+    → FieldAndMessage
+extension_declared_by env place s =
+    record {
+      field = fields.field_statement_of env place s;
+      behind = flat_map (messages_behind env) (groups s);
+    }
+
 -- fields, and the messages behind them
 pub record FieldsAndMessages : Type 0 where
   pub fields : List FieldDescriptor
@@ -96,6 +114,15 @@ fields_declared env place ss =
       fields = map (fields.field_statement_of env place) ss;
       behind =
           flat_map (messages_behind env) ss;
+    }
+
+abbrev pub extensions_declared : Environment → fields.FieldPlace → List FieldStatementSyntax
+    → FieldsAndMessages
+extensions_declared env place ss =
+    record {
+      fields = map (fields.field_statement_of env place) ss;
+      behind =
+          flat_map (messages_behind env) (flat_map groups ss);
     }
 
 -- what the statements of a body declare, so far
@@ -127,17 +154,6 @@ with_body_statement env b s =
       enum_type =
           b.enum_type ++ enums_of env s;
       extension = b.extension ++ extended_of env s;
-    }
-
--- with a message more
-abbrev pub with_message : BodyParts → MessageDescriptor → BodyParts
-with_message b m =
-    record {
-      field = b.field;
-      oneof_decl = b.oneof_decl;
-      nested_type = b.nested_type ++ m ∷ [];
-      enum_type = b.enum_type;
-      extension = b.extension;
     }
 
 abbrev pub body_of : Environment → List MessageStatementSyntax → BodyParts
@@ -222,7 +238,7 @@ said_view s =
       default_value = option_map string_bytes s.default_value;
       json_name =
           name_bytes s.json_name;
-      options = option_map boxed_options_view s.options;
+      options = option_map field_options_view s.options;
     }
 
 abbrev pub said_by : Environment → FieldType → Text → List OptionSyntax → Said

@@ -24,7 +24,6 @@ mod unlike;
 ghost use Rattle.std.specs.Prelude.{List, ◌≤◌};
 ghost use Rattle.protobuf_parse_syntax.specs.Counts.{statements_in};
 ghost use Rattle.protobuf_parse_syntax.specs.Trees.{FileSyntax, file_syntax};
-ghost use Rattle.protobuf_parse_model.specs.SeenFiles.{environment_of_file};
 ghost use Rattle.protobuf_parse_model.specs.Descriptors as described;
 ghost use Rattle.protobuf_parse_model.specs.Faults.{Elaborates};
 ghost use Rattle.protobuf_parse_model.specs.Tables.{TableTells, picked};
@@ -67,10 +66,7 @@ pub fn elaborate<C: CustomOptions>(
     custom: &C,
 ) -> Result<FileDescriptorProto, ElabFailure>
     requires few { statements_in (file_syntax tree.now) ≤ 2147483647 }
-    ensures by_table { let t = file_syntax tree.now in
-        let env = environment_of_file (C.customs custom.now) seen.now t in
-        Elaborates described.file_view result (file_faults env t) (file_of env name.now t) }
-    ensures by_files { (files : List FileSyntax) → TableTells seen.now.declarations.now files →
+    ensures { (files : List FileSyntax) → TableTells seen.now.declarations.now files →
         let t = file_syntax tree.now in
         let env = environment (picked files seen.now.sight.now) (C.customs custom.now) t in
         Elaborates described.file_view result (file_faults env t) (file_of env name.now t) }
@@ -88,10 +84,7 @@ pub fn elaborate_owned<C: CustomOptions>(
     custom: &C,
 ) -> Result<FileDescriptorProto, ElabFailure>
     requires few { statements_in (file_syntax tree) ≤ 2147483647 }
-    ensures by_table { let t = file_syntax tree in
-        let env = environment_of_file (C.customs custom.now) seen.now t in
-        Elaborates described.file_view result (file_faults env t) (file_of env name.now t) }
-    ensures by_files { (files : List FileSyntax) → TableTells seen.now.declarations.now files →
+    ensures { (files : List FileSyntax) → TableTells seen.now.declarations.now files →
         let t = file_syntax tree in
         let env = environment (picked files seen.now.sight.now) (C.customs custom.now) t in
         Elaborates described.file_view result (file_faults env t) (file_of env name.now t) }

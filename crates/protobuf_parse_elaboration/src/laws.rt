@@ -5,7 +5,7 @@ ghost use Rattle.protobuf_parse_model.specs.Lookup.{MeansTheLongest, MeansNothin
 ghost use Rattle.protobuf_parse_elaboration.specs.NamedTypes.{NamesAreDeclared, TypesAreNamed};
 ghost use Rattle.protobuf_parse_elaboration.specs.NamedTypes.{ExtendeesAreNamed, MessagesAreNamed};
 ghost use Rattle.protobuf_parse_elaboration.specs.CustomSets.{FaultsAreOfSets, NoneIsNoneInSets};
-ghost use Rattle.protobuf_parse_elaboration.specs.CustomSets.{BytesAreOfSets, OptionsAreBuiltin};
+ghost use Rattle.protobuf_parse_elaboration.specs.CustomSets.{BytesAreOfSets};
 
 /// What the name of a type means is declared in the longest front of the scope in which a type has
 /// that name; a name that means nothing is declared in no front; a name with a first dot means the
@@ -33,11 +33,9 @@ pub fn types_are_declared()
 /// Just those faults stand in a file that stand there besides custom options, or in the custom
 /// options of one of its sets, seen from the scope of that set; so none stands in the file just
 /// where none stands there besides custom options, and none in any set. A file becomes the same
-/// where the custom options of each of its sets become the same bytes. Where no extension is known,
-/// and no fault stands in the file, each option that is set is a built-in one.
+/// where the custom options of each of its sets become the same bytes.
 pub fn custom_options_are_of_sets()
     ensures faults { FaultsAreOfSets }
     ensures none { NoneIsNoneInSets }
     ensures bytes { BytesAreOfSets }
-    ensures builtin { OptionsAreBuiltin }
 {}

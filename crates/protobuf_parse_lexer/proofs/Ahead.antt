@@ -1,24 +1,31 @@
 -- What lies ahead in a text are its tokens.
 use Rattle.std.proofs.Common.{◌≡◌, ℕ, zero, suc, ◌+◌, ◌<◌, ◌≤◌, Bool, true, false, nat_lt}
-use Rattle.std.proofs.Common.{List}
+use Rattle.std.proofs.Common.{List, Option, Some, None, ◌↔◌}
 use Rattle.std.proofs.Common.{[], ◌∷◌, length, take, drop, refl, sym, ap, ◌∙◌, subst, inl, inr, ◌⊎◌}
 use Rattle.std.proofs.Common.{arith, length-drop, count_by, cond, if◌then◌else◌, eqb, nat_le, ◌||◌}
 use Rattle.std.proofs.Common.{slice_index}
 use Rattle.std.proofs.lemmas.Bool.{false≢true}
 use Rattle.std.proofs.lemmas.Bool.Decides.{nat_tests}
 use Rattle.std.proofs.lemmas.List.Sums.{sum_by-cons}
-use Rattle.protobuf_parse_lexer.specs.Ahead.{nowhere, deepens, counted, in_front, ends_at}
-use Rattle.protobuf_parse_lexer.specs.Ahead.{from_piece, ahead_within, ahead}
+use Rattle.protobuf_parse_lexer.specs.Ahead.{nowhere, deepens, counted, in_front, ends_at, behind}
+use Rattle.protobuf_parse_lexer.specs.Ahead.{AheadIn, at_end, past_blank, past_token, at_bracket}
+use Rattle.protobuf_parse_lexer.specs.Ahead.{at_fault}
+use Rattle.protobuf_parse_lexer.specs.AheadOf.{from_piece, ahead_within, ahead}
+use Rattle.protobuf_parse_lexer.specs.AheadViews.{with_next, lies_ahead}
 use Rattle.protobuf_parse_lexer.specs.Cut.{Cut, Stream, IsShort, HasTokens, done, blank, token}
 use Rattle.protobuf_parse_lexer.specs.Cut.{mark_len}
 use Rattle.protobuf_parse_lexer.specs.Place.{step, after, start}
 use Rattle.protobuf_parse_lexer.specs.Scan.{Stands}
 use Rattle.protobuf_parse_lexer.specs.Text.{Bytes, IsBlank, IsToken}
+use Rattle.protobuf_parse_lexer.specs.Tokenizers.{next_lexeme, Follows, LiesAhead, OneLiesAhead}
 use Rattle.protobuf_parse_lexer.specs.Tokens.{Lexeme, is_opening, is_closing, opened, closed}
 use Rattle.protobuf_parse_lexer.specs.declared.lexer.front.Piece.{Piece}
 use Rattle.protobuf_parse_lexer.specs.declared.lexer.front.Piece.TheVariants as piece
 use Rattle.protobuf_parse_lexer.specs.declared.lexer.token.Place.{Place}
 use Rattle.protobuf_parse_lexer.specs.declared.lexer.token.TokenKind.{TokenKind}
+use Rattle.protobuf_parse_lexer.specs.declared.lexer.tokenizer.Brackets.{Brackets}
+use Rattle.protobuf_parse_lexer.specs.declared.lexer.tokenizer.NextToken.{NextToken}
+use Rattle.protobuf_parse_lexer.specs.declared.lexer.tokenizer.Tokenizer.{Tokenizer}
 use Rattle.protobuf_parse_lexer.proofs.Cuts.{token_some, nil_at_end}
 use Rattle.protobuf_parse_lexer.proofs.Depth.{opening_is_no_closing}
 use Rattle.protobuf_parse_lexer.specs.Total.{total, true_or_false}
@@ -348,3 +355,96 @@ line_cut {p} {q} {z} (token n k is cut) = omega (arith, line_after p (take n z),
 -- a text with tokens ends somewhere
 pub ends_somewhere : (text : Bytes) (s : Stream) → HasTokens text s → s.end.line ≡ 0 → ⊥
 ends_somewhere text s has e = omega (arith, line_cut has.cut, e)
+
+-- ---- the function gives what lies ahead, and nothing else does
+
+in_step : (f : ℕ → ℕ → Place → Bytes → Stream) (o c : ℕ) (p : Place) (z : Bytes) (r : Piece)
+    → Stands z r
+    → ((o' c' : ℕ) (p' : Place) (y : Bytes) → length y < length z
+    → AheadIn o' c' p' y (f o' c' p' y)) → AheadIn o c p z (from_piece f o c p z r)
+in_step f o c p z piece.End is all = at_end is
+in_step f o c p z (piece.Blank n) is all =
+    past_blank n is
+    (all o c (after p (take n z)) (drop n z) (less z n (blank_some z n is)))
+in_step f o c p z (piece.Token n k) is all = elim (true_or_false (deepens o c k)) [
+  | inl deep ↦
+      let stops : from_piece f o c p z (piece.Token n k) ≡ ends_at nowhere = rw deep refl in
+      subst (AheadIn o c p z) (sym stops) (at_bracket n k is deep)
+  | inr flat ↦
+      let o' = counted (is_opening k) o in
+      let c' = counted (is_closing k) c in
+      let t : Lexeme = record { kind = k; text = take n z; place = p } in
+      let goes : from_piece f o c p z (piece.Token n k)
+      ≡ in_front t (f o' c' (after p (take n z)) (drop n z)) = rw flat refl in
+      subst (AheadIn o c p z) (sym goes)
+      (past_token n k is flat
+      (all o' c' (after p (take n z)) (drop n z) (less z n (token_some z n k is))))
+]
+in_step f o c p z (piece.Fault e) is all = at_fault e is
+
+in_within : (n o c : ℕ) (p : Place) (z : Bytes) → length z < n
+    → AheadIn o c p z (ahead_within n o c p z)
+unfolding ahead_within
+in_within zero o c p z h = absurd (omega arith)
+in_within (suc n) o c p z h =
+    in_step (ahead_within n) o c p z (total z).0 (total z).1
+    (λ o' c' p' y l. in_within n o' c' p' y (omega arith))
+
+ahead_in : (o c : ℕ) (p : Place) (z : Bytes) → AheadIn o c p z (ahead o c p z)
+unfolding ahead
+ahead_in o c p z = in_within (suc (length z)) o c p z (omega arith)
+
+ahead_only : {o c : ℕ} {p : Place} {z : Bytes} {s : Stream} → AheadIn o c p z s
+    → ahead o c p z ≡ s
+ahead_only {o} {c} {p} {z} (at_end is) = ahead_is o c p z piece.End is
+ahead_only {o} {c} {p} {z} (past_blank n is more) =
+    ahead_is o c p z (piece.Blank n) is ∙ ahead_only more
+ahead_only {o} {c} {p} {z} (past_token n k is flat more) =
+    let t : Lexeme = record { kind = k; text = take n z; place = p } in
+    ahead_is o c p z (piece.Token n k) is
+    ∙ (let go : from_piece ahead o c p z (piece.Token n k)
+    ≡ in_front t (ahead (counted (is_opening k) o) (counted (is_closing k) c) (after p (take n z))
+    (drop n z)) = rw flat refl in go)
+    ∙ ap (in_front t) (ahead_only more)
+ahead_only {o} {c} {p} {z} (at_bracket n k is deep) =
+    ahead_is o c p z (piece.Token n k) is ∙ rw deep refl
+ahead_only {o} {c} {p} {z} (at_fault e is) = ahead_is o c p z (piece.Fault e) is
+
+follows : (n : Option NextToken) (b : Brackets) (p : Place) (z : Bytes)
+    → Follows n b p z (with_next n b p z)
+follows None b p z = refl
+follows (Some t) b p z =
+    (ahead b.opened b.closed p z, ahead_in b.opened b.closed p z, refl)
+
+follows_only : (n : Option NextToken) (b : Brackets) (p : Place) (z : Bytes) (s : Stream)
+    → Follows n b p z s → with_next n b p z ≡ s
+follows_only None b p z s h = sym h
+follows_only (Some t) b p z s h = ap (in_front (next_lexeme t)) (ahead_only h.1) ∙ sym h.2
+
+pub lies_ahead_is : (t : Tokenizer) → LiesAhead t (lies_ahead t)
+lies_ahead_is t = follows t.next t.brackets t.after t.rest.now
+
+pub lies_ahead_only : (t : Tokenizer) (s : Stream) → LiesAhead t s → lies_ahead t ≡ s
+lies_ahead_only t s h = follows_only t.next t.brackets t.after t.rest.now s h
+
+pub one_lies_ahead : OneLiesAhead
+one_lies_ahead t = (lies_ahead t, lies_ahead_is t, λ u h. sym (lies_ahead_only t u h))
+
+pub text_ahead : (t : Tokenizer) (o c : ℕ) (p : Place) (z : Bytes)
+    → lies_ahead t ≡ ahead o c p z → (s : Stream) → LiesAhead t s ↔ AheadIn o c p z s
+text_ahead t o c p z e s = (
+  λ h. subst (AheadIn o c p z) (sym e ∙ lies_ahead_only t s h) (ahead_in o c p z),
+  λ h. subst (LiesAhead t) (e ∙ ahead_only h) (lies_ahead_is t),
+)
+
+-- what a step says of the function, and what the function says of the step
+pub gone_past : (before later : Tokenizer) → lies_ahead later ≡ behind (lies_ahead before)
+    → (s : Stream) → LiesAhead before s → LiesAhead later (behind s)
+gone_past before later e s h =
+    subst (LiesAhead later) (e ∙ ap behind (lies_ahead_only before s h)) (lies_ahead_is later)
+
+pub advanced : (before later : Tokenizer)
+    → ((s : Stream) → LiesAhead before s → LiesAhead later (behind s))
+    → lies_ahead later ≡ behind (lies_ahead before)
+advanced before later h =
+    lies_ahead_only later (behind (lies_ahead before)) (h (lies_ahead before) (lies_ahead_is before))

@@ -1,17 +1,14 @@
 -- What lies ahead in a text: its tokens up to its end, to a fault, or to the bracket with which it
--- nests too deep. The clauses of a tokenizer name `nowhere` and `behind`; its view rests on all of
--- this, and that what it shows are the text's tokens is what those clauses say.
-use Rattle.std.specs.Prelude.{ℕ, zero, suc, ◌+◌, Bool, ◌&&◌, nat_lt, if◌then◌else◌, [], ◌∷◌}
+-- nests too deep.
+use Rattle.std.specs.Prelude.{◌≡◌, ℕ, ◌+◌, Bool, true, false, ◌&&◌, nat_lt, if◌then◌else◌, [], ◌∷◌}
 use Rattle.std.specs.Prelude.{length, take, drop}
 use Rattle.protobuf_parse_lexer.specs.Cut.{Stream}
 use Rattle.protobuf_parse_lexer.specs.Place.{after}
-use Rattle.protobuf_parse_lexer.specs.Text.{Bytes}
+use Rattle.protobuf_parse_lexer.specs.Text.{Bytes, IsBlank, IsToken, IsFault}
 use Rattle.protobuf_parse_lexer.specs.Tokens.{Lexeme, is_opening, is_closing}
-use Rattle.protobuf_parse_lexer.specs.declared.lexer.front.Piece.{Piece}
-use Rattle.protobuf_parse_lexer.specs.declared.lexer.front.Piece.TheVariants as piece
+use Rattle.protobuf_parse_lexer.specs.declared.error.ParserError.{ParserError}
 use Rattle.protobuf_parse_lexer.specs.declared.lexer.token.Place.{Place}
 use Rattle.protobuf_parse_lexer.specs.declared.lexer.token.TokenKind.{TokenKind}
-use Rattle.protobuf_parse_lexer.specs.Total.{total}
 
 -- the place of the end where the tokens do not go on to the text's end
 abbrev pub nowhere : Place
@@ -36,22 +33,21 @@ behind s = record { tokens = drop 1 s.tokens; end = s.end }
 abbrev pub ends_at : Place → Stream
 ends_at p = record { tokens = []; end = p }
 
--- what lies ahead where this piece stands at the front, with what lies ahead of other texts
-abbrev pub from_piece : (ℕ → ℕ → Place → Bytes → Stream) → ℕ → ℕ → Place → Bytes → Piece → Stream
-from_piece more o c p z piece.End = ends_at p
-from_piece more o c p z (piece.Blank n) = more o c (after p (take n z)) (drop n z)
-from_piece more o c p z (piece.Token n k) =
-    if deepens o c k then ends_at nowhere
-    else in_front (record { kind = k; text = take n z; place = p })
-    (more (counted (is_opening k) o) (counted (is_closing k) c) (after p (take n z)) (drop n z))
-from_piece more o c p z (piece.Fault e) = ends_at nowhere
-
--- the same of texts of less than so many bytes
-unfoldable pub ahead_within : ℕ → ℕ → ℕ → Place → Bytes → Stream
-ahead_within zero o c p z = ends_at nowhere
-ahead_within (suc n) o c p z = from_piece (ahead_within n) o c p z (total z).0
-
--- What lies ahead in the text z, which begins at the place p, where o brackets were opened before
--- it and c closed.
-unfoldable pub ahead : ℕ → ℕ → Place → Bytes → Stream
-ahead o c p z = ahead_within (suc (length z)) o c p z
+-- The tokens of the stream lie ahead in the text z, which begins at the place p, where o brackets
+-- were opened before it and c closed.
+pub data AheadIn : ℕ → ℕ → Place → Bytes → Stream → Type 0 where
+  at_end : {o c : ℕ} {p : Place} {z : Bytes} → length z ≡ 0 → AheadIn o c p z (ends_at p)
+  past_blank :
+      {o c : ℕ} {p : Place} {z : Bytes} {s : Stream} (n : ℕ) → IsBlank z n →
+      AheadIn o c (after p (take n z)) (drop n z) s → AheadIn o c p z s
+  past_token :
+      {o c : ℕ} {p : Place} {z : Bytes} {s : Stream} (n : ℕ) (k : TokenKind) → IsToken z n k →
+      deepens o c k ≡ false →
+      AheadIn (counted (is_opening k) o) (counted (is_closing k) c) (after p (take n z)) (drop n z)
+      s → AheadIn o c p z (in_front (record { kind = k; text = take n z; place = p }) s)
+  at_bracket :
+      {o c : ℕ} {p : Place} {z : Bytes} (n : ℕ) (k : TokenKind) → IsToken z n k →
+      deepens o c k ≡ true → AheadIn o c p z (ends_at nowhere)
+  at_fault :
+      {o c : ℕ} {p : Place} {z : Bytes} (e : ParserError) → IsFault z e →
+      AheadIn o c p z (ends_at nowhere)

@@ -1,4 +1,4 @@
--- Lemmas that Total.antt needs: no clause names this file.
+-- No public clause rests on this file.
 -- What the scanners' answers say of the front of a text.
 use Rattle.std.proofs.Common.{MatchOption, length-drop, ◌||◌, ◌≡◌, ℕ, zero, suc, ◌+◌, ◌-◌, ◌*◌, ◌<◌}
 use Rattle.std.proofs.Common.{◌≤◌, Bool, true, false, eqb, List, [], ◌∷◌, length, take, drop}

@@ -13,4 +13,6 @@ pub mod DecoderLaws
 pub mod Front
 pub mod Total
 pub mod Ahead
+pub mod AheadOf
+pub mod AheadViews
 pub mod Tokenizers

@@ -1,6 +1,6 @@
--- What a tokenizer has left: of this list its clauses say what it is.
-use Rattle.std.specs.Prelude.{Option, Some, None}
-use Rattle.protobuf_parse_lexer.specs.Ahead.{ahead, ends_at, in_front}
+-- What lies ahead of a tokenizer: the tokens of its text from the next one on.
+use Rattle.std.specs.Prelude.{◌≡◌, Option, Some, None}
+use Rattle.protobuf_parse_lexer.specs.Ahead.{AheadIn, in_front, ends_at}
 use Rattle.protobuf_parse_lexer.specs.Cut.{Stream}
 use Rattle.protobuf_parse_lexer.specs.Text.{Bytes}
 use Rattle.protobuf_parse_lexer.specs.Tokens.{Lexeme}
@@ -13,11 +13,18 @@ use Rattle.protobuf_parse_lexer.specs.declared.lexer.tokenizer.Tokenizer.{Tokeni
 abbrev pub next_lexeme : NextToken → Lexeme
 next_lexeme t = record { kind = t.kind; text = t.text.now; place = t.place }
 
--- the next token, if there is one, and what lies ahead behind it
-abbrev pub with_next : Option NextToken → Brackets → Place → Bytes → Stream
-with_next None b p z = ends_at p
-with_next (Some t) b p z = in_front (next_lexeme t) (ahead b.opened b.closed p z)
+-- They are the next token, if there is one, and then what lies ahead in the rest of the text.
+abbrev pub Follows : Option NextToken → Brackets → Place → Bytes → Stream → Type 0
+Follows None b p z s = s ≡ ends_at p
+Follows (Some t) b p z s =
+    (others : Stream) × AheadIn b.opened b.closed p z others
+    × (s ≡ in_front (next_lexeme t) others)
 
--- the tokens that lie ahead, and the place of their end
-abbrev pub lies_ahead : Tokenizer → Stream
-lies_ahead t = with_next t.next t.brackets t.after t.rest.now
+-- They lie ahead of the tokenizer.
+abbrev pub LiesAhead : Tokenizer → Stream → Type 0
+LiesAhead t s = Follows t.next t.brackets t.after t.rest.now s
+
+-- Of each tokenizer one stream lies ahead.
+abbrev pub OneLiesAhead : Type 0
+OneLiesAhead =
+    (t : Tokenizer) → (s : Stream) × LiesAhead t s × ((u : Stream) → LiesAhead t u → u ≡ s)

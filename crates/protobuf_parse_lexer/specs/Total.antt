@@ -1,4 +1,5 @@
--- Something stands at the front of each text. Only the view of a tokenizer rests on this file.
+-- No public clause rests on this file.
+-- Something stands at the front of each text.
 use Rattle.std.proofs.Common.{◌≡◌, ℕ, zero, suc, ◌+◌, ◌-◌, ◌<◌, ◌≤◌, ◌^◌, Bool, true, false}
 use Rattle.std.proofs.Common.{[], ◌∷◌, length, drop, slice_index, slice_range, Option, Some, None}
 use Rattle.std.proofs.Common.{MatchOption, refl, sym, ap, ◌∙◌, subst, inl, inr, ⊎_elim, ◌⊎◌, arith}

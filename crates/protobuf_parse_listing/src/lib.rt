@@ -23,6 +23,11 @@ const LINE_LEN: usize = 72;
 /// The listing of the files, in order. Each line ends with a line feed. An absent text prints as
 /// nothing. The one error is that memory is short.
 ///
+/// ```
+/// let parsed = parser.parse_and_typecheck(&rt)?;
+/// print!(rt; "{}", listing(rt.alloc(), &parsed.file_descriptors)?)?;
+/// ```
+///
 /// | construct | line | below it, in this order |
 /// |---|---|---|
 /// | file | `file NAME` | `syntax S`, `package P` if present, `import PATH`, `import public PATH` or `import weak PATH` each, options, messages, enums, services, extensions |

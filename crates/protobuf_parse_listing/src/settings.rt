@@ -4,7 +4,7 @@ ghost use Rattle.std.specs.Prelude.{◌≡◌, ◌++◌, OnOk, Some, flat_map, m
 ghost use Rattle.std.specs.Prelude.{option_map};
 ghost use Rattle.std.specs.String.{string_bytes};
 ghost use Rattle.protobuf_parse_model.specs.Options.{enum_options_view, enum_value_options_view};
-ghost use Rattle.protobuf_parse_model.specs.Options.{boxed_options_view, field_options_view};
+ghost use Rattle.protobuf_parse_model.specs.Options.{field_options_view};
 ghost use Rattle.protobuf_parse_model.specs.Options.{file_options_view};
 ghost use Rattle.protobuf_parse_model.specs.Options.{message_options_view, method_options_view};
 ghost use Rattle.protobuf_parse_model.specs.Options.{oneof_options_view, service_options_view};
@@ -323,11 +323,11 @@ pub fn put_field_options(
     alloc: Global,
     text: &mut String,
     level: usize,
-    options: &Option<Box<FieldOptions>>,
+    options: &Option<FieldOptions>,
 ) -> Result<(), AllocError>
     ensures { OnOk result
         (string_bytes text.new ≡ string_bytes text.old
-        ++ spec.field_option_lines level (option_map boxed_options_view options.now)) }
+        ++ spec.field_option_lines level (option_map field_options_view options.now)) }
 {
     match options {
         None => Ok(()),

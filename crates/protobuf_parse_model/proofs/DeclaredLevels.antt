@@ -3,7 +3,7 @@
 use Rattle.std.proofs.Common.{◌≡◌, List, [], ◌∷◌, flat_map, refl}
 use Rattle.protobuf_parse_syntax.specs.Trees.{MessageStatementSyntax, MessageSyntax}
 use Rattle.protobuf_parse_syntax.specs.Trees.{message_statements, nested_message}
-use Rattle.protobuf_parse_model.specs.Declarations.{Scope, types_of, types_in, message_types}
+use Rattle.protobuf_parse_model.specs.Declarations.{Scope, a_message, declare, types_of, types_in}
 use Rattle.protobuf_parse_model.specs.Declarations.{extensions_of, extensions_in, generated_of}
 use Rattle.protobuf_parse_model.specs.Declarations.{generated_in, inside}
 
@@ -13,7 +13,8 @@ types_in_is scope [] = refl
 types_in_is scope (s ∷ ss) = rw (types_in_is scope ss) refl
 
 pub types_of_message : (scope : Scope) (m : MessageSyntax)
-    → types_of scope (nested_message m) ≡ message_types scope m
+    → types_of scope (nested_message m) ≡ declare scope m.name a_message
+    ∷ flat_map (types_of (inside scope m.name)) m.body
 types_of_message scope m = rw (types_in_is (inside scope m.name) m.body) refl
 
 pub extensions_in_is : (scope : Scope) (ss : List MessageStatementSyntax)

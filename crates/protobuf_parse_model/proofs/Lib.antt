@@ -7,3 +7,4 @@ pub mod Tables
 pub mod Picks
 pub mod Links
 pub mod DeclaredLevels
+pub mod Sights

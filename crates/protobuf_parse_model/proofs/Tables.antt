@@ -26,6 +26,7 @@ use Rattle.protobuf_parse_base.specs.DeclaredNames.{name_bytes}
 use Rattle.protobuf_parse_syntax.specs.Trees.{ExtendSyntax, FieldStatementSyntax, FileSyntax}
 use Rattle.protobuf_parse_syntax.specs.Trees.{field_statement_syntax, MessageSyntax}
 use Rattle.protobuf_parse_syntax.specs.Trees.{message_statement_syntax, message_syntax}
+use Rattle.protobuf_parse_syntax.specs.Trees.{nested_message}
 use Rattle.protobuf_parse_model.specs.declared.scope.seen.DeclarationKind.TheVariants as kind
 use Rattle.protobuf_parse_model.specs.declared.scope.seen.Declaration.{Declaration}
 use Rattle.protobuf_parse_model.specs.declared.scope.seen.Declarations.{Declarations}
@@ -33,8 +34,7 @@ use Rattle.protobuf_parse_model.specs.Descriptors.{Text}
 use Rattle.protobuf_parse_model.specs.Declarations.{DeclaredExtension, Scope, a_message, declare}
 use Rattle.protobuf_parse_model.specs.Declarations.{extend_extensions, extensions_of}
 use Rattle.protobuf_parse_model.specs.Declarations.{file_extensions, file_generated, file_types}
-use Rattle.protobuf_parse_model.specs.Declarations.{full_name, generated_of, inside, message_types}
-use Rattle.protobuf_parse_model.specs.Declarations.{types_of}
+use Rattle.protobuf_parse_model.specs.Declarations.{full_name, generated_of, inside, types_of}
 use Rattle.protobuf_parse_model.specs.Statements.{field_statement_name}
 use Rattle.protobuf_parse_model.specs.SeenFiles.{declared_as, listed}
 use Rattle.protobuf_parse_model.specs.Tables.{Adds, AddsOne, Entry, KeepsListed, ListsOne}
@@ -336,41 +336,46 @@ adds_extension old between new file scope e xs i x lt is so_far more =
 
 pub types_of-view : (scope : Scope) (m : Message)
     → types_of scope (message_statement_syntax (statement.Message m))
-    ≡ message_types scope (message_syntax m)
+    ≡ types_of scope (nested_message (message_syntax m))
 types_of-view scope m = ap (types_of scope) (views_message m)
-    ∙ types_of_message scope (message_syntax m)
 
 pub generated_of-view : (scope : Scope) (m : Message)
     → generated_of scope (message_statement_syntax (statement.Message m))
-    ≡ flat_map (generated_of (inside scope (message_syntax m).name)) (message_syntax m).body
+    ≡ generated_of scope (nested_message (message_syntax m))
 generated_of-view scope m = ap (generated_of scope) (views_message m)
-    ∙ generated_of_message scope (message_syntax m)
 
 pub extensions_of-view : (scope : Scope) (m : Message)
     → extensions_of scope (message_statement_syntax (statement.Message m))
-    ≡ flat_map (extensions_of (inside scope (message_syntax m).name)) (message_syntax m).body
+    ≡ extensions_of scope (nested_message (message_syntax m))
 extensions_of-view scope m = ap (extensions_of scope) (views_message m)
-    ∙ extensions_of_message scope (message_syntax m)
 
-pub message_types-view : (scope : Scope) (m : Message)
-    → message_types scope (message_syntax m) ≡ declare scope (name_bytes m.name) a_message
+pub types-view : (scope : Scope) (m : Message)
+    → types_of scope (nested_message (message_syntax m))
+    ≡ declare scope (name_bytes m.name) a_message
     ∷ flat_map (types_of (inside scope (name_bytes m.name)))
     (map message_statement_syntax m.body.items)
-message_types-view scope m = ap (message_types scope) (view_parts m)
+types-view scope m =
+    types_of_message scope (message_syntax m)
+    ∙ ap (λ (x : MessageSyntax). declare scope x.name a_message
+    ∷ flat_map (types_of (inside scope x.name)) x.body) (view_parts m)
 
 pub generated-view : (scope : Scope) (m : Message)
-    → flat_map (generated_of (inside scope (message_syntax m).name)) (message_syntax m).body
+    → generated_of scope (nested_message (message_syntax m))
     ≡ flat_map (generated_of (inside scope (name_bytes m.name)))
     (map message_statement_syntax m.body.items)
 generated-view scope m =
-    ap (λ (x : MessageSyntax). flat_map (generated_of (inside scope x.name)) x.body) (view_parts m)
+    generated_of_message scope (message_syntax m)
+    ∙ ap (λ (x : MessageSyntax). flat_map (generated_of (inside scope x.name)) x.body)
+    (view_parts m)
 
 pub extensions-view : (scope : Scope) (m : Message)
-    → flat_map (extensions_of (inside scope (message_syntax m).name)) (message_syntax m).body
+    → extensions_of scope (nested_message (message_syntax m))
     ≡ flat_map (extensions_of (inside scope (name_bytes m.name)))
     (map message_statement_syntax m.body.items)
 extensions-view scope m =
-    ap (λ (x : MessageSyntax). flat_map (extensions_of (inside scope x.name)) x.body) (view_parts m)
+    extensions_of_message scope (message_syntax m)
+    ∙ ap (λ (x : MessageSyntax). flat_map (extensions_of (inside scope x.name)) x.body)
+    (view_parts m)
 
 -- ---- files, one after another
 

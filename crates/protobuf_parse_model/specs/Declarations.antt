@@ -1,6 +1,7 @@
 -- What a file declares, by full name: messages and enums, extensions, and the messages that stand
 -- behind maps and groups. A full name has a dot before each identifier, from the package down to
--- the declaration's own name. Protocol Buffers Language Guide (proto2), "Nested Types", "Packages
+-- the declaration's own name. A message of a file declares what the same message inside another
+-- does, in the file's scope. Protocol Buffers Language Guide (proto2), "Nested Types", "Packages
 -- and Name Resolution", "Extensions", "Maps"; Protocol Buffers Language Specification, "Package",
 -- "Group field", "Map field", "Extend" (https://protobuf.dev).
 use Rattle.std.specs.Prelude.{List, [], ◌∷◌, ◌++◌, map, flat_map, Option, unwrap_or, if◌then◌else◌}
@@ -10,14 +11,14 @@ use Rattle.protobuf_parse_syntax.specs.Trees.{FieldStatementSyntax, field, group
 use Rattle.protobuf_parse_syntax.specs.Trees.{MessageStatementSyntax, message_oneof, message_extend}
 use Rattle.protobuf_parse_syntax.specs.Trees.{message_message, message_enum, message_field}
 use Rattle.protobuf_parse_syntax.specs.Trees.{MessageStatementList, no_statements, more_statements}
-use Rattle.protobuf_parse_syntax.specs.Trees.{MessageSyntax, ExtendSyntax, StatementSyntax}
+use Rattle.protobuf_parse_syntax.specs.Trees.{nested_message, ExtendSyntax, StatementSyntax}
 use Rattle.protobuf_parse_syntax.specs.Trees.{file_message, file_enum, file_extend, FileSyntax}
 use Rattle.protobuf_parse_syntax.specs.Trees.{package_of}
 use Rattle.protobuf_parse_model.specs.Descriptors.{Text}
 use Rattle.protobuf_parse_model.specs.declared.descriptor.FieldType.{FieldType}
 use Rattle.protobuf_parse_model.specs.declared.descriptor.FieldType.TheVariants as kind
 use Rattle.protobuf_parse_model.specs.Statements.{field_statement_name, entry_name, is_map}
-use Rattle.protobuf_parse_model.specs.Statements.{oneof_fields}
+use Rattle.protobuf_parse_model.specs.Statements.{oneof_fields, groups}
 
 -- ---- names
 
@@ -75,12 +76,8 @@ abbrev mutual
   types_in scope no_statements = []
   types_in scope (more_statements s ss) = types_of scope s ++ types_in scope ss
 
-abbrev pub message_types : Scope → MessageSyntax → List DeclaredType
-message_types scope m = declare scope m.name a_message
-    ∷ flat_map (types_of (inside scope m.name)) m.body
-
 abbrev pub statement_types : Scope → StatementSyntax → List DeclaredType
-statement_types scope (file_message m) = message_types scope m
+statement_types scope (file_message m) = types_of scope (nested_message m)
 statement_types scope (file_enum e) = declare scope e.name an_enum ∷ []
 statement_types scope _ = []
 
@@ -115,14 +112,15 @@ abbrev mutual
   extensions_in scope (more_statements s ss) = extensions_of scope s ++ extensions_in scope ss
 
 abbrev pub statement_extensions : Scope → StatementSyntax → List DeclaredExtension
-statement_extensions scope (file_message m) = flat_map (extensions_of (inside scope m.name)) m.body
+statement_extensions scope (file_message m) = extensions_of scope (nested_message m)
 statement_extensions scope (file_extend e) = extend_extensions scope e
 statement_extensions scope _ = []
 
 abbrev pub file_extensions : FileSyntax → List DeclaredExtension
 file_extensions t = flat_map (statement_extensions (file_scope t)) t.statements
 
--- ---- the messages behind maps and groups: no name that a file writes means one of them
+-- ---- the messages behind maps and groups, of an `extend` those of its groups alone: no name that a
+-- file writes means one of them
 
 abbrev pub generated_by : Scope → FieldStatementSyntax → List Text
 generated_by scope (field f) = if is_map f.type_ then full_name scope (entry_name f.name) ∷ []
@@ -134,7 +132,7 @@ abbrev mutual
   generated_of scope (message_field f) = generated_by scope f
   generated_of scope (message_oneof o) =
       flat_map (generated_by scope) (flat_map oneof_fields o.body)
-  generated_of scope (message_extend e) = flat_map (generated_by scope) e.fields
+  generated_of scope (message_extend e) = flat_map (generated_by scope) (flat_map groups e.fields)
   generated_of scope (message_message place name body) = generated_in (inside scope name) body
   generated_of scope _ = []
 
@@ -143,8 +141,8 @@ abbrev mutual
   generated_in scope (more_statements s ss) = generated_of scope s ++ generated_in scope ss
 
 abbrev pub statement_generated : Scope → StatementSyntax → List Text
-statement_generated scope (file_message m) = flat_map (generated_of (inside scope m.name)) m.body
-statement_generated scope (file_extend e) = flat_map (generated_by scope) e.fields
+statement_generated scope (file_message m) = generated_of scope (nested_message m)
+statement_generated scope (file_extend e) = generated_of scope (message_extend e)
 statement_generated scope _ = []
 
 abbrev pub file_generated : FileSyntax → List Text

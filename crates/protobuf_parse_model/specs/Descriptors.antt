@@ -13,7 +13,7 @@ use Rattle.protobuf_parse_model.specs.Options.{OneofOptionValues, EnumOptionValu
 use Rattle.protobuf_parse_model.specs.Options.{EnumValueOptionValues}
 use Rattle.protobuf_parse_model.specs.Options.{ServiceOptionValues, MethodOptionValues}
 use Rattle.protobuf_parse_model.specs.Options.{file_options_view, message_options_view}
-use Rattle.protobuf_parse_model.specs.Options.{boxed_options_view, oneof_options_view}
+use Rattle.protobuf_parse_model.specs.Options.{field_options_view, oneof_options_view}
 use Rattle.protobuf_parse_model.specs.Options.{enum_options_view, enum_value_options_view}
 use Rattle.protobuf_parse_model.specs.Options.{service_options_view, method_options_view}
 use Rattle.protobuf_parse_model.specs.declared.descriptor.FieldType.{FieldType}
@@ -145,7 +145,7 @@ field_view f = record {
   oneof_index = f.oneof_index;
   json_name = name_bytes f.json_name;
   proto3_optional = f.proto3_optional;
-  options = option_map boxed_options_view f.options;
+  options = option_map field_options_view f.options;
 }
 
 abbrev pub oneof_view : OneofDescriptorProto → OneofDescriptor

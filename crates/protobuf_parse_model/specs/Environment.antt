@@ -1,10 +1,8 @@
 -- From where a construct is seen: what its names may mean, and what its custom options are.
 use Rattle.std.specs.Prelude.{List, [], ◌∷◌, ◌++◌, flat_map, codes, Option, Some, None, option_map}
 use Rattle.std.specs.Prelude.{if◌then◌else◌}
-use Rattle.protobuf_parse_syntax.specs.Trees.{OptionPartSyntax, direct, extension, OptionNameSyntax}
-use Rattle.protobuf_parse_syntax.specs.Trees.{builtin, custom, OptionSyntax}
+use Rattle.protobuf_parse_syntax.specs.Trees.{OptionPartSyntax, direct, extension, OptionSyntax}
 use Rattle.protobuf_parse_syntax.specs.declared.tree.Syntax.{Syntax}
-use Rattle.protobuf_parse_model.specs.declared.error.ElabErrorKind.TheVariants.{BuiltinOptionNotFound}
 use Rattle.protobuf_parse_model.specs.declared.error.ElabErrorKind.TheVariants.{NotFoundByAbsPath}
 use Rattle.protobuf_parse_model.specs.declared.error.ElabErrorKind.TheVariants.{NotFoundByRelPath}
 use Rattle.protobuf_parse_model.specs.declared.customs.Construct.{Construct}
@@ -87,17 +85,3 @@ abbrev pub option_path_text : List OptionPartSyntax → Text
 option_path_text [] = []
 option_path_text (p ∷ ps) =
     part_text p ++ flat_map (λ (q : OptionPartSyntax). codes "." ++ part_text q) ps
-
--- E11 for a custom option, where no extension is known
-abbrev pub unknown_name : OptionNameSyntax → List Fault
-unknown_name (builtin name) = []
-unknown_name (custom parts) = fault BuiltinOptionNotFound (option_path_text parts)
-
-abbrev pub unknown_option : OptionSyntax → List Fault
-unknown_option o = unknown_name o.name
-
-abbrev pub no_extensions : Customs
-no_extensions = record {
-  faults = λ construct scope options. flat_map unknown_option options;
-  bytes = λ construct scope options. [];
-}

@@ -1,7 +1,6 @@
 -- The built-in options of each construct, by the options messages of
 -- google/protobuf/descriptor.proto, and the bytes of its custom options.
 use Rattle.std.specs.Prelude.{ℕ, Bool, List, Option, option_map, string_bytes}
-use Rattle.std.specs.Global.{Box}
 use Rattle.protobuf_parse_model.specs.declared.descriptor.options.OptimizeMode.{OptimizeMode}
 use Rattle.protobuf_parse_model.specs.declared.descriptor.options.CType.{CType}
 use Rattle.protobuf_parse_model.specs.declared.descriptor.options.JSType.{JSType}
@@ -121,10 +120,6 @@ field_options_view o = record {
   debug_redact = o.debug_redact;
   custom = o.custom.items;
 }
-
--- those of a field stand in a box
-abbrev pub boxed_options_view : Box FieldOptions → FieldOptionValues
-boxed_options_view b = field_options_view b.value
 
 abbrev pub oneof_options_view : OneofOptions → OneofOptionValues
 oneof_options_view o = record {

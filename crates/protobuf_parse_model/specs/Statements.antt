@@ -53,3 +53,9 @@ oneof_fields (oneof_option o) = []
 abbrev pub oneof_statement_options : OneofStatementSyntax → List OptionSyntax
 oneof_statement_options (oneof_option o) = o.option ∷ []
 oneof_statement_options (oneof_field f) = []
+
+-- the groups among the statements of an `extend`: a message stands behind each, and no map stands
+-- there
+abbrev pub groups : FieldStatementSyntax → List FieldStatementSyntax
+groups (field f) = []
+groups (group place label name number fields) = group place label name number fields ∷ []

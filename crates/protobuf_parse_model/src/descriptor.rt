@@ -20,7 +20,7 @@ pub struct FileDescriptorSet {
 }
 
 /// A file.
-#[derive(Debug, PartialEq, Eq)]
+#[derive(Debug, PartialEq, Eq, Drop)]
 pub struct FileDescriptorProto {
     /// The path by which the file is known.
     pub name: Option<String>,
@@ -39,26 +39,6 @@ pub struct FileDescriptorProto {
     pub service: Vec<ServiceDescriptorProto>,
     pub extension: Vec<FieldDescriptorProto>,
     pub options: Option<FileOptions>,
-}
-
-// Written out, as those below: a crate above calls it, and need not prove anew how each kind of
-// descriptor is dropped.
-impl Drop for FileDescriptorProto {
-    fn drop(self) {
-        let FileDescriptorProto {
-            name: _,
-            package: _,
-            syntax: _,
-            dependency: _,
-            public_dependency: _,
-            weak_dependency: _,
-            message_type: _,
-            enum_type: _,
-            service: _,
-            extension: _,
-            options: _,
-        } = self;
-    }
 }
 
 /// A message.
@@ -91,7 +71,7 @@ pub struct ReservedRange {
 }
 
 /// A field of a message, or an extension.
-#[derive(Debug, PartialEq, Eq)]
+#[derive(Debug, PartialEq, Eq, Drop)]
 pub struct FieldDescriptorProto {
     pub name: Name,
     /// The field's number, from 0 to 2147483647.
@@ -110,26 +90,7 @@ pub struct FieldDescriptorProto {
     pub oneof_index: Option<i32>,
     /// The name in the JSON mapping.
     pub json_name: Name,
-    /// In a place of their own, since most fields have none.
-    pub options: Option<Box<FieldOptions>>,
-}
-
-impl Drop for FieldDescriptorProto {
-    fn drop(self) {
-        let FieldDescriptorProto {
-            name: _,
-            number: _,
-            label: _,
-            type_: _,
-            proto3_optional: _,
-            type_name: _,
-            extendee: _,
-            default_value: _,
-            oneof_index: _,
-            json_name: _,
-            options: _,
-        } = self;
-    }
+    pub options: Option<FieldOptions>,
 }
 
 /// The type of a field's values: the scalar types, and three that are declared elsewhere.
@@ -156,41 +117,20 @@ pub enum FieldType {
 }
 
 /// A oneof of a message.
-#[derive(Debug, PartialEq, Eq)]
+#[derive(Debug, PartialEq, Eq, Drop)]
 pub struct OneofDescriptorProto {
     pub name: Name,
     pub options: Option<OneofOptions>,
 }
 
-impl Drop for OneofDescriptorProto {
-    fn drop(self) {
-        let OneofDescriptorProto {
-            name: _,
-            options: _,
-        } = self;
-    }
-}
-
 /// An enum.
-#[derive(Debug, PartialEq, Eq)]
+#[derive(Debug, PartialEq, Eq, Drop)]
 pub struct EnumDescriptorProto {
     pub name: Name,
     pub value: Vec<EnumValueDescriptorProto>,
     pub reserved_range: Vec<EnumReservedRange>,
     pub reserved_name: Vec<String>,
     pub options: Option<EnumOptions>,
-}
-
-impl Drop for EnumDescriptorProto {
-    fn drop(self) {
-        let EnumDescriptorProto {
-            name: _,
-            value: _,
-            reserved_range: _,
-            reserved_name: _,
-            options: _,
-        } = self;
-    }
 }
 
 /// Numbers that no value may have: from `start` to `end`, both among them.
@@ -201,43 +141,23 @@ pub struct EnumReservedRange {
 }
 
 /// A value of an enum.
-#[derive(Debug, PartialEq, Eq)]
+#[derive(Debug, PartialEq, Eq, Drop)]
 pub struct EnumValueDescriptorProto {
     pub name: Name,
     pub number: i32,
     pub options: Option<EnumValueOptions>,
 }
 
-impl Drop for EnumValueDescriptorProto {
-    fn drop(self) {
-        let EnumValueDescriptorProto {
-            name: _,
-            number: _,
-            options: _,
-        } = self;
-    }
-}
-
 /// A service.
-#[derive(Debug, PartialEq, Eq)]
+#[derive(Debug, PartialEq, Eq, Drop)]
 pub struct ServiceDescriptorProto {
     pub name: Name,
     pub method: Vec<MethodDescriptorProto>,
     pub options: Option<ServiceOptions>,
 }
 
-impl Drop for ServiceDescriptorProto {
-    fn drop(self) {
-        let ServiceDescriptorProto {
-            name: _,
-            method: _,
-            options: _,
-        } = self;
-    }
-}
-
 /// A method of a service.
-#[derive(Debug, PartialEq, Eq)]
+#[derive(Debug, PartialEq, Eq, Drop)]
 pub struct MethodDescriptorProto {
     pub name: Name,
     /// The full name of the message that is sent, with its first dot.
@@ -247,19 +167,6 @@ pub struct MethodDescriptorProto {
     pub client_streaming: bool,
     pub server_streaming: bool,
     pub options: Option<MethodOptions>,
-}
-
-impl Drop for MethodDescriptorProto {
-    fn drop(self) {
-        let MethodDescriptorProto {
-            name: _,
-            input_type: _,
-            output_type: _,
-            client_streaming: _,
-            server_streaming: _,
-            options: _,
-        } = self;
-    }
 }
 
 impl From<Scalar> for FieldType {

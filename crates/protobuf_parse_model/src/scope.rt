@@ -1,11 +1,16 @@
 //! What the names of types mean.
 
-ghost use Rattle.std.specs.Prelude.{◌≡◌, ◌+◌, ◌<◌, ◌∷◌, ◌++◌, ℕ, List, length, nat_eq};
+ghost use Rattle.std.specs.Prelude.{◌≡◌, ◌+◌, ◌<◌, ◌∷◌, ◌++◌, ℕ, List, flat_map, length, nat_eq};
 ghost use Rattle.std.specs.Prelude.{true, option_map, string_bytes, IfOk, OnOk};
 ghost use Rattle.std.specs.List.{list_any};
 ghost use Rattle.protobuf_parse_base.specs.Characters as char;
+ghost use Rattle.protobuf_parse_base.specs.Names.{fronts};
+ghost use Rattle.protobuf_parse_syntax.specs.Trees.{FileSyntax};
 ghost use Rattle.protobuf_parse_model.specs.Declarations as names;
+ghost use Rattle.protobuf_parse_model.specs.Declarations.{file_types};
 ghost use Rattle.protobuf_parse_model.specs.Environment.{type_named};
+ghost use Rattle.protobuf_parse_model.specs.Lookup.{begins_with_dot, declared_in_first, meaning};
+ghost use Rattle.protobuf_parse_model.specs.Tables.{TableTells, picked};
 ghost use Rattle.protobuf_parse_model.specs.SeenFiles.{names_of_context};
 ghost use Rattle.protobuf_parse_model.specs.FileOrder.{FilesAscend};
 ghost use Rattle.protobuf_parse_model.specs.SeenFiles.{declared_as, first_kind, first_type};
@@ -89,13 +94,49 @@ pub fn type_named(
     context: &Context<'_>,
     name: &str,
 ) -> Result<Option<Meaning>, AllocError>
-    ensures { IfOk result
+    ensures by_table { IfOk result
         (λ m. option_map meaning_view m ≡ type_named (names_of_context context.now) name.now) }
+    ensures by_files { (files : List FileSyntax) → TableTells context.now.seen.declarations.now files
+        → IfOk result (λ m. option_map meaning_view m
+        ≡ meaning (flat_map file_types (picked files context.now.seen.sight.now))
+        (name_texts context.now.scope.now) name.now) }
 {
-    if name.starts_with('.') {
-        let full_name = String::from_str(alloc, name)?;
-        return Ok(declared(&context.seen, full_name));
+    if is_absolute(name) {
+        type_by_full_name(alloc, &context.seen, name)
+    } else {
+        type_outward(alloc, context, name)
     }
+}
+
+/// Whether a name means itself, by its first dot.
+fn is_absolute(name: &str) -> bool
+    ensures { result ≡ begins_with_dot name.now }
+{
+    name.starts_with('.')
+}
+
+/// The type that is declared by that full name.
+fn type_by_full_name(
+    alloc: Global,
+    seen: &Seen<'_>,
+    name: &str,
+) -> Result<Option<Meaning>, AllocError>
+    ensures { IfOk result (λ m. option_map meaning_view m ≡ seen_types seen.now name.now) }
+{
+    let full_name = String::from_str(alloc, name)?;
+    Ok(declared(seen, full_name))
+}
+
+/// The type that has the name in the innermost of the scopes there in which one has it.
+fn type_outward(
+    alloc: Global,
+    context: &Context<'_>,
+    name: &str,
+) -> Result<Option<Meaning>, AllocError>
+    ensures { IfOk result (λ m. option_map meaning_view m
+        ≡ declared_in_first (seen_types context.now.seen) name.now
+        (fronts (name_texts context.now.scope.now))) }
+{
     let mut text = full_name(alloc, context.scope, name)?;
     let mut length = context.scope.len();
     while length > 0 {

@@ -9,7 +9,7 @@ use Rattle.protobuf_parse_syntax.specs.Trees.{FieldStatementSyntax, field, group
 use Rattle.protobuf_parse_syntax.specs.Trees.{MessageStatementSyntax, message_extend}
 use Rattle.protobuf_parse_syntax.specs.Trees.{message_message, MessageStatementList, no_statements}
 use Rattle.protobuf_parse_syntax.specs.Trees.{more_statements, StatementSyntax, file_message}
-use Rattle.protobuf_parse_syntax.specs.Trees.{file_extend, package_of}
+use Rattle.protobuf_parse_syntax.specs.Trees.{file_extend, nested_message, package_of}
 use Rattle.protobuf_parse_model.specs.Statements.{field_statement_name, message_body}
 use Rattle.protobuf_parse_model.specs.Descriptors.{Text, FieldDescriptor, MessageDescriptor}
 use Rattle.protobuf_parse_model.specs.Descriptors.{messages_of_list}
@@ -179,13 +179,7 @@ of_file_statement : (env : Environment) (s : StatementSyntax) (e : DeclaredExten
     → Among (names.statement_extensions env.scope s) e
     → InBody env (files.file_extensions_of env s) (files.file_messages_of env s) e
 of_file_statement env (file_extend x) e h = its_own (in_extend env x.extendee x.fields e h)
-of_file_statement env (file_message m) e h =
-    in_one (bodies.message_of env m) here
-    (in_message env m.name m.body (flat_map (nested_of (env_inside env m.name)) m.body)
-    (described env e)
-    (of_each (env_inside env m.name) (names.extensions_of (names.inside env.scope m.name))
-    (bodies.extended_of (env_inside env m.name)) (nested_of (env_inside env m.name))
-    (of_statement (env_inside env m.name)) m.body e h))
+of_file_statement env (file_message m) e h = of_statement env (nested_message m) e h
 of_file_statement env _ e h = elim h [ ]
 
 pub package_is : (package_name : Option Text)

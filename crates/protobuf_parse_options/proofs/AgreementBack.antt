@@ -8,8 +8,8 @@ use Rattle.protobuf_parse_syntax.specs.Trees.{MessageStatementSyntax, message_ex
 use Rattle.protobuf_parse_syntax.specs.Trees.{message_message, message_field, message_oneof}
 use Rattle.protobuf_parse_syntax.specs.Trees.{MessageStatementList, no_statements, more_statements}
 use Rattle.protobuf_parse_syntax.specs.Trees.{StatementSyntax, file_message, file_extend}
-use Rattle.protobuf_parse_syntax.specs.Trees.{package_of}
-use Rattle.protobuf_parse_model.specs.Statements.{field_statement_name, message_body, oneof_fields}
+use Rattle.protobuf_parse_syntax.specs.Trees.{nested_message, package_of}
+use Rattle.protobuf_parse_model.specs.Statements.{field_statement_name, message_body, oneof_fields, groups}
 use Rattle.protobuf_parse_model.specs.Descriptors.{Text, FieldDescriptor, MessageDescriptor}
 use Rattle.protobuf_parse_model.specs.Descriptors.{messages_of_list}
 use Rattle.protobuf_parse_model.specs.Faults.{Among, here, there}
@@ -188,7 +188,7 @@ mutual
       → Comes env (names.extensions_of env.scope s) d
   from_statement env (message_extend x) d (its_own h) = from_extend env x.extendee x.fields d h
   from_statement env (message_extend x) d (in_one m a h) =
-      absurd (none_behind_all env x.fields (absolute_text env.scope) m d a h)
+      absurd (none_behind_all env (flat_map groups x.fields) (absolute_text env.scope) m d a h)
   from_statement env (message_message place name body) d (its_own h) = elim h [ ]
   from_statement env (message_message place name body) d (in_one _ here h) =
       let c = from_list (env_inside env name) body d
@@ -235,15 +235,8 @@ from_file_statement : (env : Environment) (s : StatementSyntax) (d : Declared Fi
     → Comes env (names.statement_extensions env.scope s) d
 from_file_statement env (file_extend x) d (its_own h) = from_extend env x.extendee x.fields d h
 from_file_statement env (file_extend x) d (in_one m a h) =
-    absurd (none_behind_all env x.fields (absolute_text env.scope) m d a h)
-from_file_statement env (file_message m) d (its_own h) = elim h [ ]
-from_file_statement env (file_message m) d (in_one _ here h) =
-    let c = from_each (env_inside env m.name) (names.extensions_of (names.inside env.scope m.name))
-    (bodies.extended_of (env_inside env m.name)) (nested_of (env_inside env m.name))
-    (from_statement (env_inside env m.name)) m.body d
-    (out_of_message env m.name m.body (flat_map (nested_of (env_inside env m.name)) m.body) d h) in
-    record { extension = c.extension; among = c.among; is = c.is }
-from_file_statement env (file_message m) d (in_one n (there a) h) = elim a [ ]
+    absurd (none_behind_all env (flat_map groups x.fields) (absolute_text env.scope) m d a h)
+from_file_statement env (file_message m) d p = from_statement env (nested_message m) d p
 from_file_statement env _ d (its_own h) = elim h [ ]
 from_file_statement env _ d (in_one m a h) = elim a [ ]
 

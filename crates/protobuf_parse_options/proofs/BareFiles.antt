@@ -7,13 +7,13 @@ use Rattle.protobuf_parse_syntax.specs.Trees.{scalar, map_of, named, EnumValueSy
 use Rattle.protobuf_parse_syntax.specs.Trees.{MessageStatementSyntax, message_oneof, message_extend}
 use Rattle.protobuf_parse_syntax.specs.Trees.{message_message, message_enum, message_field}
 use Rattle.protobuf_parse_syntax.specs.Trees.{MessageStatementList, no_statements, more_statements}
-use Rattle.protobuf_parse_syntax.specs.Trees.{MessageSyntax, MethodSyntax, ServiceSyntax}
+use Rattle.protobuf_parse_syntax.specs.Trees.{nested_message, MethodSyntax, ServiceSyntax}
 use Rattle.protobuf_parse_syntax.specs.Trees.{StatementSyntax, file_message, file_enum, file_extend}
 use Rattle.protobuf_parse_syntax.specs.Trees.{file_service, FileSyntax}
 use Rattle.protobuf_parse_model.specs.Descriptors.{Text, FieldDescriptor, EnumValueDescriptor}
 use Rattle.protobuf_parse_model.specs.Descriptors.{MessageDescriptor, messages, messages_of_list}
 use Rattle.protobuf_parse_model.specs.Descriptors.{MethodDescriptor}
-use Rattle.protobuf_parse_model.specs.Statements.{group_body, message_body, oneof_fields}
+use Rattle.protobuf_parse_model.specs.Statements.{group_body, message_body, oneof_fields, groups}
 use Rattle.protobuf_parse_model.specs.Environment.{Environment, Customs, env_inside}
 use Rattle.protobuf_parse_elaboration.specs.Fields.{FieldPlace, plain, field_statement_of}
 use Rattle.protobuf_parse_elaboration.specs.Enums.{enum_values, value_of, enum_of}
@@ -22,7 +22,7 @@ use Rattle.protobuf_parse_elaboration.specs.Messages as bodies
 use Rattle.protobuf_parse_elaboration.specs.Messages.{message_with, entries_of, messages_behind}
 use Rattle.protobuf_parse_elaboration.specs.Messages.{has_own_oneof, oneofs_of, at_oneof, fields_of}
 use Rattle.protobuf_parse_elaboration.specs.Messages.{fields_from, extending, message_from, nested_of}
-use Rattle.protobuf_parse_elaboration.specs.Messages.{nested_in, message_of}
+use Rattle.protobuf_parse_elaboration.specs.Messages.{nested_in}
 use Rattle.protobuf_parse_elaboration.specs.FileDescriptor as files
 use Rattle.protobuf_parse_elaboration.specs.FileDescriptor.{file_messages_of, services_of, file_of}
 use Rattle.protobuf_parse_elaboration.proofs.SameNames.{with_customs}
@@ -212,7 +212,7 @@ module _ (one other : Customs) where
         (nested-in-alike (env_inside env name) body))
     nested-alike env (message_field f) = behind-alike env f
     nested-alike env (message_oneof o) = behinds-alike env (flat_map oneof_fields o.body)
-    nested-alike env (message_extend e) = behinds-alike env e.fields
+    nested-alike env (message_extend e) = behinds-alike env (flat_map groups e.fields)
     nested-alike env _ = refl
 
     -- those of a body
@@ -225,22 +225,13 @@ module _ (one other : Customs) where
         (nested_of (by_other env) s) (nested_in (by_other env) ss) (nested-alike env s)
         (nested-in-alike env ss)
 
-  message-alike : (env : Environment) (m : MessageSyntax)
-      → bare_message (message_of (by_one env) m) ≡ bare_message (message_of (by_other env) m)
-  message-alike env m =
-      message-from-alike env m.name m.body
-      (flat_map (nested_of (by_one (env_inside env m.name))) m.body)
-      (flat_map (nested_of (by_other (env_inside env m.name))) m.body)
-      (all-alike bare_message (nested_of (by_one (env_inside env m.name)))
-      (nested_of (by_other (env_inside env m.name))) (nested-alike (env_inside env m.name)) m.body)
-
   -- ---- files
 
   messages-alike : (env : Environment) (s : StatementSyntax)
       → map bare_message (file_messages_of (by_one env) s)
       ≡ map bare_message (file_messages_of (by_other env) s)
-  messages-alike env (file_message m) = ap (λ d. d ∷ []) (message-alike env m)
-  messages-alike env (file_extend e) = behinds-alike env e.fields
+  messages-alike env (file_message m) = nested-alike env (nested_message m)
+  messages-alike env (file_extend e) = behinds-alike env (flat_map groups e.fields)
   messages-alike env _ = refl
 
   file-enums-alike : (env : Environment) (s : StatementSyntax)

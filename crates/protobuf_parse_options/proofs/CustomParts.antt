@@ -19,7 +19,7 @@ use Rattle.protobuf_parse_syntax.specs.Trees.{MessageStatementList, no_statement
 use Rattle.protobuf_parse_syntax.specs.Trees.{StatementSyntax, file_import, file_package, file_option}
 use Rattle.protobuf_parse_syntax.specs.Trees.{file_message, file_enum, file_extend, file_service}
 use Rattle.protobuf_parse_syntax.specs.Trees.{FileSyntax, EnumSyntax, ServiceSyntax, OneofSyntax}
-use Rattle.protobuf_parse_syntax.specs.Trees.{MessageSyntax}
+use Rattle.protobuf_parse_syntax.specs.Trees.{MessageSyntax, nested_message}
 use Rattle.protobuf_parse_syntax.specs.declared.tree.declaration.Message.{Message}
 use Rattle.protobuf_parse_syntax.specs.declared.tree.declaration.MessageStatement.TheVariants as statement
 use Rattle.protobuf_parse_syntax.proofs.Messages.{view_parts, views_message}
@@ -83,17 +83,17 @@ any_seen test view xs = sym (any-becomes view test xs)
 
 -- ---- fields
 
-grouped-custom : (scope : Scope) (s : FieldStatementSyntax)
-    → list_any sets_custom (sets_in_group scope s) ≡ part.custom_in_grouped s
-grouped-custom scope (field f) = or-false (list_any is_custom f.options)
-grouped-custom scope (group place label name number fields) = refl
+grouped-custom : (scope within : Scope) (s : FieldStatementSyntax)
+    → list_any sets_custom (sets_in_group scope within s) ≡ part.custom_in_grouped s
+grouped-custom scope within (field f) = or-false (list_any is_custom f.options)
+grouped-custom scope within (group place label name number fields) = refl
 
 field-custom : (scope : Scope) (s : FieldStatementSyntax)
     → list_any sets_custom (field_sets scope s) ≡ part.custom_in_field s
 field-custom scope (field f) = or-false (list_any is_custom f.options)
 field-custom scope (group place label name number fields) =
-    any-flat sets_custom (sets_in_group scope) part.custom_in_grouped (grouped-custom scope)
-    (group_body fields)
+    any-flat sets_custom (sets_in_group scope (inside scope name)) part.custom_in_grouped
+    (grouped-custom scope (inside scope name)) (group_body fields)
 
 fields-custom : (scope : Scope) (fs : List FieldStatementSyntax)
     → list_any sets_custom (flat_map (field_sets scope) fs) ≡ list_any part.custom_in_field fs
@@ -143,12 +143,14 @@ enum-custom : (scope : Scope) (e : EnumSyntax)
     → list_any sets_custom (enum_sets scope e) ≡ list_any part.custom_in_enum e.body
 enum-custom scope e =
     ap (λ l. list_any is_custom (flat_map options_in_enum e.body) || list_any sets_custom l)
-    (map-flat (value_set scope) enum_values e.body)
-    ∙ in-statements options_in_enum (λ s. map (value_set scope) (enum_values s))
+    (map-flat (value_set scope (inside scope e.name)) enum_values e.body)
+    ∙ in-statements options_in_enum
+    (λ s. map (value_set scope (inside scope e.name)) (enum_values s))
     part.custom_in_enum at e.body
   where
     at : (s : EnumStatementSyntax) → (list_any is_custom (options_in_enum s)
-        || list_any sets_custom (map (value_set scope) (enum_values s))) ≡ part.custom_in_enum s
+        || list_any sets_custom (map (value_set scope (inside scope e.name)) (enum_values s)))
+        ≡ part.custom_in_enum s
     at (enum_option o) = or-false (is_custom o.option || false) ∙ or-false (is_custom o.option)
     at (enum_value v) = or-false (list_any is_custom v.options)
     at (enum_reserved r) = refl
@@ -157,12 +159,14 @@ service-custom : (scope : Scope) (s : ServiceSyntax)
     → list_any sets_custom (service_sets scope s) ≡ list_any part.custom_in_service s.body
 service-custom scope s =
     ap (λ l. list_any is_custom (flat_map options_in_service s.body) || list_any sets_custom l)
-    (map-flat (method_set scope) methods_in s.body)
-    ∙ in-statements options_in_service (λ z. map (method_set scope) (methods_in z))
+    (map-flat (method_set scope (inside scope s.name)) methods_in s.body)
+    ∙ in-statements options_in_service
+    (λ z. map (method_set scope (inside scope s.name)) (methods_in z))
     part.custom_in_service at s.body
   where
     at : (z : ServiceStatementSyntax) → (list_any is_custom (options_in_service z)
-        || list_any sets_custom (map (method_set scope) (methods_in z))) ≡ part.custom_in_service z
+        || list_any sets_custom (map (method_set scope (inside scope s.name)) (methods_in z)))
+        ≡ part.custom_in_service z
     at (service_option o) = or-false (is_custom o.option || false) ∙ or-false (is_custom o.option)
     at (service_method m) = or-false (list_any is_custom (map statement_option m.options))
         ∙ any-becomes statement_option is_custom m.options
@@ -202,7 +206,7 @@ mutual
       ∙ ap (λ b. b || (others || inner)) (message-custom scope s)
       ∙ ap (λ b. part.custom_in_message s || b) (body-custom scope ss)
 
--- the statements of a message that stands in a message
+-- the statements of a message
 pub custom_in_statements : (ss : List MessageStatementSyntax)
     → part.custom_in_body (tree.message_statements ss) ≡ list_any part.custom_in_message ss
 custom_in_statements [] = refl
@@ -218,9 +222,7 @@ statement-custom scope (file_import i) = refl
 statement-custom scope (file_package p) = refl
 statement-custom scope (file_option o) =
     or-false (is_custom o.option || false) ∙ or-false (is_custom o.option)
-statement-custom scope (file_message m) =
-    in-statements options_in_message (sets_of (inside scope m.name)) part.custom_in_message
-    (message-custom (inside scope m.name)) m.body
+statement-custom scope (file_message m) = message-custom scope (nested_message m)
 statement-custom scope (file_enum e) = enum-custom scope e
 statement-custom scope (file_extend e) = fields-custom scope e.fields
 statement-custom scope (file_service s) = service-custom scope s
@@ -284,11 +286,16 @@ pub services_any : (xs : List ServiceStatement)
     xs ≡ list_any part.custom_in_service (map tree.service_statement_syntax xs)
 services_any xs = any_seen part.custom_in_service tree.service_statement_syntax xs
 
--- a message that stands in a message
+-- a message
+pub message_custom : (m : Message)
+    → part.custom_in_message (nested_message (tree.message_syntax m))
+    ≡ list_any part.custom_in_message (map tree.message_statement_syntax m.body.items)
+message_custom m =
+    custom_in_statements (tree.message_syntax m).body
+    ∙ ap (λ (x : MessageSyntax). list_any part.custom_in_message x.body) (view_parts m)
+
+-- one that stands in a message
 pub nested_custom : (m : Message)
     → part.custom_in_message (tree.message_statement_syntax (statement.Message m))
     ≡ list_any part.custom_in_message (map tree.message_statement_syntax m.body.items)
-nested_custom m =
-    ap part.custom_in_message (views_message m)
-    ∙ custom_in_statements (tree.message_syntax m).body
-    ∙ ap (λ (x : MessageSyntax). list_any part.custom_in_message x.body) (view_parts m)
+nested_custom m = ap part.custom_in_message (views_message m) ∙ message_custom m

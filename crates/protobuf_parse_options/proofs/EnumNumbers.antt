@@ -7,14 +7,14 @@ use Rattle.std.specs.Int.RustNames.{FitsSigned}
 use Rattle.protobuf_parse_syntax.specs.Trees as tree
 use Rattle.protobuf_parse_syntax.specs.Trees.{TypeSyntax, FieldStatementSyntax, EnumStatementSyntax}
 use Rattle.protobuf_parse_syntax.specs.Trees.{EnumValueSyntax, EnumSyntax, MessageStatementSyntax}
-use Rattle.protobuf_parse_syntax.specs.Trees.{MessageStatementList, MessageSyntax, StatementSyntax}
+use Rattle.protobuf_parse_syntax.specs.Trees.{MessageStatementList, StatementSyntax}
 use Rattle.protobuf_parse_syntax.specs.Trees.{FileSyntax}
 use Rattle.protobuf_parse_model.specs.Descriptors.{Text, EnumValueDescriptor, EnumDescriptor}
 use Rattle.protobuf_parse_model.specs.Descriptors.{MessageDescriptor, MessageDescriptors, a_message}
 use Rattle.protobuf_parse_model.specs.Descriptors.{no_messages, messages, messages_of_list}
 use Rattle.protobuf_parse_model.specs.Descriptors.{FileDescriptor}
 use Rattle.protobuf_parse_model.specs.Faults.{Among}
-use Rattle.protobuf_parse_model.specs.Statements.{message_body, oneof_fields}
+use Rattle.protobuf_parse_model.specs.Statements.{message_body, oneof_fields, groups}
 use Rattle.protobuf_parse_model.specs.Declarations.{Declared}
 use Rattle.protobuf_parse_model.specs.Environment.{Environment, env_inside}
 use Rattle.protobuf_parse_elaboration.specs.Enums.{enum_values, value_of, enum_of}
@@ -33,7 +33,7 @@ use Rattle.protobuf_parse_options.proofs.Entered.{from_one, mapped_from}
 use Rattle.protobuf_parse_options.proofs.Options.{SplitAmong, left, right, split_among}
 use Rattle.protobuf_parse_options.proofs.Sound.{SoundEnumStatement, SoundEnum}
 use Rattle.protobuf_parse_options.proofs.Sound.{SoundMessageStatement}
-use Rattle.protobuf_parse_options.proofs.Sound.{SoundBody, SoundMessage, SoundStatement, SoundFile}
+use Rattle.protobuf_parse_options.proofs.Sound.{SoundBody, SoundStatement, SoundFile}
 use Rattle.protobuf_parse_options.proofs.SoundSets.{both, flat, mapped, of_one}
 
 -- ---- descriptors
@@ -129,7 +129,7 @@ mutual
   )
   nested_small env (tree.message_field f) h = behind_small env f
   nested_small env (tree.message_oneof o) h = behinds_small env (flat_map oneof_fields o.body)
-  nested_small env (tree.message_extend e) h = behinds_small env e.fields
+  nested_small env (tree.message_extend e) h = behinds_small env (flat_map groups e.fields)
   nested_small env _ h = tt
 
   list_small : (env : Environment) (ss : MessageStatementList) → SoundBody ss
@@ -139,20 +139,10 @@ mutual
       both SmallMessage (nested_of env s) (nested_in env ss) (nested_small env s h.0)
       (list_small env ss h.1)
 
-message_small : (env : Environment) (m : MessageSyntax) → SoundMessage m
-    → SmallMessage (bodies.message_of env m)
-message_small env m h = (
-  flat (bodies.enums_of (env_inside env m.name)) SmallEnum SoundMessageStatement
-      (enums_small (env_inside env m.name)) m.body h,
-  of_list (flat_map (nested_of (env_inside env m.name)) m.body)
-      (flat (nested_of (env_inside env m.name)) SmallMessage SoundMessageStatement
-      (nested_small (env_inside env m.name)) m.body h),
-)
-
 messages_small : (env : Environment) (s : StatementSyntax) → SoundStatement s
     → AllByRecursion SmallMessage (files.file_messages_of env s)
-messages_small env (tree.file_message m) h = (message_small env m h, tt)
-messages_small env (tree.file_extend e) h = behinds_small env e.fields
+messages_small env (tree.file_message m) h = nested_small env (tree.nested_message m) h
+messages_small env (tree.file_extend e) h = behinds_small env (flat_map groups e.fields)
 messages_small env _ h = tt
 
 file_enums : (env : Environment) (s : StatementSyntax) → SoundStatement s

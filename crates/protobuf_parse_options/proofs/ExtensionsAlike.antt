@@ -8,8 +8,8 @@ use Rattle.protobuf_parse_syntax.specs.Trees.{FieldStatementSyntax, field, group
 use Rattle.protobuf_parse_syntax.specs.Trees.{MessageStatementSyntax, message_field, message_oneof}
 use Rattle.protobuf_parse_syntax.specs.Trees.{message_extend, message_message, MessageStatementList}
 use Rattle.protobuf_parse_syntax.specs.Trees.{no_statements, more_statements, StatementSyntax}
-use Rattle.protobuf_parse_syntax.specs.Trees.{file_message, file_extend, package_of}
-use Rattle.protobuf_parse_model.specs.Statements.{message_body, oneof_fields}
+use Rattle.protobuf_parse_syntax.specs.Trees.{nested_message, file_message, file_extend, package_of}
+use Rattle.protobuf_parse_model.specs.Statements.{message_body, oneof_fields, groups}
 use Rattle.protobuf_parse_model.specs.Descriptors.{Text, FieldDescriptor, MessageDescriptor}
 use Rattle.protobuf_parse_model.specs.Declarations as names
 use Rattle.protobuf_parse_model.specs.Declarations.{Scope, Declared, DeclaredExtension}
@@ -140,10 +140,10 @@ module _ (n : Text) where
   -- an `extend`, with the messages behind its groups
   extend-alike : (env : Environment) (e : ExtendSyntax)
       → Alike (absolute_text env.scope) (extend_extensions env.scope e) (extend_fields env e)
-      (flat_map (messages_behind env) e.fields)
+      (flat_map (messages_behind env) (flat_map groups e.fields))
   extend-alike env e =
       sums _ _ _ (ap (occurrences n) (extend-names env e))
-      (ap (occurrences n) (none-behind_all env e.fields))
+      (ap (occurrences n) (none-behind_all env (flat_map groups e.fields)))
     where
       sums : (t f m : ℕ) → t ≡ f → m ≡ 0 → t ≡ f + m
       sums t f m h k = omega arith
@@ -206,14 +206,7 @@ module _ (n : Text) where
   file_statement-alike : (env : Environment) (s : StatementSyntax)
       → Alike (absolute_text env.scope) (statement_extensions env.scope s)
       (files.file_extensions_of env s) (files.file_messages_of env s)
-  file_statement-alike env (file_message m) =
-      message-alike env m.name m.body
-      (flat_map (names.extensions_of (names.inside env.scope m.name)) m.body)
-      (flat_map (nested_of (env_inside env m.name)) m.body)
-      (each-alike (absolute_text (names.inside env.scope m.name))
-      (names.extensions_of (names.inside env.scope m.name))
-      (bodies.extended_of (env_inside env m.name)) (nested_of (env_inside env m.name))
-      (statement-alike (env_inside env m.name)) m.body)
+  file_statement-alike env (file_message m) = statement-alike env (nested_message m)
   file_statement-alike env (file_extend e) = extend-alike env e
   file_statement-alike env _ = refl
 

@@ -26,7 +26,7 @@ use Rattle.protobuf_parse_options.specs.Holding.{file_numbered, files_seen, insi
 use Rattle.protobuf_parse_options.specs.Holding.{spot_in, spot_known, spot_view, spots_in}
 use Rattle.protobuf_parse_options.specs.Holding.{spots_known}
 use Rattle.protobuf_parse_options.specs.Holding.{spots_of, spots_under}
-use Rattle.protobuf_parse_wire.specs.Groups.{group}
+use Rattle.protobuf_parse_base.specs.Multimaps.{values_under}
 use Rattle.protobuf_parse_model.specs.Descriptors.{parts_seen}
 use Rattle.protobuf_parse_options.specs.Places.{Inside, Placed, one_inside, placed_messages}
 use Rattle.protobuf_parse_wire.proofs.Adding.{messages_named-append}
@@ -292,16 +292,18 @@ pub put_spot : {T : Type 0} (parts : T → List Text)
     (item : DeclaredPlace) (file : ℕ)
     (text name : Text) → spot_view item ≡ spot_known parts file k
     → text ≡ string_bytes k.name
-    → group new name ≡ (if bytes_eq name text then group old name ++ item ∷ [] else group old name)
+    → values_under new name
+    ≡ (if bytes_eq name text then values_under old name ++ item ∷ [] else values_under old name)
     → spots_under new name ≡ spots_under old name ++ spots_known parts file name (k ∷ [])
 put_spot {T = T} parts old new k item file text name is named put =
     ap (map spot_view) put ∙ ap (λ (t : Text). map spot_view (if bytes_eq name t then
-    group old name ++ item ∷ [] else group old name)) named
+    values_under old name ++ item ∷ [] else values_under old name)) named
     ∙ by_test (bytes_eq name (string_bytes k.name))
   where
-    by_test : (b : Bool) → map spot_view (cond b (group old name ++ item ∷ []) (group old name))
+    by_test : (b : Bool)
+        → map spot_view (cond b (values_under old name ++ item ∷ []) (values_under old name))
         ≡ spots_under old name ++ map (spot_known parts file) (cond b (k ∷ []) [])
-    by_test true = map-append spot_view (group old name) (item ∷ [])
+    by_test true = map-append spot_view (values_under old name) (item ∷ [])
         ∙ ap (λ (s : Spot). spots_under old name ++ s ∷ []) is
     by_test false = sym (append-nil (spots_under old name))
 

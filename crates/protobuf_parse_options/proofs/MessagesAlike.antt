@@ -10,8 +10,8 @@ use Rattle.protobuf_parse_syntax.specs.Trees.{MessageStatementSyntax, message_fi
 use Rattle.protobuf_parse_syntax.specs.Trees.{message_extend, message_message, message_enum}
 use Rattle.protobuf_parse_syntax.specs.Trees.{MessageStatementList, no_statements, more_statements}
 use Rattle.protobuf_parse_syntax.specs.Trees.{StatementSyntax, file_message, file_enum, file_extend}
-use Rattle.protobuf_parse_syntax.specs.Trees.{FileSyntax, package_of}
-use Rattle.protobuf_parse_model.specs.Statements.{message_body, entry_name, is_map, oneof_fields}
+use Rattle.protobuf_parse_syntax.specs.Trees.{nested_message, FileSyntax, package_of}
+use Rattle.protobuf_parse_model.specs.Statements.{message_body, entry_name, is_map, oneof_fields, groups}
 use Rattle.protobuf_parse_model.specs.Descriptors.{Text, MessageDescriptor}
 use Rattle.protobuf_parse_model.specs.Declarations as names
 use Rattle.protobuf_parse_model.specs.Declarations.{Scope, DeclaredType, full_name, file_scope}
@@ -148,7 +148,7 @@ module _ (n : Text) where
     statement-alike env (message_field f) =
         none-told _ _ (sym (ap (occurrences n) (behind-names env f)))
     statement-alike env (message_oneof o) = fields-alike env (flat_map oneof_fields o.body)
-    statement-alike env (message_extend e) = fields-alike env e.fields
+    statement-alike env (message_extend e) = fields-alike env (flat_map groups e.fields)
     statement-alike env _ = refl
 
     list-alike : (env : Environment) (ss : MessageStatementList)
@@ -173,15 +173,9 @@ module _ (n : Text) where
   file_statement-alike : (env : Environment) (s : StatementSyntax)
       → Alike (absolute_text env.scope) (statement_types env.scope s)
       (statement_generated env.scope s) (files.file_messages_of env s)
-  file_statement-alike env (file_message m) =
-      message-alike env m.name m.body (flat_map (types_of (names.inside env.scope m.name)) m.body)
-      (flat_map (generated_of (names.inside env.scope m.name)) m.body)
-      (flat_map (nested_of (env_inside env m.name)) m.body)
-      (each-alike (absolute_text (names.inside env.scope m.name))
-      (types_of (names.inside env.scope m.name)) (generated_of (names.inside env.scope m.name))
-      (nested_of (env_inside env m.name)) (statement-alike (env_inside env m.name)) m.body)
+  file_statement-alike env (file_message m) = statement-alike env (nested_message m)
   file_statement-alike env (file_enum e) = refl
-  file_statement-alike env (file_extend e) = fields-alike env e.fields
+  file_statement-alike env (file_extend e) = fields-alike env (flat_map groups e.fields)
   file_statement-alike env _ = refl
 
 -- the messages of a file

@@ -89,7 +89,7 @@ abbrev here : OptionScope
 here = record { files = descriptors; visible = descriptors; scope = [] }
 
 abbrev set : List OptionPartSyntax → ConstantSyntax → List OptionSyntax
-set parts value = record { name = custom parts; value = value } ∷ []
+set parts value = record { place = nowhere; name = custom parts; value = value } ∷ []
 
 -- ---- option (o) = -1; and -2147483648
 
@@ -111,14 +111,15 @@ minus_one_is_spelled = (
   [],
   refl,
   record {
-    chain = (omega arith, omega arith, (omega arith, omega arith, omega arith));
+    bytes = (omega arith, (omega arith, (omega arith, tt)));
+    chain = (omega arith, (omega arith, omega arith));
     shortest = omega arith;
     value = refl;
   },
   (
     1,
     refl,
-    record { chain = omega arith; shortest = tt; value = refl },
+    record { bytes = (omega arith, tt); chain = omega arith; shortest = tt; value = refl },
   ),
   refl,
 )

@@ -123,7 +123,7 @@ abbrev pub SoundStatement : StatementSyntax → Type 0
 SoundStatement (tree.file_import i) = ⊤
 SoundStatement (tree.file_package p) = SoundPackage p
 SoundStatement (tree.file_option o) = SoundOptionStatement o
-SoundStatement (tree.file_message m) = SoundMessage m
+SoundStatement (tree.file_message m) = SoundMessageStatement (tree.nested_message m)
 SoundStatement (tree.file_enum e) = SoundEnum e
 SoundStatement (tree.file_extend e) = SoundExtend e
 SoundStatement (tree.file_service s) = SoundService s
@@ -293,7 +293,7 @@ name_of_option = do first ← any; others ← at_most 99; nothing (few_parts fir
 
 assignment : (d : ℕ) → Says (IsAssignment d) SoundOption
 unfolding IsAssignment
-assignment d = do name ← name_of_option; any; value ← any; nothing name.1
+assignment d = at_place (λ t. do name ← name_of_option; any; value ← any; nothing name.1)
 
 option : (d : ℕ) → Says (IsOption d) SoundOptionStatement
 unfolding IsOption
@@ -482,7 +482,7 @@ file_statement syntax d =
     either (do i ← any; nothing tt)
     (either (do p ← package_statement; nothing p.1)
     (either (do o ← option d; nothing o.1)
-    (either (do m ← message syntax d; nothing m.1)
+    (either (do m ← message syntax d; nothing (body_sound m.0.body m.1))
     (either (do e ← enum d; nothing e.1)
     (either (do e ← extend syntax d; nothing e.1)
     (do s ← service syntax d; nothing s.1))))))

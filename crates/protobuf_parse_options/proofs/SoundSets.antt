@@ -9,14 +9,13 @@ use Rattle.protobuf_parse_syntax.specs.Trees.{FieldStatementSyntax, FieldStateme
 use Rattle.protobuf_parse_syntax.specs.Trees.{OneofStatementSyntax, OneofSyntax, ExtendSyntax}
 use Rattle.protobuf_parse_syntax.specs.Trees.{EnumValueSyntax, EnumStatementSyntax, EnumSyntax}
 use Rattle.protobuf_parse_syntax.specs.Trees.{MessageStatementSyntax, MessageStatementList}
-use Rattle.protobuf_parse_syntax.specs.Trees.{MessageSyntax, MethodSyntax, ServiceStatementSyntax}
+use Rattle.protobuf_parse_syntax.specs.Trees.{MethodSyntax, ServiceStatementSyntax}
 use Rattle.protobuf_parse_syntax.specs.Trees.{ServiceSyntax, StatementSyntax, FileSyntax}
 use Rattle.protobuf_parse_syntax.specs.Nesting as nesting
 use Rattle.protobuf_parse_syntax.specs.Nesting.{ShallowOption, ShallowOptionStatement, ShallowField}
 use Rattle.protobuf_parse_syntax.specs.Nesting.{ShallowFields, ShallowOneofStatement, ShallowOneof}
 use Rattle.protobuf_parse_syntax.specs.Nesting.{ShallowExtend, ShallowEnumStatement, ShallowEnum}
 use Rattle.protobuf_parse_syntax.specs.Nesting.{ShallowMessageStatement, ShallowBody}
-use Rattle.protobuf_parse_syntax.specs.Nesting.{ShallowMessage}
 use Rattle.protobuf_parse_syntax.specs.Nesting.{ShallowServiceStatement, ShallowService}
 use Rattle.protobuf_parse_syntax.specs.Nesting.{ShallowStatement, ShallowFile}
 use Rattle.protobuf_parse_model.specs.Faults.{Among, here, there}
@@ -30,14 +29,14 @@ use Rattle.protobuf_parse_elaboration.specs.Messages.{options_in_message, option
 use Rattle.protobuf_parse_elaboration.specs.FileDescriptor.{options_in_file}
 use Rattle.protobuf_parse_elaboration.specs.OptionSets.{OptionSet, sets_in_group, field_sets, oneof_sets}
 use Rattle.protobuf_parse_elaboration.specs.OptionSets.{extend_sets, value_set, enum_sets, sets_of}
-use Rattle.protobuf_parse_elaboration.specs.OptionSets.{sets_in, message_sets, method_set, service_sets}
+use Rattle.protobuf_parse_elaboration.specs.OptionSets.{sets_in, method_set, service_sets}
 use Rattle.protobuf_parse_elaboration.specs.OptionSets.{statement_sets, option_sets}
 use Rattle.protobuf_parse_options.specs.OptionDepth.{message_levels, list_levels, field_levels}
 use Rattle.protobuf_parse_options.specs.OptionDepth.{OptionIsShallow}
 use Rattle.protobuf_parse_options.proofs.Sound.{SoundOption, SoundOptionStatement, SoundField}
 use Rattle.protobuf_parse_options.proofs.Sound.{SoundFields, SoundOneofStatement, SoundOneof}
 use Rattle.protobuf_parse_options.proofs.Sound.{SoundExtend, SoundEnumStatement, SoundEnum}
-use Rattle.protobuf_parse_options.proofs.Sound.{SoundMessageStatement, SoundBody, SoundMessage}
+use Rattle.protobuf_parse_options.proofs.Sound.{SoundMessageStatement, SoundBody}
 use Rattle.protobuf_parse_options.proofs.Sound.{SoundServiceStatement, SoundService, SoundStatement}
 use Rattle.protobuf_parse_options.proofs.Sound.{SoundFile}
 
@@ -128,22 +127,24 @@ options (o ∷ os) h k = (
 abbrev FieldIs : FieldStatementSyntax → Type 0
 FieldIs f = ShallowField f × SoundField f
 
-group_field : (scope : Scope) (f : FieldStatementSyntax) → ShallowField f → SoundField f
-    → AllShallow (sets_in_group scope f)
-group_field scope (tree.field f) h k = (options f.options h k, tt)
-group_field scope (tree.group place label name number fields) h k = tt
+group_field : (scope within : Scope) (f : FieldStatementSyntax) → ShallowField f → SoundField f
+    → AllShallow (sets_in_group scope within f)
+group_field scope within (tree.field f) h k = (options f.options h k, tt)
+group_field scope within (tree.group place label name number fields) h k = tt
 
-group_fields : (scope : Scope) (fs : FieldStatementList) → ShallowFields fs → SoundFields fs
-    → AllShallow (flat_map (sets_in_group scope) (group_body fs))
-group_fields scope tree.no_field_statements h k = tt
-group_fields scope (tree.more_field_statements f fs) h k =
-    both SetIsShallow (sets_in_group scope f) (flat_map (sets_in_group scope) (group_body fs))
-    (group_field scope f h.0 k.0) (group_fields scope fs h.1 k.1)
+group_fields : (scope within : Scope) (fs : FieldStatementList) → ShallowFields fs
+    → SoundFields fs → AllShallow (flat_map (sets_in_group scope within) (group_body fs))
+group_fields scope within tree.no_field_statements h k = tt
+group_fields scope within (tree.more_field_statements f fs) h k =
+    both SetIsShallow (sets_in_group scope within f)
+    (flat_map (sets_in_group scope within) (group_body fs))
+    (group_field scope within f h.0 k.0) (group_fields scope within fs h.1 k.1)
 
 field : (scope : Scope) (f : FieldStatementSyntax) → ShallowField f → SoundField f
     → AllShallow (field_sets scope f)
 field scope (tree.field f) h k = (options f.options h k, tt)
-field scope (tree.group place label name number fields) h k = group_fields scope fields h k
+field scope (tree.group place label name number fields) h k =
+    group_fields scope (inside scope name) fields h k
 
 -- ---- oneofs, extends and enums
 
@@ -189,7 +190,7 @@ enum : (scope : Scope) (e : EnumSyntax) → ShallowEnum e → SoundEnum e
 enum scope e h k = (
   each options_in_enum OptionIsShallow ShallowEnumStatement SoundEnumStatement enum_option e.body h
       k,
-  mapped (value_set scope) SetIsShallow (flat_map enum_values e.body)
+  mapped (value_set scope (inside scope e.name)) SetIsShallow (flat_map enum_values e.body)
       (each enum_values (λ (v : EnumValueSyntax). AreShallow v.options) ShallowEnumStatement
       SoundEnumStatement enum_value e.body h k),
 )
@@ -226,14 +227,12 @@ mutual
       both SetIsShallow (sets_of scope s) (sets_in scope ss) (message_statement scope s h.0 k.0)
       (statements_in scope ss h.1 k.1)
 
-message : (scope : Scope) (m : MessageSyntax) → ShallowMessage m → SoundMessage m
-    → AllShallow (message_sets scope m)
-message scope m h k = (
-  each options_in_message OptionIsShallow ShallowMessageStatement SoundMessageStatement
-      message_option
-      m.body h k,
-  each (sets_of (inside scope m.name)) SetIsShallow ShallowMessageStatement SoundMessageStatement
-      (message_statement (inside scope m.name)) m.body h k,
+body_shallow : (ss : List MessageStatementSyntax) → All ShallowMessageStatement ss
+    → ShallowBody (tree.message_statements ss)
+body_shallow [] h = tt
+body_shallow (s ∷ ss) h = (
+  All-head ShallowMessageStatement s ss h,
+  body_shallow ss (All-tail ShallowMessageStatement s ss h),
 )
 
 -- ---- services
@@ -262,7 +261,7 @@ service scope s h k = (
   each options_in_service OptionIsShallow ShallowServiceStatement SoundServiceStatement
       service_option
       s.body h k,
-  mapped (method_set scope) SetIsShallow (flat_map methods_in s.body)
+  mapped (method_set scope (inside scope s.name)) SetIsShallow (flat_map methods_in s.body)
       (each methods_in (λ (m : MethodSyntax). AreShallow (options_of_method m))
       ShallowServiceStatement SoundServiceStatement method s.body h k),
 )
@@ -276,7 +275,8 @@ file_option _ h k = tt
 
 statement : (scope : Scope) (s : StatementSyntax) → ShallowStatement s → SoundStatement s
     → AllShallow (statement_sets scope s)
-statement scope (tree.file_message m) h k = message scope m h k
+statement scope (tree.file_message m) h k =
+    message_statement scope (tree.nested_message m) (body_shallow m.body h) k
 statement scope (tree.file_enum e) h k = enum scope e h k
 statement scope (tree.file_extend e) h k = extend scope e h k
 statement scope (tree.file_service s) h k = service scope s h k

@@ -200,10 +200,11 @@ custom_option_faults files visible t =
     (λ (s : OptionSet). custom_statement_faults (scope_of files visible s) s.construct s.statements)
     (option_sets t)
 
--- All faults that stand in a file which reaches the trees `reached` and sees the trees `seen`:
--- those of names that are declared twice in what it reaches; or else its own; or else, where its
--- descriptor says what every type is, those of its custom options, by the descriptors of the files
--- that it reaches and of those that it sees.
+-- The faults that stand in a file which reaches the trees `reached` and sees the trees `seen`, in
+-- three steps, of which each later one is looked at only where no earlier one has a fault: those of
+-- names that are declared twice in what it reaches; its own, its custom options left out; and, since
+-- its descriptor says then what every type is, those of its custom options, by the descriptors of
+-- the files that it reaches and of those that it sees.
 abbrev pub elaboration_faults : (reached seen : List FileSyntax)
     (files visible : List FileDescriptor) → FileSyntax → List Fault
 elaboration_faults reached seen files visible t =

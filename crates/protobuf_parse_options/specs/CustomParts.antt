@@ -11,7 +11,7 @@ use Rattle.protobuf_parse_syntax.specs.Trees.{message_extend, message_message, m
 use Rattle.protobuf_parse_syntax.specs.Trees.{message_option, message_field, MessageStatementList}
 use Rattle.protobuf_parse_syntax.specs.Trees.{no_statements, more_statements, StatementSyntax}
 use Rattle.protobuf_parse_syntax.specs.Trees.{file_message, file_enum, file_extend, file_service}
-use Rattle.protobuf_parse_syntax.specs.Trees.{file_option}
+use Rattle.protobuf_parse_syntax.specs.Trees.{file_option, nested_message}
 use Rattle.protobuf_parse_model.specs.Statements.{group_body}
 use Rattle.protobuf_parse_elaboration.specs.CustomSets.{is_custom}
 
@@ -58,7 +58,7 @@ abbrev mutual
 -- in a statement of a file
 abbrev pub custom_in_file : StatementSyntax → Bool
 custom_in_file (file_option o) = is_custom o.option
-custom_in_file (file_message m) = list_any custom_in_message m.body
+custom_in_file (file_message m) = custom_in_message (nested_message m)
 custom_in_file (file_enum e) = list_any custom_in_enum e.body
 custom_in_file (file_extend e) = list_any custom_in_field e.fields
 custom_in_file (file_service s) = list_any custom_in_service s.body

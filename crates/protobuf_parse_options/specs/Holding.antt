@@ -19,7 +19,7 @@ use Rattle.protobuf_parse_options.specs.declared.members.Members.{Members}
 use Rattle.protobuf_parse_options.specs.declared.picked_files.PickedFiles.{PickedFiles}
 use Rattle.protobuf_parse_options.specs.declared.places.DeclaredPlace.{DeclaredPlace}
 use Rattle.protobuf_parse_options.specs.declared.places.DeclaredPlaces.{DeclaredPlaces}
-use Rattle.protobuf_parse_wire.specs.Groups.{group}
+use Rattle.protobuf_parse_base.specs.Multimaps.{values_under}
 use Rattle.protobuf_parse_options.specs.Known.{field_seen}
 use Rattle.protobuf_parse_options.specs.OptionFields.{declared_enums}
 use Rattle.protobuf_parse_options.specs.Places.{Inside, Placed, down, inside_file, one_inside}
@@ -80,7 +80,7 @@ extensions_placed ks = map (placed_known field_seen) ks
 -- ---- under names
 
 abbrev pub spots_under : BTreeMap (String Global) (Vec DeclaredPlace) → Text → List Spot
-spots_under places name = map spot_view (group places name)
+spots_under places name = map spot_view (values_under places name)
 
 abbrev pub spot_in : {T : Type 0} → (T → List Text) → ℕ → Placed T → Spot
 spot_in parts file p = record {

@@ -167,7 +167,7 @@ fn custom_in_message(statement: &MessageStatement) -> bool
 impl MaySetCustom for FileStatement {
     ghost custom = { λ s. part.custom_in_file (view.statement_syntax s) };
 
-    #[tactic(auto, using(crate::proofs::CustomParts::fields_any, crate::proofs::CustomParts::enums_any, crate::proofs::CustomParts::services_any, protobuf_parse_syntax::proofs::Messages::view_parts))]
+    #[tactic(auto, using(crate::proofs::CustomParts::fields_any, crate::proofs::CustomParts::enums_any, crate::proofs::CustomParts::services_any, crate::proofs::CustomParts::message_custom))]
     fn has_custom(&self) -> bool {
         match self {
             FileStatement::Import(_) | FileStatement::Package(_) => false,

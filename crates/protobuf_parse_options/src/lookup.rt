@@ -13,8 +13,8 @@ ghost use Rattle.protobuf_parse_options.specs.OptionFields.{number_of_value};
 
 use crate::known_files::KnownFiles;
 use crate::spots::{field_of, first_extension, first_message, number_of};
+use protobuf_parse_base::multimap;
 use protobuf_parse_model::{EnumValueDescriptorProto, FieldDescriptorProto, full_name};
-use protobuf_parse_wire::groups;
 use std::alloc::{AllocError, Global};
 
 // ---- fields of messages
@@ -30,7 +30,7 @@ pub fn field_named<'a>(
 {
     field_of(
         &known.reach,
-        groups::group(&known.places.messages, message),
+        multimap::values(&known.places.messages, message),
         name,
     )
 }
@@ -54,7 +54,7 @@ pub fn field_among<'a>(
 pub fn is_message(known: &KnownFiles<'_>, name: &str) -> bool
     ensures { result ≡ names_message (files_seen known.now.reach) name.now }
 {
-    first_message(&known.reach, groups::group(&known.places.messages, name)).is_some()
+    first_message(&known.reach, multimap::values(&known.places.messages, name)).is_some()
 }
 
 // ---- values of enums
@@ -63,7 +63,7 @@ pub fn is_message(known: &KnownFiles<'_>, name: &str) -> bool
 pub fn number_of_value(known: &KnownFiles<'_>, enum_name: &str, name: &str) -> Option<i32>
     ensures { result ≡ number_of_value (files_seen known.now.reach) enum_name.now name.now }
 {
-    let enums = groups::group(&known.places.enums, enum_name);
+    let enums = multimap::values(&known.places.enums, enum_name);
     number_of(&known.reach, enums, name)
 }
 
@@ -112,5 +112,8 @@ fn declared<'a>(known: &KnownFiles<'a>, name: &str) -> Option<&'a FieldDescripto
     ensures { option_map (extension_under_name name.now) result ≡ declared
         (flat_map declared_extensions (files_seen known.now.sight)) name.now }
 {
-    first_extension(&known.sight, groups::group(&known.places.extensions, name))
+    first_extension(
+        &known.sight,
+        multimap::values(&known.places.extensions, name),
+    )
 }

@@ -12,8 +12,8 @@ ghost use Rattle.protobuf_parse_options.specs.SmallValues.{AreSmall, HaveSmall};
 
 use crate::known::{self, Known};
 use crate::positions::HasParts;
+use protobuf_parse_base::multimap;
 use protobuf_parse_model::{EnumDescriptorProto, EnumValueDescriptorProto, FileDescriptorProto};
-use protobuf_parse_wire::groups;
 use std::alloc::{AllocError, Global};
 use std::collections::BTreeMap;
 
@@ -105,7 +105,7 @@ fn put<T: HasParts>(
         index: known.index,
         positions: known.what.positions(alloc)?,
     };
-    groups::put(places, known.name.clone()?, place)
+    multimap::put(places, known.name.clone()?, place)
 }
 
 // ---- numbers of enums' values

@@ -33,4 +33,5 @@ pub mod Following
 pub mod AskedOnce
 pub mod StandingBytes
 mod HeldBytes
+pub mod ReadingBack
 mod Catching

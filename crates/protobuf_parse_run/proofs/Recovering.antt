@@ -57,7 +57,7 @@ small-bytes bytes = omega (arith, bytes.ok.0, bytes.ok.1, bytes.small)
 module _ (files : Files) (inputs : List Input) (clean : IsClean files inputs)
     (read : WereRead files) where
   -- a file that a file of the run reaches is one of the run
-  reached-file : (p q : Text) → IsFileOfRun files.trees inputs p → among q (files.reached p) ≡ true
+  pub reached-file : (p q : Text) → IsFileOfRun files.trees inputs p → among q (files.reached p) ≡ true
       → IsFileOfRun files.trees inputs q
   reached-file p q m h = reached-is files inputs clean p q ((read.listed.reaches p).only q h) m
 

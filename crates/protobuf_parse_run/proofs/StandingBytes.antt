@@ -7,7 +7,7 @@ use Rattle.protobuf_parse_syntax.specs.Trees.{group, TypeSyntax, scalar, map_of,
 use Rattle.protobuf_parse_syntax.specs.Trees.{EnumValueSyntax, EnumSyntax, MessageStatementSyntax}
 use Rattle.protobuf_parse_syntax.specs.Trees.{message_oneof, message_extend, message_message}
 use Rattle.protobuf_parse_syntax.specs.Trees.{message_enum, message_field, MessageStatementList}
-use Rattle.protobuf_parse_syntax.specs.Trees.{no_statements, more_statements, MessageSyntax}
+use Rattle.protobuf_parse_syntax.specs.Trees.{no_statements, more_statements, nested_message}
 use Rattle.protobuf_parse_syntax.specs.Trees.{MethodSyntax, ServiceSyntax, StatementSyntax}
 use Rattle.protobuf_parse_syntax.specs.Trees.{file_message, file_enum, file_extend, file_service}
 use Rattle.protobuf_parse_syntax.specs.Trees.{FileSyntax}
@@ -20,7 +20,8 @@ use Rattle.protobuf_parse_model.specs.Descriptors.{ServiceDescriptor, MethodDesc
 use Rattle.protobuf_parse_model.specs.Descriptors.{OneofDescriptor, FileDescriptor}
 use Rattle.protobuf_parse_model.specs.BuiltinOptions.{where_any}
 use Rattle.protobuf_parse_model.specs.Faults.{Among, here, there}
-use Rattle.protobuf_parse_model.specs.Statements.{group_body, message_body, oneof_fields}
+use Rattle.protobuf_parse_model.specs.Statements.{group_body, message_body, oneof_fields, groups}
+use Rattle.protobuf_parse_model.specs.Declarations.{Scope, inside, full_name}
 use Rattle.protobuf_parse_model.specs.Environment.{Environment, Customs, env_inside}
 use Rattle.protobuf_parse_elaboration.specs.Fields.{FieldPlace, plain, field_of, field_statement_of}
 use Rattle.protobuf_parse_elaboration.specs.Enums.{enum_values, options_of_enum, value_of, enum_of}
@@ -30,13 +31,13 @@ use Rattle.protobuf_parse_elaboration.specs.Messages as messages
 use Rattle.protobuf_parse_elaboration.specs.Messages.{entries_of, messages_behind}
 use Rattle.protobuf_parse_elaboration.specs.Messages.{options_in_oneof, oneofs_of, at_oneof}
 use Rattle.protobuf_parse_elaboration.specs.Messages.{fields_of, fields_from, extending, options_of_body}
-use Rattle.protobuf_parse_elaboration.specs.Messages.{message_from, nested_of, nested_in, message_of}
+use Rattle.protobuf_parse_elaboration.specs.Messages.{message_from, nested_of, nested_in}
 use Rattle.protobuf_parse_elaboration.specs.FileDescriptor as files
 use Rattle.protobuf_parse_elaboration.specs.FileDescriptor.{options_of_statements, environment}
 use Rattle.protobuf_parse_elaboration.specs.FileDescriptor.{file_messages_of, services_of, file_of}
 use Rattle.protobuf_parse_elaboration.specs.OptionSets.{OptionSet, a_set, sets_in_group, field_sets}
 use Rattle.protobuf_parse_elaboration.specs.OptionSets.{value_set, enum_sets, sets_of, sets_in}
-use Rattle.protobuf_parse_elaboration.specs.OptionSets.{message_sets, method_set, service_sets}
+use Rattle.protobuf_parse_elaboration.specs.OptionSets.{method_set, service_sets}
 use Rattle.protobuf_parse_elaboration.specs.OptionSets.{statement_sets, option_sets}
 use Rattle.protobuf_parse_elaboration.specs.CustomSets.{bytes_of_set}
 use Rattle.protobuf_parse_run.specs.StandingBytes.{IsStated, BytesStand}
@@ -165,19 +166,19 @@ module _ (one other : Customs) where
 
   -- ---- fields
 
-  field_told : (env : Environment) (p : FieldPlace) (f : FieldSyntax)
+  field_told : {name : Text} (env : Environment) (p : FieldPlace) (f : FieldSyntax)
       → field_of (by_one env) p f ≡ field_of (by_other env) p f
-      → Told (a_set of.Field env.scope f.options ∷ [])
+      → Told (a_set of.Field name env.scope f.options ∷ [])
   field_told env p f h =
-      told_one (a_set of.Field env.scope f.options) []
+      told_one (a_set of.Field _ env.scope f.options) []
       (λ stated. made_with (λ o. o.custom) _ _ f.options stated
       (ap (λ (d : FieldDescriptor). d.options) h)) nothing_told
 
-  grouped_told : (env : Environment) (s : FieldStatementSyntax)
+  grouped_told : (env : Environment) (within : Scope) (s : FieldStatementSyntax)
       → field_statement_of (by_one env) plain s ≡ field_statement_of (by_other env) plain s
-      → Told (sets_in_group env.scope s)
-  grouped_told env (field f) h = field_told env plain f h
-  grouped_told env (group at label name number fields) h = nothing_told
+      → Told (sets_in_group env.scope within s)
+  grouped_told env within (field f) h = field_told env plain f h
+  grouped_told env within (group at label name number fields) h = nothing_told
 
   -- the messages behind a field are as many
   behind_length : (env : Environment) (s : FieldStatementSyntax)
@@ -204,8 +205,9 @@ module _ (one other : Customs) where
       → Told (field_sets env.scope s)
   statement_of_field_told env p (field f) h k = field_told env p f h
   statement_of_field_told env p (group at label name number fields) h k =
-      map_told (sets_in_group env.scope) (field_statement_of (by_one env) plain)
-      (field_statement_of (by_other env) plain) (grouped_told env) (group_body fields)
+      map_told (sets_in_group env.scope (inside env.scope name))
+      (field_statement_of (by_one env) plain) (field_statement_of (by_other env) plain)
+      (grouped_told env (inside env.scope name)) (group_body fields)
       (ap (λ (m : MessageDescriptor). (parts_of m).field) (first_same k))
 
   -- several in one place
@@ -221,16 +223,34 @@ module _ (one other : Customs) where
       (statement_of_field_told env p s (first_same h) (fronts_same a b _ _ (behind_length env s) k))
       (fields_told env p ss (rest_same h) (backs_same a b _ _ (behind_length env s) k))
 
+  -- those of an `extend`, with the messages behind its groups
+  extensions_told : (env : Environment) (p : FieldPlace) (ss : List FieldStatementSyntax)
+      → map (field_statement_of (by_one env) p) ss ≡ map (field_statement_of (by_other env) p) ss
+      → flat_map (messages_behind (by_one env)) (flat_map groups ss)
+      ≡ flat_map (messages_behind (by_other env)) (flat_map groups ss)
+      → Told (flat_map (field_sets env.scope) ss)
+  extensions_told env p [] h k = nothing_told
+  extensions_told env p (field f ∷ ss) h k =
+      told_both (field_sets env.scope (field f)) (flat_map (field_sets env.scope) ss)
+      (field_told env p f (first_same h)) (extensions_told env p ss (rest_same h) k)
+  extensions_told env p (group at label name number fields ∷ ss) h k =
+      let s = group at label name number fields in
+      let a = messages_behind (by_one env) s in
+      let b = messages_behind (by_other env) s in
+      told_both (field_sets env.scope s) (flat_map (field_sets env.scope) ss)
+      (statement_of_field_told env p s (first_same h) (fronts_same a b _ _ (behind_length env s) k))
+      (extensions_told env p ss (rest_same h) (backs_same a b _ _ (behind_length env s) k))
+
   -- ---- enums and services
 
   enum_told : (env : Environment) (e : EnumSyntax)
       → enum_of (by_one env) e ≡ enum_of (by_other env) e → Told (enum_sets env.scope e)
   enum_told env e h =
-      told_one (a_set of.Enum env.scope (options_of_enum e))
-      (map (value_set env.scope) (flat_map enum_values e.body))
+      told_one (a_set of.Enum (full_name env.scope e.name) env.scope (options_of_enum e))
+      (map (value_set env.scope (inside env.scope e.name)) (flat_map enum_values e.body))
       (λ stated. made_with (λ o. o.custom) _ _ (options_of_enum e) stated
       (ap (λ (d : EnumDescriptor). d.options) h))
-      (each_told (value_set env.scope) (value_of (by_one env)) (value_of (by_other env))
+      (each_told (value_set env.scope (inside env.scope e.name)) (value_of (by_one env)) (value_of (by_other env))
       (λ (v : EnumValueSyntax) k stated. made_with (λ o. o.custom) _ _ v.options stated
       (ap (λ (d : EnumValueDescriptor). d.options) k))
       (flat_map enum_values e.body) (ap (λ (d : EnumDescriptor). d.value) h))
@@ -238,11 +258,11 @@ module _ (one other : Customs) where
   service_told : (env : Environment) (s : ServiceSyntax)
       → service_of (by_one env) s ≡ service_of (by_other env) s → Told (service_sets env.scope s)
   service_told env s h =
-      told_one (a_set of.Service env.scope (options_of_service s))
-      (map (method_set env.scope) (flat_map methods_in s.body))
+      told_one (a_set of.Service (full_name env.scope s.name) env.scope (options_of_service s))
+      (map (method_set env.scope (inside env.scope s.name)) (flat_map methods_in s.body))
       (λ stated. made_with (λ o. o.custom) _ _ (options_of_service s) stated
       (ap (λ (d : ServiceDescriptor). d.options) h))
-      (each_told (method_set env.scope) (method_of (by_one env)) (method_of (by_other env))
+      (each_told (method_set env.scope (inside env.scope s.name)) (method_of (by_one env)) (method_of (by_other env))
       (λ (m : MethodSyntax) k stated. made_with (λ o. o.custom) _ _ (options_of_method m) stated
       (ap (λ (d : MethodDescriptor). d.options) k))
       (flat_map methods_in s.body) (ap (λ (d : ServiceDescriptor). d.method) h))
@@ -286,7 +306,7 @@ module _ (one other : Customs) where
       (behind_length env) (flat_map oneof_fields o.body)
   nested_length env (message_extend e) =
       flat_length (messages_behind (by_one env)) (messages_behind (by_other env))
-      (behind_length env) e.fields
+      (behind_length env) (flat_map groups e.fields)
   nested_length env _ = refl
 
   -- the messages of a body, by its list
@@ -363,7 +383,7 @@ module _ (one other : Customs) where
   own_told : (env : Environment) (name : Text) (body : List MessageStatementSyntax)
       (ms ns : List MessageDescriptor)
       → message_from (by_one env) name body ms ≡ message_from (by_other env) name body ns
-      → IsStated (a_set of.Message env.scope (options_of_body body))
+      → IsStated (a_set of.Message (full_name env.scope name) env.scope (options_of_body body))
       → one.bytes of.Message env.scope (options_of_body body)
       ≡ other.bytes of.Message env.scope (options_of_body body)
   own_told env name body ms ns h stated =
@@ -376,7 +396,8 @@ module _ (one other : Customs) where
         → SameStatement env index s → Told (sets_of env.scope s)
     statement_told env index (message_message at name body) h =
         let same = first_same h.nested_is in
-        told_one (a_set of.Message env.scope (options_of_body (message_body body)))
+        told_one (a_set of.Message (full_name env.scope name) env.scope
+        (options_of_body (message_body body)))
         (sets_in (env_inside env name).scope body)
         (own_told env name (message_body body) _ _ same)
         (body_told (env_inside env name) 0 body
@@ -384,13 +405,13 @@ module _ (one other : Customs) where
     statement_told env index (message_field f) h =
         statement_of_field_told env _ f (first_same h.field_is) h.nested_is
     statement_told env index (message_oneof o) h =
-        told_one (a_set of.Oneof env.scope (options_in_oneof o))
+        told_one (a_set of.Oneof (full_name env.scope o.name) env.scope (options_in_oneof o))
         (flat_map (field_sets env.scope) (flat_map oneof_fields o.body))
         (λ stated. made_with (λ o. o.custom) _ _ (options_in_oneof o) stated
         (ap (λ (d : OneofDescriptor). d.options) (first_same h.oneof_is)))
         (fields_told env (at_oneof index) (flat_map oneof_fields o.body) h.field_is h.nested_is)
     statement_told env index (message_extend e) h =
-        fields_told env (extending env e.extendee) e.fields h.extension_is h.nested_is
+        extensions_told env (extending env e.extendee) e.fields h.extension_is h.nested_is
     statement_told env index (message_enum e) h = enum_told env e (first_same h.enum_is)
     statement_told env index _ h = nothing_told
 
@@ -407,28 +428,6 @@ module _ (one other : Customs) where
         told_both (sets_of env.scope s) (sets_in env.scope ss) (statement_told env index s one_is)
         (body_told env (index + length (oneofs_of (by_one env) s)) ss rest)
 
-  -- the statements of a file's message
-  statements_told : (env : Environment) (index : ℕ) (ss : List MessageStatementSyntax)
-      → SameBody env index ss (flat_map (nested_of (by_one env)) ss)
-      (flat_map (nested_of (by_other env)) ss) → Told (flat_map (sets_of env.scope) ss)
-  statements_told env index [] h = nothing_told
-  statements_told env index (s ∷ ss) h =
-      let ms = flat_map (nested_of (by_one env)) ss in
-      let ns = flat_map (nested_of (by_other env)) ss in
-      told_both (sets_of env.scope s) (flat_map (sets_of env.scope) ss)
-      (statement_told env index s (first_statement env index s ss ms ns h))
-      (statements_told env (index + length (oneofs_of (by_one env) s)) ss
-      (rest_statements env index s ss ms ns h))
-
-  message_told : (env : Environment) (m : MessageSyntax)
-      → message_of (by_one env) m ≡ message_of (by_other env) m → Told (message_sets env.scope m)
-  message_told env m h =
-      told_one (a_set of.Message env.scope (options_of_body m.body))
-      (flat_map (sets_of (env_inside env m.name).scope) m.body)
-      (own_told env m.name m.body _ _ h)
-      (statements_told (env_inside env m.name) 0 m.body
-      (same_inside env m.name m.body _ _ h))
-
   -- ---- files
 
   file_messages_length : (env : Environment) (s : StatementSyntax)
@@ -436,7 +435,7 @@ module _ (one other : Customs) where
   file_messages_length env (file_message m) = refl
   file_messages_length env (file_extend e) =
       flat_length (messages_behind (by_one env)) (messages_behind (by_other env))
-      (behind_length env) e.fields
+      (behind_length env) (flat_map groups e.fields)
   file_messages_length env _ = refl
 
   file_enums_length : (env : Environment) (s : StatementSyntax)
@@ -463,10 +462,18 @@ module _ (one other : Customs) where
       → files.file_extensions_of (by_one env) s ≡ files.file_extensions_of (by_other env) s
       → services_of (by_one env) s ≡ services_of (by_other env) s
       → Told (statement_sets env.scope s)
-  file_statement_told env (file_message m) ms es xs vs = message_told env m (first_same ms)
+  file_statement_told env (file_message m) ms es xs vs =
+      statement_told env 0 (nested_message m)
+      (record {
+        field_is = refl;
+        oneof_is = refl;
+        enum_is = refl;
+        extension_is = refl;
+        nested_is = ms;
+      })
   file_statement_told env (file_enum e) ms es xs vs = enum_told env e (first_same es)
   file_statement_told env (file_extend e) ms es xs vs =
-      fields_told env (extending env e.extendee) e.fields xs ms
+      extensions_told env (extending env e.extendee) e.fields xs ms
   file_statement_told env (file_service s) ms es xs vs = service_told env s (first_same vs)
   file_statement_told env _ ms es xs vs = nothing_told
 
@@ -495,7 +502,7 @@ module _ (one other : Customs) where
       → Told (option_sets t)
   file_told seen path t h =
       let env = environment seen one t in
-      told_one (a_set of.File env.scope (options_of_statements t.statements))
+      told_one (a_set of.File [] env.scope (options_of_statements t.statements))
       (flat_map (statement_sets env.scope) t.statements)
       (λ stated. made_with (λ o. o.custom) _ _ (options_of_statements t.statements) stated
       (ap (λ (d : FileDescriptor). d.options) h))

@@ -24,6 +24,7 @@ use Rattle.protobuf_parse_run.proofs.AskedOnce.{all-asked-once, paths-named, tol
 use Rattle.protobuf_parse_run.proofs.Causing.{caused}
 use Rattle.protobuf_parse_run.proofs.Deciding.{untold, run-files}
 use Rattle.protobuf_parse_run.proofs.Following.{all-follow}
+use Rattle.protobuf_parse_run.proofs.ReadingBack.{all-readable}
 use Rattle.protobuf_parse_run.proofs.Recovering.{all-held}
 use Rattle.protobuf_parse_run.proofs.Listed.{have-lists}
 use Rattle.protobuf_parse_run.proofs.Keeping.{bool_cases}
@@ -108,6 +109,7 @@ with-shipped resolve read inputs log r trees told = record {
   told = told;
   once = all-asked-once (MayAnswer resolve read) inputs shipped log r told;
   options = all-held (MayAnswer resolve read) inputs shipped log r told;
+  readable = all-readable (MayAnswer resolve read) inputs shipped log r told;
 }
 
 -- memory runs out before the first input

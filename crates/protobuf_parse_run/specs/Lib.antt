@@ -8,5 +8,6 @@ pub mod Stability
 pub mod Recovered
 pub mod Shipped
 pub mod StandingBytes
+pub mod ReadBack
 pub mod TypeNames
 pub mod Order

@@ -7,6 +7,7 @@ use Rattle.protobuf_parse_run.specs.declared.log.ReadEntry.{ReadEntry}
 use Rattle.protobuf_parse_run.specs.Walks.{Input}
 use Rattle.protobuf_parse_run.specs.Run.{AreAskedOnce, HaveLists, HaveTrees, MayAnswer, MayRead}
 use Rattle.protobuf_parse_run.specs.Run.{MayResolve, RunsAsTold, shipped}
+use Rattle.protobuf_parse_run.specs.ReadBack.{OptionsAreReadable}
 use Rattle.protobuf_parse_run.specs.Recovered.{OptionsAreHeld}
 
 -- A run over these inputs, whose resolver and reader may answer so, read some log and ended so.
@@ -18,6 +19,7 @@ pub record RunsWithShipped (resolve : MayResolve) (read : MayRead) (inputs : Lis
   pub told : RunsAsTold (MayAnswer resolve read) inputs shipped log result
   pub once : AreAskedOnce (MayAnswer resolve read) inputs shipped log
   pub options : OptionsAreHeld inputs shipped log result
+  pub readable : OptionsAreReadable inputs shipped log result
 
 -- a reader that is never asked: there is no answer that it may give
 abbrev pub IsNeverAsked : MayRead

@@ -11,8 +11,8 @@
 -- options as bytes. Where a file becomes the same by both, each of its sets of options that has a
 -- statement becomes the same bytes by both: so these bytes can be told from the descriptor. The
 -- other way round is `BytesAreOfSets`: the descriptor depends on no other bytes of custom options.
-use Rattle.std.specs.Prelude.{◌≡◌, ◌⊎◌, ℕ, nat_lt, List, [], ◌∷◌, ◌++◌, map, flat_map, filter}
-use Rattle.std.specs.Prelude.{length, replicate, IsPermutation, Option, Some, None}
+use Rattle.std.specs.Prelude.{◌≡◌, ◌⊎◌, nat_lt, List, [], ◌∷◌, ◌++◌, map, flat_map, filter}
+use Rattle.std.specs.Prelude.{length, IsPermutation, Option, Some, None}
 use Rattle.protobuf_parse_syntax.specs.Trees.{FileSyntax}
 use Rattle.protobuf_parse_model.specs.declared.customs.Construct.{Construct}
 use Rattle.protobuf_parse_model.specs.declared.customs.Construct.TheVariants as of
@@ -26,6 +26,7 @@ use Rattle.protobuf_parse_model.specs.Descriptors.{EnumValueDescriptor, EnumDesc
 use Rattle.protobuf_parse_model.specs.Descriptors.{MessageDescriptor, MessageDescriptors, a_message}
 use Rattle.protobuf_parse_model.specs.Descriptors.{no_messages, messages, MethodDescriptor}
 use Rattle.protobuf_parse_model.specs.Descriptors.{ServiceDescriptor, FileDescriptor}
+use Rattle.protobuf_parse_model.specs.Declarations.{Scope, inside, full_name, scope_of_package}
 use Rattle.protobuf_parse_model.specs.Faults.{Among}
 use Rattle.protobuf_parse_model.specs.Environment.{Customs}
 use Rattle.protobuf_parse_elaboration.specs.FileDescriptor.{environment, file_of}
@@ -34,59 +35,70 @@ use Rattle.protobuf_parse_elaboration.specs.CustomSets.{bytes_of_set}
 
 -- ---- what the options messages of a descriptor hold
 
--- what the options message of such a construct holds for custom options
+-- what the options message of the construct with that full name holds for custom options
 pub record HeldBytes : Type 0 where
   pub construct : Construct
+  pub name : Text
   pub bytes : Text
 
 -- by an options message, where there is one
-abbrev pub held : {A : Type 0} → (A → Text) → Construct → Option A → List HeldBytes
-held custom construct None = []
-held custom construct (Some options) =
-    record { construct = construct; bytes = custom options } ∷ []
+abbrev pub held : {A : Type 0} → (A → Text) → Construct → Text → Option A → List HeldBytes
+held custom construct name None = []
+held custom construct name (Some options) =
+    record { construct = construct; name = name; bytes = custom options } ∷ []
 
--- of a field or of an extension
-abbrev pub held_in_field : FieldDescriptor → List HeldBytes
-held_in_field d = held (λ (o : FieldOptionValues). o.custom) of.Field d.options
+-- of a field or of an extension of that scope
+abbrev pub held_in_field : Scope → FieldDescriptor → List HeldBytes
+held_in_field scope d =
+    held (λ (o : FieldOptionValues). o.custom) of.Field (full_name scope d.name) d.options
 
-abbrev pub held_in_oneof : OneofDescriptor → List HeldBytes
-held_in_oneof d = held (λ (o : OneofOptionValues). o.custom) of.Oneof d.options
+abbrev pub held_in_oneof : Scope → OneofDescriptor → List HeldBytes
+held_in_oneof scope d =
+    held (λ (o : OneofOptionValues). o.custom) of.Oneof (full_name scope d.name) d.options
 
-abbrev pub held_in_value : EnumValueDescriptor → List HeldBytes
-held_in_value d = held (λ (o : EnumValueOptionValues). o.custom) of.EnumValue d.options
+-- of a value, whose enum is the scope
+abbrev pub held_in_value : Scope → EnumValueDescriptor → List HeldBytes
+held_in_value within d =
+    held (λ (o : EnumValueOptionValues). o.custom) of.EnumValue (full_name within d.name) d.options
 
-abbrev pub held_in_enum : EnumDescriptor → List HeldBytes
-held_in_enum d = held (λ (o : EnumOptionValues). o.custom) of.Enum d.options
-    ++ flat_map held_in_value d.value
+abbrev pub held_in_enum : Scope → EnumDescriptor → List HeldBytes
+held_in_enum scope d =
+    held (λ (o : EnumOptionValues). o.custom) of.Enum (full_name scope d.name) d.options
+    ++ flat_map (held_in_value (inside scope d.name)) d.value
 
 abbrev mutual
   -- with the messages inside it
-  pub held_in_message : MessageDescriptor → List HeldBytes
-  held_in_message (a_message parts nested) =
-      held (λ (o : MessageOptionValues). o.custom) of.Message parts.options
-      ++ flat_map held_in_field parts.field
-      ++ flat_map held_in_oneof parts.oneof_decl
-      ++ flat_map held_in_enum parts.enum_type
-      ++ flat_map held_in_field parts.extension
-      ++ held_in_messages nested
+  pub held_in_message : Scope → MessageDescriptor → List HeldBytes
+  held_in_message scope (a_message parts nested) =
+      held (λ (o : MessageOptionValues). o.custom) of.Message (full_name scope parts.name)
+      parts.options
+      ++ flat_map (held_in_field (inside scope parts.name)) parts.field
+      ++ flat_map (held_in_oneof (inside scope parts.name)) parts.oneof_decl
+      ++ flat_map (held_in_enum (inside scope parts.name)) parts.enum_type
+      ++ flat_map (held_in_field (inside scope parts.name)) parts.extension
+      ++ held_in_messages (inside scope parts.name) nested
 
-  pub held_in_messages : MessageDescriptors → List HeldBytes
-  held_in_messages no_messages = []
-  held_in_messages (messages m ms) = held_in_message m ++ held_in_messages ms
+  pub held_in_messages : Scope → MessageDescriptors → List HeldBytes
+  held_in_messages scope no_messages = []
+  held_in_messages scope (messages m ms) = held_in_message scope m ++ held_in_messages scope ms
 
-abbrev pub held_in_method : MethodDescriptor → List HeldBytes
-held_in_method d = held (λ (o : MethodOptionValues). o.custom) of.Method d.options
+-- of a method, whose service is the scope
+abbrev pub held_in_method : Scope → MethodDescriptor → List HeldBytes
+held_in_method within d =
+    held (λ (o : MethodOptionValues). o.custom) of.Method (full_name within d.name) d.options
 
-abbrev pub held_in_service : ServiceDescriptor → List HeldBytes
-held_in_service d = held (λ (o : ServiceOptionValues). o.custom) of.Service d.options
-    ++ flat_map held_in_method d.method
+abbrev pub held_in_service : Scope → ServiceDescriptor → List HeldBytes
+held_in_service scope d =
+    held (λ (o : ServiceOptionValues). o.custom) of.Service (full_name scope d.name) d.options
+    ++ flat_map (held_in_method (inside scope d.name)) d.method
 
+-- A file has no full name; its scope is its package.
 abbrev pub held_in_file : FileDescriptor → List HeldBytes
-held_in_file d = held (λ (o : FileOptionValues). o.custom) of.File d.options
-    ++ flat_map held_in_message d.message_type
-    ++ flat_map held_in_enum d.enum_type
-    ++ flat_map held_in_service d.service
-    ++ flat_map held_in_field d.extension
+held_in_file d = held (λ (o : FileOptionValues). o.custom) of.File [] d.options
+    ++ flat_map (held_in_message (scope_of_package d.«package»)) d.message_type
+    ++ flat_map (held_in_enum (scope_of_package d.«package»)) d.enum_type
+    ++ flat_map (held_in_service (scope_of_package d.«package»)) d.service
+    ++ flat_map (held_in_field (scope_of_package d.«package»)) d.extension
 
 -- ---- the laws
 
@@ -100,9 +112,10 @@ stated sets = filter (λ (s : OptionSet). nat_lt 0 (length s.statements)) sets
 
 -- what the options message of the set's construct is to hold
 abbrev pub held_by_set : Customs → OptionSet → HeldBytes
-held_by_set customs s = record { construct = s.construct; bytes = bytes_of_set customs s }
+held_by_set customs s =
+    record { construct = s.construct; name = s.name; bytes = bytes_of_set customs s }
 
--- For each set that has a statement, an options message of its kind of construct holds its bytes.
+-- For each set that has a statement, the options message of its construct holds its bytes.
 abbrev pub OptionsStand : Type 0
 OptionsStand = (seen : List FileSyntax) (customs : Customs) (path : Text) (t : FileSyntax)
     (s : OptionSet) → Among (option_sets t) s → IsStated s
@@ -117,15 +130,16 @@ NoOthersStand = (seen : List FileSyntax) (customs : Customs) (path : Text) (t : 
     ⊎ ((s : OptionSet) × Among (option_sets t) s × IsStated s × (h ≡ held_by_set customs s))
 
 -- what the options message of the message behind a map holds
-abbrev pub held_behind_map : HeldBytes
-held_behind_map = record { construct = of.Message; bytes = [] }
+abbrev pub held_behind_map : Text → HeldBytes
+held_behind_map name = record { construct = of.Message; name = name; bytes = [] }
 
 -- What the options messages hold is, put in another order, what each set that has a statement is to
--- hold, once for the set, and a number of times what is held behind a map.
+-- hold, once for the set, and what is held behind maps.
 abbrev pub SetsStandOnce : Type 0
 SetsStandOnce = (seen : List FileSyntax) (customs : Customs) (path : Text) (t : FileSyntax)
-    → (maps : ℕ) × IsPermutation (held_in_file (file_of (environment seen customs t) path t))
-    (map (held_by_set customs) (stated (option_sets t)) ++ replicate maps held_behind_map)
+    → (behind : List Text)
+    × IsPermutation (held_in_file (file_of (environment seen customs t) path t))
+    (map (held_by_set customs) (stated (option_sets t)) ++ map held_behind_map behind)
 
 -- The bytes of each set that has a statement can be told from the descriptor.
 abbrev pub BytesStand : Type 0

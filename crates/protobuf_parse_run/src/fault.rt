@@ -7,6 +7,7 @@ use protobuf_parse_base::proto_path::PathError;
 use protobuf_parse_model::ElabError;
 use protobuf_parse_syntax::ParserErrorWithLocation;
 use std::alloc::{AllocError, AllocFailed};
+use std::fmt;
 use thiserror::Error;
 
 /// Why a run gave no descriptors.
@@ -19,7 +20,7 @@ pub enum RunFault {
     ContentIsNotUtf8(String),
     /// L2: neither the resolver nor the table of bundled files has this proto path. The second text
     /// is the resolver's own.
-    #[error("protobuf path `{0}` is not found in import path {1}")]
+    #[error("protobuf path `{}` is not found in import path{}", .0, behind_blank(.1))]
     FileNotFoundInImportPath(String, String),
     /// L3: no include is a front of the input. The second text lists the includes, as `["a", "b"]`.
     #[error("file `{0}` must reside in include path {1}")]
@@ -28,7 +29,7 @@ pub enum RunFault {
     #[error("could not read file `{0}`: {1}")]
     CouldNotReadFile(String, ReadInputFault),
     /// L5: the resolver gave a fault for this proto path.
-    #[error("could not resolve `{0}`: {1}")]
+    #[error("could not resolve `{}`:{}", .0, reason_behind_blank(.1))]
     Resolver(String, ResolveFault),
     /// L6: the input's own file, the first path, has other content than was loaded for the proto
     /// path.
@@ -73,6 +74,44 @@ pub enum ResolveFault {
     /// The resolver refuses, for this reason.
     #[error("{0}")]
     Refused(String),
+}
+
+/// A text behind a blank; where it is empty, nothing, so that no line ends in a blank.
+#[derive(Clone, Copy)]
+struct Behind<'a>(&'a str);
+
+fn behind_blank(text: &str) -> Behind<'_> {
+    Behind(text)
+}
+
+impl<'a> fmt::Display for Behind<'a> {
+    fn fmt<W: fmt::Write>(&self, f: &mut fmt::Formatter<W>) -> fmt::Result {
+        if self.0.is_empty() {
+            return Ok(());
+        }
+        f.write_str(" ")?;
+        f.write_str(self.0)
+    }
+}
+
+/// What a resolver's fault says, behind a blank; of an empty refusal nothing.
+#[derive(Clone, Copy)]
+struct ReasonBehind<'a>(&'a ResolveFault);
+
+fn reason_behind_blank(fault: &ResolveFault) -> ReasonBehind<'_> {
+    ReasonBehind(fault)
+}
+
+impl<'a> fmt::Display for ReasonBehind<'a> {
+    fn fmt<W: fmt::Write>(&self, f: &mut fmt::Formatter<W>) -> fmt::Result {
+        match self.0 {
+            ResolveFault::Refused(reason) => fmt::Display::fmt(&Behind(reason), f),
+            ResolveFault::Memory | ResolveFault::CouldNotRead(_) => {
+                f.write_str(" ")?;
+                fmt::Display::fmt(self.0, f)
+            }
+        }
+    }
 }
 
 impl From<AllocError> for RunFault {

@@ -55,14 +55,14 @@ pub fn seen_files_are_reached()
 {}
 
 /// The bytes of the custom options of each construct stand in the descriptor of its file, in the
-/// field `custom` of an options message. For each set of options that has a statement, an options
-/// message of its kind of construct holds its bytes (`stand`). Each options message holds no bytes,
-/// or those of such a set of its kind of construct (`others`). There is just one for each such set;
-/// any others are of messages and hold no bytes, as behind maps (`once`). And where a file becomes
-/// the same by two ways to write custom options, each of its sets that has a statement becomes the
-/// same bytes by both (`told`). So what `run_inputs` says of these bytes it says of bytes that it
-/// hands out; which of several options messages of one kind holds them, the definition of what a
-/// file becomes says. That a descriptor depends on no other bytes of custom options is the law
+/// field `custom` of an options message, which is told by its kind of construct and that
+/// construct's full name. For each set of options that has a statement, the options message of its
+/// construct holds its bytes (`stand`). Each options message holds no bytes, or those of such a set
+/// of its construct (`others`). There is just one for each such set; any others are of messages and
+/// hold no bytes, as behind maps (`once`). And where a file becomes the same by two ways to write
+/// custom options, each of its sets that has a statement becomes the same bytes by both (`told`).
+/// What `run_inputs` says of the descriptors that it hands out (`OptionsAreReadable`) follows from
+/// these. That a descriptor depends on no other bytes of custom options is the law
 /// [`custom_options_are_of_sets`](protobuf_parse_elaboration::custom_options_are_of_sets).
 pub fn custom_bytes_stand()
     ensures stand { OptionsStand }

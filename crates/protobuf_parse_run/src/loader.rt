@@ -49,7 +49,6 @@ use std::snapshot::Snapshot;
 pub const MAX_CHAIN: usize = 100;
 
 /// A file whose imports are loaded, and which became a descriptor.
-#[derive(Drop)]
 pub struct LoadedFile {
     /// Its tree, for clauses alone: it has no bytes here.
     pub tree: Snapshot<FileTree>,
@@ -64,6 +63,39 @@ pub struct LoadedFile {
     pub descriptor: FileDescriptorProto,
     /// The descriptor without custom options, where it may have any.
     pub plain: Option<FileDescriptorProto>,
+}
+
+// Written out: what drops it calls this, and need not prove anew how descriptors are dropped.
+impl Drop for LoadedFile {
+    fn drop(self) {
+        let LoadedFile {
+            tree: _,
+            height: _,
+            reach: _,
+            handed_on: _,
+            read: _,
+            descriptor: _,
+            plain: _,
+        } = self;
+    }
+}
+
+impl LoadedFile {
+    /// What it became.
+    pub fn into_descriptor(self) -> FileDescriptorProto
+        ensures { result ≡ self.descriptor }
+    {
+        let LoadedFile {
+            tree: _,
+            height: _,
+            reach: _,
+            handed_on: _,
+            read: _,
+            descriptor,
+            plain: _,
+        } = self;
+        descriptor
+    }
 }
 
 /// The number and the height of a loaded file.

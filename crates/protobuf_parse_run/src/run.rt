@@ -3,6 +3,7 @@
 ghost use Rattle.std.specs.Prelude.{◌≡◌, map, IfOk, IfErr};
 ghost use Rattle.protobuf_parse_run.specs.Run.{AreAskedOnce, HaveLists, HaveTrees, IsCaused, IsMet};
 ghost use Rattle.protobuf_parse_run.specs.Run.{MayAnswer, RunsAsTold, input_view, rows};
+ghost use Rattle.protobuf_parse_run.specs.ReadBack.{OptionsAreReadable};
 ghost use Rattle.protobuf_parse_run.specs.Recovered.{OptionsAreHeld};
 ghost use Rattle.protobuf_parse_run.specs.Shipped.{IsNeverAsked, RunsByResolver};
 ghost use Rattle.protobuf_parse_run.specs.Walks.{named};
@@ -26,6 +27,17 @@ use std::alloc::{AllocError, Global};
 ///
 /// `bundled` has proto paths and texts: where the resolver has no file, the first row with the path
 /// stands for it. The fault is L1, L2, L4 to L10 or want of memory.
+///
+/// ```
+/// let resolver = fs_resolver(&rt, alloc, &["schemas", "vendor"])?;
+/// let mut inputs = Vec::new(alloc);
+/// inputs.push(RunInput::Named(ProtoPathBuf::from_path(alloc, "shop/order.proto")?))?;
+/// let log = run_inputs(alloc, &inputs, &resolver, &FsReader::new(&rt), bundled_files());
+/// for read in &log.reads {
+///     write!(text, "{}\n", read.path)?;
+/// }
+/// let files = log.result?;
+/// ```
 pub fn run_inputs<'a, R: ProtoPathResolver, I: InputReader>(
     alloc: Global,
     inputs: &[RunInput],
@@ -42,6 +54,8 @@ pub fn run_inputs<'a, R: ProtoPathResolver, I: InputReader>(
     ensures once { AreAskedOnce (MayAnswer (R.may_answer resolver.now) (I.may_read reader.now))
         (map input_view inputs.now) (rows bundled.now) result.reads.items }
     ensures options { OptionsAreHeld (map input_view inputs.now) (rows bundled.now)
+        result.reads.items result.result }
+    ensures readable { OptionsAreReadable (map input_view inputs.now) (rows bundled.now)
         result.reads.items result.result }
     ensures meets { IsMet (map input_view inputs.now)
         (rows bundled.now) result.reads.items result.meets result.result }
@@ -87,13 +101,20 @@ fn descriptors(alloc: Global, loaded: LoadedFiles) -> Result<Vec<FileDescriptorP
 {
     let mut descriptors = Vec::new(alloc);
     for (_, file) in loaded.into_entries() {
-        descriptors.push(file.descriptor)?;
+        descriptors.push(file.into_descriptor())?;
     }
     Ok(descriptors)
 }
 
 /// The result of a run over inputs that the resolver finds, with the files that this library
 /// brings. The fault is L1, L2, L5, L7 to L10 or want of memory.
+///
+/// ```
+/// // `registry` is a resolver of one's own, as that of `CALLING.md`.
+/// let mut paths = Vec::new(alloc);
+/// paths.push(ProtoPathBuf::from_path(alloc, "shop/order.proto")?)?;
+/// let files = parse_and_typecheck_custom(alloc, &paths, &registry)?;
+/// ```
 pub fn parse_and_typecheck_custom<R: ProtoPathResolver>(
     alloc: Global,
     input: &[ProtoPathBuf],

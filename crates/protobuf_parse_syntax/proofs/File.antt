@@ -1,14 +1,14 @@
 -- What the reader of a file gives, said of the grammar.
-use Rattle.std.proofs.Common.{◌≡◌, ℕ, ◌<◌, List, [], ◌∷◌, ◌++◌, length, true, false}
+use Rattle.std.proofs.Common.{◌≡◌, ℕ, ◌+◌, List, [], ◌∷◌, ◌++◌, true, false, add-zero}
 use Rattle.std.proofs.Common.{refl, sym, ap, subst, ◌∙◌, inl, inr, ◌⊎◌}
-use Rattle.protobuf_parse_base.specs.Readers.{Rest, end, token, onto, onto-append, read, stuck}
+use Rattle.protobuf_parse_base.specs.Readers.{deep, Rest, end, token, onto, onto-append, read, stuck}
 use Rattle.protobuf_parse_base.specs.Readers.{wrong, Begins, starts}
 use Rattle.protobuf_parse_base.specs.Relations.{BeginsOtherwise}
 use Rattle.protobuf_parse_lexer.specs.Tokens.{Lexeme}
 use Rattle.protobuf_parse_base.specs.Conditions.{mark_of}
 use Rattle.protobuf_parse_base.specs.Whole.{whole, left_whole, local_stuck, local_wrong}
 use Rattle.protobuf_parse_base.specs.Relations.{StopsAt}
-use Rattle.protobuf_parse_base.specs.Whole.{deep_found, deep_only, deep_wrong, deep_never}
+use Rattle.protobuf_parse_base.specs.Whole.{deep_found, deep_only, deep_wrong}
 use Rattle.protobuf_parse_base.specs.Whole.{deep_stops, deep_leaves}
 use Rattle.protobuf_parse_lexer.specs.Classes.{symbol, float, text, is_one_of, is_floating}
 use Rattle.protobuf_parse_lexer.specs.Cut.{out_of_memory}
@@ -186,7 +186,11 @@ module _ (ts : List Lexeme) (m : Place) (n : ℕ) where
       deep_leaves (λ i. (nest.file i).low) (steady-near nest.file nest.file-same) refl n ts m a
       (token t rest) t e refl
 
-  module _ (enough : length ts < n) where
+  -- with so many levels, or more, nothing is too deep
+  abbrev pub Enough : Type 0
+  Enough = (j : ℕ) → (nest.file (n + j)).low.run (whole ts m) ≡ deep → ⊥
+
+  module _ (enough : Enough) where
     pub only : (a b : FileSyntax) (after : Rest Lexeme Place)
         → (nest.files n).low.run (whole ts m) ≡ read a after → is_end after ≡ true → IsFile ts b
         → b ≡ a
@@ -268,8 +272,7 @@ module _ (ts : List Lexeme) (m : Place) (n : ℕ) where
         → (nest.files n).low.run (whole ts m) ≡ failed f → Tells e after f
         → IsGrammarFault ts m e (mark_of place_of after)
     here_fault e after f h (inl t) =
-        absurd (deep_never (λ i. (nest.file i).low)
-        (steady-near nest.file nest.file-same) refl n ts m enough (rw (t.1) at h))
+        absurd (enough 0 (rw add-zero (rw (t.1) at h)))
     here_fault e after f h (inr t) =
         let start : Rest Lexeme Place = onto t.0 after in
         let w : (nest.files n).low.run (whole ts m) ≡ wrong start = rw (t.1) at h in

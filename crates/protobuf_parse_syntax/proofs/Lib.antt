@@ -5,6 +5,9 @@ pub mod Counting
 pub mod Counts
 pub mod Balance
 pub mod Nesting
+pub mod Calm
+pub mod QuietFields
+pub mod Levels
 pub mod Imports
 pub mod Formats
 pub mod Words

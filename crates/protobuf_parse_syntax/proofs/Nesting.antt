@@ -139,37 +139,37 @@ shallow_file s ss h =
 
 -- ---- names
 
-ident : {n : ℕ} → Keeps n n IsIdent Any
+pub ident : {n : ℕ} → Keeps n n IsIdent Any
 ident = one (λ c text place. refl)
 
-word : {n : ℕ} {w : Bytes} → Keeps n n (IsWord w) Any
+pub word : {n : ℕ} {w : Bytes} → Keeps n n (IsWord w) Any
 word = one (λ c text place. refl)
 
-word_of_table : {A : Type 0} {n : ℕ} (table : List (Bytes × A)) → Keeps n n (IsWordOf table) Any
+pub word_of_table : {A : Type 0} {n : ℕ} (table : List (Bytes × A)) → Keeps n n (IsWordOf table) Any
 word_of_table table = one (λ c text place. refl)
 
-number : {n : ℕ} → Keeps n n IsNumber Any
+pub number : {n : ℕ} → Keeps n n IsNumber Any
 number = one (λ c text place. refl)
 
-small_number : {n : ℕ} (limit : ℕ) → Keeps n n (IsNumberUpTo limit) Any
+pub small_number : {n : ℕ} (limit : ℕ) → Keeps n n (IsNumberUpTo limit) Any
 small_number limit = one (λ c text place. refl)
 
-comma : {n : ℕ} → Keeps n n IsComma (λ a. n ≤ 100)
+pub comma : {n : ℕ} → Keeps n n IsComma (λ a. n ≤ 100)
 comma = symbol 44 refl
 
-str : {n : ℕ} → Keeps n n IsStr (All Any)
+pub str : {n : ℕ} → Keeps n n IsStr (All Any)
 unfolding IsStr
 str = one_or_more (one (λ c text place. refl))
 
-dotted : {n : ℕ} → Keeps n n IsDotted Any
+pub dotted : {n : ℕ} → Keeps n n IsDotted Any
 unfolding IsDotted
 dotted = do first ← ident; others ← many (do symbol 46 refl; ident); done
 
-root : {n : ℕ} → Keeps n n IsRoot Any
+pub root : {n : ℕ} → Keeps n n IsRoot Any
 unfolding IsRoot
 root = either (do symbol 46 refl; done) (done)
 
-name : {n : ℕ} → Keeps n n IsName Any
+pub name : {n : ℕ} → Keeps n n IsName Any
 unfolding IsName
 name = do root ← root; rest ← dotted; done
 
@@ -179,7 +179,7 @@ name = do root ← root; rest ← dotted; done
 abbrev Within : ℕ → ConstantSyntax → Type 0
 Within n c = constant_depth c + n ≤ 100
 
-integer : {n : ℕ} → Keeps n n IsInteger Any
+pub integer : {n : ℕ} → Keeps n n IsInteger Any
 unfolding IsInteger
 integer =
     either
@@ -188,27 +188,27 @@ integer =
     (do symbol 43 refl; i ← number; done)
     (do symbol 45 refl; i ← small_number 9223372036854775808; done))
 
-after_slash : {n : ℕ} (w : Bytes) → Keeps n n (AfterSlash w) Any
+pub after_slash : {n : ℕ} (w : Bytes) → Keeps n n (AfterSlash w) Any
 unfolding AfterSlash
 after_slash w = either (do symbol 47 refl; rest ← name; done) (done)
 
-bracketed_name : {n : ℕ} → Keeps n n IsBracketedName Any
+pub bracketed_name : {n : ℕ} → Keeps n n IsBracketedName Any
 unfolding IsBracketedName
 bracketed_name =
     do opening 91 refl refl; first ← name; name ← after_slash first.0; closing 93 refl refl; done
 
-constant_name : {n : ℕ} → Keeps n n IsConstantName Any
+pub constant_name : {n : ℕ} → Keeps n n IsConstantName Any
 unfolding IsConstantName
 constant_name = either (do name ← ident; done) bracketed_name
 
-field_end : {n : ℕ} → Keeps n n IsFieldEnd Any
+pub field_end : {n : ℕ} → Keeps n n IsFieldEnd Any
 unfolding IsFieldEnd
 field_end =
     either
     (weaker (λ a h. tt) (symbol 44 refl))
     (either (weaker (λ a h. tt) (symbol 59 refl)) (done))
 
-constant_field : {n : ℕ} {C : List Lexeme → ConstantSyntax → Type 0} → Keeps n n C (Within n) →
+pub constant_field : {n : ℕ} {C : List Lexeme → ConstantSyntax → Type 0} → Keeps n n C (Within n) →
     Keeps n n (ConstantFieldOf C) (λ f. Within n f.value)
 unfolding ConstantFieldOf
 constant_field c = do
@@ -217,7 +217,7 @@ constant_field c = do
   field_end
   nothing value.1
 
-fields_within : (n : ℕ) (fs : List ConstantFieldSyntax) → n ≤ 100 →
+pub fields_within : (n : ℕ) (fs : List ConstantFieldSyntax) → n ≤ 100 →
     All (λ f. Within n f.value) fs → constant_fields_depth (tree.constant_fields fs) + n ≤ 100
 fields_within n [] l h = omega (arith, l)
 fields_within n (f ∷ fs) l h =
@@ -226,7 +226,7 @@ fields_within n (f ∷ fs) l h =
     fields_within n fs l (All-tail (λ (f : ConstantFieldSyntax). Within n f.value) f fs h) in
     omega (arith, first, others)
 
-constants_within : (n : ℕ) (cs : List ConstantSyntax) → n ≤ 100 → All (Within n) cs →
+pub constants_within : (n : ℕ) (cs : List ConstantSyntax) → n ≤ 100 → All (Within n) cs →
     constants_depth (tree.constants cs) + n ≤ 100
 constants_within n [] l h = omega (arith, l)
 constants_within n (c ∷ cs) l h =
@@ -234,7 +234,7 @@ constants_within n (c ∷ cs) l h =
     let others = constants_within n cs l (All-tail (Within n) c cs h) in
     omega (arith, first, others)
 
-message_constant : {n : ℕ} {C : List Lexeme → ConstantSyntax → Type 0} →
+pub message_constant : {n : ℕ} {C : List Lexeme → ConstantSyntax → Type 0} →
     Keeps (suc n) (suc n) C (Within (suc n)) → Keeps n n (MessageConstantOf C) (Within n)
 unfolding MessageConstantOf
 message_constant {n = n} c = do
@@ -243,7 +243,7 @@ message_constant {n = n} c = do
   closing 125 refl refl
   nothing (let each = fields_within (suc n) fields.0 inside.1 fields.1 in omega (arith, each))
 
-list_constant : {n : ℕ} {C : List Lexeme → ConstantSyntax → Type 0} →
+pub list_constant : {n : ℕ} {C : List Lexeme → ConstantSyntax → Type 0} →
     Keeps (suc n) (suc n) C (Within (suc n)) → Keeps n n (ListOf C) (Within n)
 unfolding ListOf
 list_constant {n = n} c = do
@@ -252,14 +252,14 @@ list_constant {n = n} c = do
   closing 93 refl refl
   nothing (let each = constants_within (suc n) items.0 inside.1 items.1 in omega (arith, each))
 
-word_constant : {n : ℕ} → Keeps n n IsWordConstant (Within n)
+pub word_constant : {n : ℕ} → Keeps n n IsWordConstant (Within n)
 unfolding IsWordConstant
 word_constant =
     low (λ l. either (do word; nothing (omega (arith, l)))
     (either (do word; nothing (omega (arith, l)))
     (do name ← unless dotted; nothing (omega (arith, l)))))
 
-constant_of : {n : ℕ} {C : List Lexeme → ConstantSyntax → Type 0} →
+pub constant_of : {n : ℕ} {C : List Lexeme → ConstantSyntax → Type 0} →
     Keeps (suc n) (suc n) C (Within (suc n)) → Keeps n n (ConstantOf C) (Within n)
 unfolding ConstantOf
 constant_of c =
@@ -269,34 +269,34 @@ constant_of c =
     (either (do i ← integer; nothing (omega (arith, l)))
     (do s ← str; nothing (omega (arith, l)))))))
 
-constant : (d : ℕ) {n : ℕ} → Keeps n n (IsConstant d) (Within n)
+pub constant : (d : ℕ) {n : ℕ} → Keeps n n (IsConstant d) (Within n)
 unfolding Level
 constant zero = never
 constant (suc d) = constant_of (constant d)
 
 -- ---- options
 
-option_part : {n : ℕ} → Keeps n n IsOptionPart Any
+pub option_part : {n : ℕ} → Keeps n n IsOptionPart Any
 unfolding IsOptionPart
 option_part = either (do name ← ident; done) (do symbol 40 refl; name ← name; symbol 41 refl; done)
 
-option_name : {n : ℕ} → Keeps n n IsOptionName Any
+pub option_name : {n : ℕ} → Keeps n n IsOptionName Any
 unfolding IsOptionName IsNextPart
 option_name = do first ← option_part; others ← at_most (do symbol 46 refl; option_part); done
 
-assignment : {n : ℕ} (d : ℕ) → Keeps n n (IsAssignment d) ShallowOption
+pub assignment : {n : ℕ} (d : ℕ) → Keeps n n (IsAssignment d) ShallowOption
 unfolding IsAssignment
-assignment {n = n} d = do
+assignment {n = n} d = at_place (λ t. do
   name ← option_name
   symbol 61 refl
   value ← constant d
-  nothing (let v = value.1 in omega (arith, v))
+  nothing (let v = value.1 in omega (arith, v)))
 
-option : {n : ℕ} (d : ℕ) → Keeps n n (IsOption d) ShallowOptionStatement
+pub option : {n : ℕ} (d : ℕ) → Keeps n n (IsOption d) ShallowOptionStatement
 unfolding IsOption
 option d = at_place (λ t. do word; option ← assignment d; symbol 59 refl; nothing option.1)
 
-options : {n : ℕ} (d : ℕ) → Keeps n n (AreOptions d) (All ShallowOption)
+pub options : {n : ℕ} (d : ℕ) → Keeps n n (AreOptions d) (All ShallowOption)
 unfolding AreOptions
 options d =
     either
@@ -309,12 +309,12 @@ options d =
 
 -- ---- types
 
-map_of : {n : ℕ} {T : List Lexeme → TypeSyntax → Type 0} → Keeps (suc n) (suc n) T Any →
+pub map_of : {n : ℕ} {T : List Lexeme → TypeSyntax → Type 0} → Keeps (suc n) (suc n) T Any →
     Keeps n n (MapOf T) Any
 unfolding MapOf
 map_of t = do word; opening 60 refl refl; key ← t; comma; value ← t; closing 62 refl refl; done
 
-type_ : (d : ℕ) {n : ℕ} → Keeps n n (IsType d) Any
+pub type_ : (d : ℕ) {n : ℕ} → Keeps n n (IsType d) Any
 unfolding Level TypeOf
 type_ zero = never
 type_ (suc d) =
@@ -324,18 +324,18 @@ type_ (suc d) =
 
 -- ---- fields
 
-field_number : {n : ℕ} → Keeps n n IsFieldNumber Any
+pub field_number : {n : ℕ} → Keeps n n IsFieldNumber Any
 unfolding IsFieldNumber
 field_number = do i ← small_number 2147483647; done
 
-capital_none : (b : Bool) → cond b (let none : Option Bytes = None in none) None ≡ None
+pub capital_none : (b : Bool) → cond b (let none : Option Bytes = None in none) None ≡ None
 capital_none true = refl
 capital_none false = refl
 
-capital : {n : ℕ} → Keeps n n (One capital_ident) Any
+pub capital : {n : ℕ} → Keeps n n (One capital_ident) Any
 capital = one (λ c text place. capital_none (is_capital (slice_index text 0)))
 
-plain_field : {n : ℕ} (d : ℕ) {T : List Lexeme → TypeSyntax →
+pub plain_field : {n : ℕ} (d : ℕ) {T : List Lexeme → TypeSyntax →
     Type 0} (place : Place) (label : Option Label) → Keeps n n T Any →
     Keeps n n (PlainFieldOf d T place label) (FieldIn n)
 unfolding PlainFieldOf
@@ -348,7 +348,7 @@ plain_field d place label t = do
   last ← symbol 59 refl
   nothing (options.1, let few = last.1 in omega (arith, few))
 
-group_of : {n : ℕ} {F : List Lexeme → FieldStatementSyntax →
+pub group_of : {n : ℕ} {F : List Lexeme → FieldStatementSyntax →
     Type 0} (place : Place) (label : Option Label) → Keeps (suc n) (suc n) F (FieldIn (suc n)) →
     Keeps n n (GroupOf F place label) (FieldIn n)
 unfolding GroupOf
@@ -362,14 +362,14 @@ group_of {n = n} place label f = do
       let deep = each.1 in
       (each.0, omega (arith, deep)))
 
-after_label : {n : ℕ} (d : ℕ) {F : List Lexeme → FieldStatementSyntax →
+pub after_label : {n : ℕ} (d : ℕ) {F : List Lexeme → FieldStatementSyntax →
     Type 0} (place : Place) (label : Option Label) → Keeps (suc n) (suc n) F (FieldIn (suc n)) →
     Keeps n n (AfterLabel d F place label) (FieldIn n)
 unfolding AfterLabel
 after_label d place label f =
     either (group_of place label f) (plain_field d place label (unless (type_ d)))
 
-field_of : {n : ℕ} (syntax : Syntax) (d : ℕ) {F : List Lexeme → FieldStatementSyntax → Type 0} →
+pub field_of : {n : ℕ} (syntax : Syntax) (d : ℕ) {F : List Lexeme → FieldStatementSyntax → Type 0} →
     Keeps (suc n) (suc n) F (FieldIn (suc n)) → Keeps n n (FieldOf syntax d F) (FieldIn n)
 unfolding FieldOf
 field_of Proto2 d f =
@@ -382,21 +382,21 @@ field_of Proto3 d f =
     (unless {test = is_one_of (words (table_words labels ++ statement_words))}
     (after_label (suc d) t.place None f)))
 
-field : (syntax : Syntax) (d : ℕ) {n : ℕ} → Keeps n n (IsField syntax d) (FieldIn n)
+pub field : (syntax : Syntax) (d : ℕ) {n : ℕ} → Keeps n n (IsField syntax d) (FieldIn n)
 unfolding Level
 field syntax zero = never
 field syntax (suc d) = field_of syntax d (field syntax d)
 
 -- ---- oneofs and extends
 
-oneof_field : {n : ℕ} (syntax : Syntax) (d : ℕ) → Keeps n n (IsOneofField syntax d) (FieldIn n)
+pub oneof_field : {n : ℕ} (syntax : Syntax) (d : ℕ) → Keeps n n (IsOneofField syntax d) (FieldIn n)
 unfolding IsOneofField
 oneof_field syntax d =
     at_place (λ t.
     unless {test = is_one_of (words (codes "map" ∷ table_words labels ++ statement_words))}
     (after_label d t.place None (field syntax d)))
 
-oneof_statement : {n : ℕ} (syntax : Syntax) (d : ℕ) →
+pub oneof_statement : {n : ℕ} (syntax : Syntax) (d : ℕ) →
     Keeps n n (IsOneofStatement syntax d) (Both ShallowOneofStatement oneof_statement_depth n)
 unfolding IsOneofStatement
 oneof_statement syntax d =
@@ -404,7 +404,7 @@ oneof_statement syntax d =
     (do o ← option d; nothing (o.1, omega (arith, l)))
     (do f ← oneof_field syntax d; nothing f.1))
 
-oneof : {n : ℕ} (syntax : Syntax) (d : ℕ) →
+pub oneof : {n : ℕ} (syntax : Syntax) (d : ℕ) →
     Keeps n n (IsOneof syntax d) (Both ShallowOneof oneof_depth n)
 unfolding IsOneof
 oneof {n = n} syntax d =
@@ -414,7 +414,7 @@ oneof {n = n} syntax d =
       body ← braced (oneof_statement syntax d)
       nothing (inside ShallowOneofStatement oneof_statement_depth n body.0 body.1.0 body.1.1))
 
-extend : {n : ℕ} (syntax : Syntax) (d : ℕ) →
+pub extend : {n : ℕ} (syntax : Syntax) (d : ℕ) →
     Keeps n n (IsExtend syntax d) (Both ShallowExtend extend_depth n)
 unfolding IsExtend
 extend {n = n} syntax d =
@@ -426,40 +426,40 @@ extend {n = n} syntax d =
 
 -- ---- ranges and reserved
 
-range_end : {n : ℕ} (from : ℤ) → Keeps n n (IsRangeEnd from) Any
+pub range_end : {n : ℕ} (from : ℤ) → Keeps n n (IsRangeEnd from) Any
 unfolding IsRangeEnd
 range_end from = either (do word; either field_number (do word; done)) (done)
 
-range : {n : ℕ} → Keeps n n IsRange Any
+pub range : {n : ℕ} → Keeps n n IsRange Any
 unfolding IsRange
 range = do from ← field_number; to ← range_end from.0; done
 
-reserved_name : {n : ℕ} → Keeps n n IsReservedName Any
+pub reserved_name : {n : ℕ} → Keeps n n IsReservedName Any
 unfolding IsReservedName
 reserved_name = do pieces ← str; text ← such; done
 
-are_reserved : {n : ℕ} → Keeps n n AreReserved Any
+pub are_reserved : {n : ℕ} → Keeps n n AreReserved Any
 unfolding AreReserved
 are_reserved =
     either
     (do names ← separated comma reserved_name; done)
     (do ranges ← separated comma range; done)
 
-reserved : {n : ℕ} → Keeps n n IsReserved Any
+pub reserved : {n : ℕ} → Keeps n n IsReserved Any
 unfolding IsReserved
 reserved = at_place (λ t. do word; reserved ← are_reserved; symbol 59 refl; done)
 
-extensions : {n : ℕ} → Keeps n n IsExtensions Any
+pub extensions : {n : ℕ} → Keeps n n IsExtensions Any
 unfolding IsExtensions
 extensions = at_place (λ t. do word; ranges ← separated comma range; done)
 
 -- ---- enums
 
-enum_number : {n : ℕ} → Keeps n n IsEnumNumber Any
+pub enum_number : {n : ℕ} → Keeps n n IsEnumNumber Any
 unfolding IsEnumNumber
 enum_number = either field_number (do symbol 45 refl; i ← small_number 2147483648; done)
 
-enum_value : {n : ℕ} (d : ℕ) → Keeps n n (IsEnumValue d) (λ v. All ShallowOption v.options)
+pub enum_value : {n : ℕ} (d : ℕ) → Keeps n n (IsEnumValue d) (λ v. All ShallowOption v.options)
 unfolding IsEnumValue
 enum_value d =
     at_place (λ t. do
@@ -469,25 +469,25 @@ enum_value d =
       options ← options d
       nothing options.1)
 
-enum_statement : {n : ℕ} (d : ℕ) → Keeps n n (IsEnumStatement d) ShallowEnumStatement
+pub enum_statement : {n : ℕ} (d : ℕ) → Keeps n n (IsEnumStatement d) ShallowEnumStatement
 unfolding IsEnumStatement
 enum_statement d =
     either
     (do r ← reserved; nothing tt)
     (either (do o ← option d; nothing o.1) (do v ← enum_value d; nothing v.1))
 
-enum : {n : ℕ} (d : ℕ) → Keeps n n (IsEnum d) ShallowEnum
+pub enum : {n : ℕ} (d : ℕ) → Keeps n n (IsEnum d) ShallowEnum
 unfolding IsEnum
 enum d = at_place (λ t. do word; name ← ident; body ← braced (enum_statement d); nothing body.1.1)
 
 -- ---- messages
 
-extensions_in : {n : ℕ} (syntax : Syntax) → Keeps n n (IsExtensionsIn syntax) Any
+pub extensions_in : {n : ℕ} (syntax : Syntax) → Keeps n n (IsExtensionsIn syntax) Any
 unfolding IsExtensionsIn
 extensions_in Proto2 = extensions
 extensions_in Proto3 = never
 
-message_statement : {n : ℕ} (syntax : Syntax) (d : ℕ) {M : List Lexeme → MessageSyntax → Type 0} →
+pub message_statement : {n : ℕ} (syntax : Syntax) (d : ℕ) {M : List Lexeme → MessageSyntax → Type 0} →
     Keeps n n M (MessageIn n) → Keeps n n (MessageStatementOf syntax d M) (StatementIn n)
 unfolding MessageStatementOf
 message_statement {n = n} syntax d m =
@@ -500,7 +500,7 @@ message_statement {n = n} syntax d m =
     (either (do o ← option d; nothing (o.1, omega (arith, l)))
     (do f ← field syntax d; nothing f.1))))))))
 
-message_of : {n : ℕ} (syntax : Syntax) (d : ℕ) {M : List Lexeme → MessageSyntax → Type 0} →
+pub message_of : {n : ℕ} (syntax : Syntax) (d : ℕ) {M : List Lexeme → MessageSyntax → Type 0} →
     Keeps (suc n) (suc n) M (MessageIn (suc n)) → Keeps n n (MessageOf syntax d M) (MessageIn n)
 unfolding MessageOf
 message_of {n = n} syntax d m =
@@ -510,21 +510,21 @@ message_of {n = n} syntax d m =
       body ← braced (message_statement syntax d m)
       nothing (below ShallowMessageStatement message_statement_depth n body.0 body.1.0 body.1.1))
 
-message : (syntax : Syntax) (d : ℕ) {n : ℕ} → Keeps n n (IsMessage syntax d) (MessageIn n)
+pub message : (syntax : Syntax) (d : ℕ) {n : ℕ} → Keeps n n (IsMessage syntax d) (MessageIn n)
 unfolding Level
 message syntax zero = never
 message syntax (suc d) = message_of syntax d (message syntax d)
 
 -- ---- services
 
-method_end : {n : ℕ} (d : ℕ) → Keeps n n (IsMethodEnd d) (All ShallowOptionStatement)
+pub method_end : {n : ℕ} (d : ℕ) → Keeps n n (IsMethodEnd d) (All ShallowOptionStatement)
 unfolding IsMethodEnd
 method_end d =
     either
     (do symbol 59 refl; nothing (All-nil ShallowOptionStatement))
     (weaker (λ a h. h.1) (braced (option d)))
 
-streamed : {n : ℕ} → Keeps n n IsStreamed Any
+pub streamed : {n : ℕ} → Keeps n n IsStreamed Any
 unfolding IsStreamed
 streamed = do
   symbol 40 refl
@@ -532,7 +532,7 @@ streamed = do
   symbol 41 refl
   done
 
-rpc : {n : ℕ} (d : ℕ) → Keeps n n (IsRpc d) ShallowMethod
+pub rpc : {n : ℕ} (d : ℕ) → Keeps n n (IsRpc d) ShallowMethod
 unfolding IsRpc
 rpc d =
     at_place (λ t. do
@@ -544,7 +544,7 @@ rpc d =
       options ← method_end d
       nothing options.1)
 
-stream : {n : ℕ} (d : ℕ) → Keeps n n (IsStream d) ShallowMethod
+pub stream : {n : ℕ} (d : ℕ) → Keeps n n (IsStream d) ShallowMethod
 unfolding IsStream
 stream d =
     at_place (λ t. do
@@ -558,12 +558,12 @@ stream d =
       options ← method_end d
       nothing options.1)
 
-stream_in : {n : ℕ} (syntax : Syntax) (d : ℕ) → Keeps n n (IsStreamIn syntax d) ShallowMethod
+pub stream_in : {n : ℕ} (syntax : Syntax) (d : ℕ) → Keeps n n (IsStreamIn syntax d) ShallowMethod
 unfolding IsStreamIn
 stream_in Proto2 d = stream d
 stream_in Proto3 d = never
 
-service_statement : {n : ℕ} (syntax : Syntax) (d : ℕ) →
+pub service_statement : {n : ℕ} (syntax : Syntax) (d : ℕ) →
     Keeps n n (IsServiceStatement syntax d) ShallowServiceStatement
 unfolding IsServiceStatement
 service_statement syntax d =
@@ -571,7 +571,7 @@ service_statement syntax d =
     (do m ← rpc d; nothing m.1)
     (either (do m ← stream_in syntax d; nothing m.1) (do o ← option d; nothing o.1))
 
-service : {n : ℕ} (syntax : Syntax) (d : ℕ) → Keeps n n (IsService syntax d) ShallowService
+pub service : {n : ℕ} (syntax : Syntax) (d : ℕ) → Keeps n n (IsService syntax d) ShallowService
 unfolding IsService
 service syntax d =
     at_place (λ t. do
@@ -582,31 +582,31 @@ service syntax d =
 
 -- ---- files
 
-version : {n : ℕ} → Keeps n n IsVersion Any
+pub version : {n : ℕ} → Keeps n n IsVersion Any
 unfolding IsVersion
 version = do pieces ← str; syntax ← such; done
 
-syntax_statement : {n : ℕ} → Keeps n n IsSyntax Any
+pub syntax_statement : {n : ℕ} → Keeps n n IsSyntax Any
 unfolding IsSyntax
 syntax_statement = do word; symbol 61 refl; syntax ← version; symbol 59 refl; done
 
-visibility : {n : ℕ} → Keeps n n IsVisibility Any
+pub visibility : {n : ℕ} → Keeps n n IsVisibility Any
 unfolding IsVisibility
 visibility = either (do word; done) (either (do word; done) (done))
 
-path : {n : ℕ} → Keeps n n IsPath Any
+pub path : {n : ℕ} → Keeps n n IsPath Any
 unfolding IsPath
 path = do pieces ← str; path ← such; done
 
-import_statement : {n : ℕ} → Keeps n n IsImport Any
+pub import_statement : {n : ℕ} → Keeps n n IsImport Any
 unfolding IsImport
 import_statement = at_place (λ t. do word; vis ← visibility; path ← path; symbol 59 refl; done)
 
-package_statement : {n : ℕ} → Keeps n n IsPackage Any
+pub package_statement : {n : ℕ} → Keeps n n IsPackage Any
 unfolding IsPackage
 package_statement = at_place (λ t. do word; name ← dotted; symbol 59 refl; done)
 
-file_statement : {n : ℕ} (syntax : Syntax) (d : ℕ) →
+pub file_statement : {n : ℕ} (syntax : Syntax) (d : ℕ) →
     Keeps n n (IsFileStatement syntax d) (Both ShallowStatement statement_depth n)
 unfolding IsFileStatement
 file_statement syntax d =
@@ -618,7 +618,7 @@ file_statement syntax d =
     (either (do e ← extend syntax d; nothing e.1)
     (do s ← service syntax d; nothing (s.1, omega (arith, l)))))))))
 
-file : (d : ℕ) → Keeps 0 0 (IsFileOf d) ShallowFile
+pub file : (d : ℕ) → Keeps 0 0 (IsFileOf d) ShallowFile
 unfolding IsFileOf
 file d = do
   syntax ← either syntax_statement (done)

@@ -1,12 +1,16 @@
 -- A text with a tree, and one without.
 use Rattle.std.proofs.Common.{◌≡◌, inl, inr, ◌⊎◌, ap, sym, subst}
 use Rattle.protobuf_parse_lexer.specs.Ahead.{nowhere}
+use Rattle.protobuf_parse_lexer.specs.AheadViews.{lies_ahead}
 use Rattle.protobuf_parse_lexer.specs.Cut.{Stream, HasTokens, IsRefused, out_of_memory}
 use Rattle.protobuf_parse_lexer.specs.Cut.{error_place as place_at}
 use Rattle.protobuf_parse_lexer.specs.Text.{Bytes}
+use Rattle.protobuf_parse_lexer.specs.Tokenizers.{LiesAhead}
+use Rattle.protobuf_parse_lexer.specs.declared.lexer.tokenizer.Tokenizer.{Tokenizer}
+use Rattle.protobuf_parse_lexer.specs.Tokens.{IsShallow}
 use Rattle.protobuf_parse_lexer.specs.declared.error.ParserErrorWithLocation.{ParserErrorWithLocation}
 use Rattle.protobuf_parse_lexer.specs.declared.lexer.token.Place.{Place}
-use Rattle.protobuf_parse_lexer.proofs.Ahead.{ends_somewhere}
+use Rattle.protobuf_parse_lexer.proofs.Ahead.{ends_somewhere, lies_ahead_is, lies_ahead_only}
 use Rattle.protobuf_parse_lexer.proofs.Refusals.{read_not_refused}
 use Rattle.protobuf_parse_syntax.specs.Grammar.{IsFile}
 use Rattle.protobuf_parse_syntax.specs.Parsing.{HasTree, IsGrammarFault, IsFaultOf}
@@ -18,6 +22,22 @@ pub its_tokens : (text : Bytes) (s : Stream) → (s.end ≡ nowhere) ⊎ HasToke
     → (s.end.line ≡ 0 → ⊥) → HasTokens text s
 its_tokens text s (inl e) whole = absurd (whole (ap (λ (p : Place). p.line) e))
 its_tokens text s (inr has) whole = has
+
+-- what a tokenizer of the text has ahead
+module _ (text : Bytes) (t : Tokenizer) where
+  pub read_ahead : ((s : Stream) → LiesAhead t s → (s.end ≡ nowhere) ⊎ HasTokens text s)
+      → ((lies_ahead t).end ≡ nowhere) ⊎ HasTokens text (lies_ahead t)
+  read_ahead read = read (lies_ahead t) (lies_ahead_is t)
+
+  pub reads_ahead : ((s : Stream) → HasTokens text s → LiesAhead t s)
+      → (s : Stream) → HasTokens text s → lies_ahead t ≡ s
+  reads_ahead reads s has = lies_ahead_only t s (reads s has)
+
+-- tokens that do not nest too deep, or do not go on to there
+pub shallow_or : (text : Bytes) (s : Stream) → (s.end ≡ nowhere) ⊎ HasTokens text s
+    → (s.end.line ≡ 0) ⊎ IsShallow s.tokens
+shallow_or text s (inl e) = inl (ap (λ (p : Place). p.line) e)
+shallow_or text s (inr has) = inr has.shallow
 
 -- a text that is refused has no tree
 pub refused_none : (text : Bytes) (e : ParserErrorWithLocation)

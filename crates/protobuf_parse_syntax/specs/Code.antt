@@ -10,7 +10,7 @@ use Rattle.protobuf_parse_base.specs.Relations.{Many}
 use Rattle.protobuf_parse_base.specs.Whole.{whole}
 use Rattle.protobuf_parse_base.specs.declared.proto_path.error.PathError.{PathError}
 use Rattle.protobuf_parse_lexer.specs.Text.{Bytes}
-use Rattle.protobuf_parse_lexer.specs.Tokenizers.{lies_ahead}
+use Rattle.protobuf_parse_lexer.specs.AheadViews.{lies_ahead}
 use Rattle.protobuf_parse_lexer.specs.Tokens.{Lexeme}
 use Rattle.protobuf_parse_lexer.specs.Classes.{Class, symbol, ident, is_one_of, float}
 use Rattle.protobuf_parse_lexer.specs.Classes.{is_floating}

@@ -286,11 +286,11 @@ IsOptionName = do
   Nothing (option_name first others)
 
 unfoldable pub IsAssignment : ℕ → Rel Lexeme OptionSyntax
-IsAssignment n = do
+IsAssignment n = At place_of λ place. do
   name ← IsOptionName
   IsSymbol char.equals
   value ← IsConstant n
-  Nothing (record { name = name; value = value })
+  Nothing (record { place = place; name = name; value = value })
 
 unfoldable pub IsOption : ℕ → Rel Lexeme OptionStatementSyntax
 IsOption n = At place_of λ place. do

@@ -237,11 +237,11 @@ assignment_shape = nested (ident_class [] ∷ symbol_class char.open_paren ∷ [
 unfoldable pub assignment : (n : ℕ)
     → Parts (IsAssignment n) (IsAssignment (suc n)) assignment_shape n
 unfolding IsAssignment
-assignment n = shaped assignment_shape (do
+assignment n = shaped assignment_shape (at (λ place. do
   name ← same option_name refl
   same (symbol char.equals) refl
   value ← constants n
-  give (record { name = name; value = value })) refl
+  give (record { place = place; name = name; value = value })) refl) refl
 
 abbrev pub option_shape : Shape Class
 option_shape = nested (word_class (codes "option") ∷ []) false []

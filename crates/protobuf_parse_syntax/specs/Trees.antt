@@ -146,6 +146,7 @@ pub data OptionNameSyntax : Type 0 where
   custom : List OptionPartSyntax → OptionNameSyntax
 
 pub record OptionSyntax : Type 0 where
+  pub place : Place
   pub name : OptionNameSyntax
   pub value : ConstantSyntax
 
@@ -162,7 +163,8 @@ option_name_syntax (option_name.Builtin n) = builtin (name_bytes n)
 option_name_syntax (option_name.Custom parts) = custom (map option_part_syntax parts.items)
 
 abbrev pub option_syntax : ProtobufOption → OptionSyntax
-option_syntax o = record { name = option_name_syntax o.name; value = constant_syntax o.value }
+option_syntax o =
+    record { place = o.place; name = option_name_syntax o.name; value = constant_syntax o.value }
 
 abbrev pub option_statement_syntax : OptionStatement → OptionStatementSyntax
 option_statement_syntax s = record { place = s.place; option = option_syntax s.option }

@@ -15,10 +15,11 @@ mod service;
 mod tables;
 mod words;
 
-ghost use Rattle.std.specs.Prelude.{◌≡◌, ◌≤◌, ◌<◌, ◌⊎◌, length, IfOk, IfErr};
+ghost use Rattle.std.specs.Prelude.{◌≡◌, ◌≤◌, ◌⊎◌, IfOk, IfErr};
 ghost use Rattle.protobuf_parse_lexer.specs.Cut.{out_of_memory};
 ghost use Rattle.protobuf_parse_lexer.specs.Cut.{error_place as place_at};
-ghost use Rattle.protobuf_parse_lexer.specs.Tokenizers.{lies_ahead};
+ghost use Rattle.protobuf_parse_lexer.specs.AheadViews.{lies_ahead};
+ghost use Rattle.protobuf_parse_lexer.specs.Tokens.{IsShallow};
 ghost use Rattle.protobuf_parse_syntax.specs.Code.{IsFaultOfTokens};
 ghost use Rattle.protobuf_parse_syntax.specs.Counts.{statements_in};
 ghost use Rattle.protobuf_parse_syntax.specs.Grammar.{IsFile};
@@ -33,6 +34,12 @@ use crate::parser::refusal::Refusal;
 use crate::tree::FileTree;
 use protobuf_parse_lexer::{ParserError, ParserErrorWithLocation, Tokenizer, tokenize};
 use std::alloc::Global;
+
+/// How many levels a part may have in which others of its kind stand: a constant, a type, a field or
+/// a message. Each but the innermost has a bracket of its own around what stands in it, and at most
+/// 100 brackets are open inside one another, so no part needs more. With each level the parser's
+/// calls nest deeper, and nowhere else.
+const LEVELS: usize = 101;
 
 /// The tree of a file's text, by the Protocol Buffers Language Specifications (proto2 and proto3).
 ///
@@ -61,8 +68,7 @@ pub fn parse_file(alloc: Global, text: &str) -> Result<FileTree, ParserErrorWith
     ensures tells { TellsFaults text.now result }
 {
     let tokens = Tokenizer::new(text)?;
-    // No part nests deeper than there are tokens, and these are no more than bytes.
-    match tree_of(alloc, tokens, text.len() + 1) {
+    match tree_of(alloc, tokens) {
         Ok(tree) => Ok(tree),
         Err(error) => {
             // A fault of the tokens comes before any of the grammar, wherever it stands.
@@ -72,13 +78,9 @@ pub fn parse_file(alloc: Global, text: &str) -> Result<FileTree, ParserErrorWith
     }
 }
 
-/// The tree of the tokens, of which there are less than `levels`.
-fn tree_of(
-    alloc: Global,
-    tokens: Tokenizer<'_>,
-    levels: usize,
-) -> Result<FileTree, ParserErrorWithLocation>
-    requires { length (lies_ahead tokens).tokens < levels }
+/// The tree of the tokens.
+fn tree_of(alloc: Global, tokens: Tokenizer<'_>) -> Result<FileTree, ParserErrorWithLocation>
+    requires { ((lies_ahead tokens).end.line ≡ 0) ⊎ IsShallow (lies_ahead tokens).tokens }
     // What is read is the one tree that the tokens say, and they go on to the text's end.
     ensures found { IfOk result (λ t. IsFile (lies_ahead tokens.entry).tokens (file_syntax t)) }
     ensures only { IfOk result (λ t. (u : FileSyntax) → IsFile (lies_ahead tokens.entry).tokens u
@@ -91,7 +93,7 @@ fn tree_of(
         ⊎ IsFaultOfTokens (lies_ahead tokens.entry) e) }
 {
     let mut left = Cursor::new(tokens);
-    let tree = match file(alloc, &mut left, levels) {
+    let tree = match file(alloc, &mut left, LEVELS) {
         Ok(tree) => tree,
         Err(refusal) => return Err(refusal.located(left.place())),
     };

@@ -10,17 +10,17 @@ use protobuf_parse::{
 use std::alloc::{AllocError, Global};
 use std::test::Fail;
 
-fn text(alloc: Global, words: &str) -> Result<String, AllocError> {
+pub fn text(alloc: Global, words: &str) -> Result<String, AllocError> {
     String::from_str(alloc, words)
 }
 
-fn one<T: Drop>(alloc: Global, item: T) -> Result<Vec<T>, AllocError> {
+pub fn one<T: Drop>(alloc: Global, item: T) -> Result<Vec<T>, AllocError> {
     let mut items = Vec::new(alloc);
     items.push(item)?;
     Ok(items)
 }
 
-fn no_file(alloc: Global) -> FileDescriptorProto {
+pub fn no_file(alloc: Global) -> FileDescriptorProto {
     FileDescriptorProto {
         name: None,
         package: None,
@@ -36,7 +36,7 @@ fn no_file(alloc: Global) -> FileDescriptorProto {
     }
 }
 
-fn no_message(alloc: Global, name: &str) -> Result<DescriptorProto, AllocError> {
+pub fn no_message(alloc: Global, name: &str) -> Result<DescriptorProto, AllocError> {
     Ok(DescriptorProto {
         name: Name::new(alloc, name)?,
         field: Vec::new(alloc),
@@ -51,7 +51,7 @@ fn no_message(alloc: Global, name: &str) -> Result<DescriptorProto, AllocError> 
     })
 }
 
-fn plain_field(alloc: Global, name: &str) -> Result<FieldDescriptorProto, AllocError> {
+pub fn plain_field(alloc: Global, name: &str) -> Result<FieldDescriptorProto, AllocError> {
     Ok(FieldDescriptorProto {
         name: Name::new(alloc, name)?,
         number: 1,
@@ -96,23 +96,28 @@ fn full_field(alloc: Global) -> Result<FieldDescriptorProto, AllocError> {
         oneof_index: Some(0),
         json_name,
         proto3_optional: true,
-        options: Some(Box::new(alloc, options)?),
+        options: Some(options),
     })
 }
 
-fn full_enum(alloc: Global) -> Result<EnumDescriptorProto, AllocError> {
-    let name = Name::new(alloc, "E")?;
-    let reserved_range = one(alloc, EnumReservedRange { start: -4, end: 4 })?;
-    let reserved_name = one(alloc, text(alloc, "x")?)?;
+fn full_values(alloc: Global) -> Result<Vec<EnumValueDescriptorProto>, AllocError> {
+    let name = Name::new(alloc, "V")?;
     let value = EnumValueDescriptorProto {
-        name: Name::new(alloc, "V")?,
+        name,
         number: -1,
         options: Some(EnumValueOptions {
             deprecated: Some(true),
             custom: Vec::new(alloc),
         }),
     };
-    let value = one(alloc, value)?;
+    one(alloc, value)
+}
+
+fn full_enum(alloc: Global) -> Result<EnumDescriptorProto, AllocError> {
+    let name = Name::new(alloc, "E")?;
+    let reserved_range = one(alloc, EnumReservedRange { start: -4, end: 4 })?;
+    let reserved_name = one(alloc, text(alloc, "x")?)?;
+    let value = full_values(alloc)?;
     let options = EnumOptions {
         allow_alias: Some(true),
         deprecated: Some(false),
@@ -125,6 +130,26 @@ fn full_enum(alloc: Global) -> Result<EnumDescriptorProto, AllocError> {
         reserved_name,
         options: Some(options),
     })
+}
+
+fn full_enums(alloc: Global) -> Result<Vec<EnumDescriptorProto>, AllocError> {
+    one(alloc, full_enum(alloc)?)
+}
+
+fn full_fields(alloc: Global) -> Result<Vec<FieldDescriptorProto>, AllocError> {
+    one(alloc, full_field(alloc)?)
+}
+
+fn full_oneofs(alloc: Global) -> Result<Vec<OneofDescriptorProto>, AllocError> {
+    one(alloc, full_oneof(alloc)?)
+}
+
+fn plain_fields(alloc: Global, name: &str) -> Result<Vec<FieldDescriptorProto>, AllocError> {
+    one(alloc, plain_field(alloc, name)?)
+}
+
+fn no_messages(alloc: Global, name: &str) -> Result<Vec<DescriptorProto>, AllocError> {
+    one(alloc, no_message(alloc, name)?)
 }
 
 fn full_oneof(alloc: Global) -> Result<OneofDescriptorProto, AllocError> {
@@ -141,16 +166,51 @@ const EXTENSIONS: ExtensionRange = ExtensionRange {
     end: 536870912,
 };
 
-fn full_message(alloc: Global) -> Result<DescriptorProto, AllocError> {
-    let mut message = no_message(alloc, "M")?;
-    message.field = one(alloc, full_field(alloc)?)?;
-    message.oneof_decl = one(alloc, full_oneof(alloc)?)?;
-    message.nested_type = one(alloc, no_message(alloc, "N")?)?;
-    message.enum_type = one(alloc, full_enum(alloc)?)?;
-    message.extension = one(alloc, plain_field(alloc, "y")?)?;
+// A message is handed on from step to step, so that none holds one over several calls that may fail.
+
+fn with_fields(alloc: Global, mut message: DescriptorProto) -> Result<DescriptorProto, AllocError> {
+    message.field = full_fields(alloc)?;
+    Ok(message)
+}
+
+fn with_oneofs(alloc: Global, mut message: DescriptorProto) -> Result<DescriptorProto, AllocError> {
+    message.oneof_decl = full_oneofs(alloc)?;
+    Ok(message)
+}
+
+fn with_messages(
+    alloc: Global,
+    mut message: DescriptorProto,
+) -> Result<DescriptorProto, AllocError> {
+    message.nested_type = no_messages(alloc, "N")?;
+    Ok(message)
+}
+
+fn with_enums(alloc: Global, mut message: DescriptorProto) -> Result<DescriptorProto, AllocError> {
+    message.enum_type = full_enums(alloc)?;
+    Ok(message)
+}
+
+fn with_extensions(
+    alloc: Global,
+    mut message: DescriptorProto,
+) -> Result<DescriptorProto, AllocError> {
+    message.extension = plain_fields(alloc, "y")?;
+    Ok(message)
+}
+
+fn with_ranges(alloc: Global, mut message: DescriptorProto) -> Result<DescriptorProto, AllocError> {
     message.extension_range = one(alloc, EXTENSIONS)?;
     message.reserved_range = one(alloc, ReservedRange { start: 4, end: 5 })?;
-    message.reserved_name = one(alloc, text(alloc, "foo")?)?;
+    Ok(message)
+}
+
+fn full_names(alloc: Global) -> Result<Vec<String>, AllocError> {
+    one(alloc, text(alloc, "foo")?)
+}
+
+fn with_names(alloc: Global, mut message: DescriptorProto) -> Result<DescriptorProto, AllocError> {
+    message.reserved_name = full_names(alloc)?;
     message.options = Some(MessageOptions {
         message_set_wire_format: None,
         no_standard_descriptor_accessor: None,
@@ -159,6 +219,21 @@ fn full_message(alloc: Global) -> Result<DescriptorProto, AllocError> {
         custom: Vec::new(alloc),
     });
     Ok(message)
+}
+
+fn full_message(alloc: Global) -> Result<DescriptorProto, AllocError> {
+    let message = no_message(alloc, "M")?;
+    let message = with_fields(alloc, message)?;
+    let message = with_oneofs(alloc, message)?;
+    let message = with_messages(alloc, message)?;
+    let message = with_enums(alloc, message)?;
+    let message = with_extensions(alloc, message)?;
+    let message = with_ranges(alloc, message)?;
+    with_names(alloc, message)
+}
+
+fn full_messages(alloc: Global) -> Result<Vec<DescriptorProto>, AllocError> {
+    one(alloc, full_message(alloc)?)
 }
 
 fn full_method(alloc: Global) -> Result<MethodDescriptorProto, AllocError> {
@@ -179,9 +254,13 @@ fn full_method(alloc: Global) -> Result<MethodDescriptorProto, AllocError> {
     })
 }
 
+fn full_methods(alloc: Global) -> Result<Vec<MethodDescriptorProto>, AllocError> {
+    one(alloc, full_method(alloc)?)
+}
+
 fn full_service(alloc: Global) -> Result<ServiceDescriptorProto, AllocError> {
     let name = Name::new(alloc, "S")?;
-    let method = one(alloc, full_method(alloc)?)?;
+    let method = full_methods(alloc)?;
     Ok(ServiceDescriptorProto {
         name,
         method,
@@ -190,6 +269,10 @@ fn full_service(alloc: Global) -> Result<ServiceDescriptorProto, AllocError> {
             custom: Vec::new(alloc),
         }),
     })
+}
+
+fn full_services(alloc: Global) -> Result<Vec<ServiceDescriptorProto>, AllocError> {
+    one(alloc, full_service(alloc)?)
 }
 
 fn file_options(alloc: Global) -> Result<FileOptions, AllocError> {
@@ -276,24 +359,86 @@ file
   syntax 
 ";
 
+fn imported(alloc: Global) -> Result<Vec<String>, AllocError> {
+    let mut paths = Vec::new(alloc);
+    for path in ["a.proto", "b.proto", "c.proto", "d.proto"] {
+        paths.push(text(alloc, path)?)?;
+    }
+    Ok(paths)
+}
+
+/// A file with its texts and its imports.
+fn named_file(alloc: Global) -> Result<FileDescriptorProto, AllocError> {
+    let name = text(alloc, "f.proto")?;
+    let syntax = text(alloc, "proto2")?;
+    let package = text(alloc, "p.q")?;
+    let dependency = imported(alloc)?;
+    // The fourth is both, and positions that no import has are passed over.
+    let public_dependency = vec![in alloc; 3, 1, -1, 9]?;
+    let weak_dependency = vec![in alloc; 2, 3]?;
+    let mut file = no_file(alloc);
+    file.name = Some(name);
+    file.syntax = Some(syntax);
+    file.package = Some(package);
+    file.dependency = dependency;
+    file.public_dependency = public_dependency;
+    file.weak_dependency = weak_dependency;
+    Ok(file)
+}
+
+fn file_with_options(
+    alloc: Global,
+    mut file: FileDescriptorProto,
+) -> Result<FileDescriptorProto, AllocError> {
+    file.options = Some(file_options(alloc)?);
+    Ok(file)
+}
+
+fn file_with_messages(
+    alloc: Global,
+    mut file: FileDescriptorProto,
+) -> Result<FileDescriptorProto, AllocError> {
+    file.message_type = full_messages(alloc)?;
+    Ok(file)
+}
+
+fn file_with_enums(
+    alloc: Global,
+    mut file: FileDescriptorProto,
+) -> Result<FileDescriptorProto, AllocError> {
+    file.enum_type = full_enums(alloc)?;
+    Ok(file)
+}
+
+fn file_with_services(
+    alloc: Global,
+    mut file: FileDescriptorProto,
+) -> Result<FileDescriptorProto, AllocError> {
+    file.service = full_services(alloc)?;
+    Ok(file)
+}
+
+fn file_with_extensions(
+    alloc: Global,
+    mut file: FileDescriptorProto,
+) -> Result<FileDescriptorProto, AllocError> {
+    file.extension = full_fields(alloc)?;
+    Ok(file)
+}
+
+fn full_file(alloc: Global) -> Result<FileDescriptorProto, AllocError> {
+    let file = named_file(alloc)?;
+    let file = file_with_options(alloc, file)?;
+    let file = file_with_messages(alloc, file)?;
+    let file = file_with_enums(alloc, file)?;
+    let file = file_with_services(alloc, file)?;
+    file_with_extensions(alloc, file)
+}
+
 #[test]
 fn lists_each_construct(rt: HostRuntime) -> Result<(), Fail> {
     let alloc = rt.alloc();
-    let mut file = no_file(alloc);
-    file.name = Some(text(alloc, "f.proto")?);
-    file.syntax = Some(text(alloc, "proto2")?);
-    file.package = Some(text(alloc, "p.q")?);
-    for path in ["a.proto", "b.proto", "c.proto", "d.proto"] {
-        file.dependency.push(text(alloc, path)?)?;
-    }
-    // The fourth is both, and positions that no import has are passed over.
-    file.public_dependency = vec![in alloc; 3, 1, -1, 9]?;
-    file.weak_dependency = vec![in alloc; 2, 3]?;
-    file.options = Some(file_options(alloc)?);
-    file.message_type.push(full_message(alloc)?)?;
-    file.enum_type.push(full_enum(alloc)?)?;
-    file.service.push(full_service(alloc)?)?;
-    file.extension.push(full_field(alloc)?)?;
+    let file = full_file(alloc)?;
     let files = vec![in alloc; file, no_file(alloc)]?;
     let listed = listing(alloc, &files)?;
     assert_eq!(rt; listed.as_str(), FULL);

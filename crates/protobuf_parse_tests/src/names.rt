@@ -1,6 +1,6 @@
 //! Names as values.
 
-use crate::hashing::hash_of;
+use crate::hashing::{alike, apart, hash_of};
 use protobuf_parse_base::names::{
     ProtobufAbsPath, ProtobufAbsPathRef, ProtobufIdent, ProtobufIdentRef, ProtobufRelPath,
     ProtobufRelPathRef,
@@ -183,35 +183,61 @@ fn packages(rt: HostRuntime) -> Result<(), Fail> {
 }
 
 #[test]
-fn equal_absolute_paths_hash_and_print_alike(rt: HostRuntime) -> Result<(), Fail> {
+fn names_and_paths_print_their_texts(rt: HostRuntime) -> Result<(), Fail> {
+    let alloc = rt.alloc();
+    let (path, owned_path) = (absolute(".a.b")?, absolute(".c.d")?.to_owned(alloc)?);
+    let shown = format!(in alloc; "{path} {owned_path}")?;
+    assert_eq!(rt; shown.as_str(), ".a.b .c.d");
+    let (path, owned_path) = (relative("a.b")?, relative("c.d")?.to_owned(alloc)?);
+    let shown = format!(in alloc; "{path} {owned_path}")?;
+    assert_eq!(rt; shown.as_str(), "a.b c.d");
+    let (name, owned_name) = (ident("a")?, ident("c")?.to_owned(alloc)?);
+    let shown = format!(in alloc; "{name} {owned_name}")?;
+    assert_eq!(rt; shown.as_str(), "a c");
+    Ok(())
+}
+
+#[test]
+fn absolute_paths_are_told_apart_by_their_texts(rt: HostRuntime) -> Result<(), Fail> {
+    let alloc = rt.alloc();
     let lent = absolute(".a.b")?;
-    let owned = lent.to_owned(rt.alloc())?;
-    assert!(rt; lent == owned.as_ref());
-    assert!(rt; lent != absolute(".a.c")?);
+    let owned = lent.to_owned(alloc)?;
+    assert!(rt; alike(&lent, &owned.as_ref()));
+    assert!(rt; alike(&owned, &lent.to_owned(alloc)?));
     assert_eq!(rt; hash_of(&lent), hash_of(&owned));
-    let shown = format!(in rt.alloc(); "{lent} {owned}")?;
-    assert_eq!(rt; shown.as_str(), ".a.b .a.b");
+    for other in ["", ".a", ".a.c", ".b.a", ".a.b.c", ".A.b"] {
+        assert!(rt; apart(&lent, &absolute(other)?));
+        assert!(rt; apart(&owned, &absolute(other)?.to_owned(alloc)?));
+    }
     Ok(())
 }
 
 #[test]
-fn equal_identifiers_hash_and_print_alike(rt: HostRuntime) -> Result<(), Fail> {
-    let lent = ident("x")?;
-    let owned = lent.to_owned(rt.alloc())?;
-    assert!(rt; lent == owned.as_ref());
+fn relative_paths_are_told_apart_by_their_texts(rt: HostRuntime) -> Result<(), Fail> {
+    let alloc = rt.alloc();
+    let lent = relative("a.b")?;
+    let owned = lent.to_owned(alloc)?;
+    assert!(rt; alike(&lent, &owned.as_ref()));
+    assert!(rt; alike(&owned, &lent.to_owned(alloc)?));
     assert_eq!(rt; hash_of(&lent), hash_of(&owned));
-    let shown = format!(in rt.alloc(); "{lent} {owned}")?;
-    assert_eq!(rt; shown.as_str(), "x x");
+    for other in ["", "a", "a.c", "b.a", "a.b.c", "A.b"] {
+        assert!(rt; apart(&lent, &relative(other)?));
+        assert!(rt; apart(&owned, &relative(other)?.to_owned(alloc)?));
+    }
     Ok(())
 }
 
 #[test]
-fn equal_relative_paths_hash_and_print_alike(rt: HostRuntime) -> Result<(), Fail> {
-    let lent = relative("x.y")?;
-    let owned = lent.to_owned(rt.alloc())?;
-    assert!(rt; lent == owned.as_ref());
+fn identifiers_are_told_apart_by_their_texts(rt: HostRuntime) -> Result<(), Fail> {
+    let alloc = rt.alloc();
+    let lent = ident("ab")?;
+    let owned = lent.to_owned(alloc)?;
+    assert!(rt; alike(&lent, &owned.as_ref()));
+    assert!(rt; alike(&owned, &lent.to_owned(alloc)?));
     assert_eq!(rt; hash_of(&lent), hash_of(&owned));
-    let shown = format!(in rt.alloc(); "{lent} {owned}")?;
-    assert_eq!(rt; shown.as_str(), "x.y x.y");
+    for other in ["a", "b", "ba", "abc", "Ab"] {
+        assert!(rt; apart(&lent, &ident(other)?));
+        assert!(rt; apart(&owned, &ident(other)?.to_owned(alloc)?));
+    }
     Ok(())
 }

@@ -1,7 +1,7 @@
 //! Proto paths as values.
 
-use crate::hashing::hash_of;
-use protobuf_parse_base::proto_path::{PathError, ProtoPath, ProtoPathBuf};
+use crate::hashing::{alike, apart, hash_of};
+use protobuf_parse_base::proto_path::{ProtoPath, ProtoPathBuf};
 use std::test::Fail;
 
 #[test]
@@ -10,8 +10,6 @@ fn accepted_texts(rt: HostRuntime) -> Result<(), Fail> {
     assert_eq!(rt; path.to_str(), "a/b.proto");
     assert_eq!(rt; path.to_path(), "a/b.proto");
     let owned = path.to_proto_path_buf(rt.alloc())?;
-    assert!(rt; owned.as_path() == path);
-    assert_eq!(rt; hash_of(&owned), hash_of(&path));
     assert_eq!(rt;
         format!(in rt.alloc(); "{path} {owned}")?.as_str(),
         "a/b.proto a/b.proto"
@@ -22,18 +20,17 @@ fn accepted_texts(rt: HostRuntime) -> Result<(), Fail> {
 }
 
 #[test]
-fn texts_of_faults(rt: HostRuntime) -> Result<(), Fail> {
-    let rows = [
-        (PathError::Empty, "path is empty"),
-        (PathError::Backslashes, "backslashes in path"),
-        (PathError::EmptyComponent, "path contains empty components"),
-        (PathError::Dot, "dot in path"),
-        (PathError::DotDot, "dot-dot in path"),
-        (PathError::Absolute, "path is absolute"),
-        (PathError::Memory, "out of memory"),
-    ];
-    for (fault, text) in rows {
-        assert_eq!(rt; format!(in rt.alloc(); "{fault}")?.as_str(), text);
+fn paths_are_told_apart_by_their_texts(rt: HostRuntime) -> Result<(), Fail> {
+    let alloc = rt.alloc();
+    let lent = ProtoPath::new("a/b")?;
+    let owned = lent.to_proto_path_buf(alloc)?;
+    assert!(rt; alike(&lent, &owned.as_path()));
+    assert!(rt; alike(&owned, &lent.to_proto_path_buf(alloc)?));
+    assert_eq!(rt; hash_of(&lent), hash_of(&owned));
+    for other in ["a", "a/c", "b/a", "a/b/c", "A/b", "a/ b"] {
+        let other = ProtoPath::new(other)?;
+        assert!(rt; apart(&lent, &other));
+        assert!(rt; apart(&owned, &other.to_proto_path_buf(alloc)?));
     }
     Ok(())
 }

@@ -42,6 +42,35 @@ impl<'a> ProtoPathResolver for Registry<'a> {
     }
 }
 
+/// Two resolvers: the second is asked for what the first one does not have.
+#[derive(Clone, Copy)]
+struct OneThenOther<'r, A, B> {
+    one: &'r A,
+    other: &'r B,
+}
+
+impl<'r, A: fmt::Display, B: fmt::Display> fmt::Display for OneThenOther<'r, A, B> {
+    fn fmt<W: fmt::Write>(&self, f: &mut fmt::Formatter<W>) -> fmt::Result {
+        let OneThenOther { one, other } = self;
+        write!(f, "{one} and {other}")
+    }
+}
+
+impl<'r, A: ProtoPathResolver, B: ProtoPathResolver> ProtoPathResolver for OneThenOther<'r, A, B> {
+    ghost may_answer = { λ _ _ _. Unit {0} };
+
+    fn resolve(
+        &self,
+        alloc: Global,
+        path: ProtoPath<'_>,
+    ) -> Result<Option<ResolvedProtoFile>, ResolveFault> {
+        match self.one.resolve(alloc, path)? {
+            Some(file) => Ok(Some(file)),
+            None => self.other.resolve(alloc, path),
+        }
+    }
+}
+
 fn found(alloc: Global, name: &str, text: &str) -> Result<Option<ResolvedProtoFile>, AllocError> {
     Ok(Some(ResolvedProtoFile {
         path: String::from_str(alloc, name)?,
@@ -95,5 +124,32 @@ fn reads_who_owns_a_message(rt: HostRuntime) -> Result<(), Fail> {
         }
     }
     assert_eq!(rt; owners.as_str(), "Item belongs to stock\n");
+    Ok(())
+}
+
+#[test]
+fn asks_one_resolver_and_then_another(rt: HostRuntime) -> Result<(), Fail> {
+    let alloc = rt.alloc();
+    let own = Registry {
+        schemas: &[("owner.proto", "message Owner {}")],
+    };
+    let others = Registry { schemas: SCHEMAS };
+    let both = OneThenOther {
+        one: &own,
+        other: &others,
+    };
+    let mut paths = Vec::new(alloc);
+    for path in ["owner.proto", "shop.proto"] {
+        paths.push(ProtoPathBuf::new(String::from_str(alloc, path)?)?)?;
+    }
+    let told = match parse_and_typecheck_custom(alloc, &paths, &both) {
+        Ok(_) => String::new(alloc),
+        Err(fault) => format!(in alloc; "{fault}")?,
+    };
+    // The first one's file stands, which declares no option.
+    assert_eq!(rt;
+        told.as_str(),
+        "error in `shop.proto`: E14 ExtensionNotFound: owner"
+    );
     Ok(())
 }

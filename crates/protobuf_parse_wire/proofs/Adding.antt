@@ -18,7 +18,7 @@ use Rattle.protobuf_parse_model.specs.Descriptors.{messages_of_list, message_par
 use Rattle.protobuf_parse_model.specs.Descriptors.{message_view_is, field_view, parts_seen}
 use Rattle.protobuf_parse_model.specs.Declarations.{Declared}
 use Rattle.protobuf_parse_wire.specs.declared.reader.index.Index.{Index}
-use Rattle.protobuf_parse_wire.specs.Groups.{group}
+use Rattle.protobuf_parse_base.specs.Multimaps.{values_under}
 use Rattle.std.specs.BTreeMap.{IsEmpty}
 use Rattle.protobuf_parse_wire.specs.Declarations as declarations
 use Rattle.protobuf_parse_wire.specs.Declarations.{Declaration, name_within, declared_message}
@@ -92,12 +92,13 @@ declared_list scope (m ∷ ms) = ap (λ ds. declared_message scope m ++ ds) (dec
 -- a message put under its name
 put_one : (d : Declaration) (r : Bor DescriptorProto) (old a : Index)
     → parts_seen (message_view r.now) ≡ d.parts → indexed_extensions a ≡ indexed_extensions old
-    → ((name : Text) → group a.messages name
-    ≡ cond (bytes_eq name d.name) (group old.messages name ++ r ∷ []) (group old.messages name))
+    → ((name : Text) → values_under a.messages name
+    ≡ cond (bytes_eq name d.name) (values_under old.messages name ++ r ∷ [])
+    (values_under old.messages name))
     → IndexAdds old a (d ∷ []) []
 put_one d r old a is same put = record {
   messages = λ name. ap (map (λ (m : Bor DescriptorProto). parts_seen (message_view m.now)))
-      (put name) ∙ by_test (bytes_eq name d.name) (group old.messages name);
+      (put name) ∙ by_test (bytes_eq name d.name) (values_under old.messages name);
   extensions = λ name. ap (λ (f : Text → List FieldDescriptor). f name) same
       ∙ sym (append-nil (indexed_extensions old name));
 }
@@ -120,8 +121,9 @@ added_parts : (scope name : Text) (m : MessageDescriptor) (parts : MessageParts)
     → message_view r.now ≡ m → m ≡ a_message parts (messages_of_list ms)
     → name ≡ name_within scope parts.name
     → indexed_extensions a ≡ indexed_extensions old
-    → ((q : Text) → group a.messages q
-    ≡ cond (bytes_eq q name) (group old.messages q ++ r ∷ []) (group old.messages q))
+    → ((q : Text) → values_under a.messages q
+    ≡ cond (bytes_eq q name) (values_under old.messages q ++ r ∷ [])
+    (values_under old.messages q))
     → IndexAdds a b [] parts.extension → AddsMessages b new (flat_map (declared_message name) ms)
     → AddsMessages old new (declared_message scope m)
 added_parts scope name m parts ms r old a b new is apart named same put extensions nested =
@@ -147,8 +149,9 @@ added_parts scope name m parts ms r old a b new is apart named same put extensio
 pub message_added : (scope name : Text) (r : Bor DescriptorProto) (old a b new : Index)
     → name ≡ name_within scope (name_bytes (out-DescriptorProto r.now).name)
     → indexed_extensions a ≡ indexed_extensions old
-    → ((q : Text) → group a.messages q
-    ≡ cond (bytes_eq q name) (group old.messages q ++ r ∷ []) (group old.messages q))
+    → ((q : Text) → values_under a.messages q
+    ≡ cond (bytes_eq q name) (values_under old.messages q ++ r ∷ [])
+    (values_under old.messages q))
     → IndexAdds a b [] (map field_view (out-DescriptorProto r.now).extension.items)
     → AddsMessages b new
     (flat_map (declared_message name)

@@ -1,16 +1,16 @@
 -- What is spelled is read.
 use Rattle.std.proofs.Common.{◌≡◌, ℕ, pos, zero, suc, ◌+◌, ◌*◌, ◌/◌, ◌%◌, ◌^◌, ◌<◌, ◌≤◌, Bool, true}
 use Rattle.std.proofs.Common.{false, List, [], ◌∷◌, ◌++◌, get_or, length, Option, Some, Ok, refl}
-use Rattle.std.proofs.Common.{sym, ap, subst, ◌∙◌, length-append, arith}
+use Rattle.std.proofs.Common.{option_map, sym, ap, subst, ◌∙◌, length-append, arith}
 use Rattle.std.specs.Prelude.{not, ◌&&◌, ◌||◌}
 use Rattle.std.specs.List.{list_any}
 use Rattle.std.specs.Ordering.{int_eq}
 use Rattle.std.proofs.lemmas.Cmp.{int_eq_equiv}
+use Rattle.protobuf_parse_model.specs.declared.descriptor.FieldType.{FieldType}
+use Rattle.protobuf_parse_model.specs.declared.descriptor.FieldType.TheVariants as types
 use Rattle.protobuf_parse_model.specs.Descriptors.{Text, FileDescriptor, FieldDescriptor}
 use Rattle.protobuf_parse_wire.specs.declared.kind.Kind.{Kind}
-use Rattle.protobuf_parse_wire.specs.Kinds.{varint, eight_bytes, four_bytes, KindShape, whole}
-use Rattle.protobuf_parse_wire.specs.Kinds.{truth}
-use Rattle.protobuf_parse_wire.specs.Kinds.{text, octets, message, shape_of_kind, wire_type}
+use Rattle.protobuf_parse_wire.specs.Kinds.{shape_of_type, shape_of_kind, wire_type}
 use Rattle.protobuf_parse_wire.specs.Kinds.{kind_of_field_type}
 use Rattle.protobuf_parse_wire.specs.Trees as trees
 use Rattle.protobuf_parse_wire.specs.Trees.{EntryTree, Entries, ValueTree, Field}
@@ -25,6 +25,7 @@ use Rattle.protobuf_parse_wire.specs.Law.{ValueSuits, SpelledIsRead}
 use Rattle.protobuf_parse_wire.proofs.Varint.{varint_again}
 use Rattle.protobuf_parse_wire.proofs.Back.{number_again, truth_again, bytes_again, inside_again}
 use Rattle.protobuf_parse_wire.proofs.Levels.{value_is}
+use Rattle.protobuf_parse_wire.proofs.Records.{small_wire}
 
 -- ---- the field that a number names
 
@@ -75,6 +76,31 @@ entered_ok files name P e = rw (e.once, e.distinct) refl
 
 -- ---- records
 
+-- A kind is written as values of its type are read.
+shape_is : (t : FieldType) (k : Kind) → kind_of_field_type t ≡ Some k
+    → shape_of_type t ≡ Some (shape_of_kind k)
+shape_is t k is = each t ∙ ap (option_map shape_of_kind) is
+  where
+    each : (u : FieldType) → shape_of_type u ≡ option_map shape_of_kind (kind_of_field_type u)
+    each types.Int32 = refl
+    each types.Int64 = refl
+    each types.Uint32 = refl
+    each types.Uint64 = refl
+    each types.Sint32 = refl
+    each types.Sint64 = refl
+    each types.Fixed32 = refl
+    each types.Sfixed32 = refl
+    each types.Fixed64 = refl
+    each types.Sfixed64 = refl
+    each types.Bool = refl
+    each types.String = refl
+    each types.Bytes = refl
+    each types.Enum = refl
+    each types.Message = refl
+    each types.Float = refl
+    each types.Double = refl
+    each types.Group = refl
+
 record_again : (inner : Inner) (numbers : FieldsByNumber) (n : ℕ) (k : Kind) (f : FieldDescriptor)
     (v : ValueTree) (tag payload more : List ℕ) → numbers n ≡ Some f
     → kind_of_field_type f.type_ ≡ Some k
@@ -92,18 +118,10 @@ record_again inner numbers n k f v tag payload more is kind lt spelled e =
       varint_again tag t (payload ++ more) (omega arith) spelled,
       high,
       low,
-      value_is inner (numbers n) f k (wire_type (shape_of_kind k)) (payload ++ more) is kind refl,
+      value_is inner (numbers n) f (shape_of_kind k) (wire_type (shape_of_kind k))
+          (payload ++ more) is (shape_is f.type_ k kind) refl,
       e,
     ) refl
-  where
-    small_wire : (s : KindShape) → wire_type s < 8
-    small_wire (whole varint w c) = omega arith
-    small_wire (whole eight_bytes w c) = omega arith
-    small_wire (whole four_bytes w c) = omega arith
-    small_wire truth = omega arith
-    small_wire text = omega arith
-    small_wire octets = omega arith
-    small_wire message = omega arith
 
 records_step : (inner : Inner) (numbers : FieldsByNumber) (n : ℕ) (bs : List ℕ) (f : Field)
     (rest : List ℕ)

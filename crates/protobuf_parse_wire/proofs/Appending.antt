@@ -25,14 +25,16 @@ longer byte r [] many is h = absurd h.chain
 longer byte r (c ∷ cs) many is h =
     let v : r / 128 ≡ groups (c ∷ cs) = h.value in
     record {
-      chain = (omega arith, omega arith, h.chain);
+      bytes = (omega arith, h.bytes);
+      chain = (omega arith, h.chain);
       shortest =
           ends_above c cs (r / 128) (omega arith) h;
       value = omega arith;
     }
 
 pub last : (r : ℕ) → r < 128 → IsVarint (r ∷ []) r
-last r lt = record { chain = lt; shortest = tt; value = omega arith }
+last r lt =
+    record { bytes = (omega arith, tt); chain = lt; shortest = tt; value = omega arith }
 
 pub entry_is : (e : Entry)
     → entry_view e ≡ record { number = e.number; kind = e.kind; value = entry_value_view e.value }

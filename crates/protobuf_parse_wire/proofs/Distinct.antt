@@ -26,7 +26,7 @@ use Rattle.protobuf_parse_model.specs.declared.descriptor.DescriptorProto.{out-D
 use Rattle.protobuf_parse_wire.specs.declared.fault.ReadFault.TheVariants.{AmbiguousNumber}
 use Rattle.protobuf_parse_wire.specs.Declarations.{field_numbered, have_distinct_numbers}
 use Rattle.protobuf_parse_wire.specs.Reading.{FieldsByNumber, by_number, entered}
-use Rattle.protobuf_parse_wire.specs.Groups.{group}
+use Rattle.protobuf_parse_base.specs.Multimaps.{values_under}
 use Rattle.protobuf_parse_wire.specs.declared.reader.index.Index.{Index}
 use Rattle.protobuf_parse_wire.specs.Indexed.{entered_by, numbered, IsByNumber, Indexes}
 
@@ -166,8 +166,8 @@ module _ (m : BTreeMap ℤ (Bor FieldDescriptorProto)) (fs : List FieldDescripto
 -- the message of the name that exactly one message has
 pub entered_one : (index : Index) (name : Text) (m : Bor DescriptorProto)
     (fs : List FieldDescriptorProto) (es : List (Bor FieldDescriptorProto))
-    → group index.messages name ≡ m ∷ [] → fs ≡ (out-DescriptorProto m.now).field.items
-    → es ≡ group index.extensions name
+    → values_under index.messages name ≡ m ∷ [] → fs ≡ (out-DescriptorProto m.now).field.items
+    → es ≡ values_under index.extensions name
     → entered_by index (Some name) ≡ by_number (map field_view fs ++ map seen es)
 entered_one index name m fs es one own others =
     let parts : (parts_seen (message_view m.now)).field

@@ -1,15 +1,16 @@
 -- One level of a message, and one record, by what the code found.
 use Rattle.std.proofs.Common.{◌≡◌, ℕ, zero, suc, ◌-◌, List, length, Option, Some, Ok, Err, refl}
-use Rattle.std.proofs.Common.{sym, ap, arith}
+use Rattle.std.proofs.Common.{None, option_map, sym, ap, ◌∙◌, arith}
+use Rattle.std.specs.Prelude.{IsSome}
 use Rattle.std.proofs.lemmas.Bool.{eq-eqb}
 use Rattle.protobuf_parse_model.specs.Descriptors.{Text, FieldDescriptor}
-use Rattle.protobuf_parse_wire.specs.declared.kind.Kind.{Kind}
 use Rattle.protobuf_parse_wire.specs.declared.fault.ReadFault.{ReadFault}
 use Rattle.protobuf_parse_wire.specs.declared.fault.ReadFault.TheVariants.{TooDeep}
-use Rattle.protobuf_parse_wire.specs.Kinds.{shape_of_kind, wire_type, kind_of_field_type}
+use Rattle.protobuf_parse_wire.specs.Kinds.{KindShape, shape_of_type, wire_type}
 use Rattle.protobuf_parse_wire.specs.Reading.{WireRead, Inner, FieldsByNumber, value_at, typed_at}
 use Rattle.protobuf_parse_wire.specs.Reading.{payload_at}
 use Rattle.protobuf_parse_wire.specs.Reading.{records, message_at}
+use Rattle.protobuf_parse_wire.specs.Views.{payload_of_type}
 
 pub too_deep : (enter : Option Text → WireRead FieldsByNumber) (levels : ℕ) (name : Option Text)
     (bs : List ℕ)
@@ -36,10 +37,32 @@ one_level enter (suc n) name bs numbers some is =
     let k : n ≡ suc n - 1 = omega arith in
     rw is (ap (λ m. records (message_at enter m) numbers (length bs) bs) k)
 
-pub value_is : (inner : Inner) (named : Option FieldDescriptor) (f : FieldDescriptor) (kind : Kind)
-    (wire : ℕ) (bs : List ℕ) → named ≡ Some f → kind_of_field_type f.type_ ≡ Some kind
-    → wire_type (shape_of_kind kind) ≡ wire
-    → value_at inner named wire bs ≡ payload_at inner f.type_name (shape_of_kind kind) bs
+pub value_is : (inner : Inner) (named : Option FieldDescriptor) (f : FieldDescriptor)
+    (s : KindShape) (wire : ℕ) (bs : List ℕ) → named ≡ Some f → shape_of_type f.type_ ≡ Some s
+    → wire_type s ≡ wire
+    → value_at inner named wire bs ≡ payload_at inner f.type_name s bs
 unfolding value_at typed_at
-value_is inner named f kind wire bs is has_kind fits =
-    rw (is, has_kind, eq-eqb wire (wire_type (shape_of_kind kind)) (sym fits)) refl
+value_is inner named f s wire bs is shaped fits =
+    rw (is, shaped, eq-eqb wire (wire_type s) (sym fits)) refl
+
+-- the same where the wire type that the type has is known
+pub value_found : (inner : Inner) (named : Option FieldDescriptor) (f : FieldDescriptor)
+    (expected wire : ℕ) (bs : List ℕ) → named ≡ Some f
+    → Some expected ≡ option_map wire_type (shape_of_type f.type_) → expected ≡ wire
+    → value_at inner named wire bs
+    ≡ payload_of_type inner f.type_name (shape_of_type f.type_) bs
+value_found inner named f expected wire bs is has same = by_shape (shape_of_type f.type_) refl has
+  where
+    by_shape : (o : Option KindShape) → shape_of_type f.type_ ≡ o
+        → Some expected ≡ option_map wire_type o
+        → value_at inner named wire bs ≡ payload_of_type inner f.type_name o bs
+    by_shape None shaped h = absurd (cc)
+    by_shape (Some s) shaped h =
+        let fits : expected ≡ wire_type s = cc in
+        value_is inner named f s wire bs is shaped (sym fits ∙ same)
+
+-- a type that has a wire type is one that is read
+pub is_read : (expected : ℕ) (o : Option KindShape) → Some expected ≡ option_map wire_type o
+    → IsSome o
+is_read expected None h = absurd (cc)
+is_read expected (Some s) h = refl

@@ -6,6 +6,7 @@ pub mod Loop
 pub mod Records
 pub mod Levels
 pub mod Varint
+pub mod Varints
 pub mod Back
 pub mod Again
 pub mod Appending

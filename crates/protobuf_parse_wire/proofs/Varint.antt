@@ -1,20 +1,22 @@
 -- What a varint spells is read.
-use Rattle.std.proofs.Common.{◌≡◌, ℕ, zero, suc, ◌+◌, ◌*◌, ◌%◌, ◌^◌, ◌<◌, false, ltb, List, [], ◌∷◌}
-use Rattle.std.proofs.Common.{◌++◌, length, Result, Ok, refl, sym, ap, ◌∙◌, append_assoc}
+use Rattle.std.proofs.Common.{◌≡◌, ℕ, zero, suc, ◌+◌, ◌*◌, ◌%◌, ◌^◌, ◌<◌, ◌≤◌, false, ltb, List}
+use Rattle.std.proofs.Common.{[], ◌∷◌, ◌++◌, length, Result, Ok, refl, ap, ◌∙◌, append_assoc}
 use Rattle.std.proofs.Common.{length-append, arith}
 use Rattle.std.specs.Int.{w32, w64, to_le_bytes, from_le_bytes}
-use Rattle.std.proofs.lemmas.Bool.{lt-ltb, le-ltb}
+use Rattle.std.proofs.lemmas.Bool.{le-ltb}
 use Rattle.std.proofs.lemmas.List.{take_at, drop_at}
 use Rattle.std.proofs.lemmas.Nat.{from_le_bytes-to_le_bytes_4, from_le_bytes-to_le_bytes_8}
 use Rattle.protobuf_parse_wire.specs.Wire.{groups, IsChain, EndsAboveZero, IsShortest, IsVarint}
 use Rattle.protobuf_parse_wire.specs.Wire.{SaysDelimited}
 use Rattle.protobuf_parse_wire.specs.Reading.{◌>>=◌, varint_at, part_at, delimited_at, four_at}
 use Rattle.protobuf_parse_wire.specs.Reading.{eight_at}
+use Rattle.protobuf_parse_wire.specs.Varints.{IsAnyVarint}
+use Rattle.protobuf_parse_wire.proofs.Varints.{varint_reads}
 
 pub positive : (b : ℕ) (bs : List ℕ) → IsChain (b ∷ bs) → EndsAboveZero (b ∷ bs)
     → 0 < groups (b ∷ bs)
 positive b [] chain ends = omega arith
-positive b (c ∷ bs) chain ends = let h = positive c bs chain.2 ends in omega arith
+positive b (c ∷ bs) chain ends = let h = positive c bs chain.1 ends in omega arith
 
 pub shortest_inside : (c : ℕ) (cs : List ℕ) → EndsAboveZero (c ∷ cs) → IsShortest (c ∷ cs)
 shortest_inside c [] ends = tt
@@ -25,33 +27,36 @@ abbrev below : ℕ → ℕ
 below zero = 1
 below (suc n) = 128 * below n
 
-again : (n b : ℕ) (bs rest : List ℕ) → IsChain (b ∷ bs) → IsShortest (b ∷ bs) → 0 < n
-    → groups (b ∷ bs) < below n → groups (b ∷ bs) < 2 ^ 64
-    → varint_at n (b ∷ (bs ++ rest)) ≡ Ok (groups (b ∷ bs), rest)
-unfolding varint_at
-again zero b bs rest chain ends more fits lt = absurd (omega arith)
-again (suc n) b [] rest chain ends more fits lt =
-    let same : b ≡ b % 128 + 128 * 0 = omega arith in
-    rw (lt-ltb b 128 chain) (ap (λ (x : ℕ). Ok (x, rest)) same)
-again (suc n) b (c ∷ cs) rest chain ends more fits lt =
-    let above : 0 < groups (c ∷ cs) = positive c cs chain.2 ends in
+-- the shortest varint has no more bytes than its number needs
+few : (n b : ℕ) (bs : List ℕ) → IsChain (b ∷ bs) → IsShortest (b ∷ bs) → 0 < n
+    → groups (b ∷ bs) < below n → length (b ∷ bs) ≤ n
+few zero b bs chain ends more fits = absurd (omega arith)
+few (suc n) b [] chain ends more fits = omega arith
+few (suc n) b (c ∷ cs) chain ends more fits =
+    let above : 0 < groups (c ∷ cs) = positive c cs chain.1 ends in
     let some : 0 < n = some_left n (b % 128) (groups (c ∷ cs)) above fits in
-    let ih : varint_at n (c ∷ (cs ++ rest))
-    ≡ Ok (groups (c ∷ cs), rest) =
-    again n c cs rest chain.2 (shortest_inside c cs ends) some (omega arith) (omega arith) in
-    rw (le-ltb b 128 chain.0, ih, lt-ltb (b % 128 + 128 * groups (c ∷ cs)) (2 ^ 64) lt) refl
+    let others = few n c cs chain.1 (shortest_inside c cs ends) some (omega arith) in
+    omega arith
   where
     some_left : (n low high : ℕ) → 0 < high → low + 128 * high < below (suc n) → 0 < n
     some_left zero low high above fits = absurd (omega arith)
     some_left (suc n) low high above fits = omega arith
 
+-- what is spelled is a varint
+pub spelled_varint : (bs : List ℕ) (u : ℕ) → u < 2 ^ 64 → IsVarint bs u → IsAnyVarint bs u
+spelled_varint [] u lt h = absurd h.chain
+spelled_varint (b ∷ bs) u lt h =
+    let is = h.value in
+    record {
+      chain = h.chain;
+      at_most_ten = few 10 b bs h.chain h.shortest (omega arith) (omega arith);
+      value = h.value;
+      fits = lt;
+    }
+
 pub varint_again : (bs : List ℕ) (u : ℕ) (rest : List ℕ) → u < 2 ^ 64 → IsVarint bs u
     → varint_at 10 (bs ++ rest) ≡ Ok (u, rest)
-varint_again [] u rest lt h = absurd h.chain
-varint_again (b ∷ bs) u rest lt h =
-    let is = h.value in
-    again 10 b bs rest h.chain h.shortest (omega arith) (omega arith) (omega arith)
-    ∙ ap (λ (x : ℕ). Ok (x, rest)) (sym is)
+varint_again bs u rest lt h = varint_reads.gives bs u rest (spelled_varint bs u lt h)
 
 pub part_again : (text rest : List ℕ) (n : ℕ) → length text ≡ n
     → part_at n (text ++ rest) ≡ Ok (text, rest)

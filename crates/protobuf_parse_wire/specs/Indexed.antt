@@ -15,7 +15,7 @@ use Rattle.protobuf_parse_model.specs.Descriptors.{message_view, field_view}
 use Rattle.protobuf_parse_wire.specs.declared.fault.ReadFault.TheVariants.{UnknownMessage}
 use Rattle.protobuf_parse_wire.specs.declared.reader.index.Index.{Index}
 use Rattle.protobuf_parse_wire.specs.declared.reader.visited.Visited.{Visited}
-use Rattle.protobuf_parse_wire.specs.Groups.{group}
+use Rattle.protobuf_parse_base.specs.Multimaps.{values_under}
 use Rattle.protobuf_parse_wire.specs.Declarations.{Declaration, messages_named, messages_with_name}
 use Rattle.protobuf_parse_wire.specs.Declarations.{extends, extensions_extending}
 use Rattle.protobuf_parse_wire.specs.Declarations.{have_distinct_numbers}
@@ -24,11 +24,12 @@ use Rattle.protobuf_parse_wire.specs.Reading.{WireRead, FieldsByNumber, only_one
 -- what the index has under a name
 abbrev pub indexed_messages : Index → Text → List MessageParts
 indexed_messages index name =
-    map (λ (m : Bor DescriptorProto). parts_seen (message_view m.now)) (group index.messages name)
+    map (λ (m : Bor DescriptorProto). parts_seen (message_view m.now))
+    (values_under index.messages name)
 
 abbrev pub indexed_extensions : Index → Text → List FieldDescriptor
 indexed_extensions index name =
-    map (λ (f : Bor FieldDescriptorProto). field_view f.now) (group index.extensions name)
+    map (λ (f : Bor FieldDescriptorProto). field_view f.now) (values_under index.extensions name)
 
 -- entering a message by the index
 abbrev pub entered_by : Index → Option Text → WireRead FieldsByNumber

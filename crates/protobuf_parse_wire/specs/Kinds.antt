@@ -31,6 +31,28 @@ pub data KindShape : Type 0 where
   octets : KindShape
   message : KindShape
 
+-- how values of a field's type stand on the wire; those of floats and groups aren't read
+abbrev pub shape_of_type : FieldType → Option KindShape
+shape_of_type types.Int32 = Some (whole varint w32 twos_complement)
+shape_of_type types.Int64 = Some (whole varint w64 twos_complement)
+shape_of_type types.Uint32 = Some (whole varint w32 unsigned)
+shape_of_type types.Uint64 = Some (whole varint w64 unsigned)
+shape_of_type types.Sint32 = Some (whole varint w32 zigzag)
+shape_of_type types.Sint64 = Some (whole varint w64 zigzag)
+shape_of_type types.Fixed32 = Some (whole four_bytes w32 unsigned)
+shape_of_type types.Sfixed32 = Some (whole four_bytes w32 twos_complement)
+shape_of_type types.Fixed64 = Some (whole eight_bytes w64 unsigned)
+shape_of_type types.Sfixed64 = Some (whole eight_bytes w64 twos_complement)
+shape_of_type types.Bool = Some truth
+shape_of_type types.String = Some text
+shape_of_type types.Bytes = Some octets
+shape_of_type types.Enum = Some (whole varint w32 twos_complement)
+shape_of_type types.Message = Some message
+shape_of_type types.Float = None
+shape_of_type types.Double = None
+shape_of_type types.Group = None
+
+-- the same of what is written, by its kind
 abbrev pub shape_of_kind : Kind → KindShape
 shape_of_kind kinds.Int32 = whole varint w32 twos_complement
 shape_of_kind kinds.Int64 = whole varint w64 twos_complement

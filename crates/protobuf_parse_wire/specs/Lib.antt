@@ -1,9 +1,9 @@
-pub mod Groups
 pub mod Kinds
 pub mod Trees
 pub mod Wire
 pub mod Declarations
 pub mod Reading
+pub mod Varints
 pub mod Records
 pub mod Law
 pub mod Writing

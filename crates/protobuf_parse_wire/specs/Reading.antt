@@ -10,7 +10,6 @@ use mir.Syntax.{Width}
 use mir.Val.{bits}
 use Rattle.protobuf_parse_model.specs.Descriptors.{Text, FileDescriptor, FieldDescriptor}
 use Rattle.protobuf_parse_model.specs.Descriptors.{MessageParts}
-use Rattle.protobuf_parse_wire.specs.declared.kind.Kind.{Kind}
 use Rattle.protobuf_parse_wire.specs.declared.fault.ReadFault.{ReadFault}
 use Rattle.protobuf_parse_wire.specs.declared.fault.ReadFault.TheVariants.{UnknownMessage}
 use Rattle.protobuf_parse_wire.specs.declared.fault.ReadFault.TheVariants.{UnknownNumber}
@@ -21,8 +20,7 @@ use Rattle.protobuf_parse_wire.specs.declared.fault.ReadFault.TheVariants.{Float
 use Rattle.protobuf_parse_wire.specs.declared.fault.ReadFault.TheVariants.{Memory}
 use Rattle.protobuf_parse_wire.specs.Kinds.{Word, varint, eight_bytes, four_bytes, Code, unsigned}
 use Rattle.protobuf_parse_wire.specs.Kinds.{twos_complement, zigzag, KindShape, whole, truth, text}
-use Rattle.protobuf_parse_wire.specs.Kinds.{octets, message, shape_of_kind, wire_type}
-use Rattle.protobuf_parse_wire.specs.Kinds.{kind_of_field_type}
+use Rattle.protobuf_parse_wire.specs.Kinds.{octets, message, shape_of_type, wire_type}
 use Rattle.protobuf_parse_wire.specs.Trees as trees
 use Rattle.protobuf_parse_wire.specs.Trees.{ValueTree, Field, fields_of_list}
 use Rattle.protobuf_parse_wire.specs.Declarations.{messages_with_name, extensions_extending}
@@ -121,19 +119,18 @@ payload_at inner name message bs = do
   fields ← inner name part.0
   Ok (trees.message (fields_of_list fields), part.1)
 
--- the kind, then the wire type, then the payload
-unfoldable pub typed_at : Inner → Option Text → Option Kind → ℕ → List ℕ
+-- the type, then the wire type, then the payload
+unfoldable pub typed_at : Inner → Option Text → Option KindShape → ℕ → List ℕ
     → WireRead (ValueTree × List ℕ)
 typed_at inner name None wire bs = Err FloatOrGroup
-typed_at inner name (Some kind) wire bs =
-    if wire == wire_type (shape_of_kind kind) then payload_at inner name (shape_of_kind kind) bs
-    else Err WrongWireType
+typed_at inner name (Some s) wire bs =
+    if wire == wire_type s then payload_at inner name s bs else Err WrongWireType
 
 -- the field that the number names, then the rest
 unfoldable pub value_at : Inner → Option FieldDescriptor → ℕ → List ℕ
     → WireRead (ValueTree × List ℕ)
 value_at inner None wire bs = Err UnknownNumber
-value_at inner (Some f) wire bs = typed_at inner f.type_name (kind_of_field_type f.type_) wire bs
+value_at inner (Some f) wire bs = typed_at inner f.type_name (shape_of_type f.type_) wire bs
 
 -- a tag, which is eight times the number and the wire type, and a value
 unfoldable pub record_at : Inner → FieldsByNumber → List ℕ → WireRead (Field × List ℕ)

@@ -1,5 +1,7 @@
 -- The code's entries and fields without where they lie in memory.
-use Rattle.std.specs.Prelude.{ℕ, ℤ, pos, List, [], ◌∷◌, map}
+use Rattle.std.specs.Prelude.{ℕ, ℤ, pos, List, [], ◌∷◌, map, Option, Some, None, Err}
+use Rattle.protobuf_parse_model.specs.Descriptors.{Text}
+use Rattle.protobuf_parse_wire.specs.declared.fault.ReadFault.TheVariants.{FloatOrGroup}
 use Rattle.protobuf_parse_wire.specs.declared.kind.Kind.{Kind}
 use Rattle.protobuf_parse_wire.specs.declared.entry.Entry.{Entry, fold-Entry}
 use Rattle.protobuf_parse_wire.specs.declared.entry.EntryValue.{EntryValue, fold-EntryValue}
@@ -9,7 +11,7 @@ use Rattle.protobuf_parse_wire.specs.declared.field.ReadValue.{ReadValue, fold-R
 use Rattle.protobuf_parse_wire.specs.declared.field.ReadValue.TheOpen.{ReadValue-F, ReadField-F}
 use Rattle.protobuf_parse_wire.specs.Kinds as kinds
 use Rattle.protobuf_parse_wire.specs.Kinds.{KindShape}
-use Rattle.protobuf_parse_wire.specs.Reading.{decoded}
+use Rattle.protobuf_parse_wire.specs.Reading.{WireRead, Inner, decoded, payload_at}
 use Rattle.protobuf_parse_wire.specs.Trees.{EntryTree, Entries, ValueTree, Field, fields_of_list}
 use Rattle.protobuf_parse_wire.specs.Trees.{number, truth, bytes, message, no_entries, entry}
 
@@ -57,18 +59,26 @@ read_value_view = fold-ReadValue ValueTree Field value_step field_step
 abbrev pub read_field_view : ReadField → Field
 read_field_view = fold-ReadField ValueTree Field value_step field_step
 
--- Values of the kind are whole numbers.
-abbrev pub HasNumber : KindShape → Type 0
-HasNumber (kinds.whole word w code) = Unit {0}
-HasNumber kinds.truth = ⊥
-HasNumber kinds.text = ⊥
-HasNumber kinds.octets = ⊥
-HasNumber kinds.message = ⊥
+-- Values of such a type are whole numbers.
+abbrev pub HasNumber : Option KindShape → Type 0
+HasNumber (Some (kinds.whole word w code)) = Unit {0}
+HasNumber (Some kinds.truth) = ⊥
+HasNumber (Some kinds.text) = ⊥
+HasNumber (Some kinds.octets) = ⊥
+HasNumber (Some kinds.message) = ⊥
+HasNumber None = ⊥
 
--- what an unsigned number says of such a kind
-abbrev pub number_said : KindShape → ℕ → ℤ
-number_said (kinds.whole word w code) u = decoded w code u
-number_said kinds.truth u = pos 0
-number_said kinds.text u = pos 0
-number_said kinds.octets u = pos 0
-number_said kinds.message u = pos 0
+-- what an unsigned number says of such a type
+abbrev pub number_said : Option KindShape → ℕ → ℤ
+number_said (Some (kinds.whole word w code)) u = decoded w code u
+number_said (Some kinds.truth) u = pos 0
+number_said (Some kinds.text) u = pos 0
+number_said (Some kinds.octets) u = pos 0
+number_said (Some kinds.message) u = pos 0
+number_said None u = pos 0
+
+-- the payload of such a type, and the bytes after it
+abbrev pub payload_of_type : Inner → Option Text → Option KindShape → List ℕ
+    → WireRead (ValueTree × List ℕ)
+payload_of_type inner name (Some s) bs = payload_at inner name s bs
+payload_of_type inner name None bs = Err FloatOrGroup

@@ -4,6 +4,7 @@
 use Rattle.std.specs.Prelude.{◌≡◌, ℕ, ℤ, pos, negsuc, ◌+◌, ◌*◌, ◌%◌, ◌<◌, ◌≤◌, Bool, List, [], ◌∷◌}
 use Rattle.std.specs.Prelude.{◌++◌, length, if◌then◌else◌}
 use Rattle.std.specs.Int.{w32, w64, to_le_bytes, cast_unsigned}
+use Rattle.std.specs.List.{AllByRecursion}
 use mir.Syntax.{Width}
 use Rattle.protobuf_parse_wire.specs.Kinds.{Word, varint, eight_bytes, four_bytes, Code, unsigned}
 use Rattle.protobuf_parse_wire.specs.Kinds.{twos_complement, zigzag, KindShape, whole, truth, text}
@@ -18,11 +19,15 @@ abbrev pub groups : List ℕ → ℕ
 groups [] = 0
 groups (b ∷ bs) = b % 128 + 128 * groups bs
 
--- Each byte but the last carries the continuation bit.
+-- The byte carries the continuation bit: another one comes after it.
+abbrev pub Continues : ℕ → Type 0
+Continues b = 128 ≤ b
+
+-- Each byte but the last continues.
 abbrev pub IsChain : List ℕ → Type 0
 IsChain [] = ⊥
 IsChain (b ∷ []) = b < 128
-IsChain (b ∷ c ∷ bs) = (128 ≤ b) × (b < 256) × IsChain (c ∷ bs)
+IsChain (b ∷ c ∷ bs) = Continues b × IsChain (c ∷ bs)
 
 -- The last byte isn't 0.
 abbrev pub EndsAboveZero : List ℕ → Type 0
@@ -38,6 +43,7 @@ IsShortest (b ∷ c ∷ bs) = EndsAboveZero (c ∷ bs)
 
 -- The bytes spell the number as a varint.
 pub record IsVarint (bs : List ℕ) (u : ℕ) : Type 0 where
+  pub bytes : AllByRecursion (λ b. b < 256) bs
   pub chain : IsChain bs
   pub shortest : IsShortest bs
   pub value : u ≡ groups bs

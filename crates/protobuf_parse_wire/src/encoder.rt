@@ -54,6 +54,18 @@ pub fn put_message(out: &mut Vec<u8>, number: u32, inside: &[u8]) -> Result<(), 
     put_delimited(out, inside)
 }
 
+/// Writes the record of a number with that field number: the tag, and the number as a varint. A truth
+/// value is 0 or 1, and a signed number the 64 bits of its sign extension.
+///
+/// Where memory runs out, a part of it may have been written.
+pub fn put_varint_record(out: &mut Vec<u8>, number: u32, value: u64) -> Result<(), AllocError>
+    ensures { OnOk result
+        (out.new.items ≡ out.old.items ++ (varint_of (number * 8) ++ varint_of value)) }
+{
+    put_varint(out, u64::from(number) * 8)?;
+    put_varint(out, value)
+}
+
 #[cycle(entry)]
 fn put_value(
     alloc: Global,

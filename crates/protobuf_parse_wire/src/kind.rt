@@ -1,11 +1,11 @@
-//! The kinds of values that are written and read.
+//! The kinds of values that are written.
 
 ghost use Rattle.std.specs.Prelude.{◌≡◌, ◌↔◌, IsTrue};
 ghost use Rattle.protobuf_parse_wire.specs.Kinds.{InRange, kind_of_field_type, shape_of_kind};
 
 use protobuf_parse_model::FieldType;
 
-/// A type of a field whose values can be written and read: all but float, double and group.
+/// A type of a field whose values can be written: all but float, double and group.
 #[derive(Clone, Copy, Debug, PartialEq, Eq)]
 pub enum Kind {
     Int32,

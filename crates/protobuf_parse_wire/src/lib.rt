@@ -9,10 +9,10 @@ mod kind;
 mod law;
 mod reader;
 
-pub use encoder::{encode, encode_into, put_message};
+pub use encoder::{encode, encode_into, put_message, put_varint_record};
 pub use entry::{Entry, EntryValue};
 pub use fault::ReadFault;
 pub use field::{ReadField, ReadValue};
 pub use kind::Kind;
-pub use law::{one_spelling, reader_reads_records, spelled_is_read};
-pub use reader::{groups, read_custom};
+pub use law::{one_spelling, reader_reads_records, reader_reads_varints, spelled_is_read};
+pub use reader::read_custom;

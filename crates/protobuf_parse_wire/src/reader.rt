@@ -1,6 +1,5 @@
 //! Reading bytes by descriptors.
 
-pub mod groups;
 mod index;
 mod numbers;
 mod records;
@@ -28,6 +27,17 @@ const MAX_LEVELS: u32 = 256;
 /// The message is the one that the files declare with the full name. A record's field is found by
 /// its number among the fields of the message and the extensions of it in all files; the message
 /// inside a record by the text of the field's type name.
+///
+/// The errors are B1 to B9 (`docs/wire.md`), or want of memory.
+///
+/// ```
+/// // The custom options of a message, by the descriptors of a run.
+/// if let Some(of) = ProtobufAbsPathRef::try_new(".google.protobuf.MessageOptions") {
+///     for field in &read_custom(alloc, &files, of, &options.custom)? {
+///         write!(text, "{}: {:?}\n", field.number, field.value)?;
+///     }
+/// }
+/// ```
 pub fn read_custom(
     alloc: Global,
     files: &[FileDescriptorProto],

@@ -24,6 +24,16 @@ use std::rt::Files;
 
 /// Parses files and checks their types. Includes are the folders where imports are looked for, and
 /// inputs the files that are parsed, each of which resides in an include.
+///
+/// ```
+/// let mut parser = Parser::new(rt.alloc());
+/// parser.push_includes(&["schemas", "vendor"])?;
+/// parser.push_input("schemas/shop/order.proto")?;
+/// let parsed = parser.parse_and_typecheck(&rt)?;
+/// for file in &parsed.file_descriptors {
+///     print!(rt; "{}\n", file.name.as_deref().unwrap_or(""))?;
+/// }
+/// ```
 #[derive(Debug, PartialEq, Drop)]
 pub struct Parser {
     includes: Vec<String>,
@@ -62,6 +72,10 @@ impl Parser {
     }
 
     /// Adds an include. Where memory is short, which is the one error, nothing changes.
+    ///
+    /// ```
+    /// parser.push_include("schemas")?;
+    /// ```
     pub fn push_include(&mut self, include: &str) -> Result<(), AllocError>
         ensures includes { OnOk result
             (includes_of self.new ≡ includes_of self.old ++ include.now ∷ []) }
@@ -105,6 +119,10 @@ impl Parser {
     }
 
     /// Adds an input. Where memory is short, which is the one error, nothing changes.
+    ///
+    /// ```
+    /// parser.push_input("schemas/shop/order.proto")?;
+    /// ```
     pub fn push_input(&mut self, input: &str) -> Result<(), AllocError>
         ensures inputs { OnOk result
             (inputs_of self.new ≡ inputs_of self.old ++ input.now ∷ []) }
@@ -153,6 +171,11 @@ impl Parser {
     /// first one that gets none. Then each input is read at its own path, and its imports are
     /// looked for in the includes and among the files that this library brings: the errors are
     /// those of the run.
+    ///
+    /// ```
+    /// let parsed = parser.parse_and_typecheck(&rt)?;
+    /// let files = &parsed.file_descriptors; // each after what it imports
+    /// ```
     pub fn parse_and_typecheck<R: Files + AllocGlobal>(
         &self,
         rt: &R,
@@ -174,6 +197,12 @@ impl Parser {
 
     /// The descriptors of the inputs alone, in the order of [`Parser::parse_and_typecheck`], and
     /// its errors.
+    ///
+    /// ```
+    /// for file in &parser.file_descriptor_set(&rt)?.file {
+    ///     print!(rt; "{} messages\n", file.message_type.len())?;
+    /// }
+    /// ```
     pub fn file_descriptor_set<R: Files + AllocGlobal>(
         &self,
         rt: &R,

@@ -26,6 +26,10 @@ pub struct FsResolver<'r, R> {
 
 /// A resolver that looks for each proto path in these includes, in order. The one error is that
 /// memory is short.
+///
+/// ```
+/// let resolver = fs_resolver(&rt, alloc, &["schemas", "vendor"])?;
+/// ```
 pub fn fs_resolver<'r, R: Files + AllocGlobal>(
     rt: &'r R,
     alloc: Global,

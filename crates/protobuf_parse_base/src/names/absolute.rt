@@ -1,7 +1,7 @@
 //! Absolute paths: identifiers with a dot before each.
 ghost use Rattle.std.specs.Prelude.{◌≡◌, ◌≢◌, ◌↔◌, ◌||◌, ◌<◌, ℕ, List, [], ◌∷◌, ◌++◌, map, length};
 ghost use Rattle.std.specs.Prelude.{IsTrue, IsSome, IfOk, OnOk, OnErr, IfSome, IfNone, MatchOption};
-ghost use Rattle.std.specs.Prelude.{Some};
+ghost use Rattle.std.specs.Prelude.{Some, is_some};
 ghost use Rattle.std.specs.String.{string_bytes};
 ghost use Rattle.std.specs.Option.{ForSome};
 ghost use Rattle.protobuf_parse_base.specs.Names.{is_absolute, is_relative, looks_absolute};
@@ -42,6 +42,7 @@ impl<'a> ProtobufAbsPathRef<'a> {
 
     /// The path with this text, if the text is an absolute path.
     pub fn try_new(text: &'a str) -> Option<Self>
+        ensures test { is_some result ≡ is_absolute text.now }
         ensures accepted { IsSome result ↔ IsAbsolute text.now }
         ensures text { IfSome result (λ path. abs_ref_text path ≡ text.now) }
     {
@@ -163,6 +164,7 @@ impl ProtobufAbsPath {
     /// A copy of this text as a path, or `None` if the text is no absolute path. The one error is
     /// that memory is short.
     pub fn try_new(alloc: Global, text: &str) -> Result<Option<Self>, AllocError>
+        ensures test { IfOk result (λ path. is_some path ≡ is_absolute text.now) }
         ensures accepted { IfOk result (λ path. IsSome path ↔ IsAbsolute text.now) }
         ensures text { IfOk result (λ path. IfSome path (λ path. abs_text path ≡ text.now)) }
     {

@@ -1,6 +1,7 @@
 //! The paths by which `.proto` files import one another.
 mod check;
 mod error;
+pub mod laws;
 mod path;
 
 pub use error::PathError;

@@ -8,7 +8,7 @@ use anyhow::{Result, anyhow};
 use protobuf_parse::pure::parse_and_typecheck_custom;
 use protobuf_parse::{
     FileDescriptorProto, InputReader, ProtoPathBuf, ProtoPathResolver, ReadEntry, ReadOutcome,
-    RunFault, RunInput, RunLog, run_inputs,
+    RunFault, RunInput, RunLog, run_inputs, violations,
 };
 use std::alloc::{AllocError, Global};
 use std::cell::Cell;
@@ -115,6 +115,30 @@ pub fn shipped(alloc: Global, case: &Case, words: &[u8]) -> Result<String> {
     Ok(listed_or_fault(alloc, &outcome)?)
 }
 
+/// The violations in what such a run hands out, a line each, or its fault. A row's text is the file
+/// `f.proto`, which is then the input.
+pub fn violated(alloc: Global, case: &Case, row: &Row) -> Result<String> {
+    let outcome = match &row.given {
+        Some(content) => checked(alloc, "f.proto", &files_with(alloc, case, content)?)?,
+        None => checked(alloc, &case.argument, &case.files)?,
+    };
+    Ok(match outcome {
+        Ok(files) => told_violations(alloc, &files)?,
+        Err(fault) => format!(in alloc; "{fault}")?,
+    })
+}
+
+fn told_violations(alloc: Global, files: &[FileDescriptorProto]) -> Result<String, AllocError> {
+    let mut text = String::new(alloc);
+    for violation in &violations(alloc, files)? {
+        write!(&mut text, "{violation}\n")?;
+    }
+    if text.is_empty() {
+        text.push_str("none")?;
+    }
+    without_last_feed(alloc, &text)
+}
+
 /// The descriptors of a run over these proto paths with the files that the library brings, or the
 /// fault.
 pub fn checked(
@@ -155,12 +179,14 @@ fn listed_or_fault(
     }
 }
 
-/// What a run did whose answers are given in turn: the inputs, and behind each ` | ` an answer.
-pub fn answers(alloc: Global, given: &[u8]) -> Result<String> {
+/// What a run did whose answers are given in turn: the inputs, and behind each ` | ` an answer. The
+/// resolver has the name behind the verb.
+pub fn answers(alloc: Global, case: &Case, given: &[u8]) -> Result<String> {
     let text = text_of(given)?;
     let (words, rest) = text.split_once(" | ").unwrap_or((text, "none"));
     let answers = rest.split(" | ").collect::<Vec<_>>(alloc)?;
     let source = InTurn {
+        name: &case.argument,
         answers: &answers,
         calls: Cell::new(0),
     };

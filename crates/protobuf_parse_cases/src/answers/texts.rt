@@ -1,13 +1,12 @@
-//! What one text says: tokens, strings, trees, imports.
+//! What one text says: tokens, strings, trees.
 
 use anyhow::{Result, bail};
 use protobuf_parse::pure::parse_dependencies;
-use protobuf_parse::{FileDescriptorProto, ParserError, listing};
+use protobuf_parse::{FileDescriptorProto, ParserError, ParserErrorWithLocation, listing};
 use protobuf_parse_syntax::{
     FileStatement, ProtobufConstant, StrLit, StrLitDecodeError, parse_file, tokenize,
 };
 use std::alloc::{AllocError, Global};
-use std::slice;
 
 /// The tokens with their places, and the place of the end; or the fault.
 pub fn tokens(alloc: Global, text: &str) -> Result<String, AllocError> {
@@ -58,11 +57,27 @@ fn tagged(alloc: Global, tag: &str, bytes: &[u8]) -> Result<Vec<u8>, AllocError>
     Ok(out)
 }
 
-/// `ok`, or the fault.
+/// `ok`, or the fault. Who asks for the imports alone must be told the same.
 pub fn parse(alloc: Global, text: &str) -> Result<String, AllocError> {
-    match parse_file(alloc, text) {
-        Ok(_) => String::from_str(alloc, "ok"),
-        Err(error) => format!(in alloc; "{error}"),
+    let fault = fault_of(parse_file(alloc, text))?;
+    let fault_of_imports = fault_of(parse_dependencies(alloc, text))?;
+    if fault != fault_of_imports {
+        return format!(in alloc; "{fault:?} of the file, {fault_of_imports:?} of its imports");
+    }
+    match fault {
+        None => String::from_str(alloc, "ok"),
+        Some(fault) => format!(in alloc; "{fault}"),
+    }
+}
+
+/// What is wrong with the text, if anything is.
+fn fault_of<T: Drop>(
+    outcome: Result<T, ParserErrorWithLocation>,
+) -> Result<Option<ParserErrorWithLocation>, AllocError> {
+    match outcome {
+        Ok(_) => Ok(None),
+        Err(error) if error.error == ParserError::Memory => Err(AllocError),
+        Err(error) => Ok(Some(error)),
     }
 }
 
@@ -108,14 +123,6 @@ fn put_length(lengths: &mut String, alloc: Global, front: &str) -> Result<(), Al
         Ok(_) => lengths.push_str(&format!(in alloc; "{} ", front.len())?),
         Err(error) if error.error == ParserError::Memory => Err(AllocError),
         Err(_) => Ok(()),
-    }
-}
-
-/// The listing of what the text imports, or the fault.
-pub fn imports(alloc: Global, text: &str) -> Result<String, AllocError> {
-    match parse_dependencies(alloc, text) {
-        Ok(found) => listed(alloc, slice::from_ref(&found)),
-        Err(error) => format!(in alloc; "{error}"),
     }
 }
 

@@ -91,7 +91,7 @@ fn field_with<C: CustomOptions>(
 pub struct FieldSaid {
     pub default_value: Option<String>,
     pub json_name: Name,
-    pub options: Option<Box<FieldOptions>>,
+    pub options: Option<FieldOptions>,
 }
 
 /// What the options of a field of that type and name say.
@@ -138,7 +138,7 @@ fn said_by_options<C: CustomOptions>(
     let default_value = default_value(alloc, kind, name, options)?;
     let json_name = json_name_of(alloc, name, options)?;
     let bytes = checked_field_customs(alloc, context, custom, options)?;
-    let options = field_options(alloc, options, bytes)?;
+    let options = field_options(options, bytes);
     Ok(FieldSaid {
         default_value,
         json_name,

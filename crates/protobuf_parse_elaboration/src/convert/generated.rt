@@ -12,7 +12,7 @@ ghost use Rattle.protobuf_parse_model.specs.Descriptors as described;
 ghost use Rattle.protobuf_parse_model.specs.Faults.{Elaborates};
 ghost use Rattle.protobuf_parse_model.specs.Options.{message_options_view};
 ghost use Rattle.protobuf_parse_elaboration.specs.Parts.{resolved_view};
-ghost use Rattle.protobuf_parse_elaboration.specs.Parts.{behind_seen};
+ghost use Rattle.protobuf_parse_elaboration.specs.Parts.{behind_seen, map_entry_faults};
 ghost use Rattle.protobuf_parse_elaboration.specs.Fields as fields;
 ghost use Rattle.protobuf_parse_elaboration.specs.Messages as messages;
 
@@ -38,7 +38,7 @@ pub fn map_entry(
 ) -> Result<Option<Box<DescriptorProto>>, ElabFailure>
     ensures { let env = names_of_context context.now in
         Elaborates (λ m. map described.message_view (behind_seen m)) result
-        (messages.map_entry_faults env name.now (type_syntax type_.now))
+        (map_entry_faults env name.now (type_syntax type_.now))
         (messages.entries_of env name.now (type_syntax type_.now)) }
 {
     match type_ {

@@ -6,8 +6,8 @@ ghost use Rattle.protobuf_parse_syntax.specs.Trees.{oneof_syntax};
 ghost use Rattle.protobuf_parse_model.specs.SeenFiles.{environment_in};
 ghost use Rattle.protobuf_parse_model.specs.Faults.{Elaborates};
 ghost use Rattle.protobuf_parse_model.specs.Statements.{oneof_fields};
-ghost use Rattle.protobuf_parse_elaboration.specs.Parts.{fields_declared, fields_view};
-ghost use Rattle.protobuf_parse_elaboration.specs.Parts.{field_place_view, statements_seen};
+ghost use Rattle.protobuf_parse_elaboration.specs.Parts.{extensions_declared, fields_declared};
+ghost use Rattle.protobuf_parse_elaboration.specs.Parts.{field_place_view, fields_view, statements_seen};
 ghost use Rattle.protobuf_parse_elaboration.specs.Fields.{extension_faults, field_statement_faults};
 ghost use Rattle.protobuf_parse_elaboration.specs.Messages.{extending, extension_faults_of};
 
@@ -103,7 +103,7 @@ pub fn fields_of_extend<C: CustomOptions>(
     ensures { let env = environment_in (C.customs custom.now) context.now in
         let ss = map field_statement_syntax statements.now in
         Elaborates fields_view result (flat_map (extension_faults_of env extendee.now) ss)
-        (fields_declared env (extending env extendee.now) ss) }
+        (extensions_declared env (extending env extendee.now) ss) }
 {
     if statements.is_empty() {
         return Ok(DeclaredFields {
@@ -131,7 +131,7 @@ fn declared_extensions<C: CustomOptions>(
     ensures { let env = environment_in (C.customs custom.now) context.now in
         let ss = map field_statement_syntax statements.now in
         Elaborates fields_view result (flat_map (extension_faults env) ss)
-        (fields_declared env (field_place_view place.now) ss) }
+        (extensions_declared env (field_place_view place.now) ss) }
 {
     let mut fields = Vec::new(alloc);
     let mut behind = Vec::new(alloc);

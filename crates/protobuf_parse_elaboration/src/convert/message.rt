@@ -1,9 +1,10 @@
 //! Messages.
 
-ghost use Rattle.std.specs.Prelude.{◌≡◌, ◌++◌, ◌<◌, ◌≤◌, ◌^◌, length, map, flat_map};
+ghost use Rattle.std.specs.Prelude.{◌≡◌, [], ◌∷◌, ◌++◌, ◌<◌, ◌≤◌, ◌^◌, length, map, flat_map};
 ghost use Rattle.std.specs.Prelude.{sum_by, IfOk};
 ghost use Rattle.protobuf_parse_syntax.specs.Counts.{in_message, message_statement_count};
 ghost use Rattle.protobuf_parse_syntax.specs.Trees.{message_statement_syntax, message_syntax};
+ghost use Rattle.protobuf_parse_syntax.specs.Trees.{nested_message};
 ghost use Rattle.protobuf_parse_model.specs.SeenFiles.{environment_in};
 ghost use Rattle.protobuf_parse_model.specs.SeenFiles.{name_texts};
 ghost use Rattle.protobuf_parse_model.specs.Declarations as names;
@@ -36,9 +37,9 @@ pub fn message_descriptor<C: CustomOptions>(
 ) -> Result<DescriptorProto, ElabFailure>
     requires few { in_message (message_syntax message.now) ≤ 2147483647 }
     ensures { let env = environment_in (C.customs custom.now) context.now in
-        let m = message_syntax message.now in
-        Elaborates described.message_view result (messages.message_faults env m)
-        (messages.message_of env m) }
+        let s = nested_message (message_syntax message.now) in
+        Elaborates (λ d. described.message_view d ∷ []) result (messages.statement_faults env s)
+        (messages.nested_of env s) }
 {
     message_of_body(alloc, context, custom, &message.name, &message.body)
 }
@@ -56,8 +57,11 @@ fn message_of_body<C: CustomOptions>(
         ≤ 2147483647 }
     ensures { let env = environment_in (C.customs custom.now) context.now in
         let ss = map message_statement_syntax body.now in
-        Elaborates described.message_view result (messages.faults_of_body env name.now ss)
-        (messages.message_of_body env name.now ss) }
+        let nested = flat_map (messages.nested_of (env_inside env name.now)) ss in
+        Elaborates described.message_view result
+        (messages.whole_faults env name.now ss nested
+        ++ flat_map (messages.statement_faults (env_inside env name.now)) ss)
+        (messages.message_from env name.now ss nested) }
 {
     let parts = body_inside(alloc, context, custom, name, body)?;
     finished(alloc, context, custom, name, body, parts)
@@ -204,9 +208,9 @@ fn add_message<C: CustomOptions>(
 ) -> Result<(), ElabFailure>
     requires few { in_message (message_syntax message.now) ≤ 2147483647 }
     ensures { let env = environment_in (C.customs custom.now) context.now in
-        let m = message_syntax message.now in
-        Elaborates (λ _. body_view body.new) result (messages.message_faults env m)
-        (contexts.with_message (body_view body.old) (messages.message_of env m)) }
+        let s = nested_message (message_syntax message.now) in
+        Elaborates (λ _. body_view body.new) result (messages.statement_faults env s)
+        (with_body_statement env (body_view body.old) s) }
 {
     let nested = message_descriptor(alloc, context, custom, message)?;
     Ok(body.nested_type.push(nested)?)

@@ -8,6 +8,7 @@ ghost use Rattle.protobuf_parse_model.specs.SeenFiles.{environment_in};
 ghost use Rattle.protobuf_parse_model.specs.Faults.{Elaborates};
 ghost use Rattle.protobuf_parse_elaboration.specs.Parts.{behind_seen, declared_view};
 ghost use Rattle.protobuf_parse_elaboration.specs.Parts.{field_declared_by};
+ghost use Rattle.protobuf_parse_elaboration.specs.Parts.{extension_declared_by};
 ghost use Rattle.protobuf_parse_elaboration.specs.Parts.{field_place_view};
 ghost use Rattle.protobuf_parse_elaboration.specs.Fields as fields;
 
@@ -104,7 +105,7 @@ pub fn declared_extension<C: CustomOptions>(
     ensures { let env = environment_in (C.customs custom.now) context.now in
         let s = field_statement_syntax statement.now in
         Elaborates declared_view result (fields.extension_faults env s)
-        (field_declared_by env (field_place_view place.now) s) }
+        (extension_declared_by env (field_place_view place.now) s) }
 {
     match statement {
         FieldStatement::Field(field) => declared_unless_map(alloc, context, custom, place, field),
@@ -144,10 +145,14 @@ fn declared_unless_map<C: CustomOptions>(
     ensures { let env = environment_in (C.customs custom.now) context.now in
         let s = tree.field (field_syntax field.now) in
         Elaborates declared_view result (fields.extension_faults env s)
-        (field_declared_by env (field_place_view place.now) s) }
+        (extension_declared_by env (field_place_view place.now) s) }
 {
     check_no_map(alloc, field)?;
-    declared_plain(alloc, context, custom, place, field)
+    let field = field_descriptor(alloc, context, custom, place, field)?;
+    Ok(DeclaredField {
+        field,
+        behind: None,
+    })
 }
 
 /// A group.

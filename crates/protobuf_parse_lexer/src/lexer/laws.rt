@@ -1,5 +1,6 @@
 //! Laws of the definitions that the lexer's contracts cite. The functions do nothing.
 
+ghost use Rattle.protobuf_parse_lexer.specs.Tokenizers.{OneLiesAhead};
 ghost use Rattle.protobuf_parse_lexer.specs.Laws.{IsOneCut, IsOneFault, IsOneDecoding};
 ghost use Rattle.protobuf_parse_lexer.specs.Laws.{TextsTellKinds};
 ghost use Rattle.protobuf_parse_lexer.specs.Laws.{PlacesCountCharacters, TokensStandInTheText};
@@ -45,4 +46,9 @@ pub fn strings_are_quoted()
 /// Escaped bytes in double quotes are a string token, which stands for just those bytes.
 pub fn escaped_bytes_decode()
     ensures { EscapedBytesDecode }
+{}
+
+/// Of each tokenizer just one stream of tokens lies ahead.
+pub fn one_stream_lies_ahead()
+    ensures { OneLiesAhead }
 {}

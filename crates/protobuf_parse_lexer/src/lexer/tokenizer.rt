@@ -4,7 +4,8 @@ ghost use Rattle.std.specs.Prelude.{◌≡◌, ◌≤◌, ◌<◌, ◌+◌, ◌-
 ghost use Rattle.std.specs.Prelude.{IfOk, IfErr, MatchOption, slice_index};
 ghost use Rattle.protobuf_parse_base.specs.Characters as char;
 ghost use Rattle.protobuf_parse_lexer.specs.Text.{IsBlank};
-ghost use Rattle.protobuf_parse_lexer.specs.Ahead as ahead;
+ghost use Rattle.protobuf_parse_lexer.specs.Ahead.{deepens, counted};
+ghost use Rattle.protobuf_parse_lexer.specs.AheadOf.{ahead};
 ghost use Rattle.protobuf_parse_lexer.specs.Classes as class;
 ghost use Rattle.protobuf_parse_lexer.specs.Tokens as tokens;
 
@@ -83,19 +84,28 @@ pub struct Tokenizer<'text> {
 }
 
 impl<'text> Tokenizer<'text> {
-    ghost use Rattle.protobuf_parse_lexer.specs.Ahead.{ahead, behind, ends_at, nowhere};
+    ghost use Rattle.std.specs.Prelude.{◌↔◌, drop};
+    ghost use Rattle.protobuf_parse_lexer.specs.Ahead.{behind, ends_at, nowhere, AheadIn};
+    ghost use Rattle.protobuf_parse_lexer.specs.AheadViews.{lies_ahead};
     ghost use Rattle.protobuf_parse_lexer.specs.Cut.{Stream, HasTokens, IsRefused, error_place};
-    ghost use Rattle.protobuf_parse_lexer.specs.Tokenizers.{lies_ahead};
+    ghost use Rattle.protobuf_parse_lexer.specs.Cut.{mark_len};
+    ghost use Rattle.protobuf_parse_lexer.specs.Place.{start};
+    ghost use Rattle.protobuf_parse_lexer.specs.Tokenizers.{LiesAhead};
 
     /// The tokens of a text. S20 at 1:1 if it has over 2147483647 bytes.
     pub fn new(text: &'text str) -> Result<Tokenizer<'text>, ParserErrorWithLocation>
-        // They are the text's tokens, unless it is refused, and then their end is nowhere.
-        ensures read { IfOk result (λ t. ((lies_ahead t).end ≡ nowhere)
-            ⊎ HasTokens text.now (lies_ahead t)) }
-        ensures reads { IfOk result (λ t. (s : Stream) → HasTokens text.now s → lies_ahead t ≡ s) }
+        // What lies ahead in the text past its mark lies ahead of the tokenizer.
+        ensures text { IfOk result (λ t. (s : Stream) → LiesAhead t s
+            ↔ AheadIn 0 0 start (drop (mark_len text.now) text.now) s) }
+
+        // That is the text's tokens, unless it is refused, and then their end is nowhere.
+        ensures read { IfOk result (λ t. (s : Stream) → LiesAhead t s
+            → (s.end ≡ nowhere) ⊎ HasTokens text.now s) }
+        ensures reads { IfOk result (λ t. (s : Stream) → HasTokens text.now s → LiesAhead t s) }
 
         // There are no more of them than bytes.
-        ensures few { IfOk result (λ t. length (lies_ahead t).tokens ≤ length text.now) }
+        ensures few { IfOk result (λ t. (s : Stream) → LiesAhead t s
+            → length s.tokens ≤ length text.now) }
 
         // What is too long is refused.
         ensures refused { IfErr result (λ e. IsRefused text.now e.error (error_place e)) }
@@ -120,6 +130,14 @@ impl<'text> Tokenizer<'text> {
     /// Goes past the next token, if one is left.
     #[inline(always)]
     pub fn advance(&mut self)
+        ensures { (s : Stream) → LiesAhead self.old s → LiesAhead self.new (behind s) }
+    {
+        self.go_past()
+    }
+
+    /// The same.
+    #[inline(always)]
+    fn go_past(&mut self)
         ensures { lies_ahead self.new ≡ behind (lies_ahead self.old) }
     {
         if self.next.is_some() {
@@ -178,10 +196,10 @@ fn brackets_past(before: Brackets, kind: TokenKind) -> Option<Brackets>
     requires opens { before.opened ≤ 2147483647 }
     requires closes { before.closed ≤ 2147483647 }
     ensures { MatchOption result
-        (ahead.deepens before.opened before.closed kind ≡ true)
-        (λ b. (ahead.deepens before.opened before.closed kind ≡ false)
-        × (b.opened ≡ ahead.counted (tokens.is_opening kind) before.opened)
-        × (b.closed ≡ ahead.counted (tokens.is_closing kind) before.closed)) }
+        (deepens before.opened before.closed kind ≡ true)
+        (λ b. (deepens before.opened before.closed kind ≡ false)
+        × (b.opened ≡ counted (tokens.is_opening kind) before.opened)
+        × (b.closed ≡ counted (tokens.is_closing kind) before.closed)) }
 {
     let Brackets { opened, closed } = before;
     match kind {
@@ -211,7 +229,7 @@ fn past_space(place: Place, text: &str) -> (Place, &str)
     ensures col { result.0.col + length result.1.now ≤ place.col + length text.now }
     ensures len { length result.1.now ≤ length text.now }
     ensures same { (o c : ℕ)
-        → ahead.ahead o c result.0 result.1.now ≡ ahead.ahead o c place text.now }
+        → ahead o c result.0 result.1.now ≡ ahead o c place text.now }
 {
     if !is_one_space(text.as_bytes()) {
         return (place, text);

@@ -8,7 +8,8 @@ ghost use Rattle.protobuf_parse_base.specs.Names.{relative_idents};
 ghost use Rattle.protobuf_parse_lexer.specs.Text.{seen_by};
 ghost use Rattle.protobuf_parse_syntax.specs.Trees.{FileSyntax, file_syntax};
 ghost use Rattle.protobuf_parse_syntax.specs.Trees.{message_statement_syntax};
-ghost use Rattle.protobuf_parse_syntax.specs.Trees.{message_syntax, statement_syntax};
+ghost use Rattle.protobuf_parse_syntax.specs.Trees.{message_syntax, nested_message};
+ghost use Rattle.protobuf_parse_syntax.specs.Trees.{statement_syntax};
 ghost use Rattle.protobuf_parse_model.specs.Declarations as names;
 ghost use Rattle.protobuf_parse_model.specs.Descriptors.{Text};
 ghost use Rattle.protobuf_parse_model.specs.FileOrder.{FilesAscend};
@@ -136,7 +137,8 @@ fn add_message<'a>(
 ) -> Result<(), AllocError>
     ensures scope { OnOk result (name_texts scope.new.items ≡ name_texts scope.old.items) }
     ensures adds { OnOk result (Adds type_entry table.old table.new file
-        (names.message_types (name_texts scope.old.items) (message_syntax message.now))) }
+        (names.types_of (name_texts scope.old.items)
+        (nested_message (message_syntax message.now)))) }
 {
     add_type(table, alloc, file, scope, &message.name, TypeKind::Message)?;
     scope.push(&message.name)?;

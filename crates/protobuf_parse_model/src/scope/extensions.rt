@@ -3,7 +3,7 @@
 ghost use Rattle.std.specs.Prelude.{◌≡◌, map, flat_map, OnOk};
 ghost use Rattle.protobuf_parse_syntax.specs.Trees.{extend_syntax, field_statement_syntax};
 ghost use Rattle.protobuf_parse_syntax.specs.Trees.{message_statement_syntax, message_syntax};
-ghost use Rattle.protobuf_parse_syntax.specs.Trees.{statement_syntax};
+ghost use Rattle.protobuf_parse_syntax.specs.Trees.{nested_message, statement_syntax};
 ghost use Rattle.protobuf_parse_model.specs.declared.scope.seen.DeclarationKind.TheVariants.{Extension};
 ghost use Rattle.protobuf_parse_model.specs.Declarations as names;
 ghost use Rattle.protobuf_parse_model.specs.Statements.{field_statement_name};
@@ -69,10 +69,9 @@ fn add_in_message<'a>(
     message: &'a Message,
 ) -> Result<(), AllocError>
     ensures scope { OnOk result (name_texts scope.new.items ≡ name_texts scope.old.items) }
-    ensures adds { OnOk result (let m = message_syntax message.now in
-        Adds extension_entry table.old table.new file
-        (flat_map (names.extensions_of (names.inside (name_texts scope.old.items) m.name))
-        m.body)) }
+    ensures adds { OnOk result (Adds extension_entry table.old table.new file
+        (names.extensions_of (name_texts scope.old.items)
+        (nested_message (message_syntax message.now)))) }
 {
     scope.push(&message.name)?;
     for statement in &message.body {

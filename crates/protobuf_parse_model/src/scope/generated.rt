@@ -4,11 +4,12 @@ ghost use Rattle.std.specs.Prelude.{◌≡◌, [], ◌∷◌, map, flat_map, OnO
 ghost use Rattle.protobuf_parse_syntax.specs.Trees.{extend_syntax, field_statement_syntax};
 ghost use Rattle.protobuf_parse_syntax.specs.Trees.{field_syntax};
 ghost use Rattle.protobuf_parse_syntax.specs.Trees.{message_statement_syntax, message_syntax};
+ghost use Rattle.protobuf_parse_syntax.specs.Trees.{nested_message};
 ghost use Rattle.protobuf_parse_syntax.specs.Trees.{oneof_statement_syntax, oneof_syntax};
 ghost use Rattle.protobuf_parse_syntax.specs.Trees.{statement_syntax};
 ghost use Rattle.protobuf_parse_syntax.specs.Trees as tree;
 ghost use Rattle.protobuf_parse_model.specs.Declarations as names;
-ghost use Rattle.protobuf_parse_model.specs.Statements.{oneof_fields};
+ghost use Rattle.protobuf_parse_model.specs.Statements.{groups, oneof_fields};
 ghost use Rattle.protobuf_parse_model.specs.SeenFiles.{name_texts};
 ghost use Rattle.protobuf_parse_model.specs.Tables.{Adds, generated_entry};
 
@@ -73,9 +74,9 @@ fn add_in_message<'a>(
     message: &'a Message,
 ) -> Result<(), AllocError>
     ensures scope { OnOk result (name_texts scope.new.items ≡ name_texts scope.old.items) }
-    ensures adds { OnOk result (let m = message_syntax message.now in
-        Adds generated_entry table.old table.new file
-        (flat_map (names.generated_of (names.inside (name_texts scope.old.items) m.name)) m.body)) }
+    ensures adds { OnOk result (Adds generated_entry table.old table.new file
+        (names.generated_of (name_texts scope.old.items)
+        (nested_message (message_syntax message.now)))) }
 {
     scope.push(&message.name)?;
     for statement in &message.body {
@@ -147,7 +148,7 @@ fn add_of_choice(
     }
 }
 
-/// Adds those of an `extend`.
+/// Adds those of the groups of an `extend`, in which no map can stand.
 fn add_in_extend(
     table: &mut Declarations,
     alloc: Global,
@@ -156,12 +157,31 @@ fn add_in_extend(
     extend: &Extend,
 ) -> Result<(), AllocError>
     ensures { OnOk result (Adds generated_entry table.old table.new file
-        (flat_map (names.generated_by (name_texts scope.now)) (extend_syntax extend.now).fields)) }
+        (flat_map (names.generated_by (name_texts scope.now))
+        (flat_map groups (extend_syntax extend.now).fields))) }
 {
     for statement in &extend.fields {
-        add_behind(table, alloc, file, scope, statement)?;
+        add_of_extension(table, alloc, file, scope, statement)?;
     }
     Ok(())
+}
+
+/// Adds that of a statement of an `extend`.
+fn add_of_extension(
+    table: &mut Declarations,
+    alloc: Global,
+    file: u32,
+    scope: &[&str],
+    statement: &FieldStatement,
+) -> Result<(), AllocError>
+    ensures { OnOk result (Adds generated_entry table.old table.new file
+        (flat_map (names.generated_by (name_texts scope.now))
+        (groups (field_statement_syntax statement.now)))) }
+{
+    match statement {
+        FieldStatement::Group(group) => add_message(table, alloc, file, scope, &group.name),
+        FieldStatement::Field(_) => Ok(()),
+    }
 }
 
 /// Adds the message behind a statement that declares a field, if one stands there.

@@ -5,7 +5,8 @@ ghost use Rattle.protobuf_parse_base.specs.DeclaredNames.{name_bytes};
 ghost use Rattle.protobuf_parse_base.specs.Whole.{whole};
 ghost use Rattle.protobuf_parse_base.specs.Readers.{starts};
 ghost use Rattle.protobuf_parse_base.specs.Conditions.{mark_of};
-ghost use Rattle.protobuf_parse_lexer.specs.Tokenizers.{lies_ahead};
+ghost use Rattle.protobuf_parse_lexer.specs.Ahead.{behind};
+ghost use Rattle.protobuf_parse_lexer.specs.AheadViews.{lies_ahead};
 ghost use Rattle.protobuf_parse_lexer.specs.Classes as class;
 ghost use Rattle.protobuf_parse_lexer.specs.Text.{seen_by};
 ghost use Rattle.protobuf_parse_syntax.specs.ClassLaws.{lexicon};
@@ -33,6 +34,14 @@ impl<'text> Cursor<'text> {
         ensures { left result ≡ whole (lies_ahead tokens.entry).tokens (lies_ahead tokens.entry).end }
     {
         Cursor { tokens }
+    }
+
+    /// Goes past the next token, if one is left.
+    #[inline(always)]
+    fn advance(&mut self)
+        ensures { lies_ahead self.new.tokens ≡ behind (lies_ahead self.old.tokens) }
+    {
+        self.tokens.advance();
     }
 
     /// Whether no token is left.
@@ -83,7 +92,7 @@ impl<'text> Cursor<'text> {
         let next = self.tokens.next;
         match next {
             Some(token) if token.is_symbol(symbol) => {
-                self.tokens.advance();
+                self.advance();
                 Ok(())
             }
             _ => Err(Refusal::Next(fault)),
@@ -109,7 +118,7 @@ impl<'text> Cursor<'text> {
         let next = self.tokens.next;
         match next {
             Some(token) if is_same(token.text, word) && token.is_ident() => {
-                self.tokens.advance();
+                self.advance();
                 Ok(())
             }
             _ => Err(Refusal::Next(ParserError::IncorrectInput)),
@@ -141,7 +150,7 @@ impl<'text> Cursor<'text> {
     pub fn skip(&mut self)
         ensures { left self.new ≡ behind_next (left self.old) }
     {
-        self.tokens.advance();
+        self.advance();
     }
 
     /// Reads an identifier, which may be any word. S8 at any other token.
@@ -151,7 +160,7 @@ impl<'text> Cursor<'text> {
         let next = self.tokens.next;
         match next {
             Some(token) if token.is_ident() => {
-                self.tokens.advance();
+                self.advance();
                 Ok(token.text)
             }
             _ => Err(Refusal::Next(ParserError::IncorrectInput)),
@@ -212,7 +221,7 @@ impl<'text> Cursor<'text> {
         match self.tokens.next {
             Some(token) => match token.kind {
                 TokenKind::Integer(number) => {
-                    self.tokens.advance();
+                    self.advance();
                     Ok(number)
                 }
                 _ => Err(Refusal::Next(ParserError::IncorrectInput)),
@@ -233,7 +242,7 @@ impl<'text> Cursor<'text> {
                     if number > limit {
                         return Err(Refusal::Next(ParserError::IntegerOverflow));
                     }
-                    self.tokens.advance();
+                    self.advance();
                     Ok(number)
                 }
                 _ => Err(Refusal::Next(ParserError::IncorrectInput)),
@@ -271,7 +280,7 @@ impl<'text> Cursor<'text> {
         match next {
             Some(token) if token.is_str() => {
                 let piece = String::from_str(alloc, unquoted(token.text))?;
-                self.tokens.advance();
+                self.advance();
                 Ok(piece)
             }
             _ => Err(Refusal::Next(ParserError::IncorrectInput)),
@@ -293,9 +302,9 @@ impl<'text> Cursor<'text> {
     pub fn sees_float_second(&self) -> bool
         ensures { result ≡ floats_second (left self.now) }
     {
-        let mut second = self.tokens;
+        let mut second = *self;
         second.advance();
-        match second.next {
+        match second.tokens.next {
             Some(token) => match token.kind {
                 TokenKind::Float => true,
                 TokenKind::Ident => matches!(token.text, "inf" | "nan"),

@@ -118,10 +118,11 @@ fn assignment(
     ensures { GivesOr (LongName (left tokens.old)) view.option_syntax result (left tokens.new)
         ((nest.assignment levels).low.run (left tokens.old)) }
 {
+    let place = tokens.place();
     let name = option_name(alloc, tokens)?;
     tokens.symbol('=')?;
     let value = constant(alloc, tokens, levels)?;
-    Ok(ProtobufOption { name, value })
+    Ok(ProtobufOption { place, name, value })
 }
 
 /// `optname = optpart { "." optpart }`, of at most 100 parts

@@ -26,6 +26,8 @@ pub enum ProtobufOptionName {
 /// `NAME = VALUE`.
 #[derive(Drop)]
 pub struct ProtobufOption {
+    /// The place of the first token of its name.
+    pub place: Place,
     pub name: ProtobufOptionName,
     pub value: ProtobufConstant,
 }

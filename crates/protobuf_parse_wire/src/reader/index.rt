@@ -7,7 +7,7 @@ ghost use Rattle.protobuf_parse_wire.specs.Declarations.{declared_message, messa
 ghost use Rattle.protobuf_parse_wire.specs.Declarations.{extensions_declared_in, package_scope};
 ghost use Rattle.protobuf_parse_wire.specs.Indexed.{IndexAdds, AddsMessages, Indexes};
 
-use super::groups;
+use protobuf_parse_base::multimap;
 use protobuf_parse_model::{DescriptorProto, FieldDescriptorProto, FileDescriptorProto};
 use std::alloc::{AllocError, Global};
 use std::collections::BTreeMap;
@@ -89,7 +89,7 @@ fn add_message<'a>(
         (AddsMessages index.old index.new (declared_message scope.now (message_view message.now))) }
 {
     let name = format!(in alloc; "{scope}.{}", message.name)?;
-    groups::put(&mut index.messages, name.clone()?, message)?;
+    multimap::put(&mut index.messages, name.clone()?, message)?;
     add_extensions(index, &message.extension)?;
     add_messages(alloc, index, &name, &message.nested_type)
 }
@@ -113,7 +113,7 @@ fn add_extension<'a>(
     ensures { OnOk result (IndexAdds index.old index.new [] (field_view extension.now ∷ [])) }
 {
     match &extension.extendee {
-        Some(extendee) => groups::put(&mut index.extensions, extendee.clone()?, extension),
+        Some(extendee) => multimap::put(&mut index.extensions, extendee.clone()?, extension),
         None => Ok(()),
     }
 }

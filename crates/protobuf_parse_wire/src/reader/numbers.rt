@@ -8,9 +8,9 @@ ghost use Rattle.protobuf_parse_model.specs.declared.descriptor.FieldDescriptorP
 ghost use Rattle.protobuf_parse_wire.specs.Reading.{ReaderGives, by_number};
 ghost use Rattle.protobuf_parse_wire.specs.Indexed.{IsByNumber, entered_by, numbered};
 
-use super::groups;
 use super::index::Index;
 use crate::fault::ReadFault;
+use protobuf_parse_base::multimap;
 use protobuf_parse_model::FieldDescriptorProto;
 use std::alloc::Global;
 use std::collections::BTreeMap;
@@ -26,11 +26,11 @@ pub fn numbers_of<'a>(
 ) -> Result<ByNumber<'a>, ReadFault>
     ensures { ReaderGives numbered result (entered_by index.now (Some name.now)) }
 {
-    match groups::group(&index.messages, name) {
+    match multimap::values(&index.messages, name) {
         [message] => by_number(
             alloc,
             &message.field,
-            groups::group(&index.extensions, name),
+            multimap::values(&index.extensions, name),
         ),
         _ => Err(ReadFault::UnknownMessage),
     }

@@ -1,14 +1,15 @@
 //! Records of messages, from left to right.
 
 ghost use Rattle.std.specs.Prelude.{◌≡◌, Option, ◌<◌, ◌≤◌, ◌/◌, ◌%◌, ◌^◌, length, map, IfOk, OnOk};
+ghost use Rattle.std.specs.Prelude.{IsSome, option_map};
 ghost use Rattle.std.specs.Option.{option_copied};
 ghost use Rattle.protobuf_parse_model.specs.Descriptors.{Text, field_view};
-ghost use Rattle.protobuf_parse_wire.specs.Kinds.{shape_of_kind, wire_type};
-ghost use Rattle.protobuf_parse_wire.specs.Reading.{ReaderGives, Inner, message_at, payload_at};
-ghost use Rattle.protobuf_parse_wire.specs.Reading.{record_at, records, value_at};
+ghost use Rattle.protobuf_parse_wire.specs.Kinds.{shape_of_type, wire_type};
+ghost use Rattle.protobuf_parse_wire.specs.Reading.{ReaderGives, Inner, message_at, record_at};
+ghost use Rattle.protobuf_parse_wire.specs.Reading.{records, value_at};
 ghost use Rattle.protobuf_parse_wire.specs.Indexed.{Remembers, entered_by, numbered};
-ghost use Rattle.protobuf_parse_wire.specs.Views.{HasNumber, number_said, read_field_view};
-ghost use Rattle.protobuf_parse_wire.specs.Views.{read_value_view};
+ghost use Rattle.protobuf_parse_wire.specs.Views.{HasNumber, number_said, payload_of_type};
+ghost use Rattle.protobuf_parse_wire.specs.Views.{read_field_view, read_value_view};
 
 use super::index::Index;
 use super::numbers::{self, ByNumber};
@@ -16,8 +17,7 @@ use super::visited::{self, Visited};
 use super::words;
 use crate::fault::ReadFault;
 use crate::field::{ReadField, ReadValue};
-use crate::kind::Kind;
-use protobuf_parse_model::FieldDescriptorProto;
+use protobuf_parse_model::{FieldDescriptorProto, FieldType};
 use std::alloc::Global;
 
 /// The fields of the message of that name, if at most so many levels of messages are in it, itself
@@ -122,10 +122,10 @@ fn value_of<'a, 'b>(
     let Some(field) = numbers::field_numbered(numbers, number) else {
         return Err(ReadFault::UnknownNumber);
     };
-    let Some(kind) = Kind::of(field.type_) else {
+    let Some(expected) = wire_type_of(field.type_) else {
         return Err(ReadFault::FloatOrGroup);
     };
-    if wire_type_of(kind) != wire_type {
+    if expected != wire_type {
         return Err(ReadFault::WrongWireType);
     }
     payload_of(
@@ -134,27 +134,28 @@ fn value_of<'a, 'b>(
         visited,
         levels,
         type_name_of(field),
-        kind,
+        field.type_,
         bytes,
     )
 }
 
-/// The wire type that the payload of the kind has.
-fn wire_type_of(kind: Kind) -> u64
-    ensures { result ≡ wire_type (shape_of_kind kind) }
+/// The wire type of values of a field's type, if they are read.
+fn wire_type_of(field_type: FieldType) -> Option<u64>
+    ensures { result ≡ option_map wire_type (shape_of_type field_type) }
 {
-    match kind {
-        Kind::Int32
-        | Kind::Int64
-        | Kind::Uint32
-        | Kind::Uint64
-        | Kind::Sint32
-        | Kind::Sint64
-        | Kind::Bool
-        | Kind::Enum => 0,
-        Kind::Fixed64 | Kind::Sfixed64 => 1,
-        Kind::String | Kind::Bytes | Kind::Message => 2,
-        Kind::Fixed32 | Kind::Sfixed32 => 5,
+    match field_type {
+        FieldType::Int32
+        | FieldType::Int64
+        | FieldType::Uint32
+        | FieldType::Uint64
+        | FieldType::Sint32
+        | FieldType::Sint64
+        | FieldType::Bool
+        | FieldType::Enum => Some(0),
+        FieldType::Fixed64 | FieldType::Sfixed64 => Some(1),
+        FieldType::String | FieldType::Bytes | FieldType::Message => Some(2),
+        FieldType::Fixed32 | FieldType::Sfixed32 => Some(5),
+        FieldType::Float | FieldType::Double | FieldType::Group => None,
     }
 }
 
@@ -164,42 +165,49 @@ fn type_name_of(field: &FieldDescriptorProto) -> Option<&str>
     field.type_name.as_deref()
 }
 
-/// What the unsigned number of an integer kind or an enum says.
-fn number_of(kind: Kind, word: u64) -> i128
-    requires { HasNumber (shape_of_kind kind) }
-    ensures { result ≡ number_said (shape_of_kind kind) word }
+/// What the unsigned number of an integer type or an enum says.
+fn number_of(field_type: FieldType, word: u64) -> i128
+    requires { HasNumber (shape_of_type field_type) }
+    ensures { result ≡ number_said (shape_of_type field_type) word }
 {
-    match kind {
-        Kind::Int32 | Kind::Sfixed32 | Kind::Enum => {
+    match field_type {
+        FieldType::Int32 | FieldType::Sfixed32 | FieldType::Enum => {
             i128::from(words::low_half(word).cast_signed())
         }
-        Kind::Int64 | Kind::Sfixed64 => i128::from(word.cast_signed()),
-        Kind::Uint32 | Kind::Fixed32 => i128::from(words::low_half(word)),
-        Kind::Uint64 | Kind::Fixed64 => i128::from(word),
-        Kind::Sint32 => words::unzigzag_of(u64::from(words::low_half(word))),
-        Kind::Sint64 => words::unzigzag_of(word),
-        Kind::Bool | Kind::String | Kind::Bytes | Kind::Message => unreachable!(),
+        FieldType::Int64 | FieldType::Sfixed64 => i128::from(word.cast_signed()),
+        FieldType::Uint32 | FieldType::Fixed32 => i128::from(words::low_half(word)),
+        FieldType::Uint64 | FieldType::Fixed64 => i128::from(word),
+        FieldType::Sint32 => words::unzigzag_of(u64::from(words::low_half(word))),
+        FieldType::Sint64 => words::unzigzag_of(word),
+        FieldType::Bool
+        | FieldType::String
+        | FieldType::Bytes
+        | FieldType::Message
+        | FieldType::Float
+        | FieldType::Double
+        | FieldType::Group => unreachable!(),
     }
 }
 
-/// The value of an integer kind or an enum, and the bytes after it.
+/// The value of an integer type or an enum, and the bytes after it.
 #[tactic(auto, unfolding(crate::specs::Reading::payload_at))]
-fn number_payload_of(kind: Kind, bytes: &[u8]) -> Result<(ReadValue, &[u8]), ReadFault>
-    requires { HasNumber (shape_of_kind kind) }
+fn number_payload_of(field_type: FieldType, bytes: &[u8]) -> Result<(ReadValue, &[u8]), ReadFault>
+    requires { HasNumber (shape_of_type field_type) }
     ensures gives { (inner : Inner) (name : Option Text)
         → ReaderGives (λ x. (read_value_view x.0, x.1.now)) result
-        (payload_at inner name (shape_of_kind kind) bytes.now) }
+        (payload_of_type inner name (shape_of_type field_type) bytes.now) }
     ensures shorter { IfOk result (λ x. length x.1.now ≤ length bytes.now) }
 {
-    let (word, rest) = match kind {
-        Kind::Fixed32 | Kind::Sfixed32 => words::four_of(bytes)?,
-        Kind::Fixed64 | Kind::Sfixed64 => words::eight_of(bytes)?,
+    let (word, rest) = match field_type {
+        FieldType::Fixed32 | FieldType::Sfixed32 => words::four_of(bytes)?,
+        FieldType::Fixed64 | FieldType::Sfixed64 => words::eight_of(bytes)?,
         _ => words::varint_of(bytes, 10)?,
     };
-    Ok((ReadValue::Number(number_of(kind, word)), rest))
+    Ok((ReadValue::Number(number_of(field_type, word)), rest))
 }
 
-/// The value of the kind, and the bytes after it; a message's by its name.
+/// The value of a field's type, which isn't float, double or group, and the bytes after it; a
+/// message's by its name.
 #[cycle(message)]
 #[tactic(auto, unfolding(crate::specs::Reading::payload_at))]
 fn payload_of<'a, 'b>(
@@ -208,37 +216,38 @@ fn payload_of<'a, 'b>(
     visited: &mut Visited<'a>,
     levels: u32,
     name: Option<&str>,
-    kind: Kind,
+    field_type: FieldType,
     bytes: &'b [u8],
 ) -> Result<(ReadValue, &'b [u8]), ReadFault>
-    requires { Remembers index.now visited.old }
+    requires known { Remembers index.now visited.old }
+    requires is_read { IsSome (shape_of_type field_type) }
     ensures gives { ReaderGives (λ x. (read_value_view x.0, x.1.now)) result
-        (payload_at (message_at (entered_by index.now) levels) (option_copied name.entry)
-        (shape_of_kind kind) bytes.now) }
+        (payload_of_type (message_at (entered_by index.now) levels) (option_copied name.entry)
+        (shape_of_type field_type) bytes.now) }
     ensures shorter { IfOk result (λ x. length x.1.now ≤ length bytes.now) }
     ensures kept { OnOk result (Remembers index.now visited.new) }
 {
-    match kind {
-        Kind::Bool => {
+    match field_type {
+        FieldType::Bool => {
             let (word, rest) = words::varint_of(bytes, 10)?;
             Ok((ReadValue::Bool(word > 0), rest))
         }
-        Kind::String => {
+        FieldType::String => {
             let (text, rest) = words::delimited_of(bytes)?;
             if !words::is_text(text) {
                 return Err(ReadFault::BadUtf8);
             }
             Ok((ReadValue::Bytes(Vec::from_slice(alloc, text)?), rest))
         }
-        Kind::Bytes => {
+        FieldType::Bytes => {
             let (inside, rest) = words::delimited_of(bytes)?;
             Ok((ReadValue::Bytes(Vec::from_slice(alloc, inside)?), rest))
         }
-        Kind::Message => {
+        FieldType::Message => {
             let (inside, rest) = words::delimited_of(bytes)?;
             let fields = message_of(alloc, index, visited, levels, name, inside)?;
             Ok((ReadValue::Message(fields), rest))
         }
-        _ => number_payload_of(kind, bytes),
+        _ => number_payload_of(field_type, bytes),
     }
 }

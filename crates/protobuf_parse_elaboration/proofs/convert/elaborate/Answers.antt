@@ -6,11 +6,11 @@ use Rattle.protobuf_parse_model.specs.Descriptors.{Text}
 use Rattle.protobuf_parse_model.specs.Environment.{Environment}
 use Rattle.protobuf_parse_model.specs.Faults.{Elaborates}
 use Rattle.protobuf_parse_elaboration.specs.FileDescriptor.{file_faults, file_of}
-use Rattle.protobuf_parse_elaboration.proofs.Sights.{seen_types_are}
+use Rattle.protobuf_parse_model.proofs.Sights.{seen_types_are}
 use Rattle.protobuf_parse_elaboration.proofs.convert.elaborate.Goals as goal
 
-pub returns-clause-by_files : goal.returns-clause-by_files
-returns-clause-by_files g c files told =
+pub returns : goal.returns
+returns g c files told =
     let t = file_syntax c.args.tree.now in
     let sees : (Text → Option DeclaredType)
     → Environment = λ types.

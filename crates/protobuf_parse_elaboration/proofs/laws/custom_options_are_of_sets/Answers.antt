@@ -1,5 +1,4 @@
 use Rattle.protobuf_parse_elaboration.proofs.CustomSets.{faults_are_of_sets, none_is_none_in_sets}
-use Rattle.protobuf_parse_elaboration.proofs.CustomSets.{options_are_builtin}
 use Rattle.protobuf_parse_elaboration.proofs.SameBytes.{bytes_are_of_sets}
 use Rattle.protobuf_parse_elaboration.proofs.laws.custom_options_are_of_sets.Goals as goal
 
@@ -11,6 +10,3 @@ returns-clause-none c = none_is_none_in_sets
 
 pub returns-clause-bytes : goal.returns-clause-bytes
 returns-clause-bytes c = bytes_are_of_sets
-
-pub returns-clause-builtin : goal.returns-clause-builtin
-returns-clause-builtin c = options_are_builtin

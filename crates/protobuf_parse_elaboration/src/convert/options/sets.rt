@@ -169,19 +169,14 @@ pub fn message_options(options: &[&ProtobufOption], custom: Vec<u8>) -> Option<M
 }
 
 /// The options of a field.
-pub fn field_options(
-    alloc: Global,
-    options: &[&ProtobufOption],
-    custom: Vec<u8>,
-) -> Result<Option<Box<FieldOptions>>, AllocError>
-    ensures { IfOk result
-        (λ o. option_map seen.boxed_options_view o
-        ≡ spec.field_options custom.items (options_seen options.now)) }
+pub fn field_options(options: &[&ProtobufOption], custom: Vec<u8>) -> Option<FieldOptions>
+    ensures { option_map seen.field_options_view result
+        ≡ spec.field_options custom.items (options_seen options.now) }
 {
     if options.is_empty() {
-        return Ok(None);
+        return None;
     }
-    let set = FieldOptions {
+    Some(FieldOptions {
         ctype: word_option(options, "ctype", C_TYPES),
         packed: truth_option(options, "packed"),
         deprecated: truth_option(options, "deprecated"),
@@ -191,8 +186,7 @@ pub fn field_options(
         unverified_lazy: truth_option(options, "unverified_lazy"),
         debug_redact: truth_option(options, "debug_redact"),
         custom,
-    };
-    Ok(Some(Box::new(alloc, set)?))
+    })
 }
 
 /// The options of a oneof.

@@ -12,6 +12,6 @@ returns c =
     let name = c.args.name.now in
     named_twice name c.first_extension.result
     ∙ ap (option_map (with_name name)) (c.first_extension.ensures
-    ∙ ap (λ ps. first (at_spots extensions_inside sight (map spot_view ps))) c.group.ensures
+    ∙ ap (λ ps. first (at_spots extensions_inside sight (map spot_view ps))) c.values.ensures
     ∙ ap first (c.args.known.now.all_extensions name))
     ∙ first_named name (flat_map declared_extensions (files_seen sight))

@@ -7,5 +7,5 @@ returns c =
     let known = c.args.known.now in
     let name = c.args.name.now in
     c.field_of.ensures
-    ∙ ap (λ ps. found_by (field_there known.reach name) (map spot_view ps)) c.group.ensures
+    ∙ ap (λ ps. found_by (field_there known.reach name) (map spot_view ps)) c.values.ensures
     ∙ known.all_fields c.args.message.now name

@@ -12,11 +12,11 @@ returns c =
     let reach = c.args.known.now.reach in
     let name = c.args.name.now in
     let all = ap (λ ps. map parts_seen (at_spots messages_inside reach (map spot_view ps)))
-    c.group.ensures ∙ c.args.known.now.all_messages name in
+    c.values.ensures ∙ c.args.known.now.all_messages name in
     c.is_some.ensures
     ∙ sym (is_some_mapped message_seen c.first_message.result)
     ∙ ap is_some c.first_message.ensures
     ∙ sym (first_mapped parts_seen (at_spots messages_inside reach
-    (map spot_view c.group.result.now)))
+    (map spot_view c.values.result.now)))
     ∙ ap (λ ps. is_some (first ps)) all
     ∙ sym (any_named name (flat_map messages_declared_in (files_seen reach)))

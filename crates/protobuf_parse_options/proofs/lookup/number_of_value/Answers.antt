@@ -7,5 +7,5 @@ returns c =
     let known = c.args.known.now in
     let name = c.args.name.now in
     c.number_of.ensures
-    ∙ ap (λ ps. found_by (number_there known.reach name) (map spot_view ps)) c.group-enums.ensures
+    ∙ ap (λ ps. found_by (number_there known.reach name) (map spot_view ps)) c.values-enums.ensures
     ∙ known.all_values c.args.enum_name.now name

@@ -20,7 +20,7 @@ returns g c =
       position = q;
     } in
     on_ok_weaker c.put.result
-    (λ h name. put_spot parts c.args.places.now c.put.new.groups k (record {
+    (λ h name. put_spot parts c.args.places.now c.put.new.map k (record {
       file = c.args.file;
       path = c.in_ok-copied.field-0;
       index = k.index;

@@ -14,7 +14,7 @@ returns-in_ok-descriptor-clause-describes c files told =
     let reach = c.args.sights.now.reach.items in
     let linked : link_faults (picked files reach)
     ≡ [] = ((rw c.deref-2.ensures.value at c.in_ok-link.ensures) files told).0 in
-    let own = (rw c.deref.ensures.value at c.in_ok-descriptor.ensures.by_files) files told in
+    let own = (rw c.deref.ensures.value at c.in_ok-descriptor.ensures) files told in
     none-set c.args.loaded.now.entries files reach c.args.sights.now.sight.items c.args.path.now
     (file_syntax c.args.tree) linked c.in_ok-descriptor.descriptor
     (sym c.has_custom_option.ensures ∙ c.if-has_custom_option.false) own.0 own.1
@@ -34,4 +34,4 @@ returns-in_err-descriptor-clause-describes c files told =
     rw (e.1, e.2)
     (own-told c.args.loaded.now.entries files reach c.args.sights.now.sight.items c.args.path.now
     (file_syntax c.args.tree) linked c.in_err-descriptor.field-0.0
-    ((rw c.deref.ensures.value at c.in_err-descriptor.ensures.by_files) files told))
+    ((rw c.deref.ensures.value at c.in_err-descriptor.ensures) files told))

@@ -34,4 +34,4 @@ returns c files told =
     ∙ ap (λ (ds : List FileDescriptor). known_customs (picked_plains plains reach) ds) visible in
     subst (λ (k : Customs). Elaborates described.file_view c.elaborate_owned.result
     (file_faults (environment seen k t) t) (file_of (environment seen k t) c.args.path.now t))
-    known (c.elaborate_owned.ensures.by_files files told)
+    known (c.elaborate_owned.ensures files told)

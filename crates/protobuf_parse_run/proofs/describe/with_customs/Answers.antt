@@ -15,14 +15,14 @@ returns-in_err-plain-clause-describes c files told linked =
     (own-told c.args.loaded.now.entries files c.args.seen.now.reach.now
     c.args.seen.now.sight.now c.args.path.now
     (file_syntax c.args.tree) linked c.in_err-plain.field-0.0
-    (c.in_err-plain.ensures.by_files files told))
+    (c.in_err-plain.ensures files told))
 
 pub returns-in_err-descriptor-clause-describes : goal.returns-in_err-descriptor-clause-describes
 returns-in_err-descriptor-clause-describes c files told linked =
     let loaded = c.args.loaded.now.entries in
     let reach = c.args.seen.now.reach.now in
     let sight = c.args.seen.now.sight.now in
-    let own = c.in_ok-plain.ensures.by_files files told in
+    let own = c.in_ok-plain.ensures files told in
     let plains = plains_with loaded (described.file_view c.in_ok-plain.plain) in
     let same = ap (λ (d : FileDescriptor). customs_over (plains_with loaded d) reach sight) own.1 in
     let e = err_from_is_err_and c.from_residual-in_err-descriptor.result
@@ -37,7 +37,7 @@ returns-clause-describes c files told linked =
     let loaded = c.args.loaded.now.entries in
     let reach = c.args.seen.now.reach.now in
     let sight = c.args.seen.now.sight.now in
-    let own = c.in_ok-plain.ensures.by_files files told in
+    let own = c.in_ok-plain.ensures files told in
     let whole = c.in_ok-descriptor.ensures files told in
     let plains = plains_with loaded (described.file_view c.in_ok-plain.plain) in
     let same = ap (λ (d : FileDescriptor). customs_over (plains_with loaded d) reach sight) own.1 in

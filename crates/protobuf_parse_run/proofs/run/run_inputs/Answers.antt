@@ -6,6 +6,7 @@ use Rattle.protobuf_parse_run.proofs.Causing.{caused}
 use Rattle.protobuf_parse_run.proofs.Deciding.{goes-on, have-trees, run-files}
 use Rattle.protobuf_parse_run.proofs.Listed.{have-lists}
 use Rattle.protobuf_parse_run.proofs.Following.{all-follow}
+use Rattle.protobuf_parse_run.proofs.ReadingBack.{all-readable}
 use Rattle.protobuf_parse_run.proofs.Recovering.{all-held}
 use Rattle.protobuf_parse_run.proofs.Telling.{accepted, broken, stopped}
 use Rattle.protobuf_parse_run.proofs.run.run_inputs.Goals as goal
@@ -49,6 +50,9 @@ returns-clause-once g c = all-asked-once _ _ _ _ _ (returns-clause-told g c)
 
 pub returns-clause-options : goal.returns-clause-options
 returns-clause-options g c = all-held _ _ _ _ _ (returns-clause-told g c)
+
+pub returns-clause-readable : goal.returns-clause-readable
+returns-clause-readable g c = all-readable _ _ _ _ _ (returns-clause-told g c)
 
 pub returns-clause-meets : goal.returns-clause-meets
 returns-clause-meets g c trees has =

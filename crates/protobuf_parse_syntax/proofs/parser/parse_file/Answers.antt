@@ -1,10 +1,11 @@
 use Rattle.std.proofs.Common.{inr}
 use Rattle.std.proofs.lemmas.Result.{err_from_is_err_and}
 use Rattle.protobuf_parse_lexer.specs.Cut.{stream}
-use Rattle.protobuf_parse_lexer.specs.Tokenizers.{lies_ahead}
+use Rattle.protobuf_parse_lexer.specs.AheadViews.{lies_ahead}
 use Rattle.protobuf_parse_lexer.proofs.Refusals.{read_not_refused, one_error}
 use Rattle.protobuf_parse_syntax.specs.Trees.{file_syntax}
-use Rattle.protobuf_parse_syntax.proofs.Texts.{its_tokens, refused_none, refused_none_or, only_of}
+use Rattle.protobuf_parse_syntax.proofs.Texts.{its_tokens, shallow_or, read_ahead, reads_ahead}
+use Rattle.protobuf_parse_syntax.proofs.Texts.{refused_none, refused_none_or, only_of}
 use Rattle.protobuf_parse_syntax.proofs.Texts.{none_of, fault_of}
 use Rattle.protobuf_parse_syntax.proofs.Nesting.{tree_shallow}
 use Rattle.protobuf_parse_syntax.proofs.Sizes.{tree_size}
@@ -24,6 +25,12 @@ returns-in_err-tokens-clause-tells c = λ x at is.
     let e = c.in_err-tokens.field-0.0 in
     rw (p.1, p.2) (inr (one_error c.args.text.now e x at c.in_err-tokens.ensures.refused is))
 
+-- ---- the tokens
+
+pub tree_of-requires : goal.tree_of-requires
+tree_of-requires c = shallow_or c.args.text.now (lies_ahead c.in_ok-tokens.tokens)
+    (read_ahead c.args.text.now c.in_ok-tokens.tokens c.in_ok-tokens.ensures.read)
+
 -- ---- a tree
 
 pub returns-in-Ok-clause-found : goal.returns-in-Ok-clause-found
@@ -31,13 +38,16 @@ returns-in-Ok-clause-found c =
     let s = lies_ahead c.in_ok-tokens.tokens in
     record {
       stream = s;
-      tokens = its_tokens c.args.text.now s c.in_ok-tokens.ensures.read c.in-Ok.ensures.whole;
+      tokens = its_tokens c.args.text.now s
+          (read_ahead c.args.text.now c.in_ok-tokens.tokens c.in_ok-tokens.ensures.read)
+          c.in-Ok.ensures.whole;
       file = c.in-Ok.ensures.found;
     }
 
 pub returns-in-Ok-clause-only : goal.returns-in-Ok-clause-only
 returns-in-Ok-clause-only c =
-    only_of c.args.text.now (lies_ahead c.in_ok-tokens.tokens) c.in_ok-tokens.ensures.reads
+    only_of c.args.text.now (lies_ahead c.in_ok-tokens.tokens)
+    (reads_ahead c.args.text.now c.in_ok-tokens.tokens c.in_ok-tokens.ensures.reads)
     (file_syntax c.in-Ok.tree) c.in-Ok.ensures.only
 
 pub returns-in-Ok-clause-few : goal.returns-in-Ok-clause-few
@@ -46,7 +56,9 @@ returns-in-Ok-clause-few c =
     tree_size c.args.text.now (file_syntax c.in-Ok.tree)
     (record {
       stream = s;
-      tokens = its_tokens c.args.text.now s c.in_ok-tokens.ensures.read c.in-Ok.ensures.whole;
+      tokens = its_tokens c.args.text.now s
+          (read_ahead c.args.text.now c.in_ok-tokens.tokens c.in_ok-tokens.ensures.read)
+          c.in-Ok.ensures.whole;
       file = c.in-Ok.ensures.found;
     })
 
@@ -56,7 +68,9 @@ returns-in-Ok-clause-shallow c =
     tree_shallow c.args.text.now (file_syntax c.in-Ok.tree)
     (record {
       stream = s;
-      tokens = its_tokens c.args.text.now s c.in_ok-tokens.ensures.read c.in-Ok.ensures.whole;
+      tokens = its_tokens c.args.text.now s
+          (read_ahead c.args.text.now c.in_ok-tokens.tokens c.in_ok-tokens.ensures.read)
+          c.in-Ok.ensures.whole;
       file = c.in-Ok.ensures.found;
     })
 
@@ -64,7 +78,9 @@ pub returns-in-Ok-clause-tells : goal.returns-in-Ok-clause-tells
 returns-in-Ok-clause-tells c = λ e at is.
     let s = lies_ahead c.in_ok-tokens.tokens in
     read_not_refused c.args.text.now s e at
-    (its_tokens c.args.text.now s c.in_ok-tokens.ensures.read c.in-Ok.ensures.whole) is
+    (its_tokens c.args.text.now s
+    (read_ahead c.args.text.now c.in_ok-tokens.tokens c.in_ok-tokens.ensures.read)
+    c.in-Ok.ensures.whole) is
 
 -- ---- a fault of the tokens
 
@@ -80,12 +96,14 @@ returns-in_err-tokenize-in-Err-clause-none c =
 
 pub returns-in_ok-tokenize-in-Err-clause-none : goal.returns-in_ok-tokenize-in-Err-clause-none
 returns-in_ok-tokenize-in-Err-clause-none c =
-    none_of c.args.text.now (lies_ahead c.in_ok-tokens.tokens) c.in_ok-tokens.ensures.reads
+    none_of c.args.text.now (lies_ahead c.in_ok-tokens.tokens)
+    (reads_ahead c.args.text.now c.in_ok-tokens.tokens c.in_ok-tokens.ensures.reads)
     (stream c.in_ok-tokenize-in-Err.field-0) c.in_ok-tokenize-in-Err.ensures.read c.in-Err.error
     c.in-Err.ensures.refused
 
 pub returns-in_ok-tokenize-in-Err-clause-refused : goal.returns-in_ok-tokenize-in-Err-clause-refused
 returns-in_ok-tokenize-in-Err-clause-refused c =
-    fault_of c.args.text.now (lies_ahead c.in_ok-tokens.tokens) c.in_ok-tokens.ensures.reads
+    fault_of c.args.text.now (lies_ahead c.in_ok-tokens.tokens)
+    (reads_ahead c.args.text.now c.in_ok-tokens.tokens c.in_ok-tokens.ensures.reads)
     (stream c.in_ok-tokenize-in-Err.field-0) c.in_ok-tokenize-in-Err.ensures.read c.in-Err.error
     c.in-Err.ensures.refused

@@ -4,7 +4,7 @@ use Rattle.protobuf_parse_syntax.specs.declared.tree.field.FieldStatement.{Field
 use Rattle.protobuf_parse_syntax.specs.Trees.{extend_syntax, field_statement_syntax}
 use Rattle.protobuf_parse_model.specs.SeenFiles.{environment_in}
 use Rattle.protobuf_parse_model.specs.Descriptors.{Text, field_view, message_view}
-use Rattle.protobuf_parse_elaboration.specs.Parts.{fields_declared, fields_view}
+use Rattle.protobuf_parse_elaboration.specs.Parts.{extensions_declared, fields_view}
 use Rattle.protobuf_parse_elaboration.specs.Messages.{extending, extension_faults_of}
 use Rattle.protobuf_parse_elaboration.proofs.Bodies.{file_with_extend}
 use Rattle.protobuf_parse_elaboration.proofs.convert.contents.add_extensions.Goals as goal
@@ -19,12 +19,12 @@ returns g c =
     (λ (name : Text).
     (flat_map (extension_faults_of env name) (map field_statement_syntax c.deref-2.result.now)
     ≡ []) × (fields_view declared
-    ≡ fields_declared env (extending env name) (map field_statement_syntax c.deref-2.result.now)))
+    ≡ extensions_declared env (extending env name) (map field_statement_syntax c.deref-2.result.now)))
     c.deref.ensures c.in_ok-declared.ensures in
     let d = subst
     (λ (xs : List FieldStatement).
     (flat_map (extension_faults_of env e.extendee) (map field_statement_syntax xs) ≡ [])
-    × (fields_view declared ≡ fields_declared env (extending env e.extendee)
+    × (fields_view declared ≡ extensions_declared env (extending env e.extendee)
     (map field_statement_syntax xs))) c.deref-2.ensures.value by_name in
     let extensions = ap (map field_view) c.in_ok-append_declared.ensures.fields
     ∙ map-append field_view old.extension.items _ in

@@ -1,5 +1,6 @@
 use Rattle.std.proofs.Common.{◌≡◌, [], map, take, flat_map}
 use Rattle.protobuf_parse_syntax.specs.Trees.{field_statement_syntax}
+use Rattle.protobuf_parse_model.specs.Statements.{groups}
 use Rattle.protobuf_parse_model.specs.SeenFiles.{environment_in}
 use Rattle.protobuf_parse_model.specs.Descriptors.{field_view, message_view}
 use Rattle.protobuf_parse_elaboration.specs.Parts.{field_place_view}
@@ -15,5 +16,5 @@ invariant-loop-statement g l =
       no_fault : flat_map (extension_faults env) seen ≡ [];
       all : map field_view l.fields.items
           ≡ map (field_statement_of env (field_place_view l.place)) seen;
-      all_behind : map message_view l.behind.items ≡ flat_map (messages_behind env) seen;
+      all_behind : map message_view l.behind.items ≡ flat_map (messages_behind env) (flat_map groups seen);
     }

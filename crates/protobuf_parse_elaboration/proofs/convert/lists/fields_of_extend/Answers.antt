@@ -4,7 +4,7 @@ use Rattle.protobuf_parse_syntax.specs.Trees.{field_statement_syntax}
 use Rattle.protobuf_parse_model.specs.SeenFiles.{environment_in}
 use Rattle.protobuf_parse_model.specs.Descriptors.{Text}
 use Rattle.protobuf_parse_model.specs.Faults.{Elaborates, Fault}
-use Rattle.protobuf_parse_elaboration.specs.Parts.{fields_declared, fields_view}
+use Rattle.protobuf_parse_elaboration.specs.Parts.{extensions_declared, fields_view}
 use Rattle.protobuf_parse_elaboration.specs.Fields.{FieldPlace}
 use Rattle.protobuf_parse_elaboration.specs.Messages.{extending, extension_faults_of}
 use Rattle.protobuf_parse_elaboration.proofs.Extending.{extendee_known, extendee_missing, extending_it}
@@ -35,7 +35,7 @@ returns g c =
     let is : extending_it (Some c.deref.result.now) ≡ extending env extendee =
     ap (λ (t : Text). extending_it (Some t)) c.deref.ensures ∙ ap extending_it known.1 in
     subst (λ (p : FieldPlace). Elaborates fields_view r
-    (flat_map (extension_faults_of env extendee) ss) (fields_declared env p ss)) is
+    (flat_map (extension_faults_of env extendee) ss) (extensions_declared env p ss)) is
     (subst (λ (faults : List Fault). Elaborates fields_view r faults
-    (fields_declared env (extending_it (Some c.deref.result.now)) ss))
+    (extensions_declared env (extending_it (Some c.deref.result.now)) ss))
     (extendee_known env extendee ss known.0) c.declared_extensions.ensures)

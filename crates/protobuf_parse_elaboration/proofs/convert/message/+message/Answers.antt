@@ -4,7 +4,7 @@ use Rattle.std.proofs.lemmas.Grind.{flat_map-append}
 use Rattle.std.proofs.lemmas.List.{map_more}
 use Rattle.std.proofs.lemmas.Result.{err_from_is_err_and}
 use Rattle.protobuf_parse_base.specs.DeclaredNames.{name_bytes}
-use Rattle.protobuf_parse_syntax.specs.Trees.{MessageStatementSyntax, nested_message}
+use Rattle.protobuf_parse_syntax.specs.Trees.{MessageStatementSyntax, MessageSyntax, nested_message}
 use Rattle.protobuf_parse_syntax.specs.Trees.{message_statement_syntax, message_syntax}
 use Rattle.protobuf_parse_syntax.specs.Counts.{message_statement_count}
 use Rattle.protobuf_parse_syntax.specs.declared.tree.declaration.MessageStatement.{MessageStatement}
@@ -14,18 +14,15 @@ use Rattle.protobuf_parse_syntax.proofs.Messages.{view_parts}
 use Rattle.protobuf_parse_model.specs.SeenFiles.{environment_in}
 use Rattle.protobuf_parse_model.specs.SeenFiles.{seen_types, name_texts}
 use Rattle.protobuf_parse_model.specs.Declarations.{Scope}
-use Rattle.protobuf_parse_model.specs.Descriptors as described
 use Rattle.protobuf_parse_model.specs.Environment.{Environment}
-use Rattle.protobuf_parse_model.specs.Faults.{Elaborates, Fault}
+use Rattle.protobuf_parse_model.specs.Faults.{Elaborates}
 use Rattle.protobuf_parse_model.proofs.Blaming.{blames_right}
 use Rattle.protobuf_parse_model.proofs.TreeViews.{views_nested}
 use Rattle.protobuf_parse_elaboration.specs.Parts.{BodyParts, body_of, body_view}
-use Rattle.protobuf_parse_elaboration.specs.Parts.{with_message}
 use Rattle.protobuf_parse_elaboration.specs.Parts.{with_body_statement}
-use Rattle.protobuf_parse_elaboration.specs.Messages.{faults_of_body, message_of, message_of_body}
 use Rattle.protobuf_parse_elaboration.specs.Messages.{statement_faults}
-use Rattle.protobuf_parse_elaboration.proofs.Bodies.{body_more, few_more, nil-both, with_nested}
-use Rattle.protobuf_parse_elaboration.proofs.Levels.{faults_of_message}
+use Rattle.protobuf_parse_elaboration.proofs.Bodies.{body_more, few_more, nil-both}
+use Rattle.protobuf_parse_elaboration.proofs.Levels.{IsOfBody, of_body}
 use Rattle.protobuf_parse_elaboration.proofs.convert.message.+message.Goals as goal
 
 pub message_descriptor-returns : goal.message_descriptor-returns
@@ -34,16 +31,12 @@ message_descriptor-returns g t c =
     let m = c.args.message.now in
     let r = c.message_of_body.result in
     let named = subst
-    (λ (n : List ℕ). Elaborates described.message_view r
-    (faults_of_body env n (map message_statement_syntax c.deref-2.result.now))
-    (message_of_body env n (map message_statement_syntax c.deref-2.result.now))) c.deref.ensures
-    c.message_of_body.ensures in
-    let whole = subst
-    (λ (ss : List MessageStatementSyntax). Elaborates described.message_view r
-    (faults_of_body env (name_bytes m.name) ss)
-    (message_of_body env (name_bytes m.name) ss)) (ap
+    (λ (n : List ℕ). IsOfBody env r n (map message_statement_syntax c.deref-2.result.now))
+    c.deref.ensures c.message_of_body.ensures in
+    let whole = subst (IsOfBody env r (name_bytes m.name)) (ap
     (map message_statement_syntax) c.deref-2.ensures.value) named in
-    rw (view_parts m) whole
+    of_body env r (message_syntax m)
+    (subst (λ (x : MessageSyntax). IsOfBody env r x.name x.body) (sym (view_parts m)) whole)
 
 pub message_of_body-returns-in_err-parts : goal.message_of_body-returns-in_err-parts
 message_of_body-returns-in_err-parts g t c =
@@ -93,22 +86,12 @@ body_of-loop-statement-preserved g t c =
 pub add_statement-returns-in-Message : goal.add_statement-returns-in-Message
 add_statement-returns-in-Message g t c =
     let env = environment_in (g.C.CustomOptions.customs c.args.custom.now) c.args.context.now in
-    let m = message_syntax c.in-Message.message in
-    let b = body_view c.args.body.now in
-    let r = c.add_message.result in
     let is : message_statement_syntax c.args.statement.now
-    ≡ nested_message m = ap message_statement_syntax c.in-Message.is
-    ∙ views_nested c.in-Message.message in
-    let faults = subst
-    (λ (fs : List Fault). Elaborates {Y = BodyParts}
-    (λ x. body_view c.add_message.new.body) r fs (with_message b (message_of env m))) (sym
-    (faults_of_message env m)) c.add_message.ensures in
-    let whole = subst
-    (λ (p : BodyParts). Elaborates {Y = BodyParts} (λ x. body_view c.add_message.new.body) r
-    (statement_faults env (nested_message m)) p) (with_nested env b m) faults in
+    ≡ nested_message (message_syntax c.in-Message.message) =
+    ap message_statement_syntax c.in-Message.is ∙ views_nested c.in-Message.message in
     subst (λ (s : MessageStatementSyntax). Elaborates {Y = BodyParts}
-    (λ x. body_view c.add_message.new.body) r (statement_faults env s)
-    (with_body_statement env b s)) (sym is) whole
+    (λ x. body_view c.add_message.new.body) c.add_message.result (statement_faults env s)
+    (with_body_statement env (body_view c.args.body.now) s)) (sym is) c.add_message.ensures
 
 -- ---- each part has fewer statements than the whole
 

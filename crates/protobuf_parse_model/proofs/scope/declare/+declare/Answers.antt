@@ -8,7 +8,7 @@ use Rattle.protobuf_parse_model.specs.Declarations.{DeclaredType, Scope, a_messa
 use Rattle.protobuf_parse_model.specs.Declarations.{types_of}
 use Rattle.protobuf_parse_model.specs.SeenFiles.{name_texts}
 use Rattle.protobuf_parse_model.specs.Tables.{Adds, type_entry}
-use Rattle.protobuf_parse_model.proofs.Tables.{adds_next, message_types-view, types_of-view}
+use Rattle.protobuf_parse_model.proofs.Tables.{adds_next, types-view, types_of-view}
 use Rattle.protobuf_parse_model.proofs.scope.declare.+declare.Goals as goal
 
 pub add_message-loop-statement-preserved : goal.add_message-loop-statement-preserved
@@ -37,7 +37,7 @@ add_message-returns-clause-adds t c =
     c.loop-statement-test.false ∙ c.deref-statement-items.ensures.value in
     let is = ap (λ (xs : List MessageStatement). declare outer name a_message
     ∷ flat_map (types_of (inside outer name)) (map message_statement_syntax xs)) items
-    ∙ sym (message_types-view outer c.args.message.now) in
+    ∙ sym (types-view outer c.args.message.now) in
     subst (λ (ds : List DeclaredType). Adds type_entry c.args.table.now c.loop-statement.table
     c.args.file ds) is c.loop-statement.invariant.adds
 

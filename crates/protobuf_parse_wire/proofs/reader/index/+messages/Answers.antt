@@ -2,7 +2,7 @@ use Rattle.std.proofs.Common.{◌≡◌, List, cond, ◌++◌, ◌∷◌, [], �
 use Rattle.std.proofs.Common.{string_bytes, map, refl, ap}
 use Rattle.std.specs.List.{flat_map}
 use Rattle.std.specs.Str.{bytes_eq}
-use Rattle.protobuf_parse_wire.specs.Groups.{group}
+use Rattle.protobuf_parse_base.specs.Multimaps.{values_under}
 use Rattle.protobuf_parse_wire.specs.declared.reader.index.Index.{Index}
 use Rattle.std.proofs.lemmas.Result.{on_ok_weaker}
 use Rattle.protobuf_parse_model.specs.declared.descriptor.DescriptorProto.{DescriptorProto}
@@ -17,14 +17,14 @@ use Rattle.protobuf_parse_wire.proofs.reader.index.+messages.Goals as goal
 
 pub add_message-returns : goal.add_message-returns
 add_message-returns t c =
-    let a : Index = record c.args.index.now { messages = c.put.new.groups } in
+    let a : Index = record c.args.index.now { messages = c.put.new.map } in
     let b : Index = c.add_extensions.new.index in
     let new : Index = c.add_messages.new.index in
     let name : Text = string_bytes c.in_ok-name.name in
     let cloned : string_bytes c.in_ok-clone.field-0 ≡ name = c.in_ok-clone.ensures.cases in
-    let put : (q : Text) → group a.messages q
-    ≡ cond (bytes_eq q name) (group c.args.index.now.messages q ++ c.args.message ∷ [])
-    (group c.args.index.now.messages q) = λ q. rw (← cloned) (c.in_ok-put.ensures q) in
+    let put : (q : Text) → values_under a.messages q
+    ≡ cond (bytes_eq q name) (values_under c.args.index.now.messages q ++ c.args.message ∷ [])
+    (values_under c.args.index.now.messages q) = λ q. rw (← cloned) (c.in_ok-put.ensures q) in
     let own : IndexAdds a b []
     (map field_view (out-DescriptorProto c.args.message.now).extension.items) =
     subst (λ (es : List FieldDescriptorProto). IndexAdds a b [] (map field_view es))

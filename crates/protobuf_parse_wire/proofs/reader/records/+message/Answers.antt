@@ -1,4 +1,4 @@
-use Rattle.std.proofs.Common.{◌≡◌, Ok, ℕ, List, ◌++◌, ◌∷◌, [], map, sym, subst, ◌∙◌, arith}
+use Rattle.std.proofs.Common.{◌≡◌, Ok, ℕ, List, ◌++◌, ◌∷◌, [], map, sym, subst, arith, rules}
 use Rattle.std.proofs.lemmas.Result.{err_from_is_err_and}
 use Rattle.std.proofs.lemmas.List.{map_push}
 use Rattle.std.proofs.lemmas.Grind.{common_steps}
@@ -9,7 +9,8 @@ use Rattle.protobuf_parse_wire.specs.Trees.{Field, ValueTree}
 use Rattle.protobuf_parse_model.specs.Descriptors.{field_view}
 use Rattle.protobuf_parse_wire.specs.Indexed.{entered_by, numbered}
 use Rattle.protobuf_parse_wire.proofs.Loop.{goes_on, ends, is_done}
-use Rattle.protobuf_parse_wire.proofs.Levels.{too_deep, not_entered, one_level, value_is}
+use Rattle.protobuf_parse_wire.proofs.Levels.{too_deep, not_entered, one_level, value_found}
+use Rattle.protobuf_parse_wire.proofs.Levels.{is_read}
 use Rattle.protobuf_parse_wire.proofs.reader.records.+message.Goals as goal
 
 pub records_of-returns-in_err-field-clause-gives : goal.records_of-returns-in_err-field-clause-gives
@@ -64,13 +65,19 @@ message_of-returns-clause-gives t c =
     (λ v. map read_field_view v.items) c.records_of.result read) (sym e)
     c.records_of.ensures.gives
 
+pub value_of-payload_of-requires : goal.value_of-payload_of-requires
+value_of-payload_of-requires t c = (
+  search rules,
+  (c.requires, is_read c.in-Some-wire_type_of.expected _ c.in-Some-wire_type_of.ensures),
+)
+
 pub value_of-returns-clause-gives : goal.value_of-returns-clause-gives
 value_of-returns-clause-gives t c =
     let inner = message_at (entered_by c.args.index.now) c.args.levels in
-    let e = value_is inner (numbered c.args.numbers.now c.args.number)
-    (field_view c.in-Some.field.now) c.in-Some-of.kind c.args.wire_type c.args.bytes.now
-    (sym c.in-Some.ensures.found) (sym c.in-Some-of.ensures)
-    (sym c.wire_type_of.ensures ∙ c.if-wire_type_of-wire_type.false) in
+    let e = value_found inner (numbered c.args.numbers.now c.args.number)
+    (field_view c.in-Some.field.now) c.in-Some-wire_type_of.expected c.args.wire_type
+    c.args.bytes.now (sym c.in-Some.ensures.found) c.in-Some-wire_type_of.ensures
+    c.if-expected-wire_type.false in
     subst (λ (read : WireRead (ValueTree × List ℕ)). ReaderGives
     (λ x. (read_value_view x.0, x.1.now)) c.payload_of.result read) (sym e) (rw
     (← c.type_name_of.ensures) c.payload_of.ensures.gives)

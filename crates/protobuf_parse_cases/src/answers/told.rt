@@ -1,0 +1,58 @@
+//! Faults and violations as people are told them.
+
+use super::runs::files_with;
+use super::texts::without_last_feed;
+use crate::cases::{Case, CaseFile, Row};
+use crate::files::Files;
+use anyhow::Result;
+use protobuf_parse::{ProtoPathBuf, RunInput, RunLog, bundled_files, run_inputs};
+use protobuf_parse_diagnostics::{
+    Diagnostic, RuleLevel, Sources, arrange, fault_diagnostic, rule_diagnostics,
+};
+use protobuf_parse_rules::violations;
+use std::alloc::{AllocError, Global};
+
+/// What is told of a run over the inputs behind the verb, with the files that the library brings: a
+/// line for its fault, or for each violation of a rule, or nothing. A row's text is the file
+/// `f.proto`, beside the files of the case, and is then the input.
+pub fn told(alloc: Global, case: &Case, row: &Row) -> Result<String> {
+    let Some(content) = &row.given else {
+        return Ok(told_of(alloc, &case.argument, &case.files)?);
+    };
+    let files = files_with(alloc, case, content)?;
+    Ok(told_of(alloc, "f.proto", &files)?)
+}
+
+fn told_of(alloc: Global, words: &str, files: &[CaseFile]) -> Result<String, AllocError> {
+    let mut inputs = Vec::new(alloc);
+    for word in words.split_whitespace() {
+        match ProtoPathBuf::new(String::from_str(alloc, word)?) {
+            Ok(path) => inputs.push(RunInput::Named(path))?,
+            Err(fault) => return format!(in alloc; "{word}: {fault}"),
+        }
+    }
+    let source = Files { files };
+    let log = run_inputs(alloc, &inputs, &source, &source, bundled_files());
+    let mut told = diagnostics(alloc, &log)?;
+    arrange(&mut told)?;
+    let mut text = String::new(alloc);
+    for each in &told {
+        write!(&mut text, "{each}\n")?;
+    }
+    without_last_feed(alloc, &text)
+}
+
+fn diagnostics(alloc: Global, log: &RunLog) -> Result<Vec<Diagnostic>, AllocError> {
+    let sources = Sources::of_reads(alloc, &log.reads, bundled_files())?;
+    match &log.result {
+        Ok(files) => {
+            let found = violations(alloc, files)?;
+            rule_diagnostics(alloc, &sources, &found, RuleLevel::Error)
+        }
+        Err(fault) => {
+            let mut told = Vec::new(alloc);
+            told.push(fault_diagnostic(alloc, &sources, fault)?)?;
+            Ok(told)
+        }
+    }
+}

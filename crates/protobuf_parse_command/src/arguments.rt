@@ -1,0 +1,140 @@
+//! The command line.
+
+use clap::builder::ValueParser;
+use clap::{Arg, ArgAction, ArgMatches, Command, Error};
+use protobuf_parse_diagnostics::RuleLevel;
+use std::alloc::{AllocError, Global};
+
+/// What the command line says.
+#[derive(Drop)]
+pub struct Arguments {
+    /// The folders in which files are looked for, in order.
+    pub includes: Vec<String>,
+    /// The files.
+    pub files: Vec<String>,
+    /// Where the descriptor set is written.
+    pub set_path: Option<String>,
+    pub include_imports: bool,
+    pub list: bool,
+    pub imports: bool,
+    pub rules: RuleLevel,
+}
+
+const LEVELS: [&str; 3] = ["error", "warn", "off"];
+
+/// What these words say, without the program's own name. The error is what is told in their place:
+/// help and the version too.
+pub fn arguments_of(alloc: Global, words: &[String]) -> Result<Arguments, Error> {
+    let matches = command_line(alloc)?.try_get_matches_from(words)?;
+    Ok(read(alloc, &matches)?)
+}
+
+fn command_line<'a>(alloc: Global) -> Result<Command<'a>, AllocError> {
+    let about = "Parses .proto files, checks their types, and writes their descriptors.";
+    let command = Command::new(alloc, "protobuf_parse_cli")
+        .version("0.1.0")
+        .about(about)
+        .no_binary_name(true)
+        .arg(include_argument(alloc))?
+        .arg(set_argument(alloc))?;
+    with_flags(alloc, command)?.arg(file_argument(alloc))
+}
+
+fn include_argument<'a>(alloc: Global) -> Arg<'a> {
+    Arg::new(alloc, "include")
+        .short('I')
+        .long("proto_path")
+        .value_name("DIR")
+        .action(ArgAction::Append)
+        .help(
+            "Looks for files in this folder; of several, in order. Without one, in the current one",
+        )
+}
+
+fn set_argument<'a>(alloc: Global) -> Arg<'a> {
+    Arg::new(alloc, "set")
+        .short('o')
+        .long("descriptor_set_out")
+        .value_name("FILE")
+        .action(ArgAction::Set)
+        .help("Writes a FileDescriptorSet of the files")
+}
+
+fn file_argument<'a>(alloc: Global) -> Arg<'a> {
+    Arg::new(alloc, "file")
+        .value_name("FILE")
+        .action(ArgAction::Append)
+        .num_args(1..)
+        .required(true)
+        .help("A file below an include, or a path that an include has")
+}
+
+fn with_flags<'a>(alloc: Global, command: Command<'a>) -> Result<Command<'a>, AllocError> {
+    let rules = Arg::new(alloc, "rules")
+        .long("rules")
+        .value_name("LEVEL")
+        .action(ArgAction::Set)
+        .value_parser(ValueParser::Names(&LEVELS))
+        .default_value("error")
+        .help("How violations of rules are told");
+    command
+        .arg(flag(
+            alloc,
+            "include_imports",
+            "Has all that the files reach in the set, imports first",
+        ))?
+        .arg(flag(alloc, "list", "Lists the descriptors as text"))?
+        .arg(imports_flag(alloc)?)?
+        .arg(rules)
+}
+
+fn flag<'a>(alloc: Global, name: &'a str, help: &'a str) -> Arg<'a> {
+    Arg::new(alloc, name)
+        .long(name)
+        .action(ArgAction::SetTrue)
+        .help(help)
+}
+
+fn imports_flag<'a>(alloc: Global) -> Result<Arg<'a>, AllocError> {
+    let help = "Tells what the files import, a line each, and reads no other file";
+    flag(alloc, "imports", help)
+        .conflicts_with("set")?
+        .conflicts_with("include_imports")?
+        .conflicts_with("list")
+}
+
+fn read(alloc: Global, matches: &ArgMatches<'_>) -> Result<Arguments, AllocError> {
+    let mut includes = copies(alloc, matches.get_strs("include").unwrap_or(&[]))?;
+    if includes.is_empty() {
+        includes.push(String::new(alloc))?;
+    }
+    let set_path = match matches.get_str("set") {
+        Some(path) => Some(String::from_str(alloc, path)?),
+        None => None,
+    };
+    Ok(Arguments {
+        includes,
+        files: copies(alloc, matches.get_strs("file").unwrap_or(&[]))?,
+        set_path,
+        include_imports: matches.get_flag("include_imports"),
+        list: matches.get_flag("list"),
+        imports: matches.get_flag("imports"),
+        rules: level_of(matches.get_str("rules").unwrap_or("error")),
+    })
+}
+
+fn copies(alloc: Global, texts: &[&str]) -> Result<Vec<String>, AllocError> {
+    let mut copies = Vec::new(alloc);
+    for text in texts {
+        copies.push(String::from_str(alloc, text)?)?;
+    }
+    Ok(copies)
+}
+
+fn level_of(word: &str) -> RuleLevel {
+    match word {
+        "warn" => RuleLevel::Warn,
+        "off" => RuleLevel::Off,
+        _ => RuleLevel::Error,
+    }
+}

@@ -1,0 +1,189 @@
+//! A run over the files of a command line, and what is told of it.
+
+use crate::arguments::Arguments;
+use crate::inputs::input_of;
+use crate::unread::fault_told;
+use protobuf_parse::{
+    FileDescriptorProto, FsReader, ReadEntry, RunFault, RunInput, RunLog, bundled_files,
+    fs_resolver, run_inputs,
+};
+use protobuf_parse_diagnostics::{
+    Diagnostic, RuleLevel, Sources, affected_paths, arrange, rule_diagnostics,
+};
+use protobuf_parse_rules::{Violation, violations};
+use std::alloc::{AllocError, Global};
+use std::collections::BTreeSet;
+use std::rt::Files;
+
+/// How many runs there are at most: each but the last one tells a fault.
+const MOST_RUNS: usize = 100;
+
+/// What came of a check.
+#[derive(Drop)]
+pub struct Checked {
+    /// What is told, in the order in which people read it.
+    pub told: Vec<Diagnostic>,
+    /// The descriptors of all files that the inputs reach, but for inputs that reach a fault.
+    pub files: Vec<FileDescriptorProto>,
+    /// The proto paths of the inputs.
+    pub inputs: BTreeSet<String>,
+}
+
+/// Checks the files of the command line. A run ends at its first fault, so another one follows over
+/// those that don't reach what the fault is of, and so on. The one error is that memory is short.
+pub fn check_files<R: Files + AllocGlobal>(
+    rt: &R,
+    alloc: Global,
+    arguments: &Arguments,
+) -> Result<Checked, AllocError> {
+    let mut told = Vec::new(alloc);
+    let mut left = inputs_of(rt, alloc, arguments, &mut told)?;
+    let inputs = names_of(alloc, &left)?;
+    let mut files = Vec::new(alloc);
+    for _ in 0..MOST_RUNS {
+        let RunLog {
+            reads,
+            meets: _,
+            result,
+        } = run_over(rt, alloc, &arguments.includes, &left)?;
+        match result {
+            Ok(found) => {
+                tell_rules(alloc, arguments, &reads, &found, &inputs, &mut told)?;
+                files = found;
+                break;
+            }
+            Err(fault) => {
+                told.push(told_of_reads(rt, alloc, &reads, &fault)?)?;
+                left = spared(alloc, &reads, &fault, left)?;
+            }
+        }
+    }
+    arrange(&mut told)?;
+    Ok(Checked {
+        told,
+        files,
+        inputs,
+    })
+}
+
+/// The inputs that the files of the command line are, and what is told of those that are none.
+fn inputs_of<R: Files + AllocGlobal>(
+    rt: &R,
+    alloc: Global,
+    arguments: &Arguments,
+    told: &mut Vec<Diagnostic>,
+) -> Result<Vec<RunInput>, AllocError> {
+    let none = Sources::of_reads(alloc, &[], &[])?;
+    let mut inputs = Vec::new(alloc);
+    for file in &arguments.files {
+        match input_of(rt, alloc, &arguments.includes, file) {
+            Ok(input) => inputs.push(input)?,
+            Err(fault) => told.push(fault_told(rt, alloc, &none, &fault)?)?,
+        }
+    }
+    Ok(inputs)
+}
+
+/// What is told of the fault of a run with these reads.
+fn told_of_reads<R: Files + AllocGlobal>(
+    rt: &R,
+    alloc: Global,
+    reads: &[ReadEntry],
+    fault: &RunFault,
+) -> Result<Diagnostic, AllocError> {
+    let sources = Sources::of_reads(alloc, reads, bundled_files())?;
+    fault_told(rt, alloc, &sources, fault)
+}
+
+/// The inputs that don't reach what the fault is of.
+fn spared<'a>(
+    alloc: Global,
+    reads: &'a [ReadEntry],
+    fault: &'a RunFault,
+    inputs: Vec<RunInput>,
+) -> Result<Vec<RunInput>, AllocError> {
+    let sources = Sources::of_reads(alloc, reads, bundled_files())?;
+    let affected = affected_paths(alloc, &sources, fault)?;
+    let mut spared = Vec::new(alloc);
+    for input in inputs {
+        if !affected.contains(path_of(&input)) && !is_own_fault(&input, fault) {
+            spared.push(input)?;
+        }
+    }
+    Ok(spared)
+}
+
+/// Whether the fault is that of the input at its own path.
+fn is_own_fault(input: &RunInput, fault: &RunFault) -> bool {
+    match (input, fault) {
+        (
+            RunInput::At { name: _, fs_path },
+            RunFault::Shadowed(path, _) | RunFault::CouldNotReadFile(path, _),
+        ) => fs_path == path,
+        _ => false,
+    }
+}
+
+fn path_of(input: &RunInput) -> &str {
+    let (RunInput::Named(name) | RunInput::At { name, fs_path: _ }) = input;
+    name.as_path().to_str()
+}
+
+/// The run over these inputs, with imports from the includes.
+fn run_over<R: Files + AllocGlobal>(
+    rt: &R,
+    alloc: Global,
+    includes: &[String],
+    inputs: &[RunInput],
+) -> Result<RunLog, AllocError> {
+    let mut folders: Vec<&str> = Vec::new(alloc);
+    for include in includes {
+        folders.push(include.as_str())?;
+    }
+    let resolver = fs_resolver(rt, alloc, &folders)?;
+    let reader = FsReader::new(rt);
+    Ok(run_inputs(alloc, inputs, &resolver, &reader, bundled_files()))
+}
+
+/// The proto paths of the inputs.
+fn names_of(alloc: Global, inputs: &[RunInput]) -> Result<BTreeSet<String>, AllocError> {
+    let mut names = BTreeSet::new(alloc);
+    for input in inputs {
+        names.insert(String::from_str(alloc, path_of(input))?)?;
+    }
+    Ok(names)
+}
+
+/// Tells of the violations of rules in the files.
+fn tell_rules(
+    alloc: Global,
+    arguments: &Arguments,
+    reads: &[ReadEntry],
+    files: &[FileDescriptorProto],
+    inputs: &BTreeSet<String>,
+    told: &mut Vec<Diagnostic>,
+) -> Result<(), AllocError> {
+    if arguments.rules == RuleLevel::Off {
+        return Ok(());
+    }
+    let found = told_violations(alloc, arguments, files, inputs)?;
+    let sources = Sources::of_reads(alloc, reads, bundled_files())?;
+    let mut rules = rule_diagnostics(alloc, &sources, &found, arguments.rules)?;
+    told.append(&mut rules)
+}
+
+/// The violations of rules that are told: those in the inputs, or with imports all.
+fn told_violations(
+    alloc: Global,
+    arguments: &Arguments,
+    files: &[FileDescriptorProto],
+    inputs: &BTreeSet<String>,
+) -> Result<Vec<Violation>, AllocError> {
+    let mut told = Vec::new(alloc);
+    for violation in violations(alloc, files)? {
+        if arguments.include_imports || inputs.contains(violation.file.as_str()) {
+            told.push(violation)?;
+        }
+    }
+    Ok(told)
+}

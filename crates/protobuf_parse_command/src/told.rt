@@ -1,0 +1,35 @@
+//! What is told on standard error.
+
+use protobuf_parse_diagnostics::{Diagnostic, Severity};
+use std::alloc::{AllocError, Global};
+use std::io::{self, Write};
+
+/// How many diagnostics are told.
+const MOST_TOLD: usize = 1000;
+
+/// Whether one of them is an error.
+pub fn has_error(told: &[Diagnostic]) -> bool {
+    told.iter().any(|each| each.severity == Severity::Error)
+}
+
+/// Writes a line for each of the first 1,000, and then one that says how many more there are.
+pub fn tell<E: Write>(alloc: Global, err: &mut E, told: &[Diagnostic]) -> io::Result<()> {
+    if told.is_empty() {
+        return Ok(());
+    }
+    let text = lines_of(alloc, told)?;
+    err.write_all(text.as_bytes())?;
+    err.flush()
+}
+
+fn lines_of(alloc: Global, told: &[Diagnostic]) -> Result<String, AllocError> {
+    let mut text = String::new(alloc);
+    for each in told.iter().take(MOST_TOLD) {
+        write!(text, "{each}\n")?;
+    }
+    let more = told.len().saturating_sub(MOST_TOLD);
+    if more > 0 {
+        write!(text, "and {more} more\n")?;
+    }
+    Ok(text)
+}

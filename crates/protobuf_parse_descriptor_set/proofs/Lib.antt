@@ -1,0 +1,5 @@
+pub mod Inside
+pub mod Joining
+pub mod BuiltIn
+pub mod Synthetic
+pub mod Places

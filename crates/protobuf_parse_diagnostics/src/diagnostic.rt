@@ -1,0 +1,101 @@
+//! What is told of a file, as compilers tell it.
+
+use protobuf_parse_syntax::Place;
+use std::alloc::AllocError;
+use std::fmt;
+
+/// How bad it is.
+#[derive(Clone, Copy, Debug, PartialEq, Eq, PartialOrd, Ord)]
+pub enum Severity {
+    /// The file can't be taken as it is.
+    Error,
+    /// The file can be taken, and yet somebody should look.
+    Warning,
+}
+
+impl fmt::Display for Severity {
+    fn fmt<W: fmt::Write>(&self, f: &mut fmt::Formatter<W>) -> fmt::Result {
+        f.write_str(match self {
+            Severity::Error => "error",
+            Severity::Warning => "warning",
+        })
+    }
+}
+
+/// What is told of a file: by this library of faults and rules, and by a linter of its own rules.
+///
+/// Displayed it is one line, as `shop/order.proto:12:3: error: "Oder" is not defined [E3]`. Without
+/// a place the two numbers are left out, and without a code the brackets. A help stands behind the
+/// message, after a semicolon. A control character in a text is displayed as its number, so that
+/// nothing breaks the line.
+#[derive(Debug, PartialEq, Eq, Drop)]
+pub struct Diagnostic {
+    /// The path by which people open the file.
+    pub file: String,
+    /// Where in the file, both numbers from 1, the column in characters.
+    pub place: Option<Place>,
+    pub severity: Severity,
+    /// A short name that stays the same, by which the rule can be looked up. Empty where there is
+    /// none.
+    pub code: String,
+    /// What is wrong, in a sentence without a full stop.
+    pub message: String,
+    /// What would help, where that can be told.
+    pub help: Option<String>,
+}
+
+impl fmt::Display for Diagnostic {
+    fn fmt<W: fmt::Write>(&self, f: &mut fmt::Formatter<W>) -> fmt::Result {
+        write_on_line(f, &self.file)?;
+        if let Some(Place { line, col }) = self.place {
+            write!(f, ":{line}:{col}")?;
+        }
+        let severity = self.severity;
+        write!(f, ": {severity}: ")?;
+        write_on_line(f, &self.message)?;
+        if let Some(help) = &self.help {
+            f.write_str("; ")?;
+            write_on_line(f, help)?;
+        }
+        if self.code.is_empty() {
+            return Ok(());
+        }
+        f.write_str(" [")?;
+        write_on_line(f, &self.code)?;
+        f.write_str("]")
+    }
+}
+
+/// Writes the text with each control character as its number: `\u{a}`.
+fn write_on_line<W: fmt::Write>(f: &mut fmt::Formatter<W>, text: &str) -> fmt::Result {
+    for character in text.chars() {
+        write_character(f, character)?;
+    }
+    Ok(())
+}
+
+fn write_character<W: fmt::Write>(f: &mut fmt::Formatter<W>, character: char) -> fmt::Result {
+    if character.is_control() {
+        let number = u32::from(character);
+        write!(f, "\\u{{{number:x}}}")
+    } else {
+        write!(f, "{character}")
+    }
+}
+
+/// Puts diagnostics in the order in which people read them, and keeps one of those that are equal:
+/// by their files, and in a file by their places, those without a place first. Those of one place
+/// stay in the order in which they came. The one error is that memory is short.
+pub fn arrange(diagnostics: &mut Vec<Diagnostic>) -> Result<(), AllocError> {
+    diagnostics.sort_by(|a, b| order_of(a).cmp(&order_of(b)))?;
+    diagnostics.dedup();
+    Ok(())
+}
+
+/// By what diagnostics are ordered: no place is a line and a column of 0.
+fn order_of(diagnostic: &Diagnostic) -> (&str, u32, u32) {
+    match diagnostic.place {
+        Some(Place { line, col }) => (diagnostic.file.as_str(), line, col),
+        None => (diagnostic.file.as_str(), 0, 0),
+    }
+}

@@ -1,0 +1,186 @@
+//! Who imports whom, among the files that a run read.
+
+use crate::sources::{Trees, imports_in};
+use protobuf_parse_syntax::{ImportVis, Place};
+use std::alloc::{AllocError, Global};
+
+/// An `import` statement.
+#[derive(Clone, Copy)]
+pub struct Importer<'a> {
+    /// Where the file lies that has it.
+    pub origin: &'a str,
+    pub place: Place,
+}
+
+/// The first statement that imports the proto path, in the order of the files.
+pub fn importer_of<'a>(
+    alloc: Global,
+    trees: &Trees<'a>,
+    path: &str,
+) -> Result<Option<Importer<'a>>, AllocError> {
+    for file in &trees.files {
+        if let Some(place) = import_place(alloc, trees, file.source.path, path)? {
+            let origin = file.source.origin;
+            return Ok(Some(Importer { origin, place }));
+        }
+    }
+    Ok(None)
+}
+
+/// Where the file of the first proto path imports the second one.
+pub fn import_place(
+    alloc: Global,
+    trees: &Trees<'_>,
+    from: &str,
+    path: &str,
+) -> Result<Option<Place>, AllocError> {
+    let Some(file) = trees.of_path(from) else {
+        return Ok(None);
+    };
+    for import in imports_in(alloc, &file.tree)? {
+        if import.path.as_path().to_str() == path {
+            return Ok(Some(import.place));
+        }
+    }
+    Ok(None)
+}
+
+/// Which imports are followed.
+#[derive(Clone, Copy, PartialEq, Eq)]
+enum Followed {
+    All,
+    /// Public ones alone, but all of the first file.
+    Public,
+}
+
+/// The positions of the files that the file at this position reaches, its own first.
+pub fn reached(alloc: Global, trees: &Trees<'_>, from: usize) -> Result<Vec<usize>, AllocError> {
+    positions_by(alloc, trees, from, Followed::All)
+}
+
+/// The positions of the files that the file at this position sees, its own first.
+pub fn seen(alloc: Global, trees: &Trees<'_>, from: usize) -> Result<Vec<usize>, AllocError> {
+    positions_by(alloc, trees, from, Followed::Public)
+}
+
+fn positions_by(
+    alloc: Global,
+    trees: &Trees<'_>,
+    from: usize,
+    which: Followed,
+) -> Result<Vec<usize>, AllocError> {
+    let walk = walk_from(alloc, trees, from, which)?;
+    let mut positions = Vec::new(alloc);
+    for step in &walk {
+        positions.push(step.file)?;
+    }
+    Ok(positions)
+}
+
+/// A file that is met by a walk, and at which step of the walk the file was that imports it.
+#[derive(Clone, Copy)]
+struct Step {
+    file: usize,
+    by: usize,
+}
+
+/// Meets each file once, those nearer to the first one first.
+fn walk_from(
+    alloc: Global,
+    trees: &Trees<'_>,
+    from: usize,
+    which: Followed,
+) -> Result<Vec<Step>, AllocError> {
+    let mut met = vec![in alloc; false; trees.files.len()]?;
+    let mut steps: Vec<Step> = Vec::new(alloc);
+    meet(&mut met, &mut steps, from, 0)?;
+    for by in 0..trees.files.len() {
+        let Some(step) = steps.get(by) else {
+            break;
+        };
+        let Some(file) = trees.files.get(step.file) else {
+            break;
+        };
+        for import in imports_in(alloc, &file.tree)? {
+            if by > 0 && which == Followed::Public && import.vis != ImportVis::Public {
+                continue;
+            }
+            if let Some(next) = trees.position(import.path.as_path().to_str()) {
+                meet(&mut met, &mut steps, next, by)?;
+            }
+        }
+    }
+    Ok(steps)
+}
+
+fn meet(
+    met: &mut Vec<bool>,
+    steps: &mut Vec<Step>,
+    file: usize,
+    by: usize,
+) -> Result<(), AllocError> {
+    if let Some(is_met) = met.get_mut(file) {
+        if !*is_met {
+            *is_met = true;
+            steps.push(Step { file, by })?;
+        }
+    }
+    Ok(())
+}
+
+/// The proto paths of a shortest chain of files, each imported by the one before it, from the file
+/// of this path to itself. Empty where there is none.
+pub fn cycle_at<'a>(
+    alloc: Global,
+    trees: &Trees<'a>,
+    path: &str,
+) -> Result<Vec<&'a str>, AllocError> {
+    let Some(from) = trees.position(path) else {
+        return Ok(Vec::new(alloc));
+    };
+    let steps = walk_from(alloc, trees, from, Followed::All)?;
+    for (i, step) in steps.iter().enumerate() {
+        let Some(file) = trees.files.get(step.file) else {
+            break;
+        };
+        if import_place(alloc, trees, file.source.path, path)?.is_some() {
+            return chain_to(alloc, trees, &steps, i);
+        }
+    }
+    Ok(Vec::new(alloc))
+}
+
+/// The paths from the first step to that one, and the first one again.
+fn chain_to<'a>(
+    alloc: Global,
+    trees: &Trees<'a>,
+    steps: &[Step],
+    last: usize,
+) -> Result<Vec<&'a str>, AllocError> {
+    let mut chain = Vec::new(alloc);
+    push_path(&mut chain, trees, steps, 0)?;
+    let mut at = last;
+    for _ in 0..steps.len() {
+        push_path(&mut chain, trees, steps, at)?;
+        if at == 0 {
+            break;
+        }
+        at = steps.get(at).map_or(0, |step| step.by);
+    }
+    chain.reverse();
+    Ok(chain)
+}
+
+fn push_path<'a>(
+    chain: &mut Vec<&'a str>,
+    trees: &Trees<'a>,
+    steps: &[Step],
+    at: usize,
+) -> Result<(), AllocError> {
+    if let Some(step) = steps.get(at) {
+        if let Some(file) = trees.files.get(step.file) {
+            chain.push(file.source.path)?;
+        }
+    }
+    Ok(())
+}

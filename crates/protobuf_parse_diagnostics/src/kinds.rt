@@ -1,0 +1,104 @@
+//! Which constants options and fields take.
+
+use protobuf_parse_elaboration::has_builtin_option;
+use protobuf_parse_model::Construct;
+use protobuf_parse_syntax::{ProtobufConstant, Scalar, Type};
+use std::alloc::{AllocError, Global};
+
+/// Which values a built-in option has.
+#[derive(Clone, Copy)]
+enum OptionKind {
+    Text,
+    Truth,
+    Words(&'static [&'static str]),
+}
+
+/// Whether the construct has the built-in option, or it is a field's `default` or `json_name`.
+pub fn has_option(construct: Construct, name: &str) -> bool {
+    has_builtin_option(construct, name)
+        || (matches!(construct, Construct::Field) && (name == "default" || name == "json_name"))
+}
+
+/// Which values the built-in option of that name has, whatever it is an option of.
+fn kind_of(name: &str) -> OptionKind {
+    match name {
+        "optimize_for" => OptionKind::Words(&["SPEED", "CODE_SIZE", "LITE_RUNTIME"]),
+        "ctype" => OptionKind::Words(&["STRING", "CORD", "STRING_PIECE"]),
+        "jstype" => OptionKind::Words(&["JS_NORMAL", "JS_STRING", "JS_NUMBER"]),
+        "idempotency_level" => {
+            OptionKind::Words(&["IDEMPOTENCY_UNKNOWN", "NO_SIDE_EFFECTS", "IDEMPOTENT"])
+        }
+        "java_package"
+        | "java_outer_classname"
+        | "go_package"
+        | "objc_class_prefix"
+        | "csharp_namespace"
+        | "swift_prefix"
+        | "php_class_prefix"
+        | "php_namespace"
+        | "php_metadata_namespace"
+        | "ruby_package" => OptionKind::Text,
+        _ => OptionKind::Truth,
+    }
+}
+
+/// Whether the built-in option of that name has the value.
+pub fn takes_constant(name: &str, value: &ProtobufConstant) -> bool {
+    match (kind_of(name), value) {
+        (OptionKind::Text, ProtobufConstant::String(_)) => true,
+        (OptionKind::Truth, ProtobufConstant::Bool(_)) => true,
+        (OptionKind::Words(words), ProtobufConstant::Ident(word)) => {
+            words.contains(&word.as_str())
+        }
+        _ => false,
+    }
+}
+
+/// Which values the built-in option of that name has, as messages say it.
+pub fn values_of_option(name: &str) -> &'static str {
+    match name {
+        "optimize_for" => "SPEED, CODE_SIZE or LITE_RUNTIME",
+        "ctype" => "STRING, CORD or STRING_PIECE",
+        "jstype" => "JS_NORMAL, JS_STRING or JS_NUMBER",
+        "idempotency_level" => "IDEMPOTENCY_UNKNOWN, NO_SIDE_EFFECTS or IDEMPOTENT",
+        _ => match kind_of(name) {
+            OptionKind::Text => "a string",
+            _ => "`true` or `false`",
+        },
+    }
+}
+
+/// Which constants a field of the type takes, as messages say it.
+pub fn values_of_type(alloc: Global, type_: &Type) -> Result<String, AllocError> {
+    match type_ {
+        Type::Scalar(Scalar::Bool) => String::from_str(alloc, "`true` or `false`"),
+        Type::Scalar(Scalar::String) => String::from_str(alloc, "a string"),
+        Type::Scalar(Scalar::Bytes) => String::from_str(alloc, "a string, for its bytes"),
+        Type::Scalar(Scalar::Float | Scalar::Double) => String::from_str(alloc, "a float"),
+        Type::Scalar(scalar) => {
+            let (from, to) = limits_of(*scalar);
+            format!(in alloc; "an integer from {from} to {to}")
+        }
+        Type::Named(name) => {
+            format!(in alloc;
+                "a value of `{name}`: a message's fields in braces, or an enum's name"
+            )
+        }
+        Type::Map(_, _) => String::from_str(
+            alloc,
+            "entries, each with its key and value in braces",
+        ),
+    }
+}
+
+/// The least and the largest number of a type of integers.
+fn limits_of(scalar: Scalar) -> (&'static str, &'static str) {
+    match scalar {
+        Scalar::Int32 | Scalar::Sint32 | Scalar::Sfixed32 => ("-2147483648", "2147483647"),
+        Scalar::Uint32 | Scalar::Fixed32 => ("0", "4294967295"),
+        Scalar::Int64 | Scalar::Sint64 | Scalar::Sfixed64 => {
+            ("-9223372036854775808", "9223372036854775807")
+        }
+        _ => ("0", "18446744073709551615"),
+    }
+}

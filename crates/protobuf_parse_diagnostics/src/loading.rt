@@ -1,0 +1,190 @@
+//! Faults of loading: L1 to L11, but for the text and the meaning of a file.
+
+use crate::diagnostic::{Diagnostic, Severity};
+use crate::imports::{Importer, cycle_at, import_place, importer_of};
+use crate::paths::{path_code, path_sentence};
+use crate::sources::{Sources, Trees};
+use crate::syntax::Sentence;
+use protobuf_parse_run::{ReadInputFault, ResolveFault, RunFault};
+use protobuf_parse_syntax::Place;
+use std::alloc::{AllocError, Global};
+
+/// The code of a fault of a run: L1 to L11. Want of memory has none.
+pub fn run_code(fault: &RunFault) -> &'static str {
+    match fault {
+        RunFault::Memory => "",
+        RunFault::ContentIsNotUtf8(_) => "L1",
+        RunFault::FileNotFoundInImportPath(_, _) => "L2",
+        RunFault::FileMustResideInImportPath(_, _) => "L3",
+        RunFault::CouldNotReadFile(_, _) => "L4",
+        RunFault::Resolver(_, _) => "L5",
+        RunFault::Shadowed(_, _) => "L6",
+        RunFault::ImportCycle(_) => "L7",
+        RunFault::ImportChainTooLong(_) => "L8",
+        RunFault::Parse(_, _) => "L9",
+        RunFault::Elaborate(_, _) => "L10",
+        RunFault::InputPath(_, _) => "L11",
+    }
+}
+
+/// What is told of a fault of loading.
+pub fn loading_diagnostic(
+    alloc: Global,
+    sources: &Sources<'_>,
+    fault: &RunFault,
+) -> Result<Diagnostic, AllocError> {
+    let code = run_code(fault);
+    match fault {
+        RunFault::ContentIsNotUtf8(path) => {
+            let sentence = Sentence::fixed(alloc, "the file is no UTF-8 from here on")?;
+            let place = sources.end_of_text(path);
+            told_at(alloc, code, sources.origin_of(path), place, sentence)
+        }
+        RunFault::FileNotFoundInImportPath(path, text) => not_found(alloc, sources, path, text),
+        RunFault::FileMustResideInImportPath(input, includes) => told_of(
+            alloc,
+            code,
+            input,
+            Sentence::new(format!(in alloc; "the file lies in none of the includes {includes}")?),
+        ),
+        RunFault::CouldNotReadFile(path, why) => {
+            told_of(alloc, code, path, Sentence::fixed(alloc, unread(*why))?)
+        }
+        RunFault::Resolver(path, why) => unresolved(alloc, sources, path, why),
+        RunFault::Shadowed(input, path) => told_of(alloc, code, input, shadowed(alloc, path)?),
+        RunFault::ImportCycle(path) => cycle(alloc, sources, path),
+        RunFault::ImportChainTooLong(path) => told_of(
+            alloc,
+            code,
+            sources.origin_of(path),
+            Sentence::fixed(
+                alloc,
+                "a chain of imports from this file has more than 100 files",
+            )?,
+        ),
+        RunFault::InputPath(input, why) => {
+            let sentence = path_sentence(*why);
+            let path = path_code(*why);
+            let message = format!(in alloc;
+                "what follows the include is no path of a file: {sentence} ({path})"
+            )?;
+            told_of(alloc, code, input, Sentence::new(message))
+        }
+        RunFault::Memory | RunFault::Parse(_, _) | RunFault::Elaborate(_, _) => Err(AllocError),
+    }
+}
+
+/// Told of a file as a whole.
+fn told_of(
+    alloc: Global,
+    code: &str,
+    file: &str,
+    sentence: Sentence,
+) -> Result<Diagnostic, AllocError> {
+    told_at(alloc, code, file, None, sentence)
+}
+
+/// Told of a place of a file.
+pub fn told_at(
+    alloc: Global,
+    code: &str,
+    file: &str,
+    place: Option<Place>,
+    sentence: Sentence,
+) -> Result<Diagnostic, AllocError> {
+    let Sentence { message, help } = sentence;
+    Ok(Diagnostic {
+        file: String::from_str(alloc, file)?,
+        place,
+        severity: Severity::Error,
+        code: String::from_str(alloc, code)?,
+        message,
+        help,
+    })
+}
+
+/// L2, at the statement that imports the file, if one does.
+fn not_found(
+    alloc: Global,
+    sources: &Sources<'_>,
+    path: &str,
+    includes: &str,
+) -> Result<Diagnostic, AllocError> {
+    let trees = Trees::of(alloc, sources)?;
+    let help = if includes.is_empty() {
+        None
+    } else {
+        Some(format!(in alloc; "it was looked for in {includes}")?)
+    };
+    match importer_of(alloc, &trees, path)? {
+        Some(Importer { origin, place }) => {
+            let message = format!(in alloc; "the imported file \"{path}\" is not found")?;
+            told_at(alloc, "L2", origin, Some(place), Sentence { message, help })
+        }
+        None => {
+            let message = String::from_str(alloc, "no such file")?;
+            told_of(alloc, "L2", path, Sentence { message, help })
+        }
+    }
+}
+
+fn unread(why: ReadInputFault) -> &'static str {
+    match why {
+        ReadInputFault::NotFound => "no such file",
+        ReadInputFault::Failed => "the file could not be read",
+        ReadInputFault::Memory => "memory is short",
+    }
+}
+
+/// L5, at the statement that imports the file, if one does.
+fn unresolved(
+    alloc: Global,
+    sources: &Sources<'_>,
+    path: &str,
+    why: &ResolveFault,
+) -> Result<Diagnostic, AllocError> {
+    let trees = Trees::of(alloc, sources)?;
+    match importer_of(alloc, &trees, path)? {
+        Some(Importer { origin, place }) => {
+            let message = format!(in alloc; "the import of \"{path}\" failed: {why}")?;
+            told_at(alloc, "L5", origin, Some(place), Sentence::new(message))
+        }
+        None => {
+            let message = format!(in alloc; "{why}")?;
+            told_of(alloc, "L5", path, Sentence::new(message))
+        }
+    }
+}
+
+fn shadowed(alloc: Global, path: &str) -> Result<Sentence, AllocError> {
+    let message = format!(in alloc;
+        "the file is shadowed: \"{path}\" was loaded from elsewhere, with other content"
+    )?;
+    let help = "name the include of this file before the others";
+    Ok(Sentence {
+        message,
+        help: Some(String::from_str(alloc, help)?),
+    })
+}
+
+/// L7, at the statement by which the file begins the cycle.
+fn cycle(alloc: Global, sources: &Sources<'_>, path: &str) -> Result<Diagnostic, AllocError> {
+    let trees = Trees::of(alloc, sources)?;
+    let chain = cycle_at(alloc, &trees, path)?;
+    let mut message = String::from_str(alloc, "the file imports itself")?;
+    for (i, each) in chain.iter().enumerate() {
+        message.push_str(if i == 0 { ": " } else { " -> " })?;
+        message.push_str(each)?;
+    }
+    let place = match chain.get(1) {
+        Some(next) => import_place(alloc, &trees, path, next)?,
+        None => None,
+    };
+    told_at(
+        alloc,
+        "L7",
+        sources.origin_of(path),
+        place,
+        Sentence::new(message),
+    )
+}

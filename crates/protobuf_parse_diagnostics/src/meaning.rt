@@ -1,0 +1,236 @@
+//! Faults of meaning as sentences: E1 to E28.
+
+mod hints;
+
+use crate::diagnostic::Diagnostic;
+use crate::kinds::values_of_option;
+use crate::loading::told_at;
+use crate::meaning::hints::{Known, declared_by, declared_twice, type_hint};
+use crate::outline::Outline;
+use crate::places::{fault_place, repetition};
+use crate::sources::{Sources, Trees};
+use crate::syntax::Sentence;
+use protobuf_parse_model::{ElabError, ElabErrorKind};
+use protobuf_parse_syntax::Place;
+use std::alloc::{AllocError, Global};
+
+/// The code of a fault of meaning: E1 to E28.
+pub fn meaning_code(fault: ElabErrorKind) -> &'static str {
+    match fault {
+        ElabErrorKind::DuplicateName => "E1",
+        ElabErrorKind::NotFoundByAbsPath => "E2",
+        ElabErrorKind::NotFoundByRelPath => "E3",
+        ElabErrorKind::DanglingTypeName => "E4",
+        ElabErrorKind::TypeDeclaredTwice => "E5",
+        ElabErrorKind::ExtensionDeclaredTwice => "E6",
+        ElabErrorKind::RangeEndOverflow => "E7",
+        ElabErrorKind::DefaultValueIsNotStringLiteral => "E8",
+        ElabErrorKind::StrLitDecode => "E9",
+        ElabErrorKind::WrongOptionType => "E10",
+        ElabErrorKind::BuiltinOptionNotFound => "E11",
+        ElabErrorKind::BuiltinOptionPointsToNonSingularField => "E12",
+        ElabErrorKind::InconvertibleValue => "E13",
+        ElabErrorKind::ExtensionNotFound => "E14",
+        ElabErrorKind::WrongExtensionType => "E15",
+        ElabErrorKind::ExtensionIsNotMessage => "E16",
+        ElabErrorKind::UnknownFieldName => "E17",
+        ElabErrorKind::UnknownEnumValue => "E18",
+        ElabErrorKind::UnsupportedExtensionType => "E19",
+        ElabErrorKind::IntegerOutOfRange => "E20",
+        ElabErrorKind::MessageFieldRequiresMessageConstant => "E21",
+        ElabErrorKind::FloatOptionValue => "E22",
+        ElabErrorKind::OptionFieldNumber => "E23",
+        ElabErrorKind::GroupStepInOptionName => "E24",
+        ElabErrorKind::TypeUrlInConstant => "E26",
+        ElabErrorKind::UninterpretedOptionName => "E28",
+    }
+}
+
+/// What is told of a fault of meaning in the file that lies there. The one error is that memory is
+/// short.
+pub fn meaning_diagnostic(
+    alloc: Global,
+    sources: &Sources<'_>,
+    origin: &str,
+    error: &ElabError,
+) -> Result<Diagnostic, AllocError> {
+    let trees = Trees::of(alloc, sources)?;
+    let code = meaning_code(error.kind);
+    let Some(at) = trees.at_origin(origin) else {
+        let sentence = plain_sentence(alloc, error)?;
+        return told_at(alloc, code, origin, None, sentence);
+    };
+    let known = Known::of(alloc, &trees, at)?;
+    let Some(own) = known.own() else {
+        return told_at(alloc, code, origin, None, plain_sentence(alloc, error)?);
+    };
+    let is_declared = declared_by(&known, &error.what).is_some();
+    let place = fault_place(alloc, own, error, is_declared)?;
+    let sentence = meaning_sentence(alloc, &known, own, error, place)?;
+    told_at(alloc, code, origin, place, sentence)
+}
+
+/// What is said of the fault that is told at this place, with what the other files tell of it.
+fn meaning_sentence(
+    alloc: Global,
+    known: &Known<'_, '_>,
+    own: &Outline<'_>,
+    error: &ElabError,
+    place: Option<Place>,
+) -> Result<Sentence, AllocError> {
+    let Sentence { message, help } = plain_sentence(alloc, error)?;
+    let what = error.what.as_str();
+    let found = match error.kind {
+        ElabErrorKind::DuplicateName => first_one(alloc, own, what)?,
+        ElabErrorKind::NotFoundByAbsPath
+        | ElabErrorKind::NotFoundByRelPath
+        | ElabErrorKind::ExtensionNotFound => known.where_declared(alloc, error.kind, what)?,
+        ElabErrorKind::TypeDeclaredTwice | ElabErrorKind::ExtensionDeclaredTwice => {
+            declared_twice(alloc, known, error, place)?
+        }
+        ElabErrorKind::UnsupportedExtensionType | ElabErrorKind::IntegerOutOfRange => {
+            type_hint(alloc, known, what)?
+        }
+        _ => None,
+    };
+    Ok(Sentence {
+        message,
+        help: found.or(help),
+    })
+}
+
+/// Where a name that stands twice stands first.
+fn first_one(alloc: Global, own: &Outline<'_>, name: &str) -> Result<Option<String>, AllocError> {
+    match repetition(alloc, own, name)? {
+        Some((first, _)) => {
+            let Place { line, col } = first.place;
+            let full = first.full.trim_start_matches('.');
+            Ok(Some(format!(in alloc; "`{full}` stands at {line}:{col}")?))
+        }
+        None => Ok(None),
+    }
+}
+
+/// What is said of the fault by itself.
+fn plain_sentence(alloc: Global, error: &ElabError) -> Result<Sentence, AllocError> {
+    match error.kind {
+        ElabErrorKind::DuplicateName
+        | ElabErrorKind::NotFoundByAbsPath
+        | ElabErrorKind::NotFoundByRelPath
+        | ElabErrorKind::DanglingTypeName
+        | ElabErrorKind::TypeDeclaredTwice
+        | ElabErrorKind::ExtensionDeclaredTwice
+        | ElabErrorKind::RangeEndOverflow
+        | ElabErrorKind::DefaultValueIsNotStringLiteral => declaration_sentence(alloc, error),
+        ElabErrorKind::StrLitDecode
+        | ElabErrorKind::WrongOptionType
+        | ElabErrorKind::BuiltinOptionNotFound
+        | ElabErrorKind::BuiltinOptionPointsToNonSingularField
+        | ElabErrorKind::InconvertibleValue
+        | ElabErrorKind::UninterpretedOptionName => builtin_sentence(alloc, error),
+        _ => custom_sentence(alloc, error),
+    }
+}
+
+/// Of what is declared, and of the names of types.
+fn declaration_sentence(alloc: Global, error: &ElabError) -> Result<Sentence, AllocError> {
+    let what = error.what.as_str();
+    let message = match error.kind {
+        ElabErrorKind::DuplicateName => format!(in alloc; "\"{what}\" is declared already")?,
+        ElabErrorKind::DanglingTypeName => {
+            return group_or_map(alloc, what);
+        }
+        ElabErrorKind::TypeDeclaredTwice => {
+            let what = what.trim_start_matches('.');
+            format!(in alloc; "the type \"{what}\" is declared twice")?
+        }
+        ElabErrorKind::ExtensionDeclaredTwice => {
+            let what = what.trim_start_matches('.');
+            format!(in alloc; "the extension \"{what}\" is declared twice")?
+        }
+        ElabErrorKind::RangeEndOverflow => format!(in alloc;
+            "a range of \"{what}\" ends at 2147483647, and no number is behind that"
+        )?,
+        ElabErrorKind::DefaultValueIsNotStringLiteral => {
+            format!(in alloc; "the default of \"{what}\" must be a string")?
+        }
+        _ => format!(in alloc; "\"{what}\" is not defined")?,
+    };
+    Ok(Sentence::new(message))
+}
+
+fn group_or_map(alloc: Global, what: &str) -> Result<Sentence, AllocError> {
+    let message = format!(in alloc; "\"{what}\" cannot be a map or a group here")?;
+    let help = "a group has neither, and an `extend` and a map have no maps";
+    Ok(Sentence {
+        message,
+        help: Some(String::from_str(alloc, help)?),
+    })
+}
+
+/// Of options that the language knows by name.
+fn builtin_sentence(alloc: Global, error: &ElabError) -> Result<Sentence, AllocError> {
+    let what = error.what.as_str();
+    let message = match error.kind {
+        ElabErrorKind::StrLitDecode => format!(in alloc;
+            "a string for `{what}` has an escape that means nothing, or is no UTF-8"
+        )?,
+        ElabErrorKind::WrongOptionType => format!(in alloc; "`{what}` takes a string")?,
+        ElabErrorKind::BuiltinOptionNotFound => {
+            let message = format!(in alloc; "there is no option `{what}` here")?;
+            let help = "the name of an option of one's own stands in parentheses";
+            return Ok(Sentence {
+                message,
+                help: Some(String::from_str(alloc, help)?),
+            });
+        }
+        ElabErrorKind::InconvertibleValue => {
+            let values = values_of_option(what);
+            format!(in alloc; "`{what}` takes {values}")?
+        }
+        _ => String::from_str(alloc, "`uninterpreted_option` cannot be set")?,
+    };
+    Ok(Sentence::new(message))
+}
+
+/// Of options that extensions declare.
+fn custom_sentence(alloc: Global, error: &ElabError) -> Result<Sentence, AllocError> {
+    let what = error.what.as_str();
+    let message = match error.kind {
+        ElabErrorKind::ExtensionNotFound => {
+            format!(in alloc; "the extension \"{what}\" is not defined")?
+        }
+        ElabErrorKind::WrongExtensionType => format!(in alloc;
+            "the extension \"{what}\" is one of another message than is set here"
+        )?,
+        ElabErrorKind::ExtensionIsNotMessage => format!(in alloc;
+            "`{what}` is no message, so nothing in it can be set"
+        )?,
+        ElabErrorKind::UnknownFieldName => {
+            format!(in alloc; "the message has no field \"{what}\"")?
+        }
+        ElabErrorKind::UnknownEnumValue => {
+            format!(in alloc; "the enum has no value \"{what}\"")?
+        }
+        ElabErrorKind::UnsupportedExtensionType => {
+            format!(in alloc; "\"{what}\" cannot have a value of this kind")?
+        }
+        ElabErrorKind::IntegerOutOfRange => {
+            format!(in alloc; "the integer is out of range for \"{what}\"")?
+        }
+        ElabErrorKind::MessageFieldRequiresMessageConstant => format!(in alloc;
+            "\"{what}\" is no message, so it cannot have fields in braces"
+        )?,
+        ElabErrorKind::FloatOptionValue => format!(in alloc;
+            "\"{what}\" is a float or a double, and options of these types are not written"
+        )?,
+        ElabErrorKind::OptionFieldNumber => format!(in alloc;
+            "the number of \"{what}\" is none of 1 to 536870911, so no option can be written by it"
+        )?,
+        ElabErrorKind::GroupStepInOptionName => {
+            format!(in alloc; "`{what}` is a group, and an option's name cannot go into it")?
+        }
+        _ => format!(in alloc; "`{what}`: a type URL cannot be a field of an option")?,
+    };
+    Ok(Sentence::new(message))
+}

@@ -1,0 +1,140 @@
+//! What a tree declares, names and sets, each with the place of the statement in which it stands.
+
+mod walk;
+
+use crate::outline::walk::walk_file;
+use protobuf_parse_model::Construct;
+use protobuf_parse_syntax::{
+    FieldNumberRange, FileTree, Place, ProtobufOption, ProtobufOptionName, ProtobufOptionNamePart,
+    Reserved, Type,
+};
+use std::alloc::{AllocError, Global};
+
+/// What is declared.
+#[derive(Clone, Copy, Debug, PartialEq, Eq, PartialOrd, Ord)]
+pub enum DeclaredKind {
+    Message,
+    Enum,
+    EnumValue,
+    Field,
+    Extension,
+    Oneof,
+    Service,
+    Method,
+}
+
+/// A declaration.
+#[derive(Drop)]
+pub struct Declared<'a> {
+    pub kind: DeclaredKind,
+    /// The full name, with its first dot. An enum's value stands beside its enum.
+    pub full: String,
+    /// Which body it stands in: those of one tree have numbers.
+    pub body: usize,
+    pub place: Place,
+    /// The type of a field or an extension that has one.
+    pub type_: Option<&'a Type>,
+}
+
+impl<'a> Declared<'a> {
+    /// The last part of its full name.
+    pub fn name(&self) -> &str {
+        match self.full.rsplit_once('.') {
+            Some((_, name)) => name,
+            None => &self.full,
+        }
+    }
+
+    /// Whether it is a message or an enum.
+    pub fn is_type(&self) -> bool {
+        matches!(self.kind, DeclaredKind::Message | DeclaredKind::Enum)
+    }
+}
+
+/// The name of a type, as a field, an `extend` or a method has it.
+#[derive(Clone, Copy)]
+pub struct NamedType<'a> {
+    pub text: &'a str,
+    pub place: Place,
+}
+
+/// An option, and of what it is.
+#[derive(Clone, Copy)]
+pub struct SetOption<'a> {
+    pub construct: Construct,
+    pub option: &'a ProtobufOption,
+    /// The place of the option statement, or of what an option in brackets is of.
+    pub of: Place,
+}
+
+/// The ranges of a statement.
+#[derive(Drop)]
+pub struct Ranges<'a> {
+    /// The full name of the message or the enum.
+    pub of: String,
+    pub ranges: &'a [FieldNumberRange],
+    pub place: Place,
+}
+
+/// What a tree declares, names and sets, in the order of its text.
+#[derive(Drop)]
+pub struct Outline<'a> {
+    pub declared: Vec<Declared<'a>>,
+    pub named: Vec<NamedType<'a>>,
+    pub options: Vec<SetOption<'a>>,
+    pub ranges: Vec<Ranges<'a>>,
+    /// The number of the next body.
+    pub bodies: usize,
+}
+
+impl<'a> Outline<'a> {
+    /// The outline of a tree. The one error is that memory is short.
+    pub fn of(alloc: Global, tree: &'a FileTree) -> Result<Self, AllocError> {
+        let mut outline = Outline {
+            declared: Vec::new(alloc),
+            named: Vec::new(alloc),
+            options: Vec::new(alloc),
+            ranges: Vec::new(alloc),
+            bodies: 0,
+        };
+        walk_file(alloc, &mut outline, tree)?;
+        Ok(outline)
+    }
+}
+
+/// The ranges of a `reserved` statement that has numbers.
+pub fn reserved_ranges(reserved: &Reserved) -> &[FieldNumberRange] {
+    match reserved {
+        Reserved::Ranges(ranges) => ranges,
+        Reserved::Names(_) => &[],
+    }
+}
+
+/// The name of an option as it is written, with the names of extensions in parentheses.
+pub fn option_text(alloc: Global, name: &ProtobufOptionName) -> Result<String, AllocError> {
+    match name {
+        ProtobufOptionName::Builtin(name) => String::from_str(alloc, name.as_str()),
+        ProtobufOptionName::Custom(parts) => {
+            let mut text = String::new(alloc);
+            for (i, part) in parts.iter().enumerate() {
+                if i > 0 {
+                    text.push_str(".")?;
+                }
+                push_part(&mut text, part)?;
+            }
+            Ok(text)
+        }
+    }
+}
+
+/// Adds a part of an option's name as it is written.
+pub fn push_part(text: &mut String, part: &ProtobufOptionNamePart) -> Result<(), AllocError> {
+    match part {
+        ProtobufOptionNamePart::Direct(name) => text.push_str(name.as_str()),
+        ProtobufOptionNamePart::Ext(name) => {
+            text.push_str("(")?;
+            text.push_str(name)?;
+            text.push_str(")")
+        }
+    }
+}

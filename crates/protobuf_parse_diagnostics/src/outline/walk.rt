@@ -1,0 +1,437 @@
+//! The walk over a tree.
+
+use crate::outline::{
+    Declared, DeclaredKind, NamedType, Outline, Ranges, SetOption, reserved_ranges,
+};
+use protobuf_parse_model::{Construct, entry_name, group_field_name};
+use protobuf_parse_syntax::{
+    EnumStatement, Enumeration, Extend, Field, FieldNumberRange, FieldStatement, FileStatement,
+    FileTree, Group, Message, MessageStatement, Method, OneOf, OneOfStatement, OptionStatement,
+    Place, ProtobufOption, Service, ServiceStatement, Type,
+};
+use std::alloc::{AllocError, Global};
+
+/// Where a statement stands: the full name around it, and the number of the body.
+#[derive(Clone, Copy)]
+struct Scope<'s> {
+    name: &'s str,
+    body: usize,
+}
+
+/// Notes what the tree of a file has.
+pub fn walk_file<'a>(
+    alloc: Global,
+    outline: &mut Outline<'a>,
+    tree: &'a FileTree,
+) -> Result<(), AllocError> {
+    let name = match tree.package() {
+        Some(package) => format!(in alloc; ".{package}")?,
+        None => String::new(alloc),
+    };
+    let scope = next_scope(outline, &name);
+    for statement in &tree.statements {
+        walk_file_statement(alloc, outline, scope, statement)?;
+    }
+    Ok(())
+}
+
+fn walk_file_statement<'a>(
+    alloc: Global,
+    outline: &mut Outline<'a>,
+    scope: Scope<'_>,
+    statement: &'a FileStatement,
+) -> Result<(), AllocError> {
+    match statement {
+        FileStatement::Import(_) | FileStatement::Package(_) => Ok(()),
+        FileStatement::Option(option) => note_statement(outline, Construct::File, option),
+        FileStatement::Message(message) => walk_message(alloc, outline, scope, message),
+        FileStatement::Enumeration(each) => walk_enum(alloc, outline, scope, each),
+        FileStatement::Extend(extend) => walk_extend(alloc, outline, scope, extend),
+        FileStatement::Service(service) => walk_service(alloc, outline, scope, service),
+    }
+}
+
+/// A body of its own, of what has this full name.
+fn next_scope<'s>(outline: &mut Outline<'_>, name: &'s str) -> Scope<'s> {
+    let body = outline.bodies;
+    outline.bodies = body.saturating_add(1);
+    Scope { name, body }
+}
+
+fn full_name(alloc: Global, scope: Scope<'_>, name: &str) -> Result<String, AllocError> {
+    let around = scope.name;
+    format!(in alloc; "{around}.{name}")
+}
+
+/// Notes a declaration, and answers nothing.
+fn declare<'a>(
+    alloc: Global,
+    outline: &mut Outline<'a>,
+    scope: Scope<'_>,
+    kind: DeclaredKind,
+    name: &str,
+    place: Place,
+) -> Result<(), AllocError> {
+    declare_typed(alloc, outline, scope, kind, name, place, None)
+}
+
+fn declare_typed<'a>(
+    alloc: Global,
+    outline: &mut Outline<'a>,
+    scope: Scope<'_>,
+    kind: DeclaredKind,
+    name: &str,
+    place: Place,
+    type_: Option<&'a Type>,
+) -> Result<(), AllocError> {
+    outline.declared.push(Declared {
+        kind,
+        full: full_name(alloc, scope, name)?,
+        body: scope.body,
+        place,
+        type_,
+    })?;
+    Ok(())
+}
+
+fn note_type<'a>(outline: &mut Outline<'a>, text: &'a str, place: Place) -> Result<(), AllocError> {
+    outline.named.push(NamedType { text, place })?;
+    Ok(())
+}
+
+fn note_statement<'a>(
+    outline: &mut Outline<'a>,
+    construct: Construct,
+    statement: &'a OptionStatement,
+) -> Result<(), AllocError> {
+    outline.options.push(SetOption {
+        construct,
+        option: &statement.option,
+        of: statement.place,
+    })?;
+    Ok(())
+}
+
+/// Notes options in brackets, and the place of what they are of.
+fn note_options<'a>(
+    outline: &mut Outline<'a>,
+    construct: Construct,
+    options: &'a [ProtobufOption],
+    of: Place,
+) -> Result<(), AllocError> {
+    for option in options {
+        outline.options.push(SetOption {
+            construct,
+            option,
+            of,
+        })?;
+    }
+    Ok(())
+}
+
+fn note_ranges<'a>(
+    alloc: Global,
+    outline: &mut Outline<'a>,
+    scope: Scope<'_>,
+    ranges: &'a [FieldNumberRange],
+    place: Place,
+) -> Result<(), AllocError> {
+    outline.ranges.push(Ranges {
+        of: String::from_str(alloc, scope.name)?,
+        ranges,
+        place,
+    })?;
+    Ok(())
+}
+
+#[cycle(messages)]
+fn walk_message<'a>(
+    alloc: Global,
+    outline: &mut Outline<'a>,
+    scope: Scope<'_>,
+    message: &'a Message,
+) -> Result<(), AllocError> {
+    let kind = DeclaredKind::Message;
+    declare(
+        alloc,
+        outline,
+        scope,
+        kind,
+        message.name.as_str(),
+        message.place,
+    )?;
+    let name = full_name(alloc, scope, message.name.as_str())?;
+    let inside = next_scope(outline, &name);
+    for statement in &message.body {
+        walk_message_statement(alloc, outline, inside, statement)?;
+    }
+    Ok(())
+}
+
+#[cycle(messages)]
+fn walk_message_statement<'a>(
+    alloc: Global,
+    outline: &mut Outline<'a>,
+    scope: Scope<'_>,
+    statement: &'a MessageStatement,
+) -> Result<(), AllocError> {
+    match statement {
+        MessageStatement::Reserved(it) => {
+            note_ranges(
+                alloc,
+                outline,
+                scope,
+                reserved_ranges(&it.reserved),
+                it.place,
+            )
+        }
+        MessageStatement::OneOf(oneof) => walk_oneof(alloc, outline, scope, oneof),
+        MessageStatement::Extend(extend) => walk_extend(alloc, outline, scope, extend),
+        MessageStatement::Message(message) => walk_message(alloc, outline, scope, message),
+        MessageStatement::Enumeration(each) => walk_enum(alloc, outline, scope, each),
+        MessageStatement::Extensions(it) => {
+            note_ranges(alloc, outline, scope, &it.ranges, it.place)
+        }
+        MessageStatement::Option(option) => note_statement(outline, Construct::Message, option),
+        MessageStatement::Field(field) => {
+            walk_field(alloc, outline, scope, DeclaredKind::Field, field)
+        }
+    }
+}
+
+fn walk_oneof<'a>(
+    alloc: Global,
+    outline: &mut Outline<'a>,
+    scope: Scope<'_>,
+    oneof: &'a OneOf,
+) -> Result<(), AllocError> {
+    let kind = DeclaredKind::Oneof;
+    declare(
+        alloc,
+        outline,
+        scope,
+        kind,
+        oneof.name.as_str(),
+        oneof.place,
+    )?;
+    for statement in &oneof.body {
+        match statement {
+            OneOfStatement::Option(option) => note_statement(outline, Construct::Oneof, option)?,
+            OneOfStatement::Field(field) => {
+                walk_field(alloc, outline, scope, DeclaredKind::Field, field)?;
+            }
+        }
+    }
+    Ok(())
+}
+
+fn walk_extend<'a>(
+    alloc: Global,
+    outline: &mut Outline<'a>,
+    scope: Scope<'_>,
+    extend: &'a Extend,
+) -> Result<(), AllocError> {
+    note_type(outline, &extend.extendee, extend.place)?;
+    for field in &extend.fields {
+        walk_field(alloc, outline, scope, DeclaredKind::Extension, field)?;
+    }
+    Ok(())
+}
+
+#[cycle(fields)]
+fn walk_field<'a>(
+    alloc: Global,
+    outline: &mut Outline<'a>,
+    scope: Scope<'_>,
+    kind: DeclaredKind,
+    field: &'a FieldStatement,
+) -> Result<(), AllocError> {
+    match field {
+        FieldStatement::Field(field) => walk_plain_field(alloc, outline, scope, kind, field),
+        FieldStatement::Group(group) => walk_group(alloc, outline, scope, kind, group),
+    }
+}
+
+fn walk_plain_field<'a>(
+    alloc: Global,
+    outline: &mut Outline<'a>,
+    scope: Scope<'_>,
+    kind: DeclaredKind,
+    field: &'a Field,
+) -> Result<(), AllocError> {
+    let name = field.name.as_str();
+    declare_typed(
+        alloc,
+        outline,
+        scope,
+        kind,
+        name,
+        field.place,
+        Some(&field.type_),
+    )?;
+    note_options(outline, Construct::Field, &field.options, field.place)?;
+    match &field.type_ {
+        Type::Scalar(_) => Ok(()),
+        Type::Named(text) => note_type(outline, text, field.place),
+        Type::Map(key, value) => {
+            walk_map(alloc, outline, scope, name, field.place)?;
+            note_map_type(outline, key, field.place)?;
+            note_map_type(outline, value, field.place)
+        }
+    }
+}
+
+/// The message behind a map, and its two fields.
+fn walk_map(
+    alloc: Global,
+    outline: &mut Outline<'_>,
+    scope: Scope<'_>,
+    name: &str,
+    place: Place,
+) -> Result<(), AllocError> {
+    let entry = entry_name(alloc, name)?;
+    declare(alloc, outline, scope, DeclaredKind::Message, &entry, place)?;
+    let name = full_name(alloc, scope, &entry)?;
+    let inside = next_scope(outline, &name);
+    declare(alloc, outline, inside, DeclaredKind::Field, "key", place)?;
+    declare(alloc, outline, inside, DeclaredKind::Field, "value", place)
+}
+
+fn note_map_type<'a>(
+    outline: &mut Outline<'a>,
+    of: &'a Type,
+    place: Place,
+) -> Result<(), AllocError> {
+    match of {
+        Type::Named(text) => note_type(outline, text, place),
+        Type::Scalar(_) | Type::Map(_, _) => Ok(()),
+    }
+}
+
+/// A group is a message and a field.
+#[cycle(fields)]
+fn walk_group<'a>(
+    alloc: Global,
+    outline: &mut Outline<'a>,
+    scope: Scope<'_>,
+    kind: DeclaredKind,
+    group: &'a Group,
+) -> Result<(), AllocError> {
+    let name = group.name.as_str();
+    let field = group_field_name(alloc, name)?;
+    declare(alloc, outline, scope, kind, &field, group.place)?;
+    declare(
+        alloc,
+        outline,
+        scope,
+        DeclaredKind::Message,
+        name,
+        group.place,
+    )?;
+    let name = full_name(alloc, scope, name)?;
+    let inside = next_scope(outline, &name);
+    for field in &group.fields {
+        walk_field(alloc, outline, inside, DeclaredKind::Field, field)?;
+    }
+    Ok(())
+}
+
+fn walk_enum<'a>(
+    alloc: Global,
+    outline: &mut Outline<'a>,
+    scope: Scope<'_>,
+    each: &'a Enumeration,
+) -> Result<(), AllocError> {
+    declare(
+        alloc,
+        outline,
+        scope,
+        DeclaredKind::Enum,
+        each.name.as_str(),
+        each.place,
+    )?;
+    let values = next_scope(outline, scope.name);
+    let name = full_name(alloc, scope, each.name.as_str())?;
+    for statement in &each.body {
+        match statement {
+            EnumStatement::Reserved(it) => {
+                let inside = Scope {
+                    name: &name,
+                    body: values.body,
+                };
+                note_ranges(
+                    alloc,
+                    outline,
+                    inside,
+                    reserved_ranges(&it.reserved),
+                    it.place,
+                )?;
+            }
+            EnumStatement::Option(option) => note_statement(outline, Construct::Enum, option)?,
+            EnumStatement::Value(value) => {
+                let kind = DeclaredKind::EnumValue;
+                declare(
+                    alloc,
+                    outline,
+                    values,
+                    kind,
+                    value.name.as_str(),
+                    value.place,
+                )?;
+                note_options(outline, Construct::EnumValue, &value.options, value.place)?;
+            }
+        }
+    }
+    Ok(())
+}
+
+fn walk_service<'a>(
+    alloc: Global,
+    outline: &mut Outline<'a>,
+    scope: Scope<'_>,
+    service: &'a Service,
+) -> Result<(), AllocError> {
+    let kind = DeclaredKind::Service;
+    declare(
+        alloc,
+        outline,
+        scope,
+        kind,
+        service.name.as_str(),
+        service.place,
+    )?;
+    let name = full_name(alloc, scope, service.name.as_str())?;
+    let inside = next_scope(outline, &name);
+    for statement in &service.body {
+        match statement {
+            ServiceStatement::Option(option) => {
+                note_statement(outline, Construct::Service, option)?;
+            }
+            ServiceStatement::Method(method) => walk_method(alloc, outline, inside, method)?,
+        }
+    }
+    Ok(())
+}
+
+fn walk_method<'a>(
+    alloc: Global,
+    outline: &mut Outline<'a>,
+    scope: Scope<'_>,
+    method: &'a Method,
+) -> Result<(), AllocError> {
+    let kind = DeclaredKind::Method;
+    declare(
+        alloc,
+        outline,
+        scope,
+        kind,
+        method.name.as_str(),
+        method.place,
+    )?;
+    note_type(outline, &method.input, method.place)?;
+    note_type(outline, &method.output, method.place)?;
+    for option in &method.options {
+        note_statement(outline, Construct::Method, option)?;
+    }
+    Ok(())
+}

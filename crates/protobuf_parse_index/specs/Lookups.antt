@@ -1,0 +1,69 @@
+-- What full names and numbers mean in files: of several declarations with one name, or fields or
+-- values with one number, the first.
+use Rattle.std.specs.Prelude.{ℤ, ◌&&◌, List, find, Option, None, option_map, bytes_eq}
+use Rattle.std.specs.Option.{option_and_then, option_or}
+use Rattle.std.specs.Ordering.{int_eq}
+use Rattle.protobuf_parse_model.specs.Descriptors.{Text, FileDescriptor, FieldDescriptor}
+use Rattle.protobuf_parse_model.specs.Descriptors.{EnumDescriptor, EnumValueDescriptor}
+use Rattle.protobuf_parse_model.specs.Descriptors.{MessageDescriptor, parts_seen}
+use Rattle.protobuf_parse_wire.specs.Declarations.{extends}
+use Rattle.protobuf_parse_wire.specs.Trees.{ValueTree, bytes, message, number, truth}
+use Rattle.protobuf_parse_index.specs.Walk.{Standing, all_enums, all_extensions, all_messages}
+
+-- ---- by full names
+
+abbrev pub named : {X : Type 0} → (name : Text) → List (Standing X) → Option (Standing X)
+named {X} name xs = find (λ (x : Standing X). bytes_eq name x.name) xs
+
+abbrev pub message_named : List FileDescriptor → Text → Option (Standing MessageDescriptor)
+message_named files name = named name (all_messages files)
+
+abbrev pub enum_named : List FileDescriptor → Text → Option (Standing EnumDescriptor)
+enum_named files name = named name (all_enums files)
+
+abbrev pub extension_named : List FileDescriptor → Text → Option (Standing FieldDescriptor)
+extension_named files name = named name (all_extensions files)
+
+-- ---- by numbers
+
+-- the extension of the message of that name that has the number
+abbrev pub extension_numbered : List FileDescriptor → (extendee : Text) → ℤ
+    → Option (Standing FieldDescriptor)
+extension_numbered files extendee n =
+    find (λ (e : Standing FieldDescriptor). extends extendee e.what && int_eq n e.what.number)
+    (all_extensions files)
+
+abbrev pub field_with : ℤ → List FieldDescriptor → Option FieldDescriptor
+field_with n fields = find (λ (f : FieldDescriptor). int_eq n f.number) fields
+
+-- the field with that number among those that the message of that name declares
+abbrev pub own_field : List FileDescriptor → (of : Text) → ℤ → Option FieldDescriptor
+own_field files of n =
+    option_and_then (λ (m : Standing MessageDescriptor). field_with n (parts_seen m.what).field)
+    (message_named files of)
+
+-- that field, or else the extension of the message with that number
+abbrev pub field_numbered : List FileDescriptor → (of : Text) → ℤ → Option FieldDescriptor
+field_numbered files of n =
+    option_or (own_field files of n)
+    (option_map (λ (e : Standing FieldDescriptor). e.what) (extension_numbered files of n))
+
+abbrev pub value_with : ℤ → List EnumValueDescriptor → Option EnumValueDescriptor
+value_with n values = find (λ (v : EnumValueDescriptor). int_eq n v.number) values
+
+-- the first value with that number of the enum of that name
+abbrev pub own_value : List FileDescriptor → (of : Text) → ℤ → Option EnumValueDescriptor
+own_value files of n =
+    option_and_then (λ (e : Standing EnumDescriptor). value_with n e.what.value)
+    (enum_named files of)
+
+abbrev pub value_name : List FileDescriptor → (of : Text) → ℤ → Option Text
+value_name files of n =
+    option_map (λ (v : EnumValueDescriptor). v.name) (own_value files of n)
+
+-- the name of a value that was read, which has one where it is a number
+abbrev pub value_read : List FileDescriptor → (of : Text) → ValueTree → Option Text
+value_read files of (number n) = value_name files of n
+value_read files of (truth b) = None
+value_read files of (bytes bs) = None
+value_read files of (message inside) = None

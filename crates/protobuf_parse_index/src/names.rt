@@ -1,0 +1,57 @@
+//! Positions of declarations by their full names: of those that have a name, the first.
+
+ghost use Rattle.std.specs.Prelude.{◌≡◌, List, ℕ, OnOk, IfOk, bytes_eq, slice_get, string_bytes};
+ghost use Rattle.std.specs.BTreeMap.{get_by_text};
+ghost use Rattle.std.specs.Option.{option_and_then, option_copied};
+ghost use Rattle.protobuf_parse_index.specs.Kept.{PutsPosition, first_at};
+ghost use Rattle.protobuf_parse_index.specs.declared.declared.Declared.{Declared};
+
+use crate::declared::Declared;
+use std::alloc::{AllocError, Global};
+use std::collections::BTreeMap;
+
+/// The position of the first declaration of each name.
+pub type Positions = BTreeMap<String, usize>;
+
+/// The positions of the declarations, by their full names.
+pub fn positions_of<T>(alloc: Global, declared: &[Declared<'_, T>]) -> Result<Positions, AllocError>
+    ensures { IfOk result (λ m. (q : List ℕ) → get_by_text m q
+        ≡ first_at (λ d. bytes_eq q (string_bytes d.full_name)) declared.now) }
+{
+    let mut positions = BTreeMap::new(alloc);
+    'declared: for (at, each) in declared.iter().enumerate() {
+        put_position(&mut positions, &each.full_name, at)?;
+    }
+    Ok(positions)
+}
+
+/// The name has the position, unless it has one already.
+fn put_position(positions: &mut Positions, name: &String, at: usize) -> Result<(), AllocError>
+    ensures { OnOk result (PutsPosition positions.old positions.new (string_bytes name.now) at) }
+{
+    match positions.get(name.as_str()) {
+        Some(_first) => Ok(()),
+        None => {
+            positions.insert(name.clone()?, at)?;
+            Ok(())
+        }
+    }
+}
+
+/// What has the name.
+pub fn at_name<'i, T>(positions: &Positions, items: &'i [T], name: &str) -> Option<&'i T>
+    ensures { option_copied result
+        ≡ option_and_then (slice_get items.now) (get_by_text positions.now name.now) }
+{
+    at_position(items, positions.get(name).copied())
+}
+
+/// What stands there.
+pub fn at_position<'i, T>(items: &'i [T], at: Option<usize>) -> Option<&'i T>
+    ensures { option_copied result ≡ option_and_then (slice_get items.now) at }
+{
+    match at {
+        Some(at) => items.get(at),
+        None => None,
+    }
+}

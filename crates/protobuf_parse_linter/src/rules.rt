@@ -1,0 +1,120 @@
+//! The linter's own rules.
+
+use crate::linted::{Linted, LintedFiles};
+use anyhow::{Context, Result};
+use protobuf_parse::{
+    DescriptorProto, FieldDescriptorProto, ProtobufAbsPathRef, camel_case, snake_case,
+};
+use protobuf_parse_diagnostics::{DeclaredKind, Diagnostic};
+use protobuf_parse_index::{Declared, Index, custom_options};
+use std::alloc::{AllocError, Global};
+
+/// What the rules find in the files.
+pub fn lint(alloc: Global, files: &LintedFiles<'_>, index: &Index<'_>) -> Result<Vec<Diagnostic>> {
+    let mut told = Vec::new(alloc);
+    for message in index.messages() {
+        if let Some(file) = files.get(message.file) {
+            if !is_map_entry(message.descriptor) {
+                lint_message(alloc, &mut told, file, index, message)?;
+            }
+        }
+    }
+    Ok(told)
+}
+
+/// Whether the message stands behind a map, which makes its names.
+fn is_map_entry(message: &DescriptorProto) -> bool {
+    match &message.options {
+        Some(options) => options.map_entry == Some(true),
+        None => false,
+    }
+}
+
+fn lint_message(
+    alloc: Global,
+    told: &mut Vec<Diagnostic>,
+    file: &Linted,
+    index: &Index<'_>,
+    message: &Declared<'_, DescriptorProto>,
+) -> Result<()> {
+    let name = message.descriptor.name.as_str();
+    let camel = camel_case(alloc, name)?;
+    if camel.as_str() != name {
+        told.push(file.warning(
+            alloc,
+            DeclaredKind::Message,
+            &message.full_name,
+            "message-name",
+            format!(in alloc; "the name of `{name}` is not in CamelCase")?,
+            format!(in alloc; "call it `{camel}`")?,
+        )?)?;
+    }
+    if !has_owner(alloc, index, message.descriptor)? {
+        told.push(file.warning(
+            alloc,
+            DeclaredKind::Message,
+            &message.full_name,
+            "no-owner",
+            format!(in alloc; "`{name}` has no owner")?,
+            format!(in alloc; "set `option (shop.owner)`")?,
+        )?)?;
+    }
+    for field in &message.descriptor.field {
+        lint_field(alloc, told, file, &message.full_name, field)?;
+    }
+    Ok(())
+}
+
+/// Whether the message has the option `(shop.owner)`.
+fn has_owner(alloc: Global, index: &Index<'_>, message: &DescriptorProto) -> Result<bool> {
+    let of = ProtobufAbsPathRef::try_new(".google.protobuf.MessageOptions").context("no name")?;
+    if let Some(options) = &message.options {
+        for option in &custom_options(alloc, index, of, &options.custom)? {
+            if option.name.as_str() == "(shop.owner)" {
+                return Ok(true);
+            }
+        }
+    }
+    Ok(false)
+}
+
+fn lint_field(
+    alloc: Global,
+    told: &mut Vec<Diagnostic>,
+    file: &Linted,
+    scope: &str,
+    field: &FieldDescriptorProto,
+) -> Result<(), AllocError> {
+    let name = field.name.as_str();
+    let full_name = format!(in alloc; "{scope}.{name}")?;
+    let snake = snake_case(alloc, name)?;
+    if snake.as_str() != name {
+        told.push(file.warning(
+            alloc,
+            DeclaredKind::Field,
+            &full_name,
+            "field-name",
+            format!(in alloc; "the name of `{name}` is not in snake_case")?,
+            format!(in alloc; "call it `{snake}`")?,
+        )?)?;
+    }
+    if is_deprecated(field) {
+        let number = field.number;
+        told.push(file.warning(
+            alloc,
+            DeclaredKind::Field,
+            &full_name,
+            "deprecated",
+            format!(in alloc; "`{name}` is deprecated")?,
+            format!(in alloc; "once nobody sets it, write `reserved {number};` in its place")?,
+        )?)?;
+    }
+    Ok(())
+}
+
+fn is_deprecated(field: &FieldDescriptorProto) -> bool {
+    match &field.options {
+        Some(options) => options.deprecated == Some(true),
+        None => false,
+    }
+}

@@ -1,0 +1,127 @@
+-- Claims whose keys differ.
+use Rattle.std.proofs.Common.{◌≡◌, ℕ, ◌<◌, ◌≤◌, ◌+◌, Bool, true, false, cond, List, [], ◌∷◌, ◌++◌, map}
+use Rattle.std.proofs.Common.{refl, sym, ap, subst, ◌∙◌, append_assoc, append-nil, arith, inl, inr, get_or}
+use Rattle.std.proofs.Common.{Some, None}
+use Rattle.std.proofs.Math.Dec.{eqb}
+use Rattle.std.specs.Prelude.{option_to_list}
+use Rattle.std.specs.List.{IsDistinct, AllByRecursion, flat_map}
+use Rattle.std.specs.List.Sorted.{IsStrictlyIncreasing, IsPermutation}
+use Rattle.std.proofs.lemmas.Bool.{cases_Bool, eqb-false}
+use Rattle.std.proofs.lemmas.Bool.Decides.{nat_tests}
+use Rattle.std.proofs.lemmas.Map.Keys.{IsDistinct-head, IsDistinct-tail, IsDistinct-from_apart}
+use Rattle.std.proofs.lemmas.Map.Keys.{IsDistinct-IsPermutation, below_from_sorted}
+use Rattle.std.proofs.lemmas.Map.Keys.{sorted_from_strictly_increasing}
+use Rattle.std.proofs.lemmas.List.{map-append}
+use Rattle.std.proofs.lemmas.List.Sorted.{IsPermutation-sym}
+use Rattle.protobuf_parse_model.specs.Descriptors.{Text, FieldDescriptor}
+use Rattle.protobuf_parse_rules.specs.Claims.{Claim, Rules, conflict, conflicts, first_claim}
+use Rattle.protobuf_parse_rules.specs.Claims.{same_thing}
+use Rattle.protobuf_parse_rules.specs.Keys.{claim_key, extension_keys, number_key, thing_key}
+use Rattle.protobuf_parse_rules.specs.Numbers.{claim_of, claims, extension_claim, extension_claims}
+use Rattle.protobuf_parse_rules.specs.Numbers.{field_claims}
+use Rattle.protobuf_parse_rules.specs.Places.{Place, extensions_of, fields_of}
+use Rattle.protobuf_parse_rules.specs.Rules.{Breach}
+use Rattle.protobuf_parse_rules.proofs.Claiming.{thing_is}
+
+-- ---- numbers that ascend once they are sorted
+
+lt_apart : (a b : ℕ) → a < b → eqb a b ≡ false
+lt_apart a b h = grind (arith, nat_tests)
+
+pub eqb_comm : (a b : ℕ) → eqb a b ≡ eqb b a
+eqb_comm a b = grind (arith, nat_tests)
+
+apart : (sorted : List ℕ) → IsStrictlyIncreasing sorted → IsDistinct eqb sorted
+apart sorted h =
+    IsDistinct-from_apart eqb sorted (λ i j d l m. lt_apart (get_or sorted i d) (get_or sorted j d)
+    (below_from_sorted sorted i j d (sorted_from_strictly_increasing sorted h) l m))
+
+pub apart_sorted : (keys sorted : List ℕ) → IsPermutation keys sorted
+    → IsStrictlyIncreasing sorted → IsDistinct eqb keys
+apart_sorted keys sorted moved ascending =
+    IsDistinct-IsPermutation eqb eqb_comm sorted keys (IsPermutation-sym keys sorted moved)
+    (apart sorted ascending)
+
+-- ---- no claim of what is claimed already
+
+things_differ : (c d : Claim) → eqb (claim_key c) (claim_key d) ≡ false
+    → same_thing c.thing d.thing ≡ false
+things_differ c d h =
+    elim (cases_Bool (same_thing c.thing d.thing)) [
+      | inl same ↦
+          absurd (eqb-false (claim_key c) (claim_key d) h
+          (ap thing_key (thing_is c.thing d.thing same)))
+      | inr other ↦ other
+    ]
+
+holds_of : (P : ℕ → Type 0) (before cs : List Claim) (c : Claim)
+    → AllByRecursion P (map claim_key (before ++ c ∷ cs)) → P (claim_key c)
+holds_of P [] cs c h = h.0
+holds_of P (b ∷ bs) cs c h = holds_of P bs cs c h.1
+
+unclaimed : (before cs : List Claim) (c : Claim)
+    → IsDistinct eqb (map claim_key (before ++ c ∷ cs)) → first_claim before c.thing ≡ None
+unclaimed [] cs c h = refl
+unclaimed (b ∷ bs) cs c h =
+    ap (λ s. cond s (Some b) (first_claim bs c.thing))
+    (things_differ b c (holds_of (λ y. eqb (claim_key b) y ≡ false) bs cs c
+    (IsDistinct-head eqb (claim_key b) (map claim_key (bs ++ c ∷ cs)) h)))
+    ∙ unclaimed bs cs c (IsDistinct-tail eqb (claim_key b) (map claim_key (bs ++ c ∷ cs)) h)
+
+none_after : (rules : Rules) (before cs : List Claim)
+    → IsDistinct eqb (map claim_key (before ++ cs)) → conflicts rules before cs ≡ []
+none_after rules before [] h = refl
+none_after rules before (c ∷ cs) h =
+    ap (λ first. conflict rules c first ++ conflicts rules (before ++ c ∷ []) cs)
+    (unclaimed before cs c h)
+    ∙ none_after rules (before ++ c ∷ []) cs
+    (subst (λ (xs : List Claim). IsDistinct eqb (map claim_key xs))
+    (sym (append_assoc before (c ∷ []) cs)) h)
+
+-- Where the keys differ, no claim is in conflict.
+pub no_conflict : (rules : Rules) (cs : List Claim) (keys : List ℕ)
+    → keys ≡ map claim_key cs → IsDistinct eqb keys → conflicts rules [] cs ≡ []
+no_conflict rules cs keys is apart =
+    none_after rules [] cs (subst (IsDistinct eqb) is apart)
+
+fused : {X : Type 0} (claim : X → Claim) (xs : List X)
+    → map (λ (x : X). claim_key (claim x)) xs ≡ map claim_key (map claim xs)
+fused claim [] = refl
+fused claim (x ∷ xs) = ap (λ ks. claim_key (claim x) ∷ ks) (fused claim xs)
+
+-- The same of claims of what stands in a list: nothing is told of them.
+pub nothing_told : {X : Type 0} (rules : Rules) (told : List Breach) (claim : X → Claim)
+    (xs : List X) (keys : List ℕ) → keys ≡ map (λ (x : X). claim_key (claim x)) xs
+    → IsDistinct eqb keys → told ≡ told ++ conflicts rules [] (map claim xs)
+nothing_told rules told claim xs keys is apart =
+    sym (append-nil told)
+    ∙ ap (λ bs. told ++ bs)
+    (sym (no_conflict rules (map claim xs) keys (is ∙ fused claim xs) apart))
+
+-- ---- the numbers that a place claims
+
+extension_keys_are : (file scope : Text) (es : List FieldDescriptor)
+    → flat_map extension_keys es ≡ map claim_key (extension_claims file scope es)
+extension_keys_are file scope [] = refl
+extension_keys_are file scope (e ∷ es) =
+    ap (λ ks. extension_keys e ++ ks) (extension_keys_are file scope es)
+    ∙ ap (λ ks. ks ++ map claim_key (extension_claims file scope es))
+    (fused (λ m. claim_of file scope m e) (option_to_list e.extendee))
+    ∙ sym (map-append claim_key (extension_claim file scope e) (extension_claims file scope es))
+
+pub number_keys : (p : Place) (keys mid new : List ℕ)
+    → mid ≡ keys ++ map (number_key p.scope) (fields_of p.content)
+    → new ≡ mid ++ flat_map extension_keys (extensions_of p.content)
+    → new ≡ keys ++ map claim_key (claims p)
+number_keys p keys mid new fields extensions =
+    let fs = fields_of p.content in
+    let es = extensions_of p.content in
+    extensions
+    ∙ ap (λ ks. ks ++ flat_map extension_keys es) fields
+    ∙ append_assoc keys (map (number_key p.scope) fs) (flat_map extension_keys es)
+    ∙ ap (λ ks. keys ++ (ks ++ flat_map extension_keys es)) (fused (claim_of p.file p.scope p.scope) fs)
+    ∙ ap (λ ks. keys ++ (map claim_key (field_claims p.file p.scope fs) ++ ks))
+    (extension_keys_are p.file p.scope es)
+    ∙ ap (λ ks. keys ++ ks)
+    (sym (map-append claim_key (field_claims p.file p.scope fs)
+    (extension_claims p.file p.scope es)))

@@ -1,0 +1,8 @@
+use Rattle.protobuf_parse_rules.specs.Places.{content_view, extension_ranges}
+use Rattle.protobuf_parse_rules.specs.Ranges.{in_range}
+use Rattle.protobuf_parse_rules.proofs.bars.Bars.keeps.Goals as goal
+
+pub returns : goal.returns
+returns c =
+    let bars = c.args.self.now in
+    c.has.ensures in_range (extension_ranges (content_view bars.body.now.holds)) bars.are_kept

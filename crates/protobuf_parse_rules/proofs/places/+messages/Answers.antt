@@ -1,0 +1,46 @@
+use Rattle.std.proofs.Common.{◌≡◌, List, [], ◌∷◌, ◌++◌, map, ap, ◌∙◌, string_bytes}
+use Rattle.std.specs.List.{flat_map}
+use Rattle.std.proofs.lemmas.Result.{on_ok_weaker}
+use Rattle.std.proofs.lemmas.List.{map-append}
+use Rattle.protobuf_parse_model.specs.declared.descriptor.DescriptorProto.{DescriptorProto}
+use Rattle.protobuf_parse_model.specs.declared.descriptor.DescriptorProto.{out-DescriptorProto}
+use Rattle.protobuf_parse_model.specs.Descriptors.{Text, message_parts, message_view}
+use Rattle.protobuf_parse_wire.specs.Declarations.{Declaration, declared_message}
+use Rattle.protobuf_parse_rules.specs.Places.{Place, body_view, message_place}
+use Rattle.protobuf_parse_rules.proofs.Lists.{joined_one_more}
+use Rattle.protobuf_parse_rules.proofs.Placing.{message_declared, places_more}
+use Rattle.protobuf_parse_rules.proofs.places.+messages.Goals as goal
+
+pub add_message-returns : goal.add_message-returns
+add_message-returns t c =
+    let m = c.args.message.now in
+    let path : Text = c.args.path.now in
+    let proto3 = c.args.proto3 in
+    let name : Text = string_bytes c.in_ok-name.name in
+    let old : List Place = map body_view c.args.bodies.now.items in
+    let mid : List Place = map body_view c.push.new.self.items in
+    let new : List Place = map body_view c.add_messages.new.bodies.items in
+    let d : Declaration = record { name = name; parts = message_parts m } in
+    let inner = flat_map (declared_message name)
+    (map message_view (out-DescriptorProto m).nested_type.items) in
+    let pushed : mid ≡ old ++ map (message_place path proto3) (d ∷ []) =
+    ap (map body_view) c.in_ok-push.ensures.items
+    ∙ map-append body_view c.args.bodies.now.items _
+    ∙ ap (λ (s : Text). old ++ map (message_place path proto3)
+    (record { name = s; parts = message_parts m } ∷ [])) c.in_ok-clone.ensures.cases in
+    on_ok_weaker c.add_messages.result
+    (λ nested. places_more path proto3 old mid new (d ∷ []) inner
+    (declared_message c.args.scope.now (message_view m)) pushed
+    (nested ∙ ap (λ (ds : List Declaration). mid ++ map (message_place path proto3) ds)
+    (ap (λ (s : Text). flat_map (declared_message s) (map message_view c.deref-2.result.now))
+    c.deref.ensures
+    ∙ ap (λ (ms : List DescriptorProto). flat_map (declared_message name) (map message_view ms))
+    c.deref-2.ensures.value))
+    (message_declared c.args.scope.now name m c.in_ok-name.ensures.ok))
+    c.add_messages.ensures
+
+pub add_messages-messages-preserved : goal.add_messages-messages-preserved
+add_messages-messages-preserved t c =
+    places_more c.args.path.now c.args.proto3 _ _ _ _ _ _ c.messages.invariant c.in_ok-add_message.ensures
+    (joined_one_more (declared_message c.args.scope.now) message_view c.args.messages.now
+    c.messages.message-index c.message-item.result c.messages-test.true c.message-item.is)

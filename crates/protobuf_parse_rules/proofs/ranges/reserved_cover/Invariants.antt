@@ -1,0 +1,9 @@
+use Rattle.std.proofs.Common.{map, take}
+use Rattle.protobuf_parse_model.specs.Descriptors.{reserved_range_view}
+use Rattle.protobuf_parse_rules.specs.Covers.{AreEnds}
+use Rattle.protobuf_parse_rules.specs.Ranges.{in_range}
+use Rattle.protobuf_parse_rules.proofs.ranges.reserved_cover.Given as goal
+
+abbrev pub invariant-reserved : goal.invariant-reserved
+invariant-reserved l = AreEnds in_range (map reserved_range_view (take l.range-index l.ranges)) l.ends.firsts.items
+    l.ends.lasts.items

@@ -1,0 +1,9 @@
+use Rattle.std.proofs.Common.{◌≡◌, flat_map, map, take}
+use Rattle.protobuf_parse_rules.specs.Imports.{setting_path}
+use Rattle.protobuf_parse_rules.specs.Places.{body_view}
+use Rattle.protobuf_parse_rules.specs.Sets.{texts_of}
+use Rattle.protobuf_parse_rules.proofs.uses.setting_paths.Given as goal
+
+abbrev pub invariant-bodies : goal.invariant-bodies
+invariant-bodies l = texts_of l.paths.items
+    ≡ flat_map setting_path (map body_view (take l.body-index l.bodies))

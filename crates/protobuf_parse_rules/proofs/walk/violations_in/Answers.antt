@@ -1,0 +1,30 @@
+use Rattle.std.proofs.Common.{[], ◌++◌, List, map, take, sym, ap, ◌∙◌, subst}
+use Rattle.protobuf_parse_rules.specs.Places.{Place, body_view}
+use Rattle.protobuf_parse_rules.specs.Rules.{violation_view}
+use Rattle.protobuf_parse_rules.specs.Violations.{Checks, breaches_after}
+use Rattle.protobuf_parse_rules.proofs.Claiming.{nothing_known}
+use Rattle.protobuf_parse_rules.proofs.Lists.{mapped_all, mapped_one_more}
+use Rattle.protobuf_parse_rules.proofs.Walking.{checks_more, checks_none}
+use Rattle.protobuf_parse_rules.proofs.walk.violations_in.Goals as goal
+
+pub bodies-init : goal.bodies-init
+bodies-init c = λ all knows. checks_none all c.new-numbers.result c.new-told.result
+
+pub bodies-preserved : goal.bodies-preserved
+bodies-preserved c = λ all knows.
+    subst (λ (ps : List Place). Checks all c.new-numbers.result c.check_body.new.numbers
+    c.new-told.result c.check_body.new.told ps)
+    (sym (mapped_one_more body_view c.args.bodies.now c.bodies.body-index c.body-item.result
+    c.bodies-test.true c.body-item.is))
+    (checks_more all _ _ _ _ _ _ _ _ (c.bodies.invariant all knows)
+    (c.in_ok-check_body.ensures all knows))
+
+pub returns : goal.returns
+returns c = λ all knows.
+    let whole = (c.bodies.invariant all knows).at []
+    (nothing_known c.new-numbers.result c.new-numbers.ensures.empty) in
+    whole.1
+    ∙ ap (λ vs. map violation_view vs ++ breaches_after all []
+    (map body_view (take c.bodies.body-index c.args.bodies.now))) c.new-told.ensures.items
+    ∙ ap (breaches_after all []) (mapped_all body_view c.args.bodies.now c.bodies.body-index
+    c.bodies-test.false)

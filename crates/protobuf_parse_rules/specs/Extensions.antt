@@ -1,0 +1,40 @@
+-- Extensions: none is required, each has a number that the message keeps for extensions, and those
+-- of a message set are optional messages. Protocol Buffers Language Guide (proto2), "Extensions"
+-- (https://protobuf.dev). Nothing is told where no message has the name.
+use Rattle.std.specs.Prelude.{ℤ, Bool, true, false, not, ◌&&◌, if◌then◌else◌, List, Option, Some}
+use Rattle.std.specs.Prelude.{None, option_and_then}
+use Rattle.protobuf_parse_syntax.specs.declared.tree.field.Label.{Label}
+use Rattle.protobuf_parse_syntax.specs.declared.tree.field.Label.TheVariants as label
+use Rattle.protobuf_parse_model.specs.Descriptors.{FieldDescriptor}
+use Rattle.protobuf_parse_rules.specs.FieldOptions.{is_message}
+use Rattle.protobuf_parse_rules.specs.Lookups.{NamedMessage, message_named}
+use Rattle.protobuf_parse_rules.specs.MessageSets.{is_message_set}
+use Rattle.protobuf_parse_rules.specs.Places.{Place, extension_ranges}
+use Rattle.protobuf_parse_rules.specs.Proto3.{is_required}
+use Rattle.protobuf_parse_rules.specs.Ranges.{in_ranges}
+use Rattle.protobuf_parse_rules.specs.Rules.{Broken, broken_by, broken_if}
+use Rattle.protobuf_parse_rules.specs.declared.rule.Rule.TheVariants as rule
+
+abbrev pub required_extension : Label → Option Broken
+required_extension l = broken_if (is_required l) rule.RequiredExtension
+
+abbrev pub is_optional : Label → Bool
+is_optional label.Optional = true
+is_optional _ = false
+
+abbrev pub extendee_of : List Place → FieldDescriptor → Option NamedMessage
+extendee_of all e = option_and_then (message_named all) e.extendee
+
+-- what a rule says of an extension of that message
+abbrev pub of_extendee : List Place → (NamedMessage → Option Broken) → FieldDescriptor
+    → Option Broken
+of_extendee all r e = option_and_then r (extendee_of all e)
+
+abbrev pub outside_ranges : ℤ → NamedMessage → Option Broken
+outside_ranges n m = if in_ranges n (extension_ranges m.what) then None
+    else Some (broken_by (rule.NumberNotForExtensions n) m.name)
+
+abbrev pub of_message_set : FieldDescriptor → NamedMessage → Option Broken
+of_message_set e m =
+    if is_message_set m.what && not (is_optional e.label && is_message e.type_)
+    then Some (broken_by rule.ExtensionOfMessageSet m.name) else None

@@ -1,0 +1,98 @@
+-- Where fields, extensions and enums stand: in a message, or in a file outside of its messages.
+use Rattle.std.specs.Prelude.{Bool, List, [], ◌∷◌, ◌++◌, map, unwrap_or}
+use Rattle.std.specs.Prelude.{bytes_eq, codes, string_bytes}
+use Rattle.protobuf_parse_model.specs.Descriptors.{Text, FileDescriptor, FieldDescriptor}
+use Rattle.protobuf_parse_model.specs.Descriptors.{EnumDescriptor, MessageParts, Range}
+use Rattle.protobuf_parse_model.specs.Descriptors.{ServiceDescriptor, file_view, message_parts}
+use Rattle.protobuf_parse_wire.specs.Declarations.{Declaration, messages_declared_in}
+use Rattle.protobuf_parse_wire.specs.Declarations.{package_scope}
+use Rattle.protobuf_parse_rules.specs.declared.places.Body.{Body}
+use Rattle.protobuf_parse_rules.specs.declared.places.Holds.{Holds}
+use Rattle.protobuf_parse_rules.specs.declared.places.Holds.TheVariants as holds
+
+-- what stands there: what a message has, or what a file has
+pub data Content : Type 0 where
+  of_message : MessageParts → Content
+  of_file : FileDescriptor → Content
+
+-- the path of the file, the scope of what stands there, and what stands there
+pub record Place : Type 0 where
+  pub file : Text
+  pub proto3 : Bool
+  pub scope : Text
+  pub content : Content
+
+abbrev pub fields_of : Content → List FieldDescriptor
+fields_of (of_message m) = m.field
+fields_of (of_file f) = []
+
+abbrev pub extensions_of : Content → List FieldDescriptor
+extensions_of (of_message m) = m.extension
+extensions_of (of_file f) = f.extension
+
+abbrev pub enums_of : Content → List EnumDescriptor
+enums_of (of_message m) = m.enum_type
+enums_of (of_file f) = f.enum_type
+
+abbrev pub extension_ranges : Content → List Range
+extension_ranges (of_message m) = m.extension_range
+extension_ranges (of_file f) = []
+
+abbrev pub reserved_ranges : Content → List Range
+reserved_ranges (of_message m) = m.reserved_range
+reserved_ranges (of_file f) = []
+
+abbrev pub reserved_names : Content → List Text
+reserved_names (of_message m) = m.reserved_name
+reserved_names (of_file f) = []
+
+abbrev pub services_of : Content → List ServiceDescriptor
+services_of (of_message m) = []
+services_of (of_file f) = f.service
+
+-- the paths that a file imports
+abbrev pub imports_of : Content → List Text
+imports_of (of_message m) = []
+imports_of (of_file f) = f.dependency
+
+abbrev pub file_path : FileDescriptor → Text
+file_path file = unwrap_or file.name []
+
+abbrev pub is_proto3 : FileDescriptor → Bool
+is_proto3 file = bytes_eq (unwrap_or file.syntax []) (codes "proto3")
+
+-- a message of the file with that path
+abbrev pub message_place : (path : Text) → (proto3 : Bool) → Declaration → Place
+message_place path proto3 d = record {
+  file = path;
+  proto3 = proto3;
+  scope = d.name;
+  content = of_message d.parts;
+}
+
+-- outside of the file's messages
+abbrev pub outer_place : FileDescriptor → Place
+outer_place file = record {
+  file = file_path file;
+  proto3 = is_proto3 file;
+  scope = package_scope file.«package»;
+  content = of_file file;
+}
+
+-- the messages of a file in the order of declaration, each before those inside it; then the file
+abbrev pub places : FileDescriptor → List Place
+places file =
+    map (message_place (file_path file) (is_proto3 file)) (messages_declared_in file)
+    ++ outer_place file ∷ []
+
+abbrev pub content_view : Holds → Content
+content_view (holds.Message m) = of_message (message_parts m.now)
+content_view (holds.File f) = of_file (file_view f.now)
+
+abbrev pub body_view : Body → Place
+body_view b = record {
+  file = b.file.now;
+  proto3 = b.proto3;
+  scope = string_bytes b.scope;
+  content = content_view b.holds;
+}

@@ -1,0 +1,67 @@
+-- Ranges of numbers that a message keeps for extensions, or lets no field have, and of numbers that
+-- no value of an enum has. Protocol Buffers Language Guide (proto2), "Reserved Fields",
+-- "Extensions" (https://protobuf.dev). A range of a message ends before its `end`, one of an enum at it.
+use Rattle.std.specs.Prelude.{ℤ, pos, Bool, not, ◌&&◌, Option, int_lt, nat_lt, bytes_eq, List, []}
+use Rattle.std.specs.Prelude.{◌∷◌, ◌++◌}
+use Rattle.std.specs.List.{count_by, list_any}
+use Rattle.protobuf_parse_model.specs.Descriptors.{Text, Range}
+use Rattle.protobuf_parse_rules.specs.Places.{Content, extension_ranges, reserved_names}
+use Rattle.protobuf_parse_rules.specs.Places.{reserved_ranges}
+use Rattle.protobuf_parse_rules.specs.Rules.{Breach, Broken, Site, breaches_at, broken_if}
+use Rattle.protobuf_parse_rules.specs.declared.rule.Rule.TheVariants as rule
+
+abbrev pub in_range : ℤ → Range → Bool
+in_range n r = not (int_lt n r.start) && int_lt n r.end
+
+abbrev pub is_among : Text → List Text → Bool
+is_among name names = list_any (λ (x : Text). bytes_eq x name) names
+
+abbrev pub in_ranges : ℤ → List Range → Bool
+in_ranges n ranges = list_any (in_range n) ranges
+
+-- a field of the message that has a number or a name which is reserved, or a number that is kept
+-- for extensions
+abbrev pub reserved_number : ℤ → Content → Option Broken
+reserved_number n content =
+    broken_if (in_ranges n (reserved_ranges content)) (rule.NumberReserved n)
+
+abbrev pub reserved_name : Text → Content → Option Broken
+reserved_name name content = broken_if (is_among name (reserved_names content)) rule.NameReserved
+
+abbrev pub kept_number : ℤ → Content → Option Broken
+kept_number n content =
+    broken_if (in_ranges n (extension_ranges content)) (rule.NumberKeptForExtensions n)
+
+abbrev pub not_positive : (start : ℤ) → Option Broken
+not_positive start = broken_if (int_lt start (pos 1)) (rule.RangeNotPositive start)
+
+-- of a message
+abbrev pub without_numbers : (start end : ℤ) → Option Broken
+without_numbers start end = broken_if (not (int_lt start end)) (rule.RangeEmpty start)
+
+-- a range of extensions, but for those of message sets
+abbrev pub too_large : (message_set : Bool) → (end : ℤ) → Option Broken
+too_large message_set end =
+    broken_if (not message_set && int_lt (pos 536870912) end) (rule.ExtensionRangeTooLarge end)
+
+-- all ranges of a message
+abbrev pub ranges_of : Content → List Range
+ranges_of content = reserved_ranges content ++ extension_ranges content
+
+-- a range begins at a number that lies in more than one of the ranges
+abbrev pub overlapping : (ranges : List Range) → (start : ℤ) → Option Broken
+overlapping ranges start =
+    broken_if (nat_lt 1 (count_by (in_range start) ranges)) (rule.RangesOverlap start)
+
+-- what is wrong with a range of extensions of a message, and with a reserved one
+abbrev pub extension_range : Site → (message_set : Bool) → (ranges : List Range) → Range → List Breach
+extension_range site message_set ranges r = breaches_at site
+    (not_positive r.start
+    ∷ without_numbers r.start r.end
+    ∷ too_large message_set r.end
+    ∷ overlapping ranges r.start
+    ∷ [])
+
+abbrev pub reserved_range : Site → (ranges : List Range) → Range → List Breach
+reserved_range site ranges r =
+    breaches_at site (not_positive r.start ∷ overlapping ranges r.start ∷ [])

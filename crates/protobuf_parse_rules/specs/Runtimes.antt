@@ -1,0 +1,106 @@
+-- The runtime that a file is for: one that says `optimize_for = LITE_RUNTIME` is for the lite one,
+-- and then a file that doesn't say so doesn't import it, no extension in it is of a message of a
+-- file that doesn't say so, and it has no services of the generic kind. The comments of
+-- `optimize_for` and `cc_generic_services` in google/protobuf/descriptor.proto. Nothing is told of
+-- files and messages that aren't there; of files with one path, the first counts.
+use Rattle.std.specs.Prelude.{Bool, true, false, ◌&&◌, ◌||◌, if◌then◌else◌, List, [], ◌∷◌, ◌++◌}
+use Rattle.std.specs.Prelude.{flat_map, find, bytes_eq, Option, Some, None, option_and_then}
+use Rattle.std.specs.Prelude.{option_map, unwrap_or}
+use Rattle.std.specs.Option.{option_map_or}
+use Rattle.protobuf_parse_model.specs.Descriptors.{Text, FieldDescriptor, FileDescriptor}
+use Rattle.protobuf_parse_model.specs.Descriptors.{ServiceDescriptor}
+use Rattle.protobuf_parse_model.specs.Options.{FileOptionValues}
+use Rattle.protobuf_parse_model.specs.declared.descriptor.options.OptimizeMode.{OptimizeMode}
+use Rattle.protobuf_parse_model.specs.declared.descriptor.options.OptimizeMode.TheVariants as mode
+use Rattle.protobuf_parse_wire.specs.Declarations.{name_within}
+use Rattle.protobuf_parse_rules.specs.Names.{Named, names_at}
+use Rattle.protobuf_parse_rules.specs.Places.{Content, Place, extensions_of, of_file, of_message}
+use Rattle.protobuf_parse_rules.specs.Rules.{Breach, Broken, Site, breaches_at, broken, broken_by}
+use Rattle.protobuf_parse_rules.specs.declared.rule.Rule.TheVariants as rule
+
+-- ---- files by their paths, and what they declare
+
+-- a file, by its path
+pub record NamedFile : Type 0 where
+  pub path : Text
+  pub what : FileDescriptor
+
+abbrev pub file_in : (path : Text) → Content → List NamedFile
+file_in path (of_message m) = []
+file_in path (of_file f) = record { path = path; what = f } ∷ []
+
+abbrev pub file_at : Place → List NamedFile
+file_at p = file_in p.file p.content
+
+abbrev pub file_named : List Place → Text → Option NamedFile
+file_named all path = find (λ (f : NamedFile). bytes_eq f.path path) (flat_map file_at all)
+
+-- the path of the file of the first that has the full name
+abbrev pub declaring_file : List Place → Text → Option Text
+declaring_file all name = option_map (λ (n : Named). n.file)
+    (find (λ (n : Named). bytes_eq n.name name) (flat_map names_at all))
+
+-- ---- the lite runtime
+
+abbrev pub is_lite_mode : OptimizeMode → Bool
+is_lite_mode mode.LiteRuntime = true
+is_lite_mode _ = false
+
+abbrev pub is_lite : FileDescriptor → Bool
+is_lite f = option_map_or is_lite_mode
+    (option_and_then (λ (o : FileOptionValues). o.optimize_for) f.options) false
+
+-- a file with that path, and for the lite runtime or not
+abbrev pub is_lite_path : List Place → Text → Bool
+is_lite_path all path = option_map_or (λ (f : NamedFile). is_lite f.what) (file_named all path) false
+
+-- a file that is not for the lite runtime imports that path
+abbrev pub of_lite_path : List Place → (path : Text) → Option Broken
+of_lite_path all path =
+    if is_lite_path all path then Some (broken_by rule.LiteImport path) else None
+
+abbrev pub lite_import : List Place → Site → (path : Text) → List Breach
+lite_import all site path = breaches_at site (of_lite_path all path ∷ [])
+
+abbrev pub lite_imports : List Place → Site → FileDescriptor → List Breach
+lite_imports all site f =
+    if is_lite f then [] else flat_map (lite_import all site) f.dependency
+
+-- an extension, in a file for the lite runtime, of what has that full name
+abbrev pub lite_extendee : List Place → Text → Option Broken
+lite_extendee all name = option_and_then (λ (path : Text).
+    if is_lite_path all path then None else Some (broken_by rule.LiteExtension name))
+    (declaring_file all name)
+
+abbrev pub lite_extension : List Place → (file scope : Text) → FieldDescriptor → List Breach
+lite_extension all file scope e =
+    breaches_at (record { file = file; construct = name_within scope e.name })
+    (option_and_then (lite_extendee all) e.extendee ∷ [])
+
+abbrev pub lite_extensions : List Place → Place → List Breach
+lite_extensions all p = if is_lite_path all p.file
+    then flat_map (lite_extension all p.file p.scope) (extensions_of p.content) else []
+
+abbrev pub is_generic_in : FileOptionValues → Bool
+is_generic_in o = unwrap_or o.cc_generic_services false || unwrap_or o.java_generic_services false
+
+abbrev pub has_generic_services : FileDescriptor → Bool
+has_generic_services f = option_map_or is_generic_in f.options false
+
+abbrev pub lite_service : (file scope : Text) → ServiceDescriptor → List Breach
+lite_service file scope s =
+    breaches_at (record { file = file; construct = name_within scope s.name })
+    (Some (broken rule.LiteService) ∷ [])
+
+abbrev pub lite_services : (file scope : Text) → FileDescriptor → List Breach
+lite_services file scope f = if is_lite f && has_generic_services f
+    then flat_map (lite_service file scope) f.service else []
+
+-- a file's imports and services
+abbrev pub lite_file : List Place → (file scope : Text) → Content → List Breach
+lite_file all file scope (of_message m) = []
+lite_file all file scope (of_file f) =
+    lite_imports all (record { file = file; construct = scope }) f ++ lite_services file scope f
+
+abbrev pub runtime_breaches : List Place → Place → List Breach
+runtime_breaches all p = lite_extensions all p ++ lite_file all p.file p.scope p.content

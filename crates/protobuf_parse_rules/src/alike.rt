@@ -1,0 +1,259 @@
+//! Names that are one but for case and underscores.
+
+ghost use Rattle.std.specs.Prelude.{◌≡◌, ◌++◌, [], ◌∷◌, map, OnOk, IfOk, encode_utf8_all};
+ghost use Rattle.std.specs.Prelude.{pos, string_bytes};
+ghost use Rattle.std.specs.Str.{chars};
+ghost use Rattle.protobuf_parse_base.specs.Cases.{camel_case_text};
+ghost use Rattle.protobuf_parse_model.specs.Descriptors.{enum_value_view, enum_view, field_view};
+ghost use Rattle.protobuf_parse_rules.specs.Alike as spec;
+ghost use Rattle.protobuf_parse_rules.specs.Alike.{fields_alike, spelled_claim, values_alike};
+ghost use Rattle.protobuf_parse_rules.specs.Claims.{Claims, conflicts};
+ghost use Rattle.protobuf_parse_rules.specs.Held.{rules_of};
+ghost use Rattle.protobuf_parse_rules.specs.Keys.{key_of};
+ghost use Rattle.protobuf_parse_rules.specs.KnownNames.{spelled_view};
+ghost use Rattle.protobuf_parse_rules.specs.Places.{body_view};
+ghost use Rattle.protobuf_parse_rules.specs.Rules.{breaches_told};
+
+use crate::claims::{Held, Holders, Thing, check_claim};
+use crate::keys::{are_apart, key_of};
+use crate::places::Body;
+use crate::violation::Violation;
+use protobuf_parse_base::text::camel_case;
+use protobuf_parse_model::{EnumDescriptorProto, EnumValueDescriptorProto, FieldDescriptorProto};
+use std::alloc::{AllocError, Global};
+use std::collections::BTreeMap;
+
+/// A name with how it is compared.
+#[derive(Drop)]
+pub struct Spelled<'a> {
+    pub key: String,
+    pub name: &'a str,
+    pub number: i32,
+}
+
+/// Tells each field of proto3 whose name is that of one before it but for case and underscores.
+pub fn check_fields_alike(
+    alloc: Global,
+    told: &mut Vec<Violation>,
+    body: &Body<'_>,
+) -> Result<(), AllocError>
+    ensures { OnOk result (breaches_told told.new ≡ breaches_told told.old
+        ++ fields_alike (body_view body.now)) }
+{
+    if !body.proto3 {
+        return Ok(());
+    }
+    let spelled = spelled_fields(alloc, body.holds.fields())?;
+    check_each(alloc, told, Held::FieldAlike, body, &spelled)
+}
+
+/// Tells each value whose name is that of one before it, which has another number, but for case,
+/// underscores and the enum's name.
+pub fn check_values_alike(
+    alloc: Global,
+    told: &mut Vec<Violation>,
+    body: &Body<'_>,
+    each: &EnumDescriptorProto,
+) -> Result<(), AllocError>
+    ensures { OnOk result (breaches_told told.new ≡ breaches_told told.old
+        ++ values_alike (body_view body.now) (enum_view each.now)) }
+{
+    let front = plain(alloc, &each.name)?;
+    let spelled = spelled_values(alloc, &front, &each.value)?;
+    check_each(alloc, told, Held::ValueAlike(body.proto3), body, &spelled)
+}
+
+fn check_each<'b>(
+    alloc: Global,
+    told: &mut Vec<Violation>,
+    held: Held,
+    body: &'b Body<'_>,
+    names: &'b [Spelled<'b>],
+) -> Result<(), AllocError>
+    ensures { OnOk result (breaches_told told.new ≡ breaches_told told.old
+        ++ conflicts (rules_of held) []
+        (map (spelled_claim body.now.file.now (string_bytes body.now.scope))
+        (map spelled_view names.now))) }
+{
+    let keys = keys_of(alloc, names)?;
+    if are_apart(keys) {
+        return Ok(());
+    }
+    check_in_turn(alloc, told, held, body, names)
+}
+
+/// The keys of how the names are compared.
+fn keys_of(alloc: Global, names: &[Spelled<'_>]) -> Result<Vec<u64>, AllocError>
+    ensures { IfOk result (λ keys. keys.items
+        ≡ map (λ (s : spec.Spelled). key_of (pos 0) s.key) (map spelled_view names.now)) }
+{
+    let mut keys = Vec::with_capacity(alloc, names.len())?;
+    'names: for spelled in names {
+        keys.push(key_of(0, &spelled.key))?;
+    }
+    Ok(keys)
+}
+
+fn check_in_turn<'b>(
+    alloc: Global,
+    told: &mut Vec<Violation>,
+    held: Held,
+    body: &'b Body<'_>,
+    names: &'b [Spelled<'b>],
+) -> Result<(), AllocError>
+    ensures { OnOk result (breaches_told told.new ≡ breaches_told told.old
+        ++ conflicts (rules_of held) []
+        (map (spelled_claim body.now.file.now (string_bytes body.now.scope))
+        (map spelled_view names.now))) }
+{
+    let mut holders: Holders<'_> = BTreeMap::new(alloc);
+    'names: for spelled in names {
+        check_spelled(alloc, &mut holders, told, held, body, spelled)?;
+    }
+    Ok(())
+}
+
+fn check_spelled<'a>(
+    alloc: Global,
+    holders: &mut Holders<'a>,
+    told: &mut Vec<Violation>,
+    held: Held,
+    body: &'a Body<'_>,
+    spelled: &'a Spelled<'_>,
+) -> Result<(), AllocError>
+    ensures { OnOk result (Claims (rules_of held) holders.old holders.new told.old told.new
+        (spelled_claim body.now.file.now (string_bytes body.now.scope) (spelled_view spelled.now)
+        ∷ [])) }
+{
+    let thing = Thing {
+        number: 0,
+        name: &spelled.key,
+        scope: "",
+    };
+    let by = body.holder(spelled.name, spelled.number);
+    check_claim(alloc, held, holders, told, thing, by)
+}
+
+fn spelled_fields<'a>(
+    alloc: Global,
+    fields: &'a [FieldDescriptorProto],
+) -> Result<Vec<Spelled<'a>>, AllocError>
+    ensures { IfOk result (λ v. map spelled_view v.items
+        ≡ map spec.spelled_field (map field_view fields.now)) }
+{
+    let mut names = Vec::with_capacity(alloc, fields.len())?;
+    'fields: for field in fields {
+        names.push(spelled_field(alloc, field)?)?;
+    }
+    Ok(names)
+}
+
+fn spelled_field<'a>(
+    alloc: Global,
+    field: &'a FieldDescriptorProto,
+) -> Result<Spelled<'a>, AllocError>
+    ensures { IfOk result (λ s. spelled_view s ≡ spec.spelled_field (field_view field.now)) }
+{
+    let key = plain_text(alloc, &field.name)?;
+    Ok(Spelled {
+        key,
+        name: &field.name,
+        number: field.number,
+    })
+}
+
+fn spelled_values<'a>(
+    alloc: Global,
+    front: &[char],
+    values: &'a [EnumValueDescriptorProto],
+) -> Result<Vec<Spelled<'a>>, AllocError>
+    ensures { IfOk result (λ v. map spelled_view v.items
+        ≡ map (spec.spelled_value front.now) (map enum_value_view values.now)) }
+{
+    let mut names = Vec::with_capacity(alloc, values.len())?;
+    'values: for value in values {
+        names.push(spelled_value(alloc, front, value)?)?;
+    }
+    Ok(names)
+}
+
+fn spelled_value<'a>(
+    alloc: Global,
+    front: &[char],
+    value: &'a EnumValueDescriptorProto,
+) -> Result<Spelled<'a>, AllocError>
+    ensures { IfOk result (λ s. spelled_view s
+        ≡ spec.spelled_value front.now (enum_value_view value.now)) }
+{
+    let name = chars_of(alloc, &value.name)?;
+    let key = words(alloc, without_front(front, &name))?;
+    Ok(Spelled {
+        key,
+        name: &value.name,
+        number: value.number,
+    })
+}
+
+fn chars_of(alloc: Global, name: &str) -> Result<Vec<char>, AllocError>
+    ensures { IfOk result (λ v. v.items ≡ chars name.now) }
+{
+    name.chars().collect(alloc)
+}
+
+/// The characters of the name in lower case, without underscores.
+fn plain(alloc: Global, name: &str) -> Result<Vec<char>, AllocError>
+    ensures { IfOk result (λ v. v.items ≡ spec.plain name.now) }
+{
+    name.chars()
+        .filter(|c| *c != '_')
+        .map(|c| c.to_ascii_lowercase())
+        .collect(alloc)
+}
+
+fn plain_text(alloc: Global, name: &str) -> Result<String, AllocError>
+    ensures { IfOk result (λ s. string_bytes s ≡ encode_utf8_all (spec.plain name.now)) }
+{
+    name.chars()
+        .filter(|c| *c != '_')
+        .map(|c| c.to_ascii_lowercase())
+        .collect(alloc)
+}
+
+/// Without the front, where something stands behind it.
+fn without_front<'c>(front: &[char], name: &'c [char]) -> &'c [char]
+    ensures { result.now ≡ spec.without_front front.now name.now }
+{
+    let rest = behind(front, name);
+    if rest.is_empty() { name } else { rest }
+}
+
+/// What stands behind the front; nothing, where the front doesn't stand at the head.
+fn behind<'c>(front: &[char], name: &'c [char]) -> &'c [char]
+    ensures { result.now ≡ spec.behind front.now name.now }
+{
+    let mut front = front;
+    let mut rest = name;
+    'rest: while let [c, more @ ..] = rest {
+        if *c == '_' {
+            rest = more;
+        } else {
+            match front {
+                [f, fs @ ..] if c.to_ascii_lowercase() == *f => {
+                    front = fs;
+                    rest = more;
+                }
+                [_, ..] => return &[],
+                [] => return rest,
+            }
+        }
+    }
+    rest
+}
+
+/// In camel case, with each word in lower case but for its first letter.
+fn words(alloc: Global, name: &[char]) -> Result<String, AllocError>
+    ensures { IfOk result (λ s. string_bytes s ≡ spec.words name.now) }
+{
+    let lower: String = name.iter().map(|c| c.to_ascii_lowercase()).collect(alloc)?;
+    camel_case(alloc, &lower)
+}

@@ -1,0 +1,51 @@
+//! The rules of `protoc` that a run leaves unchecked: every violation of them in descriptors.
+#![tactic(auto)]
+
+mod aliases;
+mod alike;
+mod bars;
+mod claims;
+mod cover;
+mod customs;
+mod defaults;
+mod enum_bars;
+mod enum_uses;
+mod enums;
+mod extensions;
+mod field_options;
+mod fields;
+mod finding;
+mod imports;
+mod json_names;
+mod keys;
+mod kind;
+mod known;
+mod law;
+mod limits;
+mod links;
+mod maps;
+mod message_sets;
+mod names;
+mod number_text;
+mod numbers;
+mod oneofs;
+mod ordinary;
+mod places;
+mod positions;
+mod proto3;
+mod ranges;
+mod repeats;
+mod rule;
+mod runtimes;
+mod tables;
+mod tell;
+mod uses;
+mod violation;
+mod walk;
+mod words;
+
+pub use kind::NamedKind;
+pub use law::numbers_are_apart;
+pub use rule::Rule;
+pub use violation::Violation;
+pub use walk::violations;

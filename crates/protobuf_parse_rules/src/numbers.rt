@@ -1,0 +1,175 @@
+//! Numbers of messages, and who has them.
+
+ghost use Rattle.std.specs.Prelude.{◌≡◌, [], ◌∷◌, ◌++◌, map, flat_map, IfOk, OnOk, true};
+ghost use Rattle.std.specs.Prelude.{string_bytes};
+ghost use Rattle.protobuf_parse_model.specs.Descriptors.{field_view};
+ghost use Rattle.protobuf_parse_rules.specs.Places.{body_view};
+ghost use Rattle.protobuf_parse_rules.specs.Claims.{Claims, conflicts};
+ghost use Rattle.protobuf_parse_rules.specs.Keys.{claim_key, extension_keys, number_key};
+ghost use Rattle.protobuf_parse_rules.specs.Numbers.{claim_of, claims, extension_claim};
+ghost use Rattle.protobuf_parse_rules.specs.Numbers.{extension_claims};
+ghost use Rattle.protobuf_parse_rules.specs.Numbers.{field_claims, number_rule};
+
+use crate::claims::{Held, Holders, Thing, check_claim};
+use crate::keys::{are_apart, key_of};
+use crate::places::Body;
+use crate::violation::Violation;
+use protobuf_parse_model::FieldDescriptorProto;
+use std::alloc::{AllocError, Global};
+
+/// Whether no two fields and extensions of one message have one number, by the keys of all.
+pub fn numbers_are_apart(alloc: Global, bodies: &[Body<'_>]) -> Result<bool, AllocError>
+    ensures { IfOk result (λ apart. apart ≡ true
+        → conflicts number_rule [] (flat_map claims (map body_view bodies.now)) ≡ []) }
+{
+    let mut keys = Vec::new(alloc);
+    'bodies: for body in bodies {
+        add_keys(&mut keys, body)?;
+    }
+    Ok(are_apart(keys))
+}
+
+fn add_keys(keys: &mut Vec<u64>, body: &Body<'_>) -> Result<(), AllocError>
+    ensures { OnOk result (keys.new.items
+        ≡ keys.old.items ++ map claim_key (claims (body_view body.now))) }
+{
+    add_field_keys(keys, &body.scope, body.holds.fields())?;
+    add_extension_keys(keys, body.holds.extensions())
+}
+
+fn add_field_keys(
+    keys: &mut Vec<u64>,
+    message: &str,
+    fields: &[FieldDescriptorProto],
+) -> Result<(), AllocError>
+    ensures { OnOk result (keys.new.items ≡ keys.old.items
+        ++ map (number_key message.now) (map field_view fields.now)) }
+{
+    'fields: for field in fields {
+        keys.push(key_of(field.number, message))?;
+    }
+    Ok(())
+}
+
+fn add_extension_keys(
+    keys: &mut Vec<u64>,
+    extensions: &[FieldDescriptorProto],
+) -> Result<(), AllocError>
+    ensures { OnOk result (keys.new.items ≡ keys.old.items
+        ++ flat_map extension_keys (map field_view extensions.now)) }
+{
+    'extensions: for extension in extensions {
+        add_extension_key(keys, extension)?;
+    }
+    Ok(())
+}
+
+fn add_extension_key(
+    keys: &mut Vec<u64>,
+    extension: &FieldDescriptorProto,
+) -> Result<(), AllocError>
+    ensures { OnOk result (keys.new.items ≡ keys.old.items
+        ++ extension_keys (field_view extension.now)) }
+{
+    match &extension.extendee {
+        Some(message) => {
+            keys.push(key_of(extension.number, message))?;
+            Ok(())
+        }
+        None => Ok(()),
+    }
+}
+
+/// Tells each field and extension of the body that has a number which is in use already.
+pub fn check_numbers<'a>(
+    alloc: Global,
+    numbers: &mut Holders<'a>,
+    told: &mut Vec<Violation>,
+    body: &'a Body<'_>,
+) -> Result<(), AllocError>
+    ensures { OnOk result (Claims number_rule numbers.old numbers.new told.old told.new
+        (claims (body_view body.now))) }
+{
+    check_fields(alloc, numbers, told, body, body.holds.fields())?;
+    check_extensions(alloc, numbers, told, body, body.holds.extensions())
+}
+
+fn check_fields<'a>(
+    alloc: Global,
+    numbers: &mut Holders<'a>,
+    told: &mut Vec<Violation>,
+    body: &'a Body<'_>,
+    fields: &'a [FieldDescriptorProto],
+) -> Result<(), AllocError>
+    ensures { OnOk result (Claims number_rule numbers.old numbers.new told.old told.new
+        (field_claims body.now.file.now (string_bytes body.now.scope)
+        (map field_view fields.now))) }
+{
+    'fields: for field in fields {
+        check_number(alloc, numbers, told, body, field, body.scope.as_str())?;
+    }
+    Ok(())
+}
+
+fn check_extensions<'a>(
+    alloc: Global,
+    numbers: &mut Holders<'a>,
+    told: &mut Vec<Violation>,
+    body: &'a Body<'_>,
+    extensions: &'a [FieldDescriptorProto],
+) -> Result<(), AllocError>
+    ensures { OnOk result (Claims number_rule numbers.old numbers.new told.old told.new
+        (extension_claims body.now.file.now (string_bytes body.now.scope)
+        (map field_view extensions.now))) }
+{
+    'extensions: for extension in extensions {
+        check_extension(alloc, numbers, told, body, extension)?;
+    }
+    Ok(())
+}
+
+fn check_extension<'a>(
+    alloc: Global,
+    numbers: &mut Holders<'a>,
+    told: &mut Vec<Violation>,
+    body: &'a Body<'_>,
+    extension: &'a FieldDescriptorProto,
+) -> Result<(), AllocError>
+    ensures { OnOk result (Claims number_rule numbers.old numbers.new told.old told.new
+        (extension_claim body.now.file.now (string_bytes body.now.scope)
+        (field_view extension.now))) }
+{
+    match &extension.extendee {
+        Some(extendee) => check_number(alloc, numbers, told, body, extension, extendee.as_str()),
+        None => Ok(()),
+    }
+}
+
+/// The field's number is one of that message.
+fn check_number<'a>(
+    alloc: Global,
+    numbers: &mut Holders<'a>,
+    told: &mut Vec<Violation>,
+    body: &'a Body<'_>,
+    field: &'a FieldDescriptorProto,
+    message: &'a str,
+) -> Result<(), AllocError>
+    ensures { OnOk result (Claims number_rule numbers.old numbers.new told.old told.new
+        (claim_of body.now.file.now (string_bytes body.now.scope) message.now
+        (field_view field.now) ∷ [])) }
+{
+    let number = field.number;
+    let thing = Thing {
+        number,
+        name: message,
+        scope: "",
+    };
+    check_claim(
+        alloc,
+        Held::Number,
+        numbers,
+        told,
+        thing,
+        body.holder(&field.name, number),
+    )
+}

@@ -1,0 +1,188 @@
+//! Ranges of numbers, and names, that a message reserves or keeps for extensions.
+
+ghost use Rattle.std.specs.Prelude.{◌≡◌, ◌++◌, map, flat_map, nat_lt, option_map, IfOk, OnOk};
+ghost use Rattle.std.specs.List.{count_by};
+ghost use Rattle.protobuf_parse_model.specs.Descriptors.{extension_range_view};
+ghost use Rattle.protobuf_parse_model.specs.Descriptors.{reserved_range_view};
+ghost use Rattle.protobuf_parse_rules.specs.Covers.{AreEnds};
+ghost use Rattle.protobuf_parse_rules.specs.Findings.{finding_view, site_of};
+ghost use Rattle.protobuf_parse_rules.specs.MessageSets.{is_message_set};
+ghost use Rattle.protobuf_parse_rules.specs.Places.{body_view, content_view};
+ghost use Rattle.protobuf_parse_rules.specs.Ranges as spec;
+ghost use Rattle.protobuf_parse_rules.specs.Rules.{breaches_told};
+ghost use Rattle.protobuf_parse_rules.specs.Violations.{site_of_place};
+
+use crate::bars::Bars;
+use crate::cover::{Cover, add_open, no_ends};
+use crate::finding::{Finding, found_if};
+use crate::message_sets::is_message_set;
+use crate::rule::Rule;
+use crate::tell::tell_each;
+use crate::violation::Violation;
+use protobuf_parse_model::{ExtensionRange, ReservedRange};
+use std::alloc::{AllocError, Global};
+
+/// The numbers of the ranges.
+pub fn reserved_cover(alloc: Global, ranges: &[ReservedRange]) -> Result<Cover, AllocError>
+    ensures { IfOk result (λ c. AreEnds spec.in_range (map reserved_range_view ranges.now)
+        c.firsts.items c.lasts.items) }
+{
+    let mut ends = no_ends(alloc);
+    'reserved: for range in ranges {
+        add_open(&mut ends, &range.start, &range.end)?;
+    }
+    Ok(Cover::of(ends))
+}
+
+/// The numbers of the ranges.
+pub fn kept_cover(alloc: Global, ranges: &[ExtensionRange]) -> Result<Cover, AllocError>
+    ensures { IfOk result (λ c. AreEnds spec.in_range (map extension_range_view ranges.now)
+        c.firsts.items c.lasts.items) }
+{
+    let mut ends = no_ends(alloc);
+    'kept: for range in ranges {
+        add_open(&mut ends, &range.start, &range.end)?;
+    }
+    Ok(Cover::of(ends))
+}
+
+/// The field's number is reserved in its message.
+pub fn reserved_number<'f>(number: &i32, bars: &Bars<'_>) -> Option<Finding<'f>>
+    ensures { option_map finding_view result
+        ≡ spec.reserved_number number.now (content_view bars.now.body.now.holds) }
+{
+    found_if(
+        bars.reserves(number),
+        Rule::NumberReserved { number: *number },
+    )
+}
+
+/// The field's number is kept for extensions of its message.
+pub fn kept_number<'f>(number: &i32, bars: &Bars<'_>) -> Option<Finding<'f>>
+    ensures { option_map finding_view result
+        ≡ spec.kept_number number.now (content_view bars.now.body.now.holds) }
+{
+    found_if(
+        bars.keeps(number),
+        Rule::NumberKeptForExtensions { number: *number },
+    )
+}
+
+/// The field's name is reserved in its message.
+pub fn reserved_name<'a, 'f>(name: &'a str, bars: &Bars<'a>) -> Option<Finding<'f>>
+    ensures { option_map finding_view result
+        ≡ spec.reserved_name name.now (content_view bars.now.body.now.holds) }
+{
+    found_if(bars.names.contains(name), Rule::NameReserved)
+}
+
+fn not_positive<'a>(start: i32) -> Option<Finding<'a>>
+    ensures { option_map finding_view result ≡ spec.not_positive start }
+{
+    found_if(start < 1, Rule::RangeNotPositive { start })
+}
+
+fn without_numbers<'a>(start: i32, end: i32) -> Option<Finding<'a>>
+    ensures { option_map finding_view result ≡ spec.without_numbers start end }
+{
+    found_if(!(start < end), Rule::RangeEmpty { start })
+}
+
+fn too_large<'a>(message_set: bool, end: i32) -> Option<Finding<'a>>
+    ensures { option_map finding_view result ≡ spec.too_large message_set end }
+{
+    found_if(
+        !message_set && 536870912 < end,
+        Rule::ExtensionRangeTooLarge { end },
+    )
+}
+
+/// The number at which a range begins lies in another one too.
+fn overlapping<'f>(bars: &Bars<'_>, start: &i32) -> Option<Finding<'f>>
+    ensures { option_map finding_view result
+        ≡ spec.overlapping (spec.ranges_of (content_view bars.now.body.now.holds)) start.now }
+{
+    found_if(
+        lie_in_two(bars, start),
+        Rule::RangesOverlap { start: *start },
+    )
+}
+
+fn lie_in_two(bars: &Bars<'_>, number: &i32) -> bool
+    ensures { result ≡ nat_lt 1 (count_by (spec.in_range number.now)
+        (spec.ranges_of (content_view bars.now.body.now.holds))) }
+{
+    let reserved = bars.reserved.count(number);
+    reserved.saturating_add(bars.kept.count(number)) > 1
+}
+
+/// Tells what is wrong with the ranges of extensions.
+pub fn check_extension_ranges(
+    alloc: Global,
+    told: &mut Vec<Violation>,
+    bars: &Bars<'_>,
+    ranges: &[ExtensionRange],
+) -> Result<(), AllocError>
+    ensures { OnOk result (breaches_told told.new ≡ breaches_told told.old
+        ++ flat_map (spec.extension_range (site_of_place (body_view bars.now.body.now))
+        (is_message_set (content_view bars.now.body.now.holds))
+        (spec.ranges_of (content_view bars.now.body.now.holds)))
+        (map extension_range_view ranges.now)) }
+{
+    'kept: for range in ranges {
+        check_extension_range(alloc, told, bars, range)?;
+    }
+    Ok(())
+}
+
+fn check_extension_range(
+    alloc: Global,
+    told: &mut Vec<Violation>,
+    bars: &Bars<'_>,
+    range: &ExtensionRange,
+) -> Result<(), AllocError>
+    ensures { OnOk result (breaches_told told.new ≡ breaches_told told.old
+        ++ spec.extension_range (site_of_place (body_view bars.now.body.now))
+        (is_message_set (content_view bars.now.body.now.holds))
+        (spec.ranges_of (content_view bars.now.body.now.holds)) (extension_range_view range.now)) }
+{
+    let found = [
+        not_positive(range.start),
+        without_numbers(range.start, range.end),
+        too_large(is_message_set(bars.body.holds), range.end),
+        overlapping(bars, &range.start),
+    ];
+    tell_each(alloc, told, bars.body.own_spot(), &found)
+}
+
+/// Tells what is wrong with the reserved ranges.
+pub fn check_reserved_ranges(
+    alloc: Global,
+    told: &mut Vec<Violation>,
+    bars: &Bars<'_>,
+    ranges: &[ReservedRange],
+) -> Result<(), AllocError>
+    ensures { OnOk result (breaches_told told.new ≡ breaches_told told.old
+        ++ flat_map (spec.reserved_range (site_of_place (body_view bars.now.body.now))
+        (spec.ranges_of (content_view bars.now.body.now.holds)))
+        (map reserved_range_view ranges.now)) }
+{
+    'reserved: for range in ranges {
+        check_reserved_range(alloc, told, bars, range)?;
+    }
+    Ok(())
+}
+
+fn check_reserved_range(
+    alloc: Global,
+    told: &mut Vec<Violation>,
+    bars: &Bars<'_>,
+    range: &ReservedRange,
+) -> Result<(), AllocError>
+    ensures { OnOk result (breaches_told told.new ≡ breaches_told told.old
+        ++ spec.reserved_range (site_of_place (body_view bars.now.body.now))
+        (spec.ranges_of (content_view bars.now.body.now.holds)) (reserved_range_view range.now)) }
+{
+    let found = [not_positive(range.start), overlapping(bars, &range.start)];
+    tell_each(alloc, told, bars.body.own_spot(), &found)
+}

@@ -1,0 +1,257 @@
+//! The command that people type, over two writers in memory: what it writes to files, its words,
+//! and writers that fail.
+
+use protobuf_parse::{Parser, RunFault};
+use protobuf_parse_command::command;
+use protobuf_parse_descriptor_set::descriptor_set;
+use protobuf_parse_diagnostics::{Diagnostic, Place, Severity, arrange};
+use std::alloc::{AllocError, Global};
+use std::io::{ErrorKind, Write};
+use std::process::Abort;
+use std::rt::Files;
+use std::test::Fail;
+use std::{fs, io, process};
+
+/// What a run of the command wrote, and its status.
+#[derive(Drop)]
+struct Outcome {
+    out: Vec<u8>,
+    err: Vec<u8>,
+    status: u8,
+}
+
+fn words(alloc: Global, args: &[&str]) -> Result<Vec<String>, AllocError> {
+    let mut words = Vec::new(alloc);
+    for arg in args {
+        words.push(String::from_str(alloc, arg)?)?;
+    }
+    Ok(words)
+}
+
+fn run<R: Files + AllocGlobal>(rt: &R, args: &[&str]) -> Result<Outcome, AllocError> {
+    let mut out = Vec::new(rt.alloc());
+    let mut err = Vec::new(rt.alloc());
+    let status = command(rt, &words(rt.alloc(), args)?, &mut out, &mut err);
+    Ok(Outcome { out, err, status })
+}
+
+/// A path for a file of this process alone, below the folder where the tests run.
+fn own_path(rt: &HostRuntime, name: &str) -> io::Result<String> {
+    let own = process::id(rt.process());
+    Ok(format!(in rt.alloc(); "protobuf_parse_{own}_{name}")?)
+}
+
+fn expect<R: Abort>(rt: &R, outcome: &Outcome, status: u8, out: &str, err: &str) {
+    assert_eq!(rt; outcome.status, status, "{err}");
+    assert_eq!(rt; outcome.out.as_slice(), out.as_bytes());
+    assert_eq!(rt; outcome.err.as_slice(), err.as_bytes());
+}
+
+/// The bytes of the descriptors of these inputs, and of all files that they reach.
+fn sets_of<R: Files + AllocGlobal>(rt: &R, input: &str) -> Result<(Vec<u8>, Vec<u8>), RunFault> {
+    let alloc = rt.alloc();
+    let mut parser = Parser::new(alloc);
+    parser.push_include("")?;
+    parser.push_input(input)?;
+    let own = descriptor_set(alloc, &parser.file_descriptor_set(rt)?.file)?;
+    let all = descriptor_set(alloc, &parser.parse_and_typecheck(rt)?.file_descriptors)?;
+    Ok((own, all))
+}
+
+#[test]
+fn writes_sets(rt: HostRuntime) -> Result<(), Fail> {
+    let apple = own_path(&rt, "set_apple.proto")?;
+    let banana = own_path(&rt, "set_banana.proto")?;
+    let set = own_path(&rt, "set.pb")?;
+    fs::write(&rt, apple.as_str(), b"syntax = 'proto3'; message Apple {}")?;
+    let text = format!(in rt.alloc(); "import '{apple}'; message Banana {{}}")?;
+    fs::write(&rt, banana.as_str(), text.as_bytes())?;
+    let (own, all) = sets_of(&rt, &banana)?;
+    expect(&rt, &run(&rt, &["-o", &set, &banana])?, 0, "", "");
+    assert_eq!(rt; fs::read(&rt, set.as_str())?.as_slice(), own.as_slice());
+
+    // A file that is there is replaced, and nothing is left beside it.
+    let path = format!(in rt.alloc(); "--descriptor_set_out={set}")?;
+    expect(
+        &rt,
+        &run(&rt, &[&path, "--include_imports", &banana])?,
+        0,
+        "",
+        "",
+    );
+    assert_eq!(rt; fs::read(&rt, set.as_str())?.as_slice(), all.as_slice());
+    let beside = format!(in rt.alloc(); "{set}.0.part")?;
+    assert!(rt; !fs::exists(&rt, beside.as_str())?);
+
+    // Where a fault is told, it stays as it was.
+    fs::write(&rt, apple.as_str(), b"message Apple {")?;
+    let line = format!(in rt.alloc(); "{apple}:1:16: error: unexpected end of file [S8]\n")?;
+    expect(&rt, &run(&rt, &["-o", &set, &banana])?, 1, "", &line);
+    assert_eq!(rt; fs::read(&rt, set.as_str())?.as_slice(), all.as_slice());
+    for path in [&apple, &banana, &set] {
+        fs::remove_file(&rt, path.as_str())?;
+    }
+    Ok(())
+}
+
+#[test]
+fn tells_where_no_set_can_be(rt: HostRuntime) -> Result<(), Fail> {
+    let path = own_path(&rt, "unset.proto")?;
+    let folder = own_path(&rt, "unset")?;
+    fs::write(&rt, path.as_str(), b"")?;
+    fs::create_dir(&rt, folder.as_str())?;
+    let line = format!(in rt.alloc();
+        "protobuf_parse_cli: error: could not write `{folder}`: is a directory\n"
+    )?;
+    expect(
+        &rt,
+        &run(&rt, &["--list", "-o", &folder, &path])?,
+        1,
+        "",
+        &line,
+    );
+    fs::remove_dir(&rt, folder.as_str())?;
+    let missing = format!(in rt.alloc(); "{folder}/set.pb")?;
+    let outcome = run(&rt, &["--list", "-o", &missing, &path])?;
+    let front = format!(in rt.alloc(); "protobuf_parse_cli: error: could not write `{missing}`: ")?;
+    assert_eq!(rt; outcome.status, 1);
+    assert_eq!(rt; outcome.out.as_slice(), b"".as_slice());
+    assert!(rt; outcome.err.as_slice().starts_with(front.as_bytes()));
+    fs::remove_file(&rt, path.as_str())?;
+    Ok(())
+}
+
+#[test]
+fn tells_of_wrong_words(rt: HostRuntime) -> Result<(), Fail> {
+    let wrong: [&[&str]; 5] = [
+        &[],
+        &["--list"],
+        &["--lists", "a.proto"],
+        &["--rules=never", "a.proto"],
+        &["--imports", "--list", "a.proto"],
+    ];
+    for args in wrong {
+        let outcome = run(&rt, args)?;
+        assert_eq!(rt; outcome.status, 2, "{args:?}");
+        assert_eq!(rt; outcome.out.as_slice(), b"".as_slice());
+        assert!(rt; outcome.err.as_slice().starts_with(b"error: "));
+    }
+    let outcome = run(&rt, &["--help"])?;
+    assert_eq!(rt; outcome.status, 0);
+    assert_eq!(rt; outcome.err.as_slice(), b"".as_slice());
+    let front = "Parses .proto files, checks their types, and writes their descriptors.\n\n\
+        Usage: protobuf_parse_cli [OPTIONS] <FILE>...\n";
+    assert!(rt; outcome.out.as_slice().starts_with(front.as_bytes()));
+    Ok(())
+}
+
+#[test]
+fn tells_at_most_a_thousand(rt: HostRuntime) -> Result<(), Fail> {
+    let path = own_path(&rt, "many.proto")?;
+    let mut text = String::from_str(rt.alloc(), "syntax = 'proto3'; message M {\n")?;
+    for i in 0..502u32 {
+        write!(text, "int32 a{i} = 0;\n")?;
+    }
+    text.push_str("}")?;
+    fs::write(&rt, path.as_str(), text.as_bytes())?;
+    let outcome = run(&rt, &[&path])?;
+    fs::remove_file(&rt, path.as_str())?;
+    assert_eq!(rt; outcome.status, 1);
+    let lines = outcome.err.iter().filter(|byte| **byte == b'\n').count();
+    assert_eq!(rt; lines, 1001);
+    // Each field has no positive number, and each but the first one that is taken.
+    assert!(rt; outcome.err.as_slice().ends_with(b"\nand 3 more\n"));
+    Ok(())
+}
+
+/// A writer that takes so many bytes and then fails.
+#[derive(Drop)]
+struct Full {
+    room: usize,
+}
+
+impl Write for Full {
+    fn write(&mut self, bytes: &[u8]) -> io::Result<usize> {
+        let taken = bytes.len().min(self.room);
+        if taken == 0 {
+            return Err(io::Error::from(ErrorKind::StorageFull));
+        }
+        self.room -= taken;
+        Ok(taken)
+    }
+
+    fn flush(&mut self) -> io::Result<()> {
+        Ok(())
+    }
+}
+
+/// A run whose output takes so many bytes and then fails.
+fn run_in_room<R: Files + AllocGlobal>(
+    rt: &R,
+    args: &[&str],
+    room: usize,
+) -> Result<Outcome, AllocError> {
+    let mut err = Vec::new(rt.alloc());
+    let status = command(rt, &words(rt.alloc(), args)?, &mut Full { room }, &mut err);
+    let out = Vec::new(rt.alloc());
+    Ok(Outcome { out, err, status })
+}
+
+#[test]
+fn tells_that_it_cannot_write(rt: HostRuntime) -> Result<(), Fail> {
+    let path = own_path(&rt, "no_room.proto")?;
+    fs::write(&rt, path.as_str(), b"enum E { A = 0; B = 0; }")?;
+    let line = "protobuf_parse_cli: error: could not write the output: no storage space\n";
+    for room in [0, 5] {
+        let listed = run_in_room(&rt, &["--rules=off", "--list", &path], room)?;
+        expect(&rt, &listed, 1, "", line);
+        let helped = run_in_room(&rt, &["--rules=off", "--help", &path], room)?;
+        expect(&rt, &helped, 1, "", line);
+        // A file without imports has no line of `--imports`.
+        let imports = run_in_room(&rt, &["--rules=off", "--imports", &path], room)?;
+        expect(&rt, &imports, 0, "", "");
+    }
+    // Where a warning can't be told, the status says it.
+    let args = words(rt.alloc(), &["--rules=warn", &path])?;
+    for room in [0, 5] {
+        let mut out = Vec::new(rt.alloc());
+        assert_eq!(rt; command(&rt, &args, &mut out, &mut Full { room }), 1);
+    }
+    fs::remove_file(&rt, path.as_str())?;
+    Ok(())
+}
+
+/// What a linter tells of its own rule.
+fn told(alloc: Global, file: &str, place: Option<Place>) -> Result<Diagnostic, AllocError> {
+    Ok(Diagnostic {
+        file: String::from_str(alloc, file)?,
+        place,
+        severity: Severity::Warning,
+        code: String::from_str(alloc, "no-owner")?,
+        message: String::from_str(alloc, "the message has no owner")?,
+        help: Some(String::from_str(alloc, "set `option (owner)`")?),
+    })
+}
+
+#[test]
+fn linters_tell_diagnostics(rt: HostRuntime) -> Result<(), Fail> {
+    let alloc = rt.alloc();
+    let mut all = Vec::new(alloc);
+    for place in [Place { line: 10, col: 1 }, Place { line: 9, col: 4 }] {
+        all.push(told(alloc, "b\n.proto", Some(place))?)?;
+        all.push(told(alloc, "a.proto", Some(place))?)?;
+        all.push(told(alloc, "a.proto", None)?)?;
+    }
+    arrange(&mut all)?;
+    let mut text = String::new(alloc);
+    for each in &all {
+        write!(text, "{each}\n")?;
+    }
+    let sentence = "warning: the message has no owner; set `option (owner)` [no-owner]";
+    let want = format!(in alloc;
+        "a.proto: {sentence}\na.proto:9:4: {sentence}\na.proto:10:1: {sentence}\n\
+         b\\u{{a}}.proto:9:4: {sentence}\nb\\u{{a}}.proto:10:1: {sentence}\n"
+    )?;
+    assert_eq!(rt; text.as_str(), want.as_str());
+    Ok(())
+}

@@ -1,0 +1,151 @@
+#!/usr/bin/env python3
+"""Compares descriptor sets with those of protoc, and has others read them: docs/protoc.md.
+
+    scripts/compare_sets.py [--program PROGRAM] FOLDER [INCLUDE..]
+
+Of each .proto file below FOLDER that protoc accepts, with FOLDER and the others as includes, it
+takes the set with all imports as protoc writes it, and as the benchmark does with --sets. It tells
+whether the bytes are the same; whether Python's package for Protocol Buffers reads ours, writes the
+same bytes again and makes descriptors of them; and whether protoc takes ours to make code in Python
+and in C++. Two rules of this library are told apart: see by_our_rules. It wants protoc and that
+package. Its status is 1 where ours are not read by all."""
+
+import argparse
+import collections
+import os
+import subprocess
+import sys
+import tempfile
+
+from google.protobuf import descriptor_pb2, descriptor_pool
+
+TOP = os.path.normpath(os.path.join(os.path.dirname(os.path.abspath(__file__)), ".."))
+
+
+def schemas(folder):
+    """The proto paths of the files below the folder, in order."""
+    for at, folders, names in os.walk(folder):
+        folders.sort()
+        for name in sorted(it for it in names if it.endswith(".proto")):
+            yield os.path.relpath(f"{at}/{name}", folder)
+
+
+def ran(words):
+    """Whether the command ended well, and what it said."""
+    done = subprocess.run(words, capture_output=True, text=True, errors="replace")
+    return done.returncode == 0, done.stderr.strip()
+
+
+def by_protoc(includes, path, out):
+    words = ["protoc", *(f"-I{it}" for it in includes), "--include_imports"]
+    return ran([*words, f"--descriptor_set_out={out}", path])[0]
+
+
+def by_program(program, includes, paths, room):
+    """Has the program write its sets, in one run."""
+    for at, path in enumerate(paths):
+        line = "\t".join([f"{room}/{at}.ours", ":".join(includes), f"{includes[0]}/{path}"])
+        with open(f"{room}/list", "a", encoding="utf-8") as it:
+            it.write(line + "\n")
+    words = [program, "--sets", f"{room}/list"]
+    print(subprocess.run(words, check=True, capture_output=True, text=True).stdout)
+
+
+def content(path):
+    try:
+        with open(path, "rb") as it:
+            return it.read()
+    except FileNotFoundError:
+        return None
+
+
+def messages(values):
+    """Messages and those inside them."""
+    for it in values:
+        yield it
+        yield from messages(it.nested_type)
+
+
+def by_our_rules(data):
+    """A set of protoc as descriptors have it here: no options that a method's empty block makes,
+    and in a message set the largest number of other messages."""
+    found = descriptor_pb2.FileDescriptorSet.FromString(data)
+    for file in found.file:
+        for method in (it for service in file.service for it in service.method):
+            if not method.options.ByteSize():
+                method.ClearField("options")
+        for message in messages(file.message_type):
+            for it in message.extension_range:
+                it.end = min(it.end, 536870912)
+    return found.SerializeToString()
+
+
+def by_python(data):
+    """What Python's package finds wrong with a set."""
+    found = descriptor_pb2.FileDescriptorSet.FromString(data)
+    if found.SerializeToString() != data:
+        return ["Python writes other bytes"]
+    pool = descriptor_pool.DescriptorPool()
+    try:
+        for file in found.file:
+            pool.AddSerializedFile(file.SerializeToString())
+            pool.FindFileByName(file.name)
+    except (TypeError, KeyError) as error:
+        return [f"Python: {error}"]
+    return []
+
+
+def generated(kind, path, of, room):
+    """Whether protoc makes code of a set, and what it says."""
+    return ran(["protoc", f"--descriptor_set_in={of}", f"--{kind}_out={room}", path])
+
+
+def by_generators(path, of, own, room):
+    """What protoc finds wrong with a set when it makes code, where it makes code of its own set."""
+    for kind in ("python", "cpp"):
+        is_well, said = generated(kind, path, of, room)
+        if not is_well and generated(kind, path, own, room)[0]:
+            yield f"protoc --{kind}_out: {said}"
+
+
+def told(at, path, room):
+    """How our set of a file is beside that of protoc, and what others find wrong with it."""
+    of, own = f"{room}/{at}.ours", f"{room}/{at}.theirs"
+    ours, theirs = content(of), content(own)
+    if ours is None:
+        return "refused by the program alone", []
+    wrong = by_python(ours) + list(by_generators(path, of, own, room))
+    if ours == theirs:
+        return "the same bytes", wrong
+    is_rule = ours == by_our_rules(theirs)
+    return "the same bytes but for rules of this library" if is_rule else "other bytes", wrong
+
+
+def main():
+    parser = argparse.ArgumentParser()
+    built = f"{TOP}/crates/protobuf_parse_bench/out/protobuf_parse_bench"
+    parser.add_argument("--program", default=built)
+    parser.add_argument("folder")
+    parser.add_argument("include", nargs="*")
+    given = parser.parse_args()
+    includes = [os.path.abspath(it) for it in [given.folder, *given.include]]
+    counts = collections.Counter()
+    with tempfile.TemporaryDirectory() as room:
+        paths = []
+        for path in schemas(includes[0]):
+            if by_protoc(includes, path, f"{room}/{len(paths)}.theirs"):
+                paths.append(path)
+            else:
+                counts["refused by protoc"] += 1
+        by_program(os.path.abspath(given.program), includes, paths, room)
+        for at, path in enumerate(paths):
+            result, wrong = told(at, path, room)
+            counts[result] += 1
+            counts["not read by all"] += bool(wrong)
+            print("\n".join([f"{path}: {result}", *(f"    {it}" for it in wrong)]))
+    print(", ".join(f"{number} {result}" for result, number in sorted(counts.items())))
+    return 1 if counts["not read by all"] else 0
+
+
+if __name__ == "__main__":
+    sys.exit(main())
