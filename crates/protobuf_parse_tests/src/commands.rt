@@ -64,7 +64,9 @@ fn writes_sets(rt: HostRuntime) -> Result<(), Fail> {
     let banana = own_path(&rt, "set_banana.proto")?;
     let set = own_path(&rt, "set.pb")?;
     fs::write(&rt, apple.as_str(), b"syntax = 'proto3'; message Apple {}")?;
-    let text = format!(in rt.alloc(); "import '{apple}'; message Banana {{}}")?;
+    let text = format!(in rt.alloc();
+        "import '{apple}'; message Crate {{ repeated Apple a = 1; }}"
+    )?;
     fs::write(&rt, banana.as_str(), text.as_bytes())?;
     let (own, all) = sets_of(&rt, &banana)?;
     expect(&rt, &run(&rt, &["-o", &set, &banana])?, 0, "", "");
