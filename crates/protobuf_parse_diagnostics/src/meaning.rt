@@ -67,6 +67,12 @@ pub fn meaning_diagnostic(
     let is_declared = declared_by(&known, &error.what).is_some();
     let place = fault_place(alloc, own, error, is_declared)?;
     let sentence = meaning_sentence(alloc, &known, own, error, place)?;
+    let place = match (place, error.kind) {
+        (None, ElabErrorKind::TypeDeclaredTwice | ElabErrorKind::ExtensionDeclaredTwice) => {
+            known.import_of_second(alloc, &trees, error)?
+        }
+        _ => place,
+    };
     told_at(alloc, code, origin, place, sentence)
 }
 
