@@ -1,11 +1,15 @@
 -- What tells the first wrong of a part tells the first of the whole.
 use Rattle.std.proofs.Common.{◌≡◌, ℕ, zero, suc, ◌<◌, List, [], ◌∷◌, ◌++◌, map, flat_map, length}
-use Rattle.std.proofs.Common.{arith, ap, sym, ◌∙◌, take, refl}
+use Rattle.std.proofs.Common.{arith, ap, sym, ◌∙◌, ◌+◌, take, refl, length-append}
+use Rattle.std.proofs.Common.{append_assoc, append-nil}
+use Rattle.std.proofs.lemmas.Grind.{flat_map-append}
+use Rattle.std.proofs.lemmas.List.{length-map}
 use Rattle.std.specs.Prelude.{slice_index_or}
 use Rattle.protobuf_parse_model.specs.declared.error.ElabErrorKind.{ElabErrorKind}
 use Rattle.protobuf_parse_model.specs.Duplicates.{fault}
 use Rattle.protobuf_parse_lexer.specs.declared.lexer.token.Place.{Place}
-use Rattle.protobuf_parse_model.specs.Faults.{Wrong, Fault, placed}
+use Rattle.protobuf_parse_model.specs.Faults.{Wrong, Fault, fault_view, placed}
+use Rattle.protobuf_parse_model.specs.declared.error.ElabError.{ElabError}
 use Rattle.protobuf_parse_options.specs.declared.refuse.OptionFailure.{OptionFailure}
 use Rattle.protobuf_parse_options.specs.declared.refuse.OptionFailure.TheVariants as failure
 use Rattle.protobuf_parse_options.specs.CustomFaults.{first_of}
@@ -68,3 +72,51 @@ unless_none fs bytes e = rw e refl
 pub unless_empty : (fs : List Fault) (bytes : List ℕ) → bytes ≡ [] → bytes_unless fs bytes ≡ []
 unless_empty [] bytes e = e
 unless_empty (f ∷ fs) bytes e = refl
+
+pub unless_some : (fs : List Fault) (bytes : List ℕ) → 0 < length fs → bytes_unless fs bytes ≡ []
+unless_some [] bytes h = absurd (omega arith)
+unless_some (f ∷ fs) bytes h = refl
+
+-- ---- how many faults were told
+
+length_told : (olds news : List ElabError) (fs : List Fault)
+    → map fault_view news ≡ map fault_view olds ++ fs → length news ≡ length olds + length fs
+length_told olds news fs told =
+    sym (length-map news fault_view) ∙ ap length told ∙ length-append (map fault_view olds) fs
+    ∙ ap (λ n. n + length fs) (length-map olds fault_view)
+
+pub some_more : (olds news : List ElabError) (fs : List Fault)
+    → map fault_view news ≡ map fault_view olds ++ fs → length olds < length news → 0 < length fs
+some_more olds news fs told more =
+    let n = length_told olds news fs told in omega (arith, n, more)
+
+pub none_more : (olds news : List ElabError) (fs : List Fault)
+    → map fault_view news ≡ map fault_view olds ++ fs → (length olds < length news → ⊥) → fs ≡ []
+none_more olds news [] told same = refl
+none_more olds news (f ∷ fs) told same =
+    let n = length_told olds news (f ∷ fs) told in absurd (same (omega (arith, n)))
+
+-- ---- bytes of one element more, where nothing is told
+
+pub bytes_more : {X : Type 0} (faults : X → List Fault) (bytes : X → List ℕ) (b0 b1 b2 : List ℕ)
+    (before : List X) (x : X) (after : List X) → after ≡ before ++ x ∷ []
+    → (flat_map faults before ≡ [] → b1 ≡ b0 ++ flat_map bytes before)
+    → (faults x ≡ [] → b2 ≡ b1 ++ bytes x)
+    → flat_map faults after ≡ [] → b2 ≡ b0 ++ flat_map bytes after
+bytes_more faults bytes b0 b1 b2 before x after more first next none =
+    let split : flat_map faults before ++ faults x ≡ [] =
+    sym (ap (flat_map faults) more ∙ flat_map-append faults before (x ∷ [])
+    ∙ ap (λ fs. flat_map faults before ++ fs) (append-nil (faults x))) ∙ none in
+    next (no_later (flat_map faults before) (faults x) split)
+    ∙ ap (λ b. b ++ bytes x) (first (no_earlier (flat_map faults before) (faults x) split))
+    ∙ append_assoc b0 (flat_map bytes before) (bytes x)
+    ∙ ap (λ b. b0 ++ b) (sym (ap (flat_map bytes) more ∙ flat_map-append bytes before (x ∷ [])
+    ∙ ap (λ b. flat_map bytes before ++ b) (append-nil (bytes x))))
+  where
+    no_earlier : (xs ys : List Fault) → xs ++ ys ≡ [] → xs ≡ []
+    no_earlier [] ys e = refl
+    no_earlier (y ∷ xs) ys e = absurd cc
+
+    no_later : (xs ys : List Fault) → xs ++ ys ≡ [] → ys ≡ []
+    no_later [] ys e = e
+    no_later (y ∷ xs) ys e = absurd cc

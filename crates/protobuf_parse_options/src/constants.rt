@@ -20,11 +20,11 @@ ghost use Rattle.protobuf_parse_options.specs.Refusals.{Gives};
 use crate::fields::{constant_field, type_name_of};
 use crate::lookup;
 use crate::option_place::OptionPlace;
+use crate::refuse::{OptionFailure, wrong};
 use crate::strings::bytes_given;
 use crate::values::{
     check_integer, check_number, check_truth, check_value_name, push_inside, push_item,
 };
-use crate::refuse::{OptionFailure, wrong};
 use protobuf_parse_model::{ElabErrorKind, FieldDescriptorProto, FieldType};
 use protobuf_parse_syntax::{ConstantField, ProtobufConstant, ProtobufOptionNamePart, StrLit};
 use protobuf_parse_wire::EntryValue;

@@ -14,9 +14,7 @@ ghost use Rattle.protobuf_parse_options.specs.Refusals.{Gives, Refuses};
 
 use crate::refuse::{OptionFailure, not_taken, wrong};
 use protobuf_parse_elaboration::{decoded_bytes, decoded_text};
-use protobuf_parse_model::{
-    ElabErrorKind, FieldDescriptorProto, FieldType,
-};
+use protobuf_parse_model::{ElabErrorKind, FieldDescriptorProto, FieldType, path_text};
 use protobuf_parse_syntax::{ProtobufOptionNamePart, StrLit};
 use std::alloc::Global;
 
