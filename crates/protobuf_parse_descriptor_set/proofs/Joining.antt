@@ -137,20 +137,6 @@ unfolding flag
 writes_flag n b old new e =
     record { bytes = e ∙ ap (λ z. old ++ z) (sym (flag_is n b)); writable = (tt, tt) }
 
--- a message whose bytes were written apart
-pub one_part : (n : ℕ) (items : Items) (old new start inside given : List ℕ) → start ≡ []
-    → Writes items start inside → given ≡ inside
-    → new ≡ old ++ (varint_of (n * 8 + 2) ++ delimited given) → Writes (part n items) old new
-unfolding part
-one_part n items old new start inside given none w is e =
-    let whole : given ≡ bytes_of items =
-    is ∙ w.bytes ∙ ap (λ z. z ++ bytes_of items) none in
-    record {
-      bytes = e ∙ ap (λ z. old ++ (varint_of (n * 8 + 2) ++ delimited z)) whole
-          ∙ ap (λ z. old ++ z) (sym (part_is n items));
-      writable = ((tt, w.writable), tt);
-    }
-
 -- ---- lists
 
 pub none_yet : (old : List ℕ) → Writes [] old old

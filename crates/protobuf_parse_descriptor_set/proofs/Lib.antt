@@ -3,3 +3,4 @@ pub mod Joining
 pub mod BuiltIn
 pub mod Synthetic
 pub mod Places
+pub mod Lengths

@@ -30,7 +30,7 @@ impl Described for FileDescriptorProto {
         put_parts(alloc, out, 5, &self.enum_type)?;
         put_parts(alloc, out, 6, &self.service)?;
         put_parts(alloc, out, 7, &self.extension)?;
-        put_options(alloc, out, 8, &self.options)?;
+        put_options(out, 8, &self.options)?;
         put_ints(out, 10, &self.public_dependency)?;
         put_ints(out, 11, &self.weak_dependency)?;
         put_syntax(out, &self.syntax)
@@ -81,7 +81,7 @@ impl Described for EnumDescriptorProto {
     fn put(&self, alloc: Global, out: &mut Vec<u8>) -> Result<(), AllocError> {
         put_text(out, 1, self.name.as_str())?;
         put_parts(alloc, out, 2, &self.value)?;
-        put_options(alloc, out, 3, &self.options)?;
+        put_options(out, 3, &self.options)?;
         put_parts(alloc, out, 4, &self.reserved_range)?;
         put_texts(out, 5, &self.reserved_name)
     }
@@ -95,10 +95,10 @@ impl Described for EnumValueDescriptorProto {
     ghost items = { spec.enum_value_items };
 
     #[tactic(auto, unfolding(crate::specs::DescriptorItems::enum_value_items))]
-    fn put(&self, alloc: Global, out: &mut Vec<u8>) -> Result<(), AllocError> {
+    fn put(&self, _alloc: Global, out: &mut Vec<u8>) -> Result<(), AllocError> {
         put_text(out, 1, self.name.as_str())?;
         put_int(out, 2, &self.number)?;
-        put_options(alloc, out, 3, &self.options)
+        put_options(out, 3, &self.options)
     }
 }
 
@@ -113,7 +113,7 @@ impl Described for ServiceDescriptorProto {
     fn put(&self, alloc: Global, out: &mut Vec<u8>) -> Result<(), AllocError> {
         put_text(out, 1, self.name.as_str())?;
         put_parts(alloc, out, 2, &self.method)?;
-        put_options(alloc, out, 3, &self.options)
+        put_options(out, 3, &self.options)
     }
 }
 
@@ -125,11 +125,11 @@ impl Described for MethodDescriptorProto {
     ghost items = { spec.method_items };
 
     #[tactic(auto, unfolding(crate::specs::DescriptorItems::method_items))]
-    fn put(&self, alloc: Global, out: &mut Vec<u8>) -> Result<(), AllocError> {
+    fn put(&self, _alloc: Global, out: &mut Vec<u8>) -> Result<(), AllocError> {
         put_text(out, 1, self.name.as_str())?;
         put_text(out, 2, &self.input_type)?;
         put_text(out, 3, &self.output_type)?;
-        put_options(alloc, out, 4, &self.options)?;
+        put_options(out, 4, &self.options)?;
         put_flag_if(out, 5, self.client_streaming)?;
         put_flag_if(out, 6, self.server_streaming)
     }

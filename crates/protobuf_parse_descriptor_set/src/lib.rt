@@ -24,6 +24,9 @@ use std::alloc::{AllocError, Global};
 /// The number of the files in a `FileDescriptorSet`.
 const FILE: u32 = 1;
 
+/// How many bytes a field takes, as long as most are.
+const FIELD_LEN: usize = 64;
+
 /// The bytes of a `FileDescriptorSet` that has the files, in order: what `protoc` writes with
 /// `--descriptor_set_out`, and what it takes with `--descriptor_set_in`.
 ///
@@ -45,7 +48,18 @@ pub fn descriptor_set(alloc: Global, files: &[FileDescriptorProto]) -> Result<Ve
     ensures spells { IfOk result
         (λ bytes. Spells (set_entries (map file_view files.now)) bytes.items) }
 {
-    let mut out = Vec::new(alloc);
+    let mut out = Vec::with_capacity(alloc, room_for(files))?;
     put_parts(alloc, &mut out, FILE, files)?;
     Ok(out)
+}
+
+/// Room for the fields, as long as most are, so that a large set is not copied while it grows.
+fn room_for(files: &[FileDescriptorProto]) -> usize {
+    let mut fields: usize = 0;
+    for file in files {
+        for message in &file.message_type {
+            fields = fields.saturating_add(message.field.len());
+        }
+    }
+    fields.saturating_mul(FIELD_LEN)
 }

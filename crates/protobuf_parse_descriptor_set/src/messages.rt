@@ -12,7 +12,7 @@ ghost use Rattle.protobuf_parse_descriptor_set.specs.DescriptorItems as spec;
 use crate::numbers::{label_number, type_number};
 use crate::oneofs::{index_in_set, new_places, synthetic_oneofs};
 use crate::options::put_options_of_field;
-use crate::parts::{Described, put_options, put_part, put_parts};
+use crate::parts::{Described, begin_message, end_message, put_options, put_part, put_parts};
 use crate::records::{
     put_choice, put_flag_if, put_int, put_int_if_some, put_text, put_text_if_some, put_texts,
 };
@@ -20,7 +20,6 @@ use protobuf_parse_model::{
     DescriptorProto, ExtensionRange, FieldDescriptorProto, FieldType, Label, OneofDescriptorProto,
     ReservedRange,
 };
-use protobuf_parse_wire::put_message;
 use std::alloc::{AllocError, Global};
 
 /// Writes each message with that field number.
@@ -34,11 +33,10 @@ pub fn put_messages(
     ensures { OnOk result (Writes (flat_map (λ m. part number (spec.message_items m))
         (map model.message_view messages.now)) out.old.items out.new.items) }
 {
-    let mut inside = Vec::new(alloc);
     for message in messages {
-        inside.clear();
-        put_inside(alloc, &mut inside, message)?;
-        put_message(out, number, &inside)?;
+        let place = begin_message(out, number)?;
+        put_inside(alloc, out, message)?;
+        end_message(out, place)?;
     }
     Ok(())
 }
@@ -84,18 +82,16 @@ fn put_fields(
         out.old.items out.new.items) }
 {
     let places = new_places(alloc, synthetic)?;
-    let mut inside = Vec::new(alloc);
     for field in fields {
-        inside.clear();
-        put_field_in_set(alloc, &mut inside, field, &places)?;
-        put_message(out, 2, &inside)?;
+        let place = begin_message(out, 2)?;
+        put_field_in_set(out, field, &places)?;
+        end_message(out, place)?;
     }
     Ok(())
 }
 
 /// Writes a field with the new place of its oneof.
 fn put_field_in_set(
-    alloc: Global,
     out: &mut Vec<u8>,
     field: &FieldDescriptorProto,
     places: &[usize],
@@ -106,7 +102,7 @@ fn put_field_in_set(
         out.old.items out.new.items) }
 {
     let index = index_in_set(places, &field.oneof_index)?;
-    put_field(alloc, out, field, &index)
+    put_field(out, field, &index)
 }
 
 fn put_message_back(
@@ -123,7 +119,7 @@ fn put_message_back(
     put_parts(alloc, out, 4, &message.enum_type)?;
     put_parts(alloc, out, 5, &message.extension_range)?;
     put_parts(alloc, out, 6, &message.extension)?;
-    put_options(alloc, out, 7, &message.options)?;
+    put_options(out, 7, &message.options)?;
     put_oneofs(alloc, out, &message.oneof_decl, synthetic)?;
     put_parts(alloc, out, 9, &message.reserved_range)?;
     put_texts(out, 10, &message.reserved_name)
@@ -161,10 +157,9 @@ fn put_oneofs_of_kind(
         (of_kind kind synthetic.now (map model.oneof_view oneofs.now)))
         out.old.items out.new.items) }
 {
-    let mut inside = Vec::new(alloc);
     for (place, oneof) in oneofs.iter().enumerate() {
         if synthetic[place] == kind {
-            put_part(alloc, out, &mut inside, 8, oneof)?;
+            put_part(alloc, out, 8, oneof)?;
         }
     }
     Ok(())
@@ -178,15 +173,14 @@ impl Described for FieldDescriptorProto {
 
     ghost items = { spec.field_items };
 
-    fn put(&self, alloc: Global, out: &mut Vec<u8>) -> Result<(), AllocError> {
-        put_field(alloc, out, self, &self.oneof_index)
+    fn put(&self, _alloc: Global, out: &mut Vec<u8>) -> Result<(), AllocError> {
+        put_field(out, self, &self.oneof_index)
     }
 }
 
 /// Writes a field with this place of its oneof.
 #[tactic(auto, unfolding(crate::specs::DescriptorItems::field_items))]
 fn put_field(
-    alloc: Global,
     out: &mut Vec<u8>,
     field: &FieldDescriptorProto,
     oneof_index: &Option<i32>,
@@ -202,7 +196,7 @@ fn put_field(
     put_type(out, 5, field.type_)?;
     put_text_if_some(out, 6, &field.type_name)?;
     put_text_if_some(out, 7, &field.default_value)?;
-    put_options_of_field(alloc, out, 8, field)?;
+    put_options_of_field(out, 8, field)?;
     put_int_if_some(out, 9, oneof_index)?;
     put_text(out, 10, field.json_name.as_str())?;
     put_flag_if(out, 17, field.proto3_optional)
@@ -230,9 +224,9 @@ impl Described for OneofDescriptorProto {
     ghost items = { spec.oneof_items };
 
     #[tactic(auto, unfolding(crate::specs::DescriptorItems::oneof_items))]
-    fn put(&self, alloc: Global, out: &mut Vec<u8>) -> Result<(), AllocError> {
+    fn put(&self, _alloc: Global, out: &mut Vec<u8>) -> Result<(), AllocError> {
         put_text(out, 1, self.name.as_str())?;
-        put_options(alloc, out, 2, &self.options)
+        put_options(out, 2, &self.options)
     }
 }
 

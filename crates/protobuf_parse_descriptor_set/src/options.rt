@@ -16,7 +16,7 @@ use protobuf_parse_model::{
     IdempotencyLevel, JSType, MessageOptions, MethodOptions, OneofOptions, OptimizeMode,
     ServiceOptions,
 };
-use std::alloc::{AllocError, Global};
+use std::alloc::AllocError;
 
 impl Options for FileOptions {
     ghost View = { model.FileOptionValues };
@@ -115,7 +115,6 @@ fn put_field_options(out: &mut Vec<u8>, options: &FieldOptions) -> Result<(), Al
 /// Writes the options of a field where any are set.
 #[tactic(auto, using(crate::proofs::Joining::none_yet))]
 pub fn put_options_of_field(
-    alloc: Global,
     out: &mut Vec<u8>,
     number: u32,
     field: &FieldDescriptorProto,
@@ -127,12 +126,11 @@ pub fn put_options_of_field(
 {
     match &field.options {
         None => Ok(()),
-        Some(options) => put_field_options_message(alloc, out, number, options),
+        Some(options) => put_field_options_message(out, number, options),
     }
 }
 
 fn put_field_options_message(
-    alloc: Global,
     out: &mut Vec<u8>,
     number: u32,
     set: &FieldOptions,
@@ -141,7 +139,7 @@ fn put_field_options_message(
         (Writes (options number (spec.field_option_bytes (model.field_options_view set.now)))
         out.old.items out.new.items) }
 {
-    put_options_message(alloc, out, number, set)
+    put_options_message(out, number, set)
 }
 
 impl Options for OneofOptions {

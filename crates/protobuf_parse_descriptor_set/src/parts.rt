@@ -1,11 +1,14 @@
-//! Messages inside messages: each is written into a buffer first, since its length stands first.
+//! Messages inside messages: each is written in its place, behind a byte for its length. So no list
+//! but the result holds what is written.
 
-ghost use Rattle.std.specs.Prelude.{◌≡◌, ◌++◌, List, ℕ, OnOk, flat_map, map, option_map};
+ghost use Rattle.std.specs.Prelude.{◌≡◌, ◌++◌, ◌∷◌, ◌+◌, ◌-◌, ◌*◌, ◌<◌, [], List, ℕ, OnOk, IfOk};
+ghost use Rattle.std.specs.Prelude.{drop, flat_map, length, map, option_map, take};
 ghost use Rattle.protobuf_parse_descriptor_set.specs.Items as spec;
 ghost use Rattle.protobuf_parse_descriptor_set.specs.Items.{Items, part, some};
 ghost use Rattle.protobuf_parse_descriptor_set.specs.Writing.{Writes};
+ghost use Rattle.protobuf_parse_wire.specs.Encoded.{varint_of, delimited};
 
-use protobuf_parse_wire::put_message;
+use crate::records::put_bytes;
 use std::alloc::{AllocError, Global};
 
 /// What is a message of `descriptor.proto`.
@@ -49,33 +52,30 @@ pub fn put_parts<P: Described>(
         (Writes (flat_map (λ p. part number (P.items p)) (map P.view parts.now))
         out.old.items out.new.items) }
 {
-    let mut inside = Vec::new(alloc);
     for each in parts {
-        put_part(alloc, out, &mut inside, number, each)?;
+        put_part(alloc, out, number, each)?;
     }
     Ok(())
 }
 
-/// Writes it as a message with that field number; `inside` is room for its bytes.
+/// Writes it as a message with that field number.
 pub fn put_part<P: Described>(
     alloc: Global,
     out: &mut Vec<u8>,
-    inside: &mut Vec<u8>,
     number: u32,
     part: &P,
 ) -> Result<(), AllocError>
     ensures { OnOk result
         (Writes (spec.part number (P.items (P.view part.now))) out.old.items out.new.items) }
 {
-    inside.clear();
-    part.put(alloc, inside)?;
-    put_message(out, number, inside)
+    let place = begin_message(out, number)?;
+    part.put(alloc, out)?;
+    end_message(out, place)
 }
 
 /// Writes the options where any are set.
 #[tactic(auto, using(crate::proofs::Joining::none_yet))]
 pub fn put_options<O: Options>(
-    alloc: Global,
     out: &mut Vec<u8>,
     number: u32,
     options: &Option<O>,
@@ -86,13 +86,12 @@ pub fn put_options<O: Options>(
 {
     match options {
         None => Ok(()),
-        Some(options) => put_options_message(alloc, out, number, options),
+        Some(options) => put_options_message(out, number, options),
     }
 }
 
 /// Writes an options message where anything is set in it.
 pub fn put_options_message<O: Options>(
-    alloc: Global,
     out: &mut Vec<u8>,
     number: u32,
     options: &O,
@@ -100,19 +99,61 @@ pub fn put_options_message<O: Options>(
     ensures { OnOk result
         (Writes (spec.options number (O.bytes (O.view options.now))) out.old.items out.new.items) }
 {
-    let mut inside = Vec::new(alloc);
-    options.put(&mut inside)?;
-    put_set(out, number, &inside)
-}
-
-/// Writes an options message by its bytes, where there are any.
-#[tactic(auto, using(crate::proofs::Joining::none_yet, crate::proofs::Joining::writes_whole))]
-fn put_set(out: &mut Vec<u8>, number: u32, inside: &[u8]) -> Result<(), AllocError>
-    ensures { OnOk result
-        (Writes (spec.options number inside.now) out.old.items out.new.items) }
-{
-    if inside.is_empty() {
+    let before = out.len();
+    let place = begin_message(out, number)?;
+    options.put(out)?;
+    if out.len() == place + 1 {
+        // Nothing is set.
+        out.truncate(before);
         return Ok(());
     }
-    put_message(out, number, inside)
+    end_message(out, place)
+}
+
+/// Begins a message with that field number: writes its tag, and a byte for its length. Gives the
+/// place of that byte.
+#[inline(always)]
+pub fn begin_message(out: &mut Vec<u8>, number: u32) -> Result<usize, AllocError>
+    ensures begun { OnOk result
+        (out.new.items ≡ out.old.items ++ (varint_of (number * 8 + 2) ++ 0 ∷ [])) }
+    ensures place { IfOk result (λ place. place + 1 ≡ length out.new.items) }
+{
+    put_bytes(out, number, &[])?;
+    Ok(out.len() - 1)
+}
+
+/// Ends a message, which goes on to the last byte: writes its length where a byte has its place.
+#[inline(always)]
+pub fn end_message(out: &mut Vec<u8>, place: usize) -> Result<(), AllocError>
+    requires { place < length out.old.items }
+    ensures { OnOk result (out.new.items
+        ≡ take place out.old.items ++ delimited (drop (place + 1) out.old.items)) }
+{
+    let count = out.len() - place - 1;
+    if count < 128 {
+        out[place] = count as u8;
+        return Ok(());
+    }
+    put_long_length(out, place, count)
+}
+
+/// Writes the length of what stands behind the place. Its last byte has the place; the others are
+/// written behind all, and then moved before it at once.
+#[inline(never)]
+fn put_long_length(out: &mut Vec<u8>, place: usize, count: usize) -> Result<(), AllocError>
+    requires within { place < length out.old.items }
+    requires is_length { count ≡ length out.old.items - place - 1 }
+    ensures { OnOk result (out.new.items
+        ≡ take place out.old.items ++ delimited (drop (place + 1) out.old.items)) }
+{
+    let end = out.len();
+    let mut rest = count as u64;
+    'groups: while rest >= 128 {
+        out.push((rest & 0x7f) as u8 | 0x80)?;
+        rest >>= 7;
+    }
+    out[place] = rest as u8;
+    let groups = out.len() - end;
+    out[place..].rotate_right(groups);
+    Ok(())
 }

@@ -1,8 +1,9 @@
-//! Single fields: a tag and a value.
+//! Single fields: a tag and a value. What writes numbers is inlined where the field number is known.
 
-ghost use Rattle.std.specs.Prelude.{◌≡◌, ◌++◌, OnOk, flat_map, map, option_map, string_bytes};
+ghost use Rattle.std.specs.Prelude.{◌≡◌, ◌++◌, ◌+◌, ◌*◌, OnOk, flat_map, map, option_map, string_bytes};
 ghost use Rattle.protobuf_parse_descriptor_set.specs.Items as spec;
 ghost use Rattle.protobuf_parse_descriptor_set.specs.Writing.{Writes};
+ghost use Rattle.protobuf_parse_wire.specs.Encoded.{varint_of, delimited};
 
 use protobuf_parse_wire::{put_message, put_varint_record};
 use std::alloc::AllocError;
@@ -12,7 +13,39 @@ pub fn put_text(out: &mut Vec<u8>, number: u32, text: &str) -> Result<(), AllocE
     ensures { OnOk result
         (Writes (spec.text number text.now) out.old.items out.new.items) }
 {
-    put_message(out, number, text.as_bytes())
+    put_bytes(out, number, text.as_bytes())
+}
+
+/// Writes the record of bytes, a message or a text.
+#[inline(always)]
+pub fn put_bytes(out: &mut Vec<u8>, number: u32, bytes: &[u8]) -> Result<(), AllocError>
+    ensures { OnOk result
+        (out.new.items ≡ out.old.items ++ (varint_of (number * 8 + 2) ++ delimited bytes.now)) }
+{
+    // Mostly tag and length take a byte each.
+    if number < 16 && bytes.len() < 128 {
+        out.push(number as u8 * 8 + 2)?;
+        out.push(bytes.len() as u8)?;
+        out.extend_from_slice(bytes)
+    } else {
+        put_message(out, number, bytes)
+    }
+}
+
+/// Writes the record of a number.
+#[inline(always)]
+fn put_number(out: &mut Vec<u8>, number: u32, value: u64) -> Result<(), AllocError>
+    ensures { OnOk result
+        (out.new.items ≡ out.old.items ++ (varint_of (number * 8) ++ varint_of value)) }
+{
+    // Mostly tag and number take a byte each.
+    if number < 16 && value < 128 {
+        out.push(number as u8 * 8)?;
+        out.push(value as u8)?;
+        Ok(())
+    } else {
+        put_varint_record(out, number, value)
+    }
 }
 
 #[tactic(auto, using(crate::proofs::Joining::none_yet))]
@@ -42,11 +75,12 @@ pub fn put_texts(out: &mut Vec<u8>, number: u32, texts: &[String]) -> Result<(),
     Ok(())
 }
 
+#[inline(always)]
 #[tactic(auto, using(crate::proofs::Joining::writes_int))]
 pub fn put_int(out: &mut Vec<u8>, number: u32, value: &i32) -> Result<(), AllocError>
     ensures { OnOk result (Writes (spec.int number value.now) out.old.items out.new.items) }
 {
-    put_varint_record(out, number, i64::from(*value).cast_unsigned())
+    put_number(out, number, i64::from(*value).cast_unsigned())
 }
 
 #[tactic(auto, using(crate::proofs::Joining::none_yet))]
@@ -77,18 +111,19 @@ pub fn put_ints(out: &mut Vec<u8>, number: u32, values: &[i32]) -> Result<(), Al
 }
 
 /// Writes a value of an enum, by its number.
+#[inline(always)]
 #[tactic(auto, using(crate::proofs::Joining::writes_choice))]
 pub fn put_choice(out: &mut Vec<u8>, number: u32, value: i32) -> Result<(), AllocError>
     ensures { OnOk result (Writes (spec.choice number value) out.old.items out.new.items) }
 {
-    put_varint_record(out, number, i64::from(value).cast_unsigned())
+    put_number(out, number, i64::from(value).cast_unsigned())
 }
 
 #[tactic(auto, using(crate::proofs::Joining::writes_flag))]
 pub fn put_flag(out: &mut Vec<u8>, number: u32, value: bool) -> Result<(), AllocError>
     ensures { OnOk result (Writes (spec.flag number value) out.old.items out.new.items) }
 {
-    put_varint_record(out, number, u64::from(value))
+    put_number(out, number, u64::from(value))
 }
 
 #[tactic(auto, using(crate::proofs::Joining::none_yet))]

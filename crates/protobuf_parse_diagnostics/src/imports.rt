@@ -45,6 +45,67 @@ pub fn import_place(
     Ok(None)
 }
 
+/// Where the file of this proto path first imports one from which a chain of that many files goes
+/// on, itself counted.
+pub fn long_import(
+    alloc: Global,
+    trees: &Trees<'_>,
+    path: &str,
+    files: usize,
+) -> Result<Option<Place>, AllocError> {
+    let Some(file) = trees.of_path(path) else {
+        return Ok(None);
+    };
+    let long = begin_chains(alloc, trees, files)?;
+    for import in imports_in(alloc, &file.tree)? {
+        if let Some(next) = trees.position(import.path.as_path().to_str()) {
+            if is_marked(&long, next) {
+                return Ok(Some(import.place));
+            }
+        }
+    }
+    Ok(None)
+}
+
+/// Of each file, whether a chain of that many files begins with it, two or more. The last one need
+/// not have been read.
+fn begin_chains(alloc: Global, trees: &Trees<'_>, files: usize) -> Result<Vec<bool>, AllocError> {
+    let mut nexts: Vec<Vec<usize>> = Vec::new(alloc);
+    let mut long: Vec<bool> = Vec::new(alloc);
+    for file in &trees.files {
+        let imports = imports_in(alloc, &file.tree)?;
+        long.push(!imports.is_empty())?;
+        let mut next = Vec::new(alloc);
+        for import in imports {
+            if let Some(at) = trees.position(import.path.as_path().to_str()) {
+                next.push(at)?;
+            }
+        }
+        nexts.push(next)?;
+    }
+    for _ in 2..files {
+        long = one_longer(alloc, &nexts, &long)?;
+    }
+    Ok(long)
+}
+
+/// Of each file, whether one of the next files is marked.
+fn one_longer(
+    alloc: Global,
+    nexts: &[Vec<usize>],
+    marked: &[bool],
+) -> Result<Vec<bool>, AllocError> {
+    let mut longer = Vec::with_capacity(alloc, nexts.len())?;
+    for next in nexts {
+        longer.push(next.iter().any(|at| is_marked(marked, *at)))?;
+    }
+    Ok(longer)
+}
+
+fn is_marked(marked: &[bool], at: usize) -> bool {
+    marked.get(at).copied().unwrap_or(false)
+}
+
 /// Which imports are followed.
 #[derive(Clone, Copy, PartialEq, Eq)]
 enum Followed {
@@ -63,15 +124,29 @@ pub fn seen(alloc: Global, trees: &Trees<'_>, from: usize) -> Result<Vec<usize>,
     positions_by(alloc, trees, from, Followed::Public)
 }
 
+/// The positions of the files that the file at this position reaches and that were not met before,
+/// its own first; they are met then. `met` has a flag a file.
+pub fn reached_further(
+    alloc: Global,
+    trees: &Trees<'_>,
+    met: &mut Vec<bool>,
+    from: usize,
+) -> Result<Vec<usize>, AllocError> {
+    positions_in(alloc, &walk_on(alloc, trees, met, from, Followed::All)?)
+}
+
 fn positions_by(
     alloc: Global,
     trees: &Trees<'_>,
     from: usize,
     which: Followed,
 ) -> Result<Vec<usize>, AllocError> {
-    let walk = walk_from(alloc, trees, from, which)?;
-    let mut positions = Vec::new(alloc);
-    for step in &walk {
+    positions_in(alloc, &walk_from(alloc, trees, from, which)?)
+}
+
+fn positions_in(alloc: Global, walk: &[Step]) -> Result<Vec<usize>, AllocError> {
+    let mut positions = Vec::with_capacity(alloc, walk.len())?;
+    for step in walk {
         positions.push(step.file)?;
     }
     Ok(positions)
@@ -92,8 +167,19 @@ fn walk_from(
     which: Followed,
 ) -> Result<Vec<Step>, AllocError> {
     let mut met = vec![in alloc; false; trees.files.len()]?;
+    walk_on(alloc, trees, &mut met, from, which)
+}
+
+/// The same of those files that were not met before.
+fn walk_on(
+    alloc: Global,
+    trees: &Trees<'_>,
+    met: &mut Vec<bool>,
+    from: usize,
+    which: Followed,
+) -> Result<Vec<Step>, AllocError> {
     let mut steps: Vec<Step> = Vec::new(alloc);
-    meet(&mut met, &mut steps, from, 0)?;
+    meet(met, &mut steps, from, 0)?;
     for by in 0..trees.files.len() {
         let Some(step) = steps.get(by) else {
             break;
@@ -106,7 +192,7 @@ fn walk_from(
                 continue;
             }
             if let Some(next) = trees.position(import.path.as_path().to_str()) {
-                meet(&mut met, &mut steps, next, by)?;
+                meet(met, &mut steps, next, by)?;
             }
         }
     }

@@ -1,7 +1,7 @@
 //! Faults of loading: L1 to L11, but for the text and the meaning of a file.
 
 use crate::diagnostic::{Diagnostic, Severity};
-use crate::imports::{Importer, cycle_at, import_place, importer_of};
+use crate::imports::{Importer, cycle_at, import_place, importer_of, long_import};
 use crate::paths::{path_code, path_sentence};
 use crate::sources::{Sources, Trees};
 use crate::syntax::Sentence;
@@ -53,15 +53,7 @@ pub fn loading_diagnostic(
         RunFault::Resolver(path, why) => unresolved(alloc, sources, path, why),
         RunFault::Shadowed(input, path) => told_of(alloc, code, input, shadowed(alloc, path)?),
         RunFault::ImportCycle(path) => cycle(alloc, sources, path),
-        RunFault::ImportChainTooLong(path) => told_of(
-            alloc,
-            code,
-            sources.origin_of(path),
-            Sentence::fixed(
-                alloc,
-                "a chain of imports from this file has more than 100 files",
-            )?,
-        ),
+        RunFault::ImportChainTooLong(path) => too_long(alloc, sources, path),
         RunFault::InputPath(input, why) => {
             let sentence = path_sentence(*why);
             let path = path_code(*why);
@@ -154,6 +146,17 @@ fn unresolved(
             told_of(alloc, "L5", path, Sentence::new(message))
         }
     }
+}
+
+/// L8, at the first statement by which a chain of too many files begins.
+fn too_long(alloc: Global, sources: &Sources<'_>, path: &str) -> Result<Diagnostic, AllocError> {
+    let trees = Trees::of(alloc, sources)?;
+    let place = long_import(alloc, &trees, path, 100)?;
+    let sentence = Sentence::fixed(
+        alloc,
+        "a chain of imports from this file has more than 100 files",
+    )?;
+    told_at(alloc, "L8", sources.origin_of(path), place, sentence)
 }
 
 fn shadowed(alloc: Global, path: &str) -> Result<Sentence, AllocError> {

@@ -66,6 +66,12 @@ pub fn meaning_diagnostic(
     };
     let place = fault_place(own, error);
     let sentence = meaning_sentence(alloc, &known, own, error, place)?;
+    let place = match (place, error.kind) {
+        (None, ElabErrorKind::TypeDeclaredTwice | ElabErrorKind::ExtensionDeclaredTwice) => {
+            known.import_of_second(alloc, &trees, error)?
+        }
+        _ => place,
+    };
     told_at(alloc, code, origin, place, sentence)
 }
 

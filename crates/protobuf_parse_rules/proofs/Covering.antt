@@ -4,9 +4,8 @@ use Rattle.std.proofs.Common.{List, [], ◌∷◌, ◌++◌, refl, sym, ap, subs
 use Rattle.std.specs.Prelude.{int_lt, nat_lt, IsPermutation, ◌||◌, min}
 use Rattle.std.specs.Int.Signed.{lt_z_yes, lt_z_no}
 use Rattle.std.specs.List.{count_by, list_any}
-use Rattle.std.specs.List.Sorted.{IsPartitionedBy, IsPartitionPoint}
+use Rattle.std.specs.List.Sorted.{IsPartitionedBy}
 use Rattle.std.specs.Ordering.{int_cmp, int_eq, is_lt}
-use Rattle.std.specs.declared.cmp.Ordering.{Ordering}
 use Rattle.std.specs.declared.cmp.Ordering.TheVariants.{Less, Equal, Greater}
 use Rattle.std.proofs.lemmas.Float.{T_from_true}
 use Rattle.std.proofs.lemmas.Int.{ints}
@@ -54,10 +53,10 @@ point_counts p (x ∷ xs) (suc i) le before after =
     let whole = counted_first p x xs in
     omega (arith, rest, this, whole)
 
-is_below : (a b : ℤ) → int_lt a b ≡ true → a <ℤ b
+pub is_below : (a b : ℤ) → int_lt a b ≡ true → a <ℤ b
 is_below a b e = lt_z_yes (T_from_true (int_lt a b) e)
 
-is_not_below : (a b : ℤ) → int_lt a b ≡ false → b ≤ℤ a
+pub is_not_below : (a b : ℤ) → int_lt a b ≡ false → b ≤ℤ a
 is_not_below a b e = lt_z_no (T_from_true (not (int_lt a b)) (ap not e))
 
 below_by_cmp : (a b : Bool) → is_lt (cond a Less (cond b Greater Equal)) ≡ a

@@ -1,5 +1,5 @@
 -- Claims whose keys differ.
-use Rattle.std.proofs.Common.{◌≡◌, ℕ, ◌<◌, ◌≤◌, ◌+◌, Bool, true, false, cond, List, [], ◌∷◌, ◌++◌, map}
+use Rattle.std.proofs.Common.{◌≡◌, ℕ, ◌<◌, false, cond, List, [], ◌∷◌, ◌++◌, map}
 use Rattle.std.proofs.Common.{refl, sym, ap, subst, ◌∙◌, append_assoc, append-nil, arith, inl, inr, get_or}
 use Rattle.std.proofs.Common.{Some, None}
 use Rattle.std.proofs.Math.Dec.{eqb}
@@ -14,9 +14,10 @@ use Rattle.std.proofs.lemmas.Map.Keys.{sorted_from_strictly_increasing}
 use Rattle.std.proofs.lemmas.List.{map-append}
 use Rattle.std.proofs.lemmas.List.Sorted.{IsPermutation-sym}
 use Rattle.protobuf_parse_model.specs.Descriptors.{Text, FieldDescriptor}
-use Rattle.protobuf_parse_rules.specs.Claims.{Claim, Rules, conflict, conflicts, first_claim}
-use Rattle.protobuf_parse_rules.specs.Claims.{same_thing}
-use Rattle.protobuf_parse_rules.specs.Keys.{claim_key, extension_keys, number_key, thing_key}
+use Rattle.protobuf_parse_rules.specs.Claims.{Claim, Rules, Thing, conflict, conflicts}
+use Rattle.protobuf_parse_rules.specs.Claims.{first_claim, same_thing}
+use Rattle.protobuf_parse_rules.specs.Keys.{claim_key, extension_keys, number_key, text_key}
+use Rattle.protobuf_parse_rules.specs.Keys.{thing_key}
 use Rattle.protobuf_parse_rules.specs.Numbers.{claim_of, claims, extension_claim, extension_claims}
 use Rattle.protobuf_parse_rules.specs.Numbers.{field_claims}
 use Rattle.protobuf_parse_rules.specs.Places.{Place, extensions_of, fields_of}
@@ -44,59 +45,91 @@ apart_sorted keys sorted moved ascending =
 
 -- ---- no claim of what is claimed already
 
-things_differ : (c d : Claim) → eqb (claim_key c) (claim_key d) ≡ false
-    → same_thing c.thing d.thing ≡ false
-things_differ c d h =
-    elim (cases_Bool (same_thing c.thing d.thing)) [
-      | inl same ↦
-          absurd (eqb-false (claim_key c) (claim_key d) h
-          (ap thing_key (thing_is c.thing d.thing same)))
-      | inr other ↦ other
-    ]
+module _ (key : Claim → ℕ) (alike : (c d : Claim) → c.thing ≡ d.thing → key c ≡ key d) where
+  things_differ : (c d : Claim) → eqb (key c) (key d) ≡ false
+      → same_thing c.thing d.thing ≡ false
+  things_differ c d h =
+      elim (cases_Bool (same_thing c.thing d.thing)) [
+        | inl same ↦
+            absurd (eqb-false (key c) (key d) h
+            (alike c d (thing_is c.thing d.thing same)))
+        | inr other ↦ other
+      ]
 
-holds_of : (P : ℕ → Type 0) (before cs : List Claim) (c : Claim)
-    → AllByRecursion P (map claim_key (before ++ c ∷ cs)) → P (claim_key c)
-holds_of P [] cs c h = h.0
-holds_of P (b ∷ bs) cs c h = holds_of P bs cs c h.1
+  holds_of : (P : ℕ → Type 0) (before cs : List Claim) (c : Claim)
+      → AllByRecursion P (map key (before ++ c ∷ cs)) → P (key c)
+  holds_of P [] cs c h = h.0
+  holds_of P (b ∷ bs) cs c h = holds_of P bs cs c h.1
 
-unclaimed : (before cs : List Claim) (c : Claim)
-    → IsDistinct eqb (map claim_key (before ++ c ∷ cs)) → first_claim before c.thing ≡ None
-unclaimed [] cs c h = refl
-unclaimed (b ∷ bs) cs c h =
-    ap (λ s. cond s (Some b) (first_claim bs c.thing))
-    (things_differ b c (holds_of (λ y. eqb (claim_key b) y ≡ false) bs cs c
-    (IsDistinct-head eqb (claim_key b) (map claim_key (bs ++ c ∷ cs)) h)))
-    ∙ unclaimed bs cs c (IsDistinct-tail eqb (claim_key b) (map claim_key (bs ++ c ∷ cs)) h)
+  unclaimed : (before cs : List Claim) (c : Claim)
+      → IsDistinct eqb (map key (before ++ c ∷ cs)) → first_claim before c.thing ≡ None
+  unclaimed [] cs c h = refl
+  unclaimed (b ∷ bs) cs c h =
+      ap (λ s. cond s (Some b) (first_claim bs c.thing))
+      (things_differ b c (holds_of (λ y. eqb (key b) y ≡ false) bs cs c
+      (IsDistinct-head eqb (key b) (map key (bs ++ c ∷ cs)) h)))
+      ∙ unclaimed bs cs c (IsDistinct-tail eqb (key b) (map key (bs ++ c ∷ cs)) h)
 
-none_after : (rules : Rules) (before cs : List Claim)
-    → IsDistinct eqb (map claim_key (before ++ cs)) → conflicts rules before cs ≡ []
-none_after rules before [] h = refl
-none_after rules before (c ∷ cs) h =
-    ap (λ first. conflict rules c first ++ conflicts rules (before ++ c ∷ []) cs)
-    (unclaimed before cs c h)
-    ∙ none_after rules (before ++ c ∷ []) cs
-    (subst (λ (xs : List Claim). IsDistinct eqb (map claim_key xs))
-    (sym (append_assoc before (c ∷ []) cs)) h)
+  none_after : (rules : Rules) (before cs : List Claim)
+      → IsDistinct eqb (map key (before ++ cs)) → conflicts rules before cs ≡ []
+  none_after rules before [] h = refl
+  none_after rules before (c ∷ cs) h =
+      ap (λ first. conflict rules c first ++ conflicts rules (before ++ c ∷ []) cs)
+      (unclaimed before cs c h)
+      ∙ none_after rules (before ++ c ∷ []) cs
+      (subst (λ (xs : List Claim). IsDistinct eqb (map key xs))
+      (sym (append_assoc before (c ∷ []) cs)) h)
 
--- Where the keys differ, no claim is in conflict.
+  -- Where the keys differ, no claim is in conflict.
+  pub keys_apart : (rules : Rules) (cs : List Claim) (keys : List ℕ)
+      → keys ≡ map key cs → IsDistinct eqb keys → conflicts rules [] cs ≡ []
+  keys_apart rules cs keys is apart =
+      none_after rules [] cs (subst (IsDistinct eqb) is apart)
+
+  all_keys : {X : Type 0} (claim : X → Claim) (xs : List X)
+      → map (λ (x : X). key (claim x)) xs ≡ map key (map claim xs)
+  all_keys claim [] = refl
+  all_keys claim (x ∷ xs) = ap (λ ks. key (claim x) ∷ ks) (all_keys claim xs)
+
+  -- The same of claims of what stands in a list: nothing is told of them.
+  pub nothing_claimed : {X : Type 0} (rules : Rules) (told : List Breach) (claim : X → Claim)
+      (xs : List X) (keys : List ℕ) → keys ≡ map (λ (x : X). key (claim x)) xs
+      → IsDistinct eqb keys → told ≡ told ++ conflicts rules [] (map claim xs)
+  nothing_claimed rules told claim xs keys is apart =
+      sym (append-nil told)
+      ∙ ap (λ bs. told ++ bs)
+      (sym (keys_apart rules (map claim xs) keys (is ∙ all_keys claim xs) apart))
+
+-- the key of a thing by its number and its name
+by_thing : (c d : Claim) → c.thing ≡ d.thing → claim_key c ≡ claim_key d
+by_thing c d e = ap thing_key e
+
 pub no_conflict : (rules : Rules) (cs : List Claim) (keys : List ℕ)
     → keys ≡ map claim_key cs → IsDistinct eqb keys → conflicts rules [] cs ≡ []
-no_conflict rules cs keys is apart =
-    none_after rules [] cs (subst (IsDistinct eqb) is apart)
+no_conflict rules cs keys is apart = keys_apart claim_key by_thing rules cs keys is apart
 
 fused : {X : Type 0} (claim : X → Claim) (xs : List X)
     → map (λ (x : X). claim_key (claim x)) xs ≡ map claim_key (map claim xs)
-fused claim [] = refl
-fused claim (x ∷ xs) = ap (λ ks. claim_key (claim x) ∷ ks) (fused claim xs)
+fused claim xs = all_keys claim_key by_thing claim xs
 
--- The same of claims of what stands in a list: nothing is told of them.
 pub nothing_told : {X : Type 0} (rules : Rules) (told : List Breach) (claim : X → Claim)
     (xs : List X) (keys : List ℕ) → keys ≡ map (λ (x : X). claim_key (claim x)) xs
     → IsDistinct eqb keys → told ≡ told ++ conflicts rules [] (map claim xs)
 nothing_told rules told claim xs keys is apart =
-    sym (append-nil told)
-    ∙ ap (λ bs. told ++ bs)
-    (sym (no_conflict rules (map claim xs) keys (is ∙ fused claim xs) apart))
+    nothing_claimed claim_key by_thing rules told claim xs keys is apart
+
+-- the key of a thing by its name, byte by byte
+abbrev name_text_key : Claim → ℕ
+name_text_key c = text_key c.thing.name
+
+by_name : (c d : Claim) → c.thing ≡ d.thing → name_text_key c ≡ name_text_key d
+by_name c d e = ap (λ (t : Thing). text_key t.name) e
+
+pub no_text_told : {X : Type 0} (rules : Rules) (told : List Breach) (claim : X → Claim)
+    (xs : List X) (keys : List ℕ) → keys ≡ map (λ (x : X). name_text_key (claim x)) xs
+    → IsDistinct eqb keys → told ≡ told ++ conflicts rules [] (map claim xs)
+no_text_told rules told claim xs keys is apart =
+    nothing_claimed name_text_key by_name rules told claim xs keys is apart
 
 -- ---- the numbers that a place claims
 

@@ -9,11 +9,15 @@ pub mod Packages
 pub mod Declaring
 pub mod Walking
 pub mod Counting
+pub mod Plain
+pub mod Keyed
 pub mod Lone
+pub mod Crowding
 pub mod Lite
 pub mod Passing
 pub mod Apart
 pub mod Fewer
+pub mod Rising
 pub mod Covering
 pub mod Searching
 pub mod NumberReading

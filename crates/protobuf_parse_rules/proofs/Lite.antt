@@ -1,18 +1,18 @@
 -- Files of which none is for the lite runtime.
-use Rattle.std.proofs.Common.{◌≡◌, Bool, true, false, cond, not, ◌||◌, List, [], ◌∷◌, ◌++◌, refl, sym, ap}
+use Rattle.std.proofs.Common.{◌≡◌, Bool, true, false, cond, ◌||◌, List, [], ◌∷◌, ◌++◌, refl, ap}
 use Rattle.std.proofs.Common.{◌∙◌, None, Some}
 use Rattle.std.specs.Prelude.{◌&&◌, bytes_eq, find}
 use Rattle.std.specs.List.{flat_map, list_any}
 use Rattle.std.specs.Option.{option_map_or}
 use Rattle.std.proofs.lemmas.List.Folds.{list_any-append}
-use Rattle.protobuf_parse_model.specs.Descriptors.{Text, FileDescriptor}
+use Rattle.protobuf_parse_model.specs.Descriptors.{Text}
 use Rattle.protobuf_parse_rules.specs.KnownFiles.{is_lite_place}
 use Rattle.protobuf_parse_rules.specs.Places.{Content, Place, extensions_of, of_file}
 use Rattle.protobuf_parse_rules.specs.Places.{of_message}
-use Rattle.protobuf_parse_rules.specs.Rules.{Breach, Site, breaches_at, broken_by}
+use Rattle.protobuf_parse_rules.specs.Rules.{Site, breaches_at, broken_by}
 use Rattle.protobuf_parse_rules.specs.Runtimes.{NamedFile, file_at, file_in, has_generic_services}
 use Rattle.protobuf_parse_rules.specs.Runtimes.{is_lite, is_lite_path, lite_extension, lite_file}
-use Rattle.protobuf_parse_rules.specs.Runtimes.{lite_extensions, lite_import, lite_imports}
+use Rattle.protobuf_parse_rules.specs.Runtimes.{lite_import}
 use Rattle.protobuf_parse_rules.specs.Runtimes.{lite_service, lite_services, runtime_breaches}
 use Rattle.protobuf_parse_rules.specs.declared.rule.Rule.TheVariants as rule
 

@@ -16,8 +16,10 @@ use Rattle.std.proofs.lemmas.List.Kept.{Contains-dedup_nat}
 use Rattle.std.proofs.lemmas.List.Sorted.{list_any-IsPermutation}
 use Rattle.std.proofs.lemmas.Map.Keys.{IsDistinct-head, IsDistinct-tail}
 use Rattle.std.proofs.lemmas.Map.Views.{Contains-from_any, list_any-from_Contains}
-use Rattle.protobuf_parse_rules.specs.Claims.{conflict, conflicts, first_claim, same_thing}
-use Rattle.protobuf_parse_rules.specs.Keys.{is_package, keys_at, name_key, thing_key}
+use Rattle.protobuf_parse_rules.specs.Claims.{Thing, conflict, conflicts, first_claim}
+use Rattle.protobuf_parse_rules.specs.Claims.{same_thing}
+use Rattle.protobuf_parse_rules.specs.Crowds.{how_many}
+use Rattle.protobuf_parse_rules.specs.Keys.{is_package, keys_at, name_key, text_key}
 use Rattle.protobuf_parse_rules.specs.Names.{Named, name_claim, name_rule, name_taken}
 use Rattle.protobuf_parse_rules.specs.Rules.{breaches_at}
 use Rattle.protobuf_parse_rules.specs.declared.kind.NamedKind.{NamedKind}
@@ -28,11 +30,7 @@ use Rattle.protobuf_parse_rules.proofs.Keying.{eqb_comm}
 
 -- ---- how often a number stands in a list
 
-abbrev pub how_many : ℕ → List ℕ → ℕ
-how_many k [] = 0
-how_many k (x ∷ xs) = one_if (eqb x k) + how_many k xs
-
-how_many-append : (k : ℕ) (xs ys : List ℕ)
+pub how_many-append : (k : ℕ) (xs ys : List ℕ)
     → how_many k (xs ++ ys) ≡ how_many k xs + how_many k ys
 how_many-append k [] ys = omega arith
 how_many-append k (x ∷ xs) ys = omega (arith, how_many-append k xs ys)
@@ -43,7 +41,7 @@ none_of k (x ∷ xs) h =
     let apart : one_if (eqb x k) ≡ 0 = ap one_if (eqb_comm x k ∙ h.0) in
     omega (arith, apart, none_of k xs h.1)
 
-few : (xs : List ℕ) → IsDistinct eqb xs → (k : ℕ) → how_many k xs ≤ 1
+pub few : (xs : List ℕ) → IsDistinct eqb xs → (k : ℕ) → how_many k xs ≤ 1
 few [] h k = omega arith
 few (x ∷ xs) h k = at (eqb x k) refl (few xs (IsDistinct-tail eqb x xs h) k)
   where
@@ -69,7 +67,7 @@ some_of k (x ∷ xs) h = at (eqb k x) refl h (some_of k xs)
         omega (arith, one)
     at false e h more = omega (arith, more h)
 
-eqb_same : (a b : ℕ) → a ≡ b → eqb a b ≡ true
+pub eqb_same : (a b : ℕ) → a ≡ b → eqb a b ≡ true
 eqb_same a b e = grind (arith, nat_tests)
 
 or_true : (b : Bool) → (b || true) ≡ true
@@ -169,7 +167,8 @@ module _ (packages : List ℕ) where
           → conflict name_rule (name_claim n) (cond b (Some (name_claim m))
           (first_claim (map name_claim ms) (name_claim n).thing)) ≡ []
       at true e more = ap (λ o. breaches_at (site_of_claim (name_claim n)) (o ∷ []))
-          (one_name m n (ap thing_key (thing_is (name_claim m).thing (name_claim n).thing e))
+          (one_name m n (ap (λ (t : Thing). text_key t.name)
+          (thing_is (name_claim m).thing (name_claim n).thing e))
           (nearer (name_key n) (few (name_key n))) kept.0 n_kept)
       at false e more = more
 

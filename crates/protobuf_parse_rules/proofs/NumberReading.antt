@@ -1,6 +1,6 @@
 -- Texts of numbers, as they are read.
-use Rattle.std.proofs.Common.{◌≡◌, ◌≢◌, ℕ, ◌<◌, ◌≤◌, ◌^◌, Bool, true, false, ◌&&◌, List, [], ◌∷◌, length}
-use Rattle.std.proofs.Common.{refl, sym, ap, ◌∙◌, arith, rules, Result, Err}
+use Rattle.std.proofs.Common.{◌≡◌, ◌≢◌, ℕ, ◌<◌, ◌≤◌, ◌^◌, Bool, true, false, ◌&&◌, [], ◌∷◌, length}
+use Rattle.std.proofs.Common.{refl, ap, arith, rules, Err}
 use Rattle.std.specs.Prelude.{nat_lt, ◌==◌}
 use Rattle.std.specs.Char.{is_ascii_digit}
 use Rattle.std.specs.List.{list_all}

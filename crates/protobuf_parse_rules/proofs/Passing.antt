@@ -11,21 +11,19 @@ use Rattle.protobuf_parse_rules.specs.Defaults.{default_of}
 use Rattle.protobuf_parse_rules.specs.Enums.{not_zero}
 use Rattle.protobuf_parse_rules.specs.EnumUses.{default_value, enum_of_field, enum_of_proto2, is_enum}
 use Rattle.protobuf_parse_rules.specs.EnumUses.{map_value, of_enum}
-use Rattle.protobuf_parse_rules.specs.FieldOptions.{js_type_option, lazy_option, option_of}
+use Rattle.protobuf_parse_rules.specs.FieldOptions.{js_type_option, lazy_option}
 use Rattle.protobuf_parse_rules.specs.FieldOptions.{packed_option}
 use Rattle.protobuf_parse_rules.specs.Limits.{limit}
 use Rattle.protobuf_parse_rules.specs.Lookups.{NamedEnum, enum_named}
-use Rattle.protobuf_parse_rules.specs.Maps.{is_entry, is_no_key, key_type}
-use Rattle.protobuf_parse_rules.specs.MessageSets.{field_of_set, is_message_set}
+use Rattle.protobuf_parse_rules.specs.Maps.{is_entry, is_no_key}
+use Rattle.protobuf_parse_rules.specs.MessageSets.{is_message_set}
 use Rattle.protobuf_parse_rules.specs.Ordinary.{bars_nothing, is_group_or_enum, is_nil, is_ordinary}
 use Rattle.protobuf_parse_rules.specs.Ordinary.{keeps_nothing}
 use Rattle.protobuf_parse_rules.specs.Places.{Content, Place, extension_ranges, reserved_names}
 use Rattle.protobuf_parse_rules.specs.Places.{reserved_ranges}
-use Rattle.protobuf_parse_rules.specs.Proto3.{default_field, group_field, is_group, is_required}
-use Rattle.protobuf_parse_rules.specs.Proto3.{required_field}
-use Rattle.protobuf_parse_rules.specs.Ranges.{in_ranges, is_among, kept_number, reserved_name}
-use Rattle.protobuf_parse_rules.specs.Ranges.{reserved_number}
-use Rattle.protobuf_parse_rules.specs.Rules.{Breach, Broken, Site, breaches_at, broken_by, broken_if}
+use Rattle.protobuf_parse_rules.specs.Proto3.{is_group, is_required}
+use Rattle.protobuf_parse_rules.specs.Ranges.{in_ranges, is_among}
+use Rattle.protobuf_parse_rules.specs.Rules.{Broken, Site, breaches_at, broken_by, broken_if}
 use Rattle.protobuf_parse_rules.specs.Violations.{common_rules, field_rules}
 use Rattle.protobuf_parse_rules.specs.declared.rule.Rule.{Rule}
 use Rattle.protobuf_parse_rules.specs.declared.rule.Rule.TheVariants as rule

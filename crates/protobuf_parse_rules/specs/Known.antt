@@ -1,22 +1,35 @@
 -- No public clause rests on this file.
 -- What the tables of the code say of messages and enums.
 use Rattle.std.specs.Prelude.{◌≡◌, ℕ, List, flat_map, find, option_map, bytes_eq, string_bytes}
+use Rattle.std.specs.Cmp.Lexicographic.{slice_cmp}
+use Rattle.std.specs.Ordering.{nat_cmp, ordering_then}
+use Rattle.std.specs.declared.cmp.Ordering.{Ordering}
 use Rattle.std.specs.Borrow.{Bor}
 use Rattle.std.specs.BTreeMap.{BTreeMap, get}
 use Rattle.protobuf_parse_model.specs.Descriptors.{Text, enum_view}
+use Rattle.protobuf_parse_rules.specs.Keys.{text_key}
 use Rattle.protobuf_parse_rules.specs.Lookups.{NamedEnum, NamedMessage, enums_at, message_at}
 use Rattle.protobuf_parse_rules.specs.Places.{Place, content_view}
-use Rattle.protobuf_parse_rules.specs.Sets.{text_cmp}
 use Rattle.protobuf_parse_rules.specs.declared.known.KnownEnum.{KnownEnum}
 use Rattle.protobuf_parse_rules.specs.declared.known.KnownMessage.{KnownMessage}
 use Rattle.protobuf_parse_rules.specs.declared.tables.OwnedEnum.{OwnedEnum}
 use Rattle.protobuf_parse_rules.specs.declared.tables.Types.{Types}
 
+-- a text behind its key
+abbrev pub Keyed : Type 0
+Keyed = ℕ × Bor (List ℕ)
+
+abbrev pub keyed : Bor (List ℕ) → Keyed
+keyed t = (text_key t.now, t)
+
+abbrev pub keyed_cmp : Keyed → Keyed → Ordering
+keyed_cmp a b = ordering_then (nat_cmp a.0 b.0) (slice_cmp nat_cmp a.1.now b.1.now)
+
 -- The map has the first of the things that have each name.
-pub record Finds {V X : Type 0} (view : V → X) (name : X → Text) (m : BTreeMap (Bor (List ℕ)) V)
+pub record Finds {V X : Type 0} (view : V → X) (name : X → Text) (m : BTreeMap Keyed V)
     (xs : List X) : Type 0 where
   pub at : (k : Bor (List ℕ))
-      → option_map view (get text_cmp m k) ≡ find (λ (x : X). bytes_eq (name x) k.now) xs
+      → option_map view (get keyed_cmp m (keyed k)) ≡ find (λ (x : X). bytes_eq (name x) k.now) xs
 
 abbrev pub known_message : KnownMessage → NamedMessage
 known_message m =

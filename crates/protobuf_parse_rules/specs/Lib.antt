@@ -32,6 +32,8 @@ pub mod Known
 pub mod KnownNames
 pub mod Ordinary
 pub mod Keys
+pub mod Crowds
+pub mod Ascending
 pub mod KnownFiles
 pub mod KnownUses
 pub mod KnownTables

@@ -1,6 +1,6 @@
 -- Numbers as the defaults of fields write them. Protocol Buffers Language Specification (proto2),
 -- "Integer Literals", "Floating-point Literals", "Constant" (https://protobuf.dev).
-use Rattle.std.specs.Prelude.{ℕ, ◌==◌, Bool, not, ◌&&◌, ◌||◌, List, bytes_eq, codes, drop, length}
+use Rattle.std.specs.Prelude.{◌==◌, Bool, ◌&&◌, ◌||◌, bytes_eq, codes, drop, length}
 use Rattle.std.specs.Prelude.{if◌then◌else◌, slice_index, nat_lt}
 use Rattle.std.specs.List.{list_all}
 use Rattle.std.specs.Char.{is_ascii_digit}

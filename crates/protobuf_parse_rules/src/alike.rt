@@ -9,13 +9,13 @@ ghost use Rattle.protobuf_parse_rules.specs.Alike as spec;
 ghost use Rattle.protobuf_parse_rules.specs.Alike.{fields_alike, spelled_claim, values_alike};
 ghost use Rattle.protobuf_parse_rules.specs.Claims.{Claims, conflicts};
 ghost use Rattle.protobuf_parse_rules.specs.Held.{rules_of};
-ghost use Rattle.protobuf_parse_rules.specs.Keys.{key_of};
+ghost use Rattle.protobuf_parse_rules.specs.Keys.{key_of, text_key};
 ghost use Rattle.protobuf_parse_rules.specs.KnownNames.{spelled_view};
-ghost use Rattle.protobuf_parse_rules.specs.Places.{body_view};
+ghost use Rattle.protobuf_parse_rules.specs.Places.{body_view, content_view, fields_of};
 ghost use Rattle.protobuf_parse_rules.specs.Rules.{breaches_told};
 
 use crate::claims::{Held, Holders, Thing, check_claim};
-use crate::keys::{are_apart, key_of};
+use crate::keys::{are_apart, key_of, plain_key};
 use crate::places::Body;
 use crate::violation::Violation;
 use protobuf_parse_base::text::camel_case;
@@ -43,8 +43,38 @@ pub fn check_fields_alike(
     if !body.proto3 {
         return Ok(());
     }
+    let keys = plain_keys(alloc, body.holds.fields())?;
+    if are_apart(keys) {
+        return Ok(());
+    }
+    check_spelled_fields(alloc, told, body)
+}
+
+/// The keys of how the names of the fields are compared.
+fn plain_keys(alloc: Global, fields: &[FieldDescriptorProto]) -> Result<Vec<u64>, AllocError>
+    ensures { IfOk result (λ keys. keys.items ≡ map (λ (s : spec.Spelled). text_key s.key)
+        (map spec.spelled_field (map field_view fields.now))) }
+{
+    let mut keys = Vec::with_capacity(alloc, fields.len())?;
+    'fields: for field in fields {
+        keys.push(plain_key(&field.name))?;
+    }
+    Ok(keys)
+}
+
+/// Tells the same field by field.
+fn check_spelled_fields(
+    alloc: Global,
+    told: &mut Vec<Violation>,
+    body: &Body<'_>,
+) -> Result<(), AllocError>
+    ensures { OnOk result (breaches_told told.new ≡ breaches_told told.old
+        ++ conflicts spec.field_alike_rule []
+        (map (spelled_claim body.now.file.now (string_bytes body.now.scope))
+        (map spec.spelled_field (fields_of (content_view body.now.holds))))) }
+{
     let spelled = spelled_fields(alloc, body.holds.fields())?;
-    check_each(alloc, told, Held::FieldAlike, body, &spelled)
+    check_in_turn(alloc, told, Held::FieldAlike, body, &spelled)
 }
 
 /// Tells each value whose name is that of one before it, which has another number, but for case,

@@ -52,6 +52,9 @@ pub fn enum_of_proto2<'a>(
     ensures { (all : List Place) → Knows tables.now all → option_map finding_view result
         ≡ spec.of_enum all (spec.enum_of_proto2 proto3) (field_view field.now) }
 {
+    if !proto3 {
+        return None;
+    }
     match enum_of_field(tables, field) {
         Some(known) => known_of_proto2(proto3, known),
         None => None,
@@ -77,6 +80,9 @@ pub fn default_value<'a>(
     ensures { (all : List Place) → Knows tables.now all → option_map finding_view result
         ≡ spec.of_enum all (spec.default_value (field_view field.now)) (field_view field.now) }
 {
+    if field.default_value.is_none() {
+        return None;
+    }
     match enum_of_field(tables, field) {
         Some(known) => known_default(field, known),
         None => None,
@@ -115,6 +121,9 @@ pub fn map_value<'a>(
         ≡ spec.of_enum all (spec.map_value (content_view holds.entry) (field_view field.now))
         (field_view field.now) }
 {
+    if !is_entry(holds) {
+        return None;
+    }
     match enum_of_field(tables, field) {
         Some(known) => known_map_value(holds, field, known),
         None => None,

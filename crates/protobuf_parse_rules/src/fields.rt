@@ -74,10 +74,28 @@ fn check_in_message<'a>(
         ++ breaches_at (site_in (body_view bars.now.body.now) (field_view field.now).name)
         (field_rules all (content_view bars.now.body.now.holds) (field_view field.now))) }
 {
-    let body = bars.body;
     if bars_nothing(bars) && has_allowed_number(field) {
         return Ok(());
     }
+    check_barred(alloc, told, tables, bars, field)
+}
+
+/// Tells the same rule by rule. It stands apart so that the room of what is found is not cleared
+/// for each field.
+#[inline(never)]
+fn check_barred<'a>(
+    alloc: Global,
+    told: &mut Vec<Violation>,
+    tables: &Tables<'a>,
+    bars: &Bars<'a>,
+    field: &'a FieldDescriptorProto,
+) -> Result<(), AllocError>
+    ensures { OnOk result ((all : List Place) → Knows tables.now all →
+        breaches_told told.new ≡ breaches_told told.old
+        ++ breaches_at (site_in (body_view bars.now.body.now) (field_view field.now).name)
+        (field_rules all (content_view bars.now.body.now.holds) (field_view field.now))) }
+{
+    let body = bars.body;
     let found = [
         limit(field.number, false),
         reserved_number(&field.number, bars),
@@ -163,6 +181,23 @@ fn check_common<'a>(
     if is_ordinary(field) {
         return Ok(());
     }
+    check_unusual(alloc, told, tables, body, field)
+}
+
+/// Tells the same rule by rule.
+#[inline(never)]
+fn check_unusual<'a>(
+    alloc: Global,
+    told: &mut Vec<Violation>,
+    tables: &Tables<'a>,
+    body: &'a Body<'a>,
+    field: &'a FieldDescriptorProto,
+) -> Result<(), AllocError>
+    ensures { OnOk result ((all : List Place) → Knows tables.now all →
+        breaches_told told.new ≡ breaches_told told.old
+        ++ breaches_at (site_in (body_view body.now) (field_view field.now).name)
+        (common_rules all body.now.proto3 (field_view field.now))) }
+{
     let found = [
         required_field(body.proto3, field.label),
         group_field(body.proto3, field.type_),

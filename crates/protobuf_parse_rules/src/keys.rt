@@ -3,10 +3,14 @@
 //! one by one.
 
 ghost use Rattle.std.specs.Prelude.{◌≡◌, true};
-ghost use Rattle.std.specs.List.{IsDistinct};
+ghost use Rattle.std.specs.Prelude.{encode_utf8_all};
+ghost use Rattle.std.specs.List.{IsDistinct, fold};
 ghost use Rattle.std.specs.List.Sorted.{IsStrictlyIncreasing};
 ghost use Rattle.std.proofs.Math.Dec.{eqb};
-ghost use Rattle.protobuf_parse_rules.specs.Keys.{key_of};
+ghost use Rattle.protobuf_parse_rules.specs.Alike.{plain};
+ghost use Rattle.protobuf_parse_rules.specs.Keys as spec;
+ghost use Rattle.protobuf_parse_rules.specs.Keys.{key_of, no_text};
+ghost use Rattle.protobuf_parse_rules.specs.Known.{keyed};
 
 use std::hash::{FoldHasher, Hasher};
 
@@ -18,6 +22,59 @@ pub fn key_of(number: i32, name: &str) -> u64
     hasher.write(name.as_bytes());
     hasher.write_i32(number);
     hasher.finish()
+}
+
+/// The key of a text without bytes.
+pub const NO_TEXT: u64 = 0xcbf2_9ce4_8422_2325;
+
+/// The key of a text with this one behind it, by that of the text: so the key of a scope is made
+/// once for all names in it.
+pub fn text_key(front: u64, text: &str) -> u64
+    ensures { result ≡ fold spec.mixed front text.now }
+{
+    let bytes = text.as_bytes();
+    let mut key = front;
+    'bytes: for byte in bytes {
+        key = mixed(key, *byte);
+    }
+    key
+}
+
+/// The text behind its key: so texts are told apart by numbers, for the most part.
+pub fn keyed(text: &str) -> (u64, &str)
+    ensures { result ≡ keyed text.entry }
+{
+    (text_key(NO_TEXT, text), text)
+}
+
+/// The key of the name in lower case and without underscores, which is not made for it. In the
+/// bytes of characters beyond ASCII stand neither underscores nor capitals.
+pub fn plain_key(name: &str) -> u64
+    ensures { result ≡ fold spec.mixed no_text (encode_utf8_all (plain name.now)) }
+{
+    let bytes = name.as_bytes();
+    let mut key = NO_TEXT;
+    'bytes: for byte in bytes {
+        key = plain_mixed(key, *byte);
+    }
+    key
+}
+
+fn plain_mixed(key: u64, byte: u8) -> u64
+    ensures { result ≡ spec.plain_mixed key byte }
+{
+    if byte == b'_' {
+        key
+    } else {
+        mixed(key, byte.to_ascii_lowercase())
+    }
+}
+
+/// The key of a text and one byte more.
+fn mixed(key: u64, byte: u8) -> u64
+    ensures { result ≡ spec.mixed key byte }
+{
+    (key ^ byte as u64).wrapping_mul(0x100_0000_01b3)
 }
 
 /// Whether no key stands twice.

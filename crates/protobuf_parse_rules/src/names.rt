@@ -1,12 +1,12 @@
 //! Full names, and what has them.
 
 ghost use Rattle.std.specs.Prelude.{◌≡◌, ◌++◌, [], ◌∷◌, map, flat_map, OnOk, IfOk, option_map};
-ghost use Rattle.std.specs.Prelude.{string_bytes, true};
+ghost use Rattle.std.specs.Prelude.{string_bytes};
 ghost use Rattle.protobuf_parse_base.specs.Names.{dotted_parts};
 ghost use Rattle.protobuf_parse_model.specs.Descriptors.{enum_value_view, enum_view, field_view};
 ghost use Rattle.protobuf_parse_model.specs.Descriptors.{method_view, oneof_view, service_view};
 ghost use Rattle.protobuf_parse_rules.specs.Claims.{Claims, Knows, conflicts};
-ghost use Rattle.protobuf_parse_rules.specs.Keys.{keys_at};
+ghost use Rattle.protobuf_parse_rules.specs.Keys.{packages_at, packages_in};
 ghost use Rattle.protobuf_parse_rules.specs.KnownNames.{named_view};
 ghost use Rattle.protobuf_parse_rules.specs.Names as spec;
 ghost use Rattle.protobuf_parse_rules.specs.Names.{name_claim, name_rule, names_at};
@@ -17,7 +17,6 @@ ghost use Rattle.protobuf_parse_rules.specs.declared.kind.NamedKind.TheVariants 
 
 use crate::claims::{Held, Holder, Holders, Thing, check_claim};
 use crate::finding::full_name;
-use crate::keys::{are_apart, key_of};
 use crate::kind::NamedKind;
 use crate::places::{Body, Holds};
 use crate::violation::Violation;
@@ -34,43 +33,6 @@ pub struct Named<'a> {
     pub file: &'a str,
     pub kind: NamedKind,
     pub name: String,
-}
-
-/// Whether no two of these have one name, other than packages, by the keys of all.
-pub fn names_are_apart(alloc: Global, names: &[Named<'_>]) -> Result<bool, AllocError>
-    ensures { IfOk result (λ apart. apart ≡ true
-        → conflicts name_rule [] (map name_claim (map named_view names.now)) ≡ []) }
-{
-    let mut packages = keys_of(alloc, names, true)?;
-    packages.sort_unstable();
-    packages.dedup();
-    let mut keys = keys_of(alloc, names, false)?;
-    keys.append(&mut packages)?;
-    Ok(are_apart(keys))
-}
-
-/// The keys of the names of packages, or else of all others.
-fn keys_of(alloc: Global, names: &[Named<'_>], packages: bool) -> Result<Vec<u64>, AllocError>
-    ensures { IfOk result (λ keys. keys.items
-        ≡ flat_map (keys_at packages) (map named_view names.now)) }
-{
-    let mut keys = Vec::new(alloc);
-    'names: for named in names {
-        add_key(&mut keys, named, packages)?;
-    }
-    Ok(keys)
-}
-
-fn add_key(keys: &mut Vec<u64>, named: &Named<'_>, packages: bool) -> Result<(), AllocError>
-    ensures { OnOk result (keys.new.items
-        ≡ keys.old.items ++ keys_at packages (named_view named.now)) }
-{
-    let is_package = matches!(named.kind, NamedKind::Package);
-    let wanted = if packages { is_package } else { !is_package };
-    if wanted {
-        keys.push(key_of(0, &named.name))?;
-    }
-    Ok(())
 }
 
 /// Tells each thing that has the full name of one before it, and gives the first of each name.
@@ -347,6 +309,33 @@ fn add_methods<'a>(
         add(alloc, names, file, scope, NamedKind::Method, &method.name)?;
     }
     Ok(())
+}
+
+/// The packages of the bodies, in order.
+pub fn packages_of<'a>(alloc: Global, bodies: &[Body<'a>]) -> Result<Vec<Named<'a>>, AllocError>
+    ensures { IfOk result (λ v. map named_view v.items
+        ≡ flat_map packages_at (map body_view bodies.now)) }
+{
+    let mut names = Vec::new(alloc);
+    'bodies: for body in bodies {
+        add_packages(alloc, &mut names, body.file, body.holds)?;
+    }
+    Ok(names)
+}
+
+fn add_packages<'a>(
+    alloc: Global,
+    names: &mut Vec<Named<'a>>,
+    file: &'a str,
+    holds: Holds<'_>,
+) -> Result<(), AllocError>
+    ensures { OnOk result (map named_view names.new.items ≡ map named_view names.old.items
+        ++ packages_in file.now (content_view holds.entry)) }
+{
+    match holds {
+        Holds::File(each) => add_package(alloc, names, file, &each.package),
+        Holds::Message(_) => Ok(()),
+    }
 }
 
 /// The package and its fronts, if there is one.

@@ -1,5 +1,5 @@
 //! What no rule of fields speaks of: most fields, so that their rules are passed over at once. That
-//! spares an eighth of the instructions of all rules, 70 of 540 million for 100,000 fields.
+//! spared 70 million instructions for 100,000 fields.
 
 ghost use Rattle.std.specs.Prelude.{◌≡◌, false, is_none};
 ghost use Rattle.protobuf_parse_model.specs.Descriptors.{field_view};

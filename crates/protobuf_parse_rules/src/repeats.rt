@@ -1,13 +1,15 @@
 //! Texts that may stand once in a list.
 
-ghost use Rattle.std.specs.Prelude.{◌≡◌, ◌++◌, [], ◌∷◌, map, OnOk, string_bytes};
+ghost use Rattle.std.specs.Prelude.{◌≡◌, ◌++◌, [], ◌∷◌, map, IfOk, OnOk, string_bytes};
 ghost use Rattle.protobuf_parse_rules.specs.Claims.{Claims};
 ghost use Rattle.protobuf_parse_rules.specs.Findings.{site_of};
+ghost use Rattle.protobuf_parse_rules.specs.Keys.{text_key};
 ghost use Rattle.protobuf_parse_rules.specs.Repeats.{repeat_claim, repeat_rule, repeats};
 ghost use Rattle.protobuf_parse_rules.specs.Rules.{breaches_told};
 
 use crate::claims::{Held, Holder, Holders, Thing, check_claim};
 use crate::finding::Spot;
+use crate::keys::{NO_TEXT, are_apart, text_key};
 use crate::rule::Rule;
 use crate::violation::Violation;
 use std::alloc::{AllocError, Global};
@@ -15,6 +17,34 @@ use std::collections::BTreeMap;
 
 /// Tells each of the texts of the construct that stands before.
 pub fn check_repeats<'b>(
+    alloc: Global,
+    told: &mut Vec<Violation>,
+    at: Spot<'b>,
+    rule: Rule,
+    texts: &'b [String],
+) -> Result<(), AllocError>
+    ensures { OnOk result (breaches_told told.new ≡ breaches_told told.old
+        ++ repeats rule (site_of at.entry) (map string_bytes texts.now)) }
+{
+    let keys = keys_of(alloc, texts)?;
+    if are_apart(keys) {
+        return Ok(());
+    }
+    check_each(alloc, told, at, rule, texts)
+}
+
+/// The keys of the texts.
+fn keys_of(alloc: Global, texts: &[String]) -> Result<Vec<u64>, AllocError>
+    ensures { IfOk result (λ keys. keys.items ≡ map text_key (map string_bytes texts.now)) }
+{
+    let mut keys = Vec::with_capacity(alloc, texts.len())?;
+    'texts: for text in texts {
+        keys.push(text_key(NO_TEXT, text))?;
+    }
+    Ok(keys)
+}
+
+fn check_each<'b>(
     alloc: Global,
     told: &mut Vec<Violation>,
     at: Spot<'b>,

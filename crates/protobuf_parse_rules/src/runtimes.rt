@@ -1,7 +1,7 @@
 //! Which runtime files are for.
 
 ghost use Rattle.std.specs.Prelude.{◌≡◌, ◌++◌, [], ◌∷◌, List, map, flat_map, OnOk, IfOk};
-ghost use Rattle.std.specs.Prelude.{option_and_then, option_map, string_bytes};
+ghost use Rattle.std.specs.Prelude.{bytes_eq, find, option_and_then, option_map, string_bytes};
 ghost use Rattle.std.specs.Borrow.{Bor};
 ghost use Rattle.std.specs.List.{list_any};
 ghost use Rattle.protobuf_parse_model.specs.Descriptors.{Text, field_view, file_view, service_view};
@@ -17,6 +17,7 @@ ghost use Rattle.protobuf_parse_rules.specs.Runtimes.{file_named, is_lite_path, 
 
 use crate::claims::{Holders, Thing, first_of};
 use crate::finding::{Finding, Spot, found, found_by};
+use crate::keys::keyed;
 use crate::places::{Body, Holds};
 use crate::rule::Rule;
 use crate::tell::tell;
@@ -38,7 +39,7 @@ pub struct KnownFile<'a> {
 #[derive(Drop)]
 pub struct Declared<'a> {
     pub first: Holders<'a>,
-    pub files: BTreeMap<&'a str, KnownFile<'a>>,
+    pub files: BTreeMap<(u64, &'a str), KnownFile<'a>>,
 }
 
 impl<'a> Declared<'a> {
@@ -46,7 +47,7 @@ impl<'a> Declared<'a> {
         ensures { (all : List Place) → Tells self.now all →
             option_map known_file result ≡ file_named all path.now }
     {
-        self.files.get(&path).copied()
+        file_with(&self.files, path)
     }
 
     /// The file of the first that has the full name.
@@ -100,11 +101,22 @@ fn has_generic_services(file: &FileDescriptorProto) -> bool
     }
 }
 
+/// The file with the path.
+pub fn file_with<'a>(
+    files: &BTreeMap<(u64, &'a str), KnownFile<'a>>,
+    path: &'a str,
+) -> Option<KnownFile<'a>>
+    ensures { (all : List NamedFile) → Finds known_file path_named files.now all →
+        option_map known_file result ≡ find (λ (f : NamedFile). bytes_eq f.path path.now) all }
+{
+    files.get(&keyed(path)).copied()
+}
+
 /// The files of the bodies by their paths; of those with one path, the first.
 pub fn files_of<'a>(
     alloc: Global,
     bodies: &[Body<'a>],
-) -> Result<BTreeMap<&'a str, KnownFile<'a>>, AllocError>
+) -> Result<BTreeMap<(u64, &'a str), KnownFile<'a>>, AllocError>
     ensures { IfOk result (λ m. Finds known_file path_named m
         (flat_map file_at (map body_view bodies.now))) }
 {
@@ -116,7 +128,7 @@ pub fn files_of<'a>(
 }
 
 fn add_file<'a>(
-    files: &mut BTreeMap<&'a str, KnownFile<'a>>,
+    files: &mut BTreeMap<(u64, &'a str), KnownFile<'a>>,
     path: &'a str,
     holds: Holds<'a>,
 ) -> Result<(), AllocError>
@@ -131,7 +143,7 @@ fn add_file<'a>(
 }
 
 fn put_file<'a>(
-    files: &mut BTreeMap<&'a str, KnownFile<'a>>,
+    files: &mut BTreeMap<(u64, &'a str), KnownFile<'a>>,
     path: &'a str,
     file: &'a FileDescriptorProto,
 ) -> Result<(), AllocError>
@@ -139,10 +151,11 @@ fn put_file<'a>(
         → Finds known_file path_named files.new
         (before ++ record { path = path.now; what = file_view file.now } ∷ [])) }
 {
-    match files.get(&path) {
+    let key = keyed(path);
+    match files.get(&key) {
         Some(_first) => Ok(()),
         None => {
-            files.insert(path, KnownFile { path, file })?;
+            files.insert(key, KnownFile { path, file })?;
             Ok(())
         }
     }

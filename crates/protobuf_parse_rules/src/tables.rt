@@ -14,6 +14,7 @@ ghost use Rattle.protobuf_parse_rules.specs.declared.known.KnownEnum.{KnownEnum}
 ghost use Rattle.protobuf_parse_rules.specs.declared.known.KnownMessage.{KnownMessage};
 
 use crate::finding::full_name;
+use crate::keys::keyed;
 use crate::known::{KnownEnum, KnownMessage, enum_with, message_with};
 use crate::places::{Body, Holds};
 use crate::uses::{Uses, uses_of};
@@ -33,8 +34,8 @@ pub struct OwnedEnum<'a> {
 /// The messages and the enums of all files; of those that have one name, the first.
 #[derive(Drop)]
 pub struct Types<'a> {
-    pub messages: BTreeMap<&'a str, KnownMessage<'a>>,
-    pub enums: BTreeMap<&'a str, KnownEnum<'a>>,
+    pub messages: BTreeMap<(u64, &'a str), KnownMessage<'a>>,
+    pub enums: BTreeMap<(u64, &'a str), KnownEnum<'a>>,
 }
 
 impl<'a> Types<'a> {
@@ -43,7 +44,7 @@ impl<'a> Types<'a> {
             option_map (λ (m : Bor KnownMessage). known_message m.now) result
             ≡ message_named all name.now }
     {
-        self.messages.get(&name)
+        self.messages.get(&keyed(name))
     }
 
     pub fn enumeration(&self, name: &'a str) -> Option<&KnownEnum<'a>>
@@ -51,7 +52,7 @@ impl<'a> Types<'a> {
             option_map (λ (e : Bor KnownEnum). known_enum e.now) result
             ≡ enum_named all name.now }
     {
-        self.enums.get(&name)
+        self.enums.get(&keyed(name))
     }
 }
 
@@ -152,7 +153,7 @@ fn types_of<'a>(
 fn messages_by_name<'a>(
     alloc: Global,
     bodies: &'a [Body<'a>],
-) -> Result<BTreeMap<&'a str, KnownMessage<'a>>, AllocError>
+) -> Result<BTreeMap<(u64, &'a str), KnownMessage<'a>>, AllocError>
     ensures { IfOk result (λ m. Finds known_message message_name m
         (flat_map message_at (map body_view bodies.now))) }
 {
@@ -165,7 +166,7 @@ fn messages_by_name<'a>(
 
 fn add_message<'a>(
     alloc: Global,
-    messages: &mut BTreeMap<&'a str, KnownMessage<'a>>,
+    messages: &mut BTreeMap<(u64, &'a str), KnownMessage<'a>>,
     body: &'a Body<'a>,
 ) -> Result<(), AllocError>
     ensures { OnOk result ((before : List NamedMessage)
@@ -182,7 +183,7 @@ fn add_message<'a>(
 
 fn put_message<'a>(
     alloc: Global,
-    messages: &mut BTreeMap<&'a str, KnownMessage<'a>>,
+    messages: &mut BTreeMap<(u64, &'a str), KnownMessage<'a>>,
     file: &'a str,
     name: &'a str,
     holds: Holds<'a>,
@@ -196,11 +197,12 @@ fn put_message<'a>(
           what = content_view holds.entry;
         } ∷ [])) }
 {
-    match messages.get(&name) {
+    let key = keyed(name);
+    match messages.get(&key) {
         Some(_first) => Ok(()),
         None => {
             let message = message_with(alloc, file, name, holds)?;
-            messages.insert(name, message)?;
+            messages.insert(key, message)?;
             Ok(())
         }
     }
@@ -209,7 +211,7 @@ fn put_message<'a>(
 fn enums_by_name<'a>(
     alloc: Global,
     enums: &'a [OwnedEnum<'a>],
-) -> Result<BTreeMap<&'a str, KnownEnum<'a>>, AllocError>
+) -> Result<BTreeMap<(u64, &'a str), KnownEnum<'a>>, AllocError>
     ensures { IfOk result (λ m. Finds known_enum enum_name m (map owned_enum enums.now)) }
 {
     let mut known = BTreeMap::new(alloc);
@@ -221,7 +223,7 @@ fn enums_by_name<'a>(
 
 fn put_enum<'a>(
     alloc: Global,
-    known: &mut BTreeMap<&'a str, KnownEnum<'a>>,
+    known: &mut BTreeMap<(u64, &'a str), KnownEnum<'a>>,
     each: &'a OwnedEnum<'a>,
 ) -> Result<(), AllocError>
     ensures { OnOk result ((before : List NamedEnum)
@@ -229,11 +231,12 @@ fn put_enum<'a>(
         → Finds known_enum enum_name known.new (before ++ owned_enum each.now ∷ [])) }
 {
     let name = each.name.as_str();
-    match known.get(&name) {
+    let key = keyed(name);
+    match known.get(&key) {
         Some(_first) => Ok(()),
         None => {
             let one = enum_with(alloc, each.file, name, each.proto3, each.each)?;
-            known.insert(name, one)?;
+            known.insert(key, one)?;
             Ok(())
         }
     }

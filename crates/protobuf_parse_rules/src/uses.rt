@@ -1,18 +1,20 @@
 //! What files need of each other.
 
-ghost use Rattle.std.specs.Prelude.{◌≡◌, ◌++◌, List, flat_map, map, IfOk, OnOk};
+ghost use Rattle.std.specs.Prelude.{◌≡◌, ◌++◌, List, flat_map, map, option_map, IfOk, OnOk};
 ghost use Rattle.protobuf_parse_rules.specs.Customs.{are_any};
 ghost use Rattle.protobuf_parse_rules.specs.Imports as spec;
 ghost use Rattle.protobuf_parse_rules.specs.Imports.{extending_path, setting_path};
 ghost use Rattle.protobuf_parse_rules.specs.Known.{KnowsTypes};
+ghost use Rattle.protobuf_parse_rules.specs.KnownFiles.{known_file};
 ghost use Rattle.protobuf_parse_rules.specs.KnownUses.{KnowsUses};
 ghost use Rattle.protobuf_parse_rules.specs.Places.{Place, body_view, content_view, extensions_of};
+ghost use Rattle.protobuf_parse_rules.specs.Runtimes.{file_named};
 ghost use Rattle.protobuf_parse_rules.specs.Sets.{AreTexts, texts_of};
 
 use crate::customs::sets_custom;
 use crate::links::{Links, has_link, links_of};
 use crate::places::{Body, Holds};
-use crate::runtimes::{KnownFile, files_of};
+use crate::runtimes::{KnownFile, file_with, files_of};
 use crate::tables::Types;
 use crate::words::Words;
 use std::alloc::{AllocError, Global};
@@ -22,7 +24,7 @@ use std::collections::BTreeMap;
 #[derive(Drop)]
 pub struct Uses<'a> {
     /// The first file of each path.
-    pub files: BTreeMap<&'a str, KnownFile<'a>>,
+    pub files: BTreeMap<(u64, &'a str), KnownFile<'a>>,
     /// Which files name types of which others.
     pub links: Links<'a>,
     /// The paths of files that set custom options.
@@ -37,10 +39,17 @@ impl<'a> Uses<'a> {
         ensures { (all : List Place) → KnowsUses self.now all →
             result ≡ spec.hands_on_none all path.now }
     {
-        match self.files.get(&path) {
+        match self.file(path) {
             Some(known) => known.file.public_dependency.is_empty(),
             None => false,
         }
+    }
+
+    fn file(&self, path: &'a str) -> Option<KnownFile<'a>>
+        ensures { (all : List Place) → KnowsUses self.now all →
+            option_map known_file result ≡ file_named all path.now }
+    {
+        file_with(&self.files, path)
     }
 
     /// Whether the file with the first path needs the one with the other.
@@ -111,8 +120,9 @@ fn extending_paths<'a>(alloc: Global, bodies: &[Body<'a>]) -> Result<Words<'a>, 
     Ok(Words::of(paths))
 }
 
+/// Whether anything is extended there.
 #[tactic(auto, using(crate::proofs::Lists::any_mapped))]
-fn has_extensions(holds: Holds<'_>) -> bool
+pub fn has_extensions(holds: Holds<'_>) -> bool
     ensures { result ≡ are_any (extensions_of (content_view holds.entry)) }
 {
     match holds {

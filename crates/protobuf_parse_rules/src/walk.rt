@@ -27,7 +27,8 @@ use crate::enums::check_enum;
 use crate::fields::{check_extensions, check_fields};
 use crate::imports::check_unused_imports;
 use crate::json_names::check_json_names;
-use crate::names::{Named, check_names, names_are_apart, names_of};
+use crate::name_keys::names_are_apart;
+use crate::names::{Named, check_names, names_of};
 use crate::numbers::{check_numbers, numbers_are_apart};
 use crate::oneofs::check_oneofs;
 use crate::places::{Body, bodies_of};
@@ -72,11 +73,11 @@ fn check_declared<'a>(
         ++ (names_in_use (map body_view bodies.now)
         ++ flat_map (runtime_breaches (map body_view bodies.now)) (map body_view bodies.now))) }
 {
-    let names = names_of(alloc, bodies)?;
-    let apart = names_are_apart(alloc, &names)?;
+    let apart = names_are_apart(alloc, bodies)?;
     if apart && !have_lite(bodies) {
         return Ok(());
     }
+    let names = names_of(alloc, bodies)?;
     check_named(alloc, told, &names, bodies)
 }
 

@@ -1,9 +1,9 @@
 //! What the files of a run tell of a name.
 
-use crate::imports::{reached, seen};
+use crate::imports::{reached, reached_further, seen};
 use crate::kinds::values_of_type;
 use crate::outline::{Declared, DeclaredKind, Outline};
-use crate::sources::{Source, Trees};
+use crate::sources::{Source, Trees, imports_in};
 use protobuf_parse_model::{ElabError, ElabErrorKind};
 use protobuf_parse_syntax::{Place, Type};
 use std::alloc::{AllocError, Global};
@@ -54,6 +54,54 @@ impl<'t, 'a> Known<'t, 'a> {
     /// The outline of that one file.
     pub fn own(&self) -> Option<&Outline<'t>> {
         self.files.get(self.at).map(|own| &own.outline)
+    }
+
+    /// Where that file imports what has the second declaration of the full name that the fault
+    /// speaks of, in the order of its imports.
+    pub fn import_of_second(
+        &self,
+        alloc: Global,
+        trees: &Trees<'_>,
+        error: &ElabError,
+    ) -> Result<Option<Place>, AllocError> {
+        let Some(file) = trees.files.get(self.at) else {
+            return Ok(None);
+        };
+        let mut met = vec![in alloc; false; trees.files.len()]?;
+        let mut is_declared = false;
+        for import in imports_in(alloc, &file.tree)? {
+            let Some(next) = trees.position(import.path.as_path().to_str()) else {
+                continue;
+            };
+            for at in reached_further(alloc, trees, &mut met, next)? {
+                for _ in self.declared_at(alloc, at, error)? {
+                    if is_declared {
+                        return Ok(Some(import.place));
+                    }
+                    is_declared = true;
+                }
+            }
+        }
+        Ok(None)
+    }
+
+    /// The places at which the file at that position declares the full name that the fault speaks
+    /// of.
+    fn declared_at(
+        &self,
+        alloc: Global,
+        at: usize,
+        error: &ElabError,
+    ) -> Result<Vec<Place>, AllocError> {
+        let mut places = Vec::new(alloc);
+        if let Some(file) = self.files.get(at) {
+            for declared in &file.outline.declared {
+                if is_of_kind(declared, error.kind) && declared.full == error.what {
+                    places.push(declared.place)?;
+                }
+            }
+        }
+        Ok(places)
     }
 
     /// Which file declares a type or an extension of that name, and whether it is imported.

@@ -14,7 +14,8 @@ use Rattle.protobuf_parse_descriptor_set.specs.Told.{Tells}
 use Rattle.protobuf_parse_descriptor_set.specs.DescriptorItems.{message_items}
 use Rattle.protobuf_parse_descriptor_set.proofs.Inside.{message_items_is}
 use Rattle.protobuf_parse_descriptor_set.proofs.Joining.{joined, none_yet, on_ok_then}
-use Rattle.protobuf_parse_descriptor_set.proofs.Joining.{one_more, one_part, all_of}
+use Rattle.protobuf_parse_descriptor_set.proofs.Joining.{one_more, all_of}
+use Rattle.protobuf_parse_descriptor_set.proofs.Lengths.{ended_part, within}
 use Rattle.protobuf_parse_descriptor_set.proofs.Places.{told_marks}
 use Rattle.protobuf_parse_descriptor_set.proofs.messages.+message_items.Goals as goal
 
@@ -56,12 +57,16 @@ put_inside-returns t c =
 pub put_messages-loop-message-init : goal.put_messages-loop-message-init
 put_messages-loop-message-init t c = none_yet _
 
+pub put_messages-end_message-requires : goal.put_messages-end_message-requires
+put_messages-end_message-requires t c =
+    within _ _ _ _ c.in_ok-place.ensures.place c.in_ok-put_inside.ensures
+
 pub put_messages-loop-message-preserved : goal.put_messages-loop-message-preserved
 put_messages-loop-message-preserved t c =
     one_more (λ m. part c.args.number (message_items m)) message_view _ _ _ _ _ _
     c.loop-message-test.true c.message-item.is c.loop-message.invariant
-    (one_part _ _ _ _ _ _ _ c.clear.ensures.items c.in_ok-put_inside.ensures c.deref.ensures.value
-    c.in_ok-put_message.ensures)
+    (ended_part _ _ _ _ _ _ _ c.in_ok-place.ensures.begun c.in_ok-place.ensures.place
+    c.in_ok-put_inside.ensures c.in_ok-end_message.ensures)
 
 pub put_messages-returns : goal.put_messages-returns
 put_messages-returns t c = all_of (λ m. part c.args.number (message_items m)) message_view _ _ _ _

@@ -5,7 +5,8 @@ use Rattle.protobuf_parse_descriptor_set.specs.Writing.{Writes}
 use Rattle.protobuf_parse_descriptor_set.specs.OneofOrder.{field_at, field_in_set, new_place}
 use Rattle.protobuf_parse_descriptor_set.specs.Told.{Tells, index_by}
 use Rattle.protobuf_parse_descriptor_set.specs.DescriptorItems.{field_items}
-use Rattle.protobuf_parse_descriptor_set.proofs.Joining.{none_yet, one_more, one_part, all_changed}
+use Rattle.protobuf_parse_descriptor_set.proofs.Joining.{none_yet, one_more, all_changed}
+use Rattle.protobuf_parse_descriptor_set.proofs.Lengths.{ended_part, within}
 use Rattle.protobuf_parse_descriptor_set.proofs.Places.{told_index}
 use Rattle.protobuf_parse_descriptor_set.proofs.messages.put_fields.Goals as goal
 
@@ -19,6 +20,10 @@ by_place f marks places old new t w = subst (λ i. Writes (field_items (field_at
 pub loop-field-init : goal.loop-field-init
 loop-field-init c = none_yet _
 
+pub end_message-requires : goal.end_message-requires
+end_message-requires c =
+    within _ _ _ _ c.in_ok-place.ensures.place c.in_ok-put_field_in_set.ensures
+
 pub loop-field-preserved : goal.loop-field-preserved
 loop-field-preserved c =
     let f = c.field-item.result in
@@ -27,8 +32,8 @@ loop-field-preserved c =
     c.in_ok-places.ensures (rw c.deref.ensures.value at c.in_ok-put_field_in_set.ensures) in
     one_more (λ f. part 2 (field_items f)) (λ f. field_in_set marks (field_view f)) _ _ _ _ _ _
     c.loop-field-test.true c.field-item.is c.loop-field.invariant
-    (one_part _ _ _ _ _ _ _ c.clear.ensures.items written c.deref-in-loop-field.ensures.value
-    c.in_ok-put_message.ensures)
+    (ended_part _ _ _ _ _ _ _ c.in_ok-place.ensures.begun c.in_ok-place.ensures.place written
+    c.in_ok-end_message.ensures)
 
 pub returns : goal.returns
 returns c = all_changed (λ f. part 2 (field_items f)) (field_in_set c.args.synthetic.now) field_view

@@ -1,8 +1,13 @@
-use Rattle.protobuf_parse_descriptor_set.proofs.Joining.{one_part, on_ok_then}
+use Rattle.protobuf_parse_descriptor_set.proofs.Joining.{on_ok_then}
+use Rattle.protobuf_parse_descriptor_set.proofs.Lengths.{ended_part, within}
 use Rattle.protobuf_parse_descriptor_set.proofs.parts.put_part.Goals as goal
+
+pub end_message-requires : goal.end_message-requires
+end_message-requires g c = within _ _ _ _ c.in_ok-place.ensures.place c.in_ok-put.ensures
 
 pub returns : goal.returns
 returns g c =
-    on_ok_then c.put_message.result
-    (one_part _ _ _ _ _ _ _ c.clear.ensures.items c.in_ok-put.ensures c.deref.ensures.value)
-    c.put_message.ensures
+    on_ok_then c.end_message.result
+    (ended_part _ _ _ _ _ _ _ c.in_ok-place.ensures.begun c.in_ok-place.ensures.place
+    c.in_ok-put.ensures)
+    c.end_message.ensures

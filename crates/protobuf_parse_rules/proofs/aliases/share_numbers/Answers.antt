@@ -1,6 +1,6 @@
-use Rattle.std.proofs.Common.{List, map, take, sym, ◌∙◌}
+use Rattle.std.proofs.Common.{map, take, sym, ◌∙◌}
 use Rattle.std.specs.List.{list_any}
-use Rattle.protobuf_parse_model.specs.Descriptors.{EnumValueDescriptor, enum_value_view}
+use Rattle.protobuf_parse_model.specs.Descriptors.{enum_value_view}
 use Rattle.protobuf_parse_rules.specs.Enums.{is_shared}
 use Rattle.protobuf_parse_rules.proofs.Lists.{any_one_more, found_now, found_stays}
 use Rattle.protobuf_parse_rules.proofs.aliases.share_numbers.Goals as goal

@@ -1,4 +1,4 @@
-use Rattle.std.proofs.Common.{map, sym, ◌∙◌, string_bytes}
+use Rattle.std.proofs.Common.{map, string_bytes}
 use Rattle.protobuf_parse_model.specs.Descriptors.{field_view}
 use Rattle.protobuf_parse_rules.specs.JsonNames.{json_claim, json_rule}
 use Rattle.protobuf_parse_rules.specs.Rules.{breaches_told}

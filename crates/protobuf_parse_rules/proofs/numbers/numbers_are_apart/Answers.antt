@@ -1,16 +1,12 @@
-use Rattle.std.proofs.Common.{map, ap, ◌∙◌}
-use Rattle.std.specs.List.{flat_map}
-use Rattle.protobuf_parse_rules.specs.Keys.{claim_key}
-use Rattle.protobuf_parse_rules.specs.Numbers.{claims, number_rule}
+use Rattle.std.proofs.Common.{map, sym, ◌∙◌, subst}
+use Rattle.std.specs.List.{IsDistinct}
+use Rattle.std.proofs.Math.Dec.{eqb}
 use Rattle.protobuf_parse_rules.specs.Places.{body_view}
-use Rattle.protobuf_parse_rules.proofs.Keying.{no_conflict}
-use Rattle.protobuf_parse_rules.proofs.Lists.{mapped_all}
+use Rattle.protobuf_parse_rules.proofs.Rising.{rising_apart}
 use Rattle.protobuf_parse_rules.proofs.numbers.numbers_are_apart.Goals as goal
 
-pub returns : goal.returns
-returns c = λ apart.
-    no_conflict number_rule (flat_map claims (map body_view c.args.bodies.now)) c.bodies.keys.items
-    (c.bodies.invariant
-    ∙ ap (λ ps. map claim_key (flat_map claims ps))
-    (mapped_all body_view c.args.bodies.now c.bodies.body-index c.bodies-test.false))
-    (c.are_apart.ensures apart)
+pub returns-then-are_apart : goal.returns-then-are_apart
+returns-then-are_apart c = λ apart.
+    rising_apart (map body_view c.args.bodies.now)
+    (sym c.are_any_mixed.ensures ∙ c.if-are_any_mixed.false)
+    (subst (IsDistinct eqb) c.in_ok-keys.ensures (c.are_apart.ensures c.if-are_apart.true))

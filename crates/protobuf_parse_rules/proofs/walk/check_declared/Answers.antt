@@ -1,8 +1,5 @@
 use Rattle.std.proofs.Common.{[], ◌++◌, map, ap, sym, ◌∙◌, append-nil}
 use Rattle.std.specs.List.{flat_map}
-use Rattle.protobuf_parse_rules.specs.Claims.{conflicts}
-use Rattle.protobuf_parse_rules.specs.KnownNames.{named_view}
-use Rattle.protobuf_parse_rules.specs.Names.{name_claim, name_rule, names_at}
 use Rattle.protobuf_parse_rules.specs.Places.{body_view}
 use Rattle.protobuf_parse_rules.specs.Rules.{breaches_told}
 use Rattle.protobuf_parse_rules.specs.Runtimes.{runtime_breaches}
@@ -13,10 +10,8 @@ pub returns-then-not-have_lite : goal.returns-then-not-have_lite
 returns-then-not-have_lite c =
     let all = map body_view c.args.bodies.now in
     let told = breaches_told c.args.told.now in
-    let named = ap (map named_view) c.deref.ensures.value ∙ c.in_ok-names.ensures in
     sym (append-nil told)
     ∙ ap (λ bs. told ++ ([] ++ bs))
     (sym (nothing_lite all (sym c.have_lite.ensures ∙ c.if-not-have_lite.true)))
     ∙ ap (λ bs. told ++ (bs ++ flat_map (runtime_breaches all) all))
-    (sym (c.in_ok-apart.ensures c.if-apart.true)
-    ∙ ap (λ ns. conflicts name_rule [] (map name_claim ns)) named)
+    (sym (c.in_ok-apart.ensures c.if-apart.true))

@@ -1,4 +1,4 @@
-use Rattle.std.proofs.Common.{[], map, sym, ◌∙◌}
+use Rattle.std.proofs.Common.{[], map, ◌∙◌}
 use Rattle.std.proofs.lemmas.Result.{IfOk-weaker}
 use Rattle.protobuf_parse_rules.specs.Places.{body_view}
 use Rattle.protobuf_parse_rules.proofs.Walking.{inside_alone}

@@ -1,4 +1,4 @@
-use Rattle.std.proofs.Common.{not, rules, arith, subst, List, ℤ, ap, ◌∙◌, IsSorted, sym}
+use Rattle.std.proofs.Common.{rules, arith, subst, List, ℤ, ap, ◌∙◌, IsSorted, sym}
 use Rattle.std.specs.Prelude.{int_lt}
 use Rattle.std.specs.Ordering.{int_cmp}
 use Rattle.std.proofs.lemmas.List.Sorted.{IsPartitionPoint-from_clause}

@@ -4,7 +4,7 @@ use Rattle.std.specs.List.{flat_map}
 use Rattle.protobuf_parse_rules.specs.Keys.{claim_key}
 use Rattle.protobuf_parse_rules.specs.Numbers.{claims}
 use Rattle.protobuf_parse_rules.specs.Places.{body_view}
-use Rattle.protobuf_parse_rules.proofs.numbers.numbers_are_apart.Given as goal
+use Rattle.protobuf_parse_rules.proofs.numbers.claims_are_apart.Given as goal
 
 abbrev pub invariant-bodies : goal.invariant-bodies
 invariant-bodies l = l.keys.items

@@ -1,0 +1,182 @@
+-- Keys of which none of those that share a place stands twice.
+use Rattle.std.proofs.Common.{◌≡◌, ◌≢◌, ℕ, ◌+◌, ◌≤◌, ◌<◌, ◌%◌, Bool, true, false, cond, List, []}
+use Rattle.std.proofs.Common.{◌∷◌, ◌++◌, refl, sym, ap, subst, ◌∙◌, append-nil, arith, length, inl}
+use Rattle.std.proofs.Common.{inr, get_or, set, take, drop, length-set}
+use Rattle.std.proofs.Math.Dec.{eqb}
+use Rattle.std.specs.Prelude.{min, nat_lt, slice_index_or}
+use Rattle.std.specs.List.{IsDistinct, AllByRecursion, filter}
+use Rattle.std.proofs.lemmas.Bool.{cases_Bool, eqb-true}
+use Rattle.std.proofs.lemmas.Bool.Decides.{nat_tests}
+use Rattle.std.proofs.lemmas.List.{map-append, get_or-set_same, get_or-set_other, drop_all}
+use Rattle.std.proofs.lemmas.List.{take_all}
+use Rattle.protobuf_parse_rules.specs.Crowds.{Counts, how_many, is_crowded, one_if, places_of}
+use Rattle.protobuf_parse_rules.proofs.Keying.{eqb_comm}
+use Rattle.protobuf_parse_rules.proofs.Lone.{eqb_same, few, how_many-append}
+
+other_number : (a b : ℕ) → eqb a b ≡ false → a ≢ b
+other_number a b e is = let same = eqb_same a b is in absurd cc
+
+-- what stands at most once is distinct
+first_never : (x y : ℕ) (ys : List ℕ) (b : Bool) → eqb y x ≡ b → how_many x (y ∷ ys) ≡ 0
+    → (eqb x y ≡ false) × (how_many x ys ≡ 0)
+first_never x y ys true same e =
+    let one : one_if (eqb y x) ≡ 1 = ap one_if same in absurd (omega (arith, e, one))
+first_never x y ys false other e = (eqb_comm x y ∙ other, omega (arith, e))
+
+never : (x : ℕ) (xs : List ℕ) → how_many x xs ≡ 0 → AllByRecursion (λ y. eqb x y ≡ false) xs
+never x [] e = tt
+never x (y ∷ ys) e =
+    let parts = first_never x y ys (eqb y x) refl e in
+    (parts.0, never x ys parts.1)
+
+alone : (x : ℕ) (xs : List ℕ) → how_many x (x ∷ xs) ≤ 1 → how_many x xs ≡ 0
+alone x xs h =
+    let one : one_if (eqb x x) ≡ 1 = ap one_if (eqb_same x x refl) in
+    omega (arith, h, one)
+
+rest_few : (k x : ℕ) (xs : List ℕ) → how_many k (x ∷ xs) ≤ 1 → how_many k xs ≤ 1
+rest_few k x xs h = omega (arith, h)
+
+distinct : (xs : List ℕ) → ((k : ℕ) → how_many k xs ≤ 1) → IsDistinct eqb xs
+unfolding IsDistinct
+distinct [] few = tt
+distinct (x ∷ xs) few =
+    (never x xs (alone x xs (few x)), distinct xs (λ k. rest_few k x xs (few k)))
+
+-- a number stands in a list no more often than its place among the places
+place_first : (n k x : ℕ) (xs : List ℕ) (b : Bool) → eqb x k ≡ b
+    → how_many k xs ≤ how_many (k % n) (places_of n xs)
+    → how_many k (x ∷ xs) ≤ how_many (k % n) (places_of n (x ∷ xs))
+place_first n k x xs true same rest =
+    let one : one_if (eqb x k) ≡ 1 = ap one_if same in
+    let there : one_if (eqb (x % n) (k % n)) ≡ 1 =
+    ap one_if (eqb_same (x % n) (k % n) (ap (λ y. y % n) (eqb-true x k same))) in
+    omega (arith, one, there, rest)
+place_first n k x xs false other rest =
+    let none : one_if (eqb x k) ≡ 0 = ap one_if other in
+    omega (arith, none, rest)
+
+by_place : (n k : ℕ) (xs : List ℕ) → how_many k xs ≤ how_many (k % n) (places_of n xs)
+by_place n k [] = omega arith
+by_place n k (x ∷ xs) = place_first n k x xs (eqb x k) refl (by_place n k xs)
+
+-- those that pass a test, of a number that passes it
+kept_first : (p : ℕ → Bool) (k x : ℕ) (xs : List ℕ) (b : Bool) → p x ≡ b → p k ≡ true
+    → how_many k (filter p xs) ≡ how_many k xs
+    → how_many k (cond b (x ∷ filter p xs) (filter p xs)) ≡ how_many k (x ∷ xs)
+kept_first p k x xs true pass e rest = omega (arith, rest)
+kept_first p k x xs false fails e rest =
+    let other : eqb x k ≡ false = elim (cases_Bool (eqb x k)) [
+      | inl same ↦ let never = sym fails ∙ ap p (eqb-true x k same) ∙ e in absurd cc
+      | inr other ↦ other
+    ] in
+    let none : one_if (eqb x k) ≡ 0 = ap one_if other in
+    omega (arith, none, rest)
+
+kept : (p : ℕ → Bool) (k : ℕ) (xs : List ℕ) → p k ≡ true → how_many k (filter p xs) ≡ how_many k xs
+kept p k [] e = refl
+kept p k (x ∷ xs) e = kept_first p k x xs (p x) refl e (kept p k xs e)
+
+least : (n : ℕ) → nat_lt 1 n ≡ false → n ≤ 1
+least n e = grind (arith, nat_tests)
+
+few_of : (a b n : ℕ) → a ≤ b → n ≡ min 2 b → n ≤ 1 → a ≤ 1
+few_of a b n le is small = omega (arith, le, is, small)
+
+-- Where no number that shares its place stands twice, none does.
+pub crowds_apart : (keys counts : List ℕ) → 0 < length counts → Counts keys counts
+    → IsDistinct eqb (filter (is_crowded counts) keys) → IsDistinct eqb keys
+crowds_apart keys counts some counted apart = distinct keys (λ k. at k (is_crowded counts k) refl)
+  where
+    within : (k : ℕ) → k % length counts < length counts
+    within k = grind (arith, some)
+
+    at : (k : ℕ) (b : Bool) → is_crowded counts k ≡ b → how_many k keys ≤ 1
+    at k true crowded =
+        let same = kept (is_crowded counts) k keys crowded in
+        let once = few (filter (is_crowded counts) keys) apart k in
+        omega (arith, same, once)
+    at k false lone =
+        few_of (how_many k keys) (how_many (k % length counts) (places_of (length counts) keys))
+        (slice_index_or counts (k % length counts) 0) (by_place (length counts) k keys)
+        (counted (k % length counts) (within k))
+        (least (slice_index_or counts (k % length counts) 0) lone)
+
+-- ---- one number more
+
+more_there : (n k p : ℕ) (keys : List ℕ) → how_many p (places_of n (keys ++ k ∷ []))
+    ≡ how_many p (places_of n keys) + one_if (eqb (k % n) p)
+more_there n k p keys =
+    ap (how_many p) (map-append (λ x. x % n) keys (k ∷ []))
+    ∙ how_many-append p (places_of n keys) (k % n ∷ [])
+    ∙ omega arith
+
+more_of : (c h : ℕ) → c ≡ min 2 h → c < 2 → c + 1 ≡ min 2 (h + 1)
+more_of c h e l = omega (arith, e, l)
+
+no_more_of : (c h : ℕ) → c ≡ min 2 h → 2 ≤ c → c ≡ min 2 (h + 1)
+no_more_of c h e l = omega (arith, e, l)
+
+no_other_of : (c h : ℕ) → c ≡ min 2 h → c ≡ min 2 (h + 0)
+no_other_of c h e = omega (arith, e)
+
+-- the place of the number was said to have fewer than two
+pub counted_more : (keys counts : List ℕ) (k q : ℕ) → q ≡ k % length counts → q < length counts
+    → get_or counts q 0 < 2 → Counts keys counts
+    → Counts (keys ++ k ∷ []) (set counts q (get_or counts q 0 + 1))
+counted_more keys counts k q is within small counted p lt =
+    at (eqb (k % length counts) p) refl
+    ∙ ap (λ n. min 2 (how_many p (places_of n (keys ++ k ∷ []))))
+    (sym (length-set counts q (get_or counts q 0 + 1)))
+  where
+    there : p < length counts
+    there = subst (λ n. p < n) (length-set counts q (get_or counts q 0 + 1)) lt
+
+    at : (b : Bool) → eqb (k % length counts) p ≡ b
+        → get_or (set counts q (get_or counts q 0 + 1)) p 0
+        ≡ min 2 (how_many p (places_of (length counts) (keys ++ k ∷ [])))
+    at true same =
+        let here : p ≡ q = sym (eqb-true (k % length counts) p same) ∙ sym is in
+        ap (λ x. get_or (set counts q (get_or counts q 0 + 1)) x 0) here
+        ∙ get_or-set_same counts q (get_or counts q 0 + 1) 0 within
+        ∙ more_of (get_or counts q 0) (how_many q (places_of (length counts) keys))
+        (counted q within) small
+        ∙ ap (λ x. min 2 (how_many x (places_of (length counts) keys) + 1)) (sym here)
+        ∙ ap (λ b. min 2 (how_many p (places_of (length counts) keys) + one_if b)) (sym same)
+        ∙ ap (min 2) (sym (more_there (length counts) k p keys))
+    at false other =
+        let apart : p ≢ q = λ here. other_number (k % length counts) p other (sym is ∙ sym here) in
+        get_or-set_other counts q p (get_or counts q 0 + 1) 0 apart
+        ∙ no_other_of (get_or counts p 0) (how_many p (places_of (length counts) keys))
+        (counted p there)
+        ∙ ap (λ b. min 2 (how_many p (places_of (length counts) keys) + one_if b)) (sym other)
+        ∙ ap (min 2) (sym (more_there (length counts) k p keys))
+
+-- or to have two and more already
+pub counted_enough : (keys counts : List ℕ) (k q : ℕ) → q ≡ k % length counts
+    → q < length counts → 2 ≤ get_or counts q 0 → Counts keys counts
+    → Counts (keys ++ k ∷ []) counts
+counted_enough keys counts k q is within large counted p lt =
+    at (eqb (k % length counts) p) refl
+  where
+    at : (b : Bool) → eqb (k % length counts) p ≡ b
+        → get_or counts p 0 ≡ min 2 (how_many p (places_of (length counts) (keys ++ k ∷ [])))
+    at true same =
+        let here : q ≡ p = is ∙ eqb-true (k % length counts) p same in
+        no_more_of (get_or counts p 0) (how_many p (places_of (length counts) keys))
+        (counted p lt) (subst (λ x. 2 ≤ get_or counts x 0) here large)
+        ∙ ap (λ b. min 2 (how_many p (places_of (length counts) keys) + one_if b)) (sym same)
+        ∙ ap (min 2) (sym (more_there (length counts) k p keys))
+    at false other =
+        no_other_of (get_or counts p 0) (how_many p (places_of (length counts) keys))
+        (counted p lt)
+        ∙ ap (λ b. min 2 (how_many p (places_of (length counts) keys) + one_if b)) (sym other)
+        ∙ ap (min 2) (sym (more_there (length counts) k p keys))
+
+-- a list that is written back whole
+pub written_back : (items new : List ℕ) (n : ℕ) → length new ≡ length items → n ≡ length items
+    → take n (new ++ drop (length new) items) ≡ new
+written_back items new n same is =
+    ap (λ rest. take n (new ++ rest)) (drop_all (length new) items (omega (arith, same)))
+    ∙ ap (take n) (append-nil new)
+    ∙ take_all n new (omega (arith, same, is))

@@ -1,0 +1,214 @@
+//! A quick test that no two things have one full name, by a key of each: no full name is made for
+//! it, since the key of a name goes on from that of the scope.
+
+ghost use Rattle.std.specs.Prelude.{◌≡◌, ◌++◌, [], ◌∷◌, ℕ, map, flat_map, OnOk, IfOk, true};
+ghost use Rattle.std.specs.List.{fold};
+ghost use Rattle.protobuf_parse_model.specs.Descriptors.{enum_value_view, enum_view, field_view};
+ghost use Rattle.protobuf_parse_model.specs.Descriptors.{method_view, oneof_view, service_view};
+ghost use Rattle.protobuf_parse_rules.specs.Keys as spec;
+ghost use Rattle.protobuf_parse_rules.specs.Keys.{inside, mixed, name_key, packages_at};
+ghost use Rattle.protobuf_parse_rules.specs.KnownNames.{named_view};
+ghost use Rattle.protobuf_parse_rules.specs.Names.{names_in_use};
+ghost use Rattle.protobuf_parse_rules.specs.Places.{body_view, content_view};
+
+use crate::crowds::many_are_apart;
+use crate::keys::{NO_TEXT, text_key};
+use crate::names::{Named, packages_of};
+use crate::places::{Body, Holds};
+use protobuf_parse_model::{
+    EnumDescriptorProto, EnumValueDescriptorProto, FieldDescriptorProto, MethodDescriptorProto,
+    OneofDescriptorProto, ServiceDescriptorProto,
+};
+use std::alloc::{AllocError, Global};
+
+/// Whether no two things in the bodies have one full name, other than packages, by the keys of all.
+pub fn names_are_apart(alloc: Global, bodies: &[Body<'_>]) -> Result<bool, AllocError>
+    ensures { IfOk result (λ apart. apart ≡ true → names_in_use (map body_view bodies.now) ≡ []) }
+{
+    let mut packages = package_keys(alloc, bodies)?;
+    packages.sort_unstable();
+    packages.dedup();
+    let mut keys = other_keys(alloc, bodies)?;
+    keys.append(&mut packages)?;
+    let apart = many_are_apart(alloc, &keys)?;
+    Ok(apart)
+}
+
+/// The keys of packages.
+fn package_keys(alloc: Global, bodies: &[Body<'_>]) -> Result<Vec<u64>, AllocError>
+    ensures { IfOk result (λ keys. keys.items
+        ≡ map name_key (flat_map packages_at (map body_view bodies.now))) }
+{
+    let names = packages_of(alloc, bodies)?;
+    keys_of(alloc, &names)
+}
+
+/// The keys of the names.
+fn keys_of(alloc: Global, names: &[Named<'_>]) -> Result<Vec<u64>, AllocError>
+    ensures { IfOk result (λ keys. keys.items ≡ map name_key (map named_view names.now)) }
+{
+    let mut keys = Vec::new(alloc);
+    'names: for named in names {
+        keys.push(text_key(NO_TEXT, &named.name))?;
+    }
+    Ok(keys)
+}
+
+/// The keys of all that are no packages.
+fn other_keys(alloc: Global, bodies: &[Body<'_>]) -> Result<Vec<u64>, AllocError>
+    ensures { IfOk result (λ keys. keys.items
+        ≡ flat_map spec.other_keys (map body_view bodies.now)) }
+{
+    let mut keys = Vec::new(alloc);
+    'bodies: for body in bodies {
+        add_keys(&mut keys, body)?;
+    }
+    Ok(keys)
+}
+
+fn add_keys(keys: &mut Vec<u64>, body: &Body<'_>) -> Result<(), AllocError>
+    ensures { OnOk result (keys.new.items
+        ≡ keys.old.items ++ spec.other_keys (body_view body.now)) }
+{
+    let itself = text_key(NO_TEXT, &body.scope);
+    let inside = text_key(itself, ".");
+    add_own(keys, itself, inside, body.holds)?;
+    add_both(keys, inside, body.holds)
+}
+
+/// A message, its fields and its oneofs; or a file's services.
+fn add_own(
+    keys: &mut Vec<u64>,
+    itself: u64,
+    inside: u64,
+    holds: Holds<'_>,
+) -> Result<(), AllocError>
+    ensures { OnOk result (keys.new.items
+        ≡ keys.old.items ++ spec.own_keys itself inside (content_view holds.entry)) }
+{
+    match holds {
+        Holds::Message(message) => {
+            keys.push(itself)?;
+            add_fields(keys, inside, &message.field)?;
+            add_oneofs(keys, inside, &message.oneof_decl)
+        }
+        Holds::File(file) => add_services(keys, inside, &file.service),
+    }
+}
+
+/// What stands in both: enums and extensions.
+fn add_both(keys: &mut Vec<u64>, inside: u64, holds: Holds<'_>) -> Result<(), AllocError>
+    ensures { OnOk result (keys.new.items
+        ≡ keys.old.items ++ spec.both_keys inside (content_view holds.entry)) }
+{
+    add_enums(keys, inside, holds.enums())?;
+    add_fields(keys, inside, holds.extensions())
+}
+
+/// Fields, or extensions.
+fn add_fields(
+    keys: &mut Vec<u64>,
+    inside: u64,
+    fields: &[FieldDescriptorProto],
+) -> Result<(), AllocError>
+    ensures { OnOk result (keys.new.items
+        ≡ keys.old.items ++ spec.field_keys inside (map field_view fields.now)) }
+{
+    'fields: for field in fields {
+        keys.push(text_key(inside, &field.name))?;
+    }
+    Ok(())
+}
+
+fn add_oneofs(
+    keys: &mut Vec<u64>,
+    inside: u64,
+    oneofs: &[OneofDescriptorProto],
+) -> Result<(), AllocError>
+    ensures { OnOk result (keys.new.items
+        ≡ keys.old.items ++ spec.oneof_keys inside (map oneof_view oneofs.now)) }
+{
+    'oneofs: for oneof in oneofs {
+        keys.push(text_key(inside, &oneof.name))?;
+    }
+    Ok(())
+}
+
+fn add_enums(
+    keys: &mut Vec<u64>,
+    inside: u64,
+    enums: &[EnumDescriptorProto],
+) -> Result<(), AllocError>
+    ensures { OnOk result (keys.new.items
+        ≡ keys.old.items ++ flat_map (spec.enum_keys inside) (map enum_view enums.now)) }
+{
+    'enums: for each in enums {
+        add_enum(keys, inside, each)?;
+    }
+    Ok(())
+}
+
+/// The enum, and its values beside it.
+fn add_enum(keys: &mut Vec<u64>, inside: u64, each: &EnumDescriptorProto) -> Result<(), AllocError>
+    ensures { OnOk result (keys.new.items
+        ≡ keys.old.items ++ spec.enum_keys inside (enum_view each.now)) }
+{
+    keys.push(text_key(inside, &each.name))?;
+    add_values(keys, inside, &each.value)
+}
+
+fn add_values(
+    keys: &mut Vec<u64>,
+    inside: u64,
+    values: &[EnumValueDescriptorProto],
+) -> Result<(), AllocError>
+    ensures { OnOk result (keys.new.items
+        ≡ keys.old.items ++ spec.value_keys inside (map enum_value_view values.now)) }
+{
+    'values: for value in values {
+        keys.push(text_key(inside, &value.name))?;
+    }
+    Ok(())
+}
+
+fn add_services(
+    keys: &mut Vec<u64>,
+    inside: u64,
+    services: &[ServiceDescriptorProto],
+) -> Result<(), AllocError>
+    ensures { OnOk result (keys.new.items
+        ≡ keys.old.items ++ flat_map (spec.service_keys inside) (map service_view services.now)) }
+{
+    'services: for service in services {
+        add_service(keys, inside, service)?;
+    }
+    Ok(())
+}
+
+/// The service, and its methods inside it.
+fn add_service(
+    keys: &mut Vec<u64>,
+    inside: u64,
+    service: &ServiceDescriptorProto,
+) -> Result<(), AllocError>
+    ensures { OnOk result (keys.new.items
+        ≡ keys.old.items ++ spec.service_keys inside (service_view service.now)) }
+{
+    let itself = text_key(inside, &service.name);
+    keys.push(itself)?;
+    add_methods(keys, text_key(itself, "."), &service.method)
+}
+
+fn add_methods(
+    keys: &mut Vec<u64>,
+    inside: u64,
+    methods: &[MethodDescriptorProto],
+) -> Result<(), AllocError>
+    ensures { OnOk result (keys.new.items
+        ≡ keys.old.items ++ spec.method_keys inside (map method_view methods.now)) }
+{
+    'methods: for method in methods {
+        keys.push(text_key(inside, &method.name))?;
+    }
+    Ok(())
+}
