@@ -1,9 +1,9 @@
 -- What tells the first wrong of a part tells the first of the whole.
-use Rattle.std.proofs.Common.{◌≡◌, ℕ, zero, suc, ◌<◌, List, [], ◌∷◌, ◌++◌, map, flat_map, length}
+use Rattle.std.proofs.Common.{◌≡◌, ℕ, zero, suc, ◌<◌, ◌≤◌, List, [], ◌∷◌, ◌++◌, map, flat_map, length}
 use Rattle.std.proofs.Common.{arith, ap, sym, ◌∙◌, ◌+◌, take, refl, length-append}
-use Rattle.std.proofs.Common.{append_assoc, append-nil}
+use Rattle.std.proofs.Common.{append_assoc, append-nil, Result, Err}
 use Rattle.std.proofs.lemmas.Grind.{flat_map-append}
-use Rattle.std.proofs.lemmas.List.{length-map}
+use Rattle.std.proofs.lemmas.List.{length-map, map-append, take_more}
 use Rattle.std.specs.Prelude.{slice_index_or}
 use Rattle.protobuf_parse_model.specs.declared.error.ElabErrorKind.{ElabErrorKind}
 use Rattle.protobuf_parse_model.specs.Duplicates.{fault}
@@ -14,7 +14,8 @@ use Rattle.protobuf_parse_options.specs.declared.refuse.OptionFailure.{OptionFai
 use Rattle.protobuf_parse_options.specs.declared.refuse.OptionFailure.TheVariants as failure
 use Rattle.protobuf_parse_options.specs.CustomFaults.{first_of}
 use Rattle.protobuf_parse_options.specs.OptionBytes.{bytes_unless}
-use Rattle.protobuf_parse_options.specs.Refusals.{IsFirst, Refuses}
+use Rattle.protobuf_parse_options.specs.declared.refuse.OptionError.{OptionError}
+use Rattle.protobuf_parse_options.specs.Refusals.{Gives, IsFirst, Refuses, wrong_view}
 
 pub refuses_left : (e : OptionFailure) (xs ys : List Wrong) → Refuses e xs → Refuses e (xs ++ ys)
 refuses_left failure.Memory xs ys h = tt
@@ -65,6 +66,26 @@ pub first_told : (place : Place) (ws : List Wrong) (w : Wrong) → IsFirst ws w
 first_told place [] w h = absurd h
 first_told place (x ∷ ws) w h = rw h refl
 
+-- the list of what was told, where an option's first wrong was added
+pub told_first : (olds news : List ElabError) (e : OptionError) (place : Place) (ws : List Wrong)
+    → news ≡ olds ++ record { place = place; kind = e.kind; what = e.what } ∷ []
+    → IsFirst ws (wrong_view e)
+    → map fault_view news ≡ map fault_view olds ++ placed place (first_of ws)
+told_first olds news e place ws more first =
+    ap (map fault_view) more ∙ map-append fault_view olds _
+    ∙ ap (λ fs. map fault_view olds ++ fs) (first_told place ws (wrong_view e) first)
+
+pub untold : (place : Place) (ws : List Wrong) (w : Wrong) → IsFirst ws w
+    → placed place (first_of ws) ≡ [] → ⊥
+untold place [] w h none = h
+untold place (x ∷ ws) w h none = absurd cc
+
+-- a failure that tells something tells the first
+pub gave_first : {X Y : Type 0} (view : X → Y) (r : Result X OptionFailure) (ws : List Wrong)
+    (value : Y) (e : OptionError) → Gives view r ws value → r ≡ Err (failure.Wrong e)
+    → IsFirst ws (wrong_view e)
+gave_first view r ws value e h is = rw is at h
+
 -- bytes where no fault stands
 pub unless_none : (fs : List Fault) (bytes : List ℕ) → fs ≡ [] → bytes_unless fs bytes ≡ bytes
 unless_none fs bytes e = rw e refl
@@ -85,33 +106,48 @@ length_told olds news fs told =
     sym (length-map news fault_view) ∙ ap length told ∙ length-append (map fault_view olds) fs
     ∙ ap (λ n. n + length fs) (length-map olds fault_view)
 
-pub some_more : (olds news : List ElabError) (fs : List Fault)
-    → map fault_view news ≡ map fault_view olds ++ fs → length olds < length news → 0 < length fs
-some_more olds news fs told more =
-    let n = length_told olds news fs told in omega (arith, n, more)
+pub none_more : (olds news : List ElabError) (fs : List Fault) (old new : ℕ)
+    → map fault_view news ≡ map fault_view olds ++ fs → old ≡ length olds → new ≡ length news
+    → new ≤ old → fs ≡ []
+none_more olds news [] old new told is_old is_new same = refl
+none_more olds news (f ∷ fs) old new told is_old is_new same =
+    let n = length_told olds news (f ∷ fs) told in absurd (omega (arith, n, is_old, is_new, same))
 
-pub none_more : (olds news : List ElabError) (fs : List Fault)
-    → map fault_view news ≡ map fault_view olds ++ fs → (length olds < length news → ⊥) → fs ≡ []
-none_more olds news [] told same = refl
-none_more olds news (f ∷ fs) told same =
-    let n = length_told olds news (f ∷ fs) told in absurd (same (omega (arith, n)))
+-- ---- one element more
 
--- ---- bytes of one element more, where nothing is told
+pub seen_more : {S X : Type 0} (view : S → X) (xs : List S) (i : ℕ) (s : S) → i < length xs
+    → s ≡ slice_index_or xs i s → map view (take (i + 1) xs) ≡ map view (take i xs) ++ view s ∷ []
+seen_more view xs i s lt is =
+    ap (map view) (take_more xs i s lt)
+    ∙ map-append view (take i xs) _
+    ∙ ap (λ z. map view (take i xs) ++ view z ∷ []) (sym is)
 
+flat_more : {X Y : Type 0} (f : X → List Y) (before : List X) (x : X) (after : List X)
+    → after ≡ before ++ x ∷ [] → flat_map f after ≡ flat_map f before ++ f x
+flat_more f before x after more =
+    ap (flat_map f) more ∙ flat_map-append f before (x ∷ [])
+    ∙ ap (λ ys. flat_map f before ++ ys) (append-nil (f x))
+
+pub told_more : {X : Type 0} (faults : X → List Fault) (f0 f1 f2 : List Fault)
+    (before : List X) (x : X) (after : List X) → after ≡ before ++ x ∷ []
+    → f1 ≡ f0 ++ flat_map faults before → f2 ≡ f1 ++ faults x → f2 ≡ f0 ++ flat_map faults after
+told_more faults f0 f1 f2 before x after more first next =
+    next ∙ ap (λ fs. fs ++ faults x) first
+    ∙ append_assoc f0 (flat_map faults before) (faults x)
+    ∙ ap (λ fs. f0 ++ fs) (sym (flat_more faults before x after more))
+
+-- where nothing is told of it either
 pub bytes_more : {X : Type 0} (faults : X → List Fault) (bytes : X → List ℕ) (b0 b1 b2 : List ℕ)
     (before : List X) (x : X) (after : List X) → after ≡ before ++ x ∷ []
     → (flat_map faults before ≡ [] → b1 ≡ b0 ++ flat_map bytes before)
     → (faults x ≡ [] → b2 ≡ b1 ++ bytes x)
     → flat_map faults after ≡ [] → b2 ≡ b0 ++ flat_map bytes after
 bytes_more faults bytes b0 b1 b2 before x after more first next none =
-    let split : flat_map faults before ++ faults x ≡ [] =
-    sym (ap (flat_map faults) more ∙ flat_map-append faults before (x ∷ [])
-    ∙ ap (λ fs. flat_map faults before ++ fs) (append-nil (faults x))) ∙ none in
+    let split = sym (flat_more faults before x after more) ∙ none in
     next (no_later (flat_map faults before) (faults x) split)
     ∙ ap (λ b. b ++ bytes x) (first (no_earlier (flat_map faults before) (faults x) split))
     ∙ append_assoc b0 (flat_map bytes before) (bytes x)
-    ∙ ap (λ b. b0 ++ b) (sym (ap (flat_map bytes) more ∙ flat_map-append bytes before (x ∷ [])
-    ∙ ap (λ b. flat_map bytes before ++ b) (append-nil (bytes x))))
+    ∙ ap (λ b. b0 ++ b) (sym (flat_more bytes before x after more))
   where
     no_earlier : (xs ys : List Fault) → xs ++ ys ≡ [] → xs ≡ []
     no_earlier [] ys e = refl
