@@ -3,8 +3,8 @@
 //! that a new fault does not compile before it is counted.
 
 use protobuf_parse::{
-    ElabError, ElabErrorKind, ParserError, ParserErrorWithLocation, PathError, Place, ReadInputFault,
-    ResolveFault, RunFault,
+    ElabError, ElabErrorKind, ParserError, ParserErrorWithLocation, PathError, Place,
+    ReadInputFault, ResolveFault, RunFault,
 };
 use std::alloc::{AllocError, Global};
 use std::test::Fail;
