@@ -1,6 +1,6 @@
 -- What custom options add to a file: faults beside its others, and bytes in its descriptor.
 use Rattle.std.proofs.Common.{◌≡◌, inl, inr, ℕ, List, [], ◌∷◌, flat_map, Some, None}
-use Rattle.std.proofs.Common.{Ok, Err, refl, ◌∙◌, ap, sym, subst, false}
+use Rattle.std.proofs.Common.{Ok, Err, refl, ◌∙◌, ap, subst, false}
 use Rattle.std.specs.List.{list_any}
 use Rattle.protobuf_parse_syntax.specs.Trees.{FileSyntax, OptionSyntax}
 use Rattle.protobuf_parse_model.specs.Descriptors.{Text, FileDescriptor}
@@ -19,11 +19,8 @@ use Rattle.protobuf_parse_elaboration.specs.OptionSets.{OptionSet, option_sets}
 use Rattle.protobuf_parse_elaboration.proofs.CustomSets.{faults_are_of_sets, none_is_custom}
 use Rattle.protobuf_parse_elaboration.proofs.CustomSets.{none_of_sets}
 use Rattle.protobuf_parse_elaboration.proofs.SameBytes.{bytes_are_of_sets}
-use Rattle.protobuf_parse_options.specs.CustomFaults.{custom_option_faults, option_faults_at}
+use Rattle.protobuf_parse_options.specs.CustomFaults.{custom_name_faults, custom_option_faults}
 use Rattle.protobuf_parse_options.specs.CustomFaults.{custom_statement_faults}
-use Rattle.protobuf_parse_options.proofs.Refusing.{unless_none}
-use Rattle.protobuf_parse_wire.specs.Encoded.{encoded}
-use Rattle.protobuf_parse_wire.specs.Views.{entries_of_list}
 use Rattle.protobuf_parse_options.specs.CustomOptions.{items_of_option, scope_of}
 use Rattle.protobuf_parse_options.specs.OptionFields.{OptionScope}
 use Rattle.protobuf_parse_options.specs.OptionBytes.{known_customs, option_bytes}
@@ -69,7 +66,8 @@ module _ (seen : List FileSyntax) (files visible : List FileDescriptor) (t : Fil
 
       set-faultless : custom_statement_faults at s.construct s.statements ≡ []
       set-faultless =
-          all-nothing (option_faults_at at s.construct) s.statements
+          all-nothing (λ (o : OptionSyntax). custom_name_faults at s.construct o.value o.name)
+          s.statements
           (λ o h. let b = none_is_custom t s o none m h in rw b.1 refl)
 
       set-empty : flat_map (items_of_option at s.construct) s.statements ≡ []
@@ -77,8 +75,7 @@ module _ (seen : List FileSyntax) (files visible : List FileDescriptor) (t : Fil
           (λ o h. let b = none_is_custom t s o none m h in rw b.1 refl)
 
       set-unspelled : [] ≡ option_bytes files visible s.construct s.scope s.statements
-      set-unspelled = sym (unless_none (custom_statement_faults at s.construct s.statements) _
-          set-faultless ∙ ap (λ items. encoded (entries_of_list items)) set-empty)
+      set-unspelled = rw set-empty refl
 
     pub nothing-wrong : custom_option_faults files visible t ≡ []
     nothing-wrong = all-nothing (faults_of_set known) (option_sets t) set-faultless
