@@ -12,4 +12,3 @@ pub mod FilesByPath
 pub mod FileParts
 pub mod OptionSets
 pub mod CustomSets
-pub mod Declaring

@@ -1,4 +1,3 @@
-pub mod Refusing
 mod Rows
 pub mod Writable
 pub mod Options

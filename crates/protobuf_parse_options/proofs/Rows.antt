@@ -31,17 +31,11 @@ use Rattle.protobuf_parse_wire.specs.Encoded.{varint_within, encoded}
 use Rattle.protobuf_parse_options.specs.OptionFields.{OptionScope}
 use Rattle.protobuf_parse_options.specs.CustomOptions.{denotes}
 use Rattle.protobuf_parse_options.specs.CustomFaults.{custom_statement_faults}
-use Rattle.protobuf_parse_model.specs.declared.error.ElabErrorKind.{ElabErrorKind}
-use Rattle.protobuf_parse_model.specs.Duplicates.{fault}
-use Rattle.protobuf_parse_model.specs.Faults.{Fault, placed}
 
 -- ---- trees; where their parts stand says nothing
 
 abbrev nowhere : Place
 nowhere = record { line = 1; col = 1 }
-
-abbrev told : ElabErrorKind → Text → List Fault
-told kind what = placed nowhere (fault kind what)
 
 abbrev a_field : Label → TypeSyntax → Text → ℕ → FieldStatementSyntax
 a_field label type_ name number =
@@ -153,7 +147,7 @@ least_has_no_fault = refl
 -- option (o) = 2147483648;
 too_large_is_told : custom_statement_faults here of.File
     (set (extension (codes "o") ∷ []) (integer (pos 2147483648)))
-    ≡ told error.IntegerOutOfRange (codes "o")
+    ≡ record { kind = error.IntegerOutOfRange; what = codes "o" } ∷ []
 too_large_is_told = refl
 
 -- ---- message X { option (m) = {a: [1, 2] s: "x"}; }
@@ -198,27 +192,27 @@ empty_list_denotes = refl
 
 unknown_extension_is_told : custom_statement_faults here of.File
     (set (extension (codes "nope") ∷ []) (integer (pos 1)))
-    ≡ told error.ExtensionNotFound (codes "nope")
+    ≡ record { kind = error.ExtensionNotFound; what = codes "nope" } ∷ []
 unknown_extension_is_told = refl
 
 other_message_is_told : custom_statement_faults here of.File
     (set (extension (codes "m") ∷ []) constant)
-    ≡ told error.WrongExtensionType (codes "m")
+    ≡ record { kind = error.WrongExtensionType; what = codes "m" } ∷ []
 other_message_is_told = refl
 
 no_message_is_told : custom_statement_faults here of.File
     (set (extension (codes "o") ∷ direct (codes "s") ∷ []) (integer (pos 1)))
-    ≡ told error.ExtensionIsNotMessage (codes "(o)")
+    ≡ record { kind = error.ExtensionIsNotMessage; what = codes "(o)" } ∷ []
 no_message_is_told = refl
 
 builtin_is_no_message : custom_statement_faults here of.File
     (set (direct (codes "java_package") ∷ direct (codes "s") ∷ []) (integer (pos 1)))
-    ≡ told error.ExtensionIsNotMessage (codes "java_package")
+    ≡ record { kind = error.ExtensionIsNotMessage; what = codes "java_package" } ∷ []
 builtin_is_no_message = refl
 
 unknown_field_is_told : custom_statement_faults here of.Message
     (set (extension (codes "m") ∷ direct (codes "t") ∷ []) (integer (pos 1)))
-    ≡ told error.UnknownFieldName (codes "t")
+    ≡ record { kind = error.UnknownFieldName; what = codes "t" } ∷ []
 unknown_field_is_told = refl
 
 -- ---- package p.q; enum E { A = 0; B = -1; } message Outer { extend google.protobuf.FileOptions {
@@ -267,18 +261,18 @@ value_has_no_fault : custom_statement_faults in_package of.File (outer_e (codes 
 value_has_no_fault = refl
 
 unknown_value_is_told : custom_statement_faults in_package of.File (outer_e (codes "C"))
-    ≡ told error.UnknownEnumValue (codes "C")
+    ≡ record { kind = error.UnknownEnumValue; what = codes "C" } ∷ []
 unknown_value_is_told = refl
 
 number_is_no_value : custom_statement_faults in_package of.File
     (set (extension (codes "Outer.e") ∷ []) (integer (pos 0)))
-    ≡ told error.UnsupportedExtensionType (codes "e")
+    ≡ record { kind = error.UnsupportedExtensionType; what = codes "e" } ∷ []
 number_is_no_value = refl
 
 -- an extension of a file that isn't seen
 unseen_is_not_found : custom_statement_faults
     (record { files = descriptors; visible = descriptor options_file ∷ []; scope = [] }) of.File
-    minus_one ≡ told error.ExtensionNotFound (codes "o")
+    minus_one ≡ record { kind = error.ExtensionNotFound; what = codes "o" } ∷ []
 unseen_is_not_found = refl
 
 -- ---- package google.protobuf; enum FileOptions { A = 0; } extend FileOptions { optional int32 o =
@@ -307,7 +301,7 @@ beside_an_enum =
 
 enum_is_not_extended : custom_statement_faults beside_an_enum of.File
     (set (extension (codes "o") ∷ []) (integer (pos 1)))
-    ≡ told error.WrongExtensionType (codes "o")
+    ≡ record { kind = error.WrongExtensionType; what = codes "o" } ∷ []
 enum_is_not_extended = refl
 
 -- ---- message M { optional string s = 2; map<string, int32> p = 3; extensions 100 to 199; }
@@ -391,23 +385,23 @@ with_entry_has_no_fault = refl
 -- {[nope]: 1}
 unknown_name_in_constant_is_told : custom_statement_faults with_extensions of.Message
     (set_m (more_fields (extension_name (codes "nope")) (integer (pos 1)) no_fields))
-    ≡ told error.ExtensionNotFound (codes "nope")
+    ≡ record { kind = error.ExtensionNotFound; what = codes "nope" } ∷ []
 unknown_name_in_constant_is_told = refl
 
 -- {[m] {}}
 other_message_in_constant_is_told : custom_statement_faults with_extensions of.Message
     (set_m (more_fields (extension_name (codes "m")) (fields no_fields) no_fields))
-    ≡ told error.WrongExtensionType (codes "m")
+    ≡ record { kind = error.WrongExtensionType; what = codes "m" } ∷ []
 other_message_in_constant_is_told = refl
 
 -- {[x]: "a"}
 string_is_no_number : custom_statement_faults with_extensions of.Message
     (set_m (more_fields (extension_name (codes "x")) (string (codes "a" ∷ [])) no_fields))
-    ≡ told error.UnsupportedExtensionType (codes "x")
+    ≡ record { kind = error.UnsupportedExtensionType; what = codes "x" } ∷ []
 string_is_no_number = refl
 
 -- {[example.com/M] {}}
 type_url_is_told : custom_statement_faults with_extensions of.Message
     (set_m (more_fields (url_name (codes "example.com/M")) (fields no_fields) no_fields))
-    ≡ told error.TypeUrlInConstant (codes "[example.com/M]")
+    ≡ record { kind = error.TypeUrlInConstant; what = codes "[example.com/M]" } ∷ []
 type_url_is_told = refl

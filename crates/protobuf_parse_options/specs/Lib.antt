@@ -19,4 +19,3 @@ pub mod Places
 pub mod Positions
 pub mod Holding
 pub mod CustomParts
-pub mod Refusals

@@ -1,17 +1,17 @@
 //! What the statements of a message's body declare.
 
-ghost use Rattle.std.specs.Prelude.{◌≡◌, ◌++◌, ◌<◌, ◌^◌, true, false, length, OnOk};
+ghost use Rattle.std.specs.Prelude.{◌≡◌, ◌<◌, ◌^◌, true, false, length};
 ghost use Rattle.protobuf_parse_base.specs.DeclaredNames.{name_bytes};
 ghost use Rattle.protobuf_parse_syntax.specs.Trees as tree;
 ghost use Rattle.protobuf_parse_model.specs.SeenFiles.{environment_in};
 ghost use Rattle.protobuf_parse_model.specs.Descriptors as described;
-ghost use Rattle.protobuf_parse_model.specs.Faults.{found};
+ghost use Rattle.protobuf_parse_model.specs.Faults.{Elaborates};
 ghost use Rattle.protobuf_parse_model.specs.Statements as statements;
 ghost use Rattle.protobuf_parse_elaboration.specs.Parts.{body_view};
 ghost use Rattle.protobuf_parse_elaboration.specs.Parts.{message_of_both, rest_view};
 ghost use Rattle.protobuf_parse_elaboration.specs.Parts.{with_body_statement};
 ghost use Rattle.protobuf_parse_elaboration.specs.Enums.{enum_faults};
-ghost use Rattle.protobuf_parse_elaboration.specs.Fields.{field_faults, field_statement_faults};
+ghost use Rattle.protobuf_parse_elaboration.specs.Fields.{field_statement_faults};
 ghost use Rattle.protobuf_parse_elaboration.specs.Messages.{extend_faults, has_own_oneof, oneof_faults};
 
 use crate::convert::enumeration::enum_descriptor;
@@ -21,14 +21,13 @@ use crate::convert::oneof::{has_own_oneof, oneof_descriptor, own_oneof};
 use crate::convert::place::FieldPlace;
 use crate::convert::rest::Rest;
 use crate::convert::statement::declared_field;
-use crate::convert::viewpoint::Viewpoint;
 use protobuf_parse_base::Name;
 use protobuf_parse_model::{
-    CustomOptions, DescriptorProto, ElabError, EnumDescriptorProto, FieldDescriptorProto,
-    OneofDescriptorProto,
+    Context, CustomOptions, DescriptorProto, ElabFailure, EnumDescriptorProto,
+    FieldDescriptorProto, OneofDescriptorProto,
 };
 use protobuf_parse_syntax::{Enumeration, Extend, Field, FieldStatement, OneOf};
-use std::alloc::AllocError;
+use std::alloc::Global;
 
 /// What the statements of a message's body declare, each list in source order.
 pub struct Body {
@@ -82,45 +81,45 @@ impl Body {
 
 /// Adds a field, with the oneof of its own and the message behind it, where there are any.
 pub fn add_field<C: CustomOptions>(
-    at: &Viewpoint<'_, '_, C>,
-    faults: &mut Vec<ElabError>,
+    alloc: Global,
+    context: &Context<'_>,
+    custom: &C,
     body: &mut Body,
     statement: &FieldStatement,
-) -> Result<(), AllocError>
+) -> Result<(), ElabFailure>
     requires { length body.old.oneof_decl.items < 2 ^ 31 }
-    ensures value { let env = environment_in (C.customs at.now.custom.now) at.now.context in
-        let s = tree.message_field (tree.field_statement_syntax statement.now) in
-        OnOk result (body_view body.new ≡ with_body_statement env (body_view body.old) s) }
-    ensures faults { let env = environment_in (C.customs at.now.custom.now) at.now.context in
-        OnOk result (found faults.new ≡ found faults.old ++ field_statement_faults env (tree.field_statement_syntax statement.now)) }
+    ensures { let env = environment_in (C.customs custom.now) context.now in
+        let s = tree.field_statement_syntax statement.now in
+        Elaborates (λ _. body_view body.new) result (field_statement_faults env s)
+        (with_body_statement env (body_view body.old) (tree.message_field s)) }
 {
-    if has_own_oneof(at.context.syntax, statement) {
-        add_in_own_oneof(at, faults, body, statement)
+    if has_own_oneof(context, statement) {
+        add_in_own_oneof(alloc, context, custom, body, statement)
     } else {
-        add_plain(at, faults, body, statement)
+        add_plain(alloc, context, custom, body, statement)
     }
 }
 
 /// Adds a field that is in no oneof.
 fn add_plain<C: CustomOptions>(
-    at: &Viewpoint<'_, '_, C>,
-    faults: &mut Vec<ElabError>,
+    alloc: Global,
+    context: &Context<'_>,
+    custom: &C,
     body: &mut Body,
     statement: &FieldStatement,
-) -> Result<(), AllocError>
-    requires { has_own_oneof (environment_in (C.customs at.now.custom.now) at.now.context)
+) -> Result<(), ElabFailure>
+    requires { has_own_oneof (environment_in (C.customs custom.now) context.now)
         (tree.field_statement_syntax statement.now) ≡ false }
-    ensures value { let env = environment_in (C.customs at.now.custom.now) at.now.context in
-        let s = tree.message_field (tree.field_statement_syntax statement.now) in
-        OnOk result (body_view body.new ≡ with_body_statement env (body_view body.old) s) }
-    ensures faults { let env = environment_in (C.customs at.now.custom.now) at.now.context in
-        OnOk result (found faults.new ≡ found faults.old ++ field_statement_faults env (tree.field_statement_syntax statement.now)) }
+    ensures { let env = environment_in (C.customs custom.now) context.now in
+        let s = tree.field_statement_syntax statement.now in
+        Elaborates (λ _. body_view body.new) result (field_statement_faults env s)
+        (with_body_statement env (body_view body.old) (tree.message_field s)) }
 {
     match statement {
         FieldStatement::Field(field) if !is_map(&field.type_) => {
-            add_without_message(at, faults, body, field)
+            add_without_message(alloc, context, custom, body, field)
         }
-        _ => add_with_message(at, faults, body, statement),
+        _ => add_with_message(alloc, context, custom, body, statement),
     }
 }
 
@@ -128,135 +127,138 @@ fn add_plain<C: CustomOptions>(
 #[inline(always)]
 #[tactic(auto, using(crate::proofs::Bodies::no_entries))]
 fn add_without_message<C: CustomOptions>(
-    at: &Viewpoint<'_, '_, C>,
-    faults: &mut Vec<ElabError>,
+    alloc: Global,
+    context: &Context<'_>,
+    custom: &C,
     body: &mut Body,
     field: &Field,
-) -> Result<(), AllocError>
+) -> Result<(), ElabFailure>
     requires plain { statements.is_map (tree.type_syntax field.now.type_) ≡ false }
-    requires own { has_own_oneof (environment_in (C.customs at.now.custom.now) at.now.context)
+    requires own { has_own_oneof (environment_in (C.customs custom.now) context.now)
         (tree.field (tree.field_syntax field.now)) ≡ false }
-    ensures value { let env = environment_in (C.customs at.now.custom.now) at.now.context in
-        let s = tree.message_field (tree.field (tree.field_syntax field.now)) in
-        OnOk result (body_view body.new ≡ with_body_statement env (body_view body.old) s) }
-    ensures faults { let env = environment_in (C.customs at.now.custom.now) at.now.context in
-        OnOk result (found faults.new ≡ found faults.old ++ field_faults env (tree.field_syntax field.now)) }
+    ensures { let env = environment_in (C.customs custom.now) context.now in
+        let s = tree.field (tree.field_syntax field.now) in
+        Elaborates (λ _. body_view body.new) result (field_statement_faults env s)
+        (with_body_statement env (body_view body.old) (tree.message_field s)) }
 {
     let place = FieldPlace {
         extendee: None,
         oneof_index: None,
     };
-    let descriptor = field_descriptor(at, faults, &place, field)?;
+    let descriptor = field_descriptor(alloc, context, custom, &place, field)?;
     body.field.push(descriptor)?;
     Ok(())
 }
 
 /// Adds a field that is in no oneof, and the message behind it, if one stands there.
 fn add_with_message<C: CustomOptions>(
-    at: &Viewpoint<'_, '_, C>,
-    faults: &mut Vec<ElabError>,
+    alloc: Global,
+    context: &Context<'_>,
+    custom: &C,
     body: &mut Body,
     statement: &FieldStatement,
-) -> Result<(), AllocError>
-    requires { has_own_oneof (environment_in (C.customs at.now.custom.now) at.now.context)
+) -> Result<(), ElabFailure>
+    requires { has_own_oneof (environment_in (C.customs custom.now) context.now)
         (tree.field_statement_syntax statement.now) ≡ false }
-    ensures value { let env = environment_in (C.customs at.now.custom.now) at.now.context in
-        let s = tree.message_field (tree.field_statement_syntax statement.now) in
-        OnOk result (body_view body.new ≡ with_body_statement env (body_view body.old) s) }
-    ensures faults { let env = environment_in (C.customs at.now.custom.now) at.now.context in
-        OnOk result (found faults.new ≡ found faults.old ++ field_statement_faults env (tree.field_statement_syntax statement.now)) }
+    ensures { let env = environment_in (C.customs custom.now) context.now in
+        let s = tree.field_statement_syntax statement.now in
+        Elaborates (λ _. body_view body.new) result (field_statement_faults env s)
+        (with_body_statement env (body_view body.old) (tree.message_field s)) }
 {
     let place = FieldPlace {
         extendee: None,
         oneof_index: None,
     };
-    let declared = declared_field(at, faults, &place, statement)?;
+    let declared = declared_field(alloc, context, custom, &place, statement)?;
     declared.push_to(&mut body.field, &mut body.nested_type)?;
     Ok(())
 }
 
 /// Adds a field that is alone in a oneof.
 fn add_in_own_oneof<C: CustomOptions>(
-    at: &Viewpoint<'_, '_, C>,
-    faults: &mut Vec<ElabError>,
+    alloc: Global,
+    context: &Context<'_>,
+    custom: &C,
     body: &mut Body,
     statement: &FieldStatement,
-) -> Result<(), AllocError>
+) -> Result<(), ElabFailure>
     requires few { length body.old.oneof_decl.items < 2 ^ 31 }
-    requires own { has_own_oneof (environment_in (C.customs at.now.custom.now) at.now.context)
+    requires own { has_own_oneof (environment_in (C.customs custom.now) context.now)
         (tree.field_statement_syntax statement.now) ≡ true }
-    ensures value { let env = environment_in (C.customs at.now.custom.now) at.now.context in
-        let s = tree.message_field (tree.field_statement_syntax statement.now) in
-        OnOk result (body_view body.new ≡ with_body_statement env (body_view body.old) s) }
-    ensures faults { let env = environment_in (C.customs at.now.custom.now) at.now.context in
-        OnOk result (found faults.new ≡ found faults.old ++ field_statement_faults env (tree.field_statement_syntax statement.now)) }
+    ensures { let env = environment_in (C.customs custom.now) context.now in
+        let s = tree.field_statement_syntax statement.now in
+        Elaborates (λ _. body_view body.new) result (field_statement_faults env s)
+        (with_body_statement env (body_view body.old) (tree.message_field s)) }
 {
     let place = FieldPlace {
         extendee: None,
         oneof_index: Some(body.oneof_decl.len()),
     };
-    let declared = declared_field(at, faults, &place, statement)?;
-    let own = own_oneof(at.alloc, &declared)?;
+    let declared = declared_field(alloc, context, custom, &place, statement)?;
+    let own = own_oneof(alloc, &declared)?;
     body.oneof_decl.push(own)?;
     declared.push_to(&mut body.field, &mut body.nested_type)?;
     Ok(())
 }
 
 /// Adds a oneof, its fields and the messages behind them.
+#[tactic(auto, using(protobuf_parse_model::proofs::Blaming::blames_left, protobuf_parse_model::proofs::Blaming::blames_right))]
 pub fn add_oneof<C: CustomOptions>(
-    at: &Viewpoint<'_, '_, C>,
-    faults: &mut Vec<ElabError>,
+    alloc: Global,
+    context: &Context<'_>,
+    custom: &C,
     body: &mut Body,
     oneof: &OneOf,
-) -> Result<(), AllocError>
+) -> Result<(), ElabFailure>
     requires { length body.old.oneof_decl.items < 2 ^ 31 }
-    ensures value { let env = environment_in (C.customs at.now.custom.now) at.now.context in
-        let s = tree.message_oneof (tree.oneof_syntax oneof.now) in
-        OnOk result (body_view body.new ≡ with_body_statement env (body_view body.old) s) }
-    ensures faults { let env = environment_in (C.customs at.now.custom.now) at.now.context in
-        OnOk result (found faults.new ≡ found faults.old ++ oneof_faults env (tree.oneof_syntax oneof.now)) }
+    ensures { let env = environment_in (C.customs custom.now) context.now in
+        let o = tree.oneof_syntax oneof.now in
+        Elaborates (λ _. body_view body.new) result (oneof_faults env o)
+        (with_body_statement env (body_view body.old) (tree.message_oneof o)) }
 {
     let place = FieldPlace {
         extendee: None,
         oneof_index: Some(body.oneof_decl.len()),
     };
-    let declared = fields_of_oneof(at, faults, &place, oneof)?;
-    let descriptor = oneof_descriptor(at, faults, oneof)?;
+    let declared = fields_of_oneof(alloc, context, custom, &place, oneof)?;
+    let descriptor = oneof_descriptor(alloc, context, custom, oneof)?;
     body.oneof_decl.push(descriptor)?;
-    append_declared(&mut body.field, &mut body.nested_type, declared)
+    append_declared(&mut body.field, &mut body.nested_type, declared)?;
+    Ok(())
 }
 
 /// Adds the extensions of an `extend`, and the messages behind their groups.
 pub fn add_extend<C: CustomOptions>(
-    at: &Viewpoint<'_, '_, C>,
-    faults: &mut Vec<ElabError>,
+    alloc: Global,
+    context: &Context<'_>,
+    custom: &C,
     body: &mut Body,
     extend: &Extend,
-) -> Result<(), AllocError>
-    ensures value { let env = environment_in (C.customs at.now.custom.now) at.now.context in
-        let s = tree.message_extend (tree.extend_syntax extend.now) in
-        OnOk result (body_view body.new ≡ with_body_statement env (body_view body.old) s) }
-    ensures faults { let env = environment_in (C.customs at.now.custom.now) at.now.context in
-        OnOk result (found faults.new ≡ found faults.old ++ extend_faults env (tree.extend_syntax extend.now)) }
+) -> Result<(), ElabFailure>
+    ensures { let env = environment_in (C.customs custom.now) context.now in
+        let e = tree.extend_syntax extend.now in
+        Elaborates (λ _. body_view body.new) result (extend_faults env e)
+        (with_body_statement env (body_view body.old) (tree.message_extend e)) }
 {
-    let declared = fields_of_extend(at, faults, extend.place, &extend.extendee, &extend.fields)?;
-    append_declared(&mut body.extension, &mut body.nested_type, declared)
+    let declared = fields_of_extend(alloc, context, custom, &extend.extendee, &extend.fields)?;
+    append_declared(&mut body.extension, &mut body.nested_type, declared)?;
+    Ok(())
 }
 
 /// Adds an enum.
 pub fn add_enum<C: CustomOptions>(
-    at: &Viewpoint<'_, '_, C>,
-    faults: &mut Vec<ElabError>,
+    alloc: Global,
+    context: &Context<'_>,
+    custom: &C,
     body: &mut Body,
     enumeration: &Enumeration,
-) -> Result<(), AllocError>
-    ensures value { let env = environment_in (C.customs at.now.custom.now) at.now.context in
-        let s = tree.message_enum (tree.enum_syntax enumeration.now) in
-        OnOk result (body_view body.new ≡ with_body_statement env (body_view body.old) s) }
-    ensures faults { let env = environment_in (C.customs at.now.custom.now) at.now.context in
-        OnOk result (found faults.new ≡ found faults.old ++ enum_faults env (tree.enum_syntax enumeration.now)) }
+) -> Result<(), ElabFailure>
+    ensures { let env = environment_in (C.customs custom.now) context.now in
+        let e = tree.enum_syntax enumeration.now in
+        Elaborates (λ _. body_view body.new) result (enum_faults env e)
+        (with_body_statement env (body_view body.old) (tree.message_enum e)) }
 {
-    let descriptor = enum_descriptor(at, faults, enumeration)?;
+    let descriptor = enum_descriptor(alloc, context, custom, enumeration)?;
     body.enum_type.push(descriptor)?;
     Ok(())
 }
