@@ -34,6 +34,10 @@ OWN = re.compile(
     r"(Error: (.*: |one.cases\n\nCaused by:\n +)?|one.cases can't be read: (line \d+: )?)"
     r"(memory allocation failed|[Oo]ut of memory)\n"
 )
+# What the command says where memory is short: with 2 while it reads its words, else with 1; also
+# of a file that it reads or writes. Where its output stands in memory, as in the cases, it can't
+# always say it.
+COMMAND = re.compile(r"1|[12]\n(.*\n)?[^\n]*error: [^\n]*out of memory[^\n]*", re.S)
 SHORT = re.compile(
     r"(no answer: (.*: )?)?(memory allocation failed|[Oo]ut of memory)|at 0:0: out of memory"
 )
@@ -115,6 +119,8 @@ def is_right(status, text, verb):
         return False
     wanted, found = told.groups()
     if verb == "reads" and (found == "" or wanted.startswith(found + "\n")):
+        return True
+    if verb == "command" and COMMAND.fullmatch(found):
         return True
     if verb == "customs" and is_read(found, wanted):
         return True
