@@ -42,7 +42,7 @@ pub use protobuf_parse_run::{
     ResolvedProtoFile, RunFault, RunInput, RunLog, bundled_files, custom_bytes_stand,
     files_come_once, run_inputs, runs_are_stable, seen_files_are_reached,
 };
-pub use protobuf_parse_syntax::{ParserError, ParserErrorWithLocation};
+pub use protobuf_parse_syntax::{ParserError, ParserErrorWithLocation, Place};
 pub use protobuf_parse_wire::{
     ReadFault, ReadField, ReadValue, read_custom, reader_reads_records, reader_reads_varints,
     spelled_is_read,

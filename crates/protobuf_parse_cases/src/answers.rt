@@ -3,6 +3,7 @@
 mod again;
 mod bytes;
 mod calls;
+mod checked;
 mod customs;
 mod imports;
 mod names;
@@ -65,6 +66,7 @@ fn text_answer(alloc: Global, case: &Case, given: &[u8]) -> Result<String> {
         "constant" => return texts::constant(alloc, text),
         "again" => return again::again(alloc, text),
         "imports" => return imports::imports(alloc, text),
+        "checked" => return checked::checked(alloc, text),
         "call" => return calls::called(alloc, text),
         _ => {}
     }

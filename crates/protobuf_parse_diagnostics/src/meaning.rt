@@ -5,9 +5,9 @@ mod hints;
 use crate::diagnostic::Diagnostic;
 use crate::kinds::values_of_option;
 use crate::loading::told_at;
-use crate::meaning::hints::{Known, declared_by, declared_twice, type_hint};
+use crate::meaning::hints::{Known, declared_twice, type_hint};
 use crate::outline::Outline;
-use crate::places::{fault_place, repetition};
+use crate::places::{fault_place, first_of_name};
 use crate::sources::{Sources, Trees};
 use crate::syntax::Sentence;
 use protobuf_parse_model::{ElabError, ElabErrorKind};
@@ -56,16 +56,15 @@ pub fn meaning_diagnostic(
 ) -> Result<Diagnostic, AllocError> {
     let trees = Trees::of(alloc, sources)?;
     let code = meaning_code(error.kind);
+    let place = Some(error.place);
     let Some(at) = trees.at_origin(origin) else {
-        let sentence = plain_sentence(alloc, error)?;
-        return told_at(alloc, code, origin, None, sentence);
+        return told_at(alloc, code, origin, place, plain_sentence(alloc, error)?);
     };
     let known = Known::of(alloc, &trees, at)?;
     let Some(own) = known.own() else {
-        return told_at(alloc, code, origin, None, plain_sentence(alloc, error)?);
+        return told_at(alloc, code, origin, place, plain_sentence(alloc, error)?);
     };
-    let is_declared = declared_by(&known, &error.what).is_some();
-    let place = fault_place(alloc, own, error, is_declared)?;
+    let place = fault_place(own, error);
     let sentence = meaning_sentence(alloc, &known, own, error, place)?;
     let place = match (place, error.kind) {
         (None, ElabErrorKind::TypeDeclaredTwice | ElabErrorKind::ExtensionDeclaredTwice) => {
@@ -87,7 +86,7 @@ fn meaning_sentence(
     let Sentence { message, help } = plain_sentence(alloc, error)?;
     let what = error.what.as_str();
     let found = match error.kind {
-        ElabErrorKind::DuplicateName => first_one(alloc, own, what)?,
+        ElabErrorKind::DuplicateName => first_one(alloc, own, error)?,
         ElabErrorKind::NotFoundByAbsPath
         | ElabErrorKind::NotFoundByRelPath
         | ElabErrorKind::ExtensionNotFound => known.where_declared(alloc, error.kind, what)?,
@@ -106,9 +105,13 @@ fn meaning_sentence(
 }
 
 /// Where a name that stands twice stands first.
-fn first_one(alloc: Global, own: &Outline<'_>, name: &str) -> Result<Option<String>, AllocError> {
-    match repetition(alloc, own, name)? {
-        Some((first, _)) => {
+fn first_one(
+    alloc: Global,
+    own: &Outline<'_>,
+    error: &ElabError,
+) -> Result<Option<String>, AllocError> {
+    match first_of_name(own, &error.what, error.place) {
+        Some(first) => {
             let Place { line, col } = first.place;
             let full = first.full.trim_start_matches('.');
             Ok(Some(format!(in alloc; "`{full}` stands at {line}:{col}")?))

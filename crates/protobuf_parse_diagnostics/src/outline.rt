@@ -1,13 +1,9 @@
-//! What a tree declares, names and sets, each with the place of the statement in which it stands.
+//! What a tree declares, and its ranges, each with the place of the statement in which it stands.
 
 mod walk;
 
 use crate::outline::walk::walk_file;
-use protobuf_parse_model::Construct;
-use protobuf_parse_syntax::{
-    FieldNumberRange, FileTree, Place, ProtobufOption, ProtobufOptionName, ProtobufOptionNamePart,
-    Reserved, Type,
-};
+use protobuf_parse_syntax::{FieldNumberRange, FileTree, Place, Reserved, Type};
 use std::alloc::{AllocError, Global};
 
 /// What is declared.
@@ -51,22 +47,6 @@ impl<'a> Declared<'a> {
     }
 }
 
-/// The name of a type, as a field, an `extend` or a method has it.
-#[derive(Clone, Copy)]
-pub struct NamedType<'a> {
-    pub text: &'a str,
-    pub place: Place,
-}
-
-/// An option, and of what it is.
-#[derive(Clone, Copy)]
-pub struct SetOption<'a> {
-    pub construct: Construct,
-    pub option: &'a ProtobufOption,
-    /// The place of the option statement, or of what an option in brackets is of.
-    pub of: Place,
-}
-
 /// The ranges of a statement.
 #[derive(Drop)]
 pub struct Ranges<'a> {
@@ -76,12 +56,10 @@ pub struct Ranges<'a> {
     pub place: Place,
 }
 
-/// What a tree declares, names and sets, in the order of its text.
+/// What a tree declares, and its ranges, in the order of its text.
 #[derive(Drop)]
 pub struct Outline<'a> {
     pub declared: Vec<Declared<'a>>,
-    pub named: Vec<NamedType<'a>>,
-    pub options: Vec<SetOption<'a>>,
     pub ranges: Vec<Ranges<'a>>,
     /// The number of the next body.
     pub bodies: usize,
@@ -92,8 +70,6 @@ impl<'a> Outline<'a> {
     pub fn of(alloc: Global, tree: &'a FileTree) -> Result<Self, AllocError> {
         let mut outline = Outline {
             declared: Vec::new(alloc),
-            named: Vec::new(alloc),
-            options: Vec::new(alloc),
             ranges: Vec::new(alloc),
             bodies: 0,
         };
@@ -107,34 +83,5 @@ pub fn reserved_ranges(reserved: &Reserved) -> &[FieldNumberRange] {
     match reserved {
         Reserved::Ranges(ranges) => ranges,
         Reserved::Names(_) => &[],
-    }
-}
-
-/// The name of an option as it is written, with the names of extensions in parentheses.
-pub fn option_text(alloc: Global, name: &ProtobufOptionName) -> Result<String, AllocError> {
-    match name {
-        ProtobufOptionName::Builtin(name) => String::from_str(alloc, name.as_str()),
-        ProtobufOptionName::Custom(parts) => {
-            let mut text = String::new(alloc);
-            for (i, part) in parts.iter().enumerate() {
-                if i > 0 {
-                    text.push_str(".")?;
-                }
-                push_part(&mut text, part)?;
-            }
-            Ok(text)
-        }
-    }
-}
-
-/// Adds a part of an option's name as it is written.
-pub fn push_part(text: &mut String, part: &ProtobufOptionNamePart) -> Result<(), AllocError> {
-    match part {
-        ProtobufOptionNamePart::Direct(name) => text.push_str(name.as_str()),
-        ProtobufOptionNamePart::Ext(name) => {
-            text.push_str("(")?;
-            text.push_str(name)?;
-            text.push_str(")")
-        }
     }
 }

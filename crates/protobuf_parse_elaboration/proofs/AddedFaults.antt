@@ -101,6 +101,13 @@ module _ (customs : Customs) where
         [ inl k ↦ among_left w (a.added f k) | inr k ↦ among_right v (b.added f k) ];
   }
 
+  -- a list, and faults behind it that are the same in both
+  pub adds-alone : {v p : List Fault} {xs : List OptionSet} → Adds v p xs → (faults : List Fault)
+      → Adds (v ++ faults) (p ++ faults) xs
+  adds-alone {v} {p} {xs} a faults =
+      subst (λ (sets : List OptionSet). Adds (v ++ faults) (p ++ faults) sets) (append-nil xs)
+      (adds-both a (adds-nothing faults))
+
   -- two lists of which the second's sets come first
   pub adds-turned : {v w p q : List Fault} {xs ys : List OptionSet} → Adds v p xs → Adds w q ys
       → Adds (v ++ w) (p ++ q) (ys ++ xs)

@@ -1,6 +1,6 @@
 -- A body with one statement more.
 use Rattle.std.proofs.Common.{◌≡◌, ℕ, ◌+◌, ◌≤◌, Bool, true, false, cond, List, [], ◌∷◌, ◌++◌}
-use Rattle.std.proofs.Common.{flat_map, length, length-append, map, Result, refl, sym, ◌∙◌, ap}
+use Rattle.std.proofs.Common.{flat_map, length, length-append, map, refl, sym, ◌∙◌, ap}
 use Rattle.std.proofs.Common.{arith}
 use Rattle.std.proofs.lemmas.Grind.{flat_map-append}
 use Rattle.std.proofs.lemmas.List.{append-nil, length-map}
@@ -13,9 +13,7 @@ use Rattle.protobuf_parse_syntax.specs.Trees.{named, map_of}
 use Rattle.protobuf_parse_model.specs.Descriptors.{OneofDescriptor, Text, enum_view, field_view}
 use Rattle.protobuf_parse_model.specs.Descriptors.{message_view, oneof_view, service_view}
 use Rattle.protobuf_parse_model.specs.Environment.{Environment}
-use Rattle.protobuf_parse_model.specs.Faults.{Elaborates, Fault}
 use Rattle.protobuf_parse_model.specs.Statements.{field_statement_name, is_map, oneof_fields}
-use Rattle.protobuf_parse_model.specs.declared.error.ElabFailure.{ElabFailure}
 use Rattle.protobuf_parse_elaboration.specs.Parts.{BodyParts, FieldAndMessage, FieldsAndMessages}
 use Rattle.protobuf_parse_elaboration.specs.Parts.{body_of, body_view, field_declared_by}
 use Rattle.protobuf_parse_elaboration.specs.Parts.{extensions_declared, fields_declared}
@@ -169,15 +167,6 @@ few_more env old new s n is few =
     at_most (message_enum e) = omega arith
     at_most (message_extensions e) = omega arith
     at_most (message_option o) = omega arith
-
--- a message whose statements are right
-pub whole : {X Y : Type 0} (view : X → Y) (r : Result X ElabFailure)
-    (middle statements : List Fault) (value : Y) → statements ≡ [] → Elaborates view r middle value
-    → Elaborates view r (middle ++ statements) value
-whole view r middle statements value s h = rw (s, append-nil middle) h
-
-pub nil-both : (xs ys : List Fault) → xs ≡ [] → ys ≡ [] → xs ++ (ys ++ []) ≡ []
-nil-both xs ys p q = rw (p, q) refl
 
 -- behind a field that is no map stands no message
 pub no_entries : (env : Environment) (name : Text) (t : TypeSyntax) → is_map t ≡ false

@@ -9,25 +9,19 @@ use Rattle.protobuf_parse_syntax.specs.Trees.{FileSyntax}
 use Rattle.protobuf_parse_model.specs.declared.customs.Construct.TheVariants as of
 use Rattle.protobuf_parse_model.specs.Descriptors.{Text}
 use Rattle.protobuf_parse_model.specs.Faults.{Among, here, there}
-use Rattle.protobuf_parse_model.specs.Duplicates.{duplicates}
 use Rattle.protobuf_parse_model.specs.Environment.{Environment, Customs, no_customs}
 use Rattle.protobuf_parse_model.specs.BuiltinOptions.{file_table}
 use Rattle.protobuf_parse_model.proofs.Blaming.{among_left, among_right}
-use Rattle.protobuf_parse_elaboration.specs.Messages.{message_name}
-use Rattle.protobuf_parse_elaboration.specs.FileDescriptor as files
 use Rattle.protobuf_parse_elaboration.specs.FileDescriptor.{options_of_statements, environment}
-use Rattle.protobuf_parse_elaboration.specs.FileDescriptor.{file_messages_of, services_of}
 use Rattle.protobuf_parse_elaboration.specs.FileDescriptor.{file_faults_of}
 use Rattle.protobuf_parse_elaboration.specs.FileDescriptor.{file_duplicates, file_faults}
 use Rattle.protobuf_parse_elaboration.specs.OptionSets.{OptionSet, statement_sets, option_sets}
 use Rattle.protobuf_parse_elaboration.specs.CustomSets.{faults_of_set, faults_of_sets, FaultsAreOfSets}
 use Rattle.protobuf_parse_elaboration.specs.CustomSets.{NoneIsNoneInSets}
 use Rattle.protobuf_parse_elaboration.specs.CustomSets.{is_custom, is_custom_name, sets_custom}
-use Rattle.protobuf_parse_elaboration.proofs.SameNames.{with_customs, flat-named, messages-names}
-use Rattle.protobuf_parse_elaboration.proofs.SameNames.{file-enums-names, file-extensions-names}
-use Rattle.protobuf_parse_elaboration.proofs.SameNames.{services-names}
-use Rattle.protobuf_parse_elaboration.proofs.AddedFaults.{bare, Adds, adds-none, adds-nothing, adds-both}
-use Rattle.protobuf_parse_elaboration.proofs.AddedFaults.{adds-flat, adds-options}
+use Rattle.protobuf_parse_elaboration.proofs.SameNames.{with_customs}
+use Rattle.protobuf_parse_elaboration.proofs.AddedFaults.{bare, Adds, adds-nothing, adds-both}
+use Rattle.protobuf_parse_elaboration.proofs.AddedFaults.{adds-alone, adds-flat, adds-options}
 use Rattle.protobuf_parse_elaboration.proofs.ConstructSets.{extend-adds, enum-adds, service-adds}
 use Rattle.protobuf_parse_elaboration.proofs.MessageSets as bodies
 
@@ -44,43 +38,18 @@ module _ (customs : Customs) where
   statement-adds env (file_service s) = service-adds customs env s
   statement-adds env _ = adds-nothing customs []
 
-  -- the names that stand twice in a file
-  duplicates-add : (env : Environment) (t : FileSyntax)
-      → Adds customs (file_duplicates (with_customs customs env) t) (file_duplicates (bare env) t)
-      []
-  duplicates-add env t =
-      adds-both customs
-      (adds-both customs
-      (adds-both customs
-      (adds-none customs
-      (ap duplicates
-      (flat-named message_name (file_messages_of (with_customs customs env))
-      (file_messages_of (bare env)) t.statements (messages-names customs no_customs env))))
-      (adds-none customs
-      (ap duplicates
-      (flat-named (λ e. e.name) (files.file_enums_of (with_customs customs env))
-      (files.file_enums_of (bare env)) t.statements (file-enums-names customs no_customs env)))))
-      (adds-none customs
-      (ap duplicates
-      (flat-named (λ f. f.name) (files.file_extensions_of (with_customs customs env))
-      (files.file_extensions_of (bare env)) t.statements
-      (file-extensions-names customs no_customs env)))))
-      (adds-none customs
-      (ap duplicates
-      (flat-named (λ s. s.name) (services_of (with_customs customs env))
-      (services_of (bare env)) t.statements (services-names customs no_customs env))))
-
   -- a file
   file-adds : (seen : List FileSyntax) (t : FileSyntax)
       → Adds customs (file_faults (environment seen customs t) t)
       (file_faults (environment seen no_customs t) t) (option_sets t)
   file-adds seen t =
       let env = environment seen customs t in
-      adds-both customs
-      (adds-both customs (duplicates-add env t)
-      (adds-options customs env of.File file_table (options_of_statements t.statements)))
+      adds-alone customs
+      (adds-both customs
+      (adds-options customs env of.File file_table (options_of_statements t.statements))
       (adds-flat customs (file_faults_of (with_customs customs env)) (file_faults_of (bare env))
-      (statement_sets env.scope) t.statements (statement-adds env))
+      (statement_sets env.scope) t.statements (statement-adds env)))
+      (file_duplicates t.statements)
 
 -- ---- the laws
 

@@ -3,14 +3,14 @@ use Rattle.std.proofs.Common.{◌≡◌, Bool, true, false, List, [], ◌∷◌,
 use Rattle.protobuf_parse_syntax.specs.Trees.{TypeSyntax, scalar, map_of, named, FieldSyntax}
 use Rattle.protobuf_parse_syntax.specs.Trees.{FieldStatementSyntax, field, group}
 use Rattle.protobuf_parse_model.specs.declared.error.ElabErrorKind.TheVariants.{DanglingTypeName}
-use Rattle.protobuf_parse_model.specs.Descriptors.{Text}
 use Rattle.protobuf_parse_model.specs.Duplicates.{fault_when}
 use Rattle.protobuf_parse_model.specs.Statements.{is_map, groups}
 use Rattle.protobuf_parse_model.specs.Declarations.{generated_by}
-use Rattle.protobuf_parse_model.specs.Environment.{Environment, type_missing}
+use Rattle.protobuf_parse_model.specs.Environment.{Environment}
 use Rattle.protobuf_parse_elaboration.specs.Fields.{map_faults, field_faults, extension_faults}
 use Rattle.protobuf_parse_elaboration.specs.Messages.{entries_of, messages_behind}
-use Rattle.protobuf_parse_elaboration.specs.Messages.{extension_faults_of}
+use Rattle.protobuf_parse_model.specs.Faults.{placed}
+use Rattle.protobuf_parse_elaboration.proofs.Gathering.{none_placed}
 use Rattle.protobuf_parse_elaboration.proofs.EachOne.{no-left, no-right}
 
 -- no fault, no map
@@ -36,24 +36,20 @@ stands-alone env f h = of f.type_ h
     of (named n) h = refl
 
 -- where nothing is wrong in an `extend` no map stands in it, so that its groups tell all
-pub groups-tell : {A : Type 0} (env : Environment) (extendee : Text)
-    (tell : FieldStatementSyntax → List A)
+pub groups-tell : {A : Type 0} (env : Environment) (tell : FieldStatementSyntax → List A)
     → ((f : FieldSyntax) → is_map f.type_ ≡ false → tell (field f) ≡ [])
-    → (ss : List FieldStatementSyntax) → flat_map (extension_faults_of env extendee) ss ≡ []
+    → (ss : List FieldStatementSyntax) → flat_map (extension_faults env) ss ≡ []
     → flat_map tell (flat_map groups ss) ≡ flat_map tell ss
-groups-tell env extendee tell none [] h = refl
-groups-tell env extendee tell none (field f ∷ ss) h =
-    let here = no-left (extension_faults_of env extendee (field f))
-    (flat_map (extension_faults_of env extendee) ss) h in
-    let own = no-right (type_missing env extendee) (extension_faults env (field f)) here in
-    let maps = no-left (map_faults f) (field_faults env f) own in
+groups-tell env tell none [] h = refl
+groups-tell env tell none (field f ∷ ss) h =
+    let own = no-left (extension_faults env (field f)) (flat_map (extension_faults env) ss) h in
+    let maps = none_placed f.place (map_faults f)
+    (no-left (placed f.place (map_faults f)) (field_faults env f) own) in
     rw (none f (is-no-map f maps))
-    (groups-tell env extendee tell none ss
-    (no-right (extension_faults_of env extendee (field f))
-    (flat_map (extension_faults_of env extendee) ss) h))
-groups-tell env extendee tell none (group at label name number fields ∷ ss) h =
+    (groups-tell env tell none ss
+    (no-right (extension_faults env (field f)) (flat_map (extension_faults env) ss) h))
+groups-tell env tell none (group at label name number fields ∷ ss) h =
     let s = group at label name number fields in
     ap (λ rest. tell s ++ rest)
-    (groups-tell env extendee tell none ss
-    (no-right (extension_faults_of env extendee s)
-    (flat_map (extension_faults_of env extendee) ss) h))
+    (groups-tell env tell none ss
+    (no-right (extension_faults env s) (flat_map (extension_faults env) ss) h))

@@ -2,13 +2,8 @@
 -- message.
 use Rattle.std.proofs.Common.{◌≡◌, ℕ, ◌+◌, List, [], ◌∷◌, ◌++◌, flat_map}
 use Rattle.std.proofs.Common.{length, length-append, refl, sym, ap, ◌∙◌, arith, append_assoc}
-use Rattle.std.proofs.Common.{Result, Ok, Err, subst}
 use Rattle.protobuf_parse_syntax.specs.Trees.{MessageStatementSyntax, MessageSyntax}
 use Rattle.protobuf_parse_syntax.specs.Trees.{message_statements, nested_message}
-use Rattle.protobuf_parse_model.specs.declared.descriptor.DescriptorProto.{DescriptorProto}
-use Rattle.protobuf_parse_model.specs.declared.error.ElabFailure.{ElabFailure}
-use Rattle.protobuf_parse_model.specs.Descriptors.{Text, message_view}
-use Rattle.protobuf_parse_model.specs.Faults.{Blames, Elaborates, Fault}
 use Rattle.protobuf_parse_model.specs.Statements.{message_body_is}
 use Rattle.protobuf_parse_model.specs.Environment.{Environment, env_inside}
 use Rattle.protobuf_parse_elaboration.specs.Messages.{oneofs_of, fields_of, fields_from, nested_of}
@@ -35,35 +30,9 @@ faults_in_is env (s ∷ ss) = rw (faults_in_is env ss) refl
 
 pub faults_of_message : (env : Environment) (m : MessageSyntax)
     → statement_faults env (nested_message m)
-    ≡ whole_faults env m.name m.body (flat_map (nested_of (env_inside env m.name)) m.body)
-    ++ flat_map (statement_faults (env_inside env m.name)) m.body
+    ≡ flat_map (statement_faults (env_inside env m.name)) m.body ++ whole_faults env m.name m.body
 faults_of_message env m =
-    rw (
-      message_body_is m.body,
-      nested_in_is (env_inside env m.name) m.body,
-      faults_in_is (env_inside env m.name) m.body,
-    ) refl
-
--- the message of that name and body, by its statements as a list
-abbrev pub IsOfBody : Environment → Result DescriptorProto ElabFailure → Text
-    → List MessageStatementSyntax → Type 0
-IsOfBody env r name body =
-    let nested = flat_map (nested_of (env_inside env name)) body in
-    Elaborates message_view r
-    (whole_faults env name body nested ++ flat_map (statement_faults (env_inside env name)) body)
-    (message_from env name body nested)
-
--- is what the statement that declares it becomes
-pub of_body : (env : Environment) (r : Result DescriptorProto ElabFailure) (m : MessageSyntax)
-    → IsOfBody env r m.name m.body
-    → Elaborates (λ d. message_view d ∷ []) r (statement_faults env (nested_message m))
-    (nested_of env (nested_message m))
-of_body env (Ok d) m h = (
-  faults_of_message env m ∙ h.0,
-  ap (λ x. x ∷ []) h.1 ∙ sym (nested_of_message env m),
-)
-of_body env (Err e) m h =
-    subst (λ (faults : List Fault). Blames e faults) (sym (faults_of_message env m)) h
+    rw (message_body_is m.body, faults_in_is (env_inside env m.name) m.body) refl
 
 -- ---- places among oneofs
 

@@ -1,9 +1,10 @@
+pub mod Gathering
+pub mod Told
 pub mod Naming
 pub mod Repeats
 pub mod Unlike
 pub mod Lookups
 mod Rows
-pub mod SameTypes
 pub mod Levels
 pub mod Decodings
 pub mod Settings

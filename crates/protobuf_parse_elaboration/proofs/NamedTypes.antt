@@ -22,7 +22,7 @@ use Rattle.protobuf_parse_model.specs.Descriptors.{Text, FieldDescriptor, Messag
 use Rattle.protobuf_parse_model.specs.Descriptors.{MessageDescriptor, messages_of_list}
 use Rattle.protobuf_parse_model.specs.Descriptors.{MethodDescriptor, ServiceDescriptor}
 use Rattle.protobuf_parse_model.specs.Descriptors.{FileDescriptor}
-use Rattle.protobuf_parse_model.specs.Faults.{Among, Fault}
+use Rattle.protobuf_parse_model.specs.Faults.{Among, Wrong, placed}
 use Rattle.protobuf_parse_model.specs.Duplicates.{fault_when, duplicates}
 use Rattle.protobuf_parse_model.specs.Statements.{group_body, message_body, entry_name, is_map}
 use Rattle.protobuf_parse_model.specs.Statements.{oneof_fields, groups}
@@ -41,23 +41,24 @@ use Rattle.protobuf_parse_model.specs.Descriptors.{kind_of_scalar}
 use Rattle.protobuf_parse_model.specs.Declarations.{kind_of_type}
 use Rattle.protobuf_parse_model.proofs.Blaming.{among_left, among_right}
 use Rattle.protobuf_parse_elaboration.specs.ConstructOptions.{construct_faults}
+use Rattle.protobuf_parse_elaboration.specs.Fields as specs
 use Rattle.protobuf_parse_elaboration.specs.Fields.{FieldTypeOf}
 use Rattle.protobuf_parse_elaboration.specs.Fields.{type_of_meaning, type_of, inner_type_faults}
 use Rattle.protobuf_parse_elaboration.specs.Fields.{type_faults, faults_of_options, FieldPlace, plain}
 use Rattle.protobuf_parse_elaboration.specs.Fields.{field_of, field_statement_of, field_faults}
-use Rattle.protobuf_parse_elaboration.specs.Fields.{names_of_fields, fields_of_group, map_faults}
+use Rattle.protobuf_parse_elaboration.specs.Fields.{fields_of_group, map_faults}
 use Rattle.protobuf_parse_elaboration.specs.Fields.{grouped_faults, field_statement_faults}
 use Rattle.protobuf_parse_elaboration.specs.Fields.{extension_faults}
 use Rattle.protobuf_parse_elaboration.specs.Messages as messages
 use Rattle.protobuf_parse_elaboration.specs.Messages.{message_with, entry_field, entries_of}
 use Rattle.protobuf_parse_elaboration.specs.Messages.{messages_behind, has_own_oneof, options_in_oneof}
 use Rattle.protobuf_parse_elaboration.specs.Messages.{oneofs_of, at_oneof, fields_of, fields_from}
-use Rattle.protobuf_parse_elaboration.specs.Messages.{extending, extend_fields, extension_faults_of}
+use Rattle.protobuf_parse_elaboration.specs.Messages.{extending, extend_fields, extendee_faults}
 use Rattle.protobuf_parse_elaboration.specs.Messages.{extend_faults, message_from, nested_of, nested_in}
 use Rattle.protobuf_parse_elaboration.specs.Messages.{whole_faults, oneof_faults, faults_in}
 use Rattle.protobuf_parse_elaboration.specs.Services.{methods_in, options_of_method, options_of_service}
 use Rattle.protobuf_parse_elaboration.specs.Services.{method_of, service_of, method_faults}
-use Rattle.protobuf_parse_elaboration.specs.Services.{methods_faults, service_faults}
+use Rattle.protobuf_parse_elaboration.specs.Services.{method_named, methods_faults, service_faults}
 use Rattle.protobuf_parse_elaboration.specs.FileDescriptor as files
 use Rattle.protobuf_parse_elaboration.specs.FileDescriptor.{options_of_statements, types_of_files}
 use Rattle.protobuf_parse_elaboration.specs.FileDescriptor.{environment, file_messages_of, services_of}
@@ -72,6 +73,7 @@ use Rattle.protobuf_parse_elaboration.specs.NamedTypes.{TypesAreNamed, Extendees
 use Rattle.protobuf_parse_elaboration.specs.NamedTypes.{MessagesAreNamed}
 use Rattle.protobuf_parse_elaboration.proofs.DeclaredMessages.{front, message-told, message-from}
 use Rattle.protobuf_parse_elaboration.proofs.Lookups.{meaning_declared}
+use Rattle.protobuf_parse_elaboration.proofs.Gathering.{none_placed}
 use Rattle.protobuf_parse_elaboration.proofs.Orders.{among-map}
 use Rattle.protobuf_parse_elaboration.proofs.EachOne.{no-left, no-right, all-left, all-right, all-both}
 use Rattle.protobuf_parse_elaboration.proofs.EachOne.{all-flat, all-map, all-among, all-from, none-each}
@@ -91,7 +93,7 @@ kind-named a_message = refl
 kind-named an_enum = refl
 
 -- the faults in the type of a field; the type of a group is its own
-abbrev own_faults : Environment → FieldStatementSyntax → List Fault
+abbrev own_faults : Environment → FieldStatementSyntax → List Wrong
 own_faults env (field f) = type_faults env f.name f.type_
 own_faults env (group at label name number fields) = []
 
@@ -99,14 +101,15 @@ own_faults env (group at label name number fields) = []
 own-none : (env : Environment) (s : FieldStatementSyntax) → field_statement_faults env s ≡ []
     → own_faults env s ≡ []
 own-none env (field f) h =
-    no-left (type_faults env f.name f.type_)
-    (faults_of_options env (type_of env f.name f.type_).kind f.name f.options) h
+    none_placed f.place (type_faults env f.name f.type_)
+    (no-left (placed f.place (type_faults env f.name f.type_))
+    (faults_of_options env (type_of env f.name f.type_).kind f.name f.options) h)
 own-none env (group at label name number fields) h = refl
 
 -- a field without faults in an `extend` has none in a message
 extension-none : (env : Environment) (s : FieldStatementSyntax) → extension_faults env s ≡ []
     → field_statement_faults env s ≡ []
-extension-none env (field f) h = no-right (map_faults f) (field_faults env f) h
+extension-none env (field f) h = no-right (placed f.place (map_faults f)) (field_faults env f) h
 extension-none env (group at label name number fields) h = h
 
 -- what a field extends is what its place says
@@ -270,8 +273,9 @@ module _ (P M : Text → Type 0) (any : (name : Text) → M name → P name) (cu
   grouped-named env known (field f) h =
       field-named env known plain f tt
       (no-map (is_map f.type_) f.name (full_name env.scope (entry_name f.name))
-      (no-left (map_faults f) (field_faults env f) h))
-      (own-none env (field f) (no-right (map_faults f) (field_faults env f) h))
+      (none_placed f.place (map_faults f)
+      (no-left (placed f.place (map_faults f)) (field_faults env f) h)))
+      (own-none env (field f) (no-right (placed f.place (map_faults f)) (field_faults env f) h))
   grouped-named env known (group at label name number fields) h = absurd cc
 
   -- ---- the messages behind maps and groups
@@ -339,8 +343,8 @@ module _ (P M : Text → Type 0) (any : (name : Text) → M name → P name) (cu
       entries-named env known f.name f.type_ (own-none env (field f) h)
   behind-named env known (group at label name number fields) h = (
     group-named env known name (group_body fields)
-        (no-right (duplicates (names_of_fields (fields_of_group env (group_body fields))))
-        (flat_map (grouped_faults env) (group_body fields)) h),
+        (no-left (flat_map (grouped_faults env) (group_body fields))
+        (duplicates (map specs.field_named (group_body fields))) h),
     tt,
   )
 
@@ -351,9 +355,8 @@ module _ (P M : Text → Type 0) (any : (name : Text) → M name → P name) (cu
   FieldIsClean env s = IsClean (field_statement_faults env) M (generated_by env.scope) s
 
   -- a field of an `extend`
-  abbrev ExtensionIsClean : Environment → Text → FieldStatementSyntax → Type 0
-  ExtensionIsClean env extendee s =
-      IsClean (extension_faults_of env extendee) M (generated_by env.scope) s
+  abbrev ExtensionIsClean : Environment → FieldStatementSyntax → Type 0
+  ExtensionIsClean env s = IsClean (extension_faults env) M (generated_by env.scope) s
 
   -- fields in one place
   fields-named : (env : Environment) → Known env
@@ -376,35 +379,53 @@ module _ (P M : Text → Type 0) (any : (name : Text) → M name → P name) (cu
       ss h
 
   -- a field of an `extend`
-  extension-named : (env : Environment) → Known env → (extendee : Text) (s : FieldStatementSyntax)
-      → ExtensionIsClean env extendee s
+  extension-named : (env : Environment) → Known env → (extendee : Text)
+      → type_missing env extendee ≡ [] → (s : FieldStatementSyntax) → ExtensionIsClean env s
       → ExtensionIsNamed
       (field_statement_of (with_customs env) (extending (with_customs env) extendee) s)
-  extension-named env known extendee s c =
-      let meant : type_missing env extendee
-      ≡ [] = no-left (type_missing env extendee) (extension_faults env s) c.none in
-      let rest : extension_faults env s
-      ≡ [] = no-right (type_missing env extendee) (extension_faults env s) c.none in
+  extension-named env known extendee meant s c =
       record {
         is_field = statement-named env known (extending (with_customs env) extendee) s
             (full-each (type_named env extendee) (known env.scope extendee)) c.each
-            (own-none env s (extension-none env s rest));
+            (own-none env s (extension-none env s c.none));
         extends = ap (λ (o : Option Text). is_some o)
             (extendee-is (with_customs env) (extending (with_customs env) extendee) s)
             ∙ full-stands extendee (type_named env extendee) meant;
       }
+
+  -- nothing is wrong in them
+  fields-none : (env : Environment) (e : ExtendSyntax) → extend_faults env e ≡ []
+      → flat_map (extension_faults env) e.fields ≡ []
+  fields-none env e h =
+      no-right (placed e.place (extendee_faults env e.extendee e.fields))
+      (flat_map (extension_faults env) e.fields) h
+
+  -- fields that extend the message of that name
+  fields-extend : (env : Environment) → Known env
+      → (extendee : Text) (ss : List FieldStatementSyntax) → extendee_faults env extendee ss ≡ []
+      → flat_map (extension_faults env) ss ≡ []
+      → AllByRecursion M (flat_map (generated_by env.scope) (flat_map groups ss))
+      → AllByRecursion ExtensionIsNamed
+      (map (field_statement_of (with_customs env) (extending (with_customs env) extendee)) ss)
+  fields-extend env known extendee [] meant h g = tt
+  fields-extend env known extendee (s ∷ ss) meant h g =
+      all-map ExtensionIsNamed
+      (field_statement_of (with_customs env) (extending (with_customs env) extendee))
+      (ExtensionIsClean env) (extension-named env known extendee meant) (s ∷ ss)
+      (clean-each (extension_faults env) M (generated_by env.scope) (s ∷ ss) h
+      (subst (AllByRecursion M)
+      (groups-tell env (generated_by env.scope) (generates-none env) (s ∷ ss) h) g))
 
   -- the fields of an `extend`
   extend-named : (env : Environment) → Known env → (e : ExtendSyntax) → extend_faults env e ≡ []
       → AllByRecursion M (flat_map (generated_by env.scope) (flat_map groups e.fields))
       → AllByRecursion ExtensionIsNamed (extend_fields (with_customs env) e)
   extend-named env known e h g =
-      all-map ExtensionIsNamed
-      (field_statement_of (with_customs env) (extending (with_customs env) e.extendee))
-      (ExtensionIsClean env e.extendee) (extension-named env known e.extendee) e.fields
-      (clean-each (extension_faults_of env e.extendee) M (generated_by env.scope) e.fields h
-      (subst (AllByRecursion M)
-      (groups-tell env e.extendee (generated_by env.scope) (generates-none env) e.fields h) g))
+      fields-extend env known e.extendee e.fields
+      (none_placed e.place (extendee_faults env e.extendee e.fields)
+      (no-left (placed e.place (extendee_faults env e.extendee e.fields))
+      (flat_map (extension_faults env) e.fields) h))
+      (fields-none env e h) g
 
   -- the messages behind them
   extend-behind : (env : Environment) → Known env → (e : ExtendSyntax) → extend_faults env e ≡ []
@@ -412,15 +433,13 @@ module _ (P M : Text → Type 0) (any : (name : Text) → M name → P name) (cu
       (flat_map (messages_behind (with_customs env)) (flat_map groups e.fields))
   extend-behind env known e h =
       subst (AllByRecursion MessageIsNamed)
-      (sym (groups-tell env e.extendee (messages_behind (with_customs env))
-      (stands-alone (with_customs env)) e.fields h))
+      (sym (groups-tell env (messages_behind (with_customs env))
+      (stands-alone (with_customs env)) e.fields (fields-none env e h)))
       (all-flat MessageIsNamed (messages_behind (with_customs env))
-      (λ (s : FieldStatementSyntax). extension_faults_of env e.extendee s ≡ [])
-      (λ (s : FieldStatementSyntax) (k : extension_faults_of env e.extendee s ≡ []). behind-named
-      env known s
-      (extension-none env s
-      (no-right (type_missing env e.extendee) (extension_faults env s) k)))
-      e.fields (none-each (extension_faults_of env e.extendee) e.fields h))
+      (λ (s : FieldStatementSyntax). extension_faults env s ≡ [])
+      (λ (s : FieldStatementSyntax) (k : extension_faults env s ≡ []). behind-named env known s
+      (extension-none env s k))
+      e.fields (none-each (extension_faults env) e.fields (fields-none env e h)))
 
   -- ---- the statements of a message
 
@@ -538,9 +557,8 @@ module _ (P M : Text → Type 0) (any : (name : Text) → M name → P name) (cu
         → AllByRecursion MessageIsNamed (nested_of (with_customs env) s)
     nested-of env known (message_message at name body) h g =
         let none : faults_in (env_inside env name) body
-        ≡ [] = no-right
-        (whole_faults env name (message_body body) (nested_in (env_inside env name) body))
-        (faults_in (env_inside env name) body) h in (
+        ≡ [] = no-left (faults_in (env_inside env name) body)
+        (whole_faults env name (message_body body)) h in (
           message-named env known name (message_body body)
               (nested_in (with_customs (env_inside env name)) body)
               (clean-in (env_inside env name) body none g)
@@ -572,8 +590,9 @@ module _ (P M : Text → Type 0) (any : (name : Text) → M name → P name) (cu
       → MethodIsNamed (method_of (with_customs env) m)
   method-named env known m h =
       let options = construct_faults env of.Method method_table (options_of_method m) in
-      let types : type_missing env m.input ++ type_missing env m.output
-      ≡ [] = no-left (type_missing env m.input ++ type_missing env m.output) options h in (
+      let missing = type_missing env m.input ++ type_missing env m.output in
+      let types : missing
+      ≡ [] = none_placed m.place missing (no-left (placed m.place missing) options h) in (
         full-named m.input (type_named env m.input) (known env.scope m.input)
             (no-left (type_missing env m.input) (type_missing env m.output) types),
         (
@@ -589,8 +608,8 @@ module _ (P M : Text → Type 0) (any : (name : Text) → M name → P name) (cu
   service-named env known s h =
       let methods = flat_map methods_in s.body in
       let none : flat_map (method_faults env) methods
-      ≡ [] = no-right (duplicates (map (λ (m : MethodSyntax). m.name) methods))
-      (flat_map (method_faults env) methods)
+      ≡ [] = no-left (flat_map (method_faults env) methods)
+      (duplicates (map method_named methods))
       (no-left (methods_faults env methods)
       (construct_faults env of.Service service_table (options_of_service s)) h) in
       all-flat P names_of_method MethodIsNamed (λ (m : MethodDescriptor) (k : MethodIsNamed m). k)
@@ -634,7 +653,8 @@ module _ (P M : Text → Type 0) (any : (name : Text) → M name → P name) (cu
   file-named env known path t h g =
       let options = construct_faults env of.File file_table (options_of_statements t.statements) in
       let inner = flat_map (files.file_faults_of env) t.statements in
-      let none : inner ≡ [] = no-right (file_duplicates env t ++ options) inner h in
+      let none : inner ≡ [] = no-right options inner
+      (no-left (options ++ inner) (file_duplicates t.statements) h) in
       let clean : AllByRecursion (FileStatementIsClean env) t.statements =
       clean-each (files.file_faults_of env) M
       (statement_generated env.scope) t.statements none g in

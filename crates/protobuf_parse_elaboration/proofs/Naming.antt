@@ -1,18 +1,20 @@
 -- The names of values are those of what is seen of them.
-use Rattle.std.proofs.Common.{◌≡◌, List, [], ◌∷◌, map, refl, ap, Bor}
-use Rattle.protobuf_parse_syntax.specs.Trees.{EnumValueSyntax, MethodSyntax, method_syntax}
-use Rattle.protobuf_parse_syntax.specs.Trees.{value_syntax}
-use Rattle.protobuf_parse_syntax.specs.declared.tree.declaration.Method.{Method}
-use Rattle.protobuf_parse_syntax.specs.declared.tree.declaration.EnumValue.{EnumValue}
+use Rattle.std.proofs.Common.{◌≡◌, ◌∙◌, List, [], ◌∷◌, map, refl, ap, sym}
+use Rattle.protobuf_parse_syntax.specs.Trees.{EnumValueSyntax, MethodSyntax}
+use Rattle.protobuf_parse_model.specs.declared.descriptor.EnumValueDescriptorProto.{EnumValueDescriptorProto}
+use Rattle.protobuf_parse_model.specs.declared.descriptor.MethodDescriptorProto.{MethodDescriptorProto}
+use Rattle.protobuf_parse_model.specs.Descriptors.{EnumValueDescriptor, MethodDescriptor}
+use Rattle.protobuf_parse_model.specs.Descriptors.{enum_value_view, method_view}
+use Rattle.protobuf_parse_model.specs.Environment.{Environment}
+use Rattle.protobuf_parse_elaboration.specs.Enums.{value_of}
+use Rattle.protobuf_parse_elaboration.specs.Services.{method_of}
 use Rattle.protobuf_parse_model.specs.declared.descriptor.DescriptorProto.{DescriptorProto}
 use Rattle.protobuf_parse_model.specs.declared.descriptor.EnumDescriptorProto.{EnumDescriptorProto}
 use Rattle.protobuf_parse_model.specs.declared.descriptor.FieldDescriptorProto.{FieldDescriptorProto}
 use Rattle.protobuf_parse_model.specs.declared.descriptor.OneofDescriptorProto.{OneofDescriptorProto}
 use Rattle.protobuf_parse_model.specs.declared.descriptor.ServiceDescriptorProto.{ServiceDescriptorProto}
-use Rattle.protobuf_parse_model.proofs.Blaming.{blames_left, blames_right}
 use Rattle.protobuf_parse_model.specs.Descriptors.{Text, enum_view, field_view, message_view}
 use Rattle.protobuf_parse_model.specs.Descriptors.{oneof_view, service_view}
-use Rattle.protobuf_parse_elaboration.specs.Parts.{methods_seen, values_seen}
 use Rattle.protobuf_parse_elaboration.specs.Fields.{names_of_fields}
 use Rattle.protobuf_parse_elaboration.specs.FileDescriptor.{names_of_services}
 use Rattle.protobuf_parse_elaboration.specs.Messages.{message_name, names_of_enums, names_of_messages}
@@ -47,26 +49,20 @@ pub services_named : (ss : List ServiceDescriptorProto)
     ≡ names_of_services (map service_view ss)
 services_named ss = names_seen _ service_view ss
 
-pub values_named : (vs : List (Bor EnumValue))
-    → map (λ (v : Bor EnumValue). (value_syntax v.now).name) vs
-    ≡ map (λ (v : EnumValueSyntax). v.name) (values_seen vs)
-values_named vs = names_seen (λ (v : EnumValueSyntax). v.name) (λ v. value_syntax v.now) vs
+pub values_named : (env : Environment) (vs : List EnumValueDescriptorProto)
+    (values : List EnumValueSyntax) → map enum_value_view vs ≡ map (value_of env) values
+    → map (λ (v : EnumValueDescriptorProto). (enum_value_view v).name) vs
+    ≡ map (λ (v : EnumValueSyntax). v.name) values
+values_named env vs values is =
+    names_seen (λ (v : EnumValueDescriptor). v.name) enum_value_view vs
+    ∙ ap (map (λ (v : EnumValueDescriptor). v.name)) is
+    ∙ sym (names_seen (λ (v : EnumValueDescriptor). v.name) (value_of env) values)
 
-pub methods_named : (ms : List (Bor Method))
-    → map (λ (m : Bor Method). (method_syntax m.now).name) ms
-    ≡ map (λ (m : MethodSyntax). m.name) (methods_seen ms)
-methods_named ms = names_seen (λ (m : MethodSyntax). m.name) (λ m. method_syntax m.now) ms
-
--- ---- what closes the refusals of what has a name twice
-
-pub ruleset named_in_body =
-    (blames_left, blames_right, fields_named, oneofs_named, enums_named, messages_named)
-
-pub ruleset named_in_file =
-    (blames_left, blames_right, messages_named, enums_named, fields_named, services_named)
-
-pub ruleset named_in_group = (blames_left, blames_right, fields_named)
-
-pub ruleset named_in_enum = (blames_left, blames_right, values_named)
-
-pub ruleset named_in_service = (blames_left, blames_right, methods_named)
+pub methods_named : (env : Environment) (ms : List MethodDescriptorProto)
+    (methods : List MethodSyntax) → map method_view ms ≡ map (method_of env) methods
+    → map (λ (m : MethodDescriptorProto). (method_view m).name) ms
+    ≡ map (λ (m : MethodSyntax). m.name) methods
+methods_named env ms methods is =
+    names_seen (λ (m : MethodDescriptor). m.name) method_view ms
+    ∙ ap (map (λ (m : MethodDescriptor). m.name)) is
+    ∙ sym (names_seen (λ (m : MethodDescriptor). m.name) (method_of env) methods)

@@ -19,11 +19,10 @@ use Rattle.protobuf_parse_model.specs.declared.error.ElabErrorKind.TheVariants.{
 use Rattle.protobuf_parse_model.specs.declared.error.ElabErrorKind.TheVariants.{ExtensionDeclaredTwice}
 use Rattle.protobuf_parse_model.specs.Descriptors.{Text}
 use Rattle.protobuf_parse_model.specs.Faults.{Among, here, there, Fault}
-use Rattle.protobuf_parse_model.specs.Duplicates.{fault}
 use Rattle.protobuf_parse_model.specs.Declarations.{DeclaredType, file_types, file_generated}
 use Rattle.protobuf_parse_model.specs.Lookup.{declared}
 use Rattle.protobuf_parse_model.specs.Linking.{type_names, extension_names, occurrences, repeated}
-use Rattle.protobuf_parse_model.specs.Linking.{link_faults}
+use Rattle.protobuf_parse_model.specs.Linking.{beginning, declared_twice, link_faults}
 use Rattle.protobuf_parse_model.proofs.Blaming.{among_left, among_right}
 use Rattle.protobuf_parse_elaboration.specs.FileDescriptor.{types_of_files}
 use Rattle.protobuf_parse_elaboration.specs.FilesByPath.{Trees, among, AreDistinct, AreJust, trees_at}
@@ -299,9 +298,12 @@ names-same g trees xs ys d e same n =
 
 -- ---- faults
 
+abbrev told_twice : ElabErrorKind → Text → Fault
+told_twice kind name = record { place = beginning; wrong = record { kind = kind; what = name } }
+
 -- the fault for a name that stands there
 fault-of : (kind : ElabErrorKind) (n : Text) (names : List Text) → Among names n
-    → Among (flat_map (fault kind) names) (record { kind = kind; what = n })
+    → Among (flat_map (declared_twice kind) names) (told_twice kind n)
 fault-of kind n (m ∷ names) here = here
 fault-of kind n (m ∷ names) (there h) = there (fault-of kind n names h)
 fault-of kind n [] h = absurd (nothing-in h)
@@ -309,11 +311,11 @@ fault-of kind n [] h = absurd (nothing-in h)
 -- where the names stand among others, so do their faults
 faults-among : (kind : ElabErrorKind) (names others : List Text)
     → ((n : Text) → Among names n → Among others n) → (f : Fault)
-    → Among (flat_map (fault kind) names) f → Among (flat_map (fault kind) others) f
+    → Among (flat_map (declared_twice kind) names) f → Among (flat_map (declared_twice kind) others) f
 faults-among kind [] others into f h = absurd (nothing-in h)
 faults-among kind (n ∷ names) others into f h =
     elim (first_or h) [
-      | inl same ↦ subst (λ (z : Fault). Among (flat_map (fault kind) others) z) same
+      | inl same ↦ subst (λ (z : Fault). Among (flat_map (declared_twice kind) others) z) same
           (fault-of kind n others (into n here))
       | inr w ↦ faults-among kind names others (λ m k. into m (there k)) f w
     ]
@@ -321,8 +323,8 @@ faults-among kind (n ∷ names) others into f h =
 -- a fault for a repeated name is one of the same files in another order
 repeats-told : (kind : ElabErrorKind) (g : FileSyntax → List Text) (trees : Trees)
     (xs ys : List Text) (f : Fault) → AreDistinct xs → AreDistinct ys → SameMembers xs ys
-    → Among (flat_map (fault kind) (repeated (flat_map g (trees_at trees xs)))) f
-    → Among (flat_map (fault kind) (repeated (flat_map g (trees_at trees ys)))) f
+    → Among (flat_map (declared_twice kind) (repeated (flat_map g (trees_at trees xs)))) f
+    → Among (flat_map (declared_twice kind) (repeated (flat_map g (trees_at trees ys)))) f
 repeats-told kind g trees xs ys f d e same h =
     let names = flat_map g (trees_at trees xs) in
     let others = flat_map g (trees_at trees ys) in
@@ -334,17 +336,17 @@ pub link-told : (trees : Trees) (xs ys : List Text) (f : Fault) → AreDistinct 
     → SameMembers xs ys → Among (link_faults (trees_at trees xs)) f
     → Among (link_faults (trees_at trees ys)) f
 link-told trees xs ys f d e same h =
-    let types = flat_map (fault TypeDeclaredTwice)
+    let types = flat_map (declared_twice TypeDeclaredTwice)
     (repeated (flat_map type_names (trees_at trees xs))) in
-    let extensions = flat_map (fault ExtensionDeclaredTwice)
+    let extensions = flat_map (declared_twice ExtensionDeclaredTwice)
     (repeated (flat_map extension_names (trees_at trees xs))) in
     elim (among-cases types extensions h) [
       | inl w ↦ among_left
-          (flat_map (fault ExtensionDeclaredTwice)
+          (flat_map (declared_twice ExtensionDeclaredTwice)
           (repeated (flat_map extension_names (trees_at trees ys)))) (repeats-told TypeDeclaredTwice
           type_names trees xs ys f d e same w)
       | inr w ↦ among_right
-          (flat_map (fault TypeDeclaredTwice) (repeated (flat_map type_names (trees_at trees ys))))
+          (flat_map (declared_twice TypeDeclaredTwice) (repeated (flat_map type_names (trees_at trees ys))))
           (repeats-told ExtensionDeclaredTwice extension_names trees xs ys f d e same w)
     ]
 
@@ -489,13 +491,13 @@ pub type-once : (trees : Trees) (reached : List Text) (n : Text)
 type-once trees reached n none twice =
     let names = flat_map type_names (trees_at trees reached) in
     let told : Among (link_faults (trees_at trees reached))
-    (record { kind = TypeDeclaredTwice; what = n }) =
+    (told_twice TypeDeclaredTwice n) =
     among_left
-    (flat_map (fault ExtensionDeclaredTwice)
+    (flat_map (declared_twice ExtensionDeclaredTwice)
     (repeated (flat_map extension_names (trees_at trees reached)))) (fault-of TypeDeclaredTwice
     n (repeated names) (repeated-from names n twice)) in
     nothing-in
-    (subst (λ (fs : List Fault). Among fs (record { kind = TypeDeclaredTwice; what = n })) none
+    (subst (λ (fs : List Fault). Among fs (told_twice TypeDeclaredTwice n)) none
     told)
 
 -- and each extension's name once
@@ -505,13 +507,13 @@ pub extension-once : (trees : Trees) (reached : List Text) (n : Text)
 extension-once trees reached n none twice =
     let names = flat_map extension_names (trees_at trees reached) in
     let told : Among (link_faults (trees_at trees reached))
-    (record { kind = ExtensionDeclaredTwice; what = n }) =
+    (told_twice ExtensionDeclaredTwice n) =
     among_right
-    (flat_map (fault TypeDeclaredTwice)
+    (flat_map (declared_twice TypeDeclaredTwice)
     (repeated (flat_map type_names (trees_at trees reached)))) (fault-of ExtensionDeclaredTwice
     n (repeated names) (repeated-from names n twice)) in
     nothing-in
-    (subst (λ (fs : List Fault). Among fs (record { kind = ExtensionDeclaredTwice; what = n }))
+    (subst (λ (fs : List Fault). Among fs (told_twice ExtensionDeclaredTwice n))
     none told)
 
 -- so that two of its paths that have the name are one

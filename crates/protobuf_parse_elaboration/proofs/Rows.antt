@@ -1,6 +1,6 @@
 -- Small files and what they become, worked out by the definitions.
 use Rattle.std.proofs.Common.{◌≡◌, ℕ, pos, List, [], ◌∷◌, map, codes, Option, Some, None, true}
-use Rattle.std.proofs.Common.{false, refl, flat_map}
+use Rattle.std.proofs.Common.{◌++◌, false, refl, flat_map}
 use lib.Utf8
 use Rattle.std.specs.Fmt.{digits}
 use Rattle.std.specs.Str.{chars, is_utf8}
@@ -40,11 +40,17 @@ use Rattle.protobuf_parse_elaboration.specs.Enums.{enum_of}
 use Rattle.protobuf_parse_elaboration.specs.Messages as messages
 use Rattle.protobuf_parse_elaboration.specs.FileDescriptor.{environment, file_of, file_faults}
 use Rattle.protobuf_parse_elaboration.specs.NamedTypes.{type_names_in}
+use Rattle.protobuf_parse_model.specs.declared.error.ElabErrorKind.{ElabErrorKind}
+use Rattle.protobuf_parse_model.specs.Duplicates.{fault}
+use Rattle.protobuf_parse_model.specs.Faults.{Fault, placed}
 
 -- ---- trees; where their parts stand says nothing
 
 abbrev nowhere : Place
 nowhere = record { line = 1; col = 1 }
+
+abbrev told : ElabErrorKind → Text → List Fault
+told kind what = placed nowhere (fault kind what)
 
 abbrev a_field : Option Label → TypeSyntax → Text → ℕ → List OptionSyntax → FieldSyntax
 a_field label type_ name number options =
@@ -113,8 +119,7 @@ unknown =
     ∷ [])
 
 unknown_names_are_told : file_faults (alone unknown) unknown
-    ≡ record { kind = error.NotFoundByAbsPath; what = codes ".D" }
-    ∷ record { kind = error.NotFoundByRelPath; what = codes "D.B" } ∷ []
+    ≡ told error.NotFoundByAbsPath (codes ".D") ++ told error.NotFoundByRelPath (codes "D.B")
 unknown_names_are_told = refl
 
 -- ---- proto3: message M { map<string, int32> foo_bar = 1; }
@@ -213,7 +218,7 @@ group_named =
     (message_field (field (a_field (Some Optional) (named (codes "Item")) (codes "y") 3 [])) ∷ [])
 
 no_name_means_a_group : file_faults (alone group_named) group_named
-    ≡ record { kind = error.NotFoundByRelPath; what = codes "Item" } ∷ []
+    ≡ told error.NotFoundByRelPath (codes "Item")
 no_name_means_a_group = refl
 
 -- ---- extensions 100 to max; reserved 5 to 3; extensions 2147483647
@@ -243,7 +248,7 @@ too_far =
     ∷ []) ∷ [])
 
 range_has_no_end : file_faults (alone too_far) too_far
-    ≡ record { kind = error.RangeEndOverflow; what = codes "M" } ∷ []
+    ≡ told error.RangeEndOverflow (codes "M")
 range_has_no_end = refl
 
 abbrev an_enum : EnumSyntax
@@ -281,13 +286,13 @@ bytes_are_escaped = refl
 -- string s = 1 [default = "\400"] stands for nothing, and [default = 1] is no string
 string_says_nothing : field_faults (alone with_map)
     (with_option (scalar word.String) (set (codes "default") (string (codes "\\400" ∷ []))))
-    ≡ record { kind = error.StrLitDecode; what = codes "default" } ∷ []
+    ≡ told error.StrLitDecode (codes "default")
 unfolding decode_piece front_part byte_part digits_end chars
 string_says_nothing = refl
 
 number_is_no_string : field_faults (alone with_map)
     (with_option (scalar word.String) (set (codes "default") (integer (pos 1))))
-    ≡ record { kind = error.DefaultValueIsNotStringLiteral; what = codes "foo__bar_1" } ∷ []
+    ≡ told error.DefaultValueIsNotStringLiteral (codes "foo__bar_1")
 number_is_no_string = refl
 
 -- double d = 1 [default = 10]
@@ -321,7 +326,7 @@ unknown_option =
     ∷ [])
 
 option_is_unknown : file_faults (alone unknown_option) unknown_option
-    ≡ record { kind = error.BuiltinOptionNotFound; what = codes "foo" } ∷ []
+    ≡ told error.BuiltinOptionNotFound (codes "foo")
 option_is_unknown = refl
 
 -- ---- package p.q; import "a"; import public "b"; import weak "c"; import public "d";
@@ -422,7 +427,7 @@ groups_are_named = refl
 
 -- the same file twice among those that are reached
 declared_twice : link_faults (scopes ∷ with_group [] ∷ with_group [] ∷ [])
-    ≡ map (λ (name : Text). record { kind = error.TypeDeclaredTwice; what = name })
+    ≡ flat_map (told error.TypeDeclaredTwice)
     (codes ".M" ∷ codes ".M.Item" ∷ codes ".M" ∷ codes ".M.Item" ∷ [])
 declared_twice = refl
 
@@ -434,5 +439,5 @@ named_twice =
     ∷ message_field (int_field (Some Optional) (codes "a") 2) ∷ []) ∷ [])
 
 name_stands_twice : file_faults (alone named_twice) named_twice
-    ≡ record { kind = error.DuplicateName; what = codes "a" } ∷ []
+    ≡ told error.DuplicateName (codes "a")
 name_stands_twice = refl

@@ -1,27 +1,29 @@
--- The names in a descriptor say nothing of custom options.
-use Rattle.std.proofs.Common.{◌≡◌, ℕ, ◌+◌, List, [], ◌∷◌, ◌++◌, map, flat_map, length}
-use Rattle.std.proofs.Common.{if◌then◌else◌, refl}
+-- The names in a descriptor are those of what the statements declare.
+use Rattle.std.proofs.Common.{◌≡◌, ℕ, ◌+◌, Bool, true, false, cond, List, [], ◌∷◌, ◌++◌, map}
+use Rattle.std.proofs.Common.{flat_map, length, if◌then◌else◌, refl}
 use Rattle.std.proofs.lemmas.List.{map-append}
+use Rattle.protobuf_parse_lexer.specs.declared.lexer.token.Place.{Place}
 use Rattle.protobuf_parse_syntax.specs.Trees.{FieldStatementSyntax, field, group, TypeSyntax}
 use Rattle.protobuf_parse_syntax.specs.Trees.{scalar, map_of, named, MessageStatementSyntax}
 use Rattle.protobuf_parse_syntax.specs.Trees.{message_oneof, message_extend, message_message}
-use Rattle.protobuf_parse_syntax.specs.Trees.{message_enum, message_field, MessageStatementList}
-use Rattle.protobuf_parse_syntax.specs.Trees.{no_statements, more_statements, StatementSyntax}
+use Rattle.protobuf_parse_syntax.specs.Trees.{message_enum, message_field, StatementSyntax}
 use Rattle.protobuf_parse_syntax.specs.Trees.{file_message, file_enum, file_extend, file_service}
-use Rattle.protobuf_parse_model.specs.Descriptors.{Text}
+use Rattle.protobuf_parse_model.specs.Descriptors.{Text, OneofDescriptor}
+use Rattle.protobuf_parse_model.specs.Duplicates.{NamedAt}
 use Rattle.protobuf_parse_model.specs.Statements.{oneof_fields, groups}
 use Rattle.protobuf_parse_model.specs.Environment.{Environment, Customs}
-use Rattle.protobuf_parse_elaboration.specs.Fields.{FieldPlace, plain, field_statement_of}
+use Rattle.protobuf_parse_elaboration.specs.Fields.{FieldPlace, plain, field_statement_of, field_named}
 use Rattle.protobuf_parse_elaboration.specs.Fields.{names_of_fields}
 use Rattle.protobuf_parse_elaboration.specs.Messages as messages
 use Rattle.protobuf_parse_elaboration.specs.Messages.{entries_of, messages_behind, has_own_oneof}
 use Rattle.protobuf_parse_elaboration.specs.Messages.{oneofs_of, at_oneof, fields_of, fields_from}
 use Rattle.protobuf_parse_elaboration.specs.Messages.{extending, message_name, names_of_messages}
 use Rattle.protobuf_parse_elaboration.specs.Messages.{names_of_oneofs, names_of_enums, nested_of}
-use Rattle.protobuf_parse_elaboration.specs.Messages.{nested_in}
+use Rattle.protobuf_parse_elaboration.specs.Messages.{own_oneof, own_oneof_named, entries_named}
 use Rattle.protobuf_parse_elaboration.specs.FileDescriptor as files
 use Rattle.protobuf_parse_elaboration.specs.FileDescriptor.{file_messages_of, services_of}
 use Rattle.protobuf_parse_elaboration.specs.FileDescriptor.{names_of_services}
+use Rattle.protobuf_parse_elaboration.proofs.Told.{names_of}
 
 -- the environment, with these custom options
 abbrev pub with_customs : Customs → Environment → Environment
@@ -30,158 +32,187 @@ with_customs customs env = record env { customs = customs }
 -- ---- lists
 
 -- the names of two lists together
-both-named : {A : Type 0} (name : A → Text) (xs ys vs ws : List A) → map name xs ≡ map name vs
-    → map name ys ≡ map name ws → map name (xs ++ ys) ≡ map name (vs ++ ws)
-both-named name xs ys vs ws h k = rw (map-append name xs ys, map-append name vs ws, h, k) refl
+both-named : {A : Type 0} (name : A → Text) (xs ys : List A) (vs ws : List NamedAt)
+    → map name xs ≡ names_of vs → map name ys ≡ names_of ws
+    → map name (xs ++ ys) ≡ names_of (vs ++ ws)
+both-named name xs ys vs ws h k =
+    rw (map-append name xs ys, map-append (λ (d : NamedAt). d.name) vs ws, h, k) refl
 
 -- the names of all that each element becomes
-pub flat-named : {X A : Type 0} (name : A → Text) (f g : X → List A) (xs : List X)
-    → ((x : X) → map name (f x) ≡ map name (g x))
-    → map name (flat_map f xs) ≡ map name (flat_map g xs)
-flat-named name f g [] each = refl
-flat-named name f g (x ∷ xs) each =
+flat-named : {X A : Type 0} (name : A → Text) (f : X → List A) (g : X → List NamedAt)
+    → ((x : X) → map name (f x) ≡ names_of (g x)) → (xs : List X)
+    → map name (flat_map f xs) ≡ names_of (flat_map g xs)
+flat-named name f g each [] = refl
+flat-named name f g each (x ∷ xs) =
     both-named name (f x) (flat_map f xs) (g x) (flat_map g xs) (each x)
-    (flat-named name f g xs each)
+    (flat-named name f g each xs)
 
-module _ (one other : Customs) where
+module _ (env : Environment) where
   -- ---- fields
 
   -- a field, wherever it stands
-  field-name : (env : Environment) (p q : FieldPlace) (s : FieldStatementSyntax)
-      → (field_statement_of (with_customs one env) p s).name
-      ≡ (field_statement_of (with_customs other env) q s).name
-  field-name env p q (field f) = refl
-  field-name env p q (group at label name number fields) = refl
+  field-name : (p : FieldPlace) (s : FieldStatementSyntax)
+      → (field_statement_of env p s).name ≡ (field_named s).name
+  field-name p (field f) = refl
+  field-name p (group at label name number fields) = refl
 
   -- several
-  pub fields-names : (env : Environment) (p q : FieldPlace) (ss : List FieldStatementSyntax)
-      → names_of_fields (map (field_statement_of (with_customs one env) p) ss)
-      ≡ names_of_fields (map (field_statement_of (with_customs other env) q) ss)
-  fields-names env p q [] = refl
-  fields-names env p q (s ∷ ss) = rw (field-name env p q s, fields-names env p q ss) refl
+  pub fields-names : (p : FieldPlace) (ss : List FieldStatementSyntax)
+      → names_of_fields (map (field_statement_of env p) ss) ≡ names_of (map field_named ss)
+  fields-names p [] = refl
+  fields-names p (s ∷ ss) = rw (field-name p s, fields-names p ss) refl
 
   -- those of a statement
-  fields-of-names : (env : Environment) (i j : ℕ) (s : MessageStatementSyntax)
-      → names_of_fields (fields_of (with_customs one env) i s)
-      ≡ names_of_fields (fields_of (with_customs other env) j s)
-  fields-of-names env i j (message_field f) =
-      rw (field-name env (if has_own_oneof env f then at_oneof i else plain)
-      (if has_own_oneof env f then at_oneof j else plain) f) refl
-  fields-of-names env i j (message_oneof o) =
-      fields-names env (at_oneof i) (at_oneof j) (flat_map oneof_fields o.body)
-  fields-of-names env i j _ = refl
+  fields-of-names : (i : ℕ) (s : MessageStatementSyntax)
+      → names_of_fields (fields_of env i s) ≡ names_of (messages.fields_named s)
+  fields-of-names i (message_field f) =
+      rw (field-name (if has_own_oneof env f then at_oneof i else plain) f) refl
+  fields-of-names i (message_oneof o) = fields-names (at_oneof i) (flat_map oneof_fields o.body)
+  fields-of-names i _ = refl
 
   -- those of a body
-  pub fields-from-names : (env : Environment) (i j : ℕ) (ss : List MessageStatementSyntax)
-      → names_of_fields (fields_from (with_customs one env) i ss)
-      ≡ names_of_fields (fields_from (with_customs other env) j ss)
-  fields-from-names env i j [] = refl
-  fields-from-names env i j (s ∷ ss) =
-      let k = i + length (oneofs_of (with_customs one env) s) in
-      let l = j + length (oneofs_of (with_customs other env) s) in
-      both-named (λ f. f.name) (fields_of (with_customs one env) i s)
-      (fields_from (with_customs one env) k ss) (fields_of (with_customs other env) j s)
-      (fields_from (with_customs other env) l ss) (fields-of-names env i j s)
-      (fields-from-names env k l ss)
+  pub fields-from-names : (i : ℕ) (ss : List MessageStatementSyntax)
+      → names_of_fields (fields_from env i ss) ≡ names_of (flat_map messages.fields_named ss)
+  fields-from-names i [] = refl
+  fields-from-names i (s ∷ ss) =
+      let j = i + length (oneofs_of env s) in
+      both-named (λ f. f.name) (fields_of env i s) (fields_from env j ss)
+      (messages.fields_named s) (flat_map messages.fields_named ss) (fields-of-names i s)
+      (fields-from-names j ss)
 
   -- ---- what else stands in a body
 
+  -- the oneof that a field may be alone in
+  own-name : (s : FieldStatementSyntax) (b : Bool)
+      → names_of_oneofs (cond b (own_oneof s ∷ []) []) ≡ names_of (cond b (own_oneof_named s ∷ []) [])
+  own-name s true = refl
+  own-name s false = refl
+
   -- the oneofs of a statement
-  pub oneofs-names : (env : Environment) (s : MessageStatementSyntax)
-      → names_of_oneofs (oneofs_of (with_customs one env) s)
-      ≡ names_of_oneofs (oneofs_of (with_customs other env) s)
-  oneofs-names env (message_oneof o) = refl
-  oneofs-names env (message_field f) = refl
-  oneofs-names env _ = refl
+  oneof-names : (s : MessageStatementSyntax)
+      → names_of_oneofs (oneofs_of env s) ≡ names_of (messages.oneofs_named env.syntax s)
+  oneof-names (message_oneof o) = refl
+  oneof-names (message_field f) = own-name f (has_own_oneof env f)
+  oneof-names _ = refl
+
+  pub oneofs-names : (ss : List MessageStatementSyntax)
+      → names_of_oneofs (flat_map (oneofs_of env) ss)
+      ≡ names_of (flat_map (messages.oneofs_named env.syntax) ss)
+  oneofs-names ss =
+      flat-named (λ (o : OneofDescriptor). o.name) (oneofs_of env)
+      (messages.oneofs_named env.syntax) oneof-names ss
 
   -- its extensions
-  pub extensions-names : (env : Environment) (s : MessageStatementSyntax)
-      → names_of_fields (messages.extended_of (with_customs one env) s)
-      ≡ names_of_fields (messages.extended_of (with_customs other env) s)
-  extensions-names env (message_extend e) =
-      fields-names env (extending env e.extendee) (extending env e.extendee) e.fields
-  extensions-names env _ = refl
+  extension-names : (s : MessageStatementSyntax)
+      → names_of_fields (messages.extended_of env s) ≡ names_of (messages.extensions_named s)
+  extension-names (message_extend e) = fields-names (extending env e.extendee) e.fields
+  extension-names _ = refl
+
+  pub extensions-names : (ss : List MessageStatementSyntax)
+      → names_of_fields (flat_map (messages.extended_of env) ss)
+      ≡ names_of (flat_map messages.extensions_named ss)
+  extensions-names ss =
+      flat-named (λ f. f.name) (messages.extended_of env) messages.extensions_named
+      extension-names ss
 
   -- its enums
-  pub enums-names : (env : Environment) (s : MessageStatementSyntax)
-      → names_of_enums (messages.enums_of (with_customs one env) s)
-      ≡ names_of_enums (messages.enums_of (with_customs other env) s)
-  enums-names env (message_enum e) = refl
-  enums-names env _ = refl
+  enum-names : (s : MessageStatementSyntax)
+      → names_of_enums (messages.enums_of env s) ≡ names_of (messages.enums_named s)
+  enum-names (message_enum e) = refl
+  enum-names _ = refl
+
+  pub enums-names : (ss : List MessageStatementSyntax)
+      → names_of_enums (flat_map (messages.enums_of env) ss)
+      ≡ names_of (flat_map messages.enums_named ss)
+  enums-names ss =
+      flat-named (λ e. e.name) (messages.enums_of env) messages.enums_named enum-names ss
 
   -- ---- messages
 
   -- the message behind a map
-  entries-names : (env : Environment) (name : Text) (t : TypeSyntax)
-      → names_of_messages (entries_of (with_customs one env) name t)
-      ≡ names_of_messages (entries_of (with_customs other env) name t)
-  entries-names env name (map_of key value) = refl
-  entries-names env name (scalar s) = refl
-  entries-names env name (named n) = refl
+  entries-names : (place : Place) (name : Text) (t : TypeSyntax)
+      → names_of_messages (entries_of env name t) ≡ names_of (entries_named place name t)
+  entries-names place name (map_of key value) = refl
+  entries-names place name (scalar s) = refl
+  entries-names place name (named n) = refl
 
   -- the message behind a field
-  behind-names : (env : Environment) (s : FieldStatementSyntax)
-      → names_of_messages (messages_behind (with_customs one env) s)
-      ≡ names_of_messages (messages_behind (with_customs other env) s)
-  behind-names env (field f) = entries-names env f.name f.type_
-  behind-names env (group at label name number fields) = refl
+  behind-names : (s : FieldStatementSyntax)
+      → names_of_messages (messages_behind env s) ≡ names_of (messages.behind_named s)
+  behind-names (field f) = entries-names f.place f.name f.type_
+  behind-names (group at label name number fields) = refl
 
   -- the messages behind several
-  behinds-names : (env : Environment) (ss : List FieldStatementSyntax)
-      → names_of_messages (flat_map (messages_behind (with_customs one env)) ss)
-      ≡ names_of_messages (flat_map (messages_behind (with_customs other env)) ss)
-  behinds-names env ss =
-      flat-named message_name (messages_behind (with_customs one env))
-      (messages_behind (with_customs other env)) ss (behind-names env)
+  behinds-names : (ss : List FieldStatementSyntax)
+      → names_of_messages (flat_map (messages_behind env) ss)
+      ≡ names_of (flat_map messages.behind_named ss)
+  behinds-names ss =
+      flat-named message_name (messages_behind env) messages.behind_named behind-names ss
 
   -- those of a statement; the messages inside one say nothing of its name
-  pub nested-names : (env : Environment) (s : MessageStatementSyntax)
-      → names_of_messages (nested_of (with_customs one env) s)
-      ≡ names_of_messages (nested_of (with_customs other env) s)
-  nested-names env (message_message at name body) = refl
-  nested-names env (message_field f) = behind-names env f
-  nested-names env (message_oneof o) = behinds-names env (flat_map oneof_fields o.body)
-  nested-names env (message_extend e) = behinds-names env (flat_map groups e.fields)
-  nested-names env _ = refl
+  nested-names : (s : MessageStatementSyntax)
+      → names_of_messages (nested_of env s) ≡ names_of (messages.messages_named s)
+  nested-names (message_message at name body) = refl
+  nested-names (message_field f) = behind-names f
+  nested-names (message_oneof o) = behinds-names (flat_map oneof_fields o.body)
+  nested-names (message_extend e) = behinds-names (flat_map groups e.fields)
+  nested-names _ = refl
 
-  -- those of a body
-  pub nested-in-names : (env : Environment) (ss : MessageStatementList)
-      → names_of_messages (nested_in (with_customs one env) ss)
-      ≡ names_of_messages (nested_in (with_customs other env) ss)
-  nested-in-names env no_statements = refl
-  nested-in-names env (more_statements s ss) =
-      both-named message_name (nested_of (with_customs one env) s)
-      (nested_in (with_customs one env) ss) (nested_of (with_customs other env) s)
-      (nested_in (with_customs other env) ss) (nested-names env s) (nested-in-names env ss)
+  pub messages-names : (ss : List MessageStatementSyntax)
+      → names_of_messages (flat_map (nested_of env) ss)
+      ≡ names_of (flat_map messages.messages_named ss)
+  messages-names ss =
+      flat-named message_name (nested_of env) messages.messages_named nested-names ss
 
   -- ---- files
 
   -- the messages of a statement
-  pub messages-names : (env : Environment) (s : StatementSyntax)
-      → names_of_messages (file_messages_of (with_customs one env) s)
-      ≡ names_of_messages (file_messages_of (with_customs other env) s)
-  messages-names env (file_message m) = refl
-  messages-names env (file_extend e) = behinds-names env (flat_map groups e.fields)
-  messages-names env _ = refl
+  file-message-names : (s : StatementSyntax)
+      → names_of_messages (file_messages_of env s) ≡ names_of (files.file_messages_named s)
+  file-message-names (file_message m) = refl
+  file-message-names (file_extend e) = behinds-names (flat_map groups e.fields)
+  file-message-names _ = refl
+
+  pub file-messages-names : (ss : List StatementSyntax)
+      → names_of_messages (flat_map (file_messages_of env) ss)
+      ≡ names_of (flat_map files.file_messages_named ss)
+  file-messages-names ss =
+      flat-named message_name (file_messages_of env) files.file_messages_named
+      file-message-names ss
 
   -- its enums
-  pub file-enums-names : (env : Environment) (s : StatementSyntax)
-      → names_of_enums (files.file_enums_of (with_customs one env) s)
-      ≡ names_of_enums (files.file_enums_of (with_customs other env) s)
-  file-enums-names env (file_enum e) = refl
-  file-enums-names env _ = refl
+  file-enum-names : (s : StatementSyntax)
+      → names_of_enums (files.file_enums_of env s) ≡ names_of (files.file_enums_named s)
+  file-enum-names (file_enum e) = refl
+  file-enum-names _ = refl
+
+  pub file-enums-names : (ss : List StatementSyntax)
+      → names_of_enums (flat_map (files.file_enums_of env) ss)
+      ≡ names_of (flat_map files.file_enums_named ss)
+  file-enums-names ss =
+      flat-named (λ e. e.name) (files.file_enums_of env) files.file_enums_named file-enum-names ss
 
   -- its extensions
-  pub file-extensions-names : (env : Environment) (s : StatementSyntax)
-      → names_of_fields (files.file_extensions_of (with_customs one env) s)
-      ≡ names_of_fields (files.file_extensions_of (with_customs other env) s)
-  file-extensions-names env (file_extend e) =
-      fields-names env (extending env e.extendee) (extending env e.extendee) e.fields
-  file-extensions-names env _ = refl
+  file-extension-names : (s : StatementSyntax)
+      → names_of_fields (files.file_extensions_of env s) ≡ names_of (files.file_extensions_named s)
+  file-extension-names (file_extend e) = fields-names (extending env e.extendee) e.fields
+  file-extension-names _ = refl
+
+  pub file-extensions-names : (ss : List StatementSyntax)
+      → names_of_fields (flat_map (files.file_extensions_of env) ss)
+      ≡ names_of (flat_map files.file_extensions_named ss)
+  file-extensions-names ss =
+      flat-named (λ f. f.name) (files.file_extensions_of env) files.file_extensions_named
+      file-extension-names ss
 
   -- its services
-  pub services-names : (env : Environment) (s : StatementSyntax)
-      → names_of_services (services_of (with_customs one env) s)
-      ≡ names_of_services (services_of (with_customs other env) s)
-  services-names env (file_service s) = refl
-  services-names env _ = refl
+  service-names : (s : StatementSyntax)
+      → names_of_services (services_of env s) ≡ names_of (files.services_named s)
+  service-names (file_service s) = refl
+  service-names _ = refl
+
+  pub services-names : (ss : List StatementSyntax)
+      → names_of_services (flat_map (services_of env) ss)
+      ≡ names_of (flat_map files.services_named ss)
+  services-names ss =
+      flat-named (λ s. s.name) (services_of env) files.services_named service-names ss

@@ -9,14 +9,13 @@ use Rattle.protobuf_parse_syntax.specs.declared.tree.FileStatement.{FileStatemen
 use Rattle.protobuf_parse_syntax.specs.declared.tree.declaration.MessageStatement.{MessageStatement}
 use Rattle.protobuf_parse_syntax.specs.declared.tree.declaration.OneOfStatement.{OneOfStatement}
 use Rattle.protobuf_parse_syntax.specs.declared.tree.declaration.ServiceStatement.{ServiceStatement}
-use Rattle.protobuf_parse_model.proofs.Blaming.{blames_left, blames_right}
 use Rattle.protobuf_parse_model.specs.Statements.{oneof_statement_options}
 use Rattle.protobuf_parse_elaboration.specs.Enums.{options_in_enum}
 use Rattle.protobuf_parse_elaboration.specs.FileDescriptor.{options_in_file}
 use Rattle.protobuf_parse_elaboration.specs.Messages.{options_in_message}
 use Rattle.protobuf_parse_elaboration.specs.Services.{options_in_service, statement_option}
 
-set_seen : {A B C : Type 0} (set : B → List C) (view : A → B) (xs : List A)
+pub set_seen : {A B C : Type 0} (set : B → List C) (view : A → B) (xs : List A)
     → flat_map (λ x. set (view x)) xs ≡ flat_map set (map view xs)
 set_seen set view [] = refl
 set_seen set view (x ∷ xs) = ap (λ l. set (view x) ++ l) (set_seen set view xs)
@@ -52,7 +51,3 @@ pub method_options_set : (ss : List OptionStatement)
 method_options_set [] = refl
 method_options_set (s ∷ ss) =
     ap (λ l. statement_option (option_statement_syntax s) ∷ l) (method_options_set ss)
-
--- ---- what closes a file's options
-
-pub ruleset set_in_file = (blames_left, blames_right, file_options_set)

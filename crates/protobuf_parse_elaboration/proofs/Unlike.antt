@@ -1,5 +1,5 @@
 -- Names of which none stands among those before it: one alone, and those whose keys differ.
-use Rattle.std.proofs.Common.{◌≡◌, ℕ, ◌<◌, List, [], ◌∷◌, ◌++◌, false, map, length, get_or, Bor}
+use Rattle.std.proofs.Common.{◌≡◌, ℕ, ◌<◌, List, [], ◌∷◌, ◌++◌, false, map, length, get_or}
 use Rattle.std.proofs.Common.{refl, sym, ap, subst, ◌∙◌, append_assoc, arith, inl, inr}
 use Rattle.std.proofs.Math.Dec.{eqb}
 use Rattle.std.specs.Prelude.{bytes_eq}
@@ -14,14 +14,19 @@ use Rattle.std.proofs.lemmas.Map.Keys.{sorted_from_strictly_increasing}
 use Rattle.std.proofs.lemmas.List.Sorted.{IsPermutation-sym}
 use Rattle.protobuf_parse_model.specs.declared.error.ElabErrorKind.TheVariants.{DuplicateName}
 use Rattle.protobuf_parse_model.specs.Descriptors.{Text}
-use Rattle.protobuf_parse_model.specs.Duplicates.{stands_in, fault_when, repeats_after, duplicates}
+use Rattle.protobuf_parse_model.specs.Duplicates.{NamedAt, stands_in, fault_when, repeats_after}
+use Rattle.protobuf_parse_model.specs.Duplicates.{duplicates}
+use Rattle.protobuf_parse_model.specs.Faults.{placed}
+use Rattle.protobuf_parse_elaboration.proofs.Told.{names_of}
 
 -- one name alone stands nowhere before itself
 pub few_unlike : {A : Type 0} (name : A → Text) (items : List A) → length items < 2
-    → duplicates (map name items) ≡ []
-few_unlike name [] h = refl
-few_unlike name (a ∷ []) h = refl
-few_unlike name (a ∷ b ∷ items) h = absurd (omega arith)
+    → (declared : List NamedAt) → map name items ≡ names_of declared → duplicates declared ≡ []
+few_unlike name items few [] h = refl
+few_unlike name items few (a ∷ []) h = refl
+few_unlike name [] few (a ∷ b ∷ declared) h = absurd cc
+few_unlike name (x ∷ []) few (a ∷ b ∷ declared) h = absurd cc
+few_unlike name (x ∷ y ∷ items) few (a ∷ b ∷ declared) h = absurd (omega arith)
 
 -- ---- keys that differ
 
@@ -50,14 +55,16 @@ stands_alone key (b ∷ bs) xs x h =
     (IsDistinct-head eqb (key b) (map key (bs ++ x ∷ xs)) h)))
     (stands_alone key bs xs x (IsDistinct-tail eqb (key b) (map key (bs ++ x ∷ xs)) h))
 
-none_again : (key : Text → ℕ) (before xs : List Text)
-    → IsDistinct eqb (map key (before ++ xs)) → repeats_after before DuplicateName xs ≡ []
+none_again : (key : Text → ℕ) (before : List Text) (xs : List NamedAt)
+    → IsDistinct eqb (map key (before ++ names_of xs)) → repeats_after before xs ≡ []
 none_again key before [] h = refl
 none_again key before (x ∷ xs) h =
-    ap (λ b. fault_when b DuplicateName x ++ repeats_after (before ++ x ∷ []) DuplicateName xs)
-    (stands_alone key before xs x h)
-    ∙ none_again key (before ++ x ∷ []) xs
-    (subst (λ ts. IsDistinct eqb (map key ts)) (sym (append_assoc before (x ∷ []) xs)) h)
+    ap (λ b. placed x.place (fault_when b DuplicateName x.name)
+    ++ repeats_after (before ++ x.name ∷ []) xs)
+    (stands_alone key before (names_of xs) x.name h)
+    ∙ none_again key (before ++ x.name ∷ []) xs
+    (subst (λ ts. IsDistinct eqb (map key ts))
+    (sym (append_assoc before (x.name ∷ []) (names_of xs))) h)
 
 -- ---- keys that ascend once they are sorted
 
@@ -69,16 +76,17 @@ apart sorted h =
     IsDistinct-from_apart eqb sorted (λ i j d l m. lt_apart (get_or sorted i d) (get_or sorted j d)
     (below_from_sorted sorted i j d (sorted_from_strictly_increasing sorted h) l m))
 
-now_keys : (key : Text → ℕ) (names : List (Bor Text))
-    → map (λ (s : Bor Text). key s.now) names ≡ map key (map (λ (s : Bor Text). s.now) names)
-now_keys key [] = refl
-now_keys key (s ∷ names) = ap (λ keys. key s.now ∷ keys) (now_keys key names)
+keys_are : {A : Type 0} (key : Text → ℕ) (name : A → Text) (items : List A)
+    → map (λ x. key (name x)) items ≡ map key (map name items)
+keys_are key name [] = refl
+keys_are key name (x ∷ items) = ap (λ keys. key (name x) ∷ keys) (keys_are key name items)
 
-pub unlike : (key : Text → ℕ) (names : List (Bor Text)) (keys sorted : List ℕ)
-    → keys ≡ map (λ (s : Bor Text). key s.now) names → IsPermutation keys sorted
-    → IsStrictlyIncreasing sorted → duplicates (map (λ (s : Bor Text). s.now) names) ≡ []
-unlike key names keys sorted e moved ascending =
-    none_again key [] (map (λ (s : Bor Text). s.now) names)
-    (subst (IsDistinct eqb) (e ∙ now_keys key names)
+pub unlike : {A : Type 0} (key : Text → ℕ) (name : A → Text) (items : List A)
+    (keys sorted : List ℕ) → keys ≡ map (λ x. key (name x)) items → IsPermutation keys sorted
+    → IsStrictlyIncreasing sorted → (declared : List NamedAt)
+    → map name items ≡ names_of declared → duplicates declared ≡ []
+unlike key name items keys sorted e moved ascending declared named =
+    none_again key [] declared
+    (subst (IsDistinct eqb) (e ∙ keys_are key name items ∙ ap (map key) named)
     (IsDistinct-IsPermutation eqb eqb_comm sorted keys (IsPermutation-sym keys sorted moved)
     (apart sorted ascending)))

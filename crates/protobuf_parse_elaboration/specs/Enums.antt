@@ -1,6 +1,6 @@
 -- What the declaration of an enum becomes: an EnumDescriptorProto of
--- google/protobuf/descriptor.proto; and the faults that stand in it. A reserved range has both its
--- ends. Protocol Buffers Language Specification, "Enum definition", "Reserved"
+-- google/protobuf/descriptor.proto; and the faults that stand in it, at its values and at its
+-- options. A reserved range has both its ends. Protocol Buffers Language Specification, "Enum definition", "Reserved"
 -- (https://protobuf.dev).
 use Rattle.std.specs.Prelude.{List, [], ◌∷◌, ◌++◌, map, flat_map}
 use Rattle.protobuf_parse_syntax.specs.Trees.{OptionSyntax, RangeSyntax, ReservedSyntax}
@@ -9,7 +9,7 @@ use Rattle.protobuf_parse_syntax.specs.Trees.{enum_reserved, enum_option, enum_v
 use Rattle.protobuf_parse_syntax.specs.Trees.{EnumValueSyntax, EnumSyntax}
 use Rattle.protobuf_parse_model.specs.Descriptors.{Text, Range, EnumValueDescriptor, EnumDescriptor}
 use Rattle.protobuf_parse_model.specs.Faults.{Fault}
-use Rattle.protobuf_parse_model.specs.Duplicates.{duplicates}
+use Rattle.protobuf_parse_model.specs.Duplicates.{NamedAt, duplicates}
 use Rattle.protobuf_parse_model.specs.declared.customs.Construct.TheVariants as of
 use Rattle.protobuf_parse_model.specs.Environment.{Environment, customs_bytes}
 use Rattle.protobuf_parse_model.specs.BuiltinOptions.{enum_table, enum_value_table}
@@ -74,10 +74,13 @@ enum_of env e = record {
 abbrev pub value_faults : Environment → EnumValueSyntax → List Fault
 value_faults env v = construct_faults env of.EnumValue enum_value_table v.options
 
+abbrev pub value_named : EnumValueSyntax → NamedAt
+value_named v = record { place = v.place; name = v.name }
+
 -- E1 for two values that have one name
 abbrev pub values_faults : Environment → List EnumValueSyntax → List Fault
-values_faults env values = duplicates (map (λ (v : EnumValueSyntax). v.name) values)
-    ++ flat_map (value_faults env) values
+values_faults env values =
+    flat_map (value_faults env) values ++ duplicates (map value_named values)
 
 abbrev pub enum_faults : Environment → EnumSyntax → List Fault
 enum_faults env e =

@@ -1,6 +1,6 @@
 -- What the declaration of a field becomes: a FieldDescriptorProto of
--- google/protobuf/descriptor.proto; and the faults that stand in it. Where one stands the
--- descriptor may be anything.
+-- google/protobuf/descriptor.proto; and the faults that stand in it, at the field or at one of its
+-- options. Where one stands the descriptor says nothing of what it was to be.
 --
 -- A field without a label is optional, a map is repeated. The type of a map is the message behind
 -- it, that of a group the group's message; a name is looked up from the scope of the field. The
@@ -9,8 +9,9 @@
 -- field", "Map field"; Protocol Buffers Language Guide, "JSON Options", "Field Presence in proto3"
 -- (https://protobuf.dev).
 use Rattle.std.specs.Prelude.{ℕ, ℤ, pos, Bool, true, false, List, [], ◌++◌, map, flat_map, codes}
-use Rattle.std.specs.Prelude.{bytes_eq, slice_get, Option, Some, None, unwrap_or, option_map}
+use Rattle.std.specs.Prelude.{bytes_eq, Option, Some, None, unwrap_or, option_map}
 use Rattle.std.specs.Prelude.{if◌then◌else◌}
+use Rattle.std.specs.List.{find}
 use Rattle.protobuf_parse_base.specs.Cases.{json_name_text}
 use Rattle.protobuf_parse_base.specs.Escapes.{escaped_bytes}
 use Rattle.protobuf_parse_lexer.specs.Decoder.{decode, text_of}
@@ -29,14 +30,14 @@ use Rattle.protobuf_parse_model.specs.declared.error.ElabErrorKind.TheVariants.{
 use Rattle.protobuf_parse_model.specs.declared.error.ElabErrorKind.TheVariants.{DefaultValueIsNotStringLiteral}
 use Rattle.protobuf_parse_model.specs.declared.error.ElabErrorKind.TheVariants.{WrongOptionType}
 use Rattle.protobuf_parse_model.specs.Descriptors.{Text, FieldDescriptor, kind_of_scalar}
-use Rattle.protobuf_parse_model.specs.Faults.{Fault}
+use Rattle.protobuf_parse_model.specs.Faults.{Wrong, Fault, placed}
 use Rattle.protobuf_parse_model.specs.Statements.{group_body, group_field_name, entry_name, is_map}
 use Rattle.protobuf_parse_model.specs.Declarations.{full_name, DeclaredType, kind_of_type}
-use Rattle.protobuf_parse_model.specs.Duplicates.{fault, fault_when, duplicates}
+use Rattle.protobuf_parse_model.specs.Duplicates.{NamedAt, fault, fault_when, duplicates}
 use Rattle.protobuf_parse_model.specs.declared.customs.Construct.TheVariants as of
 use Rattle.protobuf_parse_model.specs.Environment.{Environment, customs_bytes, customs_faults}
 use Rattle.protobuf_parse_model.specs.Environment.{type_named, type_missing}
-use Rattle.protobuf_parse_model.specs.BuiltinOptions.{values_named, string_faults, builtin_faults}
+use Rattle.protobuf_parse_model.specs.BuiltinOptions.{string_faults, builtin_faults}
 use Rattle.protobuf_parse_model.specs.BuiltinOptions.{field_table}
 use Rattle.protobuf_parse_model.specs.OptionMessages.{field_options}
 
@@ -59,12 +60,12 @@ type_of env name (map_of key value) =
     record { kind = kind.Message; name = Some (full_name env.scope (entry_name name)) }
 
 -- E4 for a map inside a map, E2 or E3 for a name that means nothing
-abbrev pub inner_type_faults : Environment → Text → TypeSyntax → List Fault
+abbrev pub inner_type_faults : Environment → Text → TypeSyntax → List Wrong
 inner_type_faults env name (scalar s) = []
 inner_type_faults env name (named n) = type_missing env n
 inner_type_faults env name (map_of key value) = fault DanglingTypeName name
 
-abbrev pub type_faults : Environment → Text → TypeSyntax → List Fault
+abbrev pub type_faults : Environment → Text → TypeSyntax → List Wrong
 type_faults env name (scalar s) = []
 type_faults env name (named n) = type_missing env n
 type_faults env name (map_of key value) =
@@ -85,9 +86,22 @@ says_optional _ _ = false
 
 -- ---- defaults and JSON names
 
--- the value of the first statement that sets the built-in option of that name
+abbrev pub is_named : Text → OptionNameSyntax → Bool
+is_named name (builtin n) = bytes_eq n name
+is_named name (custom parts) = false
+
+-- the first statement that sets the built-in option of that name
+abbrev pub first_named : Text → List OptionSyntax → Option OptionSyntax
+first_named name os = find (λ (o : OptionSyntax). is_named name o.name) os
+
+-- its value
 abbrev pub first_value : Text → List OptionSyntax → Option ConstantSyntax
-first_value name os = slice_get (values_named name os) 0
+first_value name os = option_map (λ (o : OptionSyntax). o.value) (first_named name os)
+
+-- what is wrong in the value of an option stands at the option
+abbrev pub in_option : (ConstantSyntax → List Wrong) → Option OptionSyntax → List Fault
+in_option wrongs None = []
+in_option wrongs (Some o) = placed o.place (wrongs o.value)
 
 abbrev pub text_or_empty : Option Text → Text
 text_or_empty text = unwrap_or text []
@@ -103,40 +117,42 @@ abbrev pub default_of : FieldType → List OptionSyntax → Option Text
 default_of type_ os = option_map (default_text type_) (first_value (codes "default") os)
 
 -- E8 for a default that is no string, E9 for a string that says nothing
-abbrev pub default_value_faults : FieldType → Text → Option ConstantSyntax → List Fault
-default_value_faults _ name None = []
-default_value_faults kind.String name (Some (string pieces)) =
+abbrev pub default_value_faults : FieldType → Text → ConstantSyntax → List Wrong
+default_value_faults kind.String name (string pieces) =
     string_faults (codes "default") (text_of pieces)
-default_value_faults kind.Bytes name (Some (string pieces)) =
+default_value_faults kind.Bytes name (string pieces) =
     string_faults (codes "default") (decode pieces)
-default_value_faults kind.String name (Some _) = fault DefaultValueIsNotStringLiteral name
-default_value_faults kind.Bytes name (Some _) = fault DefaultValueIsNotStringLiteral name
-default_value_faults _ name (Some _) = []
+default_value_faults kind.String name _ = fault DefaultValueIsNotStringLiteral name
+default_value_faults kind.Bytes name _ = fault DefaultValueIsNotStringLiteral name
+default_value_faults _ name _ = []
 
 abbrev pub default_faults : FieldType → Text → List OptionSyntax → List Fault
-default_faults type_ name os = default_value_faults type_ name (first_value (codes "default") os)
+default_faults type_ name os =
+    in_option (default_value_faults type_ name) (first_named (codes "default") os)
+
+abbrev pub json_value_said : ConstantSyntax → Text
+json_value_said (string pieces) = text_or_empty (text_of pieces)
+json_value_said _ = []
 
 abbrev pub json_name_said : Text → Option ConstantSyntax → Text
-json_name_said name (Some (string pieces)) = text_or_empty (text_of pieces)
-json_name_said name (Some _) = []
+json_name_said name (Some value) = json_value_said value
 json_name_said name None = json_name_text name
 
 abbrev pub field_json_name : Text → List OptionSyntax → Text
 field_json_name name os = json_name_said name (first_value (codes "json_name") os)
 
 -- E10 for a JSON name that is no string, E9 for a string that is no text
-abbrev pub json_value_faults : Option ConstantSyntax → List Fault
-json_value_faults None = []
-json_value_faults (Some (string pieces)) = string_faults (codes "json_name") (text_of pieces)
-json_value_faults (Some _) = fault WrongOptionType (codes "json_name")
+abbrev pub json_value_faults : ConstantSyntax → List Wrong
+json_value_faults (string pieces) = string_faults (codes "json_name") (text_of pieces)
+json_value_faults _ = fault WrongOptionType (codes "json_name")
 
 abbrev pub json_name_faults : List OptionSyntax → List Fault
-json_name_faults os = json_value_faults (first_value (codes "json_name") os)
+json_name_faults os = in_option json_value_faults (first_named (codes "json_name") os)
 
 -- ---- options
 
 -- `default` and `json_name` are no options of the table
-abbrev pub field_option_faults : ConstantSyntax → OptionNameSyntax → List Fault
+abbrev pub field_option_faults : ConstantSyntax → OptionNameSyntax → List Wrong
 field_option_faults value (builtin name) =
     if bytes_eq name (codes "default") then []
     else (if bytes_eq name (codes "json_name") then []
@@ -144,7 +160,8 @@ field_option_faults value (builtin name) =
 field_option_faults value (custom parts) = []
 
 abbrev pub field_options_faults : List OptionSyntax → List Fault
-field_options_faults os = flat_map (λ (o : OptionSyntax). field_option_faults o.value o.name) os
+field_options_faults os =
+    flat_map (λ (o : OptionSyntax). placed o.place (field_option_faults o.value o.name)) os
 
 -- all that is wrong in the options of the field of that type and name
 abbrev pub faults_of_options : Environment → FieldType → Text → List OptionSyntax → List Fault
@@ -204,7 +221,7 @@ field_statement_of env place (group at label name number fields) =
     group_field env place label name number
 
 abbrev pub field_faults : Environment → FieldSyntax → List Fault
-field_faults env f = type_faults env f.name f.type_
+field_faults env f = placed f.place (type_faults env f.name f.type_)
     ++ faults_of_options env (type_of env f.name f.type_).kind f.name f.options
 
 -- ---- groups, and where maps and groups may not stand
@@ -217,19 +234,25 @@ abbrev pub fields_of_group : Environment → List FieldStatementSyntax → List 
 fields_of_group env fields = map (field_statement_of env plain) fields
 
 -- E4 for a map
-abbrev pub map_faults : FieldSyntax → List Fault
+abbrev pub map_faults : FieldSyntax → List Wrong
 map_faults f = fault_when (is_map f.type_) DanglingTypeName f.name
 
 -- in a group: E4 for a map and for a group
 abbrev pub grouped_faults : Environment → FieldStatementSyntax → List Fault
-grouped_faults env (field f) = map_faults f ++ field_faults env f
+grouped_faults env (field f) = placed f.place (map_faults f) ++ field_faults env f
 grouped_faults env (group at label name number fields) =
-    fault DanglingTypeName (group_field_name name)
+    placed at (fault DanglingTypeName (group_field_name name))
+
+-- a field as a declaration
+abbrev pub field_named : FieldStatementSyntax → NamedAt
+field_named (field f) = record { place = f.place; name = f.name }
+field_named (group at label name number fields) =
+    record { place = at; name = group_field_name name }
 
 -- of a group's fields: E1 for two that have one name
 abbrev pub group_faults : Environment → List FieldStatementSyntax → List Fault
-group_faults env fields = duplicates (names_of_fields (fields_of_group env fields))
-    ++ flat_map (grouped_faults env) fields
+group_faults env fields =
+    flat_map (grouped_faults env) fields ++ duplicates (map field_named fields)
 
 -- in a message
 abbrev pub field_statement_faults : Environment → FieldStatementSyntax → List Fault
@@ -239,6 +262,6 @@ field_statement_faults env (group at label name number fields) =
 
 -- in an `extend`: E4 for a map
 abbrev pub extension_faults : Environment → FieldStatementSyntax → List Fault
-extension_faults env (field f) = map_faults f ++ field_faults env f
+extension_faults env (field f) = placed f.place (map_faults f) ++ field_faults env f
 extension_faults env (group at label name number fields) =
     field_statement_faults env (group at label name number fields)

@@ -1,6 +1,6 @@
 -- What a file becomes: a FileDescriptorProto of google/protobuf/descriptor.proto; and the faults
--- that stand in it. Where one stands the descriptor may be anything. The tree's places say nothing
--- here.
+-- that stand in it: those of its options, then those of its statements in source order, then its
+-- names that stand twice. Where one stands the descriptor says nothing of what it was to be.
 --
 -- Which files a file sees, and which it reaches by its imports, are given as lists, the file itself
 -- among them. Protocol Buffers Language Specification, "Proto file", "Import Statement", "Package"
@@ -9,7 +9,7 @@ use Rattle.std.specs.Prelude.{List, [], ◌∷◌, ◌++◌, map, flat_map, code
 use Rattle.protobuf_parse_syntax.specs.Trees.{OptionSyntax, StatementSyntax, file_option}
 use Rattle.protobuf_parse_syntax.specs.Trees.{file_message, file_enum, file_extend, file_service}
 use Rattle.protobuf_parse_syntax.specs.Trees.{FileSyntax, package_of, nested_message}
-use Rattle.protobuf_parse_syntax.specs.Trees.{message_extend}
+use Rattle.protobuf_parse_syntax.specs.Trees.{message_enum, message_extend}
 use Rattle.protobuf_parse_syntax.specs.Dependencies.{imports, imports_of}
 use Rattle.protobuf_parse_syntax.specs.declared.tree.Syntax.{Syntax}
 use Rattle.protobuf_parse_syntax.specs.declared.tree.Syntax.TheVariants.{Proto2, Proto3}
@@ -19,17 +19,16 @@ use Rattle.protobuf_parse_model.specs.Descriptors.{FileDescriptor}
 use Rattle.protobuf_parse_model.specs.Faults.{Fault}
 use Rattle.protobuf_parse_model.specs.Declarations.{DeclaredType, file_scope, file_types}
 use Rattle.protobuf_parse_model.specs.Lookup.{declared}
-use Rattle.protobuf_parse_model.specs.Duplicates.{duplicates}
+use Rattle.protobuf_parse_model.specs.Duplicates.{NamedAt, duplicates}
 use Rattle.protobuf_parse_model.specs.declared.customs.Construct.TheVariants as of
 use Rattle.protobuf_parse_model.specs.Environment.{Environment, Customs, customs_bytes}
 use Rattle.protobuf_parse_model.specs.BuiltinOptions.{file_table}
 use Rattle.protobuf_parse_model.specs.OptionMessages.{file_options}
 use Rattle.protobuf_parse_elaboration.specs.ConstructOptions.{construct_faults}
-use Rattle.protobuf_parse_elaboration.specs.Fields.{names_of_fields}
 use Rattle.protobuf_parse_elaboration.specs.Enums.{enum_of, enum_faults}
 use Rattle.protobuf_parse_elaboration.specs.Messages.{nested_of, statement_faults}
-use Rattle.protobuf_parse_elaboration.specs.Messages.{extend_fields, extend_faults, names_of_messages}
-use Rattle.protobuf_parse_elaboration.specs.Messages.{names_of_enums}
+use Rattle.protobuf_parse_elaboration.specs.Messages.{extend_fields, extend_faults, enums_named}
+use Rattle.protobuf_parse_elaboration.specs.Messages.{extensions_named, messages_named}
 use Rattle.protobuf_parse_elaboration.specs.Services.{service_of, service_faults}
 
 -- ---- the statements of a file
@@ -110,17 +109,35 @@ file_faults_of env _ = []
 abbrev pub names_of_services : List ServiceDescriptor → List Text
 names_of_services services = map (λ (s : ServiceDescriptor). s.name) services
 
+-- what the statements of a file declare; those that a message may have too declare the same there
+abbrev pub file_messages_named : StatementSyntax → List NamedAt
+file_messages_named (file_message m) = messages_named (nested_message m)
+file_messages_named (file_extend e) = messages_named (message_extend e)
+file_messages_named _ = []
+
+abbrev pub file_enums_named : StatementSyntax → List NamedAt
+file_enums_named (file_enum e) = enums_named (message_enum e)
+file_enums_named _ = []
+
+abbrev pub file_extensions_named : StatementSyntax → List NamedAt
+file_extensions_named (file_extend e) = extensions_named (message_extend e)
+file_extensions_named _ = []
+
+abbrev pub services_named : StatementSyntax → List NamedAt
+services_named (file_service s) = record { place = s.place; name = s.name } ∷ []
+services_named _ = []
+
 -- E1 for two messages, enums, extensions or services of the file that have one name
-abbrev pub file_duplicates : Environment → FileSyntax → List Fault
-file_duplicates env t =
-    duplicates (names_of_messages (flat_map (file_messages_of env) t.statements))
-    ++ duplicates (names_of_enums (flat_map (file_enums_of env) t.statements))
-    ++ duplicates (names_of_fields (flat_map (file_extensions_of env) t.statements))
-    ++ duplicates (names_of_services (flat_map (services_of env) t.statements))
+abbrev pub file_duplicates : List StatementSyntax → List Fault
+file_duplicates ss =
+    duplicates (flat_map file_messages_named ss)
+    ++ duplicates (flat_map file_enums_named ss)
+    ++ duplicates (flat_map file_extensions_named ss)
+    ++ duplicates (flat_map services_named ss)
 
 -- of the file alone
 abbrev pub file_faults : Environment → FileSyntax → List Fault
 file_faults env t =
-    file_duplicates env t
-    ++ construct_faults env of.File file_table (options_of_statements t.statements)
+    construct_faults env of.File file_table (options_of_statements t.statements)
     ++ flat_map (file_faults_of env) t.statements
+    ++ file_duplicates t.statements

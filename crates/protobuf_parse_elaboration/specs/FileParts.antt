@@ -1,6 +1,6 @@
 -- No public clause rests on this file.
 -- What a file says of itself and what its statements declare, as the code collects it.
-use Rattle.std.specs.Prelude.{List, [], ◌++◌, map, flat_map, Option, Some, option_map, string_bytes}
+use Rattle.std.specs.Prelude.{◌≡◌, List, [], ◌++◌, map, flat_map, Option, Some, option_map, string_bytes}
 use Rattle.protobuf_parse_syntax.specs.Dependencies.{FileImports, dependencies_view, imports}
 use Rattle.protobuf_parse_syntax.specs.Dependencies.{imports_of}
 use Rattle.protobuf_parse_syntax.specs.Trees.{StatementSyntax, FileSyntax, package_of}
@@ -11,18 +11,20 @@ use Rattle.protobuf_parse_model.specs.Descriptors.{FileDescriptor}
 use Rattle.protobuf_parse_model.specs.Options.{FileOptionValues, file_options_view}
 use Rattle.protobuf_parse_model.specs.OptionMessages.{file_options}
 use Rattle.protobuf_parse_model.specs.BuiltinOptions.{file_table}
-use Rattle.protobuf_parse_model.specs.Duplicates.{duplicates}
 use Rattle.protobuf_parse_model.specs.Environment.{Environment, customs_bytes}
 use Rattle.protobuf_parse_model.specs.Faults.{Fault}
 use Rattle.protobuf_parse_model.specs.declared.customs.Construct.TheVariants as of
+use Rattle.protobuf_parse_lexer.specs.declared.lexer.token.Place.{Place}
+use Rattle.protobuf_parse_model.specs.Duplicates.{NamedAt}
 use Rattle.protobuf_parse_elaboration.specs.declared.convert.contents.Contents.{Contents}
+use Rattle.protobuf_parse_elaboration.specs.declared.convert.contents.FilePlaces.{FilePlaces}
+use Rattle.protobuf_parse_elaboration.specs.FileDescriptor.{file_messages_named, file_enums_named}
+use Rattle.protobuf_parse_elaboration.specs.FileDescriptor.{file_extensions_named, services_named}
 use Rattle.protobuf_parse_elaboration.specs.declared.convert.heading.Heading.{Heading}
 use Rattle.protobuf_parse_elaboration.specs.ConstructOptions.{construct_faults}
-use Rattle.protobuf_parse_elaboration.specs.Fields.{names_of_fields}
-use Rattle.protobuf_parse_elaboration.specs.Messages.{names_of_messages, names_of_enums}
 use Rattle.protobuf_parse_elaboration.specs.FileDescriptor.{file_enums_of, file_extensions_of}
 use Rattle.protobuf_parse_elaboration.specs.FileDescriptor.{file_messages_of}
-use Rattle.protobuf_parse_elaboration.specs.FileDescriptor.{names_of_services, services_of}
+use Rattle.protobuf_parse_elaboration.specs.FileDescriptor.{services_of}
 use Rattle.protobuf_parse_elaboration.specs.FileDescriptor.{options_of_statements, syntax_text}
 
 pub record FileParts : Type 0 where
@@ -66,13 +68,17 @@ parts_of_file env ss =
       extension = flat_map (file_extensions_of env) ss;
     }
 
--- E1 for two of a kind that have one name
-abbrev pub parts_faults : FileParts → List Fault
-parts_faults p =
-    duplicates (names_of_messages p.message_type)
-    ++ duplicates (names_of_enums p.enum_type)
-    ++ duplicates (names_of_fields p.extension)
-    ++ duplicates (names_of_services p.service)
+-- ---- where it declares
+
+abbrev pub places : List NamedAt → List Place
+places declared = map (λ (d : NamedAt). d.place) declared
+
+-- the places of what the statements declare
+pub record AreFilePlaces (p : FilePlaces) (ss : List StatementSyntax) : Type 0 where
+  pub messages : p.messages.items ≡ places (flat_map file_messages_named ss)
+  pub enums : p.enums.items ≡ places (flat_map file_enums_named ss)
+  pub extensions : p.extensions.items ≡ places (flat_map file_extensions_named ss)
+  pub services : p.services.items ≡ places (flat_map services_named ss)
 
 -- ---- what it says of itself
 

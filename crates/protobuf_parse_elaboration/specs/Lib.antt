@@ -12,3 +12,4 @@ pub mod FilesByPath
 pub mod FileParts
 pub mod OptionSets
 pub mod CustomSets
+pub mod Declaring

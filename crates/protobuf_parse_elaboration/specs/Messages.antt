@@ -1,6 +1,8 @@
 -- What the declaration of a message becomes: a DescriptorProto of google/protobuf/descriptor.proto;
--- and the faults that stand in it. Where one stands the descriptor may be anything. A message of a
--- file becomes what the same message inside another does, in the file's environment.
+-- and the faults that stand in it: those of the statements of its body, each at its statement; its
+-- names that stand twice; and those of its ranges and its options. Where one stands the descriptor
+-- says nothing of what it was to be. A message of a file becomes what the same message inside
+-- another does, in the file's environment.
 --
 -- Every list is in source order. Behind a map stands the message of its entries, behind a group a
 -- message with the group's fields; they stand among the nested messages where the field stands. In
@@ -12,6 +14,8 @@
 use Rattle.std.specs.Prelude.{ℕ, ℤ, pos, ◌+◌, ◌+ℤ◌, Bool, false, List, [], ◌∷◌, ◌++◌, map, flat_map}
 use Rattle.std.specs.Prelude.{length, codes, Option, Some, None, if◌then◌else◌}
 use Rattle.std.specs.Ordering.{int_eq}
+use Rattle.std.specs.List.{list_any}
+use Rattle.protobuf_parse_lexer.specs.declared.lexer.token.Place.{Place}
 use Rattle.protobuf_parse_syntax.specs.Trees.{OptionSyntax, TypeSyntax, scalar, map_of, named}
 use Rattle.protobuf_parse_syntax.specs.Trees.{FieldStatementSyntax, field, group, RangeSyntax}
 use Rattle.protobuf_parse_syntax.specs.Trees.{ReservedSyntax, OneofSyntax, ExtendSyntax}
@@ -20,6 +24,7 @@ use Rattle.protobuf_parse_syntax.specs.Trees.{message_oneof, message_extend, mes
 use Rattle.protobuf_parse_syntax.specs.Trees.{message_enum, message_extensions, message_option}
 use Rattle.protobuf_parse_syntax.specs.Trees.{message_field, MessageStatementList, no_statements}
 use Rattle.protobuf_parse_syntax.specs.Trees.{more_statements}
+use Rattle.protobuf_parse_syntax.specs.declared.tree.Syntax.{Syntax}
 use Rattle.protobuf_parse_syntax.specs.declared.tree.field.Label.{Label}
 use Rattle.protobuf_parse_syntax.specs.declared.tree.field.Label.TheVariants.{Optional}
 use Rattle.protobuf_parse_model.specs.declared.error.ElabErrorKind.TheVariants.{RangeEndOverflow}
@@ -27,11 +32,11 @@ use Rattle.protobuf_parse_model.specs.Options.{MessageOptionValues}
 use Rattle.protobuf_parse_model.specs.Descriptors.{Text, Range, FieldDescriptor, OneofDescriptor}
 use Rattle.protobuf_parse_model.specs.Descriptors.{EnumDescriptor, MessageDescriptor, a_message}
 use Rattle.protobuf_parse_model.specs.Descriptors.{no_messages, messages_of_list}
-use Rattle.protobuf_parse_model.specs.Faults.{Fault}
+use Rattle.protobuf_parse_model.specs.Faults.{Wrong, Fault, placed}
 use Rattle.protobuf_parse_model.specs.Statements.{group_body, message_body, entry_name}
 use Rattle.protobuf_parse_model.specs.Statements.{field_statement_name, oneof_fields, groups}
 use Rattle.protobuf_parse_model.specs.Statements as statements
-use Rattle.protobuf_parse_model.specs.Duplicates.{fault_when, duplicates}
+use Rattle.protobuf_parse_model.specs.Duplicates.{NamedAt, fault_when, duplicates}
 use Rattle.protobuf_parse_model.specs.declared.customs.Construct.TheVariants as of
 use Rattle.protobuf_parse_model.specs.Environment.{Environment, customs_bytes, env_inside}
 use Rattle.protobuf_parse_model.specs.Environment.{type_full_name, type_missing}
@@ -40,8 +45,8 @@ use Rattle.protobuf_parse_model.specs.OptionMessages.{message_options, entry_opt
 use Rattle.protobuf_parse_elaboration.specs.ConstructOptions.{construct_faults}
 use Rattle.protobuf_parse_elaboration.specs.Fields.{FieldTypeOf, type_of, says_optional, FieldPlace}
 use Rattle.protobuf_parse_elaboration.specs.Fields.{plain, field_statement_of, names_of_fields}
-use Rattle.protobuf_parse_elaboration.specs.Fields.{fields_of_group, field_statement_faults}
-use Rattle.protobuf_parse_elaboration.specs.Fields.{extension_faults}
+use Rattle.protobuf_parse_elaboration.specs.Fields.{field_named, fields_of_group}
+use Rattle.protobuf_parse_elaboration.specs.Fields.{field_statement_faults, extension_faults}
 use Rattle.protobuf_parse_elaboration.specs.Enums.{enum_of, enum_faults, ranges_reserved, names_reserved}
 
 -- ---- the messages behind maps and groups
@@ -160,12 +165,14 @@ extending env extendee = record { extendee = type_full_name env extendee; oneof_
 abbrev pub extend_fields : Environment → ExtendSyntax → List FieldDescriptor
 extend_fields env e = map (field_statement_of env (extending env e.extendee)) e.fields
 
--- E2 or E3 for an extendee that means nothing
-abbrev pub extension_faults_of : Environment → Text → FieldStatementSyntax → List Fault
-extension_faults_of env extendee f = type_missing env extendee ++ extension_faults env f
+-- E2 or E3 for an extendee that means nothing, where something extends it
+abbrev pub extendee_faults : Environment → Text → List FieldStatementSyntax → List Wrong
+extendee_faults env extendee [] = []
+extendee_faults env extendee (f ∷ fs) = type_missing env extendee
 
 abbrev pub extend_faults : Environment → ExtendSyntax → List Fault
-extend_faults env e = flat_map (extension_faults_of env e.extendee) e.fields
+extend_faults env e = placed e.place (extendee_faults env e.extendee e.fields)
+    ++ flat_map (extension_faults env) e.fields
 
 abbrev pub extended_of : Environment → MessageStatementSyntax → List FieldDescriptor
 extended_of env (message_extend e) = extend_fields env e
@@ -181,13 +188,24 @@ abbrev pub reserves : MessageStatementSyntax → List ReservedSyntax
 reserves (message_reserved r) = r.reserved ∷ []
 reserves _ = []
 
+-- whether the last number of the range is the largest
+abbrev pub is_endless : RangeSyntax → Bool
+is_endless r = int_eq r.to (pos 2147483647)
+
 -- up to before the number behind the last
 abbrev pub exclusive : RangeSyntax → Range
-exclusive r = record { start = r.from; end = r.to +ℤ pos 1 }
+exclusive r =
+    record { start = r.from; end = if is_endless r then r.to else r.to +ℤ pos 1 }
 
--- E7 for a range whose last number is the largest
-abbrev pub range_faults : Text → RangeSyntax → List Fault
-range_faults name r = fault_when (int_eq r.to (pos 2147483647)) RangeEndOverflow name
+-- E7 for a statement with a range whose last number is the largest
+abbrev pub ranges_faults : Text → List RangeSyntax → List Wrong
+ranges_faults name rs = fault_when (list_any is_endless rs) RangeEndOverflow name
+
+abbrev pub range_faults : Text → MessageStatementSyntax → List Fault
+range_faults name (message_extensions e) = placed e.place (ranges_faults name e.ranges)
+range_faults name (message_reserved r) =
+    placed r.place (ranges_faults name (ranges_reserved r.reserved))
+range_faults name _ = []
 
 abbrev pub enums_of : Environment → MessageStatementSyntax → List EnumDescriptor
 enums_of env (message_enum e) = enum_of env e ∷ []
@@ -234,7 +252,7 @@ abbrev mutual
   nested_in env no_statements = []
   nested_in env (more_statements s ss) = nested_of env s ++ nested_in env ss
 
--- ---- faults
+-- ---- names
 
 abbrev pub message_name : MessageDescriptor → Text
 message_name (a_message parts nested) = parts.name
@@ -248,28 +266,69 @@ names_of_oneofs oneofs = map (λ (o : OneofDescriptor). o.name) oneofs
 abbrev pub names_of_enums : List EnumDescriptor → List Text
 names_of_enums enums = map (λ (e : EnumDescriptor). e.name) enums
 
--- E1 for two fields, oneofs, extensions, enums or messages of one body that have one name
-abbrev pub body_duplicates : Environment → List MessageStatementSyntax → List MessageDescriptor
-    → List Fault
-body_duplicates env body nested =
-    duplicates (names_of_fields (fields_from env 0 body))
-    ++ duplicates (names_of_oneofs (flat_map (oneofs_of env) body))
-    ++ duplicates (names_of_fields (flat_map (extended_of env) body))
-    ++ duplicates (names_of_enums (flat_map (enums_of env) body))
-    ++ duplicates (names_of_messages nested)
+-- ---- what the statements of a body declare, as declarations
 
--- in its ranges and its options
+abbrev pub fields_named : MessageStatementSyntax → List NamedAt
+fields_named (message_field f) = field_named f ∷ []
+fields_named (message_oneof o) = map field_named (flat_map oneof_fields o.body)
+fields_named _ = []
+
+-- the oneof that a field is alone in stands where the field stands
+abbrev pub own_oneof_named : FieldStatementSyntax → NamedAt
+own_oneof_named f =
+    record { place = (field_named f).place; name = codes "_" ++ field_statement_name f }
+
+abbrev pub oneofs_named : Syntax → MessageStatementSyntax → List NamedAt
+oneofs_named syntax (message_oneof o) = record { place = o.place; name = o.name } ∷ []
+oneofs_named syntax (message_field f) =
+    if says_optional syntax (statement_label f) then own_oneof_named f ∷ [] else []
+oneofs_named syntax _ = []
+
+abbrev pub extensions_named : MessageStatementSyntax → List NamedAt
+extensions_named (message_extend e) = map field_named e.fields
+extensions_named _ = []
+
+abbrev pub enums_named : MessageStatementSyntax → List NamedAt
+enums_named (message_enum e) = record { place = e.place; name = e.name } ∷ []
+enums_named _ = []
+
+-- the message behind a map stands where the field stands
+abbrev pub entries_named : Place → Text → TypeSyntax → List NamedAt
+entries_named place name (map_of key value) =
+    record { place = place; name = entry_name name } ∷ []
+entries_named place name (scalar s) = []
+entries_named place name (named n) = []
+
+abbrev pub behind_named : FieldStatementSyntax → List NamedAt
+behind_named (field f) = entries_named f.place f.name f.type_
+behind_named (group at label name number fields) = record { place = at; name = name } ∷ []
+
+abbrev pub messages_named : MessageStatementSyntax → List NamedAt
+messages_named (message_message at name body) = record { place = at; name = name } ∷ []
+messages_named (message_field f) = behind_named f
+messages_named (message_oneof o) = flat_map behind_named (flat_map oneof_fields o.body)
+messages_named (message_extend e) = flat_map behind_named (flat_map groups e.fields)
+messages_named _ = []
+
+-- ---- faults
+
+-- E1 for two fields, oneofs, extensions, enums or messages of one body that have one name
+abbrev pub body_duplicates : Syntax → List MessageStatementSyntax → List Fault
+body_duplicates syntax body =
+    duplicates (flat_map fields_named body)
+    ++ duplicates (flat_map (oneofs_named syntax) body)
+    ++ duplicates (flat_map extensions_named body)
+    ++ duplicates (flat_map enums_named body)
+    ++ duplicates (flat_map messages_named body)
+
+-- of the message of that name, in its ranges and its options
 abbrev pub rest_faults : Environment → Text → List MessageStatementSyntax → List Fault
-rest_faults env name body =
-    flat_map (range_faults name) (flat_map extension_ranges body)
-    ++ flat_map (range_faults name) (flat_map ranges_reserved (flat_map reserves body))
+rest_faults env name body = flat_map (range_faults name) body
     ++ construct_faults env of.Message message_table (options_of_body body)
 
 -- of the message of that name, but those that stand in one statement of its body
-abbrev pub whole_faults : Environment → Text → List MessageStatementSyntax → List MessageDescriptor
-    → List Fault
-whole_faults env name body nested =
-    body_duplicates (env_inside env name) body nested ++ rest_faults env name body
+abbrev pub whole_faults : Environment → Text → List MessageStatementSyntax → List Fault
+whole_faults env name body = body_duplicates env.syntax body ++ rest_faults env name body
 
 abbrev pub oneof_faults : Environment → OneofSyntax → List Fault
 oneof_faults env o =
@@ -280,8 +339,7 @@ abbrev mutual
   -- of a statement of a body
   pub statement_faults : Environment → MessageStatementSyntax → List Fault
   statement_faults env (message_message at name body) =
-      whole_faults env name (message_body body) (nested_in (env_inside env name) body)
-      ++ faults_in (env_inside env name) body
+      faults_in (env_inside env name) body ++ whole_faults env name (message_body body)
   statement_faults env (message_field f) = field_statement_faults env f
   statement_faults env (message_oneof o) = oneof_faults env o
   statement_faults env (message_extend e) = extend_faults env e

@@ -14,9 +14,7 @@ use Rattle.protobuf_parse_model.specs.Descriptors.{MessageDescriptor, field_view
 use Rattle.protobuf_parse_model.specs.Descriptors.{enum_view, message_view}
 use Rattle.protobuf_parse_model.specs.declared.descriptor.FieldType.{FieldType}
 use Rattle.protobuf_parse_model.specs.declared.descriptor.DescriptorProto.{DescriptorProto}
-use Rattle.protobuf_parse_model.specs.Faults.{Fault}
 use Rattle.protobuf_parse_model.specs.Statements.{groups}
-use Rattle.protobuf_parse_model.specs.Duplicates.{duplicates}
 use Rattle.protobuf_parse_model.specs.declared.descriptor.ReservedRange.{ReservedRange}
 use Rattle.protobuf_parse_model.specs.Options.{FieldOptionValues, MessageOptionValues}
 use Rattle.protobuf_parse_model.specs.Options.{field_options_view, message_options_view}
@@ -31,7 +29,6 @@ use Rattle.protobuf_parse_elaboration.specs.Messages.{messages_behind, oneofs_of
 use Rattle.protobuf_parse_elaboration.specs.Messages.{nested_of, enums_of, extended_of}
 use Rattle.protobuf_parse_elaboration.specs.Messages.{extension_ranges, reserves, options_of_body}
 use Rattle.protobuf_parse_syntax.specs.Trees.{OptionSyntax, FieldStatementSyntax}
-use Rattle.protobuf_parse_syntax.specs.Trees.{TypeSyntax, scalar, map_of, named}
 use Rattle.protobuf_parse_syntax.specs.Trees.{MessageStatementSyntax, ReservedSyntax}
 use Rattle.protobuf_parse_syntax.specs.Trees.{EnumValueSyntax, MethodSyntax, reserved_syntax}
 use Rattle.protobuf_parse_syntax.specs.Trees.{value_syntax, method_syntax, field_statement_syntax}
@@ -39,14 +36,12 @@ use Rattle.protobuf_parse_syntax.specs.declared.tree.field.FieldStatement.{Field
 use Rattle.protobuf_parse_syntax.specs.declared.tree.declaration.Method.{Method}
 use Rattle.protobuf_parse_syntax.specs.declared.tree.declaration.Reserved.{Reserved}
 use Rattle.protobuf_parse_syntax.specs.declared.tree.declaration.EnumValue.{EnumValue}
-use Rattle.protobuf_parse_elaboration.specs.Messages.{exclusive, names_of_oneofs, names_of_enums}
-use Rattle.protobuf_parse_elaboration.specs.Messages.{names_of_messages}
+use Rattle.protobuf_parse_elaboration.specs.Messages.{exclusive}
 use Rattle.protobuf_parse_elaboration.specs.Enums.{names_reserved, ranges_reserved}
-use Rattle.protobuf_parse_elaboration.specs.Fields.{names_of_fields}
 use Rattle.protobuf_parse_elaboration.specs.declared.convert.rest.Rest.{Rest}
 use Rattle.protobuf_parse_elaboration.specs.declared.convert.lists.DeclaredFields.{DeclaredFields}
 use Rattle.protobuf_parse_elaboration.specs.declared.convert.body.Body.{Body}
-use Rattle.protobuf_parse_elaboration.specs.Fields.{FieldTypeOf, inner_type_faults}
+use Rattle.protobuf_parse_elaboration.specs.Fields.{FieldTypeOf}
 
 abbrev pub resolved_view : ResolvedType → FieldTypeOf
 resolved_view r = record { kind = r.kind; name = option_map string_bytes r.name }
@@ -63,13 +58,6 @@ methods_seen ms = map (λ (m : Bor Method). method_syntax m.now) ms
 
 abbrev pub statements_seen : List (Bor FieldStatement) → List FieldStatementSyntax
 statements_seen ss = map (λ (s : Bor FieldStatement). field_statement_syntax s.now) ss
-
--- what is wrong in the types of the fields of a map's entry
-abbrev pub map_entry_faults : Environment → Text → TypeSyntax → List Fault
-map_entry_faults env name (map_of key value) =
-    inner_type_faults env name key ++ inner_type_faults env name value
-map_entry_faults env name (scalar s) = []
-map_entry_faults env name (named n) = []
 
 -- a field, and the message behind it, if one stands there
 pub record FieldAndMessage : Type 0 where
@@ -167,15 +155,6 @@ body_of env ss =
       extension =
           flat_map (extended_of env) ss;
     }
-
--- E1 for two of a kind that have one name
-abbrev pub names_faults : BodyParts → List Fault
-names_faults b =
-    duplicates (names_of_fields b.field)
-    ++ duplicates (names_of_oneofs b.oneof_decl)
-    ++ duplicates (names_of_fields b.extension)
-    ++ duplicates (names_of_enums b.enum_type)
-    ++ duplicates (names_of_messages b.nested_type)
 
 -- the ranges and the options of a message
 pub record RestParts : Type 0 where

@@ -1,14 +1,14 @@
 -- What the declaration of a service becomes: a ServiceDescriptorProto of
--- google/protobuf/descriptor.proto; and the faults that stand in it. The types of a method are
--- looked up from the package. Protocol Buffers Language Specification, "Service definition"
+-- google/protobuf/descriptor.proto; and the faults that stand in it, at its methods and at its
+-- options. The types of a method are looked up from the package. Protocol Buffers Language Specification, "Service definition"
 -- (https://protobuf.dev).
 use Rattle.std.specs.Prelude.{List, [], ◌∷◌, ◌++◌, map, flat_map, unwrap_or}
 use Rattle.protobuf_parse_syntax.specs.Trees.{OptionSyntax, OptionStatementSyntax, MethodSyntax}
 use Rattle.protobuf_parse_syntax.specs.Trees.{ServiceStatementSyntax, service_method}
 use Rattle.protobuf_parse_syntax.specs.Trees.{service_option, ServiceSyntax}
 use Rattle.protobuf_parse_model.specs.Descriptors.{MethodDescriptor, ServiceDescriptor}
-use Rattle.protobuf_parse_model.specs.Faults.{Fault}
-use Rattle.protobuf_parse_model.specs.Duplicates.{duplicates}
+use Rattle.protobuf_parse_model.specs.Faults.{Fault, placed}
+use Rattle.protobuf_parse_model.specs.Duplicates.{NamedAt, duplicates}
 use Rattle.protobuf_parse_model.specs.declared.customs.Construct.TheVariants as of
 use Rattle.protobuf_parse_model.specs.Environment.{Environment, customs_bytes, type_full_name}
 use Rattle.protobuf_parse_model.specs.Environment.{type_missing}
@@ -54,13 +54,16 @@ service_of env s = record {
 
 abbrev pub method_faults : Environment → MethodSyntax → List Fault
 method_faults env m =
-    type_missing env m.input ++ type_missing env m.output
+    placed m.place (type_missing env m.input ++ type_missing env m.output)
     ++ construct_faults env of.Method method_table (options_of_method m)
+
+abbrev pub method_named : MethodSyntax → NamedAt
+method_named m = record { place = m.place; name = m.name }
 
 -- E1 for two methods that have one name
 abbrev pub methods_faults : Environment → List MethodSyntax → List Fault
-methods_faults env methods = duplicates (map (λ (m : MethodSyntax). m.name) methods)
-    ++ flat_map (method_faults env) methods
+methods_faults env methods =
+    flat_map (method_faults env) methods ++ duplicates (map method_named methods)
 
 abbrev pub service_faults : Environment → ServiceSyntax → List Fault
 service_faults env s =

@@ -2,6 +2,7 @@
 
 mod body;
 mod contents;
+pub mod declared;
 mod enumeration;
 pub mod field;
 mod file;
@@ -13,27 +14,28 @@ mod names;
 mod oneof;
 mod options;
 mod place;
-pub mod refuse;
 mod reserved;
 mod rest;
 mod service;
 mod statement;
+mod told;
 pub mod types;
 mod unlike;
+mod viewpoint;
 
-ghost use Rattle.std.specs.Prelude.{List, ◌≤◌};
+ghost use Rattle.std.specs.Prelude.{List, ◌≡◌, ◌≤◌, ◌++◌, IfOk, OnOk};
 ghost use Rattle.protobuf_parse_syntax.specs.Counts.{statements_in};
 ghost use Rattle.protobuf_parse_syntax.specs.Trees.{FileSyntax, file_syntax};
 ghost use Rattle.protobuf_parse_model.specs.Descriptors as described;
-ghost use Rattle.protobuf_parse_model.specs.Faults.{Elaborates};
+ghost use Rattle.protobuf_parse_model.specs.Faults.{Elaborates, found};
 ghost use Rattle.protobuf_parse_model.specs.Tables.{TableTells, picked};
 ghost use Rattle.protobuf_parse_elaboration.specs.FileDescriptor.{environment, file_faults, file_of};
 
 use crate::convert::file::{descriptor_of_owned, file_descriptor};
 pub use options::{decoded_bytes, decoded_text, has_builtin_option};
-use protobuf_parse_model::{CustomOptions, ElabFailure, FileDescriptorProto, Seen};
+use protobuf_parse_model::{CustomOptions, ElabError, ElabFailure, FileDescriptorProto, Seen};
 use protobuf_parse_syntax::FileTree;
-use std::alloc::Global;
+use std::alloc::{AllocError, Global};
 
 /// The descriptor of a file.
 ///
@@ -43,8 +45,8 @@ use std::alloc::Global;
 /// one after the other, the answer is what the language says of a file that sees the files with
 /// these numbers.
 ///
-/// Where no fault stands in the file it gives the descriptor. Else it tells one that stands,
-/// whichever it meets first, unless memory runs out:
+/// Where no fault stands in the file it gives the descriptor. Else it tells the first, with its
+/// place, unless memory runs out:
 ///
 /// - E1: two things of one kind have one name in one scope;
 /// - E2, E3: the name of a type means none;
@@ -71,7 +73,9 @@ pub fn elaborate<C: CustomOptions>(
         let env = environment (picked files seen.now.sight.now) (C.customs custom.now) t in
         Elaborates described.file_view result (file_faults env t) (file_of env name.now t) }
 {
-    file_descriptor(alloc, name, tree, seen, custom)
+    let mut faults = Vec::new(alloc);
+    let descriptor = elaborate_all(alloc, &mut faults, name, tree, seen, custom)?;
+    unless_told(faults, descriptor)
 }
 
 /// As `elaborate`, of a tree that is not needed any more: each of its statements is dropped as soon
@@ -89,5 +93,70 @@ pub fn elaborate_owned<C: CustomOptions>(
         let env = environment (picked files seen.now.sight.now) (C.customs custom.now) t in
         Elaborates described.file_view result (file_faults env t) (file_of env name.now t) }
 {
-    descriptor_of_owned(alloc, name, tree, seen, custom)
+    let mut faults = Vec::new(alloc);
+    let descriptor = elaborate_all_owned(alloc, &mut faults, name, tree, seen, custom)?;
+    unless_told(faults, descriptor)
+}
+
+/// The descriptor of a file, and all its faults, which are added to those that are there: each of
+/// `elaborate`, at its place, and no other, in the order that the definitions give.
+///
+/// Where faults stand, the descriptor is what the definitions say all the same: the type of a name
+/// that means nothing is a message without a name, a default that is no string is written as it
+/// stands. The one error is that memory is short.
+pub fn elaborate_all<C: CustomOptions>(
+    alloc: Global,
+    faults: &mut Vec<ElabError>,
+    name: &str,
+    tree: &FileTree,
+    seen: &Seen<'_>,
+    custom: &C,
+) -> Result<FileDescriptorProto, AllocError>
+    requires few { statements_in (file_syntax tree.now) ≤ 2147483647 }
+    ensures value { (files : List FileSyntax) → TableTells seen.now.declarations.now files →
+        let t = file_syntax tree.now in
+        let env = environment (picked files seen.now.sight.now) (C.customs custom.now) t in
+        IfOk result (λ d. described.file_view d ≡ file_of env name.now t) }
+    ensures faults { (files : List FileSyntax) → TableTells seen.now.declarations.now files →
+        let t = file_syntax tree.now in
+        let env = environment (picked files seen.now.sight.now) (C.customs custom.now) t in
+        OnOk result (found faults.new ≡ found faults.old ++ file_faults env t) }
+{
+    file_descriptor(alloc, faults, name, tree, seen, custom)
+}
+
+/// As `elaborate_all`, of a tree whose statements are dropped as `elaborate_owned` drops them.
+pub fn elaborate_all_owned<C: CustomOptions>(
+    alloc: Global,
+    faults: &mut Vec<ElabError>,
+    name: &str,
+    tree: FileTree,
+    seen: &Seen<'_>,
+    custom: &C,
+) -> Result<FileDescriptorProto, AllocError>
+    requires few { statements_in (file_syntax tree) ≤ 2147483647 }
+    ensures value { (files : List FileSyntax) → TableTells seen.now.declarations.now files →
+        let t = file_syntax tree in
+        let env = environment (picked files seen.now.sight.now) (C.customs custom.now) t in
+        IfOk result (λ d. described.file_view d ≡ file_of env name.now t) }
+    ensures faults { (files : List FileSyntax) → TableTells seen.now.declarations.now files →
+        let t = file_syntax tree in
+        let env = environment (picked files seen.now.sight.now) (C.customs custom.now) t in
+        OnOk result (found faults.new ≡ found faults.old ++ file_faults env t) }
+{
+    descriptor_of_owned(alloc, faults, name, tree, seen, custom)
+}
+
+/// The descriptor, where no fault was told; else the first.
+#[tactic(auto, using(crate::proofs::Gathering::first_among, crate::proofs::Gathering::none_told))]
+fn unless_told(
+    mut faults: Vec<ElabError>,
+    descriptor: FileDescriptorProto,
+) -> Result<FileDescriptorProto, ElabFailure>
+    ensures { Elaborates (λ d. d) result (found faults) descriptor }
+{
+    if faults.is_empty() {
+        return Ok(descriptor);
+    }
+    Err(ElabFailure::Fault(faults.swap_remove(0)))
 }

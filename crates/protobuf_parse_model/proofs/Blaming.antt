@@ -4,9 +4,10 @@ use Rattle.std.proofs.Common.{Bool, true, cond, arith, ap, ◌∙◌, ◌+◌, t
 use Rattle.std.proofs.lemmas.Grind.{flat_map-append}
 use Rattle.std.proofs.lemmas.List.{take_more}
 use Rattle.std.specs.Prelude.{slice_index_or}
+use Rattle.protobuf_parse_lexer.specs.declared.lexer.token.Place.{Place}
 use Rattle.protobuf_parse_model.specs.declared.error.ElabFailure.{ElabFailure}
 use Rattle.protobuf_parse_model.specs.declared.error.ElabFailure.TheVariants as failure
-use Rattle.protobuf_parse_model.specs.Faults.{Among, here, there, Blames, Fault}
+use Rattle.protobuf_parse_model.specs.Faults.{Among, here, there, Blames, Fault, placed}
 use Rattle.protobuf_parse_model.specs.declared.error.ElabErrorKind.{ElabErrorKind}
 use Rattle.protobuf_parse_model.specs.Duplicates.{fault}
 
@@ -59,7 +60,8 @@ none_more faults xs i d lt before none =
     ∙ ap (λ fs. fs ++ (faults (get_or xs i d) ++ [])) before
     ∙ ap (λ fs. fs ++ []) none
 
--- a fault by its kind and its text
-pub among_fault : (kind : ElabErrorKind) (what text : List ℕ) → text ≡ what
-    → Among (fault kind what) (record { kind = kind; what = text })
-among_fault kind what text e = rw e here
+-- a fault by its place, its kind and its text
+pub among_fault : (place : Place) (kind : ElabErrorKind) (what text : List ℕ) → text ≡ what
+    → Among (placed place (fault kind what))
+    (record { place = place; wrong = record { kind = kind; what = text } })
+among_fault place kind what text e = rw e here

@@ -32,15 +32,15 @@ use Rattle.protobuf_parse_model.specs.Descriptors.{Text}
 use Rattle.protobuf_parse_model.specs.Declarations.{DeclaredType, a_message, an_enum}
 use Rattle.protobuf_parse_model.specs.Declarations.{file_extensions, file_generated, file_types}
 use Rattle.protobuf_parse_model.specs.SeenFiles.{declared_as}
-use Rattle.protobuf_parse_model.specs.Duplicates.{fault, fault_when}
 use Rattle.protobuf_parse_model.specs.Faults.{Among, here, there, Elaborates, Fault}
-use Rattle.protobuf_parse_model.specs.Linking.{extension_names, link_faults, occurrences, repeated}
+use Rattle.protobuf_parse_model.specs.Linking.{beginning, declared_twice, extension_names, link_faults}
+use Rattle.protobuf_parse_model.specs.Linking.{occurrences, repeated}
 use Rattle.protobuf_parse_model.specs.Linking.{type_names}
 use Rattle.protobuf_parse_model.specs.Tables.{Entry, TableTells, declared_by, declared_in}
 use Rattle.protobuf_parse_model.specs.Tables.{declared_in_file, extension_entry, generated_entry}
 use Rattle.protobuf_parse_model.specs.Tables.{is_of, declaration_kind, listed_faults, listed_names}
 use Rattle.protobuf_parse_model.specs.Tables.{name_list}
-use Rattle.protobuf_parse_model.specs.Tables.{name_faults, picked}
+use Rattle.protobuf_parse_model.specs.Tables.{name_faults, picked, twice_when}
 use Rattle.protobuf_parse_model.specs.Tables.{times, times_declared, type_entry}
 use Rattle.protobuf_parse_model.proofs.Blaming.{among_left, among_right}
 use Rattle.protobuf_parse_model.proofs.FileOrder.{contains_number}
@@ -232,11 +232,14 @@ among_cases (x ∷ xs) ys here = inl here
 among_cases (x ∷ xs) ys (there h) =
     elim (among_cases xs ys h) [ inl g ↦ inl (there g) | inr g ↦ inr g ]
 
+abbrev told_of : ElabErrorKind → Text → Fault
+told_of kind name = record { place = beginning; wrong = record { kind = kind; what = name } }
+
 -- a name that stands among names and more than once among all is told
 told : (kind : ElabErrorKind) (all : List Text) (name : Text)
     → nat_lt 1 (occurrences name all) ≡ true → (names : List Text) → 0 < occurrences name names
-    → Among (flat_map (fault kind) (filter (λ (x : Text). nat_lt 1 (occurrences x all)) names))
-    (record { kind = kind; what = name })
+    → Among (flat_map (declared_twice kind) (filter (λ (x : Text). nat_lt 1 (occurrences x all)) names))
+    (told_of kind name)
 told kind all name twice [] some = absurd (omega (arith, some))
 told kind all name twice (x ∷ xs) some =
     at (bytes_eq name x) refl some (told kind all name twice xs)
@@ -244,36 +247,36 @@ told kind all name twice (x ∷ xs) some =
     rest : List Text
     rest = filter (λ (x : Text). nat_lt 1 (occurrences x all)) xs
 
-    later : (b : Bool) → Among (flat_map (fault kind) rest) (record { kind = kind; what = name })
-        → Among (flat_map (fault kind) (cond b (x ∷ rest) rest))
-        (record { kind = kind; what = name })
+    later : (b : Bool) → Among (flat_map (declared_twice kind) rest) (told_of kind name)
+        → Among (flat_map (declared_twice kind) (cond b (x ∷ rest) rest))
+        (told_of kind name)
     later false h = h
     later true h = there h
 
     at : (b : Bool) → bytes_eq name x ≡ b
         → 0 < length (cond b (x ∷ filter (bytes_eq name) xs) (filter (bytes_eq name) xs))
         → (0 < occurrences name xs
-        → Among (flat_map (fault kind) rest) (record { kind = kind; what = name }))
-        → Among (flat_map (fault kind) (cond (nat_lt 1 (occurrences x all)) (x ∷ rest) rest))
-        (record { kind = kind; what = name })
+        → Among (flat_map (declared_twice kind) rest) (told_of kind name))
+        → Among (flat_map (declared_twice kind) (cond (nat_lt 1 (occurrences x all)) (x ∷ rest) rest))
+        (told_of kind name)
     at true e s more =
         let is : name ≡ x = (bytes_eq-Decides name x).0 e in
         let also : nat_lt 1 (occurrences x all)
         ≡ true = subst (λ (y : Text). nat_lt 1 (occurrences y all) ≡ true) is twice in
-        subst (λ (b : Bool). Among (flat_map (fault kind) (cond b (x ∷ rest) rest))
-        (record { kind = kind; what = name })) (sym also)
-        (subst (λ (y : Text). Among (record { kind = kind; what = x } ∷ flat_map (fault kind) rest)
-        (record { kind = kind; what = y })) (sym is) here)
+        subst (λ (b : Bool). Among (flat_map (declared_twice kind) (cond b (x ∷ rest) rest))
+        (told_of kind name)) (sym also)
+        (subst (λ (y : Text). Among (told_of kind x ∷ flat_map (declared_twice kind) rest)
+        (told_of kind y)) (sym is) here)
     at false e s more = later (nat_lt 1 (occurrences x all)) (more s)
 
 -- where no name stands more than once among all, none is told
 none_told : (kind : ElabErrorKind) (all : List Text)
     → ((name : Text) → nat_lt 1 (occurrences name all) ≡ false) → (names : List Text)
-    → flat_map (fault kind) (filter (λ (x : Text). nat_lt 1 (occurrences x all)) names) ≡ []
+    → flat_map (declared_twice kind) (filter (λ (x : Text). nat_lt 1 (occurrences x all)) names) ≡ []
 none_told kind all once [] = refl
 none_told kind all once (x ∷ xs) =
     let rest = filter (λ (x : Text). nat_lt 1 (occurrences x all)) xs in
-    ap (λ b. flat_map (fault kind) (cond b (x ∷ rest) rest)) (once x) ∙ none_told kind all once xs
+    ap (λ b. flat_map (declared_twice kind) (cond b (x ∷ rest) rest)) (once x) ∙ none_told kind all once xs
 
 append_nil_left : {A : Type 0} (xs ys : List A) → xs ++ ys ≡ [] → xs ≡ []
 append_nil_left [] ys e = refl
@@ -295,7 +298,7 @@ no_fault_at {A} faults all one e h = at all h.0 e h.1 h.2
     at (x ∷ xs) (suc k) gone lt is =
         at xs k (append_nil_right (faults x) (flat_map faults xs) gone) (omega (arith, lt)) is
 
-when_none : (b : Bool) (kind : ElabErrorKind) (name : Text) → fault_when b kind name ≡ []
+when_none : (b : Bool) (kind : ElabErrorKind) (name : Text) → twice_when b kind name ≡ []
     → b ≡ false
 when_none false kind name e = refl
 when_none true kind name e = absurd cc
@@ -360,13 +363,13 @@ module _ (seen : Seen) (files : List FileSyntax)
   faults_none false name e =
       when_none (nat_lt 1 (times_declared false seen name)) TypeDeclaredTwice name
       (append_nil_left
-      (fault_when (nat_lt 1 (times_declared false seen name)) TypeDeclaredTwice name)
-      (fault_when (nat_lt 1 (times_declared true seen name)) ExtensionDeclaredTwice name) e)
+      (twice_when (nat_lt 1 (times_declared false seen name)) TypeDeclaredTwice name)
+      (twice_when (nat_lt 1 (times_declared true seen name)) ExtensionDeclaredTwice name) e)
   faults_none true name e =
       when_none (nat_lt 1 (times_declared true seen name)) ExtensionDeclaredTwice name
       (append_nil_right
-      (fault_when (nat_lt 1 (times_declared false seen name)) TypeDeclaredTwice name)
-      (fault_when (nat_lt 1 (times_declared true seen name)) ExtensionDeclaredTwice name) e)
+      (twice_when (nat_lt 1 (times_declared false seen name)) TypeDeclaredTwice name)
+      (twice_when (nat_lt 1 (times_declared true seen name)) ExtensionDeclaredTwice name) e)
 
   -- none of the names that are listed for files that are reached is declared twice
   abbrev NoneTwice : Type 0
@@ -388,13 +391,13 @@ module _ (seen : Seen) (files : List FileSyntax)
 
   faultless : NoneTwice → link_faults reached ≡ []
   faultless none =
-      ap (λ fs. fs ++ flat_map (fault ExtensionDeclaredTwice) (repeated (names_reached true)))
+      ap (λ fs. fs ++ flat_map (declared_twice ExtensionDeclaredTwice) (repeated (names_reached true)))
       (none_told TypeDeclaredTwice (names_reached false) (once none false) (names_reached false))
       ∙ none_told ExtensionDeclaredTwice (names_reached true) (once none true) (names_reached true)
 
   one_told : (extension : Bool) (kind : ElabErrorKind) (name : Text) (f : Fault) (b : Bool)
-      → nat_lt 1 (times_declared extension seen name) ≡ b → Among (fault_when b kind name) f
-      → Among (flat_map (fault kind) (repeated (names_reached extension))) f
+      → nat_lt 1 (times_declared extension seen name) ≡ b → Among (twice_when b kind name) f
+      → Among (flat_map (declared_twice kind) (repeated (names_reached extension))) f
   one_told extension kind name f false e h = elim h [ ]
   one_told extension kind name f true e (there h) = elim h [ ]
   one_told extension kind name f true e here =
@@ -406,13 +409,13 @@ module _ (seen : Seen) (files : List FileSyntax)
       → Among (link_faults reached) f
   name_told name f h =
       elim (among_cases
-      (fault_when (nat_lt 1 (times_declared false seen name)) TypeDeclaredTwice name)
-      (fault_when (nat_lt 1 (times_declared true seen name)) ExtensionDeclaredTwice name) h) [
+      (twice_when (nat_lt 1 (times_declared false seen name)) TypeDeclaredTwice name)
+      (twice_when (nat_lt 1 (times_declared true seen name)) ExtensionDeclaredTwice name) h) [
         | inl g ↦ among_left
-            (flat_map (fault ExtensionDeclaredTwice) (repeated (names_reached true)))
+            (flat_map (declared_twice ExtensionDeclaredTwice) (repeated (names_reached true)))
             (one_told false TypeDeclaredTwice name f
             (nat_lt 1 (times_declared false seen name)) refl g)
-        | inr g ↦ among_right (flat_map (fault TypeDeclaredTwice) (repeated (names_reached false)))
+        | inr g ↦ among_right (flat_map (declared_twice TypeDeclaredTwice) (repeated (names_reached false)))
             (one_told true ExtensionDeclaredTwice name f
             (nat_lt 1 (times_declared true seen name)) refl g)
       ]

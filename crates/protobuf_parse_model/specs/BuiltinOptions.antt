@@ -34,7 +34,7 @@ use Rattle.protobuf_parse_model.specs.declared.descriptor.options.IdempotencyLev
 use Rattle.protobuf_parse_model.specs.declared.descriptor.options.IdempotencyLevel.TheVariants.{NoSideEffects}
 use Rattle.protobuf_parse_model.specs.declared.descriptor.options.IdempotencyLevel.TheVariants.{Idempotent}
 use Rattle.protobuf_parse_model.specs.Descriptors.{Text}
-use Rattle.protobuf_parse_model.specs.Faults.{Fault}
+use Rattle.protobuf_parse_model.specs.Faults.{Wrong, Fault, placed}
 use Rattle.protobuf_parse_model.specs.Duplicates.{fault, stands_in}
 
 -- ---- statements
@@ -171,11 +171,11 @@ method_table = truth_entries (codes "deprecated" ∷ [])
 -- ---- what is wrong
 
 -- E13 for a value of another kind, E9 for a string that is no text
-abbrev pub string_faults : Text → Option Text → List Fault
+abbrev pub string_faults : Text → Option Text → List Wrong
 string_faults name (Some text) = []
 string_faults name None = fault StrLitDecode name
 
-abbrev pub builtin_value_faults : Text → BuiltinKind → ConstantSyntax → List Fault
+abbrev pub builtin_value_faults : Text → BuiltinKind → ConstantSyntax → List Wrong
 builtin_value_faults name a_text (string pieces) = string_faults name (text_of pieces)
 builtin_value_faults name a_truth (truth b) = []
 builtin_value_faults name (a_word word_entry) (dotted n) =
@@ -183,24 +183,25 @@ builtin_value_faults name (a_word word_entry) (dotted n) =
 builtin_value_faults name _ _ = fault InconvertibleValue name
 
 -- E11 for a name that the table doesn't have
-abbrev pub builtin_entry_faults : Text → ConstantSyntax → Option (Text × BuiltinKind) → List Fault
+abbrev pub builtin_entry_faults : Text → ConstantSyntax → Option (Text × BuiltinKind) → List Wrong
 builtin_entry_faults name value None = fault BuiltinOptionNotFound name
 builtin_entry_faults name value (Some entry) = builtin_value_faults name entry.1 value
 
 -- every table has `uninterpreted_option`, which can't be set
-abbrev pub builtin_faults : Table → Text → ConstantSyntax → List Fault
+abbrev pub builtin_faults : Table → Text → ConstantSyntax → List Wrong
 builtin_faults table name value =
     if bytes_eq name (codes "uninterpreted_option")
     then fault BuiltinOptionPointsToNonSingularField name
     else builtin_entry_faults name value (find (λ entry. bytes_eq entry.0 name) table)
 
 -- of one statement; a custom option has no such fault
-abbrev pub named_faults : Table → ConstantSyntax → OptionNameSyntax → List Fault
+abbrev pub named_faults : Table → ConstantSyntax → OptionNameSyntax → List Wrong
 named_faults table value (builtin name) = builtin_faults table name value
 named_faults table value (custom parts) = []
 
+-- at the option
 abbrev pub option_faults : Table → OptionSyntax → List Fault
-option_faults table o = named_faults table o.value o.name
+option_faults table o = placed o.place (named_faults table o.value o.name)
 
 abbrev pub options_faults : Table → List OptionSyntax → List Fault
 options_faults table os = flat_map (option_faults table) os

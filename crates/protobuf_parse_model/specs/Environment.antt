@@ -7,7 +7,7 @@ use Rattle.protobuf_parse_model.specs.declared.error.ElabErrorKind.TheVariants.{
 use Rattle.protobuf_parse_model.specs.declared.error.ElabErrorKind.TheVariants.{NotFoundByRelPath}
 use Rattle.protobuf_parse_model.specs.declared.customs.Construct.{Construct}
 use Rattle.protobuf_parse_model.specs.Descriptors.{Text}
-use Rattle.protobuf_parse_model.specs.Faults.{Fault}
+use Rattle.protobuf_parse_model.specs.Faults.{Wrong, Fault}
 use Rattle.protobuf_parse_model.specs.Duplicates.{fault}
 use Rattle.protobuf_parse_model.specs.Declarations as names
 use Rattle.protobuf_parse_model.specs.Declarations.{Scope, DeclaredType, MessageOrEnum}
@@ -54,16 +54,16 @@ abbrev pub type_full_name : Environment → Text → Option Text
 type_full_name env name = option_map (λ (d : DeclaredType). d.name) (type_named env name)
 
 -- E2 or E3
-abbrev pub missing_name : Text → List Fault
+abbrev pub missing_name : Text → List Wrong
 missing_name name =
     fault (if begins_with_dot name then NotFoundByAbsPath else NotFoundByRelPath) name
 
 -- for a name that means nothing
-abbrev pub missing : {A : Type 0} → Text → Option A → List Fault
+abbrev pub missing : {A : Type 0} → Text → Option A → List Wrong
 missing name (Some x) = []
 missing name None = missing_name name
 
-abbrev pub type_missing : Environment → Text → List Fault
+abbrev pub type_missing : Environment → Text → List Wrong
 type_missing env name = missing name (type_named env name)
 
 -- ---- custom options

@@ -1,17 +1,39 @@
--- The faults that stand in a file, and which of them an answer may tell.
-use Rattle.std.specs.Prelude.{◌≡◌, ℕ, List, [], ◌∷◌, Result, Ok, Err, string_bytes}
+-- The faults that stand in a file, each with its place, and which of them an answer may tell.
+--
+-- What is wrong in a construct is said by its definition; where the construct becomes a part of
+-- another, its faults are placed: at the statement that declares it, or at the option that is
+-- wrong.
+use Rattle.std.specs.Prelude.{◌≡◌, ℕ, List, [], ◌∷◌, map, Result, Ok, Err, string_bytes}
+use Rattle.std.specs.Global.{Vec}
+use Rattle.protobuf_parse_lexer.specs.declared.lexer.token.Place.{Place}
 use Rattle.protobuf_parse_model.specs.declared.error.ElabErrorKind.{ElabErrorKind}
 use Rattle.protobuf_parse_model.specs.declared.error.ElabError.{ElabError}
 use Rattle.protobuf_parse_model.specs.declared.error.ElabFailure.{ElabFailure}
 use Rattle.protobuf_parse_model.specs.declared.error.ElabFailure.TheVariants as failure
 
 -- what is wrong, and the text that it speaks of
-pub record Fault : Type 0 where
+pub record Wrong : Type 0 where
   pub kind : ElabErrorKind
   pub what : List ℕ
 
+-- the same, and where it stands
+pub record Fault : Type 0 where
+  pub place : Place
+  pub wrong : Wrong
+
+-- what is wrong in a statement stands at its place
+abbrev pub placed : Place → List Wrong → List Fault
+placed place wrongs = map (λ (w : Wrong). record { place = place; wrong = w }) wrongs
+
 abbrev pub fault_view : ElabError → Fault
-fault_view e = record { kind = e.kind; what = string_bytes e.what }
+fault_view e = record {
+  place = e.place;
+  wrong = record { kind = e.kind; what = string_bytes e.what };
+}
+
+-- the faults that were told
+abbrev pub found : Vec ElabError → List Fault
+found faults = map fault_view faults.items
 
 -- the value stands in the list
 pub data Among {A : Type 0} : List A → A → Type 0 where

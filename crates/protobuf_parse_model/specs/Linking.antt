@@ -6,11 +6,13 @@
 -- (https://protobuf.dev).
 use Rattle.std.specs.Prelude.{ℕ, nat_lt, List, [], ◌∷◌, ◌++◌, map, filter, flat_map, length}
 use Rattle.std.specs.Prelude.{bytes_eq}
+use Rattle.protobuf_parse_lexer.specs.declared.lexer.token.Place.{Place}
 use Rattle.protobuf_parse_syntax.specs.Trees.{FileSyntax}
+use Rattle.protobuf_parse_model.specs.declared.error.ElabErrorKind.{ElabErrorKind}
 use Rattle.protobuf_parse_model.specs.declared.error.ElabErrorKind.TheVariants.{TypeDeclaredTwice}
 use Rattle.protobuf_parse_model.specs.declared.error.ElabErrorKind.TheVariants.{ExtensionDeclaredTwice}
 use Rattle.protobuf_parse_model.specs.Descriptors.{Text}
-use Rattle.protobuf_parse_model.specs.Faults.{Fault}
+use Rattle.protobuf_parse_model.specs.Faults.{Fault, placed}
 use Rattle.protobuf_parse_model.specs.Duplicates.{fault}
 use Rattle.protobuf_parse_model.specs.Declarations.{DeclaredType, DeclaredExtension, file_types}
 use Rattle.protobuf_parse_model.specs.Declarations.{file_generated, file_extensions}
@@ -30,11 +32,18 @@ occurrences name names = length (filter (bytes_eq name) names)
 abbrev pub repeated : List Text → List Text
 repeated names = filter (λ (name : Text). nat_lt 1 (occurrences name names)) names
 
+-- A name that is declared twice stands nowhere in particular: it is told where the file begins.
+abbrev pub beginning : Place
+beginning = record { line = 1; col = 1 }
+
+abbrev pub declared_twice : ElabErrorKind → Text → List Fault
+declared_twice kind name = placed beginning (fault kind name)
+
 -- E5 and E6 of a file that reaches these files
 abbrev pub link_faults : List FileSyntax → List Fault
 link_faults reached =
-    flat_map (fault TypeDeclaredTwice) (repeated (flat_map type_names reached))
-    ++ flat_map (fault ExtensionDeclaredTwice) (repeated (flat_map extension_names reached))
+    flat_map (declared_twice TypeDeclaredTwice) (repeated (flat_map type_names reached))
+    ++ flat_map (declared_twice ExtensionDeclaredTwice) (repeated (flat_map extension_names reached))
 
 -- The faults of a file: those, or where there are none these others. Until each name is declared
 -- once, what names mean isn't settled, so that nothing else is looked for.

@@ -8,6 +8,7 @@ use Rattle.std.specs.Global.{Global, Vec}
 use Rattle.std.specs.BTreeMap.{BTreeMap, get, keys}
 use Rattle.std.specs.Ordering.{nat_cmp}
 use Rattle.protobuf_parse_syntax.specs.Trees.{FileSyntax}
+use Rattle.protobuf_parse_model.specs.declared.error.ElabErrorKind.{ElabErrorKind}
 use Rattle.protobuf_parse_model.specs.declared.error.ElabErrorKind.TheVariants.{TypeDeclaredTwice}
 use Rattle.protobuf_parse_model.specs.declared.error.ElabErrorKind.TheVariants.{ExtensionDeclaredTwice}
 use Rattle.protobuf_parse_model.specs.declared.scope.seen.DeclarationKind.{DeclarationKind}
@@ -16,8 +17,9 @@ use Rattle.protobuf_parse_model.specs.declared.scope.seen.Declaration.{Declarati
 use Rattle.protobuf_parse_model.specs.declared.scope.seen.Declarations.{Declarations}
 use Rattle.protobuf_parse_model.specs.declared.scope.seen.Seen.{Seen}
 use Rattle.protobuf_parse_model.specs.Descriptors.{Text}
-use Rattle.protobuf_parse_model.specs.Faults.{Fault}
+use Rattle.protobuf_parse_model.specs.Faults.{Fault, placed}
 use Rattle.protobuf_parse_model.specs.Duplicates.{fault_when}
+use Rattle.protobuf_parse_model.specs.Linking.{beginning}
 use Rattle.protobuf_parse_model.specs.Declarations as declared
 use Rattle.protobuf_parse_model.specs.Declarations.{Declared, DeclaredType, DeclaredExtension}
 use Rattle.protobuf_parse_model.specs.Declarations.{a_message, an_enum, file_types, file_generated}
@@ -136,11 +138,15 @@ abbrev pub times_declared : Bool → Seen → Text → ℕ
 times_declared extension seen name =
     times extension seen.reach.now (declared_as seen.declarations.now name)
 
+-- where the file begins, if the test says so
+abbrev pub twice_when : Bool → ElabErrorKind → Text → List Fault
+twice_when stands kind name = placed beginning (fault_when stands kind name)
+
 -- E5 and E6 for the name
 abbrev pub name_faults : Seen → Text → List Fault
 name_faults seen name =
-    fault_when (nat_lt 1 (times_declared false seen name)) TypeDeclaredTwice name
-    ++ fault_when (nat_lt 1 (times_declared true seen name)) ExtensionDeclaredTwice name
+    twice_when (nat_lt 1 (times_declared false seen name)) TypeDeclaredTwice name
+    ++ twice_when (nat_lt 1 (times_declared true seen name)) ExtensionDeclaredTwice name
 
 -- the same for the names that are listed for a file
 abbrev pub listed_faults : Seen → ℕ → List Fault

@@ -5,10 +5,10 @@ ghost use Rattle.protobuf_parse_syntax.specs.Trees.{option_part_syntax};
 ghost use Rattle.protobuf_parse_model.specs.SeenFiles.{name_texts};
 ghost use Rattle.protobuf_parse_model.specs.Environment.{Customs, no_customs};
 ghost use Rattle.protobuf_parse_model.specs.Environment.{part_text, option_path_text};
-ghost use Rattle.protobuf_parse_model.specs.Faults.{Elaborates};
+ghost use Rattle.protobuf_parse_model.specs.Faults.{found};
 ghost use Rattle.protobuf_parse_model.specs.BuiltinOptions.{options_seen};
 
-use crate::error::ElabFailure;
+use crate::error::ElabError;
 use protobuf_parse_syntax::{ProtobufOption, ProtobufOptionNamePart};
 use std::alloc::{AllocError, Global};
 
@@ -35,18 +35,21 @@ pub trait CustomOptions {
     /// construct.
     ///
     /// The names of extensions are looked up from the scope: the names of the package and of the
-    /// messages around the construct, the outermost first. Where something is wrong, one of the
-    /// faults is told.
+    /// messages around the construct, the outermost first. What is wrong is added to the faults,
+    /// each at its option.
     fn bytes(
         &self,
         alloc: Global,
+        faults: &mut Vec<ElabError>,
         construct: Construct,
         scope: &[&str],
         options: &[&ProtobufOption],
-    ) -> Result<Vec<u8>, ElabFailure>
-        ensures { let c = customs self.now in let os = options_seen options.now in
-            Elaborates (λ v. v.items) result (c.faults construct (name_texts scope.now) os)
-            (c.bytes construct (name_texts scope.now) os) };
+    ) -> Result<Vec<u8>, AllocError>
+        ensures value { let c = customs self.now in let os = options_seen options.now in
+            IfOk result (λ v. v.items ≡ c.bytes construct (name_texts scope.now) os) }
+        ensures faults { let c = customs self.now in let os = options_seen options.now in
+            OnOk result (found faults.new ≡ found faults.old
+            ++ c.faults construct (name_texts scope.now) os) };
 }
 
 /// Leaves custom options out: nothing is wrong in any, and each becomes no bytes.
@@ -59,10 +62,11 @@ impl CustomOptions for WithoutCustoms {
     fn bytes(
         &self,
         alloc: Global,
+        _faults: &mut Vec<ElabError>,
         _construct: Construct,
         _scope: &[&str],
         _options: &[&ProtobufOption],
-    ) -> Result<Vec<u8>, ElabFailure> {
+    ) -> Result<Vec<u8>, AllocError> {
         Ok(Vec::new(alloc))
     }
 }

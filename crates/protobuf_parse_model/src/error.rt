@@ -1,10 +1,11 @@
 //! Why a tree has no descriptor.
 
-ghost use Rattle.std.specs.Prelude.{◌≡◌};
+ghost use Rattle.std.specs.Prelude.{◌≡◌, ◌++◌, OnOk};
 ghost use Rattle.protobuf_parse_model.specs.Duplicates.{fault};
-ghost use Rattle.protobuf_parse_model.specs.Faults.{Blames};
+ghost use Rattle.protobuf_parse_model.specs.Faults.{Blames, found, placed};
 ghost use Rattle.protobuf_parse_model.specs.declared.error.ElabFailure.TheVariants.{Memory};
 
+use protobuf_parse_lexer::Place;
 use std::alloc::{AllocError, AllocFailed, Global};
 use std::fmt;
 use thiserror::Error;
@@ -13,6 +14,9 @@ use thiserror::Error;
 #[derive(Debug, PartialEq, Eq, Drop, Error)]
 #[error("{kind}: {what}")]
 pub struct ElabError {
+    /// Where the statement begins in which it stands, or the option that is wrong. E1: the second
+    /// of the declarations. E5, E6: where the file begins.
+    pub place: Place,
     pub kind: ElabErrorKind,
     /// E1: the name. E2, E3: the name of the type as written. E4, E8: the field's name. E5, E6: the
     /// full name with its dot. E7: the message's name. E9 to E13: the option's name as written,
@@ -147,13 +151,29 @@ impl<T: Drop> From<AllocFailed<T>> for ElabFailure {
     }
 }
 
-/// The failure that tells a fault of that kind, and the text that it speaks of.
+/// The failure that tells a fault of that kind at that place, and the text that it speaks of.
 #[tactic(auto, using(crate::proofs::Blaming::among_fault))]
-pub fn fault(alloc: Global, kind: ElabErrorKind, what: &str) -> ElabFailure
-    ensures { Blames result (fault kind what.now) }
+pub fn fault(alloc: Global, place: Place, kind: ElabErrorKind, what: &str) -> ElabFailure
+    ensures { Blames result (placed place (fault kind what.now)) }
 {
     match String::from_str(alloc, what) {
-        Ok(what) => ElabFailure::Fault(ElabError { kind, what }),
+        Ok(what) => ElabFailure::Fault(ElabError { place, kind, what }),
         Err(_) => ElabFailure::Memory,
     }
+}
+
+/// Adds the fault of that kind at that place, and the text that it speaks of.
+pub fn tell(
+    alloc: Global,
+    faults: &mut Vec<ElabError>,
+    place: Place,
+    kind: ElabErrorKind,
+    what: &str,
+) -> Result<(), AllocError>
+    ensures { OnOk result
+        (found faults.new ≡ found faults.old ++ placed place (fault kind what.now)) }
+{
+    let what = String::from_str(alloc, what)?;
+    faults.push(ElabError { place, kind, what })?;
+    Ok(())
 }

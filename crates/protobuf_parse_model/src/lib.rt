@@ -16,7 +16,7 @@ pub use descriptor::{
     Label, MessageOptions, MethodDescriptorProto, MethodOptions, OneofDescriptorProto,
     OneofOptions, OptimizeMode, ReservedRange, ServiceDescriptorProto, ServiceOptions,
 };
-pub use error::{ElabError, ElabErrorKind, ElabFailure, fault};
+pub use error::{ElabError, ElabErrorKind, ElabFailure, fault, tell};
 pub use linking::link;
 pub use made_names::{entry_name, group_field_name};
 pub use scope::{

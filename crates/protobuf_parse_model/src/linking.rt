@@ -14,7 +14,11 @@ ghost use Rattle.protobuf_parse_model.specs.Tables.{name_faults, picked, times};
 
 use crate::error::{ElabErrorKind, ElabFailure, fault};
 use crate::scope::{Declaration, DeclarationKind, Declarations, Seen, declarations_of, in_file};
+use protobuf_parse_lexer::Place;
 use std::alloc::Global;
+
+/// Where a file begins.
+const BEGINNING: Place = Place { line: 1, col: 1 };
 
 /// Refuses a full name that the files that are reached declare more than once.
 ///
@@ -105,10 +109,10 @@ fn check_name(alloc: Global, seen: &Seen<'_>, name: &str) -> Result<(), ElabFail
 {
     let declarations = declarations_of(seen.declarations, name);
     if times(seen, declarations, false) > 1 {
-        return Err(fault(alloc, ElabErrorKind::TypeDeclaredTwice, name));
+        return Err(fault(alloc, BEGINNING, ElabErrorKind::TypeDeclaredTwice, name));
     }
     if times(seen, declarations, true) > 1 {
-        return Err(fault(alloc, ElabErrorKind::ExtensionDeclaredTwice, name));
+        return Err(fault(alloc, BEGINNING, ElabErrorKind::ExtensionDeclaredTwice, name));
     }
     Ok(())
 }

@@ -12,7 +12,7 @@ use Rattle.protobuf_parse_syntax.specs.Trees.{OptionNameSyntax, builtin, custom,
 use Rattle.protobuf_parse_model.specs.declared.error.ElabErrorKind.TheVariants.{UnknownFieldName}
 use Rattle.protobuf_parse_model.specs.declared.error.ElabErrorKind.TheVariants.{WrongExtensionType}
 use Rattle.protobuf_parse_model.specs.Descriptors.{Text, FieldDescriptor, FileDescriptor}
-use Rattle.protobuf_parse_model.specs.Faults.{Fault}
+use Rattle.protobuf_parse_model.specs.Faults.{Wrong}
 use Rattle.protobuf_parse_model.specs.Declarations.{Declared}
 use Rattle.protobuf_parse_model.specs.Duplicates.{fault_when}
 use Rattle.protobuf_parse_model.specs.declared.customs.Construct.{Construct}
@@ -39,6 +39,8 @@ use Rattle.protobuf_parse_options.specs.CustomFaults.{custom_faults, custom_name
 use Rattle.protobuf_parse_options.specs.CustomFaults.{custom_statement_faults}
 use Rattle.protobuf_parse_options.specs.WithoutOptions.{bare_field}
 use Rattle.protobuf_parse_options.proofs.BareDeclarations.{bare_extension}
+use Rattle.protobuf_parse_options.specs.CustomFaults.{option_faults_at, first_of}
+use Rattle.protobuf_parse_model.specs.Faults.{placed}
 
 -- names mean the same from both, but for options
 pub record AlikeLookups (at at' : OptionScope) : Type 0 where
@@ -132,12 +134,12 @@ module _ (at : OptionScope) where
         (list_items-bare cs f)
 
   -- what is wrong where a value is given to a field
-  abbrev given_faults : Text → ConstantSyntax → FieldDescriptor → List Fault
+  abbrev given_faults : Text → ConstantSyntax → FieldDescriptor → List Wrong
   given_faults option c g = number_faults g ++ constant_faults at option g c
 
   given-bare : (option : Text) (c : ConstantSyntax) → AsksNoOption (given_faults option c)
   given-bare option c g =
-      ap (λ (xs : List Fault). number_faults g ++ xs) (constant_faults-bare option g c)
+      ap (λ (xs : List Wrong). number_faults g ++ xs) (constant_faults-bare option g c)
 
 -- an extension that extends the message
 if_extends-bare : (files : List FileDescriptor) (message : Text)
@@ -262,7 +264,7 @@ module _ (at at' : OptionScope) (same : AlikeLookups at at') where
         (both-same (constant_name_faults at message name)
         (constant_name_faults at' message name) _ _ (constant_name-same message name)
         (found-alike (given_faults at option c) (given_faults at' option c) (given-bare at option c)
-        (λ g. ap (λ (xs : List Fault). number_faults g ++ xs) (constant_faults-same option g c))
+        (λ g. ap (λ (xs : List Wrong). number_faults g ++ xs) (constant_faults-same option g c))
         (constant_field at message name) (constant_field at' message name)
         (constant-alike message name)))
         (member_faults-same option message fs)
@@ -278,7 +280,7 @@ module _ (at at' : OptionScope) (same : AlikeLookups at at') where
       (part_faults-same message p)
       (found-alike (given_faults at option value) (given_faults at' option value)
       (given-bare at option value)
-      (λ g. ap (λ (xs : List Fault). number_faults g ++ xs) (constant_faults-same option g value))
+      (λ g. ap (λ (xs : List Wrong). number_faults g ++ xs) (constant_faults-same option g value))
       (part_field at message p) (part_field at' message p) (part-alike message p))
   path_faults-same option value message (p ∷ q ∷ ps) =
       both-same (part_faults at message p) (part_faults at' message p) _ _
@@ -290,7 +292,7 @@ module _ (at at' : OptionScope) (same : AlikeLookups at at') where
       ++ step_faults (part_text p) (type_takes g.type_)
       (path_faults at' option value (type_name_of g) (q ∷ ps)))
       (λ g. refl)
-      (λ g. ap (λ (xs : List Fault). number_faults g
+      (λ g. ap (λ (xs : List Wrong). number_faults g
       ++ step_faults (part_text p) (type_takes g.type_) xs) (path_faults-same option value
       (type_name_of g) (q ∷ ps))) (part_field at message p) (part_field at' message
       p) (part-alike message p))
@@ -368,9 +370,9 @@ module _ (at at' : OptionScope) (same : AlikeLookups at at') where
   pub faults-same : (construct : Construct) (os : List OptionSyntax)
       → custom_statement_faults at construct os ≡ custom_statement_faults at' construct os
   faults-same construct os =
-      flat-same (λ (o : OptionSyntax). custom_name_faults at construct o.value o.name)
-      (λ (o : OptionSyntax). custom_name_faults at' construct o.value o.name)
-      (λ o. named_faults-same construct o.value o.name) os
+      flat-same (option_faults_at at construct) (option_faults_at at' construct)
+      (λ o. ap (λ (ws : List Wrong). placed o.place (first_of ws))
+      (named_faults-same construct o.value o.name)) os
 
   pub meaning-same : (construct : Construct) (os : List OptionSyntax)
       → denotes at construct os ≡ denotes at' construct os

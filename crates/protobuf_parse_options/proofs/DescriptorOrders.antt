@@ -46,6 +46,8 @@ use Rattle.protobuf_parse_options.specs.DescriptorsByPath.{AreReordered, OrderMa
 use Rattle.protobuf_parse_options.proofs.ExtensionsAlike.{extensions_are_counted_alike}
 use Rattle.protobuf_parse_options.proofs.NamesAlike.{types_are_counted_alike}
 use Rattle.protobuf_parse_options.proofs.SameLookups.{lookups_decide_faults, lookups_decide_meaning}
+use Rattle.protobuf_parse_options.specs.OptionBytes.{bytes_unless}
+use Rattle.protobuf_parse_options.specs.CustomOptions.{denotes}
 
 -- ---- lists
 
@@ -366,7 +368,12 @@ module _ (trees : Trees) (env : Environments) (reached reached' seen seen' : Lis
       → (meant_from trees env reached seen).bytes construct scope os
       ≡ (meant_from trees env reached' seen').bytes construct scope os
   spelling-same scope construct os =
-      ap encoded
+      ap (λ fs. bytes_unless fs
+      (encoded (denotes (seen_from trees env reached seen scope) construct os)))
+      (options-same scope construct os)
+      ∙ ap (λ es. bytes_unless
+      (custom_statement_faults (seen_from trees env reached' seen' scope) construct os)
+      (encoded es))
       (lookups_decide_meaning (seen_from trees env reached seen scope)
       (seen_from trees env reached' seen' scope)
       (lookups-same scope) construct os)

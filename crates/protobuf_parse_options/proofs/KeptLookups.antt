@@ -11,7 +11,7 @@ use Rattle.protobuf_parse_syntax.specs.Trees.{OptionNameSyntax, builtin, custom,
 use Rattle.protobuf_parse_model.specs.declared.error.ElabErrorKind.TheVariants.{UnknownFieldName}
 use Rattle.protobuf_parse_model.specs.declared.error.ElabErrorKind.TheVariants.{WrongExtensionType}
 use Rattle.protobuf_parse_model.specs.Descriptors.{Text, FieldDescriptor, FileDescriptor}
-use Rattle.protobuf_parse_model.specs.Faults.{Fault}
+use Rattle.protobuf_parse_model.specs.Faults.{Wrong}
 use Rattle.protobuf_parse_model.specs.Declarations.{Declared}
 use Rattle.protobuf_parse_model.specs.Duplicates.{fault_when}
 use Rattle.protobuf_parse_model.specs.declared.customs.Construct.{Construct}
@@ -38,21 +38,24 @@ use Rattle.protobuf_parse_options.specs.CustomFaults.{part_faults, step_faults, 
 use Rattle.protobuf_parse_options.specs.CustomFaults.{custom_name_faults}
 use Rattle.protobuf_parse_options.specs.MoreFiles.{KeepsLookups, LookupsKeepMeaning}
 use Rattle.protobuf_parse_options.proofs.Writable.{no_left, no_right, plain_step_has_fault}
+use Rattle.protobuf_parse_options.specs.CustomFaults.{option_faults_at, custom_statement_faults}
+use Rattle.protobuf_parse_options.proofs.Refusing.{none_wrong, none_placed}
 
 -- ---- faults and items together
 
 -- no fault stands, and the items are as before
-record Kept (faults : List Fault) (items' items : List WireItem) : Type 0 where
+record Kept {A : Type 0} (faults : List A) (items' items : List WireItem) : Type 0 where
   faultless : faults ≡ []
   same : items' ≡ items
 
-nothing_kept : Kept [] [] []
+nothing_kept : {A : Type 0} → Kept {A = A} [] [] []
 nothing_kept = record { faultless = refl; same = refl }
 
-none_both : (xs ys : List Fault) → xs ≡ [] → ys ≡ [] → xs ++ ys ≡ []
+none_both : {A : Type 0} (xs ys : List A) → xs ≡ [] → ys ≡ [] → xs ++ ys ≡ []
 none_both xs ys e h = ap (λ zs. zs ++ ys) e ∙ h
 
-both_kept : (fs gs : List Fault) (xs' xs ys' ys : List WireItem) → Kept fs xs' xs → Kept gs ys' ys
+both_kept : {A : Type 0} (fs gs : List A) (xs' xs ys' ys : List WireItem) → Kept fs xs' xs
+    → Kept gs ys' ys
     → Kept (fs ++ gs) (xs' ++ ys') (xs ++ ys)
 both_kept fs gs xs' xs ys' ys k l = record {
   faultless = none_both fs gs k.faultless l.faultless;
@@ -60,7 +63,7 @@ both_kept fs gs xs' xs ys' ys k l = record {
 }
 
 -- faults of the number, which are the same from both, before others
-numbered_kept : (own fs fs' : List Fault) (xs' xs : List WireItem) → (fs ≡ [] → Kept fs' xs' xs)
+numbered_kept : (own fs fs' : List Wrong) (xs' xs : List WireItem) → (fs ≡ [] → Kept fs' xs' xs)
     → own ++ fs ≡ [] → Kept (own ++ fs') xs' xs
 numbered_kept own fs fs' xs' xs each h =
     let k = each (no_right own fs h) in
@@ -69,15 +72,15 @@ numbered_kept own fs fs' xs' xs each h =
 -- ---- what is found
 
 -- a name with these faults means the same field from both
-record IsMeant (faults : List Fault) (o o' : Option FieldDescriptor) : Type 0 where
+record IsMeant (faults : List Wrong) (o o' : Option FieldDescriptor) : Type 0 where
   field : FieldDescriptor
   first : o ≡ Some field
   still : o' ≡ Some field
   faultless : faults ≡ []
 
 -- what is given to it
-found_kept : (own own' : List Fault) (o o' : Option FieldDescriptor)
-    (faults faults' : FieldDescriptor → List Fault) (items' items : FieldDescriptor → List WireItem)
+found_kept : (own own' : List Wrong) (o o' : Option FieldDescriptor)
+    (faults faults' : FieldDescriptor → List Wrong) (items' items : FieldDescriptor → List WireItem)
     → (own ≡ [] → IsMeant own' o o')
     → ((g : FieldDescriptor) → faults g ≡ [] → Kept (faults' g) (items' g) (items g))
     → own ++ flat_map faults (option_to_list o) ≡ []
@@ -109,18 +112,18 @@ value_known name names_of_values value (Some z) h = (z, refl)
 value_known name other value o h = absurd cc
 
 -- a message constant without faults is given to a message
-message_taken : (name : Text) (t : Takes) (inside : List Fault)
+message_taken : (name : Text) (t : Takes) (inside : List Wrong)
     → message_value_faults name t inside ≡ [] → (t ≡ messages) × (inside ≡ [])
 message_taken name messages inside h = (refl, h)
 message_taken name other inside h = absurd cc
 
 -- and so are the parts behind one
-step_taken : (part : Text) (t : Takes) (inside : List Fault) → step_faults part t inside ≡ []
+step_taken : (part : Text) (t : Takes) (inside : List Wrong) → step_faults part t inside ≡ []
     → (t ≡ messages) × (inside ≡ [])
 step_taken part messages inside h = (refl, h)
 step_taken part other inside h = absurd cc
 
-message_kept : (name : Text) (t : Takes) (f : FieldDescriptor) (inside inside' : List Fault)
+message_kept : (name : Text) (t : Takes) (f : FieldDescriptor) (inside inside' : List Wrong)
     (xs' xs : List WireItem) → (inside ≡ [] → Kept inside' xs' xs)
     → message_value_faults name t inside ≡ []
     → Kept (message_value_faults name t inside') (item_of_message f xs') (item_of_message f xs)
@@ -133,7 +136,7 @@ message_kept name t f inside inside' xs' xs each h =
       same = ap (item_of_message f) k.same;
     }
 
-step_kept : (part : Text) (t : Takes) (f : FieldDescriptor) (inside inside' : List Fault)
+step_kept : (part : Text) (t : Takes) (f : FieldDescriptor) (inside inside' : List Wrong)
     (xs' xs : List WireItem) → (inside ≡ [] → Kept inside' xs' xs) → step_faults part t inside ≡ []
     → Kept (step_faults part t inside') (item_of_message f xs') (item_of_message f xs)
 step_kept part t f inside inside' xs' xs each h =
@@ -362,20 +365,29 @@ module _ (at at' : OptionScope) (keeps : KeepsLookups at at') where
       path_kept (option_path_text (extension name ∷ ps)) value (options_message construct)
       (extension name ∷ ps) h
 
+  option_kept : (construct : Construct) (o : OptionSyntax) → option_faults_at at construct o ≡ []
+      → Kept (option_faults_at at' construct o) (items_of_option at' construct o)
+      (items_of_option at construct o)
+  option_kept construct o h =
+      let k = named_kept construct o.value o.name
+      (none_wrong o.place (custom_name_faults at construct o.value o.name) h) in
+      record {
+        faultless = none_placed o.place (custom_name_faults at' construct o.value o.name) k.faultless;
+        same = k.same;
+      }
+
   set_kept : (construct : Construct) (os : List OptionSyntax)
-      → flat_map (λ (o : OptionSyntax). custom_name_faults at construct o.value o.name) os ≡ []
-      → Kept (flat_map (λ (o : OptionSyntax). custom_name_faults at' construct o.value o.name) os)
+      → custom_statement_faults at construct os ≡ []
+      → Kept (custom_statement_faults at' construct os)
       (flat_map (items_of_option at' construct) os) (flat_map (items_of_option at construct) os)
   set_kept construct [] h = nothing_kept
   set_kept construct (o ∷ os) h =
-      let first : List Fault = custom_name_faults at construct o.value o.name in
-      let others : List Fault = flat_map
-      (λ (x : OptionSyntax). custom_name_faults at construct x.value x.name) os in
-      both_kept (custom_name_faults at' construct o.value o.name)
-      (flat_map (λ (x : OptionSyntax). custom_name_faults at' construct x.value x.name) os)
+      let first = option_faults_at at construct o in
+      let others = custom_statement_faults at construct os in
+      both_kept (option_faults_at at' construct o) (custom_statement_faults at' construct os)
       (items_of_option at' construct o) (items_of_option at construct o)
       (flat_map (items_of_option at' construct) os) (flat_map (items_of_option at construct) os)
-      (named_kept construct o.value o.name (no_left first others h))
+      (option_kept construct o (no_left first others h))
       (set_kept construct os (no_right first others h))
 
 pub lookups_keep_meaning : LookupsKeepMeaning

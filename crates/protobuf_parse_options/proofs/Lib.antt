@@ -1,3 +1,4 @@
+pub mod Refusing
 mod Rows
 pub mod Writable
 pub mod Options

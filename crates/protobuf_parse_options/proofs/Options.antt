@@ -23,7 +23,7 @@ use Rattle.protobuf_parse_model.specs.declared.descriptor.FieldType.{FieldType}
 use Rattle.protobuf_parse_model.specs.declared.descriptor.FieldType.TheVariants as types
 use Rattle.protobuf_parse_model.specs.Descriptors.{Text, FieldDescriptor, FileDescriptor}
 use Rattle.protobuf_parse_model.specs.Descriptors.{MessageParts}
-use Rattle.protobuf_parse_model.specs.Faults.{Fault, Among, here, there}
+use Rattle.protobuf_parse_model.specs.Faults.{Wrong, Among, here, there}
 use Rattle.protobuf_parse_model.specs.Declarations.{Declared}
 use Rattle.protobuf_parse_model.specs.declared.customs.Construct.{Construct}
 use Rattle.protobuf_parse_model.specs.Duplicates.{fault_when}
@@ -62,6 +62,8 @@ use Rattle.protobuf_parse_wire.proofs.Again as again
 use Rattle.protobuf_parse_elaboration.proofs.Lookups.{found_is, meaning_declared}
 use Rattle.protobuf_parse_options.proofs.Writable.{no_left, no_right, number_kept}
 use Rattle.protobuf_parse_options.proofs.Writable.{plain_step_has_fault}
+use Rattle.protobuf_parse_options.specs.CustomFaults.{option_faults_at}
+use Rattle.protobuf_parse_options.proofs.Refusing.{none_wrong}
 
 -- ---- members
 
@@ -215,7 +217,7 @@ Inside files f items = (name : Text) × (f.type_name ≡ Some name)
     × Enters files name (λ fs. Suit files fs (entries_of_list items))
 
 message_suits : (files : List FileDescriptor) (fs : List FieldDescriptor) (f : FieldDescriptor)
-    → IsUsed fs f → (t : FieldType) → f.type_ ≡ t → (inside : List Fault) (items : List WireItem)
+    → IsUsed fs f → (t : FieldType) → f.type_ ≡ t → (inside : List Wrong) (items : List WireItem)
     → message_value_faults f.name (type_takes t) inside ≡ []
     → (f.type_ ≡ types.Message → inside ≡ [] → Inside files f items)
     → Suits files fs (item_at (nat_abs f.number) t (trees.message (entries_of_list items)))
@@ -227,7 +229,7 @@ message_suits files fs f u _ s inside items e g = absurd cc
 
 step_suits : (files : List FileDescriptor) (fs : List FieldDescriptor) (f : FieldDescriptor)
     → IsUsed fs f → (t : FieldType) → f.type_ ≡ t
-    → (part : Text) (inside : List Fault) (items : List WireItem)
+    → (part : Text) (inside : List Wrong) (items : List WireItem)
     → step_faults part (type_takes t) inside ≡ []
     → (f.type_ ≡ types.Message → inside ≡ [] → Inside files f items)
     → Suits files fs (item_at (nat_abs f.number) t (trees.message (entries_of_list items)))
@@ -300,7 +302,7 @@ used fs f a e =
 
 -- of the field that is found, if one is
 suit_found : (files : List FileDescriptor) (fs : List FieldDescriptor)
-    (faults : FieldDescriptor → List Fault) (items : FieldDescriptor → List WireItem)
+    (faults : FieldDescriptor → List Wrong) (items : FieldDescriptor → List WireItem)
     (o : Option FieldDescriptor)
     → ((f : FieldDescriptor) → o ≡ Some f → faults f ≡ [] → Suits files fs (items f))
     → flat_map faults (option_to_list o) ≡ [] → Suits files fs (flat_map items (option_to_list o))
@@ -525,11 +527,10 @@ all_suit at r construct (o ∷ os) e =
     suit_append at.files (fields_at at.files (options_message construct))
     (items_of_option at construct o) (flat_map (items_of_option at construct) os)
     (named_suits at r construct o.value o.name
-    (no_left (custom_name_faults at construct o.value o.name)
-    (custom_statement_faults at construct os) e))
+    (none_wrong o.place (custom_name_faults at construct o.value o.name)
+    (no_left (option_faults_at at construct o) (custom_statement_faults at construct os) e)))
     (all_suit at r construct os
-    (no_right (custom_name_faults at construct o.value o.name)
-    (custom_statement_faults at construct os) e))
+    (no_right (option_faults_at at construct o) (custom_statement_faults at construct os) e))
 
 -- ---- the law
 

@@ -15,8 +15,9 @@ use Rattle.protobuf_parse_syntax.specs.declared.tree.constant.ProtobufConstant.T
 use Rattle.protobuf_parse_syntax.proofs.Views.{views_list, views_fields}
 use Rattle.protobuf_parse_model.specs.declared.descriptor.FieldType.{FieldType}
 use Rattle.protobuf_parse_model.specs.declared.descriptor.FieldType.TheVariants.{Message}
-use Rattle.protobuf_parse_model.specs.declared.error.ElabFailure.{ElabFailure}
-use Rattle.protobuf_parse_model.specs.Faults.{Elaborates, Fault}
+use Rattle.protobuf_parse_options.specs.declared.refuse.OptionFailure.{OptionFailure}
+use Rattle.protobuf_parse_model.specs.Faults.{Wrong}
+use Rattle.protobuf_parse_options.specs.Refusals.{Gives}
 use Rattle.protobuf_parse_model.specs.Descriptors.{Text, FieldDescriptor}
 use Rattle.protobuf_parse_options.specs.CustomFaults.{constant_faults, list_faults, member_faults}
 use Rattle.protobuf_parse_options.specs.CustomFaults.{message_value_faults, number_faults}
@@ -57,25 +58,25 @@ field_items_are at message (f ∷ fs) = ap (λ xs. given_field_items at message 
 
 -- ---- messages without faults
 
-pub no_message_fault : (name : Text) (t : FieldType) (inside : List Fault) → t ≡ Message
+pub no_message_fault : (name : Text) (t : FieldType) (inside : List Wrong) → t ≡ Message
     → inside ≡ [] → message_value_faults name (type_takes t) inside ≡ []
 no_message_fault name Message inside e h = h
 no_message_fault name _ inside e h = absurd cc
 
-pub no_step_fault : (f : FieldDescriptor) (part : Text) (inside : List Fault)
+pub no_step_fault : (f : FieldDescriptor) (part : Text) (inside : List Wrong)
     → number_faults f ≡ [] → type_takes f.type_ ≡ messages → inside ≡ []
     → number_faults f ++ step_faults part (type_takes f.type_) inside ≡ []
 no_step_fault f part inside number takes h = rw (number, takes) h
 
 -- ---- what the code holds of them
 
-pub list_given : {X : Type 0} (view : X → List ℕ) (r : Result X ElabFailure)
+pub list_given : {X : Type 0} (view : X → List ℕ) (r : Result X OptionFailure)
     (at : OptionScope) (option : Text) (f : FieldDescriptor) (c : ProtobufConstant)
     (v : Vec ProtobufConstant) (xs : List ProtobufConstant) (old : List ℕ)
     → c ≡ Constants v → xs ≡ v.items
-    → Elaborates view r (flat_map (constant_faults at option f) (map constant_syntax xs))
+    → Gives view r (flat_map (constant_faults at option f) (map constant_syntax xs))
     (old ++ flat_map (value_bytes at f) (map constant_syntax xs))
-    → Elaborates view r (constant_faults at option f (constant_syntax c))
+    → Gives view r (constant_faults at option f (constant_syntax c))
     (old ++ value_bytes at f (constant_syntax c))
 list_given view r at option f c v xs old is same h =
     let cs = map constant_syntax v.items in
@@ -86,24 +87,24 @@ list_given view r at option f c v xs old is same h =
     let vs : flat_map (value_bytes at f) cs ≡ value_bytes at f (constant_syntax c) = sym
     (ap (value_bytes at f) e ∙ ap bytes_of_items (list_items_are at f cs)
     ∙ bytes_flat_map (value_items at f) cs) in
-    let all = subst (λ (ys : List ProtobufConstant). Elaborates view r
+    let all = subst (λ (ys : List ProtobufConstant). Gives view r
     (flat_map (constant_faults at option f) (map constant_syntax ys))
     (old ++ flat_map (value_bytes at f) (map constant_syntax ys))) same h in
-    subst (λ (bytes : List ℕ). Elaborates view r
+    subst (λ (bytes : List ℕ). Gives view r
     (constant_faults at option f (constant_syntax c))
     (old ++ bytes)) vs
-    (subst (λ (faults : List Fault). Elaborates view r faults
+    (subst (λ (faults : List Wrong). Gives view r faults
     (old ++ flat_map (value_bytes at f) cs)) fs all)
 
-pub message_given : {X : Type 0} (view : X → List ℕ) (r : Result X ElabFailure)
+pub message_given : {X : Type 0} (view : X → List ℕ) (r : Result X OptionFailure)
     (at : OptionScope) (option : Text) (f : FieldDescriptor) (c : ProtobufConstant)
     (v : Vec ConstantField) (xs : List ConstantField) (old : List ℕ)
     → c ≡ Fields v → xs ≡ v.items
-    → Elaborates view r (message_value_faults f.name (type_takes f.type_)
+    → Gives view r (message_value_faults f.name (type_takes f.type_)
     (flat_map (field_faults_of at option (type_name_of f)) (map constant_field_syntax xs)))
     (old ++ bytes_of_items (item_of_message f (flat_map (given_field_items at (type_name_of f))
     (map constant_field_syntax xs))))
-    → Elaborates view r (constant_faults at option f (constant_syntax c))
+    → Gives view r (constant_faults at option f (constant_syntax c))
     (old ++ value_bytes at f (constant_syntax c))
 message_given view r at option f c v xs old is same h =
     let cs = map constant_field_syntax v.items in
@@ -118,15 +119,15 @@ message_given view r at option f c v xs old is same h =
     ≡ value_bytes at f (constant_syntax c) = sym (ap (value_bytes at f) e
     ∙ ap (λ (items : List WireItem). bytes_of_items (item_of_message f items))
     (field_items_are at name cs)) in
-    let all = subst (λ (ys : List ConstantField). Elaborates view r
+    let all = subst (λ (ys : List ConstantField). Gives view r
     (message_value_faults f.name (type_takes f.type_)
     (flat_map (field_faults_of at option name) (map constant_field_syntax ys)))
     (old ++ bytes_of_items (item_of_message f (flat_map (given_field_items at name)
     (map constant_field_syntax ys))))) same h in
-    subst (λ (bytes : List ℕ). Elaborates view r
+    subst (λ (bytes : List ℕ). Gives view r
     (constant_faults at option f (constant_syntax c))
     (old ++ bytes)) vs
-    (subst (λ (faults : List Fault). Elaborates view r faults
+    (subst (λ (faults : List Wrong). Gives view r faults
     (old ++ bytes_of_items (item_of_message f (flat_map (given_field_items at name) cs)))) fs all)
 
 -- whether parts follow
@@ -135,21 +136,21 @@ none_follow [] = true
 none_follow (y ∷ ys) = false
 
 -- a part that others follow
-pub path_long : {X : Type 0} (view : X → List ℕ) (r : Result X ElabFailure)
+pub path_long : {X : Type 0} (view : X → List ℕ) (r : Result X OptionFailure)
     (at : OptionScope)
     (option : Text) (value : ConstantSyntax) (message : Text) (xs : List ProtobufOptionNamePart)
     (x : ProtobufOptionNamePart) (ys : List ProtobufOptionNamePart) (old : List ℕ)
     → xs ≡ x ∷ ys → none_follow ys ≡ false
-    → Elaborates view r (part_faults at message (option_part_syntax x) ++ flat_map
+    → Gives view r (part_faults at message (option_part_syntax x) ++ flat_map
     (through_faults at option value (option_part_syntax x) (map option_part_syntax ys))
     (option_to_list (part_field at message (option_part_syntax x))))
     (old ++ bytes_of_items (flat_map (through_items at value (map option_part_syntax ys))
     (option_to_list (part_field at message (option_part_syntax x)))))
-    → Elaborates view r (path_faults at option value message (map option_part_syntax xs))
+    → Gives view r (path_faults at option value message (map option_part_syntax xs))
     (old ++ bytes_of_items (path_items at value message (map option_part_syntax xs)))
 path_long view r at option value message xs x [] old is some h = absurd cc
 path_long view r at option value message xs x (y ∷ zs) old is some h =
-    subst (λ (ps : List ProtobufOptionNamePart). Elaborates view r
+    subst (λ (ps : List ProtobufOptionNamePart). Gives view r
     (path_faults at option value message (map option_part_syntax ps))
     (old ++ bytes_of_items (path_items at value message (map option_part_syntax ps)))) (sym is) h
 
@@ -157,24 +158,24 @@ follow : (ys : List ProtobufOptionNamePart) → (length ys == 0) ≡ false → n
 follow [] e = absurd cc
 follow (y ∷ ys) e = refl
 
-pub path_given : {X : Type 0} (view : X → List ℕ) (r : Result X ElabFailure)
+pub path_given : {X : Type 0} (view : X → List ℕ) (r : Result X OptionFailure)
     (at : OptionScope) (option : Text) (value : ConstantSyntax) (message : Text)
     (xs : List ProtobufOptionNamePart) (x : ProtobufOptionNamePart) (old : List ℕ)
     → x ≡ get_or xs 0 x → (length (take (length xs - 1) (drop 1 xs)) == 0) ≡ false
-    → Elaborates view r (part_faults at message (option_part_syntax x) ++ flat_map
+    → Gives view r (part_faults at message (option_part_syntax x) ++ flat_map
     (through_faults at option value (option_part_syntax x)
     (map option_part_syntax (take (length xs - 1) (drop 1 xs))))
     (option_to_list (part_field at message (option_part_syntax x))))
     (old ++ bytes_of_items (flat_map (through_items at value
     (map option_part_syntax (take (length xs - 1) (drop 1 xs))))
     (option_to_list (part_field at message (option_part_syntax x)))))
-    → Elaborates view r (path_faults at option value message (map option_part_syntax xs))
+    → Gives view r (path_faults at option value message (map option_part_syntax xs))
     (old ++ bytes_of_items (path_items at value message (map option_part_syntax xs)))
 path_given view r at option value message [] x old is some h = absurd cc
 path_given view r at option value message (z ∷ zs) x old is some h =
     let all : take (length (z ∷ zs) - 1) (drop 1 (z ∷ zs)) ≡ zs = take_all
     (length (z ∷ zs) - 1) zs (omega arith) in
-    let rest = subst (λ (ys : List ProtobufOptionNamePart). Elaborates view r
+    let rest = subst (λ (ys : List ProtobufOptionNamePart). Gives view r
     (part_faults at message (option_part_syntax x) ++ flat_map
     (through_faults at option value (option_part_syntax x) (map option_part_syntax ys))
     (option_to_list (part_field at message (option_part_syntax x))))

@@ -45,6 +45,8 @@ use Rattle.protobuf_parse_options.proofs.OptionBytes.{none_of, option_bytes_spel
 use Rattle.protobuf_parse_options.proofs.OptionDepth.{never_too_deep}
 use Rattle.protobuf_parse_options.proofs.Options.{options_are_read}
 use Rattle.protobuf_parse_options.proofs.Writable.{no_left, plain_step_has_fault}
+use Rattle.protobuf_parse_options.specs.CustomFaults.{option_faults_at}
+use Rattle.protobuf_parse_options.proofs.Refusing.{none_wrong, unless_empty}
 
 -- ---- the options message
 
@@ -108,8 +110,8 @@ set_of_message : (at : OptionScope) (construct : Construct) (os : List OptionSyn
 set_of_message at construct os none has =
     let o : OptionSyntax = has.0 in
     let clean : custom_name_faults at construct o.value o.name
-    ≡ [] = none_of (λ (x : OptionSyntax). custom_name_faults at construct x.value x.name) os o has.1
-    none in
+    ≡ [] = none_wrong o.place (custom_name_faults at construct o.value o.name)
+    (none_of (option_faults_at at construct) os o has.1 none) in
     custom_of_message at construct o.value has.2 has.3
     (subst (λ (n : OptionNameSyntax). custom_name_faults at construct o.value n ≡ []) has.4 clean)
 
@@ -203,5 +205,7 @@ nothing_set at construct (o ∷ os) plain =
 
 pub plain_options_are_no_bytes : PlainOptionsAreNoBytes
 plain_options_are_no_bytes files visible s plain =
-    ap (λ items. encoded (entries_of_list items))
-    (nothing_set (scope_of files visible s) s.construct s.statements plain)
+    let at = scope_of files visible s in
+    unless_empty (custom_statement_faults at s.construct s.statements) _
+    (ap (λ items. encoded (entries_of_list items))
+    (nothing_set at s.construct s.statements plain))

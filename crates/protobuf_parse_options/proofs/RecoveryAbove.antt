@@ -31,6 +31,9 @@ use Rattle.protobuf_parse_options.proofs.OptionBytes.{none_of}
 use Rattle.protobuf_parse_options.proofs.Recovery.{options_are_recovered}
 use Rattle.protobuf_parse_options.proofs.Sound.{text_sound, package_named}
 use Rattle.protobuf_parse_options.proofs.Writable.{no_left, no_right}
+use Rattle.protobuf_parse_options.proofs.Refusing.{unless_none}
+use Rattle.protobuf_parse_options.specs.CustomOptions.{denotes}
+use Rattle.std.proofs.Common.{sym, ℕ}
 
 -- ---- lists
 
@@ -140,6 +143,18 @@ options_are_recovered_above trees sees reached more p t s r within listed has_tr
     (option_sets t) none in
     let kept = keeps_set trees sees reached more r within visible s
     (none_of was (option_sets t) s stands none) in
-    subst (λ (es : Entries). length (encoded es) < 2 ^ 64
-    → reader all (options_message s.construct) (encoded es) ≡ Ok (said es)) kept.same
-    (options_are_recovered trees sees more p t s r listed has_tree clean stands has) short
+    let at = scope_of files visible s in
+    let above = scope_of all visible s in
+    let spelled = unless_none (custom_statement_faults at s.construct s.statements) _
+    (none_of was (option_sets t) s stands none) in
+    let spelled_above = unless_none (custom_statement_faults above s.construct s.statements) _
+    kept.faultless in
+    let read = subst (λ (bs : List ℕ). length bs < 2 ^ 64
+    → reader all (options_message s.construct) bs
+    ≡ Ok (said (denotes above s.construct s.statements))) spelled_above
+    (options_are_recovered trees sees more p t s r listed has_tree clean stands has) in
+    subst (λ (bs : List ℕ). length bs < 2 ^ 64
+    → reader all (options_message s.construct) bs
+    ≡ Ok (said (denotes at s.construct s.statements))) (sym spelled)
+    (subst (λ (es : Entries). length (encoded es) < 2 ^ 64
+    → reader all (options_message s.construct) (encoded es) ≡ Ok (said es)) kept.same read) short

@@ -31,11 +31,17 @@ use Rattle.protobuf_parse_wire.specs.Encoded.{varint_within, encoded}
 use Rattle.protobuf_parse_options.specs.OptionFields.{OptionScope}
 use Rattle.protobuf_parse_options.specs.CustomOptions.{denotes}
 use Rattle.protobuf_parse_options.specs.CustomFaults.{custom_statement_faults}
+use Rattle.protobuf_parse_model.specs.declared.error.ElabErrorKind.{ElabErrorKind}
+use Rattle.protobuf_parse_model.specs.Duplicates.{fault}
+use Rattle.protobuf_parse_model.specs.Faults.{Fault, placed}
 
 -- ---- trees; where their parts stand says nothing
 
 abbrev nowhere : Place
 nowhere = record { line = 1; col = 1 }
+
+abbrev told : ElabErrorKind → Text → List Fault
+told kind what = placed nowhere (fault kind what)
 
 abbrev a_field : Label → TypeSyntax → Text → ℕ → FieldStatementSyntax
 a_field label type_ name number =
@@ -147,7 +153,7 @@ least_has_no_fault = refl
 -- option (o) = 2147483648;
 too_large_is_told : custom_statement_faults here of.File
     (set (extension (codes "o") ∷ []) (integer (pos 2147483648)))
-    ≡ record { kind = error.IntegerOutOfRange; what = codes "o" } ∷ []
+    ≡ told error.IntegerOutOfRange (codes "o")
 too_large_is_told = refl
 
 -- ---- message X { option (m) = {a: [1, 2] s: "x"}; }
@@ -192,27 +198,27 @@ empty_list_denotes = refl
 
 unknown_extension_is_told : custom_statement_faults here of.File
     (set (extension (codes "nope") ∷ []) (integer (pos 1)))
-    ≡ record { kind = error.ExtensionNotFound; what = codes "nope" } ∷ []
+    ≡ told error.ExtensionNotFound (codes "nope")
 unknown_extension_is_told = refl
 
 other_message_is_told : custom_statement_faults here of.File
     (set (extension (codes "m") ∷ []) constant)
-    ≡ record { kind = error.WrongExtensionType; what = codes "m" } ∷ []
+    ≡ told error.WrongExtensionType (codes "m")
 other_message_is_told = refl
 
 no_message_is_told : custom_statement_faults here of.File
     (set (extension (codes "o") ∷ direct (codes "s") ∷ []) (integer (pos 1)))
-    ≡ record { kind = error.ExtensionIsNotMessage; what = codes "(o)" } ∷ []
+    ≡ told error.ExtensionIsNotMessage (codes "(o)")
 no_message_is_told = refl
 
 builtin_is_no_message : custom_statement_faults here of.File
     (set (direct (codes "java_package") ∷ direct (codes "s") ∷ []) (integer (pos 1)))
-    ≡ record { kind = error.ExtensionIsNotMessage; what = codes "java_package" } ∷ []
+    ≡ told error.ExtensionIsNotMessage (codes "java_package")
 builtin_is_no_message = refl
 
 unknown_field_is_told : custom_statement_faults here of.Message
     (set (extension (codes "m") ∷ direct (codes "t") ∷ []) (integer (pos 1)))
-    ≡ record { kind = error.UnknownFieldName; what = codes "t" } ∷ []
+    ≡ told error.UnknownFieldName (codes "t")
 unknown_field_is_told = refl
 
 -- ---- package p.q; enum E { A = 0; B = -1; } message Outer { extend google.protobuf.FileOptions {
@@ -261,18 +267,18 @@ value_has_no_fault : custom_statement_faults in_package of.File (outer_e (codes 
 value_has_no_fault = refl
 
 unknown_value_is_told : custom_statement_faults in_package of.File (outer_e (codes "C"))
-    ≡ record { kind = error.UnknownEnumValue; what = codes "C" } ∷ []
+    ≡ told error.UnknownEnumValue (codes "C")
 unknown_value_is_told = refl
 
 number_is_no_value : custom_statement_faults in_package of.File
     (set (extension (codes "Outer.e") ∷ []) (integer (pos 0)))
-    ≡ record { kind = error.UnsupportedExtensionType; what = codes "e" } ∷ []
+    ≡ told error.UnsupportedExtensionType (codes "e")
 number_is_no_value = refl
 
 -- an extension of a file that isn't seen
 unseen_is_not_found : custom_statement_faults
     (record { files = descriptors; visible = descriptor options_file ∷ []; scope = [] }) of.File
-    minus_one ≡ record { kind = error.ExtensionNotFound; what = codes "o" } ∷ []
+    minus_one ≡ told error.ExtensionNotFound (codes "o")
 unseen_is_not_found = refl
 
 -- ---- package google.protobuf; enum FileOptions { A = 0; } extend FileOptions { optional int32 o =
@@ -301,7 +307,7 @@ beside_an_enum =
 
 enum_is_not_extended : custom_statement_faults beside_an_enum of.File
     (set (extension (codes "o") ∷ []) (integer (pos 1)))
-    ≡ record { kind = error.WrongExtensionType; what = codes "o" } ∷ []
+    ≡ told error.WrongExtensionType (codes "o")
 enum_is_not_extended = refl
 
 -- ---- message M { optional string s = 2; map<string, int32> p = 3; extensions 100 to 199; }
@@ -385,23 +391,23 @@ with_entry_has_no_fault = refl
 -- {[nope]: 1}
 unknown_name_in_constant_is_told : custom_statement_faults with_extensions of.Message
     (set_m (more_fields (extension_name (codes "nope")) (integer (pos 1)) no_fields))
-    ≡ record { kind = error.ExtensionNotFound; what = codes "nope" } ∷ []
+    ≡ told error.ExtensionNotFound (codes "nope")
 unknown_name_in_constant_is_told = refl
 
 -- {[m] {}}
 other_message_in_constant_is_told : custom_statement_faults with_extensions of.Message
     (set_m (more_fields (extension_name (codes "m")) (fields no_fields) no_fields))
-    ≡ record { kind = error.WrongExtensionType; what = codes "m" } ∷ []
+    ≡ told error.WrongExtensionType (codes "m")
 other_message_in_constant_is_told = refl
 
 -- {[x]: "a"}
 string_is_no_number : custom_statement_faults with_extensions of.Message
     (set_m (more_fields (extension_name (codes "x")) (string (codes "a" ∷ [])) no_fields))
-    ≡ record { kind = error.UnsupportedExtensionType; what = codes "x" } ∷ []
+    ≡ told error.UnsupportedExtensionType (codes "x")
 string_is_no_number = refl
 
 -- {[example.com/M] {}}
 type_url_is_told : custom_statement_faults with_extensions of.Message
     (set_m (more_fields (url_name (codes "example.com/M")) (fields no_fields) no_fields))
-    ≡ record { kind = error.TypeUrlInConstant; what = codes "[example.com/M]" } ∷ []
+    ≡ told error.TypeUrlInConstant (codes "[example.com/M]")
 type_url_is_told = refl

@@ -10,10 +10,11 @@ use Rattle.protobuf_parse_syntax.specs.declared.tree.option.ProtobufOptionNamePa
 use Rattle.protobuf_parse_syntax.specs.declared.tree.option.ProtobufOptionNamePart.TheVariants.{Direct}
 use Rattle.protobuf_parse_syntax.specs.declared.tree.option.ProtobufOptionNamePart.TheVariants.{Ext}
 use Rattle.protobuf_parse_model.specs.declared.customs.Construct.{Construct}
-use Rattle.protobuf_parse_model.specs.declared.error.ElabFailure.{ElabFailure}
+use Rattle.protobuf_parse_options.specs.declared.refuse.OptionFailure.{OptionFailure}
 use Rattle.protobuf_parse_model.specs.Descriptors.{Text}
 use Rattle.protobuf_parse_model.specs.Environment.{option_path_text}
-use Rattle.protobuf_parse_model.specs.Faults.{Blames, Elaborates, Fault}
+use Rattle.protobuf_parse_model.specs.Faults.{Wrong}
+use Rattle.protobuf_parse_options.specs.Refusals.{Refuses, Gives}
 use Rattle.protobuf_parse_model.specs.OptionTables.{table_of}
 use Rattle.protobuf_parse_options.specs.CustomFaults.{builtin_step_faults, custom_faults}
 use Rattle.protobuf_parse_options.specs.CustomFaults.{path_faults}
@@ -25,17 +26,17 @@ abbrev parts_of : List ProtobufOptionNamePart → List OptionPartSyntax
 parts_of xs = map option_part_syntax xs
 
 -- a plain part
-pub plain_blamed : (e : ElabFailure) (at : OptionScope) (construct : Construct)
+pub plain_blamed : (e : OptionFailure) (at : OptionScope) (construct : Construct)
     (value : ConstantSyntax) (xs : List ProtobufOptionNamePart) (x : ProtobufOptionNamePart)
     (s : Name) (name : Text) → 1 ≤ length xs → x ≡ get_or xs 0 x → x ≡ Direct s
     → name ≡ name_bytes s
-    → Blames e (builtin_step_faults (table_of construct) name)
-    → Blames e (custom_faults at construct value (map option_part_syntax xs))
+    → Refuses e (builtin_step_faults (table_of construct) name)
+    → Refuses e (custom_faults at construct value (map option_part_syntax xs))
 plain_blamed e at construct value [] x s name some is plain named h = absurd (omega arith)
 plain_blamed e at construct value (y ∷ ys) x s name some is plain named h =
     let first : option_part_syntax y ≡ direct name = ap option_part_syntax (sym is ∙ plain)
     ∙ ap direct (sym named) in
-    subst (λ (p : OptionPartSyntax). Blames e
+    subst (λ (p : OptionPartSyntax). Refuses e
     (custom_faults at construct value (p ∷ parts_of ys))) (sym first) h
 
 extension_first : (at : OptionScope) (construct : Construct) (value : ConstantSyntax)
@@ -53,21 +54,21 @@ extension_first at construct value (y ∷ ys) x s some is ext =
     (p ∷ parts_of ys)) (sym first) refl
 
 -- an extension
-pub extension_given : {X : Type 0} (view : X → List ℕ) (r : Result X ElabFailure)
+pub extension_given : {X : Type 0} (view : X → List ℕ) (r : Result X OptionFailure)
     (at : OptionScope) (construct : Construct) (value : ConstantSyntax)
     (xs : List ProtobufOptionNamePart) (x : ProtobufOptionNamePart) (s : String Global)
     (message : Text) (old : List ℕ) → 1 ≤ length xs → x ≡ get_or xs 0 x → x ≡ Ext s
     → message ≡ options_message construct
-    → Elaborates view r (path_faults at (path_said xs) value message (map option_part_syntax xs))
+    → Gives view r (path_faults at (path_said xs) value message (map option_part_syntax xs))
     (old ++ bytes_of_items (path_items at value message (map option_part_syntax xs)))
-    → Elaborates view r (custom_faults at construct value (map option_part_syntax xs))
+    → Gives view r (custom_faults at construct value (map option_part_syntax xs))
     (old ++ bytes_of_items
     (path_items at value (options_message construct) (map option_part_syntax xs)))
 extension_given view r at construct value xs x s message old some is ext holds h =
     let ps = parts_of xs in
     let m = options_message construct in
     let bytes = old ++ bytes_of_items (path_items at value m ps) in
-    let a = subst (λ (t : Text). Elaborates view r (path_faults at (path_said xs) value t ps)
+    let a = subst (λ (t : Text). Gives view r (path_faults at (path_said xs) value t ps)
     (old ++ bytes_of_items (path_items at value t ps))) holds h in
-    subst (λ (faults : List Fault). Elaborates view r faults bytes)
+    subst (λ (faults : List Wrong). Gives view r faults bytes)
     (sym (extension_first at construct value xs x s some is ext)) a

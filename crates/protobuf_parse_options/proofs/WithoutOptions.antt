@@ -22,6 +22,9 @@ use Rattle.protobuf_parse_options.proofs.BareFiles.{all-alike, file-alike}
 use Rattle.protobuf_parse_options.proofs.BareReading.{reader-bare}
 use Rattle.protobuf_parse_options.proofs.AlikeLookups.{faults-same, meaning-same}
 use Rattle.protobuf_parse_options.proofs.BareLookups.{seen_from, lookups-alike}
+use Rattle.protobuf_parse_options.specs.OptionBytes.{bytes_unless}
+use Rattle.protobuf_parse_options.specs.CustomOptions.{denotes}
+use Rattle.protobuf_parse_options.specs.CustomFaults.{custom_statement_faults}
 
 pub reading_ignores_options : ReadingIgnoresOptions
 reading_ignores_options files files' same message bytes =
@@ -45,7 +48,12 @@ customs_ignore_options files files' visible visible' same seen =
     let bytes : option_bytes files visible ≡ option_bytes files' visible' =
     fun_ext (λ (construct : Construct). fun_ext
     (λ (scope : Scope). fun_ext
-    (λ (os : List OptionSyntax). ap encoded
+    (λ (os : List OptionSyntax). ap (λ fs. bytes_unless fs
+    (encoded (denotes (seen_from files visible scope) construct os)))
+    (faults-same (seen_from files visible scope) (seen_from files' visible' scope) (alike scope)
+    construct os)
+    ∙ ap (λ es. bytes_unless
+    (custom_statement_faults (seen_from files' visible' scope) construct os) (encoded es))
     (meaning_ignores_options files files' visible visible' same seen scope construct os)))) in
     ap (λ (fs : CustomFaults). record { faults = fs; bytes = option_bytes files visible }) faults
     ∙ ap (λ (bs : CustomBytes). record

@@ -16,7 +16,7 @@ use Rattle.protobuf_parse_model.specs.declared.error.ElabErrorKind.TheVariants.{
 use Rattle.protobuf_parse_model.specs.declared.descriptor.FieldType.{FieldType}
 use Rattle.protobuf_parse_model.specs.declared.descriptor.FieldType.TheVariants as types
 use Rattle.protobuf_parse_model.specs.Descriptors.{Text, FieldDescriptor}
-use Rattle.protobuf_parse_model.specs.Faults.{Fault}
+use Rattle.protobuf_parse_model.specs.Faults.{Wrong}
 use Rattle.protobuf_parse_model.specs.Duplicates.{stands_in}
 use Rattle.protobuf_parse_model.specs.declared.customs.Construct.{Construct}
 use Rattle.protobuf_parse_wire.specs.declared.kind.Kind.{Kind}
@@ -47,6 +47,8 @@ use Rattle.protobuf_parse_options.specs.CustomFaults.{option_names_in, builtin_s
 use Rattle.protobuf_parse_options.specs.CustomFaults.{custom_faults}
 use Rattle.protobuf_parse_options.specs.CustomFaults.{custom_name_faults, custom_statement_faults}
 use Rattle.protobuf_parse_model.specs.Environment.{part_text, option_path_text}
+use Rattle.protobuf_parse_options.specs.CustomFaults.{option_faults_at}
+use Rattle.protobuf_parse_options.proofs.Refusing.{none_wrong}
 
 -- ---- lists
 
@@ -63,7 +65,7 @@ fit_append [] ys p q = q
 fit_append (x ∷ xs) ys p q = (p.0, fit_append xs ys p.1 q)
 
 -- where each has no fault
-fit_each : {A : Type 0} (faults : A → List Fault) (items : A → List WireItem)
+fit_each : {A B : Type 0} (faults : A → List B) (items : A → List WireItem)
     → ((x : A) → faults x ≡ [] → AreFit (items x)) → (xs : List A) → flat_map faults xs ≡ []
     → AreFit (flat_map items xs)
 fit_each faults items each [] e = tt
@@ -77,7 +79,7 @@ abbrev item_at : ℕ → FieldType → EntryTree → List WireItem
 item_at n t v = map (λ (k : Kind). record { number = n; kind = k; value = v })
     (option_to_list (kind_of_field_type t))
 
-kept : (s : KindShape) (v : ℤ) (b : Bool) (x : Fault) → fits s v ≡ b → cond (not b) (x ∷ []) [] ≡ []
+kept : (s : KindShape) (v : ℤ) (b : Bool) (x : Wrong) → fits s v ≡ b → cond (not b) (x ∷ []) [] ≡ []
     → InRange s v
 kept s v true x h e = h
 kept s v false x h e = absurd cc
@@ -116,13 +118,13 @@ string_fit option name types.String n pieces bs e = (tt, tt)
 string_fit option name types.Bytes n pieces bs e = (tt, tt)
 string_fit option name _ n pieces bs e = absurd cc
 
-message_fit : (name : Text) (t : FieldType) (n : ℕ) (inside : List Fault) (items : List WireItem)
+message_fit : (name : Text) (t : FieldType) (n : ℕ) (inside : List Wrong) (items : List WireItem)
     → message_value_faults name (type_takes t) inside ≡ [] → (inside ≡ [] → AreFit items)
     → AreFit (item_at n t (trees.message (entries_of_list items)))
 message_fit name types.Message n inside items e f = ((tt, f e), tt)
 message_fit name _ n inside items e f = absurd cc
 
-step_fit : (part : Text) (t : FieldType) (n : ℕ) (inside : List Fault) (items : List WireItem)
+step_fit : (part : Text) (t : FieldType) (n : ℕ) (inside : List Wrong) (items : List WireItem)
     → step_faults part (type_takes t) inside ≡ [] → (inside ≡ [] → AreFit items)
     → AreFit (item_at n t (trees.message (entries_of_list items)))
 step_fit part types.Message n inside items e f = ((tt, f e), tt)
@@ -221,7 +223,7 @@ path_fit at small option value message (p ∷ q ∷ ps) e =
     (part_field at message p)) (no_right (part_faults at message p) _ e)
 
 -- a plain part before others always has a fault
-step_has_fault : (a b : Bool) (x y z : Fault) → cond a (x ∷ []) (cond b (y ∷ []) (z ∷ [])) ≡ [] → ⊥
+step_has_fault : (a b : Bool) (x y z : Wrong) → cond a (x ∷ []) (cond b (y ∷ []) (z ∷ [])) ≡ [] → ⊥
 step_has_fault true b x y z e = absurd cc
 step_has_fault false true x y z e = absurd cc
 step_has_fault false false x y z e = absurd cc
@@ -260,5 +262,6 @@ pub denotes_writable : (at : OptionScope) → HasSmallValues at.files
     ≡ []
     → AreWritable (denotes at construct os)
 denotes_writable at small construct os e =
-    fit_each (λ (o : OptionSyntax). custom_name_faults at construct o.value o.name)
-    (items_of_option at construct) (λ o h. named_fit at small construct o.value o.name h) os e
+    fit_each (option_faults_at at construct) (items_of_option at construct)
+    (λ o h. named_fit at small construct o.value o.name
+    (none_wrong o.place (custom_name_faults at construct o.value o.name) h)) os e

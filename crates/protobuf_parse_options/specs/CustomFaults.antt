@@ -23,7 +23,7 @@ use Rattle.protobuf_parse_model.specs.declared.error.ElabErrorKind.TheVariants.{
 use Rattle.protobuf_parse_model.specs.declared.error.ElabErrorKind.TheVariants.{TypeUrlInConstant}
 use Rattle.protobuf_parse_model.specs.declared.error.ElabErrorKind.TheVariants.{UninterpretedOptionName}
 use Rattle.protobuf_parse_model.specs.Descriptors.{Text, FieldDescriptor, FileDescriptor}
-use Rattle.protobuf_parse_model.specs.Faults.{Fault}
+use Rattle.protobuf_parse_model.specs.Faults.{Wrong, Fault, placed}
 use Rattle.protobuf_parse_model.specs.Declarations.{Declared}
 use Rattle.protobuf_parse_model.specs.Duplicates.{fault, fault_when, stands_in}
 use Rattle.protobuf_parse_model.specs.declared.customs.Construct.{Construct}
@@ -51,39 +51,39 @@ bracketed name = codes "[" ++ name ++ codes "]"
 -- ---- one value given to one field
 
 -- E22 for a float, E19 for any other field that doesn't take such a value
-abbrev pub not_taken : Text → Takes → List Fault
+abbrev pub not_taken : Text → Takes → List Wrong
 not_taken name floats = fault FloatOptionValue name
 not_taken name _ = fault UnsupportedExtensionType name
 
 -- E20 for an integer that is out of range
-abbrev pub integer_faults : Text → Takes → ℤ → List Fault
+abbrev pub integer_faults : Text → Takes → ℤ → List Wrong
 integer_faults name (integers k) z =
     fault_when (not (fits (shape_of_kind k) z)) IntegerOutOfRange name
 integer_faults name other z = not_taken name other
 
-abbrev pub truth_faults : Text → Takes → List Fault
+abbrev pub truth_faults : Text → Takes → List Wrong
 truth_faults name truths = []
 truth_faults name other = not_taken name other
 
 -- E18 for a name that no value of the enum has
-abbrev pub value_name_faults : Text → Takes → Text → Option ℤ → List Fault
+abbrev pub value_name_faults : Text → Takes → Text → Option ℤ → List Wrong
 value_name_faults name names_of_values value number =
     fault_when (not (is_some number)) UnknownEnumValue value
 value_name_faults name other value number = not_taken name other
 
 -- E9 for a string that says nothing; the fault tells the option's name
-abbrev pub string_value_faults : Text → Text → Takes → Pieces → List Fault
+abbrev pub string_value_faults : Text → Text → Takes → Pieces → List Wrong
 string_value_faults option name texts pieces = string_faults option (text_of pieces)
 string_value_faults option name octets pieces = string_faults option (decode pieces)
 string_value_faults option name other pieces = not_taken name other
 
 -- E21 for a message constant that is given to any other field but a message
-abbrev pub message_value_faults : Text → Takes → List Fault → List Fault
+abbrev pub message_value_faults : Text → Takes → List Wrong → List Wrong
 message_value_faults name messages inside = inside
 message_value_faults name other inside = fault MessageFieldRequiresMessageConstant name
 
 -- E23 for a number that can't stand in a tag
-abbrev pub number_faults : FieldDescriptor → List Fault
+abbrev pub number_faults : FieldDescriptor → List Wrong
 number_faults f =
     fault_when (not (int_le (pos 1) f.number && int_le f.number (pos 536870911))) OptionFieldNumber
     f.name
@@ -91,14 +91,14 @@ number_faults f =
 -- ---- fields and extensions
 
 -- E17 for a name that no field of the message has
-abbrev pub field_name_faults : OptionScope → Text → Text → List Fault
+abbrev pub field_name_faults : OptionScope → Text → Text → List Wrong
 field_name_faults at message name =
     fault_when (not (is_some (field_named at.files message name))) UnknownFieldName name
 
 -- E14 for an extension that isn't found, E15 for one that extends no such message
 abbrev pub extension_name_faults : List FileDescriptor → Text → Text
     → Option (Declared FieldDescriptor)
-    → List Fault
+    → List Wrong
 extension_name_faults files message name None = fault ExtensionNotFound name
 extension_name_faults files message name (Some d) =
     fault_when (not (extends_message files message d.what)) WrongExtensionType name
@@ -106,7 +106,7 @@ extension_name_faults files message name (Some d) =
 -- ---- constants
 
 -- in a constant for a message: E26 for a type URL
-abbrev pub constant_name_faults : OptionScope → Text → ConstantNameSyntax → List Fault
+abbrev pub constant_name_faults : OptionScope → Text → ConstantNameSyntax → List Wrong
 constant_name_faults at message (regular_name name) = field_name_faults at message name
 constant_name_faults at message (extension_name name) =
     extension_name_faults at.files message name (extension_meant at name)
@@ -114,7 +114,7 @@ constant_name_faults at message (url_name name) = fault TypeUrlInConstant (brack
 
 abbrev mutual
   -- of the constant that the option of that name gives to a field
-  pub constant_faults : OptionScope → Text → FieldDescriptor → ConstantSyntax → List Fault
+  pub constant_faults : OptionScope → Text → FieldDescriptor → ConstantSyntax → List Wrong
   constant_faults at option f (integer z) = integer_faults f.name (type_takes f.type_) z
   constant_faults at option f (truth b) = truth_faults f.name (type_takes f.type_)
   constant_faults at option f (dotted name) =
@@ -126,12 +126,12 @@ abbrev mutual
   constant_faults at option f (fields fs) =
       message_value_faults f.name (type_takes f.type_) (member_faults at option (type_name_of f) fs)
 
-  pub list_faults : OptionScope → Text → FieldDescriptor → ConstantList → List Fault
+  pub list_faults : OptionScope → Text → FieldDescriptor → ConstantList → List Wrong
   list_faults at option f no_constants = []
   list_faults at option f (more_constants c cs) =
       constant_faults at option f c ++ list_faults at option f cs
 
-  pub member_faults : OptionScope → Text → Text → ConstantFieldList → List Fault
+  pub member_faults : OptionScope → Text → Text → ConstantFieldList → List Wrong
   member_faults at option message no_fields = []
   member_faults at option message (more_fields name c fs) =
       constant_name_faults at message name
@@ -141,20 +141,20 @@ abbrev mutual
 
 -- ---- names
 
-abbrev pub part_faults : OptionScope → Text → OptionPartSyntax → List Fault
+abbrev pub part_faults : OptionScope → Text → OptionPartSyntax → List Wrong
 part_faults at message (direct name) = field_name_faults at message name
 part_faults at message (extension name) =
     extension_name_faults at.files message name (extension_meant at name)
 
 -- where other parts follow: E24 for a group, E16 for any other field but a message
-abbrev pub step_faults : Text → Takes → List Fault → List Fault
+abbrev pub step_faults : Text → Takes → List Wrong → List Wrong
 step_faults part messages inside = inside
 step_faults part groups inside = fault GroupStepInOptionName part
 step_faults part other inside = fault ExtensionIsNotMessage part
 
 -- from the message on, for the option of that name with that value
 abbrev pub path_faults : OptionScope → Text → ConstantSyntax → Text → List OptionPartSyntax
-    → List Fault
+    → List Wrong
 path_faults at option value message [] = []
 path_faults at option value message (p ∷ []) =
     part_faults at message p
@@ -169,14 +169,14 @@ path_faults at option value message (p ∷ q ∷ ps) =
 
 -- A name that goes on from a built-in option: E28 from `uninterpreted_option`, E16 from any other,
 -- as none is a message, E17 where there is no such option.
-abbrev pub builtin_step_faults : Table → Text → List Fault
+abbrev pub builtin_step_faults : Table → Text → List Wrong
 builtin_step_faults table name =
     if bytes_eq name (codes "uninterpreted_option") then fault UninterpretedOptionName name
     else (if stands_in name (option_names_in table) then fault ExtensionIsNotMessage name
     else fault UnknownFieldName name)
 
 abbrev pub custom_faults : OptionScope → Construct → ConstantSyntax → List OptionPartSyntax
-    → List Fault
+    → List Wrong
 custom_faults at construct value [] = []
 custom_faults at construct value (direct name ∷ ps) = builtin_step_faults (table_of construct) name
 custom_faults at construct value (extension name ∷ ps) =
@@ -184,15 +184,24 @@ custom_faults at construct value (extension name ∷ ps) =
     (extension name ∷ ps)
 
 abbrev pub custom_name_faults : OptionScope → Construct → ConstantSyntax → OptionNameSyntax
-    → List Fault
+    → List Wrong
 custom_name_faults at construct value (builtin name) = []
 custom_name_faults at construct value (custom parts) = custom_faults at construct value parts
 
 -- ---- the statements of a construct, and of a file
 
+-- the first, if there is one
+abbrev pub first_of : List Wrong → List Wrong
+first_of [] = []
+first_of (w ∷ ws) = w ∷ []
+
+-- Of each option the first thing that is wrong in it, at the option.
+abbrev pub option_faults_at : OptionScope → Construct → OptionSyntax → List Fault
+option_faults_at at construct o =
+    placed o.place (first_of (custom_name_faults at construct o.value o.name))
+
 abbrev pub custom_statement_faults : OptionScope → Construct → List OptionSyntax → List Fault
-custom_statement_faults at construct os =
-    flat_map (λ (o : OptionSyntax). custom_name_faults at construct o.value o.name) os
+custom_statement_faults at construct os = flat_map (option_faults_at at construct) os
 
 abbrev pub custom_option_faults : (files visible : List FileDescriptor) → FileSyntax → List Fault
 custom_option_faults files visible t =

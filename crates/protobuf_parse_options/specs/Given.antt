@@ -9,7 +9,7 @@ use Rattle.protobuf_parse_syntax.specs.declared.tree.option.ProtobufOptionNamePa
 use Rattle.protobuf_parse_model.specs.SeenFiles.{name_texts}
 use Rattle.protobuf_parse_model.specs.Descriptors.{Text, FieldDescriptor}
 use Rattle.protobuf_parse_model.specs.Environment.{part_text, option_path_text}
-use Rattle.protobuf_parse_model.specs.Faults.{Fault}
+use Rattle.protobuf_parse_model.specs.Faults.{Wrong}
 use Rattle.protobuf_parse_options.specs.declared.option_place.OptionPlace.{OptionPlace}
 use Rattle.protobuf_parse_options.specs.CustomFaults.{constant_name_faults, number_faults}
 use Rattle.protobuf_parse_options.specs.CustomFaults.{path_faults}
@@ -35,10 +35,10 @@ abbrev pub path_said : List ProtobufOptionNamePart → Text
 path_said parts = option_path_text (map option_part_syntax parts)
 
 -- of a value for the field that a name means
-abbrev pub given_faults : OptionScope → Text → ConstantSyntax → FieldDescriptor → List Fault
+abbrev pub given_faults : OptionScope → Text → ConstantSyntax → FieldDescriptor → List Wrong
 given_faults at option c g = number_faults g ++ constant_faults at option g c
 
-abbrev pub field_faults_of : OptionScope → Text → Text → ConstantFieldSyntax → List Fault
+abbrev pub field_faults_of : OptionScope → Text → Text → ConstantFieldSyntax → List Wrong
 field_faults_of at option message f = constant_name_faults at message f.name ++ flat_map
     (given_faults at option f.value) (option_to_list (constant_field at message f.name))
 
@@ -68,7 +68,7 @@ bytes_of_option at construct o = bytes_of_items (items_of_option at construct o)
 
 -- of a field that other parts follow, which the part means
 abbrev pub through_faults : OptionScope → Text → ConstantSyntax → OptionPartSyntax
-    → List OptionPartSyntax → FieldDescriptor → List Fault
+    → List OptionPartSyntax → FieldDescriptor → List Wrong
 through_faults at option value p ps g = number_faults g ++ step_faults (part_text p)
     (type_takes g.type_) (path_faults at option value (type_name_of g) ps)
 

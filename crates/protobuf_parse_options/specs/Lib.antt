@@ -19,3 +19,4 @@ pub mod Places
 pub mod Positions
 pub mod Holding
 pub mod CustomParts
+pub mod Refusals

@@ -1,16 +1,28 @@
 -- The bytes of custom options, as a function of the statements: what stands in a descriptor.
-use Rattle.std.specs.Prelude.{◌≡◌, List, []}
-use Rattle.protobuf_parse_syntax.specs.Trees.{FileSyntax}
+use Rattle.std.specs.Prelude.{◌≡◌, ℕ, List, [], ◌∷◌}
+use Rattle.protobuf_parse_syntax.specs.Trees.{OptionSyntax, FileSyntax}
+use Rattle.protobuf_parse_model.specs.declared.customs.Construct.{Construct}
+use Rattle.protobuf_parse_model.specs.Faults.{Fault}
 use Rattle.protobuf_parse_model.specs.Descriptors.{FileDescriptor}
 use Rattle.protobuf_parse_model.specs.Environment.{CustomBytes, Customs}
 use Rattle.protobuf_parse_wire.specs.Encoded.{encoded}
+use Rattle.protobuf_parse_options.specs.OptionFields.{OptionScope}
 use Rattle.protobuf_parse_options.specs.OptionLaw.{HasSmallValues}
 use Rattle.protobuf_parse_options.specs.CustomOptions.{denotes, SpellsOptions}
 use Rattle.protobuf_parse_options.specs.CustomFaults.{custom_option_faults, custom_statement_faults}
 
+-- where something is wrong there are none
+abbrev pub bytes_unless : List Fault → List ℕ → List ℕ
+bytes_unless [] bytes = bytes
+bytes_unless (f ∷ fs) bytes = []
+
+abbrev pub spelled_at : OptionScope → Construct → List OptionSyntax → List ℕ
+spelled_at at construct os =
+    bytes_unless (custom_statement_faults at construct os) (encoded (denotes at construct os))
+
 abbrev pub option_bytes : (files visible : List FileDescriptor) → CustomBytes
 option_bytes files visible = λ construct scope os.
-    encoded (denotes (record { files = files; visible = visible; scope = scope }) construct os)
+    spelled_at (record { files = files; visible = visible; scope = scope }) construct os
 
 -- what custom options become in a file that reaches the first files and sees the second
 abbrev pub known_customs : (files visible : List FileDescriptor) → Customs

@@ -5,7 +5,6 @@ ghost use Rattle.protobuf_parse_lexer.specs.Decoder.{decode};
 ghost use Rattle.protobuf_parse_syntax.specs.Trees.{constant_field_syntax, constant_syntax, dotted};
 ghost use Rattle.protobuf_parse_syntax.specs.Trees.{pieces_of};
 ghost use Rattle.protobuf_parse_model.specs.Descriptors.{field_view};
-ghost use Rattle.protobuf_parse_model.specs.Faults.{Elaborates};
 ghost use Rattle.protobuf_parse_wire.specs.Trees as trees;
 ghost use Rattle.protobuf_parse_options.specs.CustomFaults.{integer_faults, message_value_faults};
 ghost use Rattle.protobuf_parse_options.specs.CustomFaults.{string_value_faults, truth_faults};
@@ -16,15 +15,17 @@ ghost use Rattle.protobuf_parse_options.specs.Given.{given_faults, given_field_b
 ghost use Rattle.protobuf_parse_options.specs.Given.{given_field_items, value_bytes};
 ghost use Rattle.protobuf_parse_options.specs.Given.{option_place_view, path_said};
 ghost use Rattle.protobuf_parse_options.specs.OptionFields.{type_takes, type_name_of};
+ghost use Rattle.protobuf_parse_options.specs.Refusals.{Gives};
 
 use crate::fields::{constant_field, type_name_of};
 use crate::lookup;
 use crate::option_place::OptionPlace;
+use crate::refuse::{OptionFailure, wrong};
 use crate::strings::bytes_given;
 use crate::values::{
     check_integer, check_number, check_truth, check_value_name, push_inside, push_item,
 };
-use protobuf_parse_model::{ElabErrorKind, ElabFailure, FieldDescriptorProto, FieldType, fault};
+use protobuf_parse_model::{ElabErrorKind, FieldDescriptorProto, FieldType};
 use protobuf_parse_syntax::{ConstantField, ProtobufConstant, ProtobufOptionNamePart, StrLit};
 use protobuf_parse_wire::EntryValue;
 use std::alloc::Global;
@@ -38,10 +39,10 @@ pub fn push_value(
     option: &[ProtobufOptionNamePart],
     field: &FieldDescriptorProto,
     out: &mut Vec<u8>,
-) -> Result<(), ElabFailure>
+) -> Result<(), OptionFailure>
     ensures { let s = option_place_view at.now in let f = field_view field.now in
         let c = constant_syntax value.now in
-        Elaborates (λ u. out.new.items) result
+        Gives (λ u. out.new.items) result
         (constant_faults s (path_said option.now) f c)
         (out.old.items ++ value_bytes s f c) }
 {
@@ -56,15 +57,15 @@ pub fn push_value(
     }
 }
 
-#[tactic(auto, using(protobuf_parse_model::proofs::Blaming::blames_left))]
+#[tactic(auto, using(crate::proofs::Refusing::refuses_left))]
 fn push_integer(
     alloc: Global,
     field: &FieldDescriptorProto,
     number: i128,
     out: &mut Vec<u8>,
-) -> Result<(), ElabFailure>
+) -> Result<(), OptionFailure>
     ensures { let f = field_view field.now in
-        Elaborates (λ u. out.new.items) result
+        Gives (λ u. out.new.items) result
         (integer_faults f.name (type_takes f.type_) number)
         (out.old.items ++ bytes_of_items (item_of f (trees.number number))) }
 {
@@ -78,9 +79,9 @@ fn push_truth(
     field: &FieldDescriptorProto,
     truth: bool,
     out: &mut Vec<u8>,
-) -> Result<(), ElabFailure>
+) -> Result<(), OptionFailure>
     ensures { let f = field_view field.now in
-        Elaborates (λ u. out.new.items) result
+        Gives (λ u. out.new.items) result
         (truth_faults f.name (type_takes f.type_))
         (out.old.items ++ bytes_of_items (item_of f (trees.truth truth))) }
 {
@@ -96,10 +97,10 @@ fn push_value_name(
     field: &FieldDescriptorProto,
     name: &str,
     out: &mut Vec<u8>,
-) -> Result<(), ElabFailure>
+) -> Result<(), OptionFailure>
     ensures { let s = option_place_view at.now in let f = field_view field.now in
         let c = dotted name.now in
-        Elaborates (λ u. out.new.items) result
+        Gives (λ u. out.new.items) result
         (constant_faults s (path_said option.now) f c)
         (out.old.items ++ value_bytes s f c) }
 {
@@ -117,9 +118,9 @@ fn push_string(
     field: &FieldDescriptorProto,
     string: &StrLit,
     out: &mut Vec<u8>,
-) -> Result<(), ElabFailure>
+) -> Result<(), OptionFailure>
     ensures { let f = field_view field.now in let pieces = pieces_of string.now in
-        Elaborates (λ u. out.new.items) result
+        Gives (λ u. out.new.items) result
         (string_value_faults (path_said option.now) f.name (type_takes f.type_) pieces)
         (out.old.items ++ bytes_of_items (item_of f
         (trees.bytes (unwrap_or (decode pieces) [])))) }
@@ -131,7 +132,7 @@ fn push_string(
 
 /// Adds the bytes of what the items of a list give, one by one.
 #[cycle(constant)]
-#[tactic(auto, using(protobuf_parse_model::proofs::Blaming::blames_at))]
+#[tactic(auto, using(crate::proofs::Refusing::refuses_at))]
 fn push_list(
     items: &[ProtobufConstant],
     alloc: Global,
@@ -139,10 +140,10 @@ fn push_list(
     option: &[ProtobufOptionNamePart],
     field: &FieldDescriptorProto,
     out: &mut Vec<u8>,
-) -> Result<(), ElabFailure>
+) -> Result<(), OptionFailure>
     ensures { let s = option_place_view at.now in let f = field_view field.now in
         let cs = map constant_syntax items.now in
-        Elaborates (λ u. out.new.items) result
+        Gives (λ u. out.new.items) result
         (flat_map (constant_faults s (path_said option.now) f) cs)
         (out.old.items ++ flat_map (value_bytes s f) cs) }
 {
@@ -161,10 +162,10 @@ fn push_message(
     option: &[ProtobufOptionNamePart],
     field: &FieldDescriptorProto,
     out: &mut Vec<u8>,
-) -> Result<(), ElabFailure>
+) -> Result<(), OptionFailure>
     ensures { let s = option_place_view at.now in let f = field_view field.now in
         let fs = map constant_field_syntax fields.now in
-        Elaborates (λ u. out.new.items) result
+        Gives (λ u. out.new.items) result
         (message_value_faults f.name (type_takes f.type_)
         (flat_map (field_faults_of s (path_said option.now) (type_name_of f)) fs))
         (out.old.items ++ bytes_of_items (item_of_message f
@@ -179,14 +180,14 @@ fn push_message(
         }
         _ => {
             let kind = ElabErrorKind::MessageFieldRequiresMessageConstant;
-            Err(fault(alloc, kind, &field.name))
+            Err(wrong(alloc, kind, &field.name))
         }
     }
 }
 
 /// Adds the bytes of what the fields of a constant for the message give.
 #[cycle(constant)]
-#[tactic(auto, using(protobuf_parse_model::proofs::Blaming::blames_at))]
+#[tactic(auto, using(crate::proofs::Refusing::refuses_at))]
 fn push_fields(
     fields: &[ConstantField],
     alloc: Global,
@@ -194,9 +195,9 @@ fn push_fields(
     option: &[ProtobufOptionNamePart],
     message: &str,
     out: &mut Vec<u8>,
-) -> Result<(), ElabFailure>
+) -> Result<(), OptionFailure>
     ensures { let s = option_place_view at.now in let fs = map constant_field_syntax fields.now in
-        Elaborates (λ u. out.new.items) result
+        Gives (λ u. out.new.items) result
         (flat_map (field_faults_of s (path_said option.now) message.now) fs)
         (out.old.items ++ flat_map (given_field_bytes s message.now) fs) }
 {
@@ -207,7 +208,7 @@ fn push_fields(
 }
 
 #[cycle(constant)]
-#[tactic(auto, using(protobuf_parse_model::proofs::Blaming::blames_left))]
+#[tactic(auto, using(crate::proofs::Refusing::refuses_left))]
 fn push_field(
     field: &ConstantField,
     alloc: Global,
@@ -215,9 +216,9 @@ fn push_field(
     option: &[ProtobufOptionNamePart],
     message: &str,
     out: &mut Vec<u8>,
-) -> Result<(), ElabFailure>
+) -> Result<(), OptionFailure>
     ensures { let s = option_place_view at.now in let f = constant_field_syntax field.now in
-        Elaborates (λ u. out.new.items) result
+        Gives (λ u. out.new.items) result
         (field_faults_of s (path_said option.now) message.now f)
         (out.old.items ++ given_field_bytes s message.now f) }
 {
@@ -227,7 +228,7 @@ fn push_field(
 
 /// As [`push_value`]. E23 where the field's number can't stand in a tag.
 #[cycle(constant)]
-#[tactic(auto, using(protobuf_parse_model::proofs::Blaming::blames_left, protobuf_parse_model::proofs::Blaming::blames_right))]
+#[tactic(auto, using(crate::proofs::Refusing::refuses_left, crate::proofs::Refusing::refuses_right))]
 pub fn push_given(
     value: &ProtobufConstant,
     alloc: Global,
@@ -235,10 +236,10 @@ pub fn push_given(
     option: &[ProtobufOptionNamePart],
     field: &FieldDescriptorProto,
     out: &mut Vec<u8>,
-) -> Result<(), ElabFailure>
+) -> Result<(), OptionFailure>
     ensures { let s = option_place_view at.now in let f = field_view field.now in
         let c = constant_syntax value.now in
-        Elaborates (λ u. out.new.items) result
+        Gives (λ u. out.new.items) result
         (given_faults s (path_said option.now) c f)
         (out.old.items ++ value_bytes s f c) }
 {

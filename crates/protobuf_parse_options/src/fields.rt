@@ -3,7 +3,6 @@
 ghost use Rattle.std.specs.Prelude.{◌≡◌, Some, string_bytes, IfOk};
 ghost use Rattle.protobuf_parse_syntax.specs.Trees.{constant_name_syntax, option_part_syntax};
 ghost use Rattle.protobuf_parse_model.specs.Descriptors.{field_view};
-ghost use Rattle.protobuf_parse_model.specs.Faults.{Elaborates};
 ghost use Rattle.protobuf_parse_options.specs.CustomFaults.{bracketed, constant_name_faults};
 ghost use Rattle.protobuf_parse_options.specs.CustomFaults.{extension_name_faults};
 ghost use Rattle.protobuf_parse_options.specs.CustomFaults.{field_name_faults};
@@ -14,10 +13,12 @@ ghost use Rattle.protobuf_parse_options.specs.Known.{field_seen};
 ghost use Rattle.protobuf_parse_options.specs.OptionFields.{constant_field, extends_message};
 ghost use Rattle.protobuf_parse_options.specs.OptionFields.{extension_meant, extension_named};
 ghost use Rattle.protobuf_parse_options.specs.OptionFields.{field_named, part_field, type_name_of};
+ghost use Rattle.protobuf_parse_options.specs.Refusals.{Gives};
 
 use crate::lookup;
 use crate::option_place::OptionPlace;
-use protobuf_parse_model::{ElabErrorKind, ElabFailure, FieldDescriptorProto, fault};
+use crate::refuse::{OptionFailure, wrong};
+use protobuf_parse_model::{ElabErrorKind, FieldDescriptorProto};
 use protobuf_parse_syntax::{ConstantFieldName, ProtobufOptionNamePart};
 use std::alloc::{AllocError, Global};
 
@@ -37,14 +38,14 @@ fn named_field<'a>(
     at: &OptionPlace<'_, 'a>,
     message: &str,
     name: &str,
-) -> Result<&'a FieldDescriptorProto, ElabFailure>
+) -> Result<&'a FieldDescriptorProto, OptionFailure>
     ensures { let s = option_place_view at.now in
-        Elaborates (λ f. Some (field_seen f)) result (field_name_faults s message.now name.now)
+        Gives (λ f. Some (field_seen f)) result (field_name_faults s message.now name.now)
         (field_named s.files message.now name.now) }
 {
     match lookup::field_named(at.known, message, name) {
         Some(field) => Ok(field),
-        None => Err(fault(alloc, ElabErrorKind::UnknownFieldName, name)),
+        None => Err(wrong(alloc, ElabErrorKind::UnknownFieldName, name)),
     }
 }
 
@@ -55,17 +56,17 @@ fn named_extension<'a>(
     at: &OptionPlace<'_, 'a>,
     message: &str,
     name: &str,
-) -> Result<&'a FieldDescriptorProto, ElabFailure>
+) -> Result<&'a FieldDescriptorProto, OptionFailure>
     ensures { let s = option_place_view at.now in
-        Elaborates (λ f. Some (field_seen f)) result
+        Gives (λ f. Some (field_seen f)) result
         (extension_name_faults s.files message.now name.now (extension_meant s name.now))
         (extension_named s message.now name.now) }
 {
     let Some(field) = lookup::extension_meant(alloc, at.known, at.scope, name)? else {
-        return Err(fault(alloc, ElabErrorKind::ExtensionNotFound, name));
+        return Err(wrong(alloc, ElabErrorKind::ExtensionNotFound, name));
     };
     if !extends_message(at, message, field) {
-        return Err(fault(alloc, ElabErrorKind::WrongExtensionType, name));
+        return Err(wrong(alloc, ElabErrorKind::WrongExtensionType, name));
     }
     Ok(field)
 }
@@ -87,9 +88,9 @@ pub fn part_field<'a>(
     at: &OptionPlace<'_, 'a>,
     message: &str,
     part: &ProtobufOptionNamePart,
-) -> Result<&'a FieldDescriptorProto, ElabFailure>
+) -> Result<&'a FieldDescriptorProto, OptionFailure>
     ensures { let s = option_place_view at.now in let p = option_part_syntax part.now in
-        Elaborates (λ f. Some (field_seen f)) result (part_faults s message.now p)
+        Gives (λ f. Some (field_seen f)) result (part_faults s message.now p)
         (part_field s message.now p) }
 {
     match part {
@@ -104,9 +105,9 @@ pub fn constant_field<'a>(
     at: &OptionPlace<'_, 'a>,
     message: &str,
     name: &ConstantFieldName,
-) -> Result<&'a FieldDescriptorProto, ElabFailure>
+) -> Result<&'a FieldDescriptorProto, OptionFailure>
     ensures { let s = option_place_view at.now in let n = constant_name_syntax name.now in
-        Elaborates (λ f. Some (field_seen f)) result (constant_name_faults s message.now n)
+        Gives (λ f. Some (field_seen f)) result (constant_name_faults s message.now n)
         (constant_field s message.now n) }
 {
     match name {
@@ -114,7 +115,7 @@ pub fn constant_field<'a>(
         ConstantFieldName::Extension(name) => named_extension(alloc, at, message, name),
         ConstantFieldName::AnyUrl(name) => {
             let name = bracketed(alloc, name)?;
-            Err(fault(alloc, ElabErrorKind::TypeUrlInConstant, &name))
+            Err(wrong(alloc, ElabErrorKind::TypeUrlInConstant, &name))
         }
     }
 }

@@ -16,9 +16,9 @@ use crate::option_place::OptionPlace;
 use crate::picked_files::PickedFiles;
 use crate::places::DeclaredPlaces;
 use crate::statements::{are_several, bytes_of, options_message};
-use protobuf_parse_model::{Construct, CustomOptions, ElabFailure};
+use protobuf_parse_model::{Construct, CustomOptions, ElabError};
 use protobuf_parse_syntax::ProtobufOption;
-use std::alloc::Global;
+use std::alloc::{AllocError, Global};
 
 /// Who says what custom options become, by the descriptors of files.
 ///
@@ -70,15 +70,16 @@ impl CustomOptions for KnownFiles<'_> {
     fn bytes(
         &self,
         alloc: Global,
+        faults: &mut Vec<ElabError>,
         construct: Construct,
         scope: &[&str],
         options: &[&ProtobufOption],
-    ) -> Result<Vec<u8>, ElabFailure> {
+    ) -> Result<Vec<u8>, AllocError> {
         if options.is_empty() {
             return Ok(Vec::new(alloc));
         }
         let message = options_message(construct);
         let at = OptionPlace::new(self, scope, message, are_several(options));
-        bytes_of(alloc, &at, construct, options)
+        bytes_of(alloc, faults, &at, construct, options)
     }
 }

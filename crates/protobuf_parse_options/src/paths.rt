@@ -5,18 +5,20 @@ ghost use Rattle.std.specs.Prelude.{string_bytes, IfOk, MatchResult};
 ghost use Rattle.protobuf_parse_syntax.specs.Trees.{constant_syntax, option_part_syntax};
 ghost use Rattle.protobuf_parse_model.specs.Descriptors.{field_view};
 ghost use Rattle.protobuf_parse_model.specs.Environment.{part_text};
-ghost use Rattle.protobuf_parse_model.specs.Faults.{Blames, Elaborates, Fault};
+ghost use Rattle.protobuf_parse_model.specs.Faults.{Wrong};
 ghost use Rattle.protobuf_parse_options.specs.CustomFaults.{part_faults, path_faults, step_faults};
 ghost use Rattle.protobuf_parse_options.specs.CustomOptions.{path_items};
 ghost use Rattle.protobuf_parse_options.specs.Given.{bytes_of_items, option_place_view, path_said};
 ghost use Rattle.protobuf_parse_options.specs.Given.{through_faults, through_items};
 ghost use Rattle.protobuf_parse_options.specs.OptionFields.{messages, part_field, type_takes};
+ghost use Rattle.protobuf_parse_options.specs.Refusals.{Gives, Refuses};
 
 use crate::constants::push_given;
 use crate::fields::{part_field, type_name_of};
 use crate::option_place::OptionPlace;
+use crate::refuse::{OptionFailure, wrong};
 use crate::values::{check_number, push_inside};
-use protobuf_parse_model::{ElabErrorKind, ElabFailure, FieldDescriptorProto, FieldType, fault};
+use protobuf_parse_model::{ElabErrorKind, FieldDescriptorProto, FieldType};
 use protobuf_parse_syntax::{ProtobufConstant, ProtobufOptionNamePart};
 use std::alloc::{AllocError, Global};
 
@@ -31,10 +33,10 @@ pub fn push_path(
     value: &ProtobufConstant,
     message: &str,
     out: &mut Vec<u8>,
-) -> Result<(), ElabFailure>
+) -> Result<(), OptionFailure>
     ensures { let s = option_place_view at.now in let ps = map option_part_syntax parts.now in
         let c = constant_syntax value.now in
-        Elaborates (λ u. out.new.items) result
+        Gives (λ u. out.new.items) result
         (path_faults s (path_said option.now) c message.now ps)
         (out.old.items ++ bytes_of_items (path_items s c message.now ps)) }
 {
@@ -49,7 +51,7 @@ pub fn push_path(
 
 /// As [`push_path`], of a part that others follow.
 #[cycle(path)]
-#[tactic(auto, using(protobuf_parse_model::proofs::Blaming::blames_left))]
+#[tactic(auto, using(crate::proofs::Refusing::refuses_left))]
 fn push_first(
     others: &[ProtobufOptionNamePart],
     part: &ProtobufOptionNamePart,
@@ -59,10 +61,10 @@ fn push_first(
     value: &ProtobufConstant,
     message: &str,
     out: &mut Vec<u8>,
-) -> Result<(), ElabFailure>
+) -> Result<(), OptionFailure>
     ensures { let s = option_place_view at.now in let p = option_part_syntax part.now in
         let ps = map option_part_syntax others.now in let c = constant_syntax value.now in
-        Elaborates (λ u. out.new.items) result
+        Gives (λ u. out.new.items) result
         (part_faults s message.now p ++ flat_map (through_faults s (path_said option.now) c p ps)
         (option_to_list (part_field s message.now p)))
         (out.old.items ++ bytes_of_items (flat_map (through_items s c ps)
@@ -74,7 +76,7 @@ fn push_first(
 
 /// Adds the bytes of the message in which the other parts stand, under the field's number.
 #[cycle(path)]
-#[tactic(auto, using(protobuf_parse_model::proofs::Blaming::blames_left, protobuf_parse_model::proofs::Blaming::blames_right))]
+#[tactic(auto, using(crate::proofs::Refusing::refuses_left, crate::proofs::Refusing::refuses_right))]
 fn push_through(
     others: &[ProtobufOptionNamePart],
     part: &ProtobufOptionNamePart,
@@ -84,11 +86,11 @@ fn push_through(
     value: &ProtobufConstant,
     field: &FieldDescriptorProto,
     out: &mut Vec<u8>,
-) -> Result<(), ElabFailure>
+) -> Result<(), OptionFailure>
     ensures { let s = option_place_view at.now in let p = option_part_syntax part.now in
         let ps = map option_part_syntax others.now in let c = constant_syntax value.now in
         let f = field_view field.now in
-        Elaborates (λ u. out.new.items) result
+        Gives (λ u. out.new.items) result
         (through_faults s (path_said option.now) c p ps f)
         (out.old.items ++ bytes_of_items (through_items s c ps f)) }
 {
@@ -109,7 +111,7 @@ fn push_through(
 }
 
 /// Adds the bytes of what the constant gives to the field of the message that the only part means.
-#[tactic(auto, using(protobuf_parse_model::proofs::Blaming::blames_left))]
+#[tactic(auto, using(crate::proofs::Refusing::refuses_left))]
 pub fn push_last(
     part: &ProtobufOptionNamePart,
     alloc: Global,
@@ -118,10 +120,10 @@ pub fn push_last(
     value: &ProtobufConstant,
     message: &str,
     out: &mut Vec<u8>,
-) -> Result<(), ElabFailure>
+) -> Result<(), OptionFailure>
     ensures { let s = option_place_view at.now in let ps = option_part_syntax part.now ∷ [] in
         let c = constant_syntax value.now in
-        Elaborates (λ u. out.new.items) result
+        Gives (λ u. out.new.items) result
         (path_faults s (path_said option.now) c message.now ps)
         (out.old.items ++ bytes_of_items (path_items s c message.now ps)) }
 {
@@ -135,11 +137,11 @@ pub fn check_step(
     alloc: Global,
     part: &ProtobufOptionNamePart,
     field: &FieldDescriptorProto,
-) -> Result<(), ElabFailure>
+) -> Result<(), OptionFailure>
     ensures { let t = type_takes (field_view field.now).type_ in let p = part_text
         (option_part_syntax part.now) in
         MatchResult result (λ u. t ≡ messages)
-        (λ e. (inside : List Fault) → Blames e (step_faults p t inside)) }
+        (λ e. (inside : List Wrong) → Refuses e (step_faults p t inside)) }
 {
     let kind = match field.type_ {
         FieldType::Message => return Ok(()),
@@ -147,7 +149,7 @@ pub fn check_step(
         _ => ElabErrorKind::ExtensionIsNotMessage,
     };
     let text = part_text(alloc, part)?;
-    Err(fault(alloc, kind, &text))
+    Err(wrong(alloc, kind, &text))
 }
 
 /// A part as it is written.

@@ -1,63 +1,106 @@
 //! What the custom options among the statements of a construct become.
 
-ghost use Rattle.std.specs.Prelude.{◌≡◌, ◌++◌, flat_map, map};
+ghost use Rattle.std.specs.Prelude.{◌≡◌, ◌++◌, [], flat_map, map, IfOk, OnOk};
 ghost use Rattle.protobuf_parse_syntax.specs.Trees.{constant_syntax, option_part_syntax};
 ghost use Rattle.protobuf_parse_syntax.specs.Trees.{option_syntax};
-ghost use Rattle.protobuf_parse_model.specs.Faults.{Blames, Elaborates};
+ghost use Rattle.protobuf_parse_model.specs.Faults.{found};
 ghost use Rattle.protobuf_parse_model.specs.OptionTables.{table_of};
 ghost use Rattle.protobuf_parse_model.specs.BuiltinOptions.{options_seen};
 ghost use Rattle.protobuf_parse_options.specs.CustomFaults.{builtin_step_faults, custom_faults};
 ghost use Rattle.protobuf_parse_options.specs.CustomFaults.{custom_name_faults};
 ghost use Rattle.protobuf_parse_options.specs.CustomFaults.{custom_statement_faults};
-ghost use Rattle.protobuf_parse_options.specs.CustomOptions.{denotes, path_items};
-ghost use Rattle.protobuf_parse_wire.specs.Encoded.{encoded};
+ghost use Rattle.protobuf_parse_options.specs.CustomFaults.{option_faults_at};
+ghost use Rattle.protobuf_parse_options.specs.CustomOptions.{path_items};
+ghost use Rattle.protobuf_parse_options.specs.OptionBytes.{spelled_at};
 ghost use Rattle.protobuf_parse_options.specs.Given.{bytes_of_items, bytes_of_option};
 ghost use Rattle.protobuf_parse_options.specs.Given.{option_place_view};
 ghost use Rattle.protobuf_parse_options.specs.OptionFields.{options_message};
+ghost use Rattle.protobuf_parse_options.specs.Refusals.{Gives, Refuses};
 
 use crate::option_place::OptionPlace;
 use crate::paths::push_path;
+use crate::refuse::{OptionFailure, wrong};
 use protobuf_parse_elaboration::has_builtin_option;
-use protobuf_parse_model::{Construct, ElabErrorKind, ElabFailure, fault};
+use protobuf_parse_model::{Construct, ElabError, ElabErrorKind};
 use protobuf_parse_syntax::{
     ProtobufConstant, ProtobufOption, ProtobufOptionName, ProtobufOptionNamePart,
 };
-use std::alloc::Global;
+use std::alloc::{AllocError, Global};
 
-/// The bytes that spell what the statements of the construct denote.
+/// The bytes that spell what the statements of the construct denote; none where a fault stands in
+/// them. What is wrong first in each option is told at the option.
 pub fn bytes_of(
     alloc: Global,
+    faults: &mut Vec<ElabError>,
     at: &OptionPlace<'_, '_>,
     construct: Construct,
     options: &[&ProtobufOption],
-) -> Result<Vec<u8>, ElabFailure>
-    ensures { let s = option_place_view at.now in let os = options_seen options.now in
-        Elaborates (λ v. v.items) result (custom_statement_faults s construct os)
-        (encoded (denotes s construct os)) }
+) -> Result<Vec<u8>, AllocError>
+    ensures value { let s = option_place_view at.now in
+        IfOk result (λ v. v.items ≡ spelled_at s construct (options_seen options.now)) }
+    ensures faults { let s = option_place_view at.now in
+        OnOk result (found faults.new ≡ found faults.old
+        ++ custom_statement_faults s construct (options_seen options.now)) }
 {
+    let before = faults.len();
     let mut bytes = Vec::new(alloc);
-    push_options(alloc, at, construct, options, &mut bytes)?;
+    push_options(alloc, faults, at, construct, options, &mut bytes)?;
+    if faults.len() > before {
+        return Ok(Vec::new(alloc));
+    }
     Ok(bytes)
 }
 
-/// Adds the bytes of what the statements give, in their order.
-#[tactic(auto, using(protobuf_parse_model::proofs::Blaming::blames_at))]
+/// Adds the bytes of what the statements give, in their order, where nothing is wrong in them.
 fn push_options(
     alloc: Global,
+    faults: &mut Vec<ElabError>,
     at: &OptionPlace<'_, '_>,
     construct: Construct,
     options: &[&ProtobufOption],
     out: &mut Vec<u8>,
-) -> Result<(), ElabFailure>
-    ensures { let s = option_place_view at.now in let os = options_seen options.now in
-        Elaborates (λ u. out.new.items) result
-        (custom_statement_faults s construct os)
-        (out.old.items ++ flat_map (bytes_of_option s construct) os) }
+) -> Result<(), AllocError>
+    ensures value { let s = option_place_view at.now in let os = options_seen options.now in
+        OnOk result (custom_statement_faults s construct os ≡ []
+        → out.new.items ≡ out.old.items ++ flat_map (bytes_of_option s construct) os) }
+    ensures faults { let s = option_place_view at.now in
+        OnOk result (found faults.new ≡ found faults.old
+        ++ custom_statement_faults s construct (options_seen options.now)) }
 {
     'options: for option in options {
-        push_option(alloc, at, construct, option, out)?;
+        push_or_tell(alloc, faults, at, construct, option, out)?;
     }
     Ok(())
+}
+
+/// Adds the bytes of what the option gives, or tells what is wrong first in it.
+fn push_or_tell(
+    alloc: Global,
+    faults: &mut Vec<ElabError>,
+    at: &OptionPlace<'_, '_>,
+    construct: Construct,
+    option: &ProtobufOption,
+    out: &mut Vec<u8>,
+) -> Result<(), AllocError>
+    ensures value { let s = option_place_view at.now in let o = option_syntax option.now in
+        OnOk result (option_faults_at s construct o ≡ []
+        → out.new.items ≡ out.old.items ++ bytes_of_option s construct o) }
+    ensures faults { let s = option_place_view at.now in
+        OnOk result (found faults.new ≡ found faults.old
+        ++ option_faults_at s construct (option_syntax option.now)) }
+{
+    match push_option(alloc, at, construct, option, out) {
+        Ok(()) => Ok(()),
+        Err(OptionFailure::Memory) => Err(AllocError),
+        Err(OptionFailure::Wrong(error)) => {
+            faults.push(ElabError {
+                place: option.place,
+                kind: error.kind,
+                what: error.what,
+            })?;
+            Ok(())
+        }
+    }
 }
 
 fn push_option(
@@ -66,9 +109,9 @@ fn push_option(
     construct: Construct,
     option: &ProtobufOption,
     out: &mut Vec<u8>,
-) -> Result<(), ElabFailure>
+) -> Result<(), OptionFailure>
     ensures { let s = option_place_view at.now in let o = option_syntax option.now in
-        Elaborates (λ u. out.new.items) result
+        Gives (λ u. out.new.items) result
         (custom_name_faults s construct o.value o.name)
         (out.old.items ++ bytes_of_option s construct o) }
 {
@@ -87,10 +130,10 @@ fn push_custom(
     parts: &[ProtobufOptionNamePart],
     value: &ProtobufConstant,
     out: &mut Vec<u8>,
-) -> Result<(), ElabFailure>
+) -> Result<(), OptionFailure>
     ensures { let s = option_place_view at.now in let ps = map option_part_syntax parts.now in
         let c = constant_syntax value.now in
-        Elaborates (λ u. out.new.items) result (custom_faults s construct c ps)
+        Gives (λ u. out.new.items) result (custom_faults s construct c ps)
         (out.old.items ++ bytes_of_items (path_items s c (options_message construct) ps)) }
 {
     let [first, ..] = parts else {
@@ -107,8 +150,8 @@ fn push_custom(
 
 /// The failure for a name that goes on from a plain part: E28 from `uninterpreted_option`, E16 from
 /// any other built-in option, E17 where there is none.
-fn plain_first(alloc: Global, construct: Construct, name: &str) -> ElabFailure
-    ensures { Blames result (builtin_step_faults (table_of construct) name.now) }
+fn plain_first(alloc: Global, construct: Construct, name: &str) -> OptionFailure
+    ensures { Refuses result (builtin_step_faults (table_of construct) name.now) }
 {
     let kind = if name == "uninterpreted_option" {
         ElabErrorKind::UninterpretedOptionName
@@ -117,7 +160,7 @@ fn plain_first(alloc: Global, construct: Construct, name: &str) -> ElabFailure
     } else {
         ElabErrorKind::UnknownFieldName
     };
-    fault(alloc, kind, name)
+    wrong(alloc, kind, name)
 }
 
 /// The full name of the message that holds the options of the construct.

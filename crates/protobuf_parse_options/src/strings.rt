@@ -6,17 +6,15 @@ ghost use Rattle.protobuf_parse_syntax.specs.Trees.{pieces_of};
 ghost use Rattle.protobuf_parse_model.specs.BuiltinOptions.{string_faults};
 ghost use Rattle.protobuf_parse_model.specs.Descriptors.{field_view};
 ghost use Rattle.protobuf_parse_model.specs.Duplicates as duplicates;
-ghost use Rattle.protobuf_parse_model.specs.Faults.{Blames, Elaborates};
 ghost use Rattle.protobuf_parse_model.specs.declared.error.ElabErrorKind.TheVariants.{StrLitDecode};
 ghost use Rattle.protobuf_parse_options.specs.CustomFaults.{string_value_faults};
 ghost use Rattle.protobuf_parse_options.specs.Given.{path_said};
 ghost use Rattle.protobuf_parse_options.specs.OptionFields.{type_takes};
+ghost use Rattle.protobuf_parse_options.specs.Refusals.{Gives, Refuses};
 
-use crate::refuse::not_taken;
+use crate::refuse::{OptionFailure, not_taken, wrong};
 use protobuf_parse_elaboration::{decoded_bytes, decoded_text};
-use protobuf_parse_model::{
-    ElabErrorKind, ElabFailure, FieldDescriptorProto, FieldType, fault, path_text,
-};
+use protobuf_parse_model::{ElabErrorKind, FieldDescriptorProto, FieldType, path_text};
 use protobuf_parse_syntax::{ProtobufOptionNamePart, StrLit};
 use std::alloc::Global;
 
@@ -27,9 +25,9 @@ pub fn bytes_given(
     option: &[ProtobufOptionNamePart],
     field: &FieldDescriptorProto,
     string: &StrLit,
-) -> Result<Vec<u8>, ElabFailure>
+) -> Result<Vec<u8>, OptionFailure>
     ensures { let f = field_view field.now in let pieces = pieces_of string.now in
-        Elaborates (λ v. v.items) result
+        Gives (λ v. v.items) result
         (string_value_faults (path_said option.now) f.name (type_takes f.type_) pieces)
         (unwrap_or (decode pieces) []) }
 {
@@ -44,9 +42,9 @@ fn text_said(
     alloc: Global,
     option: &[ProtobufOptionNamePart],
     string: &StrLit,
-) -> Result<Vec<u8>, ElabFailure>
+) -> Result<Vec<u8>, OptionFailure>
     ensures { let pieces = pieces_of string.now in
-        Elaborates (λ v. v.items) result (string_faults (path_said option.now) (text_of pieces))
+        Gives (λ v. v.items) result (string_faults (path_said option.now) (text_of pieces))
         (unwrap_or (decode pieces) []) }
 {
     match decoded_text(alloc, string)? {
@@ -59,9 +57,9 @@ fn bytes_said(
     alloc: Global,
     option: &[ProtobufOptionNamePart],
     string: &StrLit,
-) -> Result<Vec<u8>, ElabFailure>
+) -> Result<Vec<u8>, OptionFailure>
     ensures { let pieces = pieces_of string.now in
-        Elaborates (λ v. v.items) result (string_faults (path_said option.now) (decode pieces))
+        Gives (λ v. v.items) result (string_faults (path_said option.now) (decode pieces))
         (unwrap_or (decode pieces) []) }
 {
     match decoded_bytes(alloc, string)? {
@@ -71,11 +69,11 @@ fn bytes_said(
 }
 
 /// The failure for a string that says nothing, by the option's name: E9.
-fn says_nothing(alloc: Global, option: &[ProtobufOptionNamePart]) -> ElabFailure
-    ensures { Blames result (duplicates.fault StrLitDecode (path_said option.now)) }
+fn says_nothing(alloc: Global, option: &[ProtobufOptionNamePart]) -> OptionFailure
+    ensures { Refuses result (duplicates.fault StrLitDecode (path_said option.now)) }
 {
     match path_text(alloc, option) {
-        Ok(name) => fault(alloc, ElabErrorKind::StrLitDecode, &name),
-        Err(_) => ElabFailure::Memory,
+        Ok(name) => wrong(alloc, ElabErrorKind::StrLitDecode, &name),
+        Err(_) => OptionFailure::Memory,
     }
 }

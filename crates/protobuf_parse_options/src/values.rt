@@ -3,16 +3,16 @@
 ghost use Rattle.std.specs.Prelude.{◌≡◌, ◌++◌, List, OnOk};
 ghost use Rattle.protobuf_parse_model.specs.declared.descriptor.FieldType.TheVariants.{Message};
 ghost use Rattle.protobuf_parse_model.specs.Descriptors.{field_view};
-ghost use Rattle.protobuf_parse_model.specs.Faults.{Elaborates};
 ghost use Rattle.protobuf_parse_options.specs.CustomFaults.{integer_faults, truth_faults};
 ghost use Rattle.protobuf_parse_options.specs.CustomFaults.{value_name_faults, number_faults};
 ghost use Rattle.protobuf_parse_options.specs.CustomOptions.{item_of, item_of_message};
 ghost use Rattle.protobuf_parse_options.specs.Given.{AreFit, bytes_of_items};
 ghost use Rattle.protobuf_parse_options.specs.OptionFields.{integer_kind, type_takes};
+ghost use Rattle.protobuf_parse_options.specs.Refusals.{Gives, Refuses};
 ghost use Rattle.protobuf_parse_wire.specs.Views.{WireItem, entry_value_view};
 
-use crate::refuse::not_taken;
-use protobuf_parse_model::{ElabErrorKind, ElabFailure, FieldDescriptorProto, FieldType, fault};
+use crate::refuse::{OptionFailure, not_taken, wrong};
+use protobuf_parse_model::{ElabErrorKind, FieldDescriptorProto, FieldType};
 use protobuf_parse_wire::{Entry, EntryValue, Kind, encode_into, put_message};
 use std::alloc::{AllocError, Global};
 use std::slice;
@@ -78,23 +78,23 @@ pub fn check_integer(
     alloc: Global,
     field: &FieldDescriptorProto,
     number: i128,
-) -> Result<(), ElabFailure>
+) -> Result<(), OptionFailure>
     ensures { let f = field_view field.now in
-        Elaborates (λ u. u) result (integer_faults f.name (type_takes f.type_) number) tt }
+        Gives (λ u. u) result (integer_faults f.name (type_takes f.type_) number) tt }
 {
     let Some(kind) = integer_kind(field.type_) else {
         return Err(not_taken(alloc, field));
     };
     if !kind.has_number(number) {
-        return Err(fault(alloc, ElabErrorKind::IntegerOutOfRange, &field.name));
+        return Err(wrong(alloc, ElabErrorKind::IntegerOutOfRange, &field.name));
     }
     Ok(())
 }
 
 /// Refuses a truth value that the field doesn't take.
-pub fn check_truth(alloc: Global, field: &FieldDescriptorProto) -> Result<(), ElabFailure>
+pub fn check_truth(alloc: Global, field: &FieldDescriptorProto) -> Result<(), OptionFailure>
     ensures { let f = field_view field.now in
-        Elaborates (λ u. u) result (truth_faults f.name (type_takes f.type_)) tt }
+        Gives (λ u. u) result (truth_faults f.name (type_takes f.type_)) tt }
 {
     match field.type_ {
         FieldType::Bool => Ok(()),
@@ -109,27 +109,27 @@ pub fn check_value_name(
     field: &FieldDescriptorProto,
     name: &str,
     number: Option<i32>,
-) -> Result<(), ElabFailure>
+) -> Result<(), OptionFailure>
     ensures { let f = field_view field.now in
-        Elaborates (λ u. u) result
+        Gives (λ u. u) result
         (value_name_faults f.name (type_takes f.type_) name.now number) tt }
 {
     match field.type_ {
         FieldType::Enum => match number {
             Some(_) => Ok(()),
-            None => Err(fault(alloc, ElabErrorKind::UnknownEnumValue, name)),
+            None => Err(wrong(alloc, ElabErrorKind::UnknownEnumValue, name)),
         },
         _ => Err(not_taken(alloc, field)),
     }
 }
 
 /// Refuses a field whose number can't stand in a tag: E23.
-pub fn check_number(alloc: Global, field: &FieldDescriptorProto) -> Result<(), ElabFailure>
-    ensures { Elaborates (λ u. u) result (number_faults (field_view field.now)) tt }
+pub fn check_number(alloc: Global, field: &FieldDescriptorProto) -> Result<(), OptionFailure>
+    ensures { Gives (λ u. u) result (number_faults (field_view field.now)) tt }
 {
     if 1 <= field.number && field.number <= 536_870_911 {
         Ok(())
     } else {
-        Err(fault(alloc, ElabErrorKind::OptionFieldNumber, &field.name))
+        Err(wrong(alloc, ElabErrorKind::OptionFieldNumber, &field.name))
     }
 }

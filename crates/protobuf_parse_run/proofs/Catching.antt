@@ -1,15 +1,21 @@
 -- The index of places, as it is caught up with the loaded files.
 use Rattle.std.proofs.Common.{◌≡◌, ℕ, ◌+◌, ◌≤◌, List, [], ◌∷◌, ◌++◌, map, length}
-use Rattle.std.proofs.Common.{Some, refl, sym, ap, ◌∙◌, arith, append-nil, append_assoc}
+use Rattle.std.proofs.Common.{Option, option_map, Some, refl, sym, ap, ◌∙◌, arith, append-nil, append_assoc}
 use Rattle.std.proofs.Common.{subst, slice_get, length-append, flat_map}
+use Rattle.std.specs.Borrow.{Bor}
 use Rattle.std.specs.Prelude.{option_to_list}
 use Rattle.std.proofs.lemmas.List.{map-append}
 use Rattle.protobuf_parse_model.specs.Descriptors.{FileDescriptor}
+use Rattle.protobuf_parse_model.specs.declared.descriptor.FileDescriptorProto.{FileDescriptorProto}
 use Rattle.protobuf_parse_options.specs.Holding.{Holds}
 use Rattle.protobuf_parse_run.specs.Loading.{IndexBegins, LoadedEntry, IsWhole, picked_plains}
-use Rattle.protobuf_parse_run.specs.Loading.{plain_in}
+use Rattle.protobuf_parse_run.specs.Loading.{plain_in, plain_seen}
 use Rattle.protobuf_parse_run.specs.Loading.{plains_with}
 use Rattle.protobuf_parse_run.specs.declared.tables.RunPlaces.{RunPlaces}
+
+-- the descriptors that the code's list has
+abbrev pub listed : List (Option (Bor FileDescriptorProto)) → List FileDescriptor
+listed fs = flat_map option_to_list (map (option_map plain_seen) fs)
 
 pub whole-begins : (places : RunPlaces) (plains : List FileDescriptor) → IsWhole places plains
     → IndexBegins places plains

@@ -204,13 +204,14 @@ pub next-trees : (loaded : List LoadedEntry) (p : Text) (t : FileSyntax)
     → with_next loaded t ≡ trees_of (named_trees loaded ++ (p, t) ∷ [])
 next-trees loaded p t = sym (map-append (λ (f : Named). f.1) (named_trees loaded) ((p, t) ∷ []))
 
-module _ (path : Text) (tree : FileSyntax) (height read : ℕ) (imports public : List ℕ)
+module _ (gathers : Bool) (path : Text) (tree : FileSyntax) (height read : ℕ)
+    (imports public : List ℕ)
     (old new : List LoadedEntry) (before after : Tables) (log : List ReadEntry) (placed : LoadedAs)
     (known : AreKnown old before log) (was_read : among path (read_paths log) ≡ true)
     (numbered : FilesAreNumbered (named_trees old) imports (import_paths tree))
     (publicly : FilesAreNumbered (named_trees old) public (public_paths tree))
     (none : file_at path old ≡ None)
-    (a : IsAddedOver path tree height read imports public old new after placed) where
+    (a : IsAddedOver gathers path tree height read imports public old new after placed) where
   abbrev x : LoadedEntry
   x = (a.key, a.file)
 

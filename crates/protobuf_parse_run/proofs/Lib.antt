@@ -8,6 +8,7 @@ pub mod Leaving
 pub mod Inputs
 pub mod Checking
 pub mod Telling
+pub mod Reporting
 pub mod Counting
 pub mod Deciding
 pub mod Causing
@@ -16,6 +17,7 @@ pub mod Finding
 pub mod Knowing
 pub mod Spelling
 pub mod Reordering
+pub mod Faulty
 pub mod Settling
 pub mod Listed
 pub mod Stacks

@@ -1,11 +1,11 @@
 -- What a file becomes over numbered files is what it becomes over the files that it reaches and
 -- sees, however these are listed.
-use Rattle.std.proofs.Common.{◌≡◌, ◌⊎◌, ℕ, zero, suc, ◌≤◌, Bool, true, false, ◌||◌, inl}
+use Rattle.std.proofs.Common.{◌≡◌, ◌⊎◌, ℕ, zero, suc, ◌≤◌, Bool, true, false, not, ◌||◌, inl}
 use Rattle.std.proofs.Common.{inr, List, [], ◌∷◌, ◌++◌, flat_map, map, Option, Some}
 use Rattle.std.proofs.Common.{None, option_map, refl, sym, ◌∙◌, ap, subst, arith, Result, Ok, Err}
 use Rattle.std.proofs.Common.{append_assoc, Contains}
-use Rattle.std.specs.Prelude.{bytes_eq, slice_get, option_to_list, string_bytes}
-use Rattle.std.specs.List.{AllByRecursion}
+use Rattle.std.specs.Prelude.{bytes_eq, if◌then◌else◌, slice_get, option_to_list, string_bytes}
+use Rattle.std.specs.List.{AllByRecursion, list_any}
 use Rattle.std.specs.List.Sorted.{IsStrictlyIncreasing}
 use Rattle.std.proofs.lemmas.Option.{slice_get-map}
 use Rattle.std.proofs.lemmas.List.{map-append}
@@ -31,12 +31,14 @@ use Rattle.protobuf_parse_run.specs.Walks.{among}
 use Rattle.protobuf_parse_run.specs.Walks.{import_paths}
 use Rattle.protobuf_parse_run.specs.Run.{Files, FilesAreListed, StandsInElab, customs_of}
 use Rattle.protobuf_parse_run.specs.Run.{environment_of}
-use Rattle.protobuf_parse_run.specs.Run.{faults_at, origin_given, plain_of, plains_at}
+use Rattle.protobuf_parse_run.specs.Run.{ending_faults, faults_at, is_faulty, is_nothing}
+use Rattle.protobuf_parse_run.specs.Run.{origin_given, own_faults, plain_of, plains_at, report_at}
 use Rattle.protobuf_parse_run.specs.Loading.{Agrees, AreJoined, AreKnown, FilesAreNumbered}
 use Rattle.protobuf_parse_run.specs.Loading.{AreNumbersOf}
 use Rattle.protobuf_parse_run.specs.Loading.{LoadedEntry, IsLoaded, IsNumbered, Named}
 use Rattle.protobuf_parse_run.specs.Loading.{Settles}
-use Rattle.protobuf_parse_run.specs.Loading.{SettlesOver, customs_over, faults_over, file_at}
+use Rattle.protobuf_parse_run.specs.Loading.{SettlesOver, any_faulty, customs_over, ending_over}
+use Rattle.protobuf_parse_run.specs.Loading.{faults_over, file_at, has_faults, own_over, report_over}
 use Rattle.protobuf_parse_run.specs.Loading.{file_over}
 use Rattle.protobuf_parse_run.specs.Loading.{named_trees, paths_in, picked_plains, plain_in}
 use Rattle.protobuf_parse_run.specs.Loading.{plain_over}
@@ -51,7 +53,10 @@ use Rattle.protobuf_parse_run.proofs.Keeping.{text-true}
 use Rattle.protobuf_parse_run.proofs.Knowing.{agrees-push, next-trees, leads-out, once-push}
 use Rattle.protobuf_parse_run.proofs.Knowing.{sees-out}
 use Rattle.protobuf_parse_run.proofs.Knowing.{sees-reaches}
-use Rattle.protobuf_parse_run.proofs.Numbers.{numbers-joined, only-one}
+use Rattle.protobuf_parse_run.proofs.Numbers.{name_of, numbers-joined, only-one}
+use Rattle.protobuf_parse_run.proofs.Steps.{get-more}
+use Rattle.protobuf_parse_run.proofs.Faulty.{any-number, any-text, at-end, entry-at, faulty-entry}
+use Rattle.protobuf_parse_run.proofs.Faulty.{number-any, same-bool, text-any}
 use Rattle.protobuf_parse_run.proofs.Reordering.{HavePackages, customs-same}
 use Rattle.protobuf_parse_run.proofs.Spelling.{others, others_by, told_by}
 
@@ -126,14 +131,14 @@ plains-are files named (n ∷ ns) agrees =
     ∙ sym (plains_at-append files at (paths_by named ns))
 
 -- the loaded files have the descriptors of their trees
-pub plains-made : (files : Files) (log : List ReadEntry) (loaded : List LoadedEntry)
-    → AllByRecursion (λ (e : LoadedEntry). IsLoaded files log (string_bytes e.0) e.1) loaded
+pub plains-made : (gathers : Bool) (files : Files) (log : List ReadEntry) (loaded : List LoadedEntry)
+    → AllByRecursion (λ (e : LoadedEntry). IsLoaded gathers files log (string_bytes e.0) e.1) loaded
     → map plain_in loaded ≡ map (described_by files) (named_trees loaded)
-plains-made files log [] made = refl
-plains-made files log (e ∷ loaded) made =
+plains-made gathers files log [] made = refl
+plains-made gathers files log (e ∷ loaded) made =
     ap (λ d. d ∷ map plain_in loaded) made.0.plain
     ∙ ap (λ ds. plain_of files (string_bytes e.0) (tree_in e.1) ∷ ds)
-    (plains-made files log loaded made.1)
+    (plains-made gathers files log loaded made.1)
 
 -- ** each of them once
 
@@ -317,6 +322,8 @@ pub record IsNext (files : Files) (loaded : List LoadedEntry) (tables : Tables)
   pub known : AreKnown loaded tables log
   pub agrees : Agrees files.trees (named_trees loaded)
   pub plain : map plain_in loaded ≡ map (described_by files) (named_trees loaded)
+  pub faulty : (n : ℕ) (e : LoadedEntry) → slice_get loaded n ≡ Some e
+      → e.1.faulty ≡ is_faulty files (string_bytes e.0)
   pub is : files.trees p ≡ Some t
   pub none : file_at p loaded ≡ None
   pub numbered : FilesAreNumbered (named_trees loaded) below (import_paths t)
@@ -447,18 +454,106 @@ module _ (files : Files) (loaded : List LoadedEntry) (tables : Tables) (log : Li
       no-others linked_in (others files p t) (link-again first)
       (sym (others-same first) ∙ none-after linked others_over (sym over-is ∙ h))
 
-  pub over-descriptor : faults_over (with_next loaded t) plains reach sight t ≡ []
+  pub over-descriptor : linked ≡ []
       → file_over (with_next loaded t) plains reach sight p t
       ≡ file_of (environment_of files p t) p t
   over-descriptor h =
       ap (λ (env : Environment). file_of env p t)
-      (same-types (over-linked h) (customs_over plains reach sight))
+      (same-types h (customs_over plains reach sight))
       ∙ ap (λ (c : Customs). file_of (environment (trees_at files.trees (files.seen p)) c t) p t)
-      (same-customs (over-linked h))
+      (same-customs h)
 
-  pub over-plain : faults_over (with_next loaded t) plains reach sight t ≡ []
+  pub over-plain : linked ≡ []
       → plain_over (with_next loaded t) sight p t ≡ plain_of files p t
-  over-plain h = own-is (over-linked h)
+  over-plain h = own-is h
+
+  -- ** where faults are gathered
+
+  pub ending-linked : (gathers : Bool)
+      → ending_over gathers (with_next loaded t) plains reach sight t ≡ [] → linked ≡ []
+  ending-linked true h = sym linked-is ∙ h
+  ending-linked false h = over-linked h
+
+  pub ending-faultless : (gathers : Bool)
+      → ending_over gathers (with_next loaded t) plains reach sight t ≡ []
+      → ending_faults gathers files p (Some t) ≡ []
+  ending-faultless true h = link-again (sym linked-is ∙ h)
+  ending-faultless false h = over-faultless h
+
+  pub own-same : linked ≡ [] → own_over (with_next loaded t) sight t ≡ own_faults files p (Some t)
+  own-same h = ap (λ (env : Environment). file_faults env t) (same-types h no_customs)
+
+  pub customs-told-same : linked ≡ []
+      → file_faults (environment (picked (with_next loaded t) sight)
+      (customs_over plains reach sight) t) t ≡ file_faults (environment_of files p t) t
+  customs-told-same h =
+      ap (λ (env : Environment). file_faults env t)
+      (same-types h (customs_over plains reach sight))
+      ∙ ap (λ (c : Customs). file_faults (environment (trees_at files.trees (files.seen p)) c t) t)
+      (same-customs h)
+
+  is-faulty-here : (own : Bool) → own ≡ not (is_nothing (own_faults files p (Some t)))
+      → own ≡ is_faulty files p
+  is-faulty-here own is =
+      is ∙ ap (λ (o : Option FileSyntax). not (is_nothing (own_faults files p o))) (sym n.is)
+
+  faulty-reached : (own : Bool) → own ≡ is_faulty files p
+      → any_faulty loaded reach own ≡ true
+      → list_any (is_faulty files) (files.reached p) ≡ true
+  faulty-reached own is h =
+      elim (or_cases own (list_any (λ (m : ℕ). has_faults (slice_get loaded m)) reach) h) [
+        | inl w ↦ any-text (is_faulty files) (files.reached p) p
+            (sym (same-reach p) ∙ reached-by.all p (stays p)) (sym is ∙ w)
+        | inr w ↦
+            let r = number-any (λ (m : ℕ). has_faults (slice_get loaded m)) reach w in
+            let e = faulty-entry (slice_get loaded r.0) r.2 in
+            let name = string_bytes e.0.0 in
+            let at : IsNumbered with_p r.0 name = (
+              tree_in e.0.1,
+              get-more (named_trees loaded) ((p, t) ∷ []) r.0 (name_of e.0)
+                  (slice_get-map name_of loaded r.0 ∙ ap (option_map name_of) e.1),
+            ) in
+            any-text (is_faulty files) (files.reached p) name
+            (sym (same-reach name) ∙ by-path with_p reach name r.0 r.1 at)
+            (sym (n.faulty r.0 e.0 e.1) ∙ e.2)
+      ]
+
+  reached-faulty : (own : Bool) → own ≡ is_faulty files p
+      → list_any (is_faulty files) (files.reached p) ≡ true
+      → any_faulty loaded reach own ≡ true
+  reached-faulty own is h =
+      let q = text-any (is_faulty files) (files.reached p) h in
+      let r = by-number with_p reach q.0 (same-reach q.0 ∙ q.1) in
+      elim (at-end (named_trees loaded) (p, t) r.0 (q.0, r.2.0) r.2.1) [
+        | inl w ↦
+            let e = entry-at loaded r.0 (q.0, r.2.0) w in
+            let name : string_bytes e.0.0 ≡ q.0 = ap (λ (f : Named). f.0) e.2 in
+            or_right own _
+            (any-number (λ (m : ℕ). has_faults (slice_get loaded m)) reach r.0 r.1
+            (ap has_faults e.1 ∙ n.faulty r.0 e.0 e.1 ∙ ap (is_faulty files) name ∙ q.2))
+        | inr w ↦
+            or_left own _ (is ∙ ap (is_faulty files) (ap (λ (f : Named). f.0) w) ∙ q.2)
+      ]
+
+  pub over-report : linked ≡ [] → (own : Bool)
+      → own ≡ not (is_nothing (own_over (with_next loaded t) sight t))
+      → report_over (with_next loaded t) plains reach sight (any_faulty loaded reach own) t
+      ≡ report_at files p t
+  over-report h own is =
+      let here = is-faulty-here own
+      (is ∙ ap (λ (fs : List elaborating.Fault). not (is_nothing fs)) (own-same h)) in
+      let any = same-bool (any_faulty loaded reach own)
+      (list_any (is_faulty files) (files.reached p)) (faulty-reached own here)
+      (reached-faulty own here) in
+      ap (λ (fs : List elaborating.Fault). before_others fs
+      (if any_faulty loaded reach own then [] else
+      file_faults (environment (picked (with_next loaded t) sight)
+      (customs_over plains reach sight) t) t)) (own-same h)
+      ∙ ap (λ (b : Bool). before_others (own_faults files p (Some t)) (if b then [] else
+      file_faults (environment (picked (with_next loaded t) sight)
+      (customs_over plains reach sight) t) t)) any
+      ∙ ap (λ (fs : List elaborating.Fault). before_others (own_faults files p (Some t))
+      (if list_any (is_faulty files) (files.reached p) then [] else fs)) (customs-told-same h)
 
   pub over-told : (f : elaborating.Fault)
       → Among (faults_over (with_next loaded t) plains reach sight t) f
@@ -473,6 +568,15 @@ module _ (files : Files) (loaded : List LoadedEntry) (tables : Tables) (log : Li
             (subst (λ (fs : List elaborating.Fault). Among fs f) (others-same w.0) w.1)
       ]
 
+  pub ending-told : (gathers : Bool) (f : elaborating.Fault)
+      → Among (ending_over gathers (with_next loaded t) plains reach sight t) f
+      → Among (ending_faults gathers files p (Some t)) f
+  ending-told true f m =
+      link-told files.trees rs (files.reached p) f reached-by.once
+      (n.listed.reaches p).once same-reach
+      (subst (λ (fs : List elaborating.Fault). Among fs f) linked-is m)
+  ending-told false f m = over-told f m
+
 -- a fault of elaboration stands wherever its fault does
 stands-more : (origin : Text) (firsts others : List elaborating.Fault) (f : RunFault)
     → ((g : elaborating.Fault) → Among firsts g → Among others g) → StandsInElab origin firsts f
@@ -483,16 +587,18 @@ stands-more origin firsts others (fault.Memory) more s = absurd s
 stands-more origin firsts others _ more s = absurd s
 
 -- what an elaboration over numbered files leaves
-pub settled-in : (files : Files) (loaded new : List LoadedEntry) (tables after : Tables) (p : Text)
+pub settled-in : (gathers : Bool) (files : Files) (loaded new : List LoadedEntry) (tables after : Tables) (p : Text)
     (t : FileSyntax) (height read : ℕ) (below public : List ℕ) (log : List ReadEntry)
     (r : Result LoadedAs RunFault)
     → IsNext files loaded tables log p t below
-    → SettlesOver p t height read below public log loaded new after r
-    → Settles files p t height read log loaded new r
-settled-in files loaded new tables after p t height read below public log (Ok placed) n over =
+    → SettlesOver gathers p t height read below public log loaded new after r
+    → Settles gathers files p t height read log loaded new r
+settled-in gathers files loaded new tables after p t height read below public log (Ok placed) n over =
     λ missing.
     let a = over missing in
     let reach = a.file.reach.items in
+    let linked = ending-linked files loaded tables log p t below n reach a.sight a.reaches a.sees
+    gathers a.faultless in
     record {
       key = a.key;
       file = a.file;
@@ -502,37 +608,44 @@ settled-in files loaded new tables after p t height read below public log (Ok pl
       height_is = a.height_is;
       read_is = a.read_is;
       faultless =
-          over-faultless files loaded tables log p t below n reach a.sight a.reaches a.sees
-          a.faultless;
-      descriptor = a.descriptor
+          ending-faultless files loaded tables log p t below n reach a.sight a.reaches a.sees
+          gathers a.faultless;
+      descriptor = λ runs. a.descriptor runs
           ∙ over-descriptor files loaded tables log p t below n reach a.sight a.reaches a.sees
-          a.faultless;
+          linked;
       plain = a.plain
           ∙ over-plain files loaded tables log p t below n reach a.sight a.reaches a.sees
-          a.faultless;
+          linked;
+      faulty = a.faulty
+          ∙ ap (λ (fs : List elaborating.Fault). not (is_nothing fs))
+          (own-same files loaded tables log p t below n reach a.sight a.reaches a.sees linked);
+      told = a.told
+          ∙ over-report files loaded tables log p t below n reach a.sight a.reaches a.sees linked
+          a.file.faulty a.faulty;
       placed_is = a.height_placed;
     }
-settled-in files loaded new tables after p t height read below public log (Err f) n over =
+settled-in gathers files loaded new tables after p t height read below public log (Err f) n over =
     λ e found named.
     elim (over e found named) [
       | inl w ↦
           inl (stands-more (origin_given p (Some e.outcome))
-          (faults_over (with_next loaded t) (plains_next loaded w.1 p t) w.0 w.1 t)
-          (faults_at files p (Some t)) f
-          (λ g m. over-told files loaded tables log p t below n w.0 w.1 w.2 w.3 g m) w.4)
+          (ending_over gathers (with_next loaded t) (plains_next loaded w.1 p t) w.0 w.1 t)
+          (ending_faults gathers files p (Some t)) f
+          (λ g m. ending-told files loaded tables log p t below n w.0 w.1 w.2 w.3 gathers g m) w.4)
       | inr w ↦ inr w
     ]
 
 -- the loaded files have the trees of their paths
-pub agrees-made : (files : Files) (log : List ReadEntry) (loaded : List LoadedEntry)
-    → AllByRecursion (λ (e : LoadedEntry). IsLoaded files log (string_bytes e.0) e.1) loaded
+pub agrees-made : (gathers : Bool) (files : Files) (log : List ReadEntry) (loaded : List LoadedEntry)
+    → AllByRecursion (λ (e : LoadedEntry). IsLoaded gathers files log (string_bytes e.0) e.1) loaded
     → Agrees files.trees (named_trees loaded)
-agrees-made files log [] made n q u h = cc
-agrees-made files log (e ∷ loaded) made zero q u h =
+agrees-made gathers files log [] made n q u h = cc
+agrees-made gathers files log (e ∷ loaded) made zero q u h =
     let same : (string_bytes e.0, tree_in e.1)
     ≡ (q, u) = some_is (string_bytes e.0, tree_in e.1) (q, u) h in
     subst (λ (f : Named). files.trees f.0 ≡ Some f.1) same made.0.is
   where
     some_is : (a b : Named) → Some a ≡ Some b → a ≡ b
     some_is a b h = cc
-agrees-made files log (e ∷ loaded) made (suc n) q u h = agrees-made files log loaded made.1 n q u h
+agrees-made gathers files log (e ∷ loaded) made (suc n) q u h =
+    agrees-made gathers files log loaded made.1 n q u h

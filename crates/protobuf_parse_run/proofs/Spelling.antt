@@ -1,15 +1,21 @@
 -- What custom options add to a file: faults beside its others, and bytes in its descriptor.
-use Rattle.std.proofs.Common.{◌≡◌, inl, inr, ℕ, List, [], ◌∷◌, flat_map, Some, None}
-use Rattle.std.proofs.Common.{Ok, Err, refl, ◌∙◌, ap, subst, false}
+use Rattle.std.proofs.Common.{arith, length, ◌≡◌, ◌++◌, ◌||◌, not, inl, inr, ℕ, Bool, true, map, List, [], ◌∷◌, flat_map, Some, None}
+use Rattle.std.proofs.Common.{Ok, Err, refl, ◌∙◌, ap, sym, subst, false}
+use Rattle.std.specs.Global.{Vec}
+use Rattle.std.specs.Prelude.{if◌then◌else◌, vec_len, OnOk, Result}
+use Rattle.std.specs.Bool.{◌==◌}
+use Rattle.std.proofs.lemmas.Bool.{eqb-true}
+use Rattle.std.proofs.lemmas.List.{nil_from_length}
 use Rattle.std.specs.List.{list_any}
 use Rattle.protobuf_parse_syntax.specs.Trees.{FileSyntax, OptionSyntax}
 use Rattle.protobuf_parse_model.specs.Descriptors.{Text, FileDescriptor}
 use Rattle.protobuf_parse_model.specs.Environment.{Customs, no_customs}
 use Rattle.protobuf_parse_model.specs.Descriptors as described
-use Rattle.protobuf_parse_model.specs.Faults.{Among, here, there, Blames, Fault, fault_view}
+use Rattle.protobuf_parse_model.specs.Faults.{Among, here, there, Blames, Fault, fault_view, found}
 use Rattle.protobuf_parse_model.specs.Linking.{before_others, link_faults}
 use Rattle.protobuf_parse_model.specs.Tables.{picked}
 use Rattle.protobuf_parse_model.specs.declared.descriptor.FileDescriptorProto.{FileDescriptorProto}
+use Rattle.protobuf_parse_model.specs.declared.error.ElabError.{ElabError}
 use Rattle.protobuf_parse_model.specs.declared.error.ElabFailure.{ElabFailure}
 use Rattle.protobuf_parse_model.specs.declared.error.ElabFailure.TheVariants as failure
 use Rattle.protobuf_parse_elaboration.specs.CustomSets.{faults_of_set, faults_of_sets, sets_custom}
@@ -19,15 +25,18 @@ use Rattle.protobuf_parse_elaboration.specs.OptionSets.{OptionSet, option_sets}
 use Rattle.protobuf_parse_elaboration.proofs.CustomSets.{faults_are_of_sets, none_is_custom}
 use Rattle.protobuf_parse_elaboration.proofs.CustomSets.{none_of_sets}
 use Rattle.protobuf_parse_elaboration.proofs.SameBytes.{bytes_are_of_sets}
-use Rattle.protobuf_parse_options.specs.CustomFaults.{custom_name_faults, custom_option_faults}
+use Rattle.protobuf_parse_options.specs.CustomFaults.{custom_option_faults, option_faults_at}
 use Rattle.protobuf_parse_options.specs.CustomFaults.{custom_statement_faults}
+use Rattle.protobuf_parse_options.proofs.Refusing.{unless_none}
+use Rattle.protobuf_parse_wire.specs.Encoded.{encoded}
+use Rattle.protobuf_parse_wire.specs.Views.{entries_of_list}
 use Rattle.protobuf_parse_options.specs.CustomOptions.{items_of_option, scope_of}
 use Rattle.protobuf_parse_options.specs.OptionFields.{OptionScope}
 use Rattle.protobuf_parse_options.specs.OptionBytes.{known_customs, option_bytes}
 use Rattle.protobuf_parse_run.specs.Loading.{Describes, LoadedEntry, customs_over, picked_plains}
-use Rattle.protobuf_parse_run.specs.Loading.{plain_over}
+use Rattle.protobuf_parse_run.specs.Loading.{any_faulty, own_over, plain_over, report_over}
 use Rattle.protobuf_parse_run.specs.Loading.{plains_over}
-use Rattle.protobuf_parse_run.specs.Run.{Files, customs_of}
+use Rattle.protobuf_parse_run.specs.Run.{Files, customs_of, is_nothing}
 
 -- ** the faults of a file but those of names that are declared twice
 
@@ -66,8 +75,7 @@ module _ (seen : List FileSyntax) (files visible : List FileDescriptor) (t : Fil
 
       set-faultless : custom_statement_faults at s.construct s.statements ≡ []
       set-faultless =
-          all-nothing (λ (o : OptionSyntax). custom_name_faults at s.construct o.value o.name)
-          s.statements
+          all-nothing (option_faults_at at s.construct) s.statements
           (λ o h. let b = none_is_custom t s o none m h in rw b.1 refl)
 
       set-empty : flat_map (items_of_option at s.construct) s.statements ≡ []
@@ -75,7 +83,8 @@ module _ (seen : List FileSyntax) (files visible : List FileDescriptor) (t : Fil
           (λ o h. let b = none_is_custom t s o none m h in rw b.1 refl)
 
       set-unspelled : [] ≡ option_bytes files visible s.construct s.scope s.statements
-      set-unspelled = rw set-empty refl
+      set-unspelled = sym (unless_none (custom_statement_faults at s.construct s.statements) _
+          set-faultless ∙ ap (λ items. encoded (entries_of_list items)) set-empty)
 
     pub nothing-wrong : custom_option_faults files visible t ≡ []
     nothing-wrong = all-nothing (faults_of_set known) (option_sets t) set-faultless
@@ -90,6 +99,21 @@ module _ (seen : List FileSyntax) (files visible : List FileDescriptor) (t : Fil
       → custom_option_faults files visible t ≡ []
   options-faultless none = none_of_sets seen known t none
 
+  -- where no custom option is set, nothing is wrong with extensions known either
+  pub nothing-known : list_any sets_custom (option_sets t) ≡ false
+      → file_faults (environment seen no_customs t) t ≡ []
+      → file_faults (environment seen known t) t ≡ []
+  nothing-known none own =
+      nothing-stands (file_faults (environment seen known t) t)
+      (λ (f : Fault) told. elim ((faults_are_of_sets seen known t f).0 told) [
+        | inl w ↦ nothing-in (subst (λ (fs : List Fault). Among fs f) own w)
+        | inr w ↦ nothing-in (subst (λ (fs : List Fault). Among fs f) (nothing-wrong none) w)
+      ])
+    where
+      nothing-stands : (fs : List Fault) → ((f : Fault) → Among fs f → ⊥) → fs ≡ []
+      nothing-stands [] h = refl
+      nothing-stands (f ∷ fs) h = absurd (h f here)
+
   pub option-told : (f : Fault) → file_faults (environment seen no_customs t) t ≡ []
       → Among (file_faults (environment seen known t) t) f
       → Among (custom_option_faults files visible t) f
@@ -98,6 +122,74 @@ module _ (seen : List FileSyntax) (files visible : List FileDescriptor) (t : Fil
         | inl w ↦ absurd (nothing-in (subst (λ (fs : List Fault). Among fs f) none w))
         | inr w ↦ w
       ]
+
+-- ** what is told of custom options
+
+pub none-found : (faults : Vec ElabError) → (vec_len faults == 0) ≡ true → found faults ≡ []
+none-found faults is =
+    ap (map fault_view)
+    (nil_from_length faults.items (sym faults.ok.0 ∙ eqb-true (vec_len faults) 0 is))
+
+pub nothing-is : (faults : Vec ElabError) (fs : List Fault) → found faults ≡ fs
+    → (vec_len faults == 0) ≡ is_nothing fs
+nothing-is faults fs is =
+    ap (λ (n : ℕ). n == 0) faults.ok.0 ∙ none faults.items ∙ ap is_nothing is
+  where
+    none : (es : List ElabError) → (length es == 0) ≡ is_nothing (map fault_view es)
+    none [] = refl
+    none (e ∷ es) = some (length (e ∷ es) == 0) refl
+      where
+        some : (b : Bool) → (length (e ∷ es) == 0) ≡ b → b ≡ false
+        some true is = let no = eqb-true (length (e ∷ es)) 0 is in absurd (omega (arith, no))
+        some false is = refl
+
+module _ (files : List FileSyntax) (plains : List FileDescriptor) (reach sight : List ℕ)
+    (t : FileSyntax) where
+  abbrev customs_there : List Fault
+  customs_there =
+      file_faults (environment (picked files sight) (customs_over plains reach sight) t) t
+
+  -- where none is set, none is told
+  pub further-none : (faulty : Bool) (old : List Fault)
+      → list_any sets_custom (option_sets t) ≡ false → old ≡ [] → old ≡ own_over files sight t
+      → old ≡ report_over files plains reach sight faulty t
+  further-none faulty old none empty own =
+      let no-own : own_over files sight t ≡ [] = sym own ∙ empty in
+      empty ∙ sym (nothing faulty no-own (nothing-known (picked files sight)
+      (picked_plains plains reach) (picked_plains plains sight) t none no-own))
+    where
+      nothing : (faulty : Bool) → own_over files sight t ≡ [] → customs_there ≡ []
+          → report_over files plains reach sight faulty t ≡ []
+      nothing true own customs = rw own refl
+      nothing false own customs = rw (own, customs) refl
+
+  pub further-told : (faulty : Bool) (old new : List Fault) → old ≡ []
+      → old ≡ own_over files sight t → faulty ≡ false → new ≡ old ++ customs_there
+      → new ≡ report_over files plains reach sight faulty t
+  further-told faulty old new empty own clean told =
+      let no-own : own_over files sight t ≡ [] = sym own ∙ empty in
+      told ∙ ap (λ fs. fs ++ customs_there) empty ∙ sym (rw (no-own, clean) refl)
+
+  pub further-told-of : {X E : Type 0} (faulty : Bool) (old new : List Fault) (r : Result X E)
+      → old ≡ [] → old ≡ own_over files sight t → faulty ≡ false
+      → OnOk r (new ≡ old ++ customs_there)
+      → OnOk r (new ≡ report_over files plains reach sight faulty t)
+  further-told-of faulty old new (Ok x) empty own clean told =
+      further-told faulty old new empty own clean told
+  further-told-of faulty old new (Err e) empty own clean told = tt
+
+  -- the faults of the file itself stand for its own part
+  pub report-same : (own b : Bool) → own ≡ not (is_nothing (own_over files sight t))
+      → report_over files plains reach sight (own || b) t
+      ≡ report_over files plains reach sight b t
+  report-same own b is = ap (λ o. report_over files plains reach sight (o || b) t) is
+      ∙ by-own (own_over files sight t)
+    where
+      by-own : (fs : List Fault)
+          → before_others fs (if not (is_nothing fs) || b then [] else customs_there)
+          ≡ before_others fs (if b then [] else customs_there)
+      by-own [] = refl
+      by-own (f ∷ fs) = refl
 
 -- ** what a file becomes by numbers
 
@@ -122,38 +214,54 @@ module _ (loaded : List LoadedEntry) (files : List FileSyntax) (reach sight : Li
       (custom_option_faults reached_plains seen_plains t)) ≡ []
   all-faultless own options = rw (linked, own) options
 
+  -- where nothing is wrong nothing is told
+  nothing-told : (faulty : Bool) → own_over files sight t ≡ []
+      → file_faults (environment seen (customs_over plains reach sight) t) t ≡ []
+      → report_over files plains reach sight faulty t ≡ []
+  nothing-told true own customs = rw own refl
+  nothing-told false own customs = rw (own, customs) refl
+
   -- no custom option is set
-  pub none-set : (d : FileDescriptorProto) → list_any sets_custom (option_sets t) ≡ false
+  pub none-set : (d : FileDescriptorProto) (faults : Vec ElabError) → faults.items ≡ []
+      → list_any sets_custom (option_sets t) ≡ false
       → file_faults (environment seen no_customs t) t ≡ []
       → described.file_view d ≡ plain_over files sight path t
-      → Describes loaded files reach sight path t
-      (Ok (record { descriptor = d; plain = None }))
-  none-set d none own is = (
-    all-faultless own (nothing-wrong seen reached_plains seen_plains t none),
-    is ∙ nothing-spelled seen reached_plains seen_plains t none path,
-    is,
-  )
+      → Describes false loaded files reach sight path t
+      (Ok (record { descriptor = d; plain = None; faults = faults; faulty = false }))
+  none-set d faults empty none own is = record {
+    faultless = all-faultless own (nothing-wrong seen reached_plains seen_plains t none);
+    descriptor = λ runs. is ∙ nothing-spelled seen reached_plains seen_plains t none path;
+    plain = is;
+    faulty = rw own refl;
+    told = ap (map fault_view) empty
+        ∙ sym (nothing-told (any_faulty loaded reach false) own
+        (nothing-known seen reached_plains seen_plains t none own));
+  }
 
   -- some may be set
-  pub some-set : (c : Customs) (plain d : FileDescriptorProto)
-      → c ≡ customs_over plains reach sight
+  pub some-set : (c : Customs) (plain d : FileDescriptorProto) (faults : Vec ElabError)
+      → faults.items ≡ [] → c ≡ customs_over plains reach sight
       → file_faults (environment seen no_customs t) t ≡ []
       → described.file_view plain ≡ plain_over files sight path t
       → file_faults (environment seen c t) t ≡ []
       → described.file_view d ≡ file_of (environment seen c t) path t
-      → Describes loaded files reach sight path t
-      (Ok (record { descriptor = d; plain = Some plain }))
-  some-set c plain d same own first none is = (
-    all-faultless own
+      → Describes false loaded files reach sight path t
+      (Ok (record { descriptor = d; plain = Some plain; faults = faults; faulty = false }))
+  some-set c plain d faults empty same own first none is = record {
+    faultless = all-faultless own
         (options-faultless seen reached_plains seen_plains t
-        (subst (λ (k : Customs). file_faults (environment seen k t) t ≡ []) same none)),
-    is ∙ ap (λ (k : Customs). file_of (environment seen k t) path t) same,
-    first,
-  )
+        (subst (λ (k : Customs). file_faults (environment seen k t) t ≡ []) same none));
+    descriptor = λ runs. is ∙ ap (λ (k : Customs). file_of (environment seen k t) path t) same;
+    plain = first;
+    faulty = rw own refl;
+    told = ap (map fault_view) empty
+        ∙ sym (nothing-told (any_faulty loaded reach false) own
+        (subst (λ (k : Customs). file_faults (environment seen k t) t ≡ []) same none));
+  }
 
   -- the faults of the file itself
   pub own-told : (e : ElabFailure) → Blames e (file_faults (environment seen no_customs t) t)
-      → Describes loaded files reach sight path t (Err e)
+      → Describes false loaded files reach sight path t (Err e)
   own-told (failure.Memory) h = tt
   own-told (failure.Fault error) h =
       rw linked (told-first (file_faults (environment seen no_customs t) t)
@@ -168,7 +276,7 @@ module _ (loaded : List LoadedEntry) (files : List FileSyntax) (reach sight : Li
   pub customs-told : (c : Customs) (e : ElabFailure) → c ≡ customs_over plains reach sight
       → file_faults (environment seen no_customs t) t ≡ []
       → Blames e (file_faults (environment seen c t) t)
-      → Describes loaded files reach sight path t (Err e)
+      → Describes false loaded files reach sight path t (Err e)
   customs-told c (failure.Memory) same own h = tt
   customs-told c (failure.Fault error) same own h =
       rw (linked, own) (option-told seen reached_plains seen_plains t (fault_view error) own

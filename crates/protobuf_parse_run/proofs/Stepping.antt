@@ -1,4 +1,7 @@
 -- What the steps of loading do to a run at a stack of frames.
+use Rattle.protobuf_parse_run.specs.Run.{ends}
+use Rattle.std.specs.Prelude.{not}
+use Rattle.std.specs.Prelude.{Bool}
 use Rattle.std.proofs.Common.{◌≡◌, ℕ, suc, ◌+◌, ◌-◌, ◌<◌, ◌≤◌, false, inl, inr, List, [], ◌∷◌, ◌++◌}
 use Rattle.std.proofs.Common.{Option, Some, None, Result, Ok, Err, refl, sym, ◌∙◌, ap, subst}
 use Rattle.std.proofs.Common.{append_assoc, append-nil, length, max, arith, take, slice_get}
@@ -21,7 +24,8 @@ use Rattle.protobuf_parse_run.specs.declared.log.ReadOutcome.{ReadOutcome}
 use Rattle.protobuf_parse_run.specs.Walks.{Asked, the_resolver, Event, load, elab, keep, among}
 use Rattle.protobuf_parse_run.specs.Walks.{Trees}
 use Rattle.protobuf_parse_run.specs.Walks.{import_paths, walks_joined, import_statements, walk}
-use Rattle.protobuf_parse_run.specs.Run.{Files, StandsInElab, environment_of, faults_at, first_read}
+use Rattle.protobuf_parse_run.specs.Run.{Files, StandsInElab, ending_faults, environment_of}
+use Rattle.protobuf_parse_run.specs.Run.{first_read, is_nothing, own_faults, report_at}
 use Rattle.protobuf_parse_run.specs.Run.{origin_given, plain_of, Legal}
 use Rattle.protobuf_parse_run.specs.Loading.{AreKnown, FilesAreNumbered, LoadedEntry, GoesOn}
 use Rattle.protobuf_parse_run.specs.Loading.{Good, Grows}
@@ -41,6 +45,7 @@ use Rattle.protobuf_parse_run.proofs.Steps.{breaks-now, get-grown, good-elab, ha
 use Rattle.protobuf_parse_run.proofs.Steps.{stops-more}
 use Rattle.protobuf_parse_run.proofs.Leaving.{stands-failing}
 use Rattle.protobuf_parse_run.proofs.Reordering.{packages-read}
+use Rattle.protobuf_parse_run.proofs.Faulty.{flags-made}
 use Rattle.protobuf_parse_run.proofs.Settling.{IsNext, agrees-made, plains-made, settled-in}
 use Rattle.protobuf_parse_run.proofs.Counting.{after-load, count-grows, statements-append}
 use Rattle.protobuf_parse_run.proofs.Stacks.{chain_of-push, done-import, done-other, frames-into}
@@ -147,10 +152,10 @@ held-joined files now log old new placed i q h at named s j =
       first = rw j.path_is h.first;
     }
 
-module _ (legal : Legal) (files : Files) (kept events : List Event) (i : Text) (start : ℕ) where
+module _ (gathers : Bool) (legal : Legal) (files : Files) (kept events : List Event) (i : Text) (start : ℕ) where
   abbrev pub Running : ℕ → List LoadFrame → LoadFrame → List LoadedEntry → List ReadEntry → Type 0
   Running meets stack top loaded log =
-      IsRunning legal files kept events i start meets stack top loaded log
+      IsRunning gathers legal files kept events i start meets stack top loaded log
 
   -- a statement that is no import
   pub running-other : (stack : List LoadFrame) (old new : LoadFrame) (x : FileStatement) (meets : ℕ)
@@ -189,8 +194,8 @@ module _ (legal : Legal) (files : Files) (kept events : List Event) (i : Text) (
       (r : Running meets stack old loaded log) → inner ≡ chain_of [] stack ++ frame_path old ∷ []
       → slice_get old.tree.statements.items old.next ≡ Some (file_statement.Import im)
       → more ≡ meets + 1 → Grows log after
-      → (Good legal files r.now loaded log inner
-      → Good legal files r.now loaded after inner
+      → (Good gathers legal files r.now loaded log inner
+      → Good gathers legal files r.now loaded after inner
       × IsSame files r.now i the_resolver inner (path_buf_text im.path) placed)
       → Joined old placed new → Running more stack new loaded after
   running-known stack old new placed im meets more inner loaded log after r same at met grows gives
@@ -226,8 +231,8 @@ module _ (legal : Legal) (files : Files) (kept events : List Event) (i : Text) (
       (r : Running meets stack old loaded log) → inner ≡ chain_of [] stack ++ frame_path old ∷ []
       → slice_get old.tree.statements.items old.next ≡ Some (file_statement.Import im)
       → more ≡ meets + 1 → Grows log after
-      → (Good legal files r.now loaded log inner
-      → IsNew legal files r.now the_resolver inner (path_buf_text im.path) loaded after frame)
+      → (Good gathers legal files r.now loaded log inner
+      → IsNew gathers legal files r.now the_resolver inner (path_buf_text im.path) loaded after frame)
       → IsOpened inner (path_buf_text im.path) loaded log outer after frame
       → Running more (stack ++ old ∷ []) frame loaded after
   running-new stack old frame im meets more inner outer loaded log after r same at met grows gives
@@ -274,11 +279,11 @@ module _ (legal : Legal) (files : Files) (kept events : List Event) (i : Text) (
       (inner : List Text) (loaded : List LoadedEntry) (log after : List ReadEntry) (f : RunFault)
       (r : Running meets stack old loaded log) → inner ≡ chain_of [] stack ++ frame_path old ∷ []
       → slice_get old.tree.statements.items old.next ≡ Some (file_statement.Import im)
-      → (Good legal files r.now loaded log inner
-      → Stops legal files
+      → (Good gathers legal files r.now loaded log inner
+      → Stops gathers legal files
       (keep r.now
       (walk files.trees i the_resolver (100 - length inner) inner (path_buf_text im.path))) after f)
-      → Stops legal files events after f
+      → Stops gathers legal files events after f
   running-stops stack old im meets inner loaded log after f r same at stops =
       let c : List Text = chain_of [] stack in
       let q : Text = path_buf_text im.path in
@@ -292,7 +297,7 @@ module _ (legal : Legal) (files : Files) (kept events : List Event) (i : Text) (
       (todo files.trees i [] stack) same l)
       ∙ keep-append r.now (walk files.trees i the_resolver (100 - length inner) inner q) rest)
       in
-      rw e (stops-more legal files
+      rw e (stops-more gathers legal files
       (keep r.now (walk files.trees i the_resolver (100 - length inner) inner q)) rest after f
       (stops (rw same r.good)))
 
@@ -300,11 +305,11 @@ module _ (legal : Legal) (files : Files) (kept events : List Event) (i : Text) (
   pub running-breaks : (stack : List LoadFrame) (top : LoadFrame) (meets : ℕ)
       (loaded : List LoadedEntry)
       (log : List ReadEntry) (f : RunFault) → Running meets stack top loaded log → f ≡ fault.Memory
-      → Stops legal files events log f
+      → Stops gathers legal files events log f
   running-breaks stack top meets loaded log f r m =
       let rest : List Event = owed files.trees i (chain_of [] stack) (frame_path top) (left_in top)
       ++ todo files.trees i [] stack in
-      rw r.is (breaks-now legal files r.now rest loaded log
+      rw r.is (breaks-now gathers legal files r.now rest loaded log
       (chain_of [] stack ++ frame_path top ∷ []) f r.good m)
 
   -- or after an import that is loaded already
@@ -312,15 +317,15 @@ module _ (legal : Legal) (files : Files) (kept events : List Event) (i : Text) (
       (meets : ℕ) (inner : List Text) (loaded : List LoadedEntry) (log after : List ReadEntry)
       (f : RunFault) (r : Running meets stack old loaded log)
       → inner ≡ chain_of [] stack ++ frame_path old ∷ []
-      → (Good legal files r.now loaded log inner
-      → Good legal files r.now loaded after inner
+      → (Good gathers legal files r.now loaded log inner
+      → Good gathers legal files r.now loaded after inner
       × IsSame files r.now i the_resolver inner q placed) → f ≡ fault.Memory
-      → Stops legal files events after f
+      → Stops gathers legal files events after f
   known-breaks stack old placed q meets inner loaded log after f r same gives m =
       let k = gives (rw same r.good) in
       let rest : List Event = owed files.trees i (chain_of [] stack) (frame_path old) (left_in old)
       ++ todo files.trees i [] stack in
-      rw r.is (breaks-now legal files r.now rest loaded after inner f k.0 m)
+      rw r.is (breaks-now gathers legal files r.now rest loaded after inner f k.0 m)
 
   -- no more was met than there is to meet
   pub counted-now : (stack : List LoadFrame) (top : LoadFrame) (meets : ℕ)
@@ -368,9 +373,9 @@ module _ (legal : Legal) (files : Files) (kept events : List Event) (i : Text) (
       → AreKnown loaded tables log → IsTaken loaded log top → file_at (frame_path top) loaded ≡ None
       → among (frame_path top) (chain_of [] stack) ≡ false
       → length top.tree.statements.items ≤ top.next → top.height < 100
-      → SettlesOver (frame_path top) (file_syntax top.tree)
+      → SettlesOver gathers (frame_path top) (file_syntax top.tree)
       (top.height + 1) top.read top.below.items top.public.items log loaded later after res
-      → Leaves legal files (r.now ++ elab (frame_path top) ∷ [])
+      → Leaves gathers legal files (r.now ++ elab (frame_path top) ∷ [])
       (path_shape files.trees (frame_path top)) later log (chain_of [] stack) res
   running-closes stack top meets loaded later tables after log res r table full go known taken none
       off le low over =
@@ -378,7 +383,7 @@ module _ (legal : Legal) (files : Files) (kept events : List Event) (i : Text) (
       (import_paths (file_syntax top.tree)) =
       subst (λ (z : List Text). FilesAreNumbered (named_trees loaded) top.below.items z)
       (done-all top le) taken.numbered in
-      let agrees = agrees-made files log loaded r.good.made in
+      let agrees = agrees-made gathers files log loaded r.good.made in
       let next : IsNext files loaded tables log (frame_path top)
       (file_syntax top.tree) top.below.items =
       record {
@@ -386,12 +391,13 @@ module _ (legal : Legal) (files : Files) (kept events : List Event) (i : Text) (
         packages = packages-read files table full go;
         known = known;
         agrees = agrees;
-        plain = plains-made files log loaded r.good.made;
+        plain = plains-made gathers files log loaded r.good.made;
+        faulty = flags-made gathers files log loaded r.good.made;
         is = r.held.is;
         none = none;
         numbered = numbered;
       } in
-      let settles = settled-in files loaded later tables after (frame_path top)
+      let settles = settled-in gathers files loaded later tables after (frame_path top)
       (file_syntax top.tree)
       (top.height + 1) top.read top.below.items top.public.items log res next over in
       ends res settles
@@ -403,18 +409,22 @@ module _ (legal : Legal) (files : Files) (kept events : List Event) (i : Text) (
       t = file_syntax top.tree
 
       ends : (res : Result LoadedAs RunFault)
-          → Settles files p t (top.height + 1) top.read log loaded later res
-          → Leaves legal files (r.now ++ elab p ∷ []) (path_shape files.trees p) later log
+          → Settles gathers files p t (top.height + 1) top.read log loaded later res
+          → Leaves gathers legal files (r.now ++ elab p ∷ []) (path_shape files.trees p) later log
           (chain_of [] stack) res
       ends (Ok placed) settles =
-          let d = subst (λ (k : ℕ). IsAdded files p t k top.read loaded later placed)
+          let d = subst (λ (k : ℕ). IsAdded gathers files p t k top.read loaded later placed)
           (add-one top.height) (settles none) in
-          let m : IsLoaded files log p d.file = record {
+          let m : IsLoaded gathers files log p d.file = record {
             low = rw d.height_is (omega (arith, low));
             is = r.held.is ∙ ap Some (sym d.tree_is);
-            descriptor = d.descriptor
+            descriptor = λ runs. d.descriptor runs
                 ∙ ap (λ u. file_of (environment_of files p u) p u) (sym d.tree_is);
             plain = d.plain ∙ ap (plain_of files p) (sym d.tree_is);
+            faulty = d.faulty
+                ∙ ap (λ (o : Option FileSyntax). not (is_nothing (own_faults files p o)))
+                (sym r.held.is);
+            told = d.told ∙ ap (report_at files p) (sym d.tree_is);
             entry = r.held.entry;
             read = rw d.read_is r.held.found;
             named = r.held.named;
@@ -423,7 +433,7 @@ module _ (legal : Legal) (files : Files) (kept events : List Event) (i : Text) (
           let s : Settled r.now top.height (imports_shape files.trees (import_paths t)) =
           subst (λ (z : List Text). Settled r.now top.height (imports_shape files.trees z))
           (done-all top le) r.held.settled in
-          let g = good-elab legal files r.now loaded log (chain_of [] stack) p t top.height
+          let g = good-elab gathers legal files r.now loaded log (chain_of [] stack) p t top.height
           (d.key, d.file) r.good off r.held.load r.held.is d.faultless s d.named d.height_is m
           in
           rw (d.entries, d.placed_is) g
@@ -431,13 +441,13 @@ module _ (legal : Legal) (files : Files) (kept events : List Event) (i : Text) (
           elim (settles r.held.entry r.held.found r.held.named) [
             | inl stands ↦
                 let here : StandsInElab (origin_given p (first_read p files.reads))
-                (faults_at files p (files.trees p)) f =
+                (ending_faults gathers files p (files.trees p)) f =
                 subst (λ (o : Option ReadOutcome). StandsInElab (origin_given p o)
-                (faults_at files p (files.trees p)) f) (sym r.held.first) (subst
+                (ending_faults gathers files p (files.trees p)) f) (sym r.held.first) (subst
                 (λ (o : Option FileSyntax). StandsInElab
                 (origin_given p (Some r.held.entry.outcome))
-                (faults_at files p o) f) (sym r.held.is) stands) in
-                inl (halts-at legal files r.now loaded log (chain_of [] stack ++ p ∷ []) _
+                (ending_faults gathers files p o) f) (sym r.held.is) stands) in
+                inl (halts-at gathers legal files r.now loaded log (chain_of [] stack ++ p ∷ []) _
                 (elab p) f r.good (stands-failing _ _ f here) refl refl here)
             | inr memory ↦ inr
                 (record {
@@ -455,7 +465,7 @@ module _ (legal : Legal) (files : Files) (kept events : List Event) (i : Text) (
       (im : Import) (meets : ℕ) (loaded later : List LoadedEntry) (log : List ReadEntry)
       (r : Running meets full top loaded log) → full ≡ stack ++ old ∷ []
       → length top.tree.statements.items ≤ top.next
-      → Leaves legal files (r.now ++ elab (frame_path top) ∷ [])
+      → Leaves gathers legal files (r.now ++ elab (frame_path top) ∷ [])
       (path_shape files.trees (frame_path top)) later log (chain_of [] full) (Ok placed)
       → slice_get old.tree.statements.items old.next ≡ Some (file_statement.Import im)
       → path_buf_text im.path ≡ frame_path top → Joined old placed new
@@ -492,12 +502,12 @@ module _ (legal : Legal) (files : Files) (kept events : List Event) (i : Text) (
   pub closed-breaks : (stack : List LoadFrame) (top : LoadFrame) (placed : LoadedAs) (meets : ℕ)
       (loaded later : List LoadedEntry) (log : List ReadEntry) (f : RunFault)
       (r : Running meets stack top loaded log) → length top.tree.statements.items ≤ top.next
-      → Leaves legal files (r.now ++ elab (frame_path top) ∷ [])
+      → Leaves gathers legal files (r.now ++ elab (frame_path top) ∷ [])
       (path_shape files.trees (frame_path top)) later log (chain_of [] stack) (Ok placed)
-      → f ≡ fault.Memory → Stops legal files events log f
+      → f ≡ fault.Memory → Stops gathers legal files events log f
   closed-breaks stack top placed meets loaded later log f r le k m =
       rw (elab-next stack top meets loaded log r le)
-      (breaks-now legal files (r.now ++ elab (frame_path top) ∷ [])
+      (breaks-now gathers legal files (r.now ++ elab (frame_path top) ∷ [])
       (todo files.trees i [] stack) later log (chain_of [] stack) f k.0 m)
 
   -- it is refused
@@ -505,11 +515,11 @@ module _ (legal : Legal) (files : Files) (kept events : List Event) (i : Text) (
       (loaded : List LoadedEntry)
       (log : List ReadEntry) (f : RunFault) (r : Running meets stack top loaded log)
       → length top.tree.statements.items ≤ top.next
-      → Stops legal files (r.now ++ elab (frame_path top) ∷ []) log f
-      → Stops legal files events log f
+      → Stops gathers legal files (r.now ++ elab (frame_path top) ∷ []) log f
+      → Stops gathers legal files events log f
   running-refused stack top meets loaded log f r le h =
       rw (elab-next stack top meets loaded log r le)
-      (stops-more legal files (r.now ++ elab (frame_path top) ∷ [])
+      (stops-more gathers legal files (r.now ++ elab (frame_path top) ∷ [])
       (todo files.trees i [] stack) log f h)
 
   -- the lowest file is the input
@@ -517,15 +527,15 @@ module _ (legal : Legal) (files : Files) (kept events : List Event) (i : Text) (
       (loaded later : List LoadedEntry) (log : List ReadEntry)
       (r : Running meets stack top loaded log)
       → stack ≡ [] → length top.tree.statements.items ≤ top.next
-      → Leaves legal files (r.now ++ elab (frame_path top) ∷ [])
+      → Leaves gathers legal files (r.now ++ elab (frame_path top) ∷ [])
       (path_shape files.trees (frame_path top)) later log (chain_of [] stack) (Ok placed)
-      → Good legal files events later log []
+      → Good gathers legal files events later log []
   running-end stack top placed meets loaded later log r empty le k =
       let now : List Event = r.now ++ elab (frame_path top) ∷ [] in
       let e : events ≡ now = elab-next stack top meets loaded log r le
       ∙ ap (λ z. keep now (todo files.trees i [] z)) empty in
-      let g : Good legal files now later log [] =
-      subst (λ (z : List Text). Good legal files now later log z)
+      let g : Good gathers legal files now later log [] =
+      subst (λ (z : List Text). Good gathers legal files now later log z)
       (ap (chain_of []) empty) k.0 in
       rw e g
 
@@ -540,13 +550,13 @@ module _ (legal : Legal) (files : Files) (kept events : List Event) (i : Text) (
       omega (arith, a, b, e, r.count)
 
 -- the first file
-pub running-start : (legal : Legal) (files : Files) (kept : List Event) (i : Text) (a : Asked)
+pub running-start : (gathers : Bool) (legal : Legal) (files : Files) (kept : List Event) (i : Text) (a : Asked)
     (p : Text) (start meets : ℕ) (outer : List Text) (frame : LoadFrame) (loaded : List LoadedEntry)
     (log after : List ReadEntry) → meets ≡ start + 1
-    → IsNew legal files kept a [] p loaded after frame → IsOpened [] p loaded log outer after frame
-    → IsRunning legal files kept (keep kept (walk files.trees i a 100 [] p)) i start meets
+    → IsNew gathers legal files kept a [] p loaded after frame → IsOpened [] p loaded log outer after frame
+    → IsRunning gathers legal files kept (keep kept (walk files.trees i a 100 [] p)) i start meets
     [] frame loaded after
-running-start legal files kept i a p start meets outer frame loaded log after met k o =
+running-start gathers legal files kept i a p start meets outer frame loaded log after met k o =
     let is : files.trees p ≡ Some (file_syntax frame.tree) =
     subst (λ (z : Text). files.trees z ≡ Some (file_syntax frame.tree)) o.path_is k.held.is in
     let loads = after-load files.trees kept a p (file_syntax frame.tree) is in

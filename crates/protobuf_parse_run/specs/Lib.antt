@@ -1,6 +1,7 @@
 pub mod Walks
 pub mod Run
 pub mod Loading
+pub mod Checks
 pub mod Loaded
 pub mod Frames
 pub mod Calls

@@ -1,11 +1,11 @@
 -- No public clause rests on this file.
 -- What holds while files are loaded, for every list of reads that the log begins and any events
 -- kept so far.
-use Rattle.std.specs.Prelude.{◌≡◌, ◌⊎◌, ◌≤◌, ℕ, true, false, nat_lt, List, [], ◌∷◌, ◌++◌, length}
-use Rattle.std.specs.Prelude.{map, flat_map, Option, Some, None, option_to_list, Result, Ok, Err}
+use Rattle.std.specs.Prelude.{◌≡◌, ◌⊎◌, ◌≤◌, ℕ, Bool, true, false, not, nat_lt, List, [], ◌∷◌, ◌++◌, length}
+use Rattle.std.specs.Prelude.{◌||◌, if◌then◌else◌, map, flat_map, Option, Some, None, option_to_list, Result, Ok, Err}
 use Rattle.std.specs.Prelude.{bytes_eq, String, string_bytes, slice_get, find}
 use Rattle.std.specs.Global.{Global}
-use Rattle.std.specs.List.{AllByRecursion, Contains}
+use Rattle.std.specs.List.{AllByRecursion, Contains, list_any}
 use Rattle.std.specs.List.Sorted.{IsStrictlyIncreasing}
 use Rattle.std.specs.Map.{lookup}
 use Rattle.protobuf_parse_base.specs.PathViews.{path_buf_text}
@@ -17,9 +17,10 @@ use Rattle.protobuf_parse_model.specs.Environment.{Customs, no_customs}
 use Rattle.protobuf_parse_model.specs.Tables.{TableTells, picked}
 use Rattle.protobuf_parse_model.specs.declared.descriptor.FileDescriptorProto.{FileDescriptorProto}
 use Rattle.protobuf_parse_model.specs.Faults as elaborating
-use Rattle.protobuf_parse_model.specs.Faults.{Blames, fault_view}
+use Rattle.protobuf_parse_model.specs.Faults.{Blames, fault_view, found}
+use Rattle.protobuf_parse_model.specs.Linking.{before_others, link_faults}
 use Rattle.protobuf_parse_model.specs.declared.error.ElabFailure.{ElabFailure}
-use Rattle.protobuf_parse_elaboration.specs.FileDescriptor.{environment, file_of}
+use Rattle.protobuf_parse_elaboration.specs.FileDescriptor.{environment, file_faults, file_of}
 use Rattle.protobuf_parse_elaboration.specs.FilesByPath.{AreDistinct}
 use Rattle.protobuf_parse_options.specs.CustomFaults.{elaboration_faults}
 use Rattle.protobuf_parse_options.specs.Holding.{Holds}
@@ -33,6 +34,7 @@ use Rattle.protobuf_parse_run.specs.declared.reach.Held.{Held}
 use Rattle.protobuf_parse_run.specs.declared.tables.RunPlaces.{RunPlaces}
 use Rattle.protobuf_parse_run.specs.declared.tables.Tables.{Tables}
 use Rattle.protobuf_parse_run.specs.declared.reach.Held.TheVariants as held_as
+use Rattle.protobuf_parse_run.specs.declared.log.FileReport.{FileReport}
 use Rattle.protobuf_parse_run.specs.declared.log.ReadEntry.{ReadEntry}
 use Rattle.protobuf_parse_run.specs.declared.log.ReadOutcome.{ReadOutcome}
 use Rattle.protobuf_parse_run.specs.Walks.{Asked, the_resolver, the_reader, Event, long, load, elab}
@@ -48,9 +50,11 @@ use Rattle.protobuf_parse_run.specs.declared.source.Sources.{Sources}
 use Rattle.protobuf_parse_run.specs.Run.{Files, MayAnswer, MayRead, MayResolve, FilesAreListed}
 use Rattle.protobuf_parse_run.specs.Run.{HasTrees, OrMemory}
 use Rattle.protobuf_parse_run.specs.Run.{faults_at, IsTheTree, text_read, environment_of, plain_of}
-use Rattle.protobuf_parse_run.specs.Run.{first_read, fails, fault_said, text_given, origin_given}
+use Rattle.protobuf_parse_run.specs.Run.{first_read, fault_said, text_given, origin_given}
 use Rattle.protobuf_parse_run.specs.Run.{AreAnswered, Legal}
-use Rattle.protobuf_parse_run.specs.Run.{StandsAtEvent, StandsInLoad, StandsInElab, IsUnparsed}
+use Rattle.protobuf_parse_run.specs.Run.{StandsThere, StandsInLoad, StandsInElab, IsUnparsed}
+use Rattle.protobuf_parse_run.specs.Run.{ending_faults, ends, is_faulty, is_nothing, own_faults}
+use Rattle.protobuf_parse_run.specs.Run.{report_at}
 
 -- the answers that may be given by those whom a run asks: its resolver, which may answer so, and
 -- its reader, which may so
@@ -209,6 +213,24 @@ abbrev pub customs_over : List FileDescriptor → List ℕ → List ℕ → Cust
 customs_over plains reach sight =
     known_customs (picked_plains plains reach) (picked_plains plains sight)
 
+-- those of a file by itself
+abbrev pub own_over : List FileSyntax → List ℕ → FileSyntax → List elaborating.Fault
+own_over files sight t = file_faults (environment (picked files sight) no_customs t) t
+
+-- those that end a run, or a check
+abbrev pub ending_over : Bool → List FileSyntax → List FileDescriptor → List ℕ → List ℕ
+    → FileSyntax → List elaborating.Fault
+ending_over true files plains reach sight t = link_faults (picked files reach)
+ending_over false files plains reach sight t = faults_over files plains reach sight t
+
+-- what a check tells, where it is known whether a file that it reaches has faults of its own
+abbrev pub report_over : List FileSyntax → List FileDescriptor → List ℕ → List ℕ → Bool
+    → FileSyntax → List elaborating.Fault
+report_over files plains reach sight faulty t =
+    before_others (own_over files sight t)
+    (if faulty then []
+    else file_faults (environment (picked files sight) (customs_over plains reach sight) t) t)
+
 abbrev pub file_over : List FileSyntax → List FileDescriptor → List ℕ → List ℕ → Text → FileSyntax
     → FileDescriptor
 file_over files plains reach sight path t =
@@ -217,17 +239,39 @@ file_over files plains reach sight path t =
 abbrev pub plain_seen : Bor FileDescriptorProto → FileDescriptor
 plain_seen d = described.file_view d.now
 
+-- the file with this number has faults of its own
+abbrev pub has_faults : Option LoadedEntry → Bool
+has_faults None = false
+has_faults (Some e) = e.1.faulty
+
+-- what a check tells of a loaded file
+abbrev pub report_in : LoadedEntry → FileReport
+report_in e = record { path = e.0; faults = e.1.faults }
+
+-- so has one of these, or the next
+abbrev pub any_faulty : List LoadedEntry → List ℕ → Bool → Bool
+any_faulty loaded numbers own =
+    own || list_any (λ (n : ℕ). has_faults (slice_get loaded n)) numbers
+
+-- What a file becomes by these numbers.
+pub record IsDescribed (gathers : Bool) (loaded : List LoadedEntry) (files : List FileSyntax)
+    (reach sight : List ℕ) (path : Text) (t : FileSyntax) (d : Described) : Type 0 where
+  pub faultless : ending_over gathers files (plains_over loaded files sight path t) reach sight t ≡ []
+  pub descriptor : gathers ≡ false → described.file_view d.descriptor
+      ≡ file_over files (plains_over loaded files sight path t) reach sight path t
+  pub plain : plain_or d.plain d.descriptor ≡ plain_over files sight path t
+  pub faulty : d.faulty ≡ not (is_nothing (own_over files sight t))
+  pub told : found d.faults ≡ report_over files (plains_over loaded files sight path t) reach sight
+      (any_faulty loaded reach d.faulty) t
+
 -- What a file becomes by these numbers, and without its custom options; or a fault that stands.
-abbrev pub Describes : List LoadedEntry → List FileSyntax → (reach sight : List ℕ) → Text
-    → FileSyntax
-    → Result Described ElabFailure → Type 0
-Describes loaded files reach sight path t (Ok d) =
-    let plains = plains_over loaded files sight path t in
-    (faults_over files plains reach sight t ≡ [])
-    × (described.file_view d.descriptor ≡ file_over files plains reach sight path t)
-    × (plain_or d.plain d.descriptor ≡ plain_over files sight path t)
-Describes loaded files reach sight path t (Err e) =
-    Blames e (faults_over files (plains_over loaded files sight path t) reach sight t)
+abbrev pub Describes : Bool → List LoadedEntry → List FileSyntax → (reach sight : List ℕ) → Text
+    → FileSyntax → Result Described ElabFailure → Type 0
+Describes gathers loaded files reach sight path t (Ok d) =
+    IsDescribed gathers loaded files reach sight path t d
+Describes gathers loaded files reach sight path t (Err e) =
+    Blames e
+    (ending_over gathers files (plains_over loaded files sight path t) reach sight t)
 
 -- these are more files than were loaded
 abbrev pub MoreLoaded : List LoadedEntry → List LoadedEntry → Type 0
@@ -264,26 +308,29 @@ imports_shape trees paths =
     λ i a room chain. walks_joined (walk trees i the_resolver room chain) paths
 
 -- a loaded file had the tree of its path, and is what that becomes
-pub record IsLoaded (files : Files) (log : List ReadEntry) (path : Text)
+pub record IsLoaded (gathers : Bool) (files : Files) (log : List ReadEntry) (path : Text)
     (file : LoadedFile) : Type 0 where
   pub low : file.height ≤ 100
   pub is : files.trees path ≡ Some (tree_in file)
-  pub descriptor : described.file_view file.descriptor
+  pub descriptor : gathers ≡ false → described.file_view file.descriptor
       ≡ file_of (environment_of files path (tree_in file)) path (tree_in file)
   pub plain : plain_or file.plain file.descriptor ≡ plain_of files path (tree_in file)
+  pub faulty : file.faulty ≡ is_faulty files path
+  pub told : found file.faults ≡ report_at files path (tree_in file)
   pub entry : ReadEntry
   pub read : slice_get log file.read ≡ Some entry
   pub named : path_buf_text entry.path ≡ path
   pub first : first_read path files.reads ≡ Some entry.outcome
 
-pub record Good (legal : Legal) (files : Files) (kept : List Event) (loaded : List LoadedEntry)
+pub record Good (gathers : Bool) (legal : Legal) (files : Files) (kept : List Event) (loaded : List LoadedEntry)
     (log : List ReadEntry) (chain : List Text) : Type 0 where
   pub answers : AreAnswered legal (reads_in kept) log
   pub elabs : elab_paths kept ≡ paths_of loaded
-  pub clean : find (fails files) kept ≡ None
+  pub clean : find (ends gathers files) kept ≡ None
   pub settled : (p : Text) (e : LoadedFile) → file_at p loaded ≡ Some e
       → Settled kept e.height (path_shape files.trees p)
-  pub made : AllByRecursion (λ (e : LoadedEntry). IsLoaded files log (string_bytes e.0) e.1) loaded
+  pub made : AllByRecursion (λ (e : LoadedEntry). IsLoaded gathers files log (string_bytes e.0) e.1)
+      loaded
   pub known : (p : Text) → has (load the_resolver p) kept ≡ true
       → (among p chain ≡ true) ⊎ (has (elab p) kept ≡ true)
   pub read : (p : Text) → among p (read_paths log) ≡ true → has (load the_resolver p) kept ≡ true
@@ -291,29 +338,29 @@ pub record Good (legal : Legal) (files : Files) (kept : List Event) (loaded : Li
 
 -- the event is the first of these that fails, the log has the reads up to it, and the fault stands
 -- at it
-pub record Halts (legal : Legal) (files : Files) (events : List Event) (log : List ReadEntry)
+pub record Halts (gathers : Bool) (legal : Legal) (files : Files) (events : List Event) (log : List ReadEntry)
     (f : RunFault) : Type 0 where
   pub before : List Event
   pub event : Event
   pub after : List Event
   pub split : events ≡ before ++ event ∷ after
-  pub clean : find (fails files) before ≡ None
-  pub failing : fails files event ≡ true
+  pub clean : find (ends gathers files) before ≡ None
+  pub failing : ends gathers files event ≡ true
   pub answers : AreAnswered legal (reads_in (before ++ event ∷ [])) log
-  pub stands : StandsAtEvent files event f
+  pub stands : StandsThere gathers files event f
 
 -- memory ran out, and the log has the reads of a beginning in which nothing fails
-pub record Breaks (legal : Legal) (files : Files) (events : List Event) (log : List ReadEntry)
+pub record Breaks (gathers : Bool) (legal : Legal) (files : Files) (events : List Event) (log : List ReadEntry)
     (f : RunFault) : Type 0 where
   pub memory : f ≡ fault.Memory
   pub before : List Event
   pub after : List Event
   pub split : events ≡ before ++ after
-  pub clean : find (fails files) before ≡ None
+  pub clean : find (ends gathers files) before ≡ None
   pub answers : AreAnswered legal (reads_in before) log
 
-abbrev pub Stops : Legal → Files → List Event → List ReadEntry → RunFault → Type 0
-Stops legal files events log f = Halts legal files events log f ⊎ Breaks legal files events log f
+abbrev pub Stops : Bool → Legal → Files → List Event → List ReadEntry → RunFault → Type 0
+Stops gathers legal files events log f = Halts gathers legal files events log f ⊎ Breaks gathers legal files events log f
 
 -- whom a read asks
 abbrev pub asked_by : Option (Bor (List ℕ)) → Asked
@@ -371,22 +418,22 @@ IsContentFault p origin text (fault.Parse file error) = (string_bytes file ≡ o
 IsContentFault p origin text _ = ⊥
 
 -- what a call leaves, where the events are those kept with its own
-abbrev pub Leaves : Legal → Files → List Event → WalkShape → List LoadedEntry → List ReadEntry
+abbrev pub Leaves : Bool → Legal → Files → List Event → WalkShape → List LoadedEntry → List ReadEntry
     → List Text
     → Result LoadedAs RunFault → Type 0
-Leaves legal files events shape loaded log chain (Ok placed) =
-    Good legal files events loaded log chain × Settled events placed.height shape
-Leaves legal files events shape loaded log chain (Err f) = Stops legal files events log f
+Leaves gathers legal files events shape loaded log chain (Ok placed) =
+    Good gathers legal files events loaded log chain × Settled events placed.height shape
+Leaves gathers legal files events shape loaded log chain (Err f) = Stops gathers legal files events log f
 
-abbrev pub Goes : Legal → Files → List Event → List LoadedEntry → List ReadEntry
+abbrev pub Goes : Bool → Legal → Files → List Event → List LoadedEntry → List ReadEntry
     → Result (Unit {0}) RunFault → Type 0
-Goes legal files events loaded log (Ok _) = Good legal files events loaded log []
-Goes legal files events loaded log (Err f) = Stops legal files events log f
+Goes gathers legal files events loaded log (Ok _) = Good gathers legal files events loaded log []
+Goes gathers legal files events loaded log (Err f) = Stops gathers legal files events log f
 
 -- A file was added for this path: it had this tree, in which no fault stands, and is what that
 -- becomes.
-pub record IsAdded (files : Files) (path : Text) (tree : FileSyntax) (height read : ℕ)
-    (old new : List LoadedEntry) (placed : LoadedAs) : Type 0 where
+pub record IsAdded (gathers : Bool) (files : Files) (path : Text) (tree : FileSyntax)
+    (height read : ℕ) (old new : List LoadedEntry) (placed : LoadedAs) : Type 0 where
   pub key : String Global
   pub file : LoadedFile
   pub entries : new ≡ old ++ (key, file) ∷ []
@@ -394,10 +441,12 @@ pub record IsAdded (files : Files) (path : Text) (tree : FileSyntax) (height rea
   pub tree_is : tree_in file ≡ tree
   pub height_is : file.height ≡ height
   pub read_is : file.read ≡ read
-  pub faultless : faults_at files path (Some tree) ≡ []
-  pub descriptor : described.file_view file.descriptor
+  pub faultless : ending_faults gathers files path (Some tree) ≡ []
+  pub descriptor : gathers ≡ false → described.file_view file.descriptor
       ≡ file_of (environment_of files path tree) path tree
   pub plain : plain_or file.plain file.descriptor ≡ plain_of files path tree
+  pub faulty : file.faulty ≡ not (is_nothing (own_faults files path (Some tree)))
+  pub told : found file.faults ≡ report_at files path tree
   pub placed_is : placed.height ≡ height
 
 -- the texts of a chain
@@ -435,15 +484,15 @@ IsPlaced path loaded (Some placed) = (file : LoadedFile) × (file_at path loaded
     × (placed.height ≡ file.height) × IsNumbered (named_trees loaded) placed.number path
 
 -- what an elaboration leaves
-abbrev pub Settles : Files → Text → FileSyntax → ℕ → ℕ → List ReadEntry → List LoadedEntry
-    → List LoadedEntry
-    → Result LoadedAs RunFault → Type 0
-Settles files path tree height read log old new (Ok placed) = file_at path old ≡ None
-    → IsAdded files path tree height read old new placed
-Settles files path tree height read log old new (Err f) = (e : ReadEntry)
+abbrev pub Settles : Bool → Files → Text → FileSyntax → ℕ → ℕ → List ReadEntry
+    → List LoadedEntry → List LoadedEntry → Result LoadedAs RunFault → Type 0
+Settles gathers files path tree height read log old new (Ok placed) = file_at path old ≡ None
+    → IsAdded gathers files path tree height read old new placed
+Settles gathers files path tree height read log old new (Err f) = (e : ReadEntry)
     → slice_get log read ≡ Some e → path_buf_text e.path ≡ path
     → OrMemory f
-    (StandsInElab (origin_given path (Some e.outcome)) (faults_at files path (Some tree)) f)
+    (StandsInElab (origin_given path (Some e.outcome))
+    (ending_faults gathers files path (Some tree)) f)
 
 -- the trees of the loaded files, and behind them that of the next
 abbrev pub with_next : List LoadedEntry → FileSyntax → List FileSyntax
@@ -456,8 +505,8 @@ plains_next loaded sight path tree = plains_over loaded (with_next loaded tree) 
 -- A file was added behind those that were loaded, whose imports have these numbers, and its public
 -- ones those. By the numbers of the files that it reaches and sees, no fault stands in it, and it
 -- has become its descriptor.
-pub record IsAddedOver (path : Text) (tree : FileSyntax) (height read : ℕ) (imports public : List ℕ)
-    (old new : List LoadedEntry) (tables : Tables) (placed : LoadedAs) : Type 0 where
+pub record IsAddedOver (gathers : Bool) (path : Text) (tree : FileSyntax) (height read : ℕ)
+    (imports public : List ℕ) (old new : List LoadedEntry) (tables : Tables) (placed : LoadedAs) : Type 0 where
   pub key : String Global
   pub file : LoadedFile
   pub sight : List ℕ
@@ -469,11 +518,15 @@ pub record IsAddedOver (path : Text) (tree : FileSyntax) (height read : ℕ) (im
   pub reaches : AreJoined held_as.Reach old imports file.reach.items
   pub sees : AreJoined held_as.HandedOn old imports sight
   pub hands_on : AreJoined held_as.HandedOn old public file.handed_on.items
-  pub faultless : faults_over (with_next old tree)
+  pub faultless : ending_over gathers (with_next old tree)
       (plains_next old sight path tree) file.reach.items sight tree ≡ []
-  pub descriptor : described.file_view file.descriptor
+  pub descriptor : gathers ≡ false → described.file_view file.descriptor
       ≡ file_over (with_next old tree)
       (plains_next old sight path tree) file.reach.items sight path tree
+  pub faulty : file.faulty ≡ not (is_nothing (own_over (with_next old tree) sight tree))
+  pub told : found file.faults ≡ report_over (with_next old tree)
+      (plains_next old sight path tree) file.reach.items sight
+      (any_faulty old file.reach.items file.faulty) tree
   pub plain : plain_or file.plain file.descriptor ≡ plain_over (with_next old tree) sight path tree
   pub tells : TableTells tables.names (with_next old tree)
   pub begins : IndexBegins tables.places (map plain_in new)
@@ -482,21 +535,23 @@ pub record IsAddedOver (path : Text) (tree : FileSyntax) (height read : ℕ) (im
 
 -- By the numbers of the files that a file reaches and sees, this fault stands in it, or memory ran
 -- out.
-abbrev pub IsRefusedOver : Text → Text → FileSyntax → List ℕ → List LoadedEntry → RunFault → Type 0
-IsRefusedOver origin path tree imports old f =
+abbrev pub IsRefusedOver : Bool → Text → Text → FileSyntax → List ℕ → List LoadedEntry → RunFault
+    → Type 0
+IsRefusedOver gathers origin path tree imports old f =
     OrMemory f ((reach : List ℕ) × (sight : List ℕ) × AreJoined held_as.Reach old imports reach
     × AreJoined held_as.HandedOn old imports sight
     × StandsInElab origin
-    (faults_over (with_next old tree) (plains_next old sight path tree) reach sight tree) f)
+    (ending_over gathers (with_next old tree) (plains_next old sight path tree) reach sight tree) f)
 
-abbrev pub SettlesOver : Text → FileSyntax → ℕ → ℕ → List ℕ → List ℕ → List ReadEntry
+abbrev pub SettlesOver : Bool → Text → FileSyntax → ℕ → ℕ → List ℕ → List ℕ → List ReadEntry
     → List LoadedEntry
     → List LoadedEntry → Tables → Result LoadedAs RunFault → Type 0
-SettlesOver path tree height read imports public log old new tables (Ok placed) =
-    file_at path old ≡ None → IsAddedOver path tree height read imports public old new tables placed
-SettlesOver path tree height read imports public log old new tables (Err f) = (e : ReadEntry)
+SettlesOver gathers path tree height read imports public log old new tables (Ok placed) =
+    file_at path old ≡ None → IsAddedOver gathers path tree height read imports public old new tables
+    placed
+SettlesOver gathers path tree height read imports public log old new tables (Err f) = (e : ReadEntry)
     → slice_get log read ≡ Some e → path_buf_text e.path ≡ path
-    → IsRefusedOver (origin_given path (Some e.outcome)) path tree imports old f
+    → IsRefusedOver gathers (origin_given path (Some e.outcome)) path tree imports old f
 
 -- no file on the chain is loaded
 abbrev pub AreUnloaded : List Text → List LoadedEntry → Type 0

@@ -5,6 +5,7 @@ use Rattle.std.specs.Prelude.{slice_get, Result, Ok, Err, if◌then◌else◌, b
 use Rattle.std.specs.Prelude.{find}
 use Rattle.std.specs.Global.{Vec}
 use Rattle.std.specs.Borrow.{Bor}
+use Rattle.std.specs.List.{list_any}
 use Rattle.std.specs.Str.{IsUtf8}
 use Rattle.protobuf_parse_base.specs.PathViews.{path_buf_text}
 use Rattle.protobuf_parse_lexer.specs.Cut.{error_place}
@@ -17,7 +18,9 @@ use Rattle.protobuf_parse_model.specs.Environment.{Customs, Environment}
 use Rattle.protobuf_parse_model.specs.Faults as elaborating
 use Rattle.protobuf_parse_model.specs.Faults.{Among, fault_view}
 use Rattle.protobuf_parse_model.specs.declared.descriptor.FileDescriptorProto.{FileDescriptorProto}
-use Rattle.protobuf_parse_elaboration.specs.FileDescriptor.{environment, file_of}
+use Rattle.protobuf_parse_model.specs.Environment.{no_customs}
+use Rattle.protobuf_parse_model.specs.Linking.{before_others, link_faults}
+use Rattle.protobuf_parse_elaboration.specs.FileDescriptor.{environment, file_faults, file_of}
 use Rattle.protobuf_parse_elaboration.specs.FilesByPath.{AreDistinct, AreJust, trees_at}
 use Rattle.protobuf_parse_options.specs.CustomFaults.{elaboration_faults}
 use Rattle.protobuf_parse_options.specs.DescriptorsByPath.{Environments, described_at}
@@ -175,16 +178,44 @@ faults_at files p (Some t) =
     (plains_at files (files.reached p)) (plains_at files (files.seen p)) t
 faults_at files p None = []
 
+-- those of them that are neither for names that are declared twice nor for custom options
+abbrev pub own_faults : Files → Text → Option FileSyntax → List elaborating.Fault
+own_faults files p (Some t) =
+    file_faults (environment (trees_at files.trees (files.seen p)) no_customs t) t
+own_faults files p None = []
+
+abbrev pub is_faulty : Files → Text → Bool
+is_faulty files p = not (is_nothing (own_faults files p (files.trees p)))
+
+-- What a check tells of a file: its own faults; or, where it has none, those of its custom options,
+-- if no file that it reaches has faults of its own, so that its descriptor says what its types are.
+abbrev pub report_at : Files → Text → FileSyntax → List elaborating.Fault
+report_at files p t =
+    before_others (own_faults files p (Some t))
+    (if list_any (is_faulty files) (files.reached p) then []
+    else file_faults (environment_of files p t) t)
+
 -- the bytes of the read with this number, which an input's own path was read by
 abbrev pub content_at : Files → ℕ → Option Text
 content_at files n = text_given [] [] (answer_at files n)
 
+-- the faults of a file that end a run; or, where this is true, a check, which goes on behind a file
+-- with faults, but where names are declared twice
+abbrev pub ending_faults : Bool → Files → Text → Option FileSyntax → List elaborating.Fault
+ending_faults true files p (Some t) = link_faults (trees_at files.trees (files.reached p))
+ending_faults true files p None = []
+ending_faults false files p t = faults_at files p t
+
+-- which events end it
+abbrev pub ends : Bool → Files → Event → Bool
+ends gathers files (cycle p) = true
+ends gathers files (long i) = true
+ends gathers files (load a p) = not (is_some (files.trees p))
+ends gathers files (check n f p) = not (are_same_bytes (content_at files n) (text_for files p))
+ends gathers files (elab p) = not (is_nothing (ending_faults gathers files p (files.trees p)))
+
 abbrev pub fails : Files → Event → Bool
-fails files (cycle p) = true
-fails files (long i) = true
-fails files (load a p) = not (is_some (files.trees p))
-fails files (check n f p) = not (are_same_bytes (content_at files n) (text_for files p))
-fails files (elab p) = not (is_nothing (faults_at files p (files.trees p)))
+fails files e = ends false files e
 
 -- ---- which fault stands where an event fails
 
@@ -242,13 +273,19 @@ StandsInElab origin faults (fault.Elaborate file error) = (string_bytes file ≡
     × Among faults (fault_view error)
 StandsInElab origin faults _ = ⊥
 
+-- the fault stands at the event that ends a run, or a check
+abbrev pub StandsThere : Bool → Files → Event → RunFault → Type 0
+StandsThere gathers files (cycle p) = StandsInCycle p
+StandsThere gathers files (long i) = StandsInLong i
+StandsThere gathers files (load asked p) =
+    StandsInLoad asked p (answer_for files p) (text_for files p)
+StandsThere gathers files (check n own p) = StandsInCheck own p (answer_at files n)
+StandsThere gathers files (elab p) =
+    StandsInElab (origin_given p (answer_for files p))
+    (ending_faults gathers files p (files.trees p))
+
 abbrev pub StandsAtEvent : Files → Event → RunFault → Type 0
-StandsAtEvent files (cycle p) = StandsInCycle p
-StandsAtEvent files (long i) = StandsInLong i
-StandsAtEvent files (load asked p) = StandsInLoad asked p (answer_for files p) (text_for files p)
-StandsAtEvent files (check n own p) = StandsInCheck own p (answer_at files n)
-StandsAtEvent files (elab p) =
-    StandsInElab (origin_given p (answer_for files p)) (faults_at files p (files.trees p))
+StandsAtEvent files e f = StandsThere false files e f
 
 -- ---- which answers are legal
 

@@ -1,24 +1,27 @@
 //! What a file becomes, once its imports are loaded.
 
-ghost use Rattle.std.specs.Prelude.{◌≡◌, ◌≤◌, [], List, map, option_map, slice_get, IfOk};
+ghost use Rattle.std.specs.Prelude.{◌≡◌, ◌≤◌, ◌++◌, [], ℕ, List, map, option_map, slice_get};
+ghost use Rattle.std.specs.Prelude.{IfOk, OnOk, true, false};
+ghost use Rattle.std.specs.List.{list_any};
 ghost use Rattle.std.specs.List.Sorted.{IsStrictlyIncreasing};
 ghost use Rattle.protobuf_parse_syntax.specs.Counts.{statements_in};
 ghost use Rattle.protobuf_parse_syntax.specs.Trees.{FileSyntax, file_syntax};
 ghost use Rattle.protobuf_parse_model.specs.Descriptors as described;
-ghost use Rattle.protobuf_parse_model.specs.Faults.{Elaborates};
+ghost use Rattle.protobuf_parse_model.specs.Faults.{Elaborates, found};
 ghost use Rattle.protobuf_parse_model.specs.Linking.{link_faults};
 ghost use Rattle.protobuf_parse_model.specs.Tables.{TableTells, picked};
 ghost use Rattle.protobuf_parse_elaboration.specs.FileDescriptor.{environment, file_faults, file_of};
 ghost use Rattle.protobuf_parse_options.specs.Holding.{Holds};
 ghost use Rattle.protobuf_parse_run.specs.Loading.{IndexBegins, Describes, customs_over, plain_in};
-ghost use Rattle.protobuf_parse_run.specs.Loading.{plain_or};
+ghost use Rattle.protobuf_parse_run.specs.Loading.{has_faults, own_over, plain_or, report_over};
 ghost use Rattle.protobuf_parse_run.specs.Loading.{plain_seen, plains_with};
 
 use crate::loaded::LoadedFiles;
 use crate::reach::Sights;
 use crate::tables::{RunPlaces, Tables, add_next, plain_of};
-use protobuf_parse_elaboration::{elaborate, elaborate_owned};
-use protobuf_parse_model::{ElabFailure, FileDescriptorProto, Seen, WithoutCustoms, link};
+use protobuf_parse_elaboration::{elaborate, elaborate_all, elaborate_all_owned, elaborate_owned};
+use protobuf_parse_model::{ElabError, ElabFailure, FileDescriptorProto, Seen, WithoutCustoms};
+use protobuf_parse_model::link;
 use protobuf_parse_options::{DeclaredPlaces, KnownFiles, PickedFiles, has_custom_option};
 use protobuf_parse_syntax::FileTree;
 use std::alloc::{AllocError, Global};
@@ -29,6 +32,10 @@ pub struct Described {
     pub descriptor: FileDescriptorProto,
     /// The descriptor without custom options, where it may have any.
     pub plain: Option<FileDescriptorProto>,
+    /// What is wrong in the file, where faults are gathered.
+    pub faults: Vec<ElabError>,
+    /// Whether something is wrong in it, its custom options left out.
+    pub faulty: bool,
 }
 
 /// What a file becomes over the files that it reaches and sees, if none of their names is declared
@@ -47,7 +54,7 @@ pub fn elaborated(
     requires begins { IndexBegins tables.old.places (map plain_in loaded.now.entries) }
     ensures names { tables.new.names ≡ tables.old.names }
     ensures describes { (files : List FileSyntax) → TableTells tables.old.names files
-        → Describes loaded.now.entries files sights.now.reach.items sights.now.sight.items path.now
+        → Describes false loaded.now.entries files sights.now.reach.items sights.now.sight.items path.now
         (file_syntax tree) result }
     ensures begins { IfOk result (λ d. IndexBegins tables.new.places
         (plains_with loaded.now.entries (plain_or d.plain d.descriptor))) }
@@ -65,8 +72,143 @@ pub fn elaborated(
         Ok(Described {
             descriptor,
             plain: None,
+            faults: Vec::new(alloc),
+            faulty: false,
         })
     }
+}
+
+/// What a file becomes without its custom options, and what is wrong in it. What is wrong in its
+/// custom options is looked for where neither it nor a file that it reaches has other faults.
+pub fn checked(
+    alloc: Global,
+    loaded: &LoadedFiles,
+    tables: &mut Tables,
+    sights: &Sights,
+    path: &str,
+    tree: FileTree,
+) -> Result<Described, ElabFailure>
+    requires few { statements_in (file_syntax tree) ≤ 2147483647 }
+    requires reach { IsStrictlyIncreasing sights.now.reach.items }
+    requires sight { IsStrictlyIncreasing sights.now.sight.items }
+    requires begins { IndexBegins tables.old.places (map plain_in loaded.now.entries) }
+    ensures names { tables.new.names ≡ tables.old.names }
+    ensures describes { (files : List FileSyntax) → TableTells tables.old.names files
+        → Describes true loaded.now.entries files sights.now.reach.items sights.now.sight.items
+        path.now (file_syntax tree) result }
+    ensures begins { IfOk result (λ d. IndexBegins tables.new.places
+        (plains_with loaded.now.entries (plain_or d.plain d.descriptor))) }
+{
+    let seen = Seen {
+        declarations: &tables.names,
+        sight: &sights.sight,
+        reach: &sights.reach,
+    };
+    link(alloc, &seen)?;
+    let mut faults = Vec::new(alloc);
+    let plain = elaborate_all(alloc, &mut faults, path, &tree, &seen, &WithoutCustoms)?;
+    let faulty = !faults.is_empty();
+    let places = &mut tables.places;
+    tell_further(alloc, &mut faults, loaded, places, &seen, &plain, path, tree)?;
+    Ok(Described {
+        descriptor: plain,
+        plain: None,
+        faults,
+        faulty,
+    })
+}
+
+/// Tells what is wrong in the custom options of a file that has none of these other faults, where
+/// no file that it reaches has any.
+fn tell_further(
+    alloc: Global,
+    faults: &mut Vec<ElabError>,
+    loaded: &LoadedFiles,
+    places: &mut RunPlaces,
+    seen: &Seen<'_>,
+    plain: &FileDescriptorProto,
+    path: &str,
+    tree: FileTree,
+) -> Result<(), AllocError>
+    requires few { statements_in (file_syntax tree) ≤ 2147483647 }
+    requires begins { IndexBegins places.old (map plain_in loaded.now.entries) }
+    ensures begins { OnOk result (IndexBegins places.new
+        (plains_with loaded.now.entries (described.file_view plain.now))) }
+    ensures told { (files : List FileSyntax) → TableTells seen.now.declarations.now files
+        → let plains = plains_with loaded.now.entries (described.file_view plain.now) in
+        let reach = seen.now.reach.now in let sight = seen.now.sight.now in
+        let t = file_syntax tree in
+        let faulty = list_any (λ (n : ℕ). has_faults (slice_get loaded.now.entries n)) reach in
+        found faults.old ≡ own_over files sight t
+        → OnOk result (found faults.new ≡ report_over files plains reach sight faulty t) }
+{
+    if !faults.is_empty() || reaches_faulty(loaded, seen.reach) {
+        return Ok(());
+    }
+    if !has_custom_option(&tree) {
+        return Ok(());
+    }
+    add_next(places, alloc, loaded, plain)?;
+    tell_customs(alloc, faults, loaded, &places.declared, seen, plain, path, tree)
+}
+
+/// Whether one of the files with these numbers has faults, its custom options left out.
+fn reaches_faulty(loaded: &LoadedFiles, numbers: &[u32]) -> bool
+    ensures { result
+        ≡ list_any (λ (n : ℕ). has_faults (slice_get loaded.now.entries n)) numbers.now }
+{
+    for number in numbers {
+        if is_faulty(loaded, *number) {
+            return true;
+        }
+    }
+    false
+}
+
+fn is_faulty(loaded: &LoadedFiles, number: u32) -> bool
+    ensures { result ≡ has_faults (slice_get loaded.now.entries number) }
+{
+    match loaded.at(number) {
+        Some((_, file)) => file.faulty,
+        None => false,
+    }
+}
+
+/// Tells what is wrong in a file whose descriptor without custom options is `plain`, its custom
+/// options looked up.
+fn tell_customs(
+    alloc: Global,
+    faults: &mut Vec<ElabError>,
+    loaded: &LoadedFiles,
+    places: &DeclaredPlaces,
+    seen: &Seen<'_>,
+    plain: &FileDescriptorProto,
+    path: &str,
+    tree: FileTree,
+) -> Result<(), AllocError>
+    requires few { statements_in (file_syntax tree) ≤ 2147483647 }
+    requires holds { Holds places.now
+        (plains_with loaded.now.entries (described.file_view plain.now)) }
+    ensures { (files : List FileSyntax) → TableTells seen.now.declarations.now files
+        → let plains = plains_with loaded.now.entries (described.file_view plain.now) in
+        let sight = seen.now.sight.now in
+        let customs = customs_over plains seen.now.reach.now sight in
+        let t = file_syntax tree in let env = environment (picked files sight) customs t in
+        OnOk result (found faults.new ≡ found faults.old ++ file_faults env t) }
+{
+    let reached = plains(alloc, loaded, plain, seen.reach)?;
+    let reach = PickedFiles {
+        numbers: seen.reach,
+        files: &reached,
+    };
+    let visible = plains(alloc, loaded, plain, seen.sight)?;
+    let sight = PickedFiles {
+        numbers: seen.sight,
+        files: &visible,
+    };
+    let known = KnownFiles::new(places, reach, sight);
+    elaborate_all_owned(alloc, faults, path, tree, seen, &known)?;
+    Ok(())
 }
 
 /// The same, with its custom options: they are looked up in the descriptors of the files that it
@@ -83,7 +225,7 @@ fn with_customs(
     requires begins { IndexBegins places.old (map plain_in loaded.now.entries) }
     ensures describes { (files : List FileSyntax) → TableTells seen.now.declarations.now files
         → link_faults (picked files seen.now.reach.now) ≡ []
-        → Describes loaded.now.entries files seen.now.reach.now seen.now.sight.now path.now
+        → Describes false loaded.now.entries files seen.now.reach.now seen.now.sight.now path.now
         (file_syntax tree) result }
     ensures begins { IfOk result (λ d. IndexBegins places.new
         (plains_with loaded.now.entries (plain_or d.plain d.descriptor))) }
@@ -94,6 +236,8 @@ fn with_customs(
     Ok(Described {
         descriptor,
         plain: Some(plain),
+        faults: Vec::new(alloc),
+        faulty: false,
     })
 }
 

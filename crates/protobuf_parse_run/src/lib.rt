@@ -3,6 +3,7 @@
 
 mod asking;
 mod bundled;
+mod check;
 mod describe;
 mod fault;
 mod frame;
@@ -16,8 +17,9 @@ mod source;
 mod tables;
 
 pub use bundled::bundled_files;
+pub use check::check_inputs;
 pub use fault::{ReadInputFault, ResolveFault, RunFault};
 pub use laws::{custom_bytes_stand, files_come_once, runs_are_stable, seen_files_are_reached};
-pub use log::{ReadEntry, ReadOutcome, RunInput, RunLog};
+pub use log::{CheckLog, FileReport, ReadEntry, ReadOutcome, RunInput, RunLog};
 pub use run::{parse_and_typecheck_custom, run_inputs};
 pub use source::{InputReader, ProtoPathResolver, ResolvedProtoFile};

@@ -22,7 +22,7 @@ ghost use Rattle.protobuf_parse_run.specs.Run.{input_view, origin_given, rows, t
 ghost use Rattle.protobuf_parse_run.specs.Loading.{Describes, Grows, IndexBegins, IsDecided};
 ghost use Rattle.protobuf_parse_run.specs.Loading.{IsElabFault, IsPlaced, IsReaders, IsShadowed};
 ghost use Rattle.protobuf_parse_run.specs.Loading.{ReadsTree, SettlesOver, asked_by, chain_texts};
-ghost use Rattle.protobuf_parse_run.specs.Loading.{faults_over, legal_by, named_trees, plain_or};
+ghost use Rattle.protobuf_parse_run.specs.Loading.{ending_over, legal_by, named_trees, plain_or};
 ghost use Rattle.protobuf_parse_run.specs.Loading.{plains_over, plains_with, trees_of};
 ghost use Rattle.protobuf_parse_run.specs.Frames.{Joined, is_public_at, number_if};
 ghost use Rattle.protobuf_parse_run.specs.Calls.{CanMeet, ClosesFrame, CountsThrough, GoesThrough};
@@ -30,7 +30,7 @@ ghost use Rattle.protobuf_parse_run.specs.Calls.{GoesTo, HasIndex, KnowsFiles, L
 ghost use Rattle.protobuf_parse_run.specs.Calls.{StaysDecided, with_file};
 
 use crate::asking::{answer, content, opened, origin, unreadable};
-use crate::describe::{Described, elaborated};
+use crate::describe::{Described, checked, elaborated};
 use crate::fault::RunFault;
 use crate::frame::LoadFrame;
 use crate::loaded::LoadedFiles;
@@ -63,6 +63,10 @@ pub struct LoadedFile {
     pub descriptor: FileDescriptorProto,
     /// The descriptor without custom options, where it may have any.
     pub plain: Option<FileDescriptorProto>,
+    /// What is wrong in it, where faults are gathered.
+    pub faults: Vec<ElabError>,
+    /// Whether something is wrong in it, its custom options left out.
+    pub faulty: bool,
 }
 
 // Written out: what drops it calls this, and need not prove anew how descriptors are dropped.
@@ -76,11 +80,31 @@ impl Drop for LoadedFile {
             read: _,
             descriptor: _,
             plain: _,
+            faults: _,
+            faulty: _,
         } = self;
     }
 }
 
 impl LoadedFile {
+    /// What is wrong in it, where faults are gathered.
+    pub fn into_faults(self) -> Vec<ElabError>
+        ensures { result ≡ self.faults }
+    {
+        let LoadedFile {
+            tree: _,
+            height: _,
+            reach: _,
+            handed_on: _,
+            read: _,
+            descriptor: _,
+            plain: _,
+            faults,
+            faulty: _,
+        } = self;
+        faults
+    }
+
     /// What it became.
     pub fn into_descriptor(self) -> FileDescriptorProto
         ensures { result ≡ self.descriptor }
@@ -93,6 +117,8 @@ impl LoadedFile {
             read: _,
             descriptor,
             plain: _,
+            faults: _,
+            faulty: _,
         } = self;
         descriptor
     }
@@ -310,7 +336,7 @@ fn load_file<R: ProtoPathResolver, I: InputReader>(
     let mut stack: Vec<LoadFrame> = Vec::new(alloc);
     'files: loop {
         let Some(statement) = top.tree.statements.get(top.next) else {
-            let placed = close(alloc, loader, top)?;
+            let placed = close(alloc, loader, sources.gathers, top)?;
             let Some(parent) = stack.pop() else {
                 return Ok(());
             };
@@ -413,11 +439,16 @@ fn push_if(numbers: &mut Vec<u32>, public: bool, number: u32) -> Result<(), Allo
 }
 
 /// Elaborates the last file of the chain, whose imports are loaded, and adds it to the loaded ones.
-fn close(alloc: Global, loader: &mut Loader, frame: LoadFrame) -> Result<LoadedAs, RunFault>
+fn close(
+    alloc: Global,
+    loader: &mut Loader,
+    gathers: bool,
+    frame: LoadFrame,
+) -> Result<LoadedAs, RunFault>
     requires low { frame.height < MAX_CHAIN }
     requires few { statements_in (file_syntax frame.tree) ≤ 2147483647 }
     requires begins { HasIndex loader.old }
-    ensures { ClosesFrame frame loader.old loader.new result }
+    ensures { ClosesFrame gathers frame loader.old loader.new result }
 {
     let LoadFrame {
         path,
@@ -433,7 +464,7 @@ fn close(alloc: Global, loader: &mut Loader, frame: LoadFrame) -> Result<LoadedA
         all: &below,
         public: &public,
     };
-    settle(alloc, loader, path, tree, height + 1, &imports, read)
+    settle(alloc, loader, gathers, path, tree, height + 1, &imports, read)
 }
 
 /// L7.
@@ -539,6 +570,7 @@ fn is_memory(fault: &RunFault) -> bool
 fn settle(
     alloc: Global,
     loader: &mut Loader,
+    gathers: bool,
     path: String,
     tree: FileTree,
     height: usize,
@@ -553,7 +585,7 @@ fn settle(
     ensures height { IfOk result (λ placed. placed.height ≡ height) }
     ensures settles { TableTells loader.old.tables.names
         (trees_of (named_trees loader.old.loaded.entries))
-        → SettlesOver (string_bytes path)
+        → SettlesOver gathers (string_bytes path)
         (file_syntax tree) height read imports.now.all.now imports.now.public.now
         loader.old.reads.items loader.old.loaded.entries loader.new.loaded.entries loader.new.tables
         result }
@@ -561,8 +593,13 @@ fn settle(
     let sights = sights_of(alloc, &loader.loaded, imports)?;
     loader.tables.names.add(alloc, loader.loaded.len(), &tree)?;
     let kept = Snapshot::of(&tree);
-    let described = descriptor_of(alloc, loader, &sights, &path, tree, read)?;
-    let Described { descriptor, plain } = described;
+    let described = descriptor_of(alloc, loader, gathers, &sights, &path, tree, read)?;
+    let Described {
+        descriptor,
+        plain,
+        faults,
+        faulty,
+    } = described;
     let Sights {
         reach,
         handed_on,
@@ -576,6 +613,8 @@ fn settle(
         read,
         descriptor,
         plain,
+        faults,
+        faulty,
     };
     let placed = add(&mut loader.loaded, path, file)?;
     Ok(placed)
@@ -597,6 +636,7 @@ fn add(loaded: &mut LoadedFiles, path: String, file: LoadedFile) -> Result<Loade
 fn descriptor_of(
     alloc: Global,
     loader: &mut Loader,
+    gathers: bool,
     sights: &Sights,
     path: &str,
     tree: FileTree,
@@ -613,31 +653,54 @@ fn descriptor_of(
     ensures meets { loader.new.meets ≡ loader.old.meets }
     ensures ok { (files : List FileSyntax) → TableTells loader.old.tables.names files →
         IfOk result
-        (λ d. Describes loader.old.loaded.entries files sights.now.reach.items
+        (λ d. Describes gathers loader.old.loaded.entries files sights.now.reach.items
         sights.now.sight.items path.now (file_syntax tree) (Ok d)) }
     ensures err { (files : List FileSyntax) → TableTells loader.old.tables.names files
         → let t = file_syntax tree in
         IfErr result (λ f. (e : ReadEntry) → slice_get loader.old.reads.items read ≡ Some e
         → path_buf_text e.path ≡ path.now
         → OrMemory f (StandsInElab (origin_given path.now (Some e.outcome))
-        (faults_over files
+        (ending_over gathers files
         (plains_over loader.old.loaded.entries files sights.now.sight.items path.now t)
         sights.now.reach.items sights.now.sight.items t) f)) }
     ensures begins { IfOk result (λ d. IndexBegins loader.new.tables.places
         (plains_with loader.old.loaded.entries (plain_or d.plain d.descriptor))) }
 {
-    match elaborated(
-        alloc,
-        &loader.loaded,
-        &mut loader.tables,
-        sights,
-        path,
-        tree,
-    ) {
+    match described(alloc, loader, gathers, sights, path, tree) {
         Ok(described) => Ok(described),
         Err(ElabFailure::Memory) => Err(RunFault::Memory),
         Err(ElabFailure::Fault(error)) => Err(refused(alloc, &loader.reads, read, path, error)),
     }
+}
+
+/// What a file becomes, or, where faults are gathered, what is wrong in it too.
+fn described(
+    alloc: Global,
+    loader: &mut Loader,
+    gathers: bool,
+    sights: &Sights,
+    path: &str,
+    tree: FileTree,
+) -> Result<Described, ElabFailure>
+    requires few { statements_in (file_syntax tree) ≤ 2147483647 }
+    requires reach { IsStrictlyIncreasing sights.now.reach.items }
+    requires sight { IsStrictlyIncreasing sights.now.sight.items }
+    requires begins { HasIndex loader.old }
+    ensures loaded { loader.new.loaded ≡ loader.old.loaded }
+    ensures names { loader.new.tables.names ≡ loader.old.tables.names }
+    ensures reads { loader.new.reads ≡ loader.old.reads }
+    ensures chain { loader.new.chain ≡ loader.old.chain }
+    ensures meets { loader.new.meets ≡ loader.old.meets }
+    ensures describes { (files : List FileSyntax) → TableTells loader.old.tables.names files
+        → Describes gathers loader.old.loaded.entries files sights.now.reach.items
+        sights.now.sight.items path.now (file_syntax tree) result }
+    ensures begins { IfOk result (λ d. IndexBegins loader.new.tables.places
+        (plains_with loader.old.loaded.entries (plain_or d.plain d.descriptor))) }
+{
+    if gathers {
+        return checked(alloc, &loader.loaded, &mut loader.tables, sights, path, tree);
+    }
+    elaborated(alloc, &loader.loaded, &mut loader.tables, sights, path, tree)
 }
 
 /// L10 of the file that this read gave.

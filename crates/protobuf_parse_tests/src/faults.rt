@@ -3,7 +3,7 @@
 //! fault does not compile before it is counted.
 
 use protobuf_parse::{
-    ElabError, ElabErrorKind, ParserError, ParserErrorWithLocation, PathError, ReadFault,
+    ElabError, ElabErrorKind, ParserError, ParserErrorWithLocation, PathError, Place, ReadFault,
 };
 use protobuf_parse_lexer::StrLitDecodeError;
 use protobuf_parse_model::ElabFailure;
@@ -229,6 +229,7 @@ fn tells_what_is_wrong_in_a_file(rt: HostRuntime) -> Result<(), Fail> {
         assert_eq!(rt; place_of_elab_error(*kind), place);
         assert_eq!(rt; format!(in alloc; "{kind}")?.as_str(), *text);
         let error = ElabError {
+            place: Place { line: 3, col: 5 },
             kind: *kind,
             what: String::from_str(alloc, "a.B")?,
         };
@@ -249,6 +250,7 @@ fn place_of_failure(failure: &ElabFailure) -> usize {
 fn tells_why_elaboration_gave_nothing(rt: HostRuntime) -> Result<(), Fail> {
     let alloc = rt.alloc();
     let error = ElabError {
+        place: Place { line: 3, col: 5 },
         kind: ElabErrorKind::NotFoundByRelPath,
         what: String::from_str(alloc, "Item")?,
     };

@@ -3,8 +3,8 @@
 //! that a new fault does not compile before it is counted.
 
 use protobuf_parse::{
-    ElabError, ElabErrorKind, ParserError, ParserErrorWithLocation, PathError, ReadInputFault,
-    ResolveFault, RunFault,
+    ElabError, ElabErrorKind, ParserError, ParserErrorWithLocation, PathError, Place,
+    ReadInputFault, ResolveFault, RunFault,
 };
 use std::alloc::{AllocError, Global};
 use std::test::Fail;
@@ -115,6 +115,7 @@ const INCORRECT: ParserErrorWithLocation = ParserErrorWithLocation {
 
 fn not_found(alloc: Global) -> Result<ElabError, AllocError> {
     Ok(ElabError {
+        place: Place { line: 3, col: 5 },
         kind: ElabErrorKind::NotFoundByRelPath,
         what: text(alloc, "Item")?,
     })

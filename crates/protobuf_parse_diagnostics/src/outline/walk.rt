@@ -1,13 +1,11 @@
 //! The walk over a tree.
 
-use crate::outline::{
-    Declared, DeclaredKind, NamedType, Outline, Ranges, SetOption, reserved_ranges,
-};
-use protobuf_parse_model::{Construct, entry_name, group_field_name};
+use crate::outline::{Declared, DeclaredKind, Outline, Ranges, reserved_ranges};
+use protobuf_parse_model::{entry_name, group_field_name};
 use protobuf_parse_syntax::{
     EnumStatement, Enumeration, Extend, Field, FieldNumberRange, FieldStatement, FileStatement,
-    FileTree, Group, Message, MessageStatement, Method, OneOf, OneOfStatement, OptionStatement,
-    Place, ProtobufOption, Service, ServiceStatement, Type,
+    FileTree, Group, Message, MessageStatement, Method, OneOf, OneOfStatement, Place, Service,
+    ServiceStatement, Type,
 };
 use std::alloc::{AllocError, Global};
 
@@ -42,8 +40,7 @@ fn walk_file_statement<'a>(
     statement: &'a FileStatement,
 ) -> Result<(), AllocError> {
     match statement {
-        FileStatement::Import(_) | FileStatement::Package(_) => Ok(()),
-        FileStatement::Option(option) => note_statement(outline, Construct::File, option),
+        FileStatement::Import(_) | FileStatement::Package(_) | FileStatement::Option(_) => Ok(()),
         FileStatement::Message(message) => walk_message(alloc, outline, scope, message),
         FileStatement::Enumeration(each) => walk_enum(alloc, outline, scope, each),
         FileStatement::Extend(extend) => walk_extend(alloc, outline, scope, extend),
@@ -91,41 +88,6 @@ fn declare_typed<'a>(
         place,
         type_,
     })?;
-    Ok(())
-}
-
-fn note_type<'a>(outline: &mut Outline<'a>, text: &'a str, place: Place) -> Result<(), AllocError> {
-    outline.named.push(NamedType { text, place })?;
-    Ok(())
-}
-
-fn note_statement<'a>(
-    outline: &mut Outline<'a>,
-    construct: Construct,
-    statement: &'a OptionStatement,
-) -> Result<(), AllocError> {
-    outline.options.push(SetOption {
-        construct,
-        option: &statement.option,
-        of: statement.place,
-    })?;
-    Ok(())
-}
-
-/// Notes options in brackets, and the place of what they are of.
-fn note_options<'a>(
-    outline: &mut Outline<'a>,
-    construct: Construct,
-    options: &'a [ProtobufOption],
-    of: Place,
-) -> Result<(), AllocError> {
-    for option in options {
-        outline.options.push(SetOption {
-            construct,
-            option,
-            of,
-        })?;
-    }
     Ok(())
 }
 
@@ -192,7 +154,7 @@ fn walk_message_statement<'a>(
         MessageStatement::Extensions(it) => {
             note_ranges(alloc, outline, scope, &it.ranges, it.place)
         }
-        MessageStatement::Option(option) => note_statement(outline, Construct::Message, option),
+        MessageStatement::Option(_) => Ok(()),
         MessageStatement::Field(field) => {
             walk_field(alloc, outline, scope, DeclaredKind::Field, field)
         }
@@ -215,11 +177,8 @@ fn walk_oneof<'a>(
         oneof.place,
     )?;
     for statement in &oneof.body {
-        match statement {
-            OneOfStatement::Option(option) => note_statement(outline, Construct::Oneof, option)?,
-            OneOfStatement::Field(field) => {
-                walk_field(alloc, outline, scope, DeclaredKind::Field, field)?;
-            }
+        if let OneOfStatement::Field(field) = statement {
+            walk_field(alloc, outline, scope, DeclaredKind::Field, field)?;
         }
     }
     Ok(())
@@ -231,7 +190,6 @@ fn walk_extend<'a>(
     scope: Scope<'_>,
     extend: &'a Extend,
 ) -> Result<(), AllocError> {
-    note_type(outline, &extend.extendee, extend.place)?;
     for field in &extend.fields {
         walk_field(alloc, outline, scope, DeclaredKind::Extension, field)?;
     }
@@ -269,15 +227,9 @@ fn walk_plain_field<'a>(
         field.place,
         Some(&field.type_),
     )?;
-    note_options(outline, Construct::Field, &field.options, field.place)?;
     match &field.type_ {
-        Type::Scalar(_) => Ok(()),
-        Type::Named(text) => note_type(outline, text, field.place),
-        Type::Map(key, value) => {
-            walk_map(alloc, outline, scope, name, field.place)?;
-            note_map_type(outline, key, field.place)?;
-            note_map_type(outline, value, field.place)
-        }
+        Type::Scalar(_) | Type::Named(_) => Ok(()),
+        Type::Map(_, _) => walk_map(alloc, outline, scope, name, field.place),
     }
 }
 
@@ -295,17 +247,6 @@ fn walk_map(
     let inside = next_scope(outline, &name);
     declare(alloc, outline, inside, DeclaredKind::Field, "key", place)?;
     declare(alloc, outline, inside, DeclaredKind::Field, "value", place)
-}
-
-fn note_map_type<'a>(
-    outline: &mut Outline<'a>,
-    of: &'a Type,
-    place: Place,
-) -> Result<(), AllocError> {
-    match of {
-        Type::Named(text) => note_type(outline, text, place),
-        Type::Scalar(_) | Type::Map(_, _) => Ok(()),
-    }
 }
 
 /// A group is a message and a field.
@@ -367,7 +308,7 @@ fn walk_enum<'a>(
                     it.place,
                 )?;
             }
-            EnumStatement::Option(option) => note_statement(outline, Construct::Enum, option)?,
+            EnumStatement::Option(_) => {}
             EnumStatement::Value(value) => {
                 let kind = DeclaredKind::EnumValue;
                 declare(
@@ -378,7 +319,6 @@ fn walk_enum<'a>(
                     value.name.as_str(),
                     value.place,
                 )?;
-                note_options(outline, Construct::EnumValue, &value.options, value.place)?;
             }
         }
     }
@@ -403,35 +343,11 @@ fn walk_service<'a>(
     let name = full_name(alloc, scope, service.name.as_str())?;
     let inside = next_scope(outline, &name);
     for statement in &service.body {
-        match statement {
-            ServiceStatement::Option(option) => {
-                note_statement(outline, Construct::Service, option)?;
-            }
-            ServiceStatement::Method(method) => walk_method(alloc, outline, inside, method)?,
+        if let ServiceStatement::Method(method) = statement {
+            let kind = DeclaredKind::Method;
+            let name = method.name.as_str();
+            declare(alloc, outline, inside, kind, name, method.place)?;
         }
-    }
-    Ok(())
-}
-
-fn walk_method<'a>(
-    alloc: Global,
-    outline: &mut Outline<'a>,
-    scope: Scope<'_>,
-    method: &'a Method,
-) -> Result<(), AllocError> {
-    let kind = DeclaredKind::Method;
-    declare(
-        alloc,
-        outline,
-        scope,
-        kind,
-        method.name.as_str(),
-        method.place,
-    )?;
-    note_type(outline, &method.input, method.place)?;
-    note_type(outline, &method.output, method.place)?;
-    for option in &method.options {
-        note_statement(outline, Construct::Method, option)?;
     }
     Ok(())
 }

@@ -1,17 +1,17 @@
 //! What the statements of a message's body declare.
 
-ghost use Rattle.std.specs.Prelude.{◌≡◌, ◌<◌, ◌^◌, true, false, length};
+ghost use Rattle.std.specs.Prelude.{◌≡◌, ◌++◌, ◌<◌, ◌^◌, true, false, length, OnOk};
 ghost use Rattle.protobuf_parse_base.specs.DeclaredNames.{name_bytes};
 ghost use Rattle.protobuf_parse_syntax.specs.Trees as tree;
 ghost use Rattle.protobuf_parse_model.specs.SeenFiles.{environment_in};
 ghost use Rattle.protobuf_parse_model.specs.Descriptors as described;
-ghost use Rattle.protobuf_parse_model.specs.Faults.{Elaborates};
+ghost use Rattle.protobuf_parse_model.specs.Faults.{found};
 ghost use Rattle.protobuf_parse_model.specs.Statements as statements;
 ghost use Rattle.protobuf_parse_elaboration.specs.Parts.{body_view};
 ghost use Rattle.protobuf_parse_elaboration.specs.Parts.{message_of_both, rest_view};
 ghost use Rattle.protobuf_parse_elaboration.specs.Parts.{with_body_statement};
 ghost use Rattle.protobuf_parse_elaboration.specs.Enums.{enum_faults};
-ghost use Rattle.protobuf_parse_elaboration.specs.Fields.{field_statement_faults};
+ghost use Rattle.protobuf_parse_elaboration.specs.Fields.{field_faults, field_statement_faults};
 ghost use Rattle.protobuf_parse_elaboration.specs.Messages.{extend_faults, has_own_oneof, oneof_faults};
 
 use crate::convert::enumeration::enum_descriptor;
@@ -21,13 +21,14 @@ use crate::convert::oneof::{has_own_oneof, oneof_descriptor, own_oneof};
 use crate::convert::place::FieldPlace;
 use crate::convert::rest::Rest;
 use crate::convert::statement::declared_field;
+use crate::convert::viewpoint::Viewpoint;
 use protobuf_parse_base::Name;
 use protobuf_parse_model::{
-    Context, CustomOptions, DescriptorProto, ElabFailure, EnumDescriptorProto,
-    FieldDescriptorProto, OneofDescriptorProto,
+    CustomOptions, DescriptorProto, ElabError, EnumDescriptorProto, FieldDescriptorProto,
+    OneofDescriptorProto,
 };
 use protobuf_parse_syntax::{Enumeration, Extend, Field, FieldStatement, OneOf};
-use std::alloc::Global;
+use std::alloc::AllocError;
 
 /// What the statements of a message's body declare, each list in source order.
 pub struct Body {
@@ -81,45 +82,45 @@ impl Body {
 
 /// Adds a field, with the oneof of its own and the message behind it, where there are any.
 pub fn add_field<C: CustomOptions>(
-    alloc: Global,
-    context: &Context<'_>,
-    custom: &C,
+    at: &Viewpoint<'_, '_, C>,
+    faults: &mut Vec<ElabError>,
     body: &mut Body,
     statement: &FieldStatement,
-) -> Result<(), ElabFailure>
+) -> Result<(), AllocError>
     requires { length body.old.oneof_decl.items < 2 ^ 31 }
-    ensures { let env = environment_in (C.customs custom.now) context.now in
-        let s = tree.field_statement_syntax statement.now in
-        Elaborates (λ _. body_view body.new) result (field_statement_faults env s)
-        (with_body_statement env (body_view body.old) (tree.message_field s)) }
+    ensures value { let env = environment_in (C.customs at.now.custom.now) at.now.context in
+        let s = tree.message_field (tree.field_statement_syntax statement.now) in
+        OnOk result (body_view body.new ≡ with_body_statement env (body_view body.old) s) }
+    ensures faults { let env = environment_in (C.customs at.now.custom.now) at.now.context in
+        OnOk result (found faults.new ≡ found faults.old ++ field_statement_faults env (tree.field_statement_syntax statement.now)) }
 {
-    if has_own_oneof(context, statement) {
-        add_in_own_oneof(alloc, context, custom, body, statement)
+    if has_own_oneof(at.context.syntax, statement) {
+        add_in_own_oneof(at, faults, body, statement)
     } else {
-        add_plain(alloc, context, custom, body, statement)
+        add_plain(at, faults, body, statement)
     }
 }
 
 /// Adds a field that is in no oneof.
 fn add_plain<C: CustomOptions>(
-    alloc: Global,
-    context: &Context<'_>,
-    custom: &C,
+    at: &Viewpoint<'_, '_, C>,
+    faults: &mut Vec<ElabError>,
     body: &mut Body,
     statement: &FieldStatement,
-) -> Result<(), ElabFailure>
-    requires { has_own_oneof (environment_in (C.customs custom.now) context.now)
+) -> Result<(), AllocError>
+    requires { has_own_oneof (environment_in (C.customs at.now.custom.now) at.now.context)
         (tree.field_statement_syntax statement.now) ≡ false }
-    ensures { let env = environment_in (C.customs custom.now) context.now in
-        let s = tree.field_statement_syntax statement.now in
-        Elaborates (λ _. body_view body.new) result (field_statement_faults env s)
-        (with_body_statement env (body_view body.old) (tree.message_field s)) }
+    ensures value { let env = environment_in (C.customs at.now.custom.now) at.now.context in
+        let s = tree.message_field (tree.field_statement_syntax statement.now) in
+        OnOk result (body_view body.new ≡ with_body_statement env (body_view body.old) s) }
+    ensures faults { let env = environment_in (C.customs at.now.custom.now) at.now.context in
+        OnOk result (found faults.new ≡ found faults.old ++ field_statement_faults env (tree.field_statement_syntax statement.now)) }
 {
     match statement {
         FieldStatement::Field(field) if !is_map(&field.type_) => {
-            add_without_message(alloc, context, custom, body, field)
+            add_without_message(at, faults, body, field)
         }
-        _ => add_with_message(alloc, context, custom, body, statement),
+        _ => add_with_message(at, faults, body, statement),
     }
 }
 
@@ -127,138 +128,135 @@ fn add_plain<C: CustomOptions>(
 #[inline(always)]
 #[tactic(auto, using(crate::proofs::Bodies::no_entries))]
 fn add_without_message<C: CustomOptions>(
-    alloc: Global,
-    context: &Context<'_>,
-    custom: &C,
+    at: &Viewpoint<'_, '_, C>,
+    faults: &mut Vec<ElabError>,
     body: &mut Body,
     field: &Field,
-) -> Result<(), ElabFailure>
+) -> Result<(), AllocError>
     requires plain { statements.is_map (tree.type_syntax field.now.type_) ≡ false }
-    requires own { has_own_oneof (environment_in (C.customs custom.now) context.now)
+    requires own { has_own_oneof (environment_in (C.customs at.now.custom.now) at.now.context)
         (tree.field (tree.field_syntax field.now)) ≡ false }
-    ensures { let env = environment_in (C.customs custom.now) context.now in
-        let s = tree.field (tree.field_syntax field.now) in
-        Elaborates (λ _. body_view body.new) result (field_statement_faults env s)
-        (with_body_statement env (body_view body.old) (tree.message_field s)) }
+    ensures value { let env = environment_in (C.customs at.now.custom.now) at.now.context in
+        let s = tree.message_field (tree.field (tree.field_syntax field.now)) in
+        OnOk result (body_view body.new ≡ with_body_statement env (body_view body.old) s) }
+    ensures faults { let env = environment_in (C.customs at.now.custom.now) at.now.context in
+        OnOk result (found faults.new ≡ found faults.old ++ field_faults env (tree.field_syntax field.now)) }
 {
     let place = FieldPlace {
         extendee: None,
         oneof_index: None,
     };
-    let descriptor = field_descriptor(alloc, context, custom, &place, field)?;
+    let descriptor = field_descriptor(at, faults, &place, field)?;
     body.field.push(descriptor)?;
     Ok(())
 }
 
 /// Adds a field that is in no oneof, and the message behind it, if one stands there.
 fn add_with_message<C: CustomOptions>(
-    alloc: Global,
-    context: &Context<'_>,
-    custom: &C,
+    at: &Viewpoint<'_, '_, C>,
+    faults: &mut Vec<ElabError>,
     body: &mut Body,
     statement: &FieldStatement,
-) -> Result<(), ElabFailure>
-    requires { has_own_oneof (environment_in (C.customs custom.now) context.now)
+) -> Result<(), AllocError>
+    requires { has_own_oneof (environment_in (C.customs at.now.custom.now) at.now.context)
         (tree.field_statement_syntax statement.now) ≡ false }
-    ensures { let env = environment_in (C.customs custom.now) context.now in
-        let s = tree.field_statement_syntax statement.now in
-        Elaborates (λ _. body_view body.new) result (field_statement_faults env s)
-        (with_body_statement env (body_view body.old) (tree.message_field s)) }
+    ensures value { let env = environment_in (C.customs at.now.custom.now) at.now.context in
+        let s = tree.message_field (tree.field_statement_syntax statement.now) in
+        OnOk result (body_view body.new ≡ with_body_statement env (body_view body.old) s) }
+    ensures faults { let env = environment_in (C.customs at.now.custom.now) at.now.context in
+        OnOk result (found faults.new ≡ found faults.old ++ field_statement_faults env (tree.field_statement_syntax statement.now)) }
 {
     let place = FieldPlace {
         extendee: None,
         oneof_index: None,
     };
-    let declared = declared_field(alloc, context, custom, &place, statement)?;
+    let declared = declared_field(at, faults, &place, statement)?;
     declared.push_to(&mut body.field, &mut body.nested_type)?;
     Ok(())
 }
 
 /// Adds a field that is alone in a oneof.
 fn add_in_own_oneof<C: CustomOptions>(
-    alloc: Global,
-    context: &Context<'_>,
-    custom: &C,
+    at: &Viewpoint<'_, '_, C>,
+    faults: &mut Vec<ElabError>,
     body: &mut Body,
     statement: &FieldStatement,
-) -> Result<(), ElabFailure>
+) -> Result<(), AllocError>
     requires few { length body.old.oneof_decl.items < 2 ^ 31 }
-    requires own { has_own_oneof (environment_in (C.customs custom.now) context.now)
+    requires own { has_own_oneof (environment_in (C.customs at.now.custom.now) at.now.context)
         (tree.field_statement_syntax statement.now) ≡ true }
-    ensures { let env = environment_in (C.customs custom.now) context.now in
-        let s = tree.field_statement_syntax statement.now in
-        Elaborates (λ _. body_view body.new) result (field_statement_faults env s)
-        (with_body_statement env (body_view body.old) (tree.message_field s)) }
+    ensures value { let env = environment_in (C.customs at.now.custom.now) at.now.context in
+        let s = tree.message_field (tree.field_statement_syntax statement.now) in
+        OnOk result (body_view body.new ≡ with_body_statement env (body_view body.old) s) }
+    ensures faults { let env = environment_in (C.customs at.now.custom.now) at.now.context in
+        OnOk result (found faults.new ≡ found faults.old ++ field_statement_faults env (tree.field_statement_syntax statement.now)) }
 {
     let place = FieldPlace {
         extendee: None,
         oneof_index: Some(body.oneof_decl.len()),
     };
-    let declared = declared_field(alloc, context, custom, &place, statement)?;
-    let own = own_oneof(alloc, &declared)?;
+    let declared = declared_field(at, faults, &place, statement)?;
+    let own = own_oneof(at.alloc, &declared)?;
     body.oneof_decl.push(own)?;
     declared.push_to(&mut body.field, &mut body.nested_type)?;
     Ok(())
 }
 
 /// Adds a oneof, its fields and the messages behind them.
-#[tactic(auto, using(protobuf_parse_model::proofs::Blaming::blames_left, protobuf_parse_model::proofs::Blaming::blames_right))]
 pub fn add_oneof<C: CustomOptions>(
-    alloc: Global,
-    context: &Context<'_>,
-    custom: &C,
+    at: &Viewpoint<'_, '_, C>,
+    faults: &mut Vec<ElabError>,
     body: &mut Body,
     oneof: &OneOf,
-) -> Result<(), ElabFailure>
+) -> Result<(), AllocError>
     requires { length body.old.oneof_decl.items < 2 ^ 31 }
-    ensures { let env = environment_in (C.customs custom.now) context.now in
-        let o = tree.oneof_syntax oneof.now in
-        Elaborates (λ _. body_view body.new) result (oneof_faults env o)
-        (with_body_statement env (body_view body.old) (tree.message_oneof o)) }
+    ensures value { let env = environment_in (C.customs at.now.custom.now) at.now.context in
+        let s = tree.message_oneof (tree.oneof_syntax oneof.now) in
+        OnOk result (body_view body.new ≡ with_body_statement env (body_view body.old) s) }
+    ensures faults { let env = environment_in (C.customs at.now.custom.now) at.now.context in
+        OnOk result (found faults.new ≡ found faults.old ++ oneof_faults env (tree.oneof_syntax oneof.now)) }
 {
     let place = FieldPlace {
         extendee: None,
         oneof_index: Some(body.oneof_decl.len()),
     };
-    let declared = fields_of_oneof(alloc, context, custom, &place, oneof)?;
-    let descriptor = oneof_descriptor(alloc, context, custom, oneof)?;
+    let declared = fields_of_oneof(at, faults, &place, oneof)?;
+    let descriptor = oneof_descriptor(at, faults, oneof)?;
     body.oneof_decl.push(descriptor)?;
-    append_declared(&mut body.field, &mut body.nested_type, declared)?;
-    Ok(())
+    append_declared(&mut body.field, &mut body.nested_type, declared)
 }
 
 /// Adds the extensions of an `extend`, and the messages behind their groups.
 pub fn add_extend<C: CustomOptions>(
-    alloc: Global,
-    context: &Context<'_>,
-    custom: &C,
+    at: &Viewpoint<'_, '_, C>,
+    faults: &mut Vec<ElabError>,
     body: &mut Body,
     extend: &Extend,
-) -> Result<(), ElabFailure>
-    ensures { let env = environment_in (C.customs custom.now) context.now in
-        let e = tree.extend_syntax extend.now in
-        Elaborates (λ _. body_view body.new) result (extend_faults env e)
-        (with_body_statement env (body_view body.old) (tree.message_extend e)) }
+) -> Result<(), AllocError>
+    ensures value { let env = environment_in (C.customs at.now.custom.now) at.now.context in
+        let s = tree.message_extend (tree.extend_syntax extend.now) in
+        OnOk result (body_view body.new ≡ with_body_statement env (body_view body.old) s) }
+    ensures faults { let env = environment_in (C.customs at.now.custom.now) at.now.context in
+        OnOk result (found faults.new ≡ found faults.old ++ extend_faults env (tree.extend_syntax extend.now)) }
 {
-    let declared = fields_of_extend(alloc, context, custom, &extend.extendee, &extend.fields)?;
-    append_declared(&mut body.extension, &mut body.nested_type, declared)?;
-    Ok(())
+    let declared = fields_of_extend(at, faults, extend.place, &extend.extendee, &extend.fields)?;
+    append_declared(&mut body.extension, &mut body.nested_type, declared)
 }
 
 /// Adds an enum.
 pub fn add_enum<C: CustomOptions>(
-    alloc: Global,
-    context: &Context<'_>,
-    custom: &C,
+    at: &Viewpoint<'_, '_, C>,
+    faults: &mut Vec<ElabError>,
     body: &mut Body,
     enumeration: &Enumeration,
-) -> Result<(), ElabFailure>
-    ensures { let env = environment_in (C.customs custom.now) context.now in
-        let e = tree.enum_syntax enumeration.now in
-        Elaborates (λ _. body_view body.new) result (enum_faults env e)
-        (with_body_statement env (body_view body.old) (tree.message_enum e)) }
+) -> Result<(), AllocError>
+    ensures value { let env = environment_in (C.customs at.now.custom.now) at.now.context in
+        let s = tree.message_enum (tree.enum_syntax enumeration.now) in
+        OnOk result (body_view body.new ≡ with_body_statement env (body_view body.old) s) }
+    ensures faults { let env = environment_in (C.customs at.now.custom.now) at.now.context in
+        OnOk result (found faults.new ≡ found faults.old ++ enum_faults env (tree.enum_syntax enumeration.now)) }
 {
-    let descriptor = enum_descriptor(alloc, context, custom, enumeration)?;
+    let descriptor = enum_descriptor(at, faults, enumeration)?;
     body.enum_type.push(descriptor)?;
     Ok(())
 }

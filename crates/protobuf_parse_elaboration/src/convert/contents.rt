@@ -1,29 +1,34 @@
 //! What the statements of a file declare.
 
-ghost use Rattle.std.specs.Prelude.{◌≡◌, ◌++◌, ◌≤◌, map, flat_map, sum_by};
+ghost use Rattle.std.specs.Prelude.{◌≡◌, ◌++◌, ◌≤◌, List, map, flat_map, sum_by, IfOk, OnOk};
 ghost use Rattle.protobuf_parse_syntax.specs.Counts.{statement_count};
-ghost use Rattle.protobuf_parse_syntax.specs.Trees.{extend_syntax, file_extend, statement_syntax};
+ghost use Rattle.protobuf_parse_syntax.specs.Trees.{StatementSyntax, extend_syntax, file_extend};
+ghost use Rattle.protobuf_parse_syntax.specs.Trees.{statement_syntax};
+ghost use Rattle.protobuf_parse_model.specs.Environment.{Environment};
 ghost use Rattle.protobuf_parse_model.specs.SeenFiles.{environment_in};
 ghost use Rattle.protobuf_parse_model.specs.Descriptors as described;
-ghost use Rattle.protobuf_parse_model.specs.Faults.{Elaborates};
-ghost use Rattle.protobuf_parse_elaboration.specs.FileDescriptor.{file_faults_of};
-ghost use Rattle.protobuf_parse_elaboration.specs.FileParts.{parts_faults, parts_of_file, parts_view};
+ghost use Rattle.protobuf_parse_model.specs.Faults.{found};
+ghost use Rattle.protobuf_parse_elaboration.specs.FileDescriptor.{file_duplicates, file_faults_of};
+ghost use Rattle.protobuf_parse_elaboration.specs.FileParts.{AreFilePlaces, parts_of_file, parts_view};
 ghost use Rattle.protobuf_parse_elaboration.specs.FileParts.{file_with, heading_view, no_parts};
 ghost use Rattle.protobuf_parse_elaboration.specs.FileParts.{with_file_statement};
 ghost use Rattle.protobuf_parse_elaboration.specs.Messages.{extend_faults};
 
+use crate::convert::declared::{DeclaredAs, places_of};
 use crate::convert::enumeration::enum_descriptor;
 use crate::convert::heading::Heading;
 use crate::convert::lists::{append_declared, fields_of_extend, shrunk};
 use crate::convert::message::message_descriptor;
-use crate::convert::names::check_unlike;
 use crate::convert::service::service_descriptor;
+use crate::convert::told::tell_repeated;
+use crate::convert::viewpoint::Viewpoint;
+use protobuf_parse_lexer::Place;
 use protobuf_parse_model::{
-    Context, CustomOptions, DescriptorProto, ElabFailure, EnumDescriptorProto,
-    FieldDescriptorProto, FileDescriptorProto, ServiceDescriptorProto,
+    CustomOptions, DescriptorProto, ElabError, EnumDescriptorProto, FieldDescriptorProto,
+    FileDescriptorProto, ServiceDescriptorProto,
 };
-use protobuf_parse_syntax::{Extend, FileStatement};
-use std::alloc::Global;
+use protobuf_parse_syntax::{Extend, FileStatement, Syntax};
+use std::alloc::{AllocError, Global};
 
 /// What the statements of a file declare, each list in source order.
 pub struct Contents {
@@ -85,127 +90,166 @@ impl Contents {
     }
 }
 
-/// What these statements declare, of which no two of a kind have one name: E1. The faults inside
-/// each are told too.
-#[tactic(auto, using(protobuf_parse_model::proofs::Blaming::blames_left, protobuf_parse_model::proofs::Blaming::blames_right))]
-pub fn contents_of<C: CustomOptions>(
+/// Where what the statements of a file declare stands, by kinds, each list in source order.
+#[derive(Drop)]
+struct FilePlaces {
+    messages: Vec<Place>,
+    enums: Vec<Place>,
+    extensions: Vec<Place>,
+    services: Vec<Place>,
+}
+
+fn file_places(
     alloc: Global,
-    context: &Context<'_>,
-    custom: &C,
+    syntax: Syntax,
     statements: &[FileStatement],
-) -> Result<Contents, ElabFailure>
-    requires few { sum_by statement_count (map statement_syntax statements.now) ≤ 2147483647 }
-    ensures { let env = environment_in (C.customs custom.now) context.now in
-        let ss = map statement_syntax statements.now in
-        Elaborates parts_view result
-        (parts_faults (parts_of_file env ss) ++ flat_map (file_faults_of env) ss)
-        (parts_of_file env ss) }
+) -> Result<FilePlaces, AllocError>
+    ensures { IfOk result
+        (λ p. AreFilePlaces p (map statement_syntax statements.now)) }
 {
-    let contents = declared(alloc, context, custom, statements)?;
-    check_names(alloc, &contents)?;
+    let messages = places_of(alloc, DeclaredAs::Message, syntax, statements)?;
+    let enums = places_of(alloc, DeclaredAs::Enum, syntax, statements)?;
+    let extensions = places_of(alloc, DeclaredAs::Extension, syntax, statements)?;
+    let services = places_of(alloc, DeclaredAs::Other, syntax, statements)?;
+    Ok(FilePlaces {
+        messages,
+        enums,
+        extensions,
+        services,
+    })
+}
+
+/// What these statements declare. E1 where two of a kind have one name, and the faults inside each.
+pub fn contents_of<C: CustomOptions>(
+    at: &Viewpoint<'_, '_, C>,
+    faults: &mut Vec<ElabError>,
+    statements: &[FileStatement],
+) -> Result<Contents, AllocError>
+    requires few { sum_by statement_count (map statement_syntax statements.now) ≤ 2147483647 }
+    ensures value { let env = environment_in (C.customs at.now.custom.now) at.now.context in
+        IfOk result (λ c. parts_view c ≡ parts_of_file env (map statement_syntax statements.now)) }
+    ensures faults { let env = environment_in (C.customs at.now.custom.now) at.now.context in
+        let ss = map statement_syntax statements.now in
+        OnOk result (found faults.new ≡ found faults.old
+        ++ (flat_map (file_faults_of env) ss ++ file_duplicates ss)) }
+{
+    let places = file_places(at.alloc, at.context.syntax, statements)?;
+    let contents = declared(at, faults, statements)?;
+    tell_file_names(at.alloc, faults, &contents, &places)?;
     Ok(contents)
 }
 
-/// Refuses two messages, enums, extensions or services that have one name: E1.
-#[tactic(auto, using(crate::proofs::Naming::named_in_file))]
-fn check_names(alloc: Global, contents: &Contents) -> Result<(), ElabFailure>
-    ensures { Elaborates (λ u. u) result (parts_faults (parts_view contents.now)) tt }
+/// E1 where two messages, enums, extensions or services have one name.
+fn tell_file_names(
+    alloc: Global,
+    faults: &mut Vec<ElabError>,
+    contents: &Contents,
+    places: &FilePlaces,
+) -> Result<(), AllocError>
+    requires { (ss : List StatementSyntax) × (env : Environment)
+        × (parts_view contents.now ≡ parts_of_file env ss) × AreFilePlaces places.now ss }
+    ensures { (ss : List StatementSyntax) (env : Environment)
+        → parts_view contents.now ≡ parts_of_file env ss → AreFilePlaces places.now ss
+        → OnOk result (found faults.new ≡ found faults.old ++ file_duplicates ss) }
 {
-    check_unlike(alloc, &contents.message_type)?;
-    check_unlike(alloc, &contents.enum_type)?;
-    check_unlike(alloc, &contents.extension)?;
-    check_unlike(alloc, &contents.service)
+    tell_repeated(alloc, faults, &contents.message_type, &places.messages)?;
+    tell_repeated(alloc, faults, &contents.enum_type, &places.enums)?;
+    tell_repeated(alloc, faults, &contents.extension, &places.extensions)?;
+    tell_repeated(alloc, faults, &contents.service, &places.services)
 }
 
 /// What these statements declare.
-#[tactic(auto, using(protobuf_parse_model::proofs::Blaming::blames_at))]
 fn declared<C: CustomOptions>(
-    alloc: Global,
-    context: &Context<'_>,
-    custom: &C,
+    at: &Viewpoint<'_, '_, C>,
+    faults: &mut Vec<ElabError>,
     statements: &[FileStatement],
-) -> Result<Contents, ElabFailure>
+) -> Result<Contents, AllocError>
     requires few { sum_by statement_count (map statement_syntax statements.now) ≤ 2147483647 }
-    ensures { let env = environment_in (C.customs custom.now) context.now in
-        let ss = map statement_syntax statements.now in
-        Elaborates parts_view result (flat_map (file_faults_of env) ss) (parts_of_file env ss) }
+    ensures value { let env = environment_in (C.customs at.now.custom.now) at.now.context in
+        IfOk result (λ c. parts_view c ≡ parts_of_file env (map statement_syntax statements.now)) }
+    ensures faults { let env = environment_in (C.customs at.now.custom.now) at.now.context in
+        OnOk result (found faults.new ≡ found faults.old
+        ++ flat_map (file_faults_of env) (map statement_syntax statements.now)) }
 {
-    let mut contents = Contents::new(alloc);
+    let mut contents = Contents::new(at.alloc);
     for statement in statements {
-        add_statement(alloc, context, custom, &mut contents, statement)?;
+        add_statement(at, faults, &mut contents, statement)?;
     }
     Ok(contents)
 }
 
 /// As `contents_of`, of statements that are dropped one by one, so that not all of them stand
 /// beside all that they become.
-#[tactic(auto, using(protobuf_parse_model::proofs::Blaming::blames_left, protobuf_parse_model::proofs::Blaming::blames_right))]
 pub fn contents_of_owned<C: CustomOptions>(
-    alloc: Global,
-    context: &Context<'_>,
-    custom: &C,
+    at: &Viewpoint<'_, '_, C>,
+    faults: &mut Vec<ElabError>,
     statements: Vec<FileStatement>,
-) -> Result<Contents, ElabFailure>
+) -> Result<Contents, AllocError>
     requires few { sum_by statement_count (map statement_syntax statements.items) ≤ 2147483647 }
-    ensures { let env = environment_in (C.customs custom.now) context.now in
+    ensures value { let env = environment_in (C.customs at.now.custom.now) at.now.context in
+        IfOk result
+        (λ c. parts_view c ≡ parts_of_file env (map statement_syntax statements.items)) }
+    ensures faults { let env = environment_in (C.customs at.now.custom.now) at.now.context in
         let ss = map statement_syntax statements.items in
-        Elaborates parts_view result
-        (parts_faults (parts_of_file env ss) ++ flat_map (file_faults_of env) ss)
-        (parts_of_file env ss) }
+        OnOk result (found faults.new ≡ found faults.old
+        ++ (flat_map (file_faults_of env) ss ++ file_duplicates ss)) }
 {
-    let contents = declared_by_owned(alloc, context, custom, statements)?;
-    check_names(alloc, &contents)?;
+    let places = file_places(at.alloc, at.context.syntax, &statements)?;
+    let contents = declared_by_owned(at, faults, statements)?;
+    tell_file_names(at.alloc, faults, &contents, &places)?;
     Ok(contents)
 }
 
 /// What these statements declare, each dropped once that is known.
-#[tactic(auto, using(protobuf_parse_model::proofs::Blaming::blames_at))]
 fn declared_by_owned<C: CustomOptions>(
-    alloc: Global,
-    context: &Context<'_>,
-    custom: &C,
+    at: &Viewpoint<'_, '_, C>,
+    faults: &mut Vec<ElabError>,
     statements: Vec<FileStatement>,
-) -> Result<Contents, ElabFailure>
+) -> Result<Contents, AllocError>
     requires few { sum_by statement_count (map statement_syntax statements.items) ≤ 2147483647 }
-    ensures { let env = environment_in (C.customs custom.now) context.now in
-        let ss = map statement_syntax statements.items in
-        Elaborates parts_view result (flat_map (file_faults_of env) ss) (parts_of_file env ss) }
+    ensures value { let env = environment_in (C.customs at.now.custom.now) at.now.context in
+        IfOk result
+        (λ c. parts_view c ≡ parts_of_file env (map statement_syntax statements.items)) }
+    ensures faults { let env = environment_in (C.customs at.now.custom.now) at.now.context in
+        OnOk result (found faults.new ≡ found faults.old
+        ++ flat_map (file_faults_of env) (map statement_syntax statements.items)) }
 {
-    let mut contents = Contents::new(alloc);
+    let mut contents = Contents::new(at.alloc);
     for statement in statements {
-        add_statement(alloc, context, custom, &mut contents, &statement)?;
+        add_statement(at, faults, &mut contents, &statement)?;
     }
     Ok(contents)
 }
 
 /// Adds what a statement declares.
 fn add_statement<C: CustomOptions>(
-    alloc: Global,
-    context: &Context<'_>,
-    custom: &C,
+    at: &Viewpoint<'_, '_, C>,
+    faults: &mut Vec<ElabError>,
     contents: &mut Contents,
     statement: &FileStatement,
-) -> Result<(), ElabFailure>
+) -> Result<(), AllocError>
     requires few { statement_count (statement_syntax statement.now) ≤ 2147483647 }
-    ensures { let env = environment_in (C.customs custom.now) context.now in
+    ensures value { let env = environment_in (C.customs at.now.custom.now) at.now.context in
         let s = statement_syntax statement.now in
-        Elaborates (λ _. parts_view contents.new) result (file_faults_of env s)
-        (with_file_statement env (parts_view contents.old) s) }
+        OnOk result (parts_view contents.new ≡ with_file_statement env (parts_view contents.old) s) }
+    ensures faults { let env = environment_in (C.customs at.now.custom.now) at.now.context in
+        OnOk result (found faults.new ≡ found faults.old
+        ++ file_faults_of env (statement_syntax statement.now)) }
 {
     match statement {
         FileStatement::Message(message) => {
-            let descriptor = message_descriptor(alloc, context, custom, message)?;
+            let descriptor = message_descriptor(at, faults, message)?;
             contents.message_type.push(descriptor)?;
         }
         FileStatement::Enumeration(enumeration) => {
-            let descriptor = enum_descriptor(alloc, context, custom, enumeration)?;
+            let descriptor = enum_descriptor(at, faults, enumeration)?;
             contents.enum_type.push(descriptor)?;
         }
         FileStatement::Service(service) => {
-            let descriptor = service_descriptor(alloc, context, custom, service)?;
+            let descriptor = service_descriptor(at, faults, service)?;
             contents.service.push(descriptor)?;
         }
-        FileStatement::Extend(extend) => add_extensions(alloc, context, custom, contents, extend)?,
+        FileStatement::Extend(extend) => add_extensions(at, faults, contents, extend)?,
         FileStatement::Import(_) | FileStatement::Package(_) | FileStatement::Option(_) => {}
     }
     Ok(())
@@ -213,22 +257,22 @@ fn add_statement<C: CustomOptions>(
 
 /// Adds the extensions of an `extend`, and the messages behind their groups.
 fn add_extensions<C: CustomOptions>(
-    alloc: Global,
-    context: &Context<'_>,
-    custom: &C,
+    at: &Viewpoint<'_, '_, C>,
+    faults: &mut Vec<ElabError>,
     contents: &mut Contents,
     extend: &Extend,
-) -> Result<(), ElabFailure>
-    ensures { let env = environment_in (C.customs custom.now) context.now in
-        let e = extend_syntax extend.now in
-        Elaborates (λ _. parts_view contents.new) result (extend_faults env e)
-        (with_file_statement env (parts_view contents.old) (file_extend e)) }
+) -> Result<(), AllocError>
+    ensures value { let env = environment_in (C.customs at.now.custom.now) at.now.context in
+        let s = file_extend (extend_syntax extend.now) in
+        OnOk result (parts_view contents.new ≡ with_file_statement env (parts_view contents.old) s) }
+    ensures faults { let env = environment_in (C.customs at.now.custom.now) at.now.context in
+        OnOk result (found faults.new ≡ found faults.old
+        ++ extend_faults env (extend_syntax extend.now)) }
 {
-    let declared = fields_of_extend(alloc, context, custom, &extend.extendee, &extend.fields)?;
+    let declared = fields_of_extend(at, faults, extend.place, &extend.extendee, &extend.fields)?;
     append_declared(
         &mut contents.extension,
         &mut contents.message_type,
         declared,
-    )?;
-    Ok(())
+    )
 }

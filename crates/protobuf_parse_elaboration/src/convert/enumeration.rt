@@ -1,11 +1,12 @@
 //! Enums.
 
-ghost use Rattle.std.specs.Prelude.{◌≡◌, map, flat_map, option_map, string_bytes, IfOk};
+ghost use Rattle.std.specs.Prelude.{◌≡◌, ◌++◌, map, flat_map, option_map, string_bytes, IfOk, OnOk};
 ghost use Rattle.protobuf_parse_syntax.specs.Trees as tree;
 ghost use Rattle.protobuf_parse_model.specs.BuiltinOptions.{enum_table};
 ghost use Rattle.protobuf_parse_model.specs.SeenFiles.{environment_in};
 ghost use Rattle.protobuf_parse_model.specs.Descriptors as described;
-ghost use Rattle.protobuf_parse_model.specs.Faults.{Elaborates};
+ghost use Rattle.protobuf_parse_model.specs.Duplicates.{duplicates};
+ghost use Rattle.protobuf_parse_model.specs.Faults.{found};
 ghost use Rattle.protobuf_parse_model.specs.Environment.{customs_bytes};
 ghost use Rattle.protobuf_parse_model.specs.declared.customs.Construct.TheVariants as of;
 ghost use Rattle.protobuf_parse_model.specs.Options.{enum_options_view};
@@ -15,14 +16,16 @@ ghost use Rattle.protobuf_parse_elaboration.specs.Parts.{reserves_seen};
 ghost use Rattle.protobuf_parse_elaboration.specs.Parts.{values_seen};
 ghost use Rattle.protobuf_parse_elaboration.specs.Enums as enums;
 
-use crate::convert::names::check_unlike;
+use crate::convert::declared::DeclaredAs;
 use crate::convert::options::{
-    checked_customs, enum_options, enum_value_options, options_in, options_of,
+    custom_bytes, enum_options, enum_value_options, options_in, options_of,
 };
 use crate::convert::reserved::{inclusive_ranges, names_reserved, ranges_reserved};
+use crate::convert::told::tell_names;
+use crate::convert::viewpoint::Viewpoint;
 use protobuf_parse_model::{
-    Construct, Context, CustomOptions, ElabFailure, EnumDescriptorProto, EnumOptions,
-    EnumReservedRange, EnumValueDescriptorProto,
+    Construct, CustomOptions, ElabError, EnumDescriptorProto, EnumOptions, EnumReservedRange,
+    EnumValueDescriptorProto,
 };
 use protobuf_parse_syntax::{EnumStatement, EnumValue, Enumeration, Reserved};
 use std::alloc::{AllocError, Global};
@@ -30,21 +33,22 @@ use std::alloc::{AllocError, Global};
 /// The descriptor of an enum.
 ///
 /// E1 where two of its values have one name, and the faults of its options.
-#[tactic(auto, using(protobuf_parse_model::proofs::Blaming::blames_left, protobuf_parse_model::proofs::Blaming::blames_right))]
 pub fn enum_descriptor<C: CustomOptions>(
-    alloc: Global,
-    context: &Context<'_>,
-    custom: &C,
+    at: &Viewpoint<'_, '_, C>,
+    faults: &mut Vec<ElabError>,
     enumeration: &Enumeration,
-) -> Result<EnumDescriptorProto, ElabFailure>
-    ensures { let env = environment_in (C.customs custom.now) context.now in
-        let e = tree.enum_syntax enumeration.now in
-        Elaborates described.enum_view result (enums.enum_faults env e) (enums.enum_of env e) }
+) -> Result<EnumDescriptorProto, AllocError>
+    ensures value { let env = environment_in (C.customs at.now.custom.now) at.now.context in
+        IfOk result (λ d. described.enum_view d
+        ≡ enums.enum_of env (tree.enum_syntax enumeration.now)) }
+    ensures faults { let env = environment_in (C.customs at.now.custom.now) at.now.context in
+        OnOk result (found faults.new ≡ found faults.old
+        ++ enums.enum_faults env (tree.enum_syntax enumeration.now)) }
 {
-    let value = enum_values(alloc, context, custom, &enumeration.body)?;
-    let reserved = reserved(alloc, &enumeration.body)?;
+    let value = enum_values(at, faults, &enumeration.body)?;
+    let reserved = reserved(at.alloc, &enumeration.body)?;
     let name = enumeration.name.clone()?;
-    let options = checked_options(alloc, context, custom, &enumeration.body)?;
+    let options = told_options(at, faults, &enumeration.body)?;
     Ok(EnumDescriptorProto {
         name,
         value,
@@ -54,37 +58,55 @@ pub fn enum_descriptor<C: CustomOptions>(
     })
 }
 
-/// The descriptors of the values, whose names differ: E1.
+/// The descriptors of the values. E1 where two have one name.
 fn enum_values<C: CustomOptions>(
-    alloc: Global,
-    context: &Context<'_>,
-    custom: &C,
+    at: &Viewpoint<'_, '_, C>,
+    faults: &mut Vec<ElabError>,
     body: &[EnumStatement],
-) -> Result<Vec<EnumValueDescriptorProto>, ElabFailure>
-    ensures { let env = environment_in (C.customs custom.now) context.now in
+) -> Result<Vec<EnumValueDescriptorProto>, AllocError>
+    ensures value { let env = environment_in (C.customs at.now.custom.now) at.now.context in
         let vs = flat_map enums.enum_values (map tree.enum_statement_syntax body.now) in
-        Elaborates (λ v. map described.enum_value_view v.items) result (enums.values_faults env vs)
-        (map (enums.value_of env) vs) }
+        IfOk result (λ v. map described.enum_value_view v.items ≡ map (enums.value_of env) vs) }
+    ensures faults { let env = environment_in (C.customs at.now.custom.now) at.now.context in
+        let vs = flat_map enums.enum_values (map tree.enum_statement_syntax body.now) in
+        OnOk result (found faults.new ≡ found faults.old ++ enums.values_faults env vs) }
 {
-    let values = values(alloc, body)?;
-    unlike_values(alloc, context, custom, &values)
+    let values = values(at.alloc, body)?;
+    unlike_values(at, faults, &values)
 }
 
-/// The descriptors of these values, whose names differ: E1.
-#[tactic(auto, using(crate::proofs::Naming::named_in_enum))]
+/// The descriptors of these values. E1 where two have one name.
 fn unlike_values<C: CustomOptions>(
-    alloc: Global,
-    context: &Context<'_>,
-    custom: &C,
+    at: &Viewpoint<'_, '_, C>,
+    faults: &mut Vec<ElabError>,
     values: &[&EnumValue],
-) -> Result<Vec<EnumValueDescriptorProto>, ElabFailure>
-    ensures { let env = environment_in (C.customs custom.now) context.now in
-        let vs = values_seen values.now in
-        Elaborates (λ v. map described.enum_value_view v.items) result (enums.values_faults env vs)
-        (map (enums.value_of env) vs) }
+) -> Result<Vec<EnumValueDescriptorProto>, AllocError>
+    ensures value { let env = environment_in (C.customs at.now.custom.now) at.now.context in
+        IfOk result (λ v. map described.enum_value_view v.items
+        ≡ map (enums.value_of env) (values_seen values.now)) }
+    ensures faults { let env = environment_in (C.customs at.now.custom.now) at.now.context in
+        OnOk result (found faults.new ≡ found faults.old
+        ++ enums.values_faults env (values_seen values.now)) }
 {
-    check_unlike(alloc, values)?;
-    value_descriptors(alloc, context, custom, values)
+    let descriptors = value_descriptors(at, faults, values)?;
+    tell_value_names(at, faults, values, &descriptors)?;
+    Ok(descriptors)
+}
+
+/// E1 where two of the values have one name. The descriptors are theirs.
+fn tell_value_names<C: CustomOptions>(
+    at: &Viewpoint<'_, '_, C>,
+    faults: &mut Vec<ElabError>,
+    values: &[&EnumValue],
+    descriptors: &[EnumValueDescriptorProto],
+) -> Result<(), AllocError>
+    requires { let env = environment_in (C.customs at.now.custom.now) at.now.context in map described.enum_value_view descriptors.now
+        ≡ map (enums.value_of env) (values_seen values.now) }
+    ensures { OnOk result (found faults.new ≡ found faults.old
+        ++ duplicates (map enums.value_named (values_seen values.now))) }
+{
+    let syntax = at.context.syntax;
+    tell_names(at.alloc, faults, DeclaredAs::Other, syntax, values, descriptors)
 }
 
 /// The values of an enum.
@@ -103,38 +125,39 @@ fn values(alloc: Global, body: &[EnumStatement]) -> Result<Vec<&EnumValue>, Allo
 }
 
 /// Their descriptors.
-#[tactic(auto, using(protobuf_parse_model::proofs::Blaming::blames_at))]
 fn value_descriptors<C: CustomOptions>(
-    alloc: Global,
-    context: &Context<'_>,
-    custom: &C,
+    at: &Viewpoint<'_, '_, C>,
+    faults: &mut Vec<ElabError>,
     values: &[&EnumValue],
-) -> Result<Vec<EnumValueDescriptorProto>, ElabFailure>
-    ensures { let env = environment_in (C.customs custom.now) context.now in
-        let vs = values_seen values.now in
-        Elaborates (λ v. map described.enum_value_view v.items) result
-        (flat_map (enums.value_faults env) vs) (map (enums.value_of env) vs) }
+) -> Result<Vec<EnumValueDescriptorProto>, AllocError>
+    ensures value { let env = environment_in (C.customs at.now.custom.now) at.now.context in
+        IfOk result (λ v. map described.enum_value_view v.items
+        ≡ map (enums.value_of env) (values_seen values.now)) }
+    ensures faults { let env = environment_in (C.customs at.now.custom.now) at.now.context in
+        OnOk result (found faults.new ≡ found faults.old
+        ++ flat_map (enums.value_faults env) (values_seen values.now)) }
 {
-    let mut descriptors = Vec::with_capacity(alloc, values.len())?;
+    let mut descriptors = Vec::with_capacity(at.alloc, values.len())?;
     for value in values {
-        descriptors.push(value_descriptor(alloc, context, custom, value)?)?;
+        descriptors.push(value_descriptor(at, faults, value)?)?;
     }
     Ok(descriptors)
 }
 
 fn value_descriptor<C: CustomOptions>(
-    alloc: Global,
-    context: &Context<'_>,
-    custom: &C,
+    at: &Viewpoint<'_, '_, C>,
+    faults: &mut Vec<ElabError>,
     value: &EnumValue,
-) -> Result<EnumValueDescriptorProto, ElabFailure>
-    ensures { let env = environment_in (C.customs custom.now) context.now in
-        let v = tree.value_syntax value.now in
-        Elaborates described.enum_value_view result (enums.value_faults env v)
-        (enums.value_of env v) }
+) -> Result<EnumValueDescriptorProto, AllocError>
+    ensures value { let env = environment_in (C.customs at.now.custom.now) at.now.context in
+        IfOk result (λ d. described.enum_value_view d
+        ≡ enums.value_of env (tree.value_syntax value.now)) }
+    ensures faults { let env = environment_in (C.customs at.now.custom.now) at.now.context in
+        OnOk result (found faults.new ≡ found faults.old
+        ++ enums.value_faults env (tree.value_syntax value.now)) }
 {
-    let options = options_of(alloc, &value.options)?;
-    let bytes = checked_customs(alloc, context, custom, Construct::EnumValue, &options)?;
+    let options = options_of(at.alloc, &value.options)?;
+    let bytes = custom_bytes(at, faults, Construct::EnumValue, &options)?;
     Ok(EnumValueDescriptorProto {
         name: value.name.clone()?,
         number: value.number,
@@ -144,20 +167,22 @@ fn value_descriptor<C: CustomOptions>(
 
 /// What the options of an enum say.
 #[tactic(auto, using(crate::proofs::StatedOptions::enum_options_set))]
-fn checked_options<C: CustomOptions>(
-    alloc: Global,
-    context: &Context<'_>,
-    custom: &C,
+fn told_options<C: CustomOptions>(
+    at: &Viewpoint<'_, '_, C>,
+    faults: &mut Vec<ElabError>,
     body: &[EnumStatement],
-) -> Result<Option<EnumOptions>, ElabFailure>
-    ensures { let env = environment_in (C.customs custom.now) context.now in
+) -> Result<Option<EnumOptions>, AllocError>
+    ensures value { let env = environment_in (C.customs at.now.custom.now) at.now.context in
         let os = flat_map enums.options_in_enum (map tree.enum_statement_syntax body.now) in
-        Elaborates (λ o. option_map enum_options_view o) result
-        (construct_faults env of.Enum enum_table os)
-        (sets.enum_options (customs_bytes env of.Enum os) os) }
+        IfOk result (λ o. option_map enum_options_view o
+        ≡ sets.enum_options (customs_bytes env of.Enum os) os) }
+    ensures faults { let env = environment_in (C.customs at.now.custom.now) at.now.context in
+        let os = flat_map enums.options_in_enum (map tree.enum_statement_syntax body.now) in
+        OnOk result (found faults.new ≡ found faults.old
+        ++ construct_faults env of.Enum enum_table os) }
 {
-    let options = options_in(alloc, body)?;
-    let bytes = checked_customs(alloc, context, custom, Construct::Enum, &options)?;
+    let options = options_in(at.alloc, body)?;
+    let bytes = custom_bytes(at, faults, Construct::Enum, &options)?;
     Ok(enum_options(&options, bytes))
 }
 

@@ -1,14 +1,12 @@
 //! Fields and groups.
 
-ghost use Rattle.std.specs.Prelude.{◌≡◌, ◌<◌, [], map};
-ghost use Rattle.std.specs.Prelude.{IfOk};
+ghost use Rattle.std.specs.Prelude.{◌≡◌, ◌++◌, map, IfOk, OnOk};
 ghost use Rattle.protobuf_parse_syntax.specs.Trees.{field_syntax, group_syntax, option_syntax};
 ghost use Rattle.protobuf_parse_syntax.specs.Trees.{type_syntax};
 ghost use Rattle.protobuf_parse_model.specs.SeenFiles.{environment_in};
-ghost use Rattle.protobuf_parse_model.specs.SeenFiles.{names_of_context};
 ghost use Rattle.protobuf_parse_model.specs.BuiltinOptions.{options_seen};
 ghost use Rattle.protobuf_parse_model.specs.Descriptors as described;
-ghost use Rattle.protobuf_parse_model.specs.Faults.{Elaborates};
+ghost use Rattle.protobuf_parse_model.specs.Faults.{found, placed};
 ghost use Rattle.protobuf_parse_model.specs.Statements as statements;
 ghost use Rattle.protobuf_parse_elaboration.specs.Parts.{field_place_view};
 ghost use Rattle.protobuf_parse_elaboration.specs.Parts.{resolved_view};
@@ -16,61 +14,56 @@ ghost use Rattle.protobuf_parse_elaboration.specs.Parts.{said_by, said_view};
 ghost use Rattle.protobuf_parse_elaboration.specs.Fields as fields;
 
 use crate::convert::options::{
-    checked_field_customs, default_value, field_options, json_name_of, options_of,
+    custom_field_bytes, default_value, field_options, json_name_of, options_of,
 };
 use crate::convert::place::FieldPlace;
 use crate::convert::types::{ResolvedType, resolved_type};
+use crate::convert::viewpoint::Viewpoint;
 use protobuf_parse_base::Name;
 use protobuf_parse_base::text::json_name;
 use protobuf_parse_model::{
-    Construct, Context, CustomOptions, ElabErrorKind, ElabFailure, FieldDescriptorProto,
-    FieldOptions, FieldType, Label, fault, full_name, group_field_name,
+    Construct, CustomOptions, ElabError, ElabErrorKind, FieldDescriptorProto, FieldOptions,
+    FieldType, Label, full_name, group_field_name, tell,
 };
 use protobuf_parse_syntax::{Field, Group, ProtobufOption, Syntax, Type};
 use std::alloc::{AllocError, Global};
 
 /// The descriptor of a field that stands there among oneofs and extensions.
 pub fn field_descriptor<C: CustomOptions>(
-    alloc: Global,
-    context: &Context<'_>,
-    custom: &C,
+    at: &Viewpoint<'_, '_, C>,
+    faults: &mut Vec<ElabError>,
     place: &FieldPlace<'_>,
     field: &Field,
-) -> Result<FieldDescriptorProto, ElabFailure>
-    ensures { let env = environment_in (C.customs custom.now) context.now in
-        let f = field_syntax field.now in
-        Elaborates described.field_view result (fields.field_faults env f)
-        (fields.field_of env (field_place_view place.now) f) }
+) -> Result<FieldDescriptorProto, AllocError>
+    ensures value { let env = environment_in (C.customs at.now.custom.now) at.now.context in
+        IfOk result (λ d. described.field_view d
+        ≡ fields.field_of env (field_place_view place.now) (field_syntax field.now)) }
+    ensures faults { let env = environment_in (C.customs at.now.custom.now) at.now.context in
+        OnOk result (found faults.new ≡ found faults.old
+        ++ fields.field_faults env (field_syntax field.now)) }
 {
-    let resolved = resolved_type(alloc, context, &field.name, &field.type_)?;
-    field_with(alloc, context, custom, place, field, resolved)
+    let resolved = resolved_type(at, faults, field.place, &field.name, &field.type_)?;
+    field_with(at, faults, place, field, resolved)
 }
 
 /// The descriptor of a field of that type.
 fn field_with<C: CustomOptions>(
-    alloc: Global,
-    context: &Context<'_>,
-    custom: &C,
+    at: &Viewpoint<'_, '_, C>,
+    faults: &mut Vec<ElabError>,
     place: &FieldPlace<'_>,
     field: &Field,
     resolved: ResolvedType,
-) -> Result<FieldDescriptorProto, ElabFailure>
-    ensures { let env = environment_in (C.customs custom.now) context.now in
-        let f = field_syntax field.now in
-        Elaborates described.field_view result
-        (fields.faults_of_options env resolved.kind f.name f.options)
-        (fields.field_with env (field_place_view place.now) f (resolved_view resolved)) }
+) -> Result<FieldDescriptorProto, AllocError>
+    ensures value { let env = environment_in (C.customs at.now.custom.now) at.now.context in
+        IfOk result (λ d. described.field_view d ≡ fields.field_with env
+        (field_place_view place.now) (field_syntax field.now) (resolved_view resolved)) }
+    ensures faults { let env = environment_in (C.customs at.now.custom.now) at.now.context in
+        let f = field_syntax field.now in OnOk result (found faults.new ≡ found faults.old
+        ++ fields.faults_of_options env resolved.kind f.name f.options) }
 {
     let name = field.name.clone()?;
-    let extendee = place.extendee(alloc)?;
-    let said = field_said(
-        alloc,
-        context,
-        custom,
-        resolved.kind,
-        &field.name,
-        &field.options,
-    )?;
+    let extendee = place.extendee(at.alloc)?;
+    let said = field_said(at, faults, resolved.kind, &field.name, &field.options)?;
     Ok(FieldDescriptorProto {
         name,
         number: field.number,
@@ -81,7 +74,7 @@ fn field_with<C: CustomOptions>(
         default_value: said.default_value,
         oneof_index: place.oneof_index(),
         json_name: said.json_name,
-        proto3_optional: !is_map(&field.type_) && says_optional(context.syntax, field.label),
+        proto3_optional: !is_map(&field.type_) && says_optional(at.context.syntax, field.label),
         options: said.options,
     })
 }
@@ -96,48 +89,48 @@ pub struct FieldSaid {
 
 /// What the options of a field of that type and name say.
 fn field_said<C: CustomOptions>(
-    alloc: Global,
-    context: &Context<'_>,
-    custom: &C,
+    at: &Viewpoint<'_, '_, C>,
+    faults: &mut Vec<ElabError>,
     kind: FieldType,
     name: &str,
     options: &[ProtobufOption],
-) -> Result<FieldSaid, ElabFailure>
-    ensures { let env = environment_in (C.customs custom.now) context.now in
-        let os = map option_syntax options.now in
-        Elaborates said_view result (fields.faults_of_options env kind name.now os)
-        (said_by env kind name.now os) }
+) -> Result<FieldSaid, AllocError>
+    ensures value { let env = environment_in (C.customs at.now.custom.now) at.now.context in
+        IfOk result (λ s. said_view s ≡ said_by env kind name.now (map option_syntax options.now)) }
+    ensures faults { let env = environment_in (C.customs at.now.custom.now) at.now.context in
+        OnOk result (found faults.new ≡ found faults.old
+        ++ fields.faults_of_options env kind name.now (map option_syntax options.now)) }
 {
     if options.is_empty() {
-        custom.bytes(alloc, Construct::Field, context.scope, &[])?;
+        at.custom
+            .bytes(at.alloc, faults, Construct::Field, at.context.scope, &[])?;
         return Ok(FieldSaid {
             default_value: None,
-            json_name: json_name(alloc, name)?,
+            json_name: json_name(at.alloc, name)?,
             options: None,
         });
     }
-    let options = options_of(alloc, options)?;
-    said_by_options(alloc, context, custom, kind, name, &options)
+    let options = options_of(at.alloc, options)?;
+    said_by_options(at, faults, kind, name, &options)
 }
 
 /// What these options of a field of that type and name say.
-#[tactic(auto, using(protobuf_parse_model::proofs::Blaming::blames_left, protobuf_parse_model::proofs::Blaming::blames_right))]
 fn said_by_options<C: CustomOptions>(
-    alloc: Global,
-    context: &Context<'_>,
-    custom: &C,
+    at: &Viewpoint<'_, '_, C>,
+    faults: &mut Vec<ElabError>,
     kind: FieldType,
     name: &str,
     options: &[&ProtobufOption],
-) -> Result<FieldSaid, ElabFailure>
-    ensures { let env = environment_in (C.customs custom.now) context.now in
-        let os = options_seen options.now in
-        Elaborates said_view result (fields.faults_of_options env kind name.now os)
-        (said_by env kind name.now os) }
+) -> Result<FieldSaid, AllocError>
+    ensures value { let env = environment_in (C.customs at.now.custom.now) at.now.context in
+        IfOk result (λ s. said_view s ≡ said_by env kind name.now (options_seen options.now)) }
+    ensures faults { let env = environment_in (C.customs at.now.custom.now) at.now.context in
+        OnOk result (found faults.new ≡ found faults.old
+        ++ fields.faults_of_options env kind name.now (options_seen options.now)) }
 {
-    let default_value = default_value(alloc, kind, name, options)?;
-    let json_name = json_name_of(alloc, name, options)?;
-    let bytes = checked_field_customs(alloc, context, custom, options)?;
+    let default_value = default_value(at.alloc, faults, kind, name, options)?;
+    let json_name = json_name_of(at.alloc, faults, name, options)?;
+    let bytes = custom_field_bytes(at, faults, options)?;
     let options = field_options(options, bytes);
     Ok(FieldSaid {
         default_value,
@@ -147,20 +140,19 @@ fn said_by_options<C: CustomOptions>(
 }
 
 /// The descriptor of a group's field. The group's message stands apart from it.
-pub fn group_field(
-    alloc: Global,
-    context: &Context<'_>,
+pub fn group_field<C: CustomOptions>(
+    at: &Viewpoint<'_, '_, C>,
     place: &FieldPlace<'_>,
     group: &Group,
 ) -> Result<FieldDescriptorProto, AllocError>
-    ensures { IfOk result (λ d. let g = group_syntax group.now in
-        described.field_view d ≡ fields.group_field (names_of_context context.now)
-        (field_place_view place.now) g.label g.name g.number) }
+    ensures { let env = environment_in (C.customs at.now.custom.now) at.now.context in
+        IfOk result (λ d. let g = group_syntax group.now in described.field_view d
+        ≡ fields.group_field env (field_place_view place.now) g.label g.name g.number) }
 {
-    let name = Name::from(group_field_name(alloc, &group.name)?);
-    let json_name = json_name(alloc, &name)?;
-    let type_name = full_name(alloc, context.scope, &group.name)?;
-    let extendee = place.extendee(alloc)?;
+    let name = Name::from(group_field_name(at.alloc, &group.name)?);
+    let json_name = json_name(at.alloc, &name)?;
+    let type_name = full_name(at.alloc, at.context.scope, &group.name)?;
+    let extendee = place.extendee(at.alloc)?;
     Ok(FieldDescriptorProto {
         name,
         number: group.number,
@@ -171,7 +163,7 @@ pub fn group_field(
         default_value: None,
         oneof_index: place.oneof_index(),
         json_name,
-        proto3_optional: says_optional(context.syntax, group.label),
+        proto3_optional: says_optional(at.context.syntax, group.label),
         options: None,
     })
 }
@@ -187,15 +179,20 @@ pub fn is_map(type_: &Type) -> bool
     }
 }
 
-/// Refuses a map: E4.
-pub fn check_no_map(alloc: Global, field: &Field) -> Result<(), ElabFailure>
-    ensures { Elaborates (λ u. u) result (fields.map_faults (field_syntax field.now)) tt }
+/// E4 for a map.
+pub fn tell_map(
+    alloc: Global,
+    faults: &mut Vec<ElabError>,
+    field: &Field,
+) -> Result<(), AllocError>
+    ensures { let f = field_syntax field.now in OnOk result
+        (found faults.new ≡ found faults.old ++ placed f.place (fields.map_faults f)) }
 {
     if is_map(&field.type_) {
-        Err(fault(alloc, ElabErrorKind::DanglingTypeName, &field.name))
-    } else {
-        Ok(())
+        let kind = ElabErrorKind::DanglingTypeName;
+        return tell(alloc, faults, field.place, kind, &field.name);
     }
+    Ok(())
 }
 
 /// A map is repeated; any other field without a label is optional.

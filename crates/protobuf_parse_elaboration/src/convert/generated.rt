@@ -1,50 +1,49 @@
 //! The messages that stand behind maps and groups.
 
-ghost use Rattle.std.specs.Prelude.{◌≡◌, ◌++◌, map, flat_map, option_map};
-ghost use Rattle.std.specs.Prelude.{IfOk};
+ghost use Rattle.std.specs.Prelude.{◌≡◌, ◌++◌, map, flat_map, option_map, IfOk, OnOk};
 ghost use Rattle.protobuf_parse_base.specs.DeclaredNames.{name_bytes};
-ghost use Rattle.protobuf_parse_syntax.specs.Trees.{field_statement_syntax, field_syntax};
-ghost use Rattle.protobuf_parse_syntax.specs.Trees.{group_syntax};
+ghost use Rattle.protobuf_parse_syntax.specs.Trees.{field_statement_syntax, group_syntax};
 ghost use Rattle.protobuf_parse_syntax.specs.Trees.{type_syntax};
 ghost use Rattle.protobuf_parse_model.specs.SeenFiles.{environment_in};
-ghost use Rattle.protobuf_parse_model.specs.SeenFiles.{names_of_context};
 ghost use Rattle.protobuf_parse_model.specs.Descriptors as described;
-ghost use Rattle.protobuf_parse_model.specs.Faults.{Elaborates};
+ghost use Rattle.protobuf_parse_model.specs.Duplicates.{duplicates, fault};
+ghost use Rattle.protobuf_parse_model.specs.Faults.{found, placed};
 ghost use Rattle.protobuf_parse_model.specs.Options.{message_options_view};
-ghost use Rattle.protobuf_parse_elaboration.specs.Parts.{resolved_view};
-ghost use Rattle.protobuf_parse_elaboration.specs.Parts.{behind_seen, map_entry_faults};
+ghost use Rattle.protobuf_parse_model.specs.Statements.{group_field_name};
+ghost use Rattle.protobuf_parse_model.specs.declared.error.ElabErrorKind.TheVariants.{DanglingTypeName};
+ghost use Rattle.protobuf_parse_elaboration.specs.Parts.{behind_seen, resolved_view};
 ghost use Rattle.protobuf_parse_elaboration.specs.Fields as fields;
 ghost use Rattle.protobuf_parse_elaboration.specs.Messages as messages;
 
-use crate::convert::field::{check_no_map, field_descriptor};
-use crate::convert::names::check_unlike;
+use crate::convert::declared::DeclaredAs;
+use crate::convert::field::{field_descriptor, group_field, tell_map};
 use crate::convert::place::FieldPlace;
+use crate::convert::told::tell_names;
 use crate::convert::types::{ResolvedType, inner_type};
+use crate::convert::viewpoint::Viewpoint;
 use protobuf_parse_base::Name;
 use protobuf_parse_model::{
-    Context, CustomOptions, DescriptorProto, ElabErrorKind, ElabFailure, FieldDescriptorProto,
-    Label, MessageOptions, entry_name, fault, group_field_name,
+    CustomOptions, DescriptorProto, ElabError, ElabErrorKind, FieldDescriptorProto, Label,
+    MessageOptions, entry_name, group_field_name, tell,
 };
-use protobuf_parse_syntax::{Field, FieldStatement, Group, Type};
+use protobuf_parse_syntax::{FieldStatement, Group, Type};
 use std::alloc::{AllocError, Global};
 
 /// The message of a map's entries, where the type of the field of that name is a map's.
 #[inline(always)]
-pub fn map_entry(
-    alloc: Global,
-    context: &Context<'_>,
+pub fn map_entry<C: CustomOptions>(
+    at: &Viewpoint<'_, '_, C>,
     name: &str,
     type_: &Type,
-) -> Result<Option<Box<DescriptorProto>>, ElabFailure>
-    ensures { let env = names_of_context context.now in
-        Elaborates (λ m. map described.message_view (behind_seen m)) result
-        (map_entry_faults env name.now (type_syntax type_.now))
-        (messages.entries_of env name.now (type_syntax type_.now)) }
+) -> Result<Option<Box<DescriptorProto>>, AllocError>
+    ensures { let env = environment_in (C.customs at.now.custom.now) at.now.context in
+        IfOk result (λ m. map described.message_view (behind_seen m)
+        ≡ messages.entries_of env name.now (type_syntax type_.now)) }
 {
     match type_ {
         Type::Map(key, value) => {
-            let entry = entry(alloc, context, name, key, value)?;
-            Ok(Some(boxed(alloc, entry)?))
+            let entry = entry(at, name, key, value)?;
+            Ok(Some(boxed(at.alloc, entry)?))
         }
         Type::Scalar(_) | Type::Named(_) => Ok(None),
     }
@@ -57,25 +56,22 @@ pub fn boxed(alloc: Global, message: DescriptorProto) -> Result<Box<DescriptorPr
     Ok(Box::new(alloc, message)?)
 }
 
-/// The message of the entries of the map of that name.
+/// The message of the entries of the map of that name. What is wrong in its types is told at the
+/// field.
 #[inline(never)]
-#[tactic(auto, using(protobuf_parse_model::proofs::Blaming::blames_left, protobuf_parse_model::proofs::Blaming::blames_right))]
-fn entry(
-    alloc: Global,
-    context: &Context<'_>,
+fn entry<C: CustomOptions>(
+    at: &Viewpoint<'_, '_, C>,
     name: &str,
     key: &Type,
     value: &Type,
-) -> Result<DescriptorProto, ElabFailure>
-    ensures { let env = names_of_context context.now in let k = type_syntax key.now in
-        let v = type_syntax value.now in
-        Elaborates described.message_view result
-        (fields.inner_type_faults env name.now k ++ fields.inner_type_faults env name.now v)
-        (messages.entry_of env name.now k v) }
+) -> Result<DescriptorProto, AllocError>
+    ensures { let env = environment_in (C.customs at.now.custom.now) at.now.context in
+        IfOk result (λ m. described.message_view m
+        ≡ messages.entry_of env name.now (type_syntax key.now) (type_syntax value.now)) }
 {
-    let key = inner_type(alloc, context, name, key)?;
-    let value = inner_type(alloc, context, name, value)?;
-    Ok(entry_message(alloc, name, key, value)?)
+    let key = inner_type(at, name, key)?;
+    let value = inner_type(at, name, value)?;
+    entry_message(at.alloc, name, key, value)
 }
 
 fn entry_message(
@@ -152,82 +148,101 @@ fn message_with(
 }
 
 /// The message of a group.
-#[tactic(auto, using(crate::proofs::Naming::named_in_group))]
+///
+/// E1 where two of its fields have one name; E4 where a map or a group stands in it.
 pub fn group_message<C: CustomOptions>(
-    alloc: Global,
-    context: &Context<'_>,
-    custom: &C,
+    at: &Viewpoint<'_, '_, C>,
+    faults: &mut Vec<ElabError>,
     group: &Group,
-) -> Result<DescriptorProto, ElabFailure>
-    ensures { let env = environment_in (C.customs custom.now) context.now in
-        let g = group_syntax group.now in
-        Elaborates described.message_view result (fields.group_faults env g.fields)
-        (messages.group_message env g.name g.fields) }
+) -> Result<DescriptorProto, AllocError>
+    ensures value { let env = environment_in (C.customs at.now.custom.now) at.now.context in
+        let g = group_syntax group.now in IfOk result
+        (λ m. described.message_view m ≡ messages.group_message env g.name g.fields) }
+    ensures faults { let env = environment_in (C.customs at.now.custom.now) at.now.context in
+        OnOk result (found faults.new ≡ found faults.old
+        ++ fields.group_faults env (group_syntax group.now).fields) }
 {
-    let field = grouped_fields(alloc, context, custom, &group.fields)?;
-    check_unlike(alloc, &field)?;
-    Ok(message_with(alloc, group.name.clone()?, field, None))
+    let field = grouped_fields(at, faults, &group.fields)?;
+    tell_group_names(at, faults, &group.fields, &field)?;
+    Ok(message_with(at.alloc, group.name.clone()?, field, None))
+}
+
+/// E1 where two fields of a group have one name.
+fn tell_group_names<C: CustomOptions>(
+    at: &Viewpoint<'_, '_, C>,
+    faults: &mut Vec<ElabError>,
+    statements: &[FieldStatement],
+    items: &[FieldDescriptorProto],
+) -> Result<(), AllocError>
+    requires { let env = environment_in (C.customs at.now.custom.now) at.now.context in map described.field_view items.now
+        ≡ fields.fields_of_group env (map field_statement_syntax statements.now) }
+    ensures { OnOk result (found faults.new ≡ found faults.old
+        ++ duplicates (map fields.field_named (map field_statement_syntax statements.now))) }
+{
+    let syntax = at.context.syntax;
+    tell_names(at.alloc, faults, DeclaredAs::Field, syntax, statements, items)
 }
 
 /// The fields of a group.
-#[tactic(auto, using(protobuf_parse_model::proofs::Blaming::blames_at))]
 fn grouped_fields<C: CustomOptions>(
-    alloc: Global,
-    context: &Context<'_>,
-    custom: &C,
+    at: &Viewpoint<'_, '_, C>,
+    faults: &mut Vec<ElabError>,
     statements: &[FieldStatement],
-) -> Result<Vec<FieldDescriptorProto>, ElabFailure>
-    ensures { let env = environment_in (C.customs custom.now) context.now in
-        let ss = map field_statement_syntax statements.now in
-        Elaborates (λ v. map described.field_view v.items) result
-        (flat_map (fields.grouped_faults env) ss)
-        (map (fields.field_statement_of env fields.plain) ss) }
+) -> Result<Vec<FieldDescriptorProto>, AllocError>
+    ensures value { let env = environment_in (C.customs at.now.custom.now) at.now.context in
+        IfOk result (λ v. map described.field_view v.items
+        ≡ fields.fields_of_group env (map field_statement_syntax statements.now)) }
+    ensures faults { let env = environment_in (C.customs at.now.custom.now) at.now.context in
+        OnOk result (found faults.new ≡ found faults.old
+        ++ flat_map (fields.grouped_faults env) (map field_statement_syntax statements.now)) }
 {
-    let mut fields = Vec::new(alloc);
+    let mut fields = Vec::new(at.alloc);
     for statement in statements {
-        fields.push(grouped_field(alloc, context, custom, statement)?)?;
+        fields.push(grouped_field(at, faults, statement)?)?;
     }
     Ok(fields)
 }
 
 /// A field of a group. E4 for a map and for a group.
 fn grouped_field<C: CustomOptions>(
-    alloc: Global,
-    context: &Context<'_>,
-    custom: &C,
+    at: &Viewpoint<'_, '_, C>,
+    faults: &mut Vec<ElabError>,
     statement: &FieldStatement,
-) -> Result<FieldDescriptorProto, ElabFailure>
-    ensures { let env = environment_in (C.customs custom.now) context.now in
-        let s = field_statement_syntax statement.now in
-        Elaborates described.field_view result (fields.grouped_faults env s)
-        (fields.field_statement_of env fields.plain s) }
+) -> Result<FieldDescriptorProto, AllocError>
+    ensures value { let env = environment_in (C.customs at.now.custom.now) at.now.context in
+        IfOk result (λ d. described.field_view d
+        ≡ fields.field_statement_of env fields.plain (field_statement_syntax statement.now)) }
+    ensures faults { let env = environment_in (C.customs at.now.custom.now) at.now.context in
+        OnOk result (found faults.new ≡ found faults.old
+        ++ fields.grouped_faults env (field_statement_syntax statement.now)) }
 {
-    match statement {
-        FieldStatement::Field(field) => grouped_plain(alloc, context, custom, field),
-        FieldStatement::Group(group) => {
-            let name = group_field_name(alloc, &group.name)?;
-            Err(fault(alloc, ElabErrorKind::DanglingTypeName, &name))
-        }
-    }
-}
-
-/// A field of a group, which is no group.
-#[tactic(auto, using(protobuf_parse_model::proofs::Blaming::blames_left, protobuf_parse_model::proofs::Blaming::blames_right))]
-fn grouped_plain<C: CustomOptions>(
-    alloc: Global,
-    context: &Context<'_>,
-    custom: &C,
-    field: &Field,
-) -> Result<FieldDescriptorProto, ElabFailure>
-    ensures { let env = environment_in (C.customs custom.now) context.now in
-        let f = field_syntax field.now in
-        Elaborates described.field_view result (fields.map_faults f ++ fields.field_faults env f)
-        (fields.field_of env fields.plain f) }
-{
-    check_no_map(alloc, field)?;
     let place = FieldPlace {
         extendee: None,
         oneof_index: None,
     };
-    field_descriptor(alloc, context, custom, &place, field)
+    match statement {
+        FieldStatement::Field(field) => {
+            tell_map(at.alloc, faults, field)?;
+            field_descriptor(at, faults, &place, field)
+        }
+        FieldStatement::Group(group) => {
+            tell_group(at.alloc, faults, group)?;
+            group_field(at, &place, group)
+        }
+    }
+}
+
+/// E4 for a group.
+fn tell_group(
+    alloc: Global,
+    faults: &mut Vec<ElabError>,
+    group: &Group,
+) -> Result<(), AllocError>
+    ensures { let g = group_syntax group.now in OnOk result
+        (found faults.new ≡ found faults.old
+        ++ placed g.place (fault DanglingTypeName (group_field_name g.name))) }
+{
+    let name = group_field_name(alloc, &group.name)?;
+    let kind = ElabErrorKind::DanglingTypeName;
+    tell(alloc, faults, group.place, kind, &name)
 }

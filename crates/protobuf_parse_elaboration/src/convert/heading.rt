@@ -1,10 +1,11 @@
 //! What a file says of itself: its path, its syntax, its package, its imports and its options.
 
-ghost use Rattle.std.specs.Prelude.{◌≡◌, ◌≤◌, length, map, option_map, string_bytes, IfOk};
+ghost use Rattle.std.specs.Prelude.{◌≡◌, ◌≤◌, ◌++◌, length, map, option_map, string_bytes};
+ghost use Rattle.std.specs.Prelude.{IfOk, OnOk};
 ghost use Rattle.protobuf_parse_syntax.specs.Trees.{file_syntax, package_of, statement_syntax};
 ghost use Rattle.protobuf_parse_model.specs.BuiltinOptions.{file_table};
 ghost use Rattle.protobuf_parse_model.specs.Environment.{customs_bytes};
-ghost use Rattle.protobuf_parse_model.specs.Faults.{Elaborates};
+ghost use Rattle.protobuf_parse_model.specs.Faults.{found};
 ghost use Rattle.protobuf_parse_model.specs.OptionMessages as sets;
 ghost use Rattle.protobuf_parse_model.specs.Options.{file_options_view};
 ghost use Rattle.protobuf_parse_model.specs.SeenFiles.{environment_in};
@@ -15,8 +16,9 @@ ghost use Rattle.protobuf_parse_elaboration.specs.FileDescriptor.{syntax_text};
 ghost use Rattle.protobuf_parse_elaboration.specs.FileParts.{heading_faults, heading_of};
 ghost use Rattle.protobuf_parse_elaboration.specs.FileParts.{heading_view};
 
-use crate::convert::options::{checked_customs, file_options, options_in};
-use protobuf_parse_model::{Construct, Context, CustomOptions, ElabFailure, FileOptions};
+use crate::convert::options::{custom_bytes, file_options, options_in};
+use crate::convert::viewpoint::Viewpoint;
+use protobuf_parse_model::{Construct, CustomOptions, ElabError, FileOptions};
 use protobuf_parse_syntax::{Dependencies, FileStatement, FileTree, Syntax, imports_of};
 use std::alloc::{AllocError, Global};
 
@@ -33,22 +35,23 @@ pub struct Heading {
 /// What the file says of itself that is known by the path `name`, and the faults in its options.
 #[tactic(auto, unfolding(protobuf_parse_syntax::specs::Dependencies::dependencies_of))]
 pub fn heading_of<C: CustomOptions>(
-    alloc: Global,
-    context: &Context<'_>,
-    custom: &C,
+    at: &Viewpoint<'_, '_, C>,
+    faults: &mut Vec<ElabError>,
     name: &str,
     tree: &FileTree,
-) -> Result<Heading, ElabFailure>
+) -> Result<Heading, AllocError>
     requires few { length tree.now.statements.items ≤ 2147483647 }
-    ensures { let env = environment_in (C.customs custom.now) context.now in
-        let t = file_syntax tree.now in
-        Elaborates heading_view result (heading_faults env t) (heading_of env name.now t) }
+    ensures value { let env = environment_in (C.customs at.now.custom.now) at.now.context in
+        IfOk result (λ h. heading_view h ≡ heading_of env name.now (file_syntax tree.now)) }
+    ensures faults { let env = environment_in (C.customs at.now.custom.now) at.now.context in
+        OnOk result (found faults.new ≡ found faults.old
+        ++ heading_faults env (file_syntax tree.now)) }
 {
-    let path = String::from_str(alloc, name)?;
-    let syntax = String::from_str(alloc, syntax_text(tree.syntax))?;
-    let package_name = package_of(alloc, tree)?;
-    let imports = imports_of(alloc, &tree.statements)?;
-    let options = checked_options(alloc, context, custom, &tree.statements)?;
+    let path = String::from_str(at.alloc, name)?;
+    let syntax = String::from_str(at.alloc, syntax_text(tree.syntax))?;
+    let package_name = package_of(at.alloc, tree)?;
+    let imports = imports_of(at.alloc, &tree.statements)?;
+    let options = told_options(at, faults, &tree.statements)?;
     Ok(Heading {
         name: path,
         syntax,
@@ -78,20 +81,22 @@ pub fn package_of(alloc: Global, tree: &FileTree) -> Result<Option<String>, Allo
 }
 
 /// What the options of a file set, and the faults in them.
-#[tactic(auto, using(crate::proofs::StatedOptions::set_in_file))]
-fn checked_options<C: CustomOptions>(
-    alloc: Global,
-    context: &Context<'_>,
-    custom: &C,
+#[tactic(auto, using(crate::proofs::StatedOptions::file_options_set))]
+fn told_options<C: CustomOptions>(
+    at: &Viewpoint<'_, '_, C>,
+    faults: &mut Vec<ElabError>,
     statements: &[FileStatement],
-) -> Result<Option<FileOptions>, ElabFailure>
-    ensures { let env = environment_in (C.customs custom.now) context.now in
+) -> Result<Option<FileOptions>, AllocError>
+    ensures value { let env = environment_in (C.customs at.now.custom.now) at.now.context in
         let os = options_of_statements (map statement_syntax statements.now) in
-        Elaborates (λ o. option_map file_options_view o) result
-        (construct_faults env of.File file_table os)
-        (sets.file_options (customs_bytes env of.File os) os) }
+        IfOk result (λ o. option_map file_options_view o
+        ≡ sets.file_options (customs_bytes env of.File os) os) }
+    ensures faults { let env = environment_in (C.customs at.now.custom.now) at.now.context in
+        let os = options_of_statements (map statement_syntax statements.now) in
+        OnOk result (found faults.new ≡ found faults.old
+        ++ construct_faults env of.File file_table os) }
 {
-    let options = options_in(alloc, statements)?;
-    let bytes = checked_customs(alloc, context, custom, Construct::File, &options)?;
-    Ok(file_options(alloc, &options, bytes)?)
+    let options = options_in(at.alloc, statements)?;
+    let bytes = custom_bytes(at, faults, Construct::File, &options)?;
+    file_options(at.alloc, &options, bytes)
 }

@@ -4,19 +4,19 @@ ghost use Rattle.std.specs.Prelude.{◌≡◌, ◌++◌, map, flat_map, IfOk, On
 ghost use Rattle.protobuf_parse_syntax.specs.Trees.{field_statement_syntax, oneof_statement_syntax};
 ghost use Rattle.protobuf_parse_syntax.specs.Trees.{oneof_syntax};
 ghost use Rattle.protobuf_parse_model.specs.SeenFiles.{environment_in};
-ghost use Rattle.protobuf_parse_model.specs.Faults.{Elaborates};
+ghost use Rattle.protobuf_parse_model.specs.Faults.{found, placed};
 ghost use Rattle.protobuf_parse_model.specs.Statements.{oneof_fields};
 ghost use Rattle.protobuf_parse_elaboration.specs.Parts.{extensions_declared, fields_declared};
 ghost use Rattle.protobuf_parse_elaboration.specs.Parts.{field_place_view, fields_view, statements_seen};
 ghost use Rattle.protobuf_parse_elaboration.specs.Fields.{extension_faults, field_statement_faults};
-ghost use Rattle.protobuf_parse_elaboration.specs.Messages.{extending, extension_faults_of};
+ghost use Rattle.protobuf_parse_elaboration.specs.Messages.{extendee_faults, extending};
 
 use crate::convert::place::FieldPlace;
 use crate::convert::statement::{declared_extension, declared_field};
 use crate::convert::types::type_full_name;
-use protobuf_parse_model::{
-    Context, CustomOptions, DescriptorProto, ElabFailure, FieldDescriptorProto,
-};
+use crate::convert::viewpoint::Viewpoint;
+use protobuf_parse_lexer::Place;
+use protobuf_parse_model::{CustomOptions, DescriptorProto, ElabError, FieldDescriptorProto};
 use protobuf_parse_syntax::{FieldStatement, OneOf, OneOfStatement};
 use std::alloc::{AllocError, Global};
 
@@ -38,19 +38,20 @@ pub fn shrunk<T: Drop>(list: Vec<T>) -> Vec<T>
 
 /// What the statements of a oneof declare, which stands at that place among the oneofs.
 pub fn fields_of_oneof<C: CustomOptions>(
-    alloc: Global,
-    context: &Context<'_>,
-    custom: &C,
+    at: &Viewpoint<'_, '_, C>,
+    faults: &mut Vec<ElabError>,
     place: &FieldPlace<'_>,
     oneof: &OneOf,
-) -> Result<DeclaredFields, ElabFailure>
-    ensures { let env = environment_in (C.customs custom.now) context.now in
-        let ss = flat_map oneof_fields (oneof_syntax oneof.now).body in
-        Elaborates fields_view result (flat_map (field_statement_faults env) ss)
-        (fields_declared env (field_place_view place.now) ss) }
+) -> Result<DeclaredFields, AllocError>
+    ensures value { let env = environment_in (C.customs at.now.custom.now) at.now.context in
+        IfOk result (λ d. fields_view d ≡ fields_declared env (field_place_view place.now)
+        (flat_map oneof_fields (oneof_syntax oneof.now).body)) }
+    ensures faults { let env = environment_in (C.customs at.now.custom.now) at.now.context in
+        OnOk result (found faults.new ≡ found faults.old ++ flat_map (field_statement_faults env)
+        (flat_map oneof_fields (oneof_syntax oneof.now).body)) }
 {
-    let statements = fields_in(alloc, &oneof.body)?;
-    declared_fields(alloc, context, custom, place, &statements)
+    let statements = fields_in(at.alloc, &oneof.body)?;
+    declared_fields(at, faults, place, &statements)
 }
 
 /// The statements of a oneof that declare fields.
@@ -69,74 +70,78 @@ fn fields_in(alloc: Global, body: &[OneOfStatement]) -> Result<Vec<&FieldStateme
 }
 
 /// What these statements declare.
-#[tactic(auto, using(protobuf_parse_model::proofs::Blaming::blames_at))]
 fn declared_fields<C: CustomOptions>(
-    alloc: Global,
-    context: &Context<'_>,
-    custom: &C,
+    at: &Viewpoint<'_, '_, C>,
+    faults: &mut Vec<ElabError>,
     place: &FieldPlace<'_>,
     statements: &[&FieldStatement],
-) -> Result<DeclaredFields, ElabFailure>
-    ensures { let env = environment_in (C.customs custom.now) context.now in
-        let ss = statements_seen statements.now in
-        Elaborates fields_view result (flat_map (field_statement_faults env) ss)
-        (fields_declared env (field_place_view place.now) ss) }
+) -> Result<DeclaredFields, AllocError>
+    ensures value { let env = environment_in (C.customs at.now.custom.now) at.now.context in
+        IfOk result (λ d. fields_view d
+        ≡ fields_declared env (field_place_view place.now) (statements_seen statements.now)) }
+    ensures faults { let env = environment_in (C.customs at.now.custom.now) at.now.context in
+        OnOk result (found faults.new ≡ found faults.old
+        ++ flat_map (field_statement_faults env) (statements_seen statements.now)) }
 {
-    let mut fields = Vec::new(alloc);
-    let mut behind = Vec::new(alloc);
+    let mut fields = Vec::new(at.alloc);
+    let mut behind = Vec::new(at.alloc);
     for statement in statements {
-        let declared = declared_field(alloc, context, custom, place, statement)?;
+        let declared = declared_field(at, faults, place, statement)?;
         declared.push_to(&mut fields, &mut behind)?;
     }
     Ok(DeclaredFields { fields, behind })
 }
 
-/// What the statements of an `extend` declare. E2 or E3 where one stands there and the name of the
-/// message that is extended means none.
+/// What an `extend` declares. E2 or E3 where the name of the message that is extended means none,
+/// and something extends it.
 pub fn fields_of_extend<C: CustomOptions>(
-    alloc: Global,
-    context: &Context<'_>,
-    custom: &C,
+    at: &Viewpoint<'_, '_, C>,
+    faults: &mut Vec<ElabError>,
+    place: Place,
     extendee: &str,
     statements: &[FieldStatement],
-) -> Result<DeclaredFields, ElabFailure>
-    ensures { let env = environment_in (C.customs custom.now) context.now in
+) -> Result<DeclaredFields, AllocError>
+    ensures value { let env = environment_in (C.customs at.now.custom.now) at.now.context in
+        let ss = map field_statement_syntax statements.now in IfOk result
+        (λ d. fields_view d ≡ extensions_declared env (extending env extendee.now) ss) }
+    ensures faults { let env = environment_in (C.customs at.now.custom.now) at.now.context in
         let ss = map field_statement_syntax statements.now in
-        Elaborates fields_view result (flat_map (extension_faults_of env extendee.now) ss)
-        (extensions_declared env (extending env extendee.now) ss) }
+        OnOk result (found faults.new ≡ found faults.old
+        ++ (placed place (extendee_faults env extendee.now ss)
+        ++ flat_map (extension_faults env) ss)) }
 {
     if statements.is_empty() {
         return Ok(DeclaredFields {
-            fields: Vec::new(alloc),
-            behind: Vec::new(alloc),
+            fields: Vec::new(at.alloc),
+            behind: Vec::new(at.alloc),
         });
     }
-    let extendee = type_full_name(alloc, context, extendee)?;
+    let extendee = type_full_name(at, faults, place, extendee)?;
     let place = FieldPlace {
-        extendee: Some(&extendee),
+        extendee: extendee.as_deref(),
         oneof_index: None,
     };
-    declared_extensions(alloc, context, custom, &place, statements)
+    declared_extensions(at, faults, &place, statements)
 }
 
 /// What these statements of an `extend` declare, which stands there.
-#[tactic(auto, using(protobuf_parse_model::proofs::Blaming::blames_at))]
 fn declared_extensions<C: CustomOptions>(
-    alloc: Global,
-    context: &Context<'_>,
-    custom: &C,
+    at: &Viewpoint<'_, '_, C>,
+    faults: &mut Vec<ElabError>,
     place: &FieldPlace<'_>,
     statements: &[FieldStatement],
-) -> Result<DeclaredFields, ElabFailure>
-    ensures { let env = environment_in (C.customs custom.now) context.now in
-        let ss = map field_statement_syntax statements.now in
-        Elaborates fields_view result (flat_map (extension_faults env) ss)
-        (extensions_declared env (field_place_view place.now) ss) }
+) -> Result<DeclaredFields, AllocError>
+    ensures value { let env = environment_in (C.customs at.now.custom.now) at.now.context in
+        let ss = map field_statement_syntax statements.now in IfOk result
+        (λ d. fields_view d ≡ extensions_declared env (field_place_view place.now) ss) }
+    ensures faults { let env = environment_in (C.customs at.now.custom.now) at.now.context in
+        OnOk result (found faults.new ≡ found faults.old
+        ++ flat_map (extension_faults env) (map field_statement_syntax statements.now)) }
 {
-    let mut fields = Vec::new(alloc);
-    let mut behind = Vec::new(alloc);
+    let mut fields = Vec::new(at.alloc);
+    let mut behind = Vec::new(at.alloc);
     for statement in statements {
-        let declared = declared_extension(alloc, context, custom, place, statement)?;
+        let declared = declared_extension(at, faults, place, statement)?;
         declared.push_to(&mut fields, &mut behind)?;
     }
     Ok(DeclaredFields { fields, behind })

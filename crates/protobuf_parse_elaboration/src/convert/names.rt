@@ -1,20 +1,13 @@
-//! Names, of which no two in one scope are the same.
+//! What has a name in its scope.
 
-ghost use Rattle.std.specs.Prelude.{◌≡◌, ℕ, List, map, IfOk};
-ghost use Rattle.protobuf_parse_syntax.specs.Trees.{method_syntax, value_syntax};
-ghost use Rattle.protobuf_parse_model.specs.SeenFiles.{name_texts};
+ghost use Rattle.std.specs.Prelude.{◌≡◌, ℕ, List};
 ghost use Rattle.protobuf_parse_model.specs.Descriptors as described;
-ghost use Rattle.protobuf_parse_model.specs.Duplicates.{duplicates};
-ghost use Rattle.protobuf_parse_model.specs.Faults.{Elaborates};
 ghost use Rattle.protobuf_parse_elaboration.specs.Messages.{message_name};
 
-use crate::convert::refuse::check_unique;
 use protobuf_parse_model::{
-    DescriptorProto, ElabFailure, EnumDescriptorProto, FieldDescriptorProto, OneofDescriptorProto,
-    ServiceDescriptorProto,
+    DescriptorProto, EnumDescriptorProto, EnumValueDescriptorProto, FieldDescriptorProto,
+    MethodDescriptorProto, OneofDescriptorProto, ServiceDescriptorProto,
 };
-use protobuf_parse_syntax::{EnumValue, Method};
-use std::alloc::{AllocError, Global};
 
 /// What has a name in its scope.
 pub trait Named {
@@ -64,41 +57,18 @@ impl Named for ServiceDescriptorProto {
     }
 }
 
-impl Named for &EnumValue {
-    ghost name_of = { λ value. (value_syntax value.now).name };
+impl Named for EnumValueDescriptorProto {
+    ghost name_of = { λ value. (described.enum_value_view value).name };
 
     fn name(&self) -> &str {
         self.name.as_str()
     }
 }
 
-impl Named for &Method {
-    ghost name_of = { λ method. (method_syntax method.now).name };
+impl Named for MethodDescriptorProto {
+    ghost name_of = { λ method. (described.method_view method).name };
 
     fn name(&self) -> &str {
         self.name.as_str()
     }
-}
-
-/// Refuses two that have one name: E1.
-#[inline(always)]
-#[tactic(auto, using(crate::proofs::Unlike::few_unlike))]
-pub fn check_unlike<T: Named>(alloc: Global, items: &[T]) -> Result<(), ElabFailure>
-    ensures { Elaborates (λ u. u) result (duplicates (map T.name_of items.now)) tt }
-{
-    if items.len() < 2 {
-        return Ok(());
-    }
-    check_unique(alloc, &names_of(alloc, items)?)
-}
-
-/// The names of these, in their order.
-fn names_of<T: Named>(alloc: Global, items: &[T]) -> Result<Vec<&str>, AllocError>
-    ensures { IfOk result (λ v. name_texts v.items ≡ map T.name_of items.now) }
-{
-    let mut names = Vec::with_capacity(alloc, items.len())?;
-    for item in items {
-        names.push(item.name())?;
-    }
-    Ok(names)
 }

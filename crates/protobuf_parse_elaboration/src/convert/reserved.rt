@@ -1,16 +1,14 @@
 //! What is reserved in enums and messages, and the ranges of messages.
 
 ghost use Rattle.std.specs.Prelude.{◌≡◌, ◌++◌, map, flat_map, string_bytes, IfOk, OnOk};
+ghost use Rattle.std.specs.List.{list_any};
 ghost use Rattle.protobuf_parse_syntax.specs.Trees.{range_syntax, reserved_syntax};
 ghost use Rattle.protobuf_parse_model.specs.Descriptors as described;
-ghost use Rattle.protobuf_parse_model.specs.Faults.{Elaborates};
 ghost use Rattle.protobuf_parse_elaboration.specs.Parts.{reserves_seen};
 ghost use Rattle.protobuf_parse_elaboration.specs.Enums.{inclusive, names_reserved, ranges_reserved};
-ghost use Rattle.protobuf_parse_elaboration.specs.Messages.{exclusive, range_faults};
+ghost use Rattle.protobuf_parse_elaboration.specs.Messages.{exclusive, is_endless};
 
-use protobuf_parse_model::{
-    ElabErrorKind, ElabFailure, EnumReservedRange, ExtensionRange, ReservedRange, fault,
-};
+use protobuf_parse_model::{EnumReservedRange, ExtensionRange, ReservedRange};
 use protobuf_parse_syntax::{FieldNumberRange, Reserved};
 use std::alloc::{AllocError, Global};
 
@@ -87,80 +85,61 @@ pub fn inclusive_ranges(
     Ok(found)
 }
 
-/// The ranges of extensions of the message of that name. E7 where one ends at the largest number.
-#[tactic(auto, using(protobuf_parse_model::proofs::Blaming::blames_at))]
+/// The ranges of extensions of a message.
 pub fn extension_ranges(
     alloc: Global,
-    name: &str,
     ranges: &[FieldNumberRange],
-) -> Result<Vec<ExtensionRange>, ElabFailure>
-    ensures { let rs = map range_syntax ranges.now in
-        Elaborates (λ v. map described.extension_range_view v.items) result
-        (flat_map (range_faults name.now) rs) (map exclusive rs) }
+) -> Result<Vec<ExtensionRange>, AllocError>
+    ensures { IfOk result (λ v. map described.extension_range_view v.items
+        ≡ map exclusive (map range_syntax ranges.now)) }
 {
     let mut found = Vec::new(alloc);
     for range in ranges {
-        found.push(extension_range(alloc, name, range)?)?;
+        found.push(ExtensionRange {
+            start: range.from,
+            end: end_behind(range),
+        })?;
     }
     Ok(found)
 }
 
-fn extension_range(
-    alloc: Global,
-    name: &str,
-    range: &FieldNumberRange,
-) -> Result<ExtensionRange, ElabFailure>
-    ensures { Elaborates described.extension_range_view result
-        (range_faults name.now (range_syntax range.now)) (exclusive (range_syntax range.now)) }
-{
-    let end = end_behind(alloc, name, range)?;
-    Ok(ExtensionRange {
-        start: range.from,
-        end,
-    })
-}
-
-/// The reserved ranges of the message of that name. E7 where one ends at the largest number.
-#[tactic(auto, using(protobuf_parse_model::proofs::Blaming::blames_at))]
+/// The reserved ranges of a message.
 pub fn reserved_ranges(
     alloc: Global,
-    name: &str,
     ranges: &[FieldNumberRange],
-) -> Result<Vec<ReservedRange>, ElabFailure>
-    ensures { let rs = map range_syntax ranges.now in
-        Elaborates (λ v. map described.reserved_range_view v.items) result
-        (flat_map (range_faults name.now) rs) (map exclusive rs) }
+) -> Result<Vec<ReservedRange>, AllocError>
+    ensures { IfOk result (λ v. map described.reserved_range_view v.items
+        ≡ map exclusive (map range_syntax ranges.now)) }
 {
     let mut found = Vec::new(alloc);
     for range in ranges {
-        found.push(reserved_range(alloc, name, range)?)?;
+        found.push(ReservedRange {
+            start: range.from,
+            end: end_behind(range),
+        })?;
     }
     Ok(found)
 }
 
-fn reserved_range(
-    alloc: Global,
-    name: &str,
-    range: &FieldNumberRange,
-) -> Result<ReservedRange, ElabFailure>
-    ensures { Elaborates described.reserved_range_view result
-        (range_faults name.now (range_syntax range.now)) (exclusive (range_syntax range.now)) }
-{
-    let end = end_behind(alloc, name, range)?;
-    Ok(ReservedRange {
-        start: range.from,
-        end,
-    })
-}
-
-/// The number behind the last. E7 where the last is the largest.
-fn end_behind(alloc: Global, name: &str, range: &FieldNumberRange) -> Result<i32, ElabFailure>
-    ensures { Elaborates (λ n. n) result (range_faults name.now (range_syntax range.now))
-        ((exclusive (range_syntax range.now)).end) }
+/// The number behind the last; the last itself where there is none.
+fn end_behind(range: &FieldNumberRange) -> i32
+    ensures { result ≡ (exclusive (range_syntax range.now)).end }
 {
     if range.to == i32::MAX {
-        Err(fault(alloc, ElabErrorKind::RangeEndOverflow, name))
+        range.to
     } else {
-        Ok(range.to + 1)
+        range.to + 1
     }
+}
+
+/// Whether a range ends at the largest number.
+pub fn has_endless(ranges: &[FieldNumberRange]) -> bool
+    ensures { result ≡ list_any is_endless (map range_syntax ranges.now) }
+{
+    for range in ranges {
+        if range.to == i32::MAX {
+            return true;
+        }
+    }
+    false
 }

@@ -1,11 +1,11 @@
 //! The ranges and the options of messages.
 
-ghost use Rattle.std.specs.Prelude.{◌≡◌, map, flat_map, option_map, IfOk};
+ghost use Rattle.std.specs.Prelude.{◌≡◌, ◌++◌, map, flat_map, option_map, IfOk, OnOk};
 ghost use Rattle.protobuf_parse_syntax.specs.Trees.{message_statement_syntax, range_syntax};
 ghost use Rattle.protobuf_parse_model.specs.BuiltinOptions.{message_table};
 ghost use Rattle.protobuf_parse_model.specs.SeenFiles.{environment_in};
 ghost use Rattle.protobuf_parse_model.specs.Descriptors as described;
-ghost use Rattle.protobuf_parse_model.specs.Faults.{Elaborates};
+ghost use Rattle.protobuf_parse_model.specs.Faults.{found, placed};
 ghost use Rattle.protobuf_parse_model.specs.Environment.{customs_bytes};
 ghost use Rattle.protobuf_parse_model.specs.declared.customs.Construct.TheVariants as of;
 ghost use Rattle.protobuf_parse_model.specs.Options.{message_options_view};
@@ -16,12 +16,15 @@ ghost use Rattle.protobuf_parse_elaboration.specs.Parts.{reserves_seen, rest_of,
 ghost use Rattle.protobuf_parse_elaboration.specs.Enums as enums;
 ghost use Rattle.protobuf_parse_elaboration.specs.Messages as messages;
 
-use crate::convert::options::{checked_customs, message_options, options_in};
+use crate::convert::options::{custom_bytes, message_options, options_in};
 use crate::convert::reserved::{
-    extension_ranges, names_reserved, ranges_reserved, reserved_ranges,
+    extension_ranges, has_endless, names_reserved, ranges_reserved, reserved_ranges,
 };
+use crate::convert::viewpoint::Viewpoint;
+use protobuf_parse_lexer::Place;
 use protobuf_parse_model::{
-    Construct, Context, CustomOptions, ElabFailure, ExtensionRange, MessageOptions, ReservedRange,
+    Construct, CustomOptions, ElabError, ElabErrorKind, ExtensionRange, MessageOptions,
+    ReservedRange, tell,
 };
 use protobuf_parse_syntax::{FieldNumberRange, MessageStatement, Reserved};
 use std::alloc::{AllocError, Global};
@@ -38,21 +41,22 @@ pub struct Rest {
 /// The ranges and the options of the message of that name.
 ///
 /// E7 where a range ends at the largest number, and the faults of its options.
-#[tactic(auto, using(protobuf_parse_model::proofs::Blaming::blames_left, protobuf_parse_model::proofs::Blaming::blames_right))]
 pub fn rest_of_message<C: CustomOptions>(
-    alloc: Global,
-    context: &Context<'_>,
-    custom: &C,
+    at: &Viewpoint<'_, '_, C>,
+    faults: &mut Vec<ElabError>,
     name: &str,
     body: &[MessageStatement],
-) -> Result<Rest, ElabFailure>
-    ensures { let env = environment_in (C.customs custom.now) context.now in
-        let ss = map message_statement_syntax body.now in
-        Elaborates rest_view result (messages.rest_faults env name.now ss) (rest_of env ss) }
+) -> Result<Rest, AllocError>
+    ensures value { let env = environment_in (C.customs at.now.custom.now) at.now.context in
+        IfOk result (λ r. rest_view r ≡ rest_of env (map message_statement_syntax body.now)) }
+    ensures faults { let env = environment_in (C.customs at.now.custom.now) at.now.context in
+        OnOk result (found faults.new ≡ found faults.old
+        ++ messages.rest_faults env name.now (map message_statement_syntax body.now)) }
 {
-    let extension_range = extensions(alloc, name, body)?;
-    let (reserved_range, reserved_name) = reserved(alloc, name, body)?;
-    let options = checked_options(alloc, context, custom, body)?;
+    tell_ranges(at.alloc, faults, name, body)?;
+    let extension_range = extensions(at.alloc, body)?;
+    let (reserved_range, reserved_name) = reserved(at.alloc, body)?;
+    let options = told_options(at, faults, body)?;
     Ok(Rest {
         extension_range,
         reserved_range,
@@ -61,18 +65,72 @@ pub fn rest_of_message<C: CustomOptions>(
     })
 }
 
-/// The ranges of extensions. E7 where one ends at the largest number.
-fn extensions(
+/// E7 at each statement with a range that ends at the largest number.
+fn tell_ranges(
     alloc: Global,
+    faults: &mut Vec<ElabError>,
     name: &str,
     body: &[MessageStatement],
-) -> Result<Vec<ExtensionRange>, ElabFailure>
+) -> Result<(), AllocError>
+    ensures { OnOk result (found faults.new ≡ found faults.old
+        ++ flat_map (messages.range_faults name.now) (map message_statement_syntax body.now)) }
+{
+    for statement in body {
+        tell_ranges_of(alloc, faults, name, statement)?;
+    }
+    Ok(())
+}
+
+/// E7 where the statement has a range that ends at the largest number.
+fn tell_ranges_of(
+    alloc: Global,
+    faults: &mut Vec<ElabError>,
+    name: &str,
+    statement: &MessageStatement,
+) -> Result<(), AllocError>
+    ensures { OnOk result (found faults.new ≡ found faults.old
+        ++ messages.range_faults name.now (message_statement_syntax statement.now)) }
+{
+    match statement {
+        MessageStatement::Extensions(extensions) => {
+            tell_endless(alloc, faults, extensions.place, name, &extensions.ranges)
+        }
+        MessageStatement::Reserved(statement) => match &statement.reserved {
+            Reserved::Ranges(ranges) => tell_endless(alloc, faults, statement.place, name, ranges),
+            Reserved::Names(_) => Ok(()),
+        },
+        _ => Ok(()),
+    }
+}
+
+/// E7 where one of the ranges ends at the largest number.
+fn tell_endless(
+    alloc: Global,
+    faults: &mut Vec<ElabError>,
+    place: Place,
+    name: &str,
+    ranges: &[FieldNumberRange],
+) -> Result<(), AllocError>
+    ensures { OnOk result (found faults.new ≡ found faults.old
+        ++ placed place (messages.ranges_faults name.now (map range_syntax ranges.now))) }
+{
+    if has_endless(ranges) {
+        return tell(alloc, faults, place, ElabErrorKind::RangeEndOverflow, name);
+    }
+    Ok(())
+}
+
+/// The ranges of extensions.
+fn extensions(
+    alloc: Global,
+    body: &[MessageStatement],
+) -> Result<Vec<ExtensionRange>, AllocError>
     ensures { let rs = flat_map messages.extension_ranges (map message_statement_syntax body.now) in
-        Elaborates (λ v. map described.extension_range_view v.items) result
-        (flat_map (messages.range_faults name.now) rs) (map messages.exclusive rs) }
+        IfOk result (λ v. map described.extension_range_view v.items
+        ≡ map messages.exclusive rs) }
 {
     let ranges = ranges_of_extensions(alloc, body)?;
-    extension_ranges(alloc, name, &ranges)
+    extension_ranges(alloc, &ranges)
 }
 
 /// The ranges as they are written.
@@ -93,39 +151,35 @@ fn ranges_of_extensions(
     Ok(ranges)
 }
 
-/// The reserved ranges and names. E7 where a range ends at the largest number.
+/// The reserved ranges and names.
 fn reserved(
     alloc: Global,
-    name: &str,
     body: &[MessageStatement],
-) -> Result<(Vec<ReservedRange>, Vec<String>), ElabFailure>
+) -> Result<(Vec<ReservedRange>, Vec<String>), AllocError>
     ensures { let rs = flat_map messages.reserves (map message_statement_syntax body.now) in
-        Elaborates reserved_views result
-        (flat_map (messages.range_faults name.now) (flat_map enums.ranges_reserved rs)) (
+        IfOk result (λ r. reserved_views r ≡ (
           map messages.exclusive (flat_map enums.ranges_reserved rs),
           flat_map enums.names_reserved rs,
-        ) }
+        )) }
 {
     let reserves = reserves(alloc, body)?;
-    reserved_by(alloc, name, &reserves)
+    reserved_by(alloc, &reserves)
 }
 
 /// The ranges and names that these statements reserve.
 fn reserved_by(
     alloc: Global,
-    name: &str,
     reserves: &[&Reserved],
-) -> Result<(Vec<ReservedRange>, Vec<String>), ElabFailure>
+) -> Result<(Vec<ReservedRange>, Vec<String>), AllocError>
     ensures { let rs = reserves_seen reserves.now in
-        Elaborates reserved_views result
-        (flat_map (messages.range_faults name.now) (flat_map enums.ranges_reserved rs)) (
+        IfOk result (λ r. reserved_views r ≡ (
           map messages.exclusive (flat_map enums.ranges_reserved rs),
           flat_map enums.names_reserved rs,
-        ) }
+        )) }
 {
     let names = names_reserved(alloc, reserves)?;
     let ranges = ranges_reserved(alloc, reserves)?;
-    Ok((reserved_ranges(alloc, name, &ranges)?, names))
+    Ok((reserved_ranges(alloc, &ranges)?, names))
 }
 
 /// What a message reserves.
@@ -145,19 +199,21 @@ fn reserves(alloc: Global, body: &[MessageStatement]) -> Result<Vec<&Reserved>, 
 
 /// What the options of a message say.
 #[tactic(auto, using(crate::proofs::StatedOptions::message_options_set))]
-fn checked_options<C: CustomOptions>(
-    alloc: Global,
-    context: &Context<'_>,
-    custom: &C,
+fn told_options<C: CustomOptions>(
+    at: &Viewpoint<'_, '_, C>,
+    faults: &mut Vec<ElabError>,
     body: &[MessageStatement],
-) -> Result<Option<MessageOptions>, ElabFailure>
-    ensures { let env = environment_in (C.customs custom.now) context.now in
+) -> Result<Option<MessageOptions>, AllocError>
+    ensures value { let env = environment_in (C.customs at.now.custom.now) at.now.context in
         let os = messages.options_of_body (map message_statement_syntax body.now) in
-        Elaborates (λ o. option_map message_options_view o) result
-        (construct_faults env of.Message message_table os)
-        (sets.message_options (customs_bytes env of.Message os) os) }
+        IfOk result (λ o. option_map message_options_view o
+        ≡ sets.message_options (customs_bytes env of.Message os) os) }
+    ensures faults { let env = environment_in (C.customs at.now.custom.now) at.now.context in
+        let os = messages.options_of_body (map message_statement_syntax body.now) in
+        OnOk result (found faults.new ≡ found faults.old
+        ++ construct_faults env of.Message message_table os) }
 {
-    let options = options_in(alloc, body)?;
-    let bytes = checked_customs(alloc, context, custom, Construct::Message, &options)?;
+    let options = options_in(at.alloc, body)?;
+    let bytes = custom_bytes(at, faults, Construct::Message, &options)?;
     Ok(message_options(&options, bytes))
 }

@@ -1,27 +1,30 @@
 //! Services.
 
-ghost use Rattle.std.specs.Prelude.{◌≡◌, [], map, flat_map, option_map, string_bytes};
-ghost use Rattle.std.specs.Prelude.{unwrap_or, IfOk};
+ghost use Rattle.std.specs.Prelude.{◌≡◌, ◌++◌, [], map, flat_map, option_map, string_bytes};
+ghost use Rattle.std.specs.Prelude.{unwrap_or, IfOk, OnOk};
 ghost use Rattle.protobuf_parse_syntax.specs.Trees as tree;
 ghost use Rattle.protobuf_parse_model.specs.BuiltinOptions.{method_table, service_table};
 ghost use Rattle.protobuf_parse_model.specs.SeenFiles.{environment_in};
-ghost use Rattle.protobuf_parse_model.specs.SeenFiles.{names_of_context};
 ghost use Rattle.protobuf_parse_model.specs.Descriptors as described;
 ghost use Rattle.protobuf_parse_model.specs.Environment.{customs_bytes, type_full_name};
 ghost use Rattle.protobuf_parse_model.specs.Environment.{type_missing};
 ghost use Rattle.protobuf_parse_model.specs.declared.customs.Construct.TheVariants as of;
-ghost use Rattle.protobuf_parse_model.specs.Faults.{Elaborates};
+ghost use Rattle.protobuf_parse_model.specs.Duplicates.{duplicates};
+ghost use Rattle.protobuf_parse_model.specs.Faults.{found, placed};
 ghost use Rattle.protobuf_parse_model.specs.Options.{method_options_view, service_options_view};
 ghost use Rattle.protobuf_parse_model.specs.OptionMessages as sets;
 ghost use Rattle.protobuf_parse_elaboration.specs.ConstructOptions.{construct_faults};
 ghost use Rattle.protobuf_parse_elaboration.specs.Parts.{methods_seen};
 ghost use Rattle.protobuf_parse_elaboration.specs.Services as services;
 
-use crate::convert::names::check_unlike;
-use crate::convert::options::{checked_customs, method_options, options_in, service_options};
+use crate::convert::declared::DeclaredAs;
+use crate::convert::options::{custom_bytes, method_options, options_in, service_options};
+use crate::convert::told::tell_names;
 use crate::convert::types::type_full_name;
+use crate::convert::viewpoint::Viewpoint;
+use protobuf_parse_lexer::Place;
 use protobuf_parse_model::{
-    Construct, Context, CustomOptions, ElabFailure, MethodDescriptorProto, MethodOptions,
+    Construct, CustomOptions, ElabError, MethodDescriptorProto, MethodOptions,
     ServiceDescriptorProto, ServiceOptions,
 };
 use protobuf_parse_syntax::{Method, OptionStatement, Service, ServiceStatement};
@@ -31,21 +34,21 @@ use std::alloc::{AllocError, Global};
 ///
 /// E1 where two of its methods have one name, E2 and E3 where the type of one means none, and the
 /// faults of its options.
-#[tactic(auto, using(protobuf_parse_model::proofs::Blaming::blames_left, protobuf_parse_model::proofs::Blaming::blames_right))]
 pub fn service_descriptor<C: CustomOptions>(
-    alloc: Global,
-    context: &Context<'_>,
-    custom: &C,
+    at: &Viewpoint<'_, '_, C>,
+    faults: &mut Vec<ElabError>,
     service: &Service,
-) -> Result<ServiceDescriptorProto, ElabFailure>
-    ensures { let env = environment_in (C.customs custom.now) context.now in
-        let s = tree.service_syntax service.now in
-        Elaborates described.service_view result (services.service_faults env s)
-        (services.service_of env s) }
+) -> Result<ServiceDescriptorProto, AllocError>
+    ensures value { let env = environment_in (C.customs at.now.custom.now) at.now.context in
+        IfOk result (λ d. described.service_view d
+        ≡ services.service_of env (tree.service_syntax service.now)) }
+    ensures faults { let env = environment_in (C.customs at.now.custom.now) at.now.context in
+        OnOk result (found faults.new ≡ found faults.old
+        ++ services.service_faults env (tree.service_syntax service.now)) }
 {
-    let method = service_methods(alloc, context, custom, &service.body)?;
+    let method = service_methods(at, faults, &service.body)?;
     let name = service.name.clone()?;
-    let options = checked_options(alloc, context, custom, &service.body)?;
+    let options = told_options(at, faults, &service.body)?;
     Ok(ServiceDescriptorProto {
         name,
         method,
@@ -53,37 +56,55 @@ pub fn service_descriptor<C: CustomOptions>(
     })
 }
 
-/// The descriptors of the methods, whose names differ: E1.
+/// The descriptors of the methods. E1 where two have one name.
 fn service_methods<C: CustomOptions>(
-    alloc: Global,
-    context: &Context<'_>,
-    custom: &C,
+    at: &Viewpoint<'_, '_, C>,
+    faults: &mut Vec<ElabError>,
     body: &[ServiceStatement],
-) -> Result<Vec<MethodDescriptorProto>, ElabFailure>
-    ensures { let env = environment_in (C.customs custom.now) context.now in
+) -> Result<Vec<MethodDescriptorProto>, AllocError>
+    ensures value { let env = environment_in (C.customs at.now.custom.now) at.now.context in
         let ms = flat_map services.methods_in (map tree.service_statement_syntax body.now) in
-        Elaborates (λ v. map described.method_view v.items) result (services.methods_faults env ms)
-        (map (services.method_of env) ms) }
+        IfOk result (λ v. map described.method_view v.items ≡ map (services.method_of env) ms) }
+    ensures faults { let env = environment_in (C.customs at.now.custom.now) at.now.context in
+        let ms = flat_map services.methods_in (map tree.service_statement_syntax body.now) in
+        OnOk result (found faults.new ≡ found faults.old ++ services.methods_faults env ms) }
 {
-    let methods = methods(alloc, body)?;
-    unlike_methods(alloc, context, custom, &methods)
+    let methods = methods(at.alloc, body)?;
+    unlike_methods(at, faults, &methods)
 }
 
-/// The descriptors of these methods, whose names differ: E1.
-#[tactic(auto, using(crate::proofs::Naming::named_in_service))]
+/// The descriptors of these methods. E1 where two have one name.
 fn unlike_methods<C: CustomOptions>(
-    alloc: Global,
-    context: &Context<'_>,
-    custom: &C,
+    at: &Viewpoint<'_, '_, C>,
+    faults: &mut Vec<ElabError>,
     methods: &[&Method],
-) -> Result<Vec<MethodDescriptorProto>, ElabFailure>
-    ensures { let env = environment_in (C.customs custom.now) context.now in
-        let ms = methods_seen methods.now in
-        Elaborates (λ v. map described.method_view v.items) result (services.methods_faults env ms)
-        (map (services.method_of env) ms) }
+) -> Result<Vec<MethodDescriptorProto>, AllocError>
+    ensures value { let env = environment_in (C.customs at.now.custom.now) at.now.context in
+        IfOk result (λ v. map described.method_view v.items
+        ≡ map (services.method_of env) (methods_seen methods.now)) }
+    ensures faults { let env = environment_in (C.customs at.now.custom.now) at.now.context in
+        OnOk result (found faults.new ≡ found faults.old
+        ++ services.methods_faults env (methods_seen methods.now)) }
 {
-    check_unlike(alloc, methods)?;
-    method_descriptors(alloc, context, custom, methods)
+    let descriptors = method_descriptors(at, faults, methods)?;
+    tell_method_names(at, faults, methods, &descriptors)?;
+    Ok(descriptors)
+}
+
+/// E1 where two of the methods have one name. The descriptors are theirs.
+fn tell_method_names<C: CustomOptions>(
+    at: &Viewpoint<'_, '_, C>,
+    faults: &mut Vec<ElabError>,
+    methods: &[&Method],
+    descriptors: &[MethodDescriptorProto],
+) -> Result<(), AllocError>
+    requires { let env = environment_in (C.customs at.now.custom.now) at.now.context in map described.method_view descriptors.now
+        ≡ map (services.method_of env) (methods_seen methods.now) }
+    ensures { OnOk result (found faults.new ≡ found faults.old
+        ++ duplicates (map services.method_named (methods_seen methods.now))) }
+{
+    let syntax = at.context.syntax;
+    tell_names(at.alloc, faults, DeclaredAs::Other, syntax, methods, descriptors)
 }
 
 /// The methods of a service.
@@ -102,41 +123,41 @@ fn methods(alloc: Global, body: &[ServiceStatement]) -> Result<Vec<&Method>, All
 }
 
 /// Their descriptors.
-#[tactic(auto, using(protobuf_parse_model::proofs::Blaming::blames_at))]
 fn method_descriptors<C: CustomOptions>(
-    alloc: Global,
-    context: &Context<'_>,
-    custom: &C,
+    at: &Viewpoint<'_, '_, C>,
+    faults: &mut Vec<ElabError>,
     methods: &[&Method],
-) -> Result<Vec<MethodDescriptorProto>, ElabFailure>
-    ensures { let env = environment_in (C.customs custom.now) context.now in
-        let ms = methods_seen methods.now in
-        Elaborates (λ v. map described.method_view v.items) result
-        (flat_map (services.method_faults env) ms) (map (services.method_of env) ms) }
+) -> Result<Vec<MethodDescriptorProto>, AllocError>
+    ensures value { let env = environment_in (C.customs at.now.custom.now) at.now.context in
+        IfOk result (λ v. map described.method_view v.items
+        ≡ map (services.method_of env) (methods_seen methods.now)) }
+    ensures faults { let env = environment_in (C.customs at.now.custom.now) at.now.context in
+        OnOk result (found faults.new ≡ found faults.old
+        ++ flat_map (services.method_faults env) (methods_seen methods.now)) }
 {
-    let mut descriptors = Vec::with_capacity(alloc, methods.len())?;
+    let mut descriptors = Vec::with_capacity(at.alloc, methods.len())?;
     for method in methods {
-        descriptors.push(method_descriptor(alloc, context, custom, method)?)?;
+        descriptors.push(method_descriptor(at, faults, method)?)?;
     }
     Ok(descriptors)
 }
 
-#[tactic(auto, using(protobuf_parse_model::proofs::Blaming::blames_left, protobuf_parse_model::proofs::Blaming::blames_right))]
 fn method_descriptor<C: CustomOptions>(
-    alloc: Global,
-    context: &Context<'_>,
-    custom: &C,
+    at: &Viewpoint<'_, '_, C>,
+    faults: &mut Vec<ElabError>,
     method: &Method,
-) -> Result<MethodDescriptorProto, ElabFailure>
-    ensures { let env = environment_in (C.customs custom.now) context.now in
-        let m = tree.method_syntax method.now in
-        Elaborates described.method_view result (services.method_faults env m)
-        (services.method_of env m) }
+) -> Result<MethodDescriptorProto, AllocError>
+    ensures value { let env = environment_in (C.customs at.now.custom.now) at.now.context in
+        IfOk result (λ d. described.method_view d
+        ≡ services.method_of env (tree.method_syntax method.now)) }
+    ensures faults { let env = environment_in (C.customs at.now.custom.now) at.now.context in
+        OnOk result (found faults.new ≡ found faults.old
+        ++ services.method_faults env (tree.method_syntax method.now)) }
 {
-    let input_type = method_type(alloc, context, &method.input)?;
-    let output_type = method_type(alloc, context, &method.output)?;
+    let input_type = method_type(at, faults, method.place, &method.input)?;
+    let output_type = method_type(at, faults, method.place, &method.output)?;
     let name = method.name.clone()?;
-    let options = checked_method_options(alloc, context, custom, &method.options)?;
+    let options = told_method_options(at, faults, &method.options)?;
     Ok(MethodDescriptorProto {
         name,
         input_type,
@@ -147,50 +168,65 @@ fn method_descriptor<C: CustomOptions>(
     })
 }
 
-/// The full name of a method's type. E2 or E3 where the name means none.
-fn method_type(alloc: Global, context: &Context<'_>, name: &str) -> Result<String, ElabFailure>
-    ensures { let env = names_of_context context.now in
-        Elaborates string_bytes result (type_missing env name.now)
-        (unwrap_or (type_full_name env name.now) []) }
+/// The full name of a method's type. E2 or E3 at the place where the name means none.
+fn method_type<C: CustomOptions>(
+    at: &Viewpoint<'_, '_, C>,
+    faults: &mut Vec<ElabError>,
+    place: Place,
+    name: &str,
+) -> Result<String, AllocError>
+    ensures value { let env = environment_in (C.customs at.now.custom.now) at.now.context in
+        IfOk result (λ s. string_bytes s ≡ unwrap_or (type_full_name env name.now) []) }
+    ensures faults { let env = environment_in (C.customs at.now.custom.now) at.now.context in
+        OnOk result (found faults.new ≡ found faults.old
+        ++ placed place (type_missing env name.now)) }
 {
-    type_full_name(alloc, context, name)
+    match type_full_name(at, faults, place, name)? {
+        Some(name) => Ok(name),
+        None => Ok(String::new(at.alloc)),
+    }
 }
 
 /// What the options of a method say.
 #[tactic(auto, using(crate::proofs::StatedOptions::method_options_set))]
-fn checked_method_options<C: CustomOptions>(
-    alloc: Global,
-    context: &Context<'_>,
-    custom: &C,
+fn told_method_options<C: CustomOptions>(
+    at: &Viewpoint<'_, '_, C>,
+    faults: &mut Vec<ElabError>,
     statements: &[OptionStatement],
-) -> Result<Option<MethodOptions>, ElabFailure>
-    ensures { let env = environment_in (C.customs custom.now) context.now in
+) -> Result<Option<MethodOptions>, AllocError>
+    ensures value { let env = environment_in (C.customs at.now.custom.now) at.now.context in
         let os = map services.statement_option (map tree.option_statement_syntax statements.now) in
-        Elaborates (λ o. option_map method_options_view o) result
-        (construct_faults env of.Method method_table os)
-        (sets.method_options (customs_bytes env of.Method os) os) }
+        IfOk result (λ o. option_map method_options_view o
+        ≡ sets.method_options (customs_bytes env of.Method os) os) }
+    ensures faults { let env = environment_in (C.customs at.now.custom.now) at.now.context in
+        let os = map services.statement_option (map tree.option_statement_syntax statements.now) in
+        OnOk result (found faults.new ≡ found faults.old
+        ++ construct_faults env of.Method method_table os) }
 {
-    let options = options_in(alloc, statements)?;
-    let bytes = checked_customs(alloc, context, custom, Construct::Method, &options)?;
+    let options = options_in(at.alloc, statements)?;
+    let bytes = custom_bytes(at, faults, Construct::Method, &options)?;
     Ok(method_options(&options, bytes))
 }
 
 /// What the options of a service say.
 #[tactic(auto, using(crate::proofs::StatedOptions::service_options_set))]
-fn checked_options<C: CustomOptions>(
-    alloc: Global,
-    context: &Context<'_>,
-    custom: &C,
+fn told_options<C: CustomOptions>(
+    at: &Viewpoint<'_, '_, C>,
+    faults: &mut Vec<ElabError>,
     body: &[ServiceStatement],
-) -> Result<Option<ServiceOptions>, ElabFailure>
-    ensures { let env = environment_in (C.customs custom.now) context.now in
+) -> Result<Option<ServiceOptions>, AllocError>
+    ensures value { let env = environment_in (C.customs at.now.custom.now) at.now.context in
         let os = flat_map services.options_in_service
         (map tree.service_statement_syntax body.now) in
-        Elaborates (λ o. option_map service_options_view o) result
-        (construct_faults env of.Service service_table os)
-        (sets.service_options (customs_bytes env of.Service os) os) }
+        IfOk result (λ o. option_map service_options_view o
+        ≡ sets.service_options (customs_bytes env of.Service os) os) }
+    ensures faults { let env = environment_in (C.customs at.now.custom.now) at.now.context in
+        let os = flat_map services.options_in_service
+        (map tree.service_statement_syntax body.now) in
+        OnOk result (found faults.new ≡ found faults.old
+        ++ construct_faults env of.Service service_table os) }
 {
-    let options = options_in(alloc, body)?;
-    let bytes = checked_customs(alloc, context, custom, Construct::Service, &options)?;
+    let options = options_in(at.alloc, body)?;
+    let bytes = custom_bytes(at, faults, Construct::Service, &options)?;
     Ok(service_options(&options, bytes))
 }

@@ -1,25 +1,24 @@
 //! The statements that declare fields: fields with the messages behind maps, and groups.
 
-ghost use Rattle.std.specs.Prelude.{◌≡◌, [], ◌∷◌, ◌++◌, OnOk};
+ghost use Rattle.std.specs.Prelude.{◌≡◌, [], ◌∷◌, ◌++◌, IfOk, OnOk};
 ghost use Rattle.protobuf_parse_syntax.specs.Trees as tree;
 ghost use Rattle.protobuf_parse_syntax.specs.Trees.{field_syntax, field_statement_syntax, group_of};
 ghost use Rattle.protobuf_parse_syntax.specs.Trees.{group_syntax};
 ghost use Rattle.protobuf_parse_model.specs.SeenFiles.{environment_in};
-ghost use Rattle.protobuf_parse_model.specs.Faults.{Elaborates};
+ghost use Rattle.protobuf_parse_model.specs.Faults.{found};
 ghost use Rattle.protobuf_parse_elaboration.specs.Parts.{behind_seen, declared_view};
 ghost use Rattle.protobuf_parse_elaboration.specs.Parts.{field_declared_by};
 ghost use Rattle.protobuf_parse_elaboration.specs.Parts.{extension_declared_by};
 ghost use Rattle.protobuf_parse_elaboration.specs.Parts.{field_place_view};
 ghost use Rattle.protobuf_parse_elaboration.specs.Fields as fields;
 
-use crate::convert::field::{check_no_map, field_descriptor, group_field};
+use crate::convert::field::{field_descriptor, group_field, tell_map};
 use crate::convert::generated::{boxed, group_message, map_entry};
 use crate::convert::place::FieldPlace;
-use protobuf_parse_model::{
-    Context, CustomOptions, DescriptorProto, ElabFailure, FieldDescriptorProto,
-};
+use crate::convert::viewpoint::Viewpoint;
+use protobuf_parse_model::{CustomOptions, DescriptorProto, ElabError, FieldDescriptorProto};
 use protobuf_parse_syntax::{Field, FieldStatement, Group};
-use std::alloc::{AllocError, Global};
+use std::alloc::AllocError;
 
 /// The field that a statement declares.
 pub struct DeclaredField {
@@ -77,78 +76,80 @@ fn push_behind(
 /// group stands in a group.
 #[inline(always)]
 pub fn declared_field<C: CustomOptions>(
-    alloc: Global,
-    context: &Context<'_>,
-    custom: &C,
+    at: &Viewpoint<'_, '_, C>,
+    faults: &mut Vec<ElabError>,
     place: &FieldPlace<'_>,
     statement: &FieldStatement,
-) -> Result<DeclaredField, ElabFailure>
-    ensures { let env = environment_in (C.customs custom.now) context.now in
-        let s = field_statement_syntax statement.now in
-        Elaborates declared_view result (fields.field_statement_faults env s)
-        (field_declared_by env (field_place_view place.now) s) }
+) -> Result<DeclaredField, AllocError>
+    ensures value { let env = environment_in (C.customs at.now.custom.now) at.now.context in
+        IfOk result (λ d. declared_view d ≡ field_declared_by env (field_place_view place.now)
+        (field_statement_syntax statement.now)) }
+    ensures faults { let env = environment_in (C.customs at.now.custom.now) at.now.context in
+        OnOk result (found faults.new ≡ found faults.old
+        ++ fields.field_statement_faults env (field_statement_syntax statement.now)) }
 {
     match statement {
-        FieldStatement::Field(field) => declared_plain(alloc, context, custom, place, field),
-        FieldStatement::Group(group) => declared_group(alloc, context, custom, place, group),
+        FieldStatement::Field(field) => declared_plain(at, faults, place, field),
+        FieldStatement::Group(group) => declared_group(at, faults, place, group),
     }
 }
 
 /// What a statement of an `extend` declares. E4 for a map.
 pub fn declared_extension<C: CustomOptions>(
-    alloc: Global,
-    context: &Context<'_>,
-    custom: &C,
+    at: &Viewpoint<'_, '_, C>,
+    faults: &mut Vec<ElabError>,
     place: &FieldPlace<'_>,
     statement: &FieldStatement,
-) -> Result<DeclaredField, ElabFailure>
-    ensures { let env = environment_in (C.customs custom.now) context.now in
-        let s = field_statement_syntax statement.now in
-        Elaborates declared_view result (fields.extension_faults env s)
-        (extension_declared_by env (field_place_view place.now) s) }
+) -> Result<DeclaredField, AllocError>
+    ensures value { let env = environment_in (C.customs at.now.custom.now) at.now.context in
+        IfOk result (λ d. declared_view d ≡ extension_declared_by env (field_place_view place.now)
+        (field_statement_syntax statement.now)) }
+    ensures faults { let env = environment_in (C.customs at.now.custom.now) at.now.context in
+        OnOk result (found faults.new ≡ found faults.old
+        ++ fields.extension_faults env (field_statement_syntax statement.now)) }
 {
     match statement {
-        FieldStatement::Field(field) => declared_unless_map(alloc, context, custom, place, field),
-        FieldStatement::Group(group) => declared_group(alloc, context, custom, place, group),
+        FieldStatement::Field(field) => declared_without_entry(at, faults, place, field),
+        FieldStatement::Group(group) => declared_group(at, faults, place, group),
     }
 }
 
 /// A field that is no group.
 #[inline(always)]
-#[tactic(auto, using(protobuf_parse_model::proofs::Blaming::blames_left))]
 fn declared_plain<C: CustomOptions>(
-    alloc: Global,
-    context: &Context<'_>,
-    custom: &C,
+    at: &Viewpoint<'_, '_, C>,
+    faults: &mut Vec<ElabError>,
     place: &FieldPlace<'_>,
     field: &Field,
-) -> Result<DeclaredField, ElabFailure>
-    ensures { let env = environment_in (C.customs custom.now) context.now in
-        let s = tree.field (field_syntax field.now) in
-        Elaborates declared_view result (fields.field_statement_faults env s)
-        (field_declared_by env (field_place_view place.now) s) }
+) -> Result<DeclaredField, AllocError>
+    ensures value { let env = environment_in (C.customs at.now.custom.now) at.now.context in
+        IfOk result (λ d. declared_view d ≡ field_declared_by env (field_place_view place.now)
+        (tree.field (field_syntax field.now))) }
+    ensures faults { let env = environment_in (C.customs at.now.custom.now) at.now.context in
+        OnOk result (found faults.new ≡ found faults.old
+        ++ fields.field_faults env (field_syntax field.now)) }
 {
-    let behind = map_entry(alloc, context, &field.name, &field.type_)?;
-    let field = field_descriptor(alloc, context, custom, place, field)?;
+    let behind = map_entry(at, &field.name, &field.type_)?;
+    let field = field_descriptor(at, faults, place, field)?;
     Ok(DeclaredField { field, behind })
 }
 
-/// A field that is no group and no map.
-#[tactic(auto, using(protobuf_parse_model::proofs::Blaming::blames_left, protobuf_parse_model::proofs::Blaming::blames_right))]
-fn declared_unless_map<C: CustomOptions>(
-    alloc: Global,
-    context: &Context<'_>,
-    custom: &C,
+/// A field that is no group, and E4 where it is a map: no message stands behind it.
+fn declared_without_entry<C: CustomOptions>(
+    at: &Viewpoint<'_, '_, C>,
+    faults: &mut Vec<ElabError>,
     place: &FieldPlace<'_>,
     field: &Field,
-) -> Result<DeclaredField, ElabFailure>
-    ensures { let env = environment_in (C.customs custom.now) context.now in
-        let s = tree.field (field_syntax field.now) in
-        Elaborates declared_view result (fields.extension_faults env s)
-        (extension_declared_by env (field_place_view place.now) s) }
+) -> Result<DeclaredField, AllocError>
+    ensures value { let env = environment_in (C.customs at.now.custom.now) at.now.context in
+        IfOk result (λ d. declared_view d ≡ extension_declared_by env (field_place_view place.now)
+        (tree.field (field_syntax field.now))) }
+    ensures faults { let env = environment_in (C.customs at.now.custom.now) at.now.context in
+        OnOk result (found faults.new ≡ found faults.old
+        ++ fields.extension_faults env (tree.field (field_syntax field.now))) }
 {
-    check_no_map(alloc, field)?;
-    let field = field_descriptor(alloc, context, custom, place, field)?;
+    tell_map(at.alloc, faults, field)?;
+    let field = field_descriptor(at, faults, place, field)?;
     Ok(DeclaredField {
         field,
         behind: None,
@@ -158,20 +159,21 @@ fn declared_unless_map<C: CustomOptions>(
 /// A group.
 #[tactic(auto, using(protobuf_parse_model::specs::Statements::group_body_is))]
 fn declared_group<C: CustomOptions>(
-    alloc: Global,
-    context: &Context<'_>,
-    custom: &C,
+    at: &Viewpoint<'_, '_, C>,
+    faults: &mut Vec<ElabError>,
     place: &FieldPlace<'_>,
     group: &Group,
-) -> Result<DeclaredField, ElabFailure>
-    ensures { let env = environment_in (C.customs custom.now) context.now in
-        let s = group_of (group_syntax group.now) in
-        Elaborates declared_view result (fields.field_statement_faults env s)
-        (field_declared_by env (field_place_view place.now) s) }
+) -> Result<DeclaredField, AllocError>
+    ensures value { let env = environment_in (C.customs at.now.custom.now) at.now.context in
+        IfOk result (λ d. declared_view d ≡ field_declared_by env (field_place_view place.now)
+        (group_of (group_syntax group.now))) }
+    ensures faults { let env = environment_in (C.customs at.now.custom.now) at.now.context in
+        OnOk result (found faults.new ≡ found faults.old
+        ++ fields.field_statement_faults env (group_of (group_syntax group.now))) }
 {
-    let message = group_message(alloc, context, custom, group)?;
-    let message = boxed(alloc, message)?;
-    let field = group_field(alloc, context, place, group)?;
+    let message = group_message(at, faults, group)?;
+    let message = boxed(at.alloc, message)?;
+    let field = group_field(at, place, group)?;
     Ok(DeclaredField {
         field,
         behind: Some(message),

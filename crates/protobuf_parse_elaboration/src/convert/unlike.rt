@@ -1,33 +1,48 @@
 //! A quick test that names differ.
 
-ghost use Rattle.std.specs.Prelude.{◌≡◌, ℕ, List, map, true, IfOk, []};
-ghost use Rattle.std.specs.Borrow.{Bor};
+ghost use Rattle.std.specs.Prelude.{◌≡◌, List, map, true, IfOk, []};
 ghost use Rattle.std.specs.List.Sorted.{IsStrictlyIncreasing};
-ghost use Rattle.protobuf_parse_model.specs.Duplicates.{duplicates};
+ghost use Rattle.protobuf_parse_model.specs.Duplicates.{NamedAt, duplicates};
 ghost use Rattle.protobuf_parse_elaboration.specs.NameKeys.{key_of};
 
+use crate::convert::names::Named;
 use std::alloc::{AllocError, Global};
 use std::hash::{FoldHasher, Hasher};
 
-/// Whether these names have different keys, so that no name stands among those before it. Names
-/// that differ seldom share a key; where some do, this is no answer.
-pub fn have_unlike_keys(alloc: Global, names: &[&str]) -> Result<bool, AllocError>
-    ensures { IfOk result (λ unlike. unlike ≡ true
-        → duplicates (map (λ (s : Bor (List ℕ)). s.now) names.now) ≡ []) }
+/// Whether the items have names of different keys, so that no name stands among those before it.
+/// Names that differ seldom share a key; where some do, this is no answer.
+#[inline(always)]
+#[tactic(auto, using(crate::proofs::Unlike::few_unlike))]
+pub fn are_unlike<T: Named>(alloc: Global, items: &[T]) -> Result<bool, AllocError>
+    ensures { IfOk result (λ unlike. unlike ≡ true → (declared : List NamedAt)
+        → map T.name_of items.now ≡ map (λ (d : NamedAt). d.name) declared
+        → duplicates declared ≡ []) }
 {
-    let mut keys = keys_of(alloc, names)?;
+    if items.len() < 2 {
+        return Ok(true);
+    }
+    have_unlike_keys(alloc, items)
+}
+
+/// The same of two or more, which cost a list of their keys.
+fn have_unlike_keys<T: Named>(alloc: Global, items: &[T]) -> Result<bool, AllocError>
+    ensures { IfOk result (λ unlike. unlike ≡ true → (declared : List NamedAt)
+        → map T.name_of items.now ≡ map (λ (d : NamedAt). d.name) declared
+        → duplicates declared ≡ []) }
+{
+    let mut keys = keys_of(alloc, items)?;
     keys.sort_unstable();
     Ok(is_ascending(&keys))
 }
 
-/// The keys of these names, in their order.
-fn keys_of(alloc: Global, names: &[&str]) -> Result<Vec<u64>, AllocError>
+/// The keys of the names of these, in their order.
+fn keys_of<T: Named>(alloc: Global, items: &[T]) -> Result<Vec<u64>, AllocError>
     ensures { IfOk result
-        (λ keys. keys.items ≡ map (λ (s : Bor (List ℕ)). key_of s.now) names.now) }
+        (λ keys. keys.items ≡ map (λ x. key_of (T.name_of x)) items.now) }
 {
-    let mut keys = Vec::with_capacity(alloc, names.len())?;
-    for name in names {
-        keys.push(key_of(name.as_bytes()))?;
+    let mut keys = Vec::with_capacity(alloc, items.len())?;
+    for item in items {
+        keys.push(key_of(item.name().as_bytes()))?;
     }
     Ok(keys)
 }

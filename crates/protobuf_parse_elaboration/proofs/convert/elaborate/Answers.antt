@@ -1,27 +1,19 @@
-use Rattle.std.proofs.Common.{Option, subst}
+use Rattle.std.proofs.Common.{◌≡◌, ◌∙◌, ◌++◌, ap, map}
 use Rattle.protobuf_parse_syntax.specs.Trees.{file_syntax}
-use Rattle.protobuf_parse_model.specs.Declarations.{DeclaredType, file_scope}
 use Rattle.protobuf_parse_model.specs.Descriptors as described
-use Rattle.protobuf_parse_model.specs.Descriptors.{Text}
-use Rattle.protobuf_parse_model.specs.Environment.{Environment}
-use Rattle.protobuf_parse_model.specs.Faults.{Elaborates}
-use Rattle.protobuf_parse_elaboration.specs.FileDescriptor.{file_faults, file_of}
-use Rattle.protobuf_parse_model.proofs.Sights.{seen_types_are}
+use Rattle.protobuf_parse_model.specs.Faults.{fault_view, found}
+use Rattle.protobuf_parse_model.specs.Tables.{picked}
+use Rattle.protobuf_parse_elaboration.specs.FileDescriptor.{environment, file_faults, file_of}
+use Rattle.protobuf_parse_elaboration.proofs.Gathering.{elaborated}
 use Rattle.protobuf_parse_elaboration.proofs.convert.elaborate.Goals as goal
 
 pub returns : goal.returns
 returns g c files told =
     let t = file_syntax c.args.tree.now in
-    let sees : (Text → Option DeclaredType)
-    → Environment = λ types.
-    record {
-      syntax = t.syntax;
-      types = types;
-      scope = file_scope t;
-      customs =
-          g.C.CustomOptions.customs c.args.custom.now;
-    } in
-    subst (λ (types : Text → Option DeclaredType). Elaborates described.file_view
-    c.file_descriptor.result (file_faults (sees types) t)
-    (file_of (sees types) c.args.name.now t)) (seen_types_are c.args.seen.now files told)
-    c.file_descriptor.ensures
+    let env = environment (picked files c.args.seen.now.sight.now)
+    (g.C.CustomOptions.customs c.args.custom.now) t in
+    elaborated described.file_view c.unless_told.result (found c.elaborate_all.new.faults)
+    (file_faults env t) c.in_ok-descriptor.descriptor (file_of env c.args.name.now t)
+    (c.in_ok-descriptor.ensures.faults files told
+    ∙ ap (λ fs. map fault_view fs ++ file_faults env t) c.new-faults.ensures.items)
+    (c.in_ok-descriptor.ensures.value files told) c.unless_told.ensures

@@ -6,7 +6,7 @@ ghost use Rattle.std.specs.List.{find};
 ghost use Rattle.protobuf_parse_syntax.specs.Trees.{constant_syntax, option_syntax};
 ghost use Rattle.protobuf_parse_model.specs.BuiltinOptions as spec;
 ghost use Rattle.protobuf_parse_model.specs.BuiltinOptions.{options_seen};
-ghost use Rattle.protobuf_parse_elaboration.specs.Fields.{first_value};
+ghost use Rattle.protobuf_parse_elaboration.specs.Fields.{first_named, is_named};
 ghost use Rattle.protobuf_parse_elaboration.specs.OptionViews.{constant_seen, words_seen};
 
 use crate::convert::options::strings::decoded_text;
@@ -24,16 +24,27 @@ fn value_if_named<'a>(option: &'a ProtobufOption, name: &str) -> Option<&'a Prot
     }
 }
 
-/// The value that the first statement gives to the built-in option of that name.
-pub fn first_value<'a>(options: &[&'a ProtobufOption], name: &str) -> Option<&'a ProtobufConstant>
-    ensures { option_map constant_seen result ≡ first_value name.now (options_seen options.now) }
+/// The first statement that sets the built-in option of that name.
+pub fn first_named<'a>(options: &[&'a ProtobufOption], name: &str) -> Option<&'a ProtobufOption>
+    ensures { option_map (λ o. option_syntax o.now) result
+        ≡ first_named name.now (options_seen options.now) }
 {
     for option in options {
-        if let Some(value) = value_if_named(option, name) {
-            return Some(value);
+        if is_named(option, name) {
+            return Some(option);
         }
     }
     None
+}
+
+/// Whether the statement sets the built-in option of that name.
+fn is_named(option: &ProtobufOption, name: &str) -> bool
+    ensures { result ≡ is_named name.now (option_syntax option.now).name }
+{
+    match &option.name {
+        ProtobufOptionName::Builtin(builtin) => builtin.as_str() == name,
+        ProtobufOptionName::Custom(_) => false,
+    }
 }
 
 /// The value that the last statement gives to the built-in option of that name.

@@ -1,14 +1,15 @@
 //! What strings stand for.
 
-ghost use Rattle.std.specs.Prelude.{◌≡◌, option_map, string_bytes, IfOk, OnOk};
+ghost use Rattle.std.specs.Prelude.{◌≡◌, ◌++◌, option_map, string_bytes, IfOk, OnOk};
 ghost use Rattle.protobuf_parse_lexer.specs.Decoder.{decode, text_of};
 ghost use Rattle.protobuf_parse_lexer.specs.declared.lexer.str_lit.StrLitDecodeError.TheVariants.{Memory};
 ghost use Rattle.protobuf_parse_syntax.specs.Trees.{pieces_of};
 ghost use Rattle.protobuf_parse_model.specs.BuiltinOptions.{string_faults};
-ghost use Rattle.protobuf_parse_model.specs.Faults.{Elaborates};
+ghost use Rattle.protobuf_parse_model.specs.Faults.{found, placed};
 ghost use Rattle.protobuf_parse_elaboration.specs.Fields.{text_or_empty};
 
-use protobuf_parse_model::{ElabErrorKind, ElabFailure, fault};
+use protobuf_parse_lexer::Place;
+use protobuf_parse_model::{ElabError, ElabErrorKind, tell};
 use protobuf_parse_syntax::{StrLit, StrLitDecodeError};
 use std::alloc::{AllocError, Global};
 
@@ -50,24 +51,47 @@ fn check_memory(error: StrLitDecodeError) -> Result<(), AllocError>
     }
 }
 
-/// The text that the string says which is given to the option of that name. E9 where it says none.
-pub fn text_given(alloc: Global, name: &str, string: &StrLit) -> Result<String, ElabFailure>
-    ensures { let text = text_of (pieces_of string.now) in
-        Elaborates string_bytes result (string_faults name.now text) (text_or_empty text) }
+/// The text that the string says which is given to the option of that name; empty where it says
+/// none, which is E9.
+pub fn text_given(
+    alloc: Global,
+    faults: &mut Vec<ElabError>,
+    place: Place,
+    name: &str,
+    string: &StrLit,
+) -> Result<String, AllocError>
+    ensures value { IfOk result
+        (λ s. string_bytes s ≡ text_or_empty (text_of (pieces_of string.now))) }
+    ensures faults { OnOk result (found faults.new ≡ found faults.old
+        ++ placed place (string_faults name.now (text_of (pieces_of string.now)))) }
 {
     match decoded_text(alloc, string)? {
         Some(text) => Ok(text),
-        None => Err(fault(alloc, ElabErrorKind::StrLitDecode, name)),
+        None => {
+            tell(alloc, faults, place, ElabErrorKind::StrLitDecode, name)?;
+            Ok(String::new(alloc))
+        }
     }
 }
 
-/// The bytes that the string says which is given to the option of that name. E9 where it says none.
-pub fn bytes_given(alloc: Global, name: &str, string: &StrLit) -> Result<Vec<u8>, ElabFailure>
-    ensures { let bytes = decode (pieces_of string.now) in
-        Elaborates (λ v. v.items) result (string_faults name.now bytes) (text_or_empty bytes) }
+/// The bytes that the string says which is given to the option of that name; none where it says
+/// none, which is E9.
+pub fn bytes_given(
+    alloc: Global,
+    faults: &mut Vec<ElabError>,
+    place: Place,
+    name: &str,
+    string: &StrLit,
+) -> Result<Vec<u8>, AllocError>
+    ensures value { IfOk result (λ v. v.items ≡ text_or_empty (decode (pieces_of string.now))) }
+    ensures faults { OnOk result (found faults.new ≡ found faults.old
+        ++ placed place (string_faults name.now (decode (pieces_of string.now)))) }
 {
     match decoded_bytes(alloc, string)? {
         Some(bytes) => Ok(bytes),
-        None => Err(fault(alloc, ElabErrorKind::StrLitDecode, name)),
+        None => {
+            tell(alloc, faults, place, ElabErrorKind::StrLitDecode, name)?;
+            Ok(Vec::new(alloc))
+        }
     }
 }

@@ -16,8 +16,8 @@ returns-in_ok-descriptor-clause-describes c files told =
     ≡ [] = ((rw c.deref-2.ensures.value at c.in_ok-link.ensures) files told).0 in
     let own = (rw c.deref.ensures.value at c.in_ok-descriptor.ensures) files told in
     none-set c.args.loaded.now.entries files reach c.args.sights.now.sight.items c.args.path.now
-    (file_syntax c.args.tree) linked c.in_ok-descriptor.descriptor
-    (sym c.has_custom_option.ensures ∙ c.if-has_custom_option.false) own.0 own.1
+    (file_syntax c.args.tree) linked c.in_ok-descriptor.descriptor c.new.result
+    c.new.ensures.items (sym c.has_custom_option.ensures ∙ c.if-has_custom_option.false) own.0 own.1
 
 pub returns-in_ok-descriptor-clause-begins : goal.returns-in_ok-descriptor-clause-begins
 returns-in_ok-descriptor-clause-begins c =

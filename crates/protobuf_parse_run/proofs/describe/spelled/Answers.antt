@@ -1,8 +1,6 @@
 use Rattle.std.proofs.Common.{◌∙◌, List, Option, ap, flat_map, map, option_map, subst}
 use Rattle.std.specs.Prelude.{option_to_list}
-use Rattle.std.specs.Borrow.{Bor}
 use Rattle.protobuf_parse_syntax.specs.Trees.{file_syntax}
-use Rattle.protobuf_parse_model.specs.declared.descriptor.FileDescriptorProto.{FileDescriptorProto}
 use Rattle.protobuf_parse_model.specs.Descriptors as described
 use Rattle.protobuf_parse_model.specs.Descriptors.{FileDescriptor}
 use Rattle.protobuf_parse_model.specs.Environment.{Customs}
@@ -10,13 +8,9 @@ use Rattle.protobuf_parse_model.specs.Faults.{Elaborates}
 use Rattle.protobuf_parse_model.specs.Tables.{picked}
 use Rattle.protobuf_parse_elaboration.specs.FileDescriptor.{environment, file_faults, file_of}
 use Rattle.protobuf_parse_options.specs.OptionBytes.{known_customs}
-use Rattle.protobuf_parse_run.specs.Loading.{picked_plains, plain_seen, plains_with}
-use Rattle.protobuf_parse_run.proofs.Catching.{picked-seen}
+use Rattle.protobuf_parse_run.specs.Loading.{picked_plains, plains_with}
+use Rattle.protobuf_parse_run.proofs.Catching.{listed, picked-seen}
 use Rattle.protobuf_parse_run.proofs.describe.spelled.Goals as goal
-
--- the descriptors that the code's list has
-abbrev listed : List (Option (Bor FileDescriptorProto)) → List FileDescriptor
-listed fs = flat_map option_to_list (map (option_map plain_seen) fs)
 
 pub returns : goal.returns
 returns c files told =

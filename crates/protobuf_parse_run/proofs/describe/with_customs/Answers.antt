@@ -42,7 +42,8 @@ returns-clause-describes c files told linked =
     let plains = plains_with loaded (described.file_view c.in_ok-plain.plain) in
     let same = ap (λ (d : FileDescriptor). customs_over (plains_with loaded d) reach sight) own.1 in
     some-set loaded files reach sight c.args.path.now (file_syntax c.args.tree) linked
-    (customs_over plains reach sight) c.in_ok-plain.plain c.in_ok-descriptor.descriptor same
+    (customs_over plains reach sight) c.in_ok-plain.plain c.in_ok-descriptor.descriptor
+    c.new.result c.new.ensures.items same
     own.0 own.1 whole.0 whole.1
 
 pub returns-clause-begins : goal.returns-clause-begins

@@ -4,7 +4,7 @@ use Rattle.std.proofs.lemmas.Result.{err_from_is_err_and}
 use Rattle.protobuf_parse_syntax.specs.Trees.{file_syntax}
 use Rattle.protobuf_parse_model.specs.Descriptors.{FileDescriptor, Text}
 use Rattle.protobuf_parse_run.specs.Run.{StandsInElab, origin_given}
-use Rattle.protobuf_parse_run.specs.Loading.{IndexBegins, Describes, Named, faults_over}
+use Rattle.protobuf_parse_run.specs.Loading.{IndexBegins, Describes, Named, ending_over}
 use Rattle.protobuf_parse_run.specs.Loading.{named_trees}
 use Rattle.protobuf_parse_run.specs.Loading.{plain_in, plains_next, trees_of, with_next}
 use Rattle.protobuf_parse_run.specs.declared.loader.LoadedFile.{LoadedFile}
@@ -23,7 +23,7 @@ returns-clause-settles c told none =
     let sights = c.in_ok-sights.sights in
     let described = c.in_ok-described.described in
     let is = subst
-    (λ (z : Text). Describes loaded
+    (λ (z : Text). Describes c.args.gathers loaded
     (with_next loaded t) sights.reach.items sights.sight.items z t (Ok described))
     c.deref.ensures
     (c.in_ok-described.ensures.ok (with_next loaded t) tells) in
@@ -38,6 +38,8 @@ returns-clause-settles c told none =
       read = c.args.read;
       descriptor = described.descriptor;
       plain = described.plain;
+      faults = described.faults;
+      faulty = described.faulty;
     } in
     record {
       key = c.args.path;
@@ -51,9 +53,11 @@ returns-clause-settles c told none =
       reaches = c.in_ok-sights.ensures.reach;
       sees = c.in_ok-sights.ensures.sight;
       hands_on = c.in_ok-sights.ensures.handed_on;
-      faultless = is.0;
-      descriptor = is.1;
-      plain = is.2;
+      faultless = is.faultless;
+      descriptor = is.descriptor;
+      plain = is.plain;
+      faulty = is.faulty;
+      told = is.told;
       tells = rw c.in_ok-described.ensures.names tells;
       begins =
           subst (λ (ps : List FileDescriptor). IndexBegins c.descriptor_of.new.loader.tables.places
@@ -80,7 +84,7 @@ returns-in_err-described-clause-settles c told =
       | inl w ↦
           let stands = subst
           (λ (z : Text). StandsInElab (origin_given z (Some e.outcome))
-          (faults_over (with_next loaded t)
+          (ending_over c.args.gathers (with_next loaded t)
           (plains_next loaded sights.sight.items z t) sights.reach.items sights.sight.items t)
           c.in_err-described.field-0.0) c.deref.ensures w in
           inl (

@@ -1,43 +1,35 @@
-use Rattle.std.proofs.Common.{◌≡◌, ◌∙◌, List, [], ap, flat_map, map, refl, subst}
+use Rattle.std.proofs.Common.{◌≡◌, ◌∙◌, List, ap, map, refl}
 use Rattle.std.proofs.lemmas.List.{map-append}
 use Rattle.protobuf_parse_syntax.specs.declared.tree.field.FieldStatement.{FieldStatement}
 use Rattle.protobuf_parse_syntax.specs.Trees.{extend_syntax, field_statement_syntax}
 use Rattle.protobuf_parse_model.specs.SeenFiles.{environment_in}
 use Rattle.protobuf_parse_model.specs.Descriptors.{Text, field_view, message_view}
 use Rattle.protobuf_parse_elaboration.specs.Parts.{extensions_declared, fields_view}
-use Rattle.protobuf_parse_elaboration.specs.Messages.{extending, extension_faults_of}
+use Rattle.protobuf_parse_elaboration.specs.Messages.{extending}
 use Rattle.protobuf_parse_elaboration.proofs.Bodies.{file_with_extend}
+use Rattle.protobuf_parse_elaboration.proofs.Gathering.{both_ok}
 use Rattle.protobuf_parse_elaboration.proofs.convert.contents.add_extensions.Goals as goal
 
-pub returns : goal.returns
-returns g c =
-    let env = environment_in (g.C.CustomOptions.customs c.args.custom.now) c.args.context.now in
+pub returns-clause-value : goal.returns-clause-value
+returns-clause-value g c =
+    let env = environment_in (g.C.CustomOptions.customs c.args.at.now.custom.now)
+    c.args.at.now.context in
     let e = extend_syntax c.args.extend.now in
     let old = c.args.contents.now in
     let declared = c.in_ok-declared.declared in
-    let by_name = subst
-    (λ (name : Text).
-    (flat_map (extension_faults_of env name) (map field_statement_syntax c.deref-2.result.now)
-    ≡ []) × (fields_view declared
-    ≡ extensions_declared env (extending env name) (map field_statement_syntax c.deref-2.result.now)))
-    c.deref.ensures c.in_ok-declared.ensures in
-    let d = subst
-    (λ (xs : List FieldStatement).
-    (flat_map (extension_faults_of env e.extendee) (map field_statement_syntax xs) ≡ [])
-    × (fields_view declared ≡ extensions_declared env (extending env e.extendee)
-    (map field_statement_syntax xs))) c.deref-2.ensures.value by_name in
-    let extensions = ap (map field_view) c.in_ok-append_declared.ensures.fields
-    ∙ map-append field_view old.extension.items _ in
-    let messages = ap (map message_view) c.in_ok-append_declared.ensures.messages
-    ∙ map-append message_view old.message_type.items _ in (
-      d.0,
-      file_with_extend env old
-          (record {
-            message_type = c.append_declared.new.messages;
-            enum_type = old.enum_type;
-            service =
-                old.service;
-            extension = c.append_declared.new.fields;
-          }) e (fields_view declared) d.1 extensions
-          messages refl refl,
-    )
+    let is = c.in_ok-declared.ensures.value
+    ∙ ap (λ (name : Text). extensions_declared env (extending env name)
+    (map field_statement_syntax c.deref-2.result.now)) c.deref.ensures
+    ∙ ap (λ (xs : List FieldStatement). extensions_declared env (extending env e.extendee)
+    (map field_statement_syntax xs)) c.deref-2.ensures.value in
+    both_ok c.append_declared.result (λ f m.
+    let extensions = ap (map field_view) f ∙ map-append field_view old.extension.items _ in
+    let messages = ap (map message_view) m ∙ map-append message_view old.message_type.items _ in
+    file_with_extend env old
+    (record {
+      message_type = c.append_declared.new.messages;
+      enum_type = old.enum_type;
+      service = old.service;
+      extension = c.append_declared.new.fields;
+    }) e (fields_view declared) is extensions messages refl refl)
+    c.append_declared.ensures.fields c.append_declared.ensures.messages

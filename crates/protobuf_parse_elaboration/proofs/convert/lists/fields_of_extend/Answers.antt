@@ -1,41 +1,47 @@
-use Rattle.std.proofs.Common.{◌≡◌, ◌∙◌, List, Some, ap, flat_map, map, refl, subst, sym}
-use Rattle.std.proofs.lemmas.Result.{err_from_is_err_and}
+use Rattle.std.proofs.Common.{◌≡◌, ◌∙◌, ◌++◌, List, [], Option, ap, flat_map, map, option_map, refl, sym}
+use Rattle.std.proofs.Common.{append-nil, append_assoc, None}
 use Rattle.protobuf_parse_syntax.specs.Trees.{field_statement_syntax}
 use Rattle.protobuf_parse_model.specs.SeenFiles.{environment_in}
 use Rattle.protobuf_parse_model.specs.Descriptors.{Text}
-use Rattle.protobuf_parse_model.specs.Faults.{Elaborates, Fault}
-use Rattle.protobuf_parse_elaboration.specs.Parts.{extensions_declared, fields_view}
-use Rattle.protobuf_parse_elaboration.specs.Fields.{FieldPlace}
-use Rattle.protobuf_parse_elaboration.specs.Messages.{extending, extension_faults_of}
-use Rattle.protobuf_parse_elaboration.proofs.Extending.{extendee_known, extendee_missing, extending_it}
-use Rattle.protobuf_parse_elaboration.proofs.Extending.{no_items}
+use Rattle.protobuf_parse_model.specs.Faults.{found, placed}
+use Rattle.protobuf_parse_elaboration.specs.Parts.{extensions_declared}
+use Rattle.protobuf_parse_elaboration.specs.Fields.{FieldPlace, extension_faults}
+use Rattle.protobuf_parse_elaboration.proofs.Extending.{no_items, some_extend}
+use Rattle.protobuf_parse_elaboration.proofs.Gathering.{if_ok, on_ok}
 use Rattle.protobuf_parse_elaboration.proofs.convert.lists.fields_of_extend.Goals as goal
 
-pub returns-then-is_empty : goal.returns-then-is_empty
-returns-then-is_empty g c =
+pub returns-then-is_empty-clause-value : goal.returns-then-is_empty-clause-value
+returns-then-is_empty-clause-value g c =
     let none = no_items c.args.statements.now (sym c.is_empty.ensures ∙ c.if-is_empty.true) in
-    rw (none, c.new.ensures.items, c.new-then-is_empty.ensures.items) (refl, refl)
+    rw (none, c.new.ensures.items, c.new-then-is_empty.ensures.items) refl
 
-pub returns-in_err-extendee : goal.returns-in_err-extendee
-returns-in_err-extendee g c =
-    let env = environment_in (g.C.CustomOptions.customs c.args.custom.now) c.args.context.now in
-    let p = err_from_is_err_and c.from_residual.result c.from_residual.ensures.1 in
-    rw (p.1, p.2)
-    (extendee_missing field_statement_syntax env c.args.extendee.now c.args.statements.now
-    c.in_err-extendee.field-0.0 (sym c.is_empty.ensures ∙ c.if-is_empty.false)
-    c.in_err-extendee.ensures)
+pub returns-then-is_empty-clause-faults : goal.returns-then-is_empty-clause-faults
+returns-then-is_empty-clause-faults g c =
+    let none = no_items c.args.statements.now (sym c.is_empty.ensures ∙ c.if-is_empty.true) in
+    rw none (sym (append-nil (found c.args.faults.now)))
 
-pub returns : goal.returns
-returns g c =
-    let env = environment_in (g.C.CustomOptions.customs c.args.custom.now) c.args.context.now in
-    let extendee = c.args.extendee.now in
+pub returns-clause-value : goal.returns-clause-value
+returns-clause-value g c =
+    let env = environment_in (g.C.CustomOptions.customs c.args.at.now.custom.now)
+    c.args.at.now.context in
     let ss = map field_statement_syntax c.args.statements.now in
-    let r = c.declared_extensions.result in
-    let known = c.in_ok-extendee.ensures in
-    let is : extending_it (Some c.deref.result.now) ≡ extending env extendee =
-    ap (λ (t : Text). extending_it (Some t)) c.deref.ensures ∙ ap extending_it known.1 in
-    subst (λ (p : FieldPlace). Elaborates fields_view r
-    (flat_map (extension_faults_of env extendee) ss) (extensions_declared env p ss)) is
-    (subst (λ (faults : List Fault). Elaborates fields_view r faults
-    (extensions_declared env (extending_it (Some c.deref.result.now)) ss))
-    (extendee_known env extendee ss known.0) c.declared_extensions.ensures)
+    let at : Option Text → FieldPlace = λ extendee.
+    record { extendee = extendee; oneof_index = None } in
+    if_ok c.declared_extensions.result (λ d h. h ∙ ap (λ extendee.
+    extensions_declared env (at extendee) ss)
+    (c.as_deref.ensures.value ∙ c.in_ok-extendee.ensures.value))
+    c.declared_extensions.ensures.value
+
+pub returns-clause-faults : goal.returns-clause-faults
+returns-clause-faults g c =
+    let env = environment_in (g.C.CustomOptions.customs c.args.at.now.custom.now)
+    c.args.at.now.context in
+    let ss = map field_statement_syntax c.args.statements.now in
+    let some = some_extend field_statement_syntax env c.args.extendee.now c.args.statements.now
+    (sym c.is_empty.ensures ∙ c.if-is_empty.false) in
+    let rest = flat_map (extension_faults env) ss in
+    on_ok c.declared_extensions.result (λ h. h
+    ∙ ap (λ fs. fs ++ rest) c.in_ok-extendee.ensures.faults
+    ∙ append_assoc (found c.args.faults.now) _ rest
+    ∙ ap (λ ws. found c.args.faults.now ++ (placed c.args.place ws ++ rest)) (sym some))
+    c.declared_extensions.ensures.faults

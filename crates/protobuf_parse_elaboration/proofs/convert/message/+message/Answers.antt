@@ -1,8 +1,6 @@
 use Rattle.std.proofs.Common.{◌≡◌, ◌∙◌, ◌+◌, ◌++◌, ◌<◌, ◌≤◌, [], ◌∷◌, ℕ, List, ap, arith, flat_map}
 use Rattle.std.proofs.Common.{length, map, sym, subst, sum_by, take}
-use Rattle.std.proofs.lemmas.Grind.{flat_map-append}
 use Rattle.std.proofs.lemmas.List.{map_more}
-use Rattle.std.proofs.lemmas.Result.{err_from_is_err_and}
 use Rattle.protobuf_parse_base.specs.DeclaredNames.{name_bytes}
 use Rattle.protobuf_parse_syntax.specs.Trees.{MessageStatementSyntax, MessageSyntax, nested_message}
 use Rattle.protobuf_parse_syntax.specs.Trees.{message_statement_syntax, message_syntax}
@@ -14,38 +12,58 @@ use Rattle.protobuf_parse_syntax.proofs.Messages.{view_parts}
 use Rattle.protobuf_parse_model.specs.SeenFiles.{environment_in}
 use Rattle.protobuf_parse_model.specs.SeenFiles.{seen_types, name_texts}
 use Rattle.protobuf_parse_model.specs.Declarations.{Scope}
-use Rattle.protobuf_parse_model.specs.Environment.{Environment}
-use Rattle.protobuf_parse_model.specs.Faults.{Elaborates}
-use Rattle.protobuf_parse_model.proofs.Blaming.{blames_right}
+use Rattle.protobuf_parse_model.specs.Descriptors.{Text, MessageDescriptor}
+use Rattle.protobuf_parse_model.specs.Environment.{Environment, env_inside}
+use Rattle.protobuf_parse_model.specs.Faults.{Fault, found}
 use Rattle.protobuf_parse_model.proofs.TreeViews.{views_nested}
-use Rattle.protobuf_parse_elaboration.specs.Parts.{BodyParts, body_of, body_view}
+use Rattle.protobuf_parse_elaboration.specs.Parts.{body_of, body_view}
 use Rattle.protobuf_parse_elaboration.specs.Parts.{with_body_statement}
-use Rattle.protobuf_parse_elaboration.specs.Messages.{statement_faults}
-use Rattle.protobuf_parse_elaboration.proofs.Bodies.{body_more, few_more, nil-both}
-use Rattle.protobuf_parse_elaboration.proofs.Levels.{IsOfBody, of_body}
+use Rattle.protobuf_parse_elaboration.specs.Messages.{message_from, nested_of, statement_faults}
+use Rattle.protobuf_parse_elaboration.specs.Messages.{whole_faults}
+use Rattle.protobuf_parse_elaboration.proofs.Bodies.{body_more, few_more}
+use Rattle.protobuf_parse_elaboration.proofs.Gathering.{if_ok, on_ok, told_more}
+use Rattle.protobuf_parse_elaboration.proofs.Levels.{faults_of_message, nested_of_message}
 use Rattle.protobuf_parse_elaboration.proofs.convert.message.+message.Goals as goal
 
-pub message_descriptor-returns : goal.message_descriptor-returns
-message_descriptor-returns g t c =
-    let env = environment_in (g.C.CustomOptions.customs c.args.custom.now) c.args.context.now in
+-- a message, by the body that its statements are
+abbrev from_body : Environment → Text → List MessageStatementSyntax → MessageDescriptor
+from_body env name body =
+    message_from env name body (flat_map (nested_of (env_inside env name)) body)
+
+abbrev faults_of_body : Environment → Text → List MessageStatementSyntax → List Fault
+faults_of_body env name body =
+    flat_map (statement_faults (env_inside env name)) body ++ whole_faults env name body
+
+pub message_descriptor-returns-clause-value : goal.message_descriptor-returns-clause-value
+message_descriptor-returns-clause-value g t c =
+    let env = environment_in (g.C.CustomOptions.customs c.args.at.now.custom.now)
+    c.args.at.now.context in
     let m = c.args.message.now in
-    let r = c.message_of_body.result in
-    let named = subst
-    (λ (n : List ℕ). IsOfBody env r n (map message_statement_syntax c.deref-2.result.now))
-    c.deref.ensures c.message_of_body.ensures in
-    let whole = subst (IsOfBody env r (name_bytes m.name)) (ap
-    (map message_statement_syntax) c.deref-2.ensures.value) named in
-    of_body env r (message_syntax m)
-    (subst (λ (x : MessageSyntax). IsOfBody env r x.name x.body) (sym (view_parts m)) whole)
+    let named = ap (λ n. from_body env n (map message_statement_syntax c.deref-2.result.now))
+    c.deref.ensures in
+    let whole = ap (λ ss. from_body env (name_bytes m.name) (map message_statement_syntax ss))
+    c.deref-2.ensures.value in
+    let viewed = ap (λ (x : MessageSyntax). from_body env x.name x.body) (sym (view_parts m)) in
+    if_ok c.message_of_body.result (λ d h. ap (λ x. x ∷ []) (h ∙ named ∙ whole ∙ viewed)
+    ∙ sym (nested_of_message env (message_syntax m))) c.message_of_body.ensures.value
 
-pub message_of_body-returns-in_err-parts : goal.message_of_body-returns-in_err-parts
-message_of_body-returns-in_err-parts g t c =
-    let p = err_from_is_err_and c.from_residual.result c.from_residual.ensures.1 in
-    rw (p.1, p.2) (blames_right c.in_err-parts.field-0.0 _ _ c.in_err-parts.ensures)
+pub message_descriptor-returns-clause-faults : goal.message_descriptor-returns-clause-faults
+message_descriptor-returns-clause-faults g t c =
+    let env = environment_in (g.C.CustomOptions.customs c.args.at.now.custom.now)
+    c.args.at.now.context in
+    let m = c.args.message.now in
+    let named = ap (λ n. faults_of_body env n (map message_statement_syntax c.deref-2.result.now))
+    c.deref.ensures in
+    let whole = ap (λ ss. faults_of_body env (name_bytes m.name) (map message_statement_syntax ss))
+    c.deref-2.ensures.value in
+    let viewed = ap (λ (x : MessageSyntax). faults_of_body env x.name x.body) (sym (view_parts m)) in
+    on_ok c.message_of_body.result (λ h. h ∙ ap (λ fs. found c.args.faults.now ++ fs)
+    (named ∙ whole ∙ viewed ∙ sym (faults_of_message env (message_syntax m))))
+    c.message_of_body.ensures.faults
 
-pub body_inside-returns : goal.body_inside-returns
-body_inside-returns g t c =
-    let seen = c.args.context.now in
+pub body_inside-returns-clause-value : goal.body_inside-returns-clause-value
+body_inside-returns-clause-value g t c =
+    let seen = c.args.at.now.context in
     let ss = map message_statement_syntax c.args.body.now in
     let at : Scope → Environment = λ s.
     record {
@@ -53,16 +71,31 @@ body_inside-returns g t c =
       types = seen_types seen.seen;
       scope = s;
       customs =
-          g.C.CustomOptions.customs c.args.custom.now;
+          g.C.CustomOptions.customs c.args.at.now.custom.now;
     } in
-    subst (λ (s : Scope). Elaborates body_view c.body_of.result
-    (flat_map (statement_faults (at s)) ss) (body_of (at s) ss))
-    (ap name_texts c.deref.ensures.value
-    ∙ c.in_ok-scope.ensures) c.body_of.ensures
+    if_ok c.body_of.result (λ b h. h ∙ ap (λ s. body_of (at s) ss)
+    (ap name_texts c.deref.ensures.value ∙ c.in_ok-scope.ensures)) c.body_of.ensures.value
+
+pub body_inside-returns-clause-faults : goal.body_inside-returns-clause-faults
+body_inside-returns-clause-faults g t c =
+    let seen = c.args.at.now.context in
+    let ss = map message_statement_syntax c.args.body.now in
+    let at : Scope → Environment = λ s.
+    record {
+      syntax = seen.syntax;
+      types = seen_types seen.seen;
+      scope = s;
+      customs =
+          g.C.CustomOptions.customs c.args.at.now.custom.now;
+    } in
+    on_ok c.body_of.result (λ h. h
+    ∙ ap (λ s. found c.args.faults.now ++ flat_map (statement_faults (at s)) ss)
+    (ap name_texts c.deref.ensures.value ∙ c.in_ok-scope.ensures)) c.body_of.ensures.faults
 
 pub body_of-loop-statement-preserved : goal.body_of-loop-statement-preserved
 body_of-loop-statement-preserved g t c =
-    let env = environment_in (g.C.CustomOptions.customs c.args.custom.now) c.args.context.now in
+    let env = environment_in (g.C.CustomOptions.customs c.args.at.now.custom.now)
+    c.args.at.now.context in
     let xs = c.args.statements.now in
     let i = c.loop-statement.statement-index in
     let s = c.statement-item.result in
@@ -72,26 +105,37 @@ body_of-loop-statement-preserved g t c =
     ∙ ap (λ z. seen ++ message_statement_syntax z ∷ []) (sym c.statement-item.is) in
     let added = c.in_ok-add_statement.ensures in
     record {
-      no_fault = ap (flat_map (statement_faults env)) more
-          ∙ flat_map-append (statement_faults env) seen (message_statement_syntax s ∷ [])
-          ∙ nil-both _ _ c.loop-statement.invariant.no_fault added.0;
+      told = told_more (statement_faults env) (found c.args.faults.now) _ _ seen
+          (message_statement_syntax s) _ c.loop-statement.invariant.told added.faults more;
       few = few_more env c.loop-statement.body c.add_statement.new.body
-          (message_statement_syntax s) i added.1 c.loop-statement.invariant.few;
-      all = added.1
+          (message_statement_syntax s) i added.value c.loop-statement.invariant.few;
+      all = added.value
           ∙ (ap (λ b. with_body_statement env b (message_statement_syntax s))
           c.loop-statement.invariant.all
           ∙ (body_more env seen (message_statement_syntax s) ∙ sym (ap (body_of env) more)));
     }
 
-pub add_statement-returns-in-Message : goal.add_statement-returns-in-Message
-add_statement-returns-in-Message g t c =
-    let env = environment_in (g.C.CustomOptions.customs c.args.custom.now) c.args.context.now in
+pub add_statement-returns-in-Message-clause-value : goal.add_statement-returns-in-Message-clause-value
+add_statement-returns-in-Message-clause-value g t c =
+    let env = environment_in (g.C.CustomOptions.customs c.args.at.now.custom.now)
+    c.args.at.now.context in
     let is : message_statement_syntax c.args.statement.now
     ≡ nested_message (message_syntax c.in-Message.message) =
     ap message_statement_syntax c.in-Message.is ∙ views_nested c.in-Message.message in
-    subst (λ (s : MessageStatementSyntax). Elaborates {Y = BodyParts}
-    (λ x. body_view c.add_message.new.body) c.add_message.result (statement_faults env s)
-    (with_body_statement env (body_view c.args.body.now) s)) (sym is) c.add_message.ensures
+    on_ok c.add_message.result (λ h. h
+    ∙ ap (with_body_statement env (body_view c.args.body.now)) (sym is))
+    c.add_message.ensures.value
+
+pub add_statement-returns-in-Message-clause-faults : goal.add_statement-returns-in-Message-clause-faults
+add_statement-returns-in-Message-clause-faults g t c =
+    let env = environment_in (g.C.CustomOptions.customs c.args.at.now.custom.now)
+    c.args.at.now.context in
+    let is : message_statement_syntax c.args.statement.now
+    ≡ nested_message (message_syntax c.in-Message.message) =
+    ap message_statement_syntax c.in-Message.is ∙ views_nested c.in-Message.message in
+    on_ok c.add_message.result (λ h. h
+    ∙ ap (λ s. found c.args.faults.now ++ statement_faults env s) (sym is))
+    c.add_message.ensures.faults
 
 -- ---- each part has fewer statements than the whole
 

@@ -1,4 +1,5 @@
-use Rattle.std.proofs.Common.{◌≡◌, ◌≤◌, ◌+◌, ◌*◌, [], length, map, sum_by, take, flat_map}
+use Rattle.std.proofs.Common.{◌≡◌, ◌≤◌, ◌+◌, ◌*◌, ◌++◌, length, map, sum_by, take, flat_map}
+use Rattle.protobuf_parse_model.specs.Faults.{found}
 use Rattle.protobuf_parse_syntax.specs.Counts.{in_message, message_statement_count}
 use Rattle.protobuf_parse_syntax.specs.Trees.{message_statement_syntax, message_syntax}
 use Rattle.protobuf_parse_model.specs.SeenFiles.{environment_in}
@@ -8,10 +9,10 @@ use Rattle.protobuf_parse_elaboration.proofs.convert.message.+message.Given as g
 
 abbrev pub invariant-body_of-loop-statement : goal.invariant-body_of-loop-statement
 invariant-body_of-loop-statement g l =
-    let env = environment_in (g.C.CustomOptions.customs l.custom) l.context in
+    let env = environment_in (g.C.CustomOptions.customs l.at.custom.now) l.at.context in
     let seen = map message_statement_syntax (take l.statement-index l.statements) in
     record {
-      no_fault : flat_map (statement_faults env) seen ≡ [];
+      told : found l.faults ≡ found l.initial.faults ++ flat_map (statement_faults env) seen;
       all : body_view l.body ≡ body_of env seen;
       few : length l.body.oneof_decl.items ≤ l.statement-index;
     }

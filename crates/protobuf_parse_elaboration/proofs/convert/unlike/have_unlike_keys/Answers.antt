@@ -6,7 +6,7 @@ use Rattle.protobuf_parse_elaboration.proofs.Unlike.{unlike}
 use Rattle.protobuf_parse_elaboration.proofs.convert.unlike.have_unlike_keys.Goals as goal
 
 pub returns : goal.returns
-returns c = λ u.
-    unlike key_of c.args.names.now c.in_ok-keys.keys.items c.sort_unstable.new.self.items
-    c.in_ok-keys.ensures c.sort_unstable.ensures.permutation
-    (subst IsStrictlyIncreasing c.deref.ensures.value (c.is_ascending.ensures u))
+returns g c = λ u declared named.
+    unlike key_of g.T.Named.name_of c.args.items.now c.in_ok-keys.keys.items
+    c.sort_unstable.new.self.items c.in_ok-keys.ensures c.sort_unstable.ensures.permutation
+    (subst IsStrictlyIncreasing c.deref.ensures.value (c.is_ascending.ensures u)) declared named

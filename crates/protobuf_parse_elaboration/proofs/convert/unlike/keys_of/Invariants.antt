@@ -1,9 +1,7 @@
--- The keys so far are those of the names so far.
-use Rattle.std.proofs.Common.{◌≡◌, ℕ, List, map, take}
-use Rattle.std.specs.Borrow.{Bor}
+use Rattle.std.proofs.Common.{◌≡◌, map, take}
 use Rattle.protobuf_parse_elaboration.specs.NameKeys.{key_of}
 use Rattle.protobuf_parse_elaboration.proofs.convert.unlike.keys_of.Given as goal
 
-abbrev pub invariant-loop-name : goal.invariant-loop-name
-invariant-loop-name l =
-    l.keys.items ≡ map (λ (s : Bor (List ℕ)). key_of s.now) (take l.name-index l.names)
+abbrev pub invariant-loop-item : goal.invariant-loop-item
+invariant-loop-item g l =
+    l.keys.items ≡ map (λ x. key_of (g.T.Named.name_of x)) (take l.item-index l.items)
