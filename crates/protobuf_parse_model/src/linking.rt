@@ -112,7 +112,12 @@ fn check_name(alloc: Global, seen: &Seen<'_>, name: &str) -> Result<(), ElabFail
         return Err(fault(alloc, BEGINNING, ElabErrorKind::TypeDeclaredTwice, name));
     }
     if times(seen, declarations, true) > 1 {
-        return Err(fault(alloc, BEGINNING, ElabErrorKind::ExtensionDeclaredTwice, name));
+        return Err(fault(
+            alloc,
+            BEGINNING,
+            ElabErrorKind::ExtensionDeclaredTwice,
+            name,
+        ));
     }
     Ok(())
 }

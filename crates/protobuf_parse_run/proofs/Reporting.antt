@@ -49,8 +49,11 @@ module _ (legal : Legal) (files : Files) (told : List Event) where
   check-stopped f (inl h) = inl (record {
     event = h.event;
     first = rw h.split (find-after (ends true files) h.before h.after h.event h.clean h.failing);
-    reads = rw (h.split, until-after (ends true files) h.before (h.event ∷ h.after) h.clean,
-        h.failing) h.answers;
+    reads = rw (
+      h.split,
+      until-after (ends true files) h.before (h.event ∷ h.after) h.clean,
+      h.failing,
+    ) h.answers;
     stands = h.stands;
   })
   check-stopped f (inr h) = inr (record {

@@ -20,8 +20,9 @@ use crate::loaded::LoadedFiles;
 use crate::reach::Sights;
 use crate::tables::{RunPlaces, Tables, add_next, plain_of};
 use protobuf_parse_elaboration::{elaborate, elaborate_all, elaborate_all_owned, elaborate_owned};
-use protobuf_parse_model::{ElabError, ElabFailure, FileDescriptorProto, Seen, WithoutCustoms};
-use protobuf_parse_model::link;
+use protobuf_parse_model::{
+    ElabError, ElabFailure, FileDescriptorProto, Seen, WithoutCustoms, link,
+};
 use protobuf_parse_options::{DeclaredPlaces, KnownFiles, PickedFiles, has_custom_option};
 use protobuf_parse_syntax::FileTree;
 use std::alloc::{AllocError, Global};
@@ -109,7 +110,16 @@ pub fn checked(
     let plain = elaborate_all(alloc, &mut faults, path, &tree, &seen, &WithoutCustoms)?;
     let faulty = !faults.is_empty();
     let places = &mut tables.places;
-    tell_further(alloc, &mut faults, loaded, places, &seen, &plain, path, tree)?;
+    tell_further(
+        alloc,
+        &mut faults,
+        loaded,
+        places,
+        &seen,
+        &plain,
+        path,
+        tree,
+    )?;
     Ok(Described {
         descriptor: plain,
         plain: None,
@@ -149,7 +159,16 @@ fn tell_further(
         return Ok(());
     }
     add_next(places, alloc, loaded, plain)?;
-    tell_customs(alloc, faults, loaded, &places.declared, seen, plain, path, tree)
+    tell_customs(
+        alloc,
+        faults,
+        loaded,
+        &places.declared,
+        seen,
+        plain,
+        path,
+        tree,
+    )
 }
 
 /// Whether one of the files with these numbers has faults, its custom options left out.

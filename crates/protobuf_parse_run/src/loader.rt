@@ -464,7 +464,16 @@ fn close(
         all: &below,
         public: &public,
     };
-    settle(alloc, loader, gathers, path, tree, height + 1, &imports, read)
+    settle(
+        alloc,
+        loader,
+        gathers,
+        path,
+        tree,
+        height + 1,
+        &imports,
+        read,
+    )
 }
 
 /// L7.
@@ -698,9 +707,23 @@ fn described(
         (plains_with loader.old.loaded.entries (plain_or d.plain d.descriptor))) }
 {
     if gathers {
-        return checked(alloc, &loader.loaded, &mut loader.tables, sights, path, tree);
+        return checked(
+            alloc,
+            &loader.loaded,
+            &mut loader.tables,
+            sights,
+            path,
+            tree,
+        );
     }
-    elaborated(alloc, &loader.loaded, &mut loader.tables, sights, path, tree)
+    elaborated(
+        alloc,
+        &loader.loaded,
+        &mut loader.tables,
+        sights,
+        path,
+        tree,
+    )
 }
 
 /// L10 of the file that this read gave.

@@ -303,10 +303,7 @@ fn push_fields_in(body: &[OneOfStatement], places: &mut Vec<Place>) -> Result<()
 }
 
 /// Where the message behind each field of a oneof stands.
-fn push_behind_fields_in(
-    body: &[OneOfStatement],
-    places: &mut Vec<Place>,
-) -> Result<(), AllocError>
+fn push_behind_fields_in(body: &[OneOfStatement], places: &mut Vec<Place>) -> Result<(), AllocError>
     ensures { OnOk result (places.new.items ≡ places.old.items ++ map (λ (d : NamedAt). d.place)
         (flat_map messages.behind_named
         (flat_map oneof_fields (map tree.oneof_statement_syntax body.now)))) }

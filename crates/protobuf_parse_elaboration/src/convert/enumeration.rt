@@ -106,7 +106,14 @@ fn tell_value_names<C: CustomOptions>(
         ++ duplicates (map enums.value_named (values_seen values.now))) }
 {
     let syntax = at.context.syntax;
-    tell_names(at.alloc, faults, DeclaredAs::Other, syntax, values, descriptors)
+    tell_names(
+        at.alloc,
+        faults,
+        DeclaredAs::Other,
+        syntax,
+        values,
+        descriptors,
+    )
 }
 
 /// The values of an enum.

@@ -180,11 +180,7 @@ pub fn is_map(type_: &Type) -> bool
 }
 
 /// E4 for a map.
-pub fn tell_map(
-    alloc: Global,
-    faults: &mut Vec<ElabError>,
-    field: &Field,
-) -> Result<(), AllocError>
+pub fn tell_map(alloc: Global, faults: &mut Vec<ElabError>, field: &Field) -> Result<(), AllocError>
     ensures { let f = field_syntax field.now in OnOk result
         (found faults.new ≡ found faults.old ++ placed f.place (fields.map_faults f)) }
 {

@@ -180,7 +180,14 @@ fn tell_group_names<C: CustomOptions>(
         ++ duplicates (map fields.field_named (map field_statement_syntax statements.now))) }
 {
     let syntax = at.context.syntax;
-    tell_names(at.alloc, faults, DeclaredAs::Field, syntax, statements, items)
+    tell_names(
+        at.alloc,
+        faults,
+        DeclaredAs::Field,
+        syntax,
+        statements,
+        items,
+    )
 }
 
 /// The fields of a group.
@@ -233,11 +240,7 @@ fn grouped_field<C: CustomOptions>(
 }
 
 /// E4 for a group.
-fn tell_group(
-    alloc: Global,
-    faults: &mut Vec<ElabError>,
-    group: &Group,
-) -> Result<(), AllocError>
+fn tell_group(alloc: Global, faults: &mut Vec<ElabError>, group: &Group) -> Result<(), AllocError>
     ensures { let g = group_syntax group.now in OnOk result
         (found faults.new ≡ found faults.old
         ++ placed g.place (fault DanglingTypeName (group_field_name g.name))) }

@@ -112,11 +112,46 @@ fn tell_body_names<C: CustomOptions>(
 {
     let alloc = at.alloc;
     let syntax = at.context.syntax;
-    tell_names(alloc, faults, DeclaredAs::Field, syntax, statements, &body.field)?;
-    tell_names(alloc, faults, DeclaredAs::Oneof, syntax, statements, &body.oneof_decl)?;
-    tell_names(alloc, faults, DeclaredAs::Extension, syntax, statements, &body.extension)?;
-    tell_names(alloc, faults, DeclaredAs::Enum, syntax, statements, &body.enum_type)?;
-    tell_names(alloc, faults, DeclaredAs::Message, syntax, statements, &body.nested_type)
+    tell_names(
+        alloc,
+        faults,
+        DeclaredAs::Field,
+        syntax,
+        statements,
+        &body.field,
+    )?;
+    tell_names(
+        alloc,
+        faults,
+        DeclaredAs::Oneof,
+        syntax,
+        statements,
+        &body.oneof_decl,
+    )?;
+    tell_names(
+        alloc,
+        faults,
+        DeclaredAs::Extension,
+        syntax,
+        statements,
+        &body.extension,
+    )?;
+    tell_names(
+        alloc,
+        faults,
+        DeclaredAs::Enum,
+        syntax,
+        statements,
+        &body.enum_type,
+    )?;
+    tell_names(
+        alloc,
+        faults,
+        DeclaredAs::Message,
+        syntax,
+        statements,
+        &body.nested_type,
+    )
 }
 
 /// The scope inside the message of that name.

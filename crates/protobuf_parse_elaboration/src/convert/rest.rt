@@ -121,10 +121,7 @@ fn tell_endless(
 }
 
 /// The ranges of extensions.
-fn extensions(
-    alloc: Global,
-    body: &[MessageStatement],
-) -> Result<Vec<ExtensionRange>, AllocError>
+fn extensions(alloc: Global, body: &[MessageStatement]) -> Result<Vec<ExtensionRange>, AllocError>
     ensures { let rs = flat_map messages.extension_ranges (map message_statement_syntax body.now) in
         IfOk result (λ v. map described.extension_range_view v.items
         ≡ map messages.exclusive rs) }

@@ -104,7 +104,14 @@ fn tell_method_names<C: CustomOptions>(
         ++ duplicates (map services.method_named (methods_seen methods.now))) }
 {
     let syntax = at.context.syntax;
-    tell_names(at.alloc, faults, DeclaredAs::Other, syntax, methods, descriptors)
+    tell_names(
+        at.alloc,
+        faults,
+        DeclaredAs::Other,
+        syntax,
+        methods,
+        descriptors,
+    )
 }
 
 /// The methods of a service.

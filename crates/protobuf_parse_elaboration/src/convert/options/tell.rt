@@ -59,8 +59,13 @@ pub fn custom_field_bytes<C: CustomOptions>(
         ++ (field_options_faults os ++ customs_faults env of.Field os)) }
 {
     tell_field_options(at.alloc, faults, options)?;
-    at.custom
-        .bytes(at.alloc, faults, Construct::Field, at.context.scope, options)
+    at.custom.bytes(
+        at.alloc,
+        faults,
+        Construct::Field,
+        at.context.scope,
+        options,
+    )
 }
 
 /// Tells what is wrong in the built-in options of a construct that has the options of the table.

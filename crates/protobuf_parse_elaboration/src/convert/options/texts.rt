@@ -161,11 +161,7 @@ fn json_name_said(
 }
 
 /// No name, where a JSON name was to be a string: E10.
-fn no_name(
-    alloc: Global,
-    faults: &mut Vec<ElabError>,
-    place: Place,
-) -> Result<Name, AllocError>
+fn no_name(alloc: Global, faults: &mut Vec<ElabError>, place: Place) -> Result<Name, AllocError>
     ensures value { IfOk result (λ n. name_bytes n ≡ []) }
     ensures faults { OnOk result (found faults.new ≡ found faults.old
         ++ placed place (fault WrongOptionType (codes "json_name"))) }

@@ -72,7 +72,7 @@ loop-input-preserved g c =
           (omega arith) c.input-item.is in
           count-inputs
           c.args.sources.now.gathers
-      (legal_by g.R.ProtoPathResolver.may_answer g.I.InputReader.may_read
+          (legal_by g.R.ProtoPathResolver.may_answer g.I.InputReader.may_read
           c.args.sources.now) files _ _ _ _ _ _
           next (c.loop-input.invariant.count files back)
           (c.in_ok-load_input.ensures.count files _ go good);
