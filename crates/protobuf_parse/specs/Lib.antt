@@ -4,3 +4,4 @@ pub mod Includes
 pub mod Folders
 pub mod Parsers
 pub mod ApartInRuns
+pub mod Checking

@@ -38,9 +38,9 @@ pub use protobuf_parse_model::{
 pub use protobuf_parse_options::{extensions_are_looked_up, never_too_deep, options_are_not_read};
 pub use protobuf_parse_rules::{NamedKind, Rule, Violation, numbers_are_apart, violations};
 pub use protobuf_parse_run::{
-    InputReader, ProtoPathResolver, ReadEntry, ReadInputFault, ReadOutcome, ResolveFault,
-    ResolvedProtoFile, RunFault, RunInput, RunLog, bundled_files, custom_bytes_stand,
-    files_come_once, run_inputs, runs_are_stable, seen_files_are_reached,
+    CheckLog, FileReport, InputReader, ProtoPathResolver, ReadEntry, ReadInputFault, ReadOutcome,
+    ResolveFault, ResolvedProtoFile, RunFault, RunInput, RunLog, bundled_files, check_inputs,
+    custom_bytes_stand, files_come_once, run_inputs, runs_are_stable, seen_files_are_reached,
 };
 pub use protobuf_parse_syntax::{ParserError, ParserErrorWithLocation, Place};
 pub use protobuf_parse_wire::{

@@ -4,6 +4,7 @@ mod again;
 mod bytes;
 mod calls;
 mod checked;
+mod checks;
 mod customs;
 mod imports;
 mod names;
@@ -32,6 +33,7 @@ impl Answers for Plain {
         }
         let text = match case.verb.as_str() {
             "run" => runs::run(alloc, case, given),
+            "check" => checks::check(alloc, case, given),
             "reads" => runs::reads(alloc, case, given),
             "list" => runs::list(alloc, case, row),
             "shipped" => runs::shipped(alloc, case, given),

@@ -1,36 +1,35 @@
 //! A run over the files of a command line, and what is told of it.
 
 use crate::arguments::Arguments;
+use crate::faults::faults_of;
 use crate::inputs::input_of;
+use crate::survey::path_of;
 use crate::unread::fault_told;
 use protobuf_parse::{
     FileDescriptorProto, FsReader, ReadEntry, RunFault, RunInput, RunLog, bundled_files,
     fs_resolver, run_inputs,
 };
-use protobuf_parse_diagnostics::{
-    Diagnostic, RuleLevel, Sources, affected_paths, arrange, rule_diagnostics,
-};
+use protobuf_parse_diagnostics::{Diagnostic, RuleLevel, Sources, arrange, rule_diagnostics};
 use protobuf_parse_rules::{Violation, violations};
 use std::alloc::{AllocError, Global};
 use std::collections::BTreeSet;
 use std::rt::Files;
-
-/// How many runs there are at most: each but the last one tells a fault.
-const MOST_RUNS: usize = 100;
 
 /// What came of a check.
 #[derive(Drop)]
 pub struct Checked {
     /// What is told, in the order in which people read it.
     pub told: Vec<Diagnostic>,
+    /// Whether there may be more to tell.
+    pub is_cut: bool,
     /// The descriptors of all files that the inputs reach, but for inputs that reach a fault.
     pub files: Vec<FileDescriptorProto>,
     /// The proto paths of the inputs.
     pub inputs: BTreeSet<String>,
 }
 
-/// Checks the files of the command line. A run ends at its first fault, so another one follows over
-/// those that don't reach what the fault is of, and so on. The one error is that memory is short.
+/// Checks the files of the command line, and all that they reach. Rules are told of where inputs
+/// reach no fault. The one error is that memory is short.
 pub fn check_files<R: Files + AllocGlobal>(
     rt: &R,
     alloc: Global,
@@ -39,28 +38,29 @@ pub fn check_files<R: Files + AllocGlobal>(
     let mut told = Vec::new(alloc);
     let mut left = inputs_of(rt, alloc, arguments, &mut told)?;
     let inputs = names_of(alloc, &left)?;
-    let mut files = Vec::new(alloc);
-    for _ in 0..MOST_RUNS {
-        let RunLog {
-            reads,
-            meets: _,
-            result,
-        } = run_over(rt, alloc, &arguments.includes, &left)?;
-        match result {
-            Ok(found) => {
-                tell_rules(alloc, arguments, &reads, &found, &inputs, &mut told)?;
-                files = found;
-                break;
-            }
-            Err(fault) => {
-                told.push(told_of_reads(rt, alloc, &reads, &fault)?)?;
-                left = spared(alloc, &reads, &fault, left)?;
-            }
-        }
+    let mut log = run_over(rt, alloc, &arguments.includes, &left)?;
+    let mut is_cut = false;
+    if log.result.is_err() {
+        let mut faults = faults_of(rt, alloc, arguments, left)?;
+        told.append(&mut faults.told)?;
+        is_cut = faults.is_cut;
+        left = faults.sound;
+        log = run_over(rt, alloc, &arguments.includes, &left)?;
     }
+    let files = match log.result {
+        Ok(files) => {
+            tell_rules(alloc, arguments, &log.reads, &files, &inputs, &mut told)?;
+            files
+        }
+        Err(fault) => {
+            told.push(told_of_reads(rt, alloc, &log.reads, &fault)?)?;
+            Vec::new(alloc)
+        }
+    };
     arrange(&mut told)?;
     Ok(Checked {
         told,
+        is_cut,
         files,
         inputs,
     })
@@ -93,40 +93,6 @@ fn told_of_reads<R: Files + AllocGlobal>(
 ) -> Result<Diagnostic, AllocError> {
     let sources = Sources::of_reads(alloc, reads, bundled_files())?;
     fault_told(rt, alloc, &sources, fault)
-}
-
-/// The inputs that don't reach what the fault is of.
-fn spared<'a>(
-    alloc: Global,
-    reads: &'a [ReadEntry],
-    fault: &'a RunFault,
-    inputs: Vec<RunInput>,
-) -> Result<Vec<RunInput>, AllocError> {
-    let sources = Sources::of_reads(alloc, reads, bundled_files())?;
-    let affected = affected_paths(alloc, &sources, fault)?;
-    let mut spared = Vec::new(alloc);
-    for input in inputs {
-        if !affected.contains(path_of(&input)) && !is_own_fault(&input, fault) {
-            spared.push(input)?;
-        }
-    }
-    Ok(spared)
-}
-
-/// Whether the fault is that of the input at its own path.
-fn is_own_fault(input: &RunInput, fault: &RunFault) -> bool {
-    match (input, fault) {
-        (
-            RunInput::At { name: _, fs_path },
-            RunFault::Shadowed(path, _) | RunFault::CouldNotReadFile(path, _),
-        ) => fs_path == path,
-        _ => false,
-    }
-}
-
-fn path_of(input: &RunInput) -> &str {
-    let (RunInput::Named(name) | RunInput::At { name, fs_path: _ }) = input;
-    name.as_path().to_str()
 }
 
 /// The run over these inputs, with imports from the includes.

@@ -3,10 +3,13 @@
 
 mod arguments;
 mod check;
+mod faults;
 mod inputs;
 mod listed;
 mod output;
+mod reading;
 mod run;
+mod survey;
 mod told;
 mod unread;
 

@@ -105,7 +105,7 @@ fn tell_imports<R: Files + AllocGlobal, O: Write, E: Write>(
     ensures status { IfOk result (λ status. status ≤ 1) }
 {
     let imports = imports_of_files(rt, alloc, arguments)?;
-    let told = tell(alloc, err, &imports.told);
+    let told = tell(alloc, err, &imports.told, false);
     if has_error(&imports.told) {
         return Ok(1);
     }
@@ -125,10 +125,11 @@ fn check<R: Files + AllocGlobal, O: Write, E: Write>(
 {
     let Checked {
         told,
+        is_cut,
         files,
         inputs,
     } = check_files(rt, alloc, arguments)?;
-    let written = tell(alloc, err, &told);
+    let written = tell(alloc, err, &told, is_cut);
     if has_error(&told) {
         return Ok(1);
     }

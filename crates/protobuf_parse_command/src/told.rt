@@ -12,17 +12,23 @@ pub fn has_error(told: &[Diagnostic]) -> bool {
     told.iter().any(|each| each.severity == Severity::Error)
 }
 
-/// Writes a line for each of the first 1,000, and then one that says how many more there are.
-pub fn tell<E: Write>(alloc: Global, err: &mut E, told: &[Diagnostic]) -> io::Result<()> {
+/// Writes a line for each of the first 1,000, and then one that says how many more there are, or
+/// that there may be more.
+pub fn tell<E: Write>(
+    alloc: Global,
+    err: &mut E,
+    told: &[Diagnostic],
+    is_cut: bool,
+) -> io::Result<()> {
     if told.is_empty() {
         return Ok(());
     }
-    let text = lines_of(alloc, told)?;
+    let text = lines_of(alloc, told, is_cut)?;
     err.write_all(text.as_bytes())?;
     err.flush()
 }
 
-fn lines_of(alloc: Global, told: &[Diagnostic]) -> Result<String, AllocError> {
+fn lines_of(alloc: Global, told: &[Diagnostic], is_cut: bool) -> Result<String, AllocError> {
     let mut text = String::new(alloc);
     for each in told.iter().take(MOST_TOLD) {
         write!(text, "{each}\n")?;
@@ -30,6 +36,9 @@ fn lines_of(alloc: Global, told: &[Diagnostic]) -> Result<String, AllocError> {
     let more = told.len().saturating_sub(MOST_TOLD);
     if more > 0 {
         write!(text, "and {more} more\n")?;
+    }
+    if is_cut {
+        text.push_str("there may be more, in files that were not reached\n")?;
     }
     Ok(text)
 }

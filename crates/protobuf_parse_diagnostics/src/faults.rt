@@ -1,9 +1,10 @@
 //! Faults of runs as diagnostics.
 
 use crate::diagnostic::Diagnostic;
+use crate::imports::Importers;
 use crate::loading::{loading_diagnostic, told_at};
 use crate::meaning::meaning_diagnostic;
-use crate::sources::Sources;
+use crate::sources::{Sources, Trees};
 use crate::syntax::{syntax_code, syntax_sentence};
 use protobuf_parse_run::RunFault;
 use protobuf_parse_syntax::{ParserErrorWithLocation, Place};
@@ -19,8 +20,33 @@ pub fn fault_diagnostic(
     match fault {
         RunFault::Parse(origin, error) => parse_diagnostic(alloc, sources, origin, error),
         RunFault::Elaborate(origin, error) => meaning_diagnostic(alloc, sources, origin, error),
-        _ => loading_diagnostic(alloc, sources, fault),
+        _ => {
+            let trees = Trees::of(alloc, sources)?;
+            let importers = Importers::of(alloc, &trees)?;
+            loading_diagnostic(alloc, sources, &importers, fault)
+        }
     }
+}
+
+/// [`fault_diagnostic`] of each of the faults, with the files read once for all.
+pub fn fault_diagnostics(
+    alloc: Global,
+    sources: &Sources<'_>,
+    faults: &[RunFault],
+) -> Result<Vec<Diagnostic>, AllocError> {
+    let trees = Trees::of(alloc, sources)?;
+    let importers = Importers::of(alloc, &trees)?;
+    let mut told = Vec::new(alloc);
+    for fault in faults {
+        told.push(match fault {
+            RunFault::Parse(origin, error) => parse_diagnostic(alloc, sources, origin, error)?,
+            RunFault::Elaborate(origin, error) => {
+                meaning_diagnostic(alloc, sources, origin, error)?
+            }
+            _ => loading_diagnostic(alloc, sources, &importers, fault)?,
+        })?;
+    }
+    Ok(told)
 }
 
 fn parse_diagnostic(

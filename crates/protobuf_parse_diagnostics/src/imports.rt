@@ -3,6 +3,7 @@
 use crate::sources::{Trees, imports_in};
 use protobuf_parse_syntax::{ImportVis, Place};
 use std::alloc::{AllocError, Global};
+use std::collections::BTreeMap;
 
 /// An `import` statement.
 #[derive(Clone, Copy)]
@@ -12,19 +13,34 @@ pub struct Importer<'a> {
     pub place: Place,
 }
 
-/// The first statement that imports the proto path, in the order of the files.
-pub fn importer_of<'a>(
-    alloc: Global,
-    trees: &Trees<'a>,
-    path: &str,
-) -> Result<Option<Importer<'a>>, AllocError> {
-    for file in &trees.files {
-        if let Some(place) = import_place(alloc, trees, file.source.path, path)? {
+/// The trees of files, and by each proto path the first statement that imports it, in the order of
+/// the files.
+#[derive(Drop)]
+pub struct Importers<'t, 'a> {
+    pub trees: &'t Trees<'a>,
+    firsts: BTreeMap<&'t str, Importer<'a>>,
+}
+
+impl<'t, 'a> Importers<'t, 'a> {
+    /// Those of these files. The one error is that memory is short.
+    pub fn of(alloc: Global, trees: &'t Trees<'a>) -> Result<Self, AllocError> {
+        let mut firsts = BTreeMap::new(alloc);
+        for file in &trees.files {
             let origin = file.source.origin;
-            return Ok(Some(Importer { origin, place }));
+            for import in imports_in(alloc, &file.tree)? {
+                let place = import.place;
+                firsts
+                    .entry(import.path.as_path().to_str())?
+                    .or_insert(Importer { origin, place });
+            }
         }
+        Ok(Importers { trees, firsts })
     }
-    Ok(None)
+
+    /// The first statement that imports the proto path.
+    pub fn first(&self, path: &str) -> Option<Importer<'a>> {
+        self.firsts.get(path).copied()
+    }
 }
 
 /// Where the file of the first proto path imports the second one.

@@ -20,12 +20,12 @@ mod statements;
 mod syntax;
 mod wire;
 
-pub use affected::affected_paths;
+pub use affected::{Spread, fault_path};
 pub use declared::DeclarationPlaces;
 pub use diagnostic::{Diagnostic, Severity, arrange};
-pub use faults::{fault_diagnostic, text_diagnostic};
+pub use faults::{fault_diagnostic, fault_diagnostics, text_diagnostic};
 pub use loading::run_code;
-pub use meaning::meaning_code;
+pub use meaning::{meaning_code, report_diagnostics};
 pub use outline::DeclaredKind;
 pub use paths::{path_code, path_sentence};
 pub use protobuf_parse_syntax::Place;

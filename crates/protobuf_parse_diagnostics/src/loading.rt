@@ -1,7 +1,7 @@
 //! Faults of loading: L1 to L11, but for the text and the meaning of a file.
 
 use crate::diagnostic::{Diagnostic, Severity};
-use crate::imports::{Importer, cycle_at, import_place, importer_of, long_import};
+use crate::imports::{Importer, Importers, cycle_at, import_place, long_import};
 use crate::paths::{path_code, path_sentence};
 use crate::sources::{Sources, Trees};
 use crate::syntax::Sentence;
@@ -31,6 +31,7 @@ pub fn run_code(fault: &RunFault) -> &'static str {
 pub fn loading_diagnostic(
     alloc: Global,
     sources: &Sources<'_>,
+    importers: &Importers<'_, '_>,
     fault: &RunFault,
 ) -> Result<Diagnostic, AllocError> {
     let code = run_code(fault);
@@ -40,7 +41,7 @@ pub fn loading_diagnostic(
             let place = sources.end_of_text(path);
             told_at(alloc, code, sources.origin_of(path), place, sentence)
         }
-        RunFault::FileNotFoundInImportPath(path, text) => not_found(alloc, sources, path, text),
+        RunFault::FileNotFoundInImportPath(path, text) => not_found(alloc, importers, path, text),
         RunFault::FileMustResideInImportPath(input, includes) => told_of(
             alloc,
             code,
@@ -50,10 +51,10 @@ pub fn loading_diagnostic(
         RunFault::CouldNotReadFile(path, why) => {
             told_of(alloc, code, path, Sentence::fixed(alloc, unread(*why))?)
         }
-        RunFault::Resolver(path, why) => unresolved(alloc, sources, path, why),
+        RunFault::Resolver(path, why) => unresolved(alloc, importers, path, why),
         RunFault::Shadowed(input, path) => told_of(alloc, code, input, shadowed(alloc, path)?),
-        RunFault::ImportCycle(path) => cycle(alloc, sources, path),
-        RunFault::ImportChainTooLong(path) => too_long(alloc, sources, path),
+        RunFault::ImportCycle(path) => cycle(alloc, sources, importers.trees, path),
+        RunFault::ImportChainTooLong(path) => too_long(alloc, sources, importers.trees, path),
         RunFault::InputPath(input, why) => {
             let sentence = path_sentence(*why);
             let path = path_code(*why);
@@ -98,17 +99,16 @@ pub fn told_at(
 /// L2, at the statement that imports the file, if one does.
 fn not_found(
     alloc: Global,
-    sources: &Sources<'_>,
+    importers: &Importers<'_, '_>,
     path: &str,
     includes: &str,
 ) -> Result<Diagnostic, AllocError> {
-    let trees = Trees::of(alloc, sources)?;
     let help = if includes.is_empty() {
         None
     } else {
         Some(format!(in alloc; "it was looked for in {includes}")?)
     };
-    match importer_of(alloc, &trees, path)? {
+    match importers.first(path) {
         Some(Importer { origin, place }) => {
             let message = format!(in alloc; "the imported file \"{path}\" is not found")?;
             told_at(alloc, "L2", origin, Some(place), Sentence { message, help })
@@ -131,12 +131,11 @@ fn unread(why: ReadInputFault) -> &'static str {
 /// L5, at the statement that imports the file, if one does.
 fn unresolved(
     alloc: Global,
-    sources: &Sources<'_>,
+    importers: &Importers<'_, '_>,
     path: &str,
     why: &ResolveFault,
 ) -> Result<Diagnostic, AllocError> {
-    let trees = Trees::of(alloc, sources)?;
-    match importer_of(alloc, &trees, path)? {
+    match importers.first(path) {
         Some(Importer { origin, place }) => {
             let message = format!(in alloc; "the import of \"{path}\" failed: {why}")?;
             told_at(alloc, "L5", origin, Some(place), Sentence::new(message))
@@ -149,9 +148,13 @@ fn unresolved(
 }
 
 /// L8, at the first statement by which a chain of too many files begins.
-fn too_long(alloc: Global, sources: &Sources<'_>, path: &str) -> Result<Diagnostic, AllocError> {
-    let trees = Trees::of(alloc, sources)?;
-    let place = long_import(alloc, &trees, path, 100)?;
+fn too_long(
+    alloc: Global,
+    sources: &Sources<'_>,
+    trees: &Trees<'_>,
+    path: &str,
+) -> Result<Diagnostic, AllocError> {
+    let place = long_import(alloc, trees, path, 100)?;
     let sentence = Sentence::fixed(
         alloc,
         "a chain of imports from this file has more than 100 files",
@@ -171,16 +174,20 @@ fn shadowed(alloc: Global, path: &str) -> Result<Sentence, AllocError> {
 }
 
 /// L7, at the statement by which the file begins the cycle.
-fn cycle(alloc: Global, sources: &Sources<'_>, path: &str) -> Result<Diagnostic, AllocError> {
-    let trees = Trees::of(alloc, sources)?;
-    let chain = cycle_at(alloc, &trees, path)?;
+fn cycle(
+    alloc: Global,
+    sources: &Sources<'_>,
+    trees: &Trees<'_>,
+    path: &str,
+) -> Result<Diagnostic, AllocError> {
+    let chain = cycle_at(alloc, trees, path)?;
     let mut message = String::from_str(alloc, "the file imports itself")?;
     for (i, each) in chain.iter().enumerate() {
         message.push_str(if i == 0 { ": " } else { " -> " })?;
         message.push_str(each)?;
     }
     let place = match chain.get(1) {
-        Some(next) => import_place(alloc, &trees, path, next)?,
+        Some(next) => import_place(alloc, trees, path, next)?,
         None => None,
     };
     told_at(

@@ -1,16 +1,18 @@
 //! Faults of meaning as sentences: E1 to E28.
 
 mod hints;
+mod known;
 
 use crate::diagnostic::Diagnostic;
 use crate::kinds::values_of_option;
 use crate::loading::told_at;
-use crate::meaning::hints::{Known, declared_twice, type_hint};
-use crate::outline::Outline;
-use crate::places::{fault_place, first_of_name};
+use crate::meaning::hints::{Hints, declared_twice, import_of_second};
+use crate::meaning::known::{Known, Sight, known_files};
+use crate::places::{Firsts, fault_place};
 use crate::sources::{Sources, Trees};
 use crate::syntax::Sentence;
 use protobuf_parse_model::{ElabError, ElabErrorKind};
+use protobuf_parse_run::FileReport;
 use protobuf_parse_syntax::Place;
 use std::alloc::{AllocError, Global};
 
@@ -55,62 +57,124 @@ pub fn meaning_diagnostic(
     error: &ElabError,
 ) -> Result<Diagnostic, AllocError> {
     let trees = Trees::of(alloc, sources)?;
-    let code = meaning_code(error.kind);
-    let place = Some(error.place);
-    let Some(at) = trees.at_origin(origin) else {
-        return told_at(alloc, code, origin, place, plain_sentence(alloc, error)?);
-    };
-    let known = Known::of(alloc, &trees, at)?;
-    let Some(own) = known.own() else {
-        return told_at(alloc, code, origin, place, plain_sentence(alloc, error)?);
-    };
-    let place = fault_place(own, error);
-    let sentence = meaning_sentence(alloc, &known, own, error, place)?;
-    let place = match (place, error.kind) {
-        (None, ElabErrorKind::TypeDeclaredTwice | ElabErrorKind::ExtensionDeclaredTwice) => {
-            known.import_of_second(alloc, &trees, error)?
+    let files = known_files(alloc, &trees)?;
+    let known = Known::of(alloc, &files)?;
+    match trees.at_origin(origin) {
+        Some(at) => {
+            let subject = Subject::of(alloc, &trees, &known, at)?;
+            subject.diagnostic(alloc, origin, error, &mut Hints::new(alloc))
         }
-        _ => place,
-    };
-    told_at(alloc, code, origin, place, sentence)
+        None => plain_diagnostic(alloc, origin, error),
+    }
 }
 
-/// What is said of the fault that is told at this place, with what the other files tell of it.
-fn meaning_sentence(
+/// What is told of the faults in these reports of a check, in their order. The one error is that
+/// memory is short.
+pub fn report_diagnostics(
     alloc: Global,
-    known: &Known<'_, '_>,
-    own: &Outline<'_>,
+    sources: &Sources<'_>,
+    reports: &[FileReport],
+) -> Result<Vec<Diagnostic>, AllocError> {
+    let trees = Trees::of(alloc, sources)?;
+    let files = known_files(alloc, &trees)?;
+    let known = Known::of(alloc, &files)?;
+    let mut told = Vec::new(alloc);
+    for report in reports {
+        let origin = sources.origin_of(&report.path);
+        match trees.position(&report.path) {
+            Some(at) if !report.faults.is_empty() => {
+                let subject = Subject::of(alloc, &trees, &known, at)?;
+                let mut hints = Hints::new(alloc);
+                for error in &report.faults {
+                    told.push(subject.diagnostic(alloc, origin, error, &mut hints)?)?;
+                }
+            }
+            _ => {
+                for error in &report.faults {
+                    told.push(plain_diagnostic(alloc, origin, error)?)?;
+                }
+            }
+        }
+    }
+    Ok(told)
+}
+
+/// What is told of the fault by itself.
+fn plain_diagnostic(
+    alloc: Global,
+    origin: &str,
     error: &ElabError,
-    place: Option<Place>,
-) -> Result<Sentence, AllocError> {
-    let Sentence { message, help } = plain_sentence(alloc, error)?;
-    let what = error.what.as_str();
-    let found = match error.kind {
-        ElabErrorKind::DuplicateName => first_one(alloc, own, error)?,
-        ElabErrorKind::NotFoundByAbsPath
-        | ElabErrorKind::NotFoundByRelPath
-        | ElabErrorKind::ExtensionNotFound => known.where_declared(alloc, error.kind, what)?,
-        ElabErrorKind::TypeDeclaredTwice | ElabErrorKind::ExtensionDeclaredTwice => {
-            declared_twice(alloc, known, error, place)?
+) -> Result<Diagnostic, AllocError> {
+    let sentence = plain_sentence(alloc, error)?;
+    told_at(
+        alloc,
+        meaning_code(error.kind),
+        origin,
+        Some(error.place),
+        sentence,
+    )
+}
+
+/// A file whose faults are told.
+#[derive(Drop)]
+struct Subject<'s, 'k, 't, 'a> {
+    trees: &'s Trees<'a>,
+    sight: Sight<'s, 'k, 't, 'a>,
+    firsts: Firsts<'k, 't>,
+}
+
+impl<'s, 'k, 't, 'a> Subject<'s, 'k, 't, 'a> {
+    /// The file at this position.
+    fn of(
+        alloc: Global,
+        trees: &'s Trees<'a>,
+        known: &'s Known<'k, 't, 'a>,
+        at: usize,
+    ) -> Result<Self, AllocError> {
+        let sight = Sight::of(alloc, trees, known, at)?;
+        let firsts = Firsts::of(alloc, sight.own_declarations())?;
+        Ok(Subject {
+            trees,
+            sight,
+            firsts,
+        })
+    }
+
+    /// What is told of a fault of the file, which lies there.
+    fn diagnostic<'e>(
+        &self,
+        alloc: Global,
+        origin: &str,
+        error: &'e ElabError,
+        hints: &mut Hints<'e>,
+    ) -> Result<Diagnostic, AllocError> {
+        let mut place = fault_place(self.sight.own_declarations(), error);
+        let found = match error.kind {
+            ElabErrorKind::DuplicateName => first_one(alloc, &self.firsts, error)?,
+            ElabErrorKind::TypeDeclaredTwice | ElabErrorKind::ExtensionDeclaredTwice => {
+                declared_twice(alloc, &self.sight, error, place)?
+            }
+            _ => hints.hint(alloc, &self.sight, error)?,
+        };
+        if place.is_none() {
+            place = import_of_second(alloc, self.trees, &self.sight, error)?;
         }
-        ElabErrorKind::UnsupportedExtensionType | ElabErrorKind::IntegerOutOfRange => {
-            type_hint(alloc, known, what)?
-        }
-        _ => None,
-    };
-    Ok(Sentence {
-        message,
-        help: found.or(help),
-    })
+        let Sentence { message, help } = plain_sentence(alloc, error)?;
+        let sentence = Sentence {
+            message,
+            help: found.or(help),
+        };
+        told_at(alloc, meaning_code(error.kind), origin, place, sentence)
+    }
 }
 
 /// Where a name that stands twice stands first.
 fn first_one(
     alloc: Global,
-    own: &Outline<'_>,
+    firsts: &Firsts<'_, '_>,
     error: &ElabError,
 ) -> Result<Option<String>, AllocError> {
-    match first_of_name(own, &error.what, error.place) {
+    match firsts.of_name_at(&error.what, error.place) {
         Some(first) => {
             let Place { line, col } = first.place;
             let full = first.full.trim_start_matches('.');

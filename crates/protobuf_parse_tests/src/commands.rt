@@ -159,10 +159,58 @@ fn tells_at_most_a_thousand(rt: HostRuntime) -> Result<(), Fail> {
     let outcome = run(&rt, &[&path])?;
     fs::remove_file(&rt, path.as_str())?;
     assert_eq!(rt; outcome.status, 1);
-    let lines = outcome.err.iter().filter(|byte| **byte == b'\n').count();
-    assert_eq!(rt; lines, 1001);
+    assert_eq!(rt; count_lines(&outcome.err), 1001);
     // Each field has no positive number, and each but the first one that is taken.
     assert!(rt; outcome.err.as_slice().ends_with(b"\nand 3 more\n"));
+    Ok(())
+}
+
+fn count_lines(bytes: &[u8]) -> usize {
+    bytes.iter().filter(|byte| **byte == b'\n').count()
+}
+
+#[test]
+fn tells_all_that_is_missing(rt: HostRuntime) -> Result<(), Fail> {
+    let path = own_path(&rt, "lost.proto")?;
+    let mut text = String::new(rt.alloc());
+    for i in 0..150u32 {
+        write!(text, "import 'protobuf_parse_lost/{i}.proto';\n")?;
+    }
+    fs::write(&rt, path.as_str(), text.as_bytes())?;
+    let outcome = run(&rt, &[&path])?;
+    fs::remove_file(&rt, path.as_str())?;
+    assert_eq!(rt; outcome.status, 1);
+    assert_eq!(rt; count_lines(&outcome.err), 150);
+    let last = format!(in rt.alloc();
+        "\n{path}:150:1: error: the imported file \"protobuf_parse_lost/149.proto\" is not found; \
+         it was looked for in [\"\"] [L2]\n"
+    )?;
+    assert!(rt; outcome.err.as_slice().ends_with(last.as_bytes()));
+    Ok(())
+}
+
+#[test]
+fn tells_that_there_may_be_more(rt: HostRuntime) -> Result<(), Fail> {
+    let mut paths = Vec::new(rt.alloc());
+    for i in 0..102u32 {
+        let name = format!(in rt.alloc(); "twice_{i}.proto")?;
+        let path = own_path(&rt, &name)?;
+        fs::write(&rt, path.as_str(), b"message M {} message M {}")?;
+        paths.push(path)?;
+    }
+    let mut args: Vec<&str> = Vec::new(rt.alloc());
+    for path in &paths {
+        args.push(path.as_str())?;
+    }
+    let outcome = run(&rt, &args)?;
+    for path in &paths {
+        fs::remove_file(&rt, path.as_str())?;
+    }
+    assert_eq!(rt; outcome.status, 1);
+    // Each of a hundred checks ends at one file, and the run over the two others at one more.
+    assert_eq!(rt; count_lines(&outcome.err), 102);
+    let last = b"\nthere may be more, in files that were not reached\n";
+    assert!(rt; outcome.err.as_slice().ends_with(last));
     Ok(())
 }
 

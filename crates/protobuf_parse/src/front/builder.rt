@@ -7,6 +7,7 @@ ghost use Rattle.protobuf_parse_run.specs.Run.{IsCaused, input_view};
 ghost use Rattle.protobuf_parse.specs.Includes.{part_views};
 ghost use Rattle.protobuf_parse.specs.Folders.{MayFind};
 ghost use Rattle.protobuf_parse.specs.NameSets.{HasNames};
+ghost use Rattle.protobuf_parse.specs.Checking.{AreReported, CheckedOverFolders, TellsCheckFault};
 ghost use Rattle.protobuf_parse_model.specs.Descriptors.{Text};
 ghost use Rattle.protobuf_parse.specs.Parsers.{IsParsed, IsSameParser, IsSetOfInputs};
 ghost use Rattle.protobuf_parse.specs.Parsers.{MayReadAnything, RanOverFolders, TellsFault};
@@ -17,7 +18,7 @@ use crate::front::files::{FsReader, copy_texts, fs_resolver};
 use crate::front::includes::proto_paths_of;
 use protobuf_parse_base::proto_path::ProtoPathBuf;
 use protobuf_parse_model::{FileDescriptorProto, FileDescriptorSet};
-use protobuf_parse_run::{RunFault, RunInput, bundled_files, run_inputs};
+use protobuf_parse_run::{FileReport, RunFault, RunInput, bundled_files, check_inputs, run_inputs};
 use std::alloc::{AllocError, Global};
 use std::collections::BTreeSet;
 use std::rt::Files;
@@ -220,6 +221,31 @@ impl Parser {
         let file = files_of_inputs(rt.alloc(), &relative_paths, file_descriptors)?;
         Ok(FileDescriptorSet { file })
     }
+
+    /// All that is wrong in the inputs and in the files that they import: a report of each file, in
+    /// the order of [`Parser::parse_and_typecheck`].
+    ///
+    /// A report has E1 to E4 and E7 to E13 of its file; where it has none of these, and no file
+    /// that it reaches has any, those of its custom options, E9 and E14 to E28. Any other fault of
+    /// [`Parser::parse_and_typecheck`] is the error, also E5 and E6, as L10: what other files say
+    /// isn't told then.
+    ///
+    /// ```
+    /// for report in &parser.check(&rt)? {
+    ///     for fault in &report.faults {
+    ///         let line = fault.place.line;
+    ///         print!(rt; "{}:{line}: {fault}\n", report.path)?;
+    ///     }
+    /// }
+    /// ```
+    pub fn check<R: Files + AllocGlobal>(&self, rt: &R) -> Result<Vec<FileReport>, RunFault>
+        ensures reports { IfOk result (AreReported (includes_of self.now) (inputs_of self.now)) }
+        ensures fault { IfErr result (TellsCheckFault (includes_of self.now) (inputs_of self.now)) }
+    {
+        let alloc = rt.alloc();
+        let names = proto_paths_of(alloc, &self.includes, &self.inputs)?;
+        check_over_folders(rt, alloc, &self.includes, &self.inputs, &names)
+    }
 }
 
 /// Adds a copy of the text, or leaves the texts as they were.
@@ -263,6 +289,25 @@ fn run_over_folders<R: Files + AllocGlobal>(
     let reader = FsReader::new(rt);
     let given = place_inputs(alloc, inputs, names)?;
     run_inputs(alloc, &given, &resolver, &reader, bundled_files()).result
+}
+
+/// The result of the check of these inputs by their proto paths, with imports from these includes.
+fn check_over_folders<R: Files + AllocGlobal>(
+    rt: &R,
+    alloc: Global,
+    includes: &[String],
+    inputs: &[String],
+    names: &[ProtoPathBuf],
+) -> Result<Vec<FileReport>, RunFault>
+    requires { length names.now ≡ length inputs.now }
+    ensures checked { CheckedOverFolders (map string_bytes includes.now)
+        (map string_bytes inputs.now) (map path_buf_text names.now) result }
+{
+    let folders = text_slices(alloc, includes)?;
+    let resolver = fs_resolver(rt, alloc, &folders)?;
+    let reader = FsReader::new(rt);
+    let given = place_inputs(alloc, inputs, names)?;
+    check_inputs(alloc, &given, &resolver, &reader, bundled_files()).result
 }
 
 /// The texts, lent.

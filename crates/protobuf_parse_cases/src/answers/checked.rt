@@ -39,9 +39,14 @@ fn told(alloc: Global, faults: &[ElabError]) -> Result<String, AllocError> {
         if !out.is_empty() {
             out.push_str("; ")?;
         }
-        let line = fault.place.line;
-        let col = fault.place.col;
-        write!(&mut out, "{line}:{col} {fault}")?;
+        put_fault(&mut out, fault)?;
     }
     Ok(out)
+}
+
+/// The fault with its place: `1:9 E3 NotFoundByRelPath: X`.
+pub fn put_fault(text: &mut String, fault: &ElabError) -> Result<(), AllocError> {
+    let line = fault.place.line;
+    let col = fault.place.col;
+    write!(text, "{line}:{col} {fault}")
 }

@@ -1,5 +1,6 @@
 //! Parsers over the real folders that stand beside the files of cases.
 
+use super::checks::put_reports;
 use super::texts::without_last_feed;
 use super::{Nested, given_of};
 use crate::cases::{Case, Row};
@@ -22,6 +23,7 @@ impl<'r, R: Files + AllocGlobal> Answers for OnFiles<'r, R> {
         let outcome = match case.verb.as_str() {
             "parser" => named(self.rt, text_of(given_of(case, row))?),
             "parsed" => listed(self.rt, text_of(given_of(case, row))?),
+            "parser_check" => reported(self.rt, text_of(given_of(case, row))?),
             "command" => return Ok(commanded(self.rt, text_of(given_of(case, row))?)?),
             _ => return Nested.answer(alloc, case, row),
         };
@@ -81,6 +83,14 @@ fn listed<R: Files + AllocGlobal>(rt: &R, given: &str) -> Result<String, RunFaul
     text.push_str("of the inputs:\n")?;
     text.push_str(&listing(alloc, &parser.file_descriptor_set(rt)?.file)?)?;
     Ok(without_last_feed(alloc, &text)?)
+}
+
+/// The reports of the parser's check.
+fn reported<R: Files + AllocGlobal>(rt: &R, given: &str) -> Result<String, RunFault> {
+    let reports = parser_of(rt.alloc(), given)?.check(rt)?;
+    let mut text = String::new(rt.alloc());
+    put_reports(&mut text, &reports)?;
+    Ok(text)
 }
 
 /// What the command with these arguments writes: its status, then what stands on standard output,

@@ -26,7 +26,7 @@ fn path_of(alloc: Global, text: &str) -> Result<ProtoPathBuf> {
 
 /// The inputs that the words name: a proto path, or a proto path, `=` and the path of the input's
 /// own file.
-fn inputs_of(alloc: Global, words: &str) -> Result<Vec<RunInput>> {
+pub fn inputs_of(alloc: Global, words: &str) -> Result<Vec<RunInput>> {
     let mut inputs = Vec::new(alloc);
     for word in words.split_whitespace() {
         inputs.push(match word.split_once('=') {
@@ -40,7 +40,7 @@ fn inputs_of(alloc: Global, words: &str) -> Result<Vec<RunInput>> {
     Ok(inputs)
 }
 
-fn bundled_of<'a>(alloc: Global, files: &'a [CaseFile]) -> Result<Vec<(&'a str, &'a str)>> {
+pub fn bundled_of<'a>(alloc: Global, files: &'a [CaseFile]) -> Result<Vec<(&'a str, &'a str)>> {
     let mut bundled = Vec::new(alloc);
     for file in files {
         if let Some(path) = file.path.strip_prefix(BUNDLED) {
@@ -201,13 +201,17 @@ fn told(alloc: Global, log: &RunLog) -> Result<String, AllocError> {
         Ok(files) => put_names(&mut text, files)?,
         Err(fault) => write!(&mut text, "{fault} ")?,
     }
-    text.push('|')?;
-    for entry in &log.reads {
-        put_answer(&mut text, entry)?;
-    }
-    let meets = log.meets;
-    write!(&mut text, " | {meets}")?;
+    put_reads(&mut text, &log.reads, log.meets)?;
     Ok(text)
+}
+
+/// Each read with what was answered, and how often a file was met.
+pub fn put_reads(text: &mut String, reads: &[ReadEntry], meets: u128) -> Result<(), AllocError> {
+    text.push('|')?;
+    for entry in reads {
+        put_answer(text, entry)?;
+    }
+    write!(text, " | {meets}")
 }
 
 fn put_names(text: &mut String, files: &[FileDescriptorProto]) -> Result<(), AllocError> {

@@ -1,0 +1,44 @@
+-- Checks over real files.
+use Rattle.std.specs.Prelude.{◌⊎◌, List, Result, Ok, Err}
+use Rattle.std.specs.Global.{Vec}
+use Rattle.protobuf_parse_model.specs.Descriptors.{Text}
+use Rattle.protobuf_parse_run.specs.declared.fault.RunFault.{RunFault}
+use Rattle.protobuf_parse_run.specs.declared.log.FileReport.{FileReport}
+use Rattle.protobuf_parse_run.specs.declared.log.ReadEntry.{ReadEntry}
+use Rattle.protobuf_parse_run.specs.Checks.{ChecksAsTold}
+use Rattle.protobuf_parse_run.specs.Run.{HaveLists, HaveTrees, MayAnswer, OrMemory, shipped}
+use Rattle.protobuf_parse.specs.Includes.{AreNamed, StandsAtFirst}
+use Rattle.protobuf_parse.specs.Folders.{MayFind}
+use Rattle.protobuf_parse.specs.Parsers.{MayReadAnything, inputs_at}
+
+-- A check of these inputs by these names, whose imports are found in these includes and among the
+-- files that this library brings, read some log and ended so.
+pub record ChecksOverFolders (includes inputs names : List Text)
+    (result : Result (Vec FileReport) RunFault) : Type 0 where
+  pub log : List ReadEntry
+  pub trees : HaveTrees shipped log
+  pub lists : HaveLists shipped log
+  pub told : ChecksAsTold (MayAnswer (MayFind includes) MayReadAnything) (inputs_at names inputs)
+      shipped log result
+
+-- or memory ran out
+abbrev pub CheckedOverFolders : List Text → List Text → List Text
+    → Result (Vec FileReport) RunFault → Type 0
+CheckedOverFolders includes inputs names (Ok reports) =
+    ChecksOverFolders includes inputs names (Ok reports)
+CheckedOverFolders includes inputs names (Err f) =
+    OrMemory f (ChecksOverFolders includes inputs names (Err f))
+
+-- each input has its proto path, and these are the reports of the check over them
+abbrev pub AreReported : List Text → List Text → Vec FileReport → Type 0
+AreReported includes inputs reports =
+    (names : List Text) × AreNamed includes inputs names
+    × ChecksOverFolders includes inputs names (Ok reports)
+
+-- No reports: memory ran out, or the fault stands for the first input that gets no proto path, or
+-- each input gets its proto path and the check over them ended with the fault.
+abbrev pub TellsCheckFault : List Text → List Text → RunFault → Type 0
+TellsCheckFault includes inputs f =
+    OrMemory f (StandsAtFirst includes inputs f
+    ⊎ ((names : List Text) × AreNamed includes inputs names
+    × ChecksOverFolders includes inputs names (Err f)))

@@ -1,0 +1,131 @@
+//! The files that a run read, and what they declare.
+
+use crate::imports::{reached, seen};
+use crate::outline::{Declared, Outline};
+use crate::sources::{Source, Trees};
+use std::alloc::{AllocError, Global};
+use std::collections::BTreeMap;
+
+/// A file, and what its tree declares.
+#[derive(Drop)]
+pub struct KnownFile<'t, 'a> {
+    pub source: Source<'a>,
+    pub outline: Outline<'t>,
+}
+
+/// The files of these trees, in their order. The one error is that memory is short.
+pub fn known_files<'t, 'a>(
+    alloc: Global,
+    trees: &'t Trees<'a>,
+) -> Result<Vec<KnownFile<'t, 'a>>, AllocError> {
+    let mut files = Vec::new(alloc);
+    for file in &trees.files {
+        files.push(KnownFile {
+            source: file.source,
+            outline: Outline::of(alloc, &file.tree)?,
+        })?;
+    }
+    Ok(files)
+}
+
+/// A declaration, and the position of the file that has it.
+#[derive(Clone, Copy)]
+pub struct Found<'k, 't> {
+    pub declared: &'k Declared<'t>,
+    pub file: usize,
+}
+
+/// The files, and their declarations by the last parts of their names.
+#[derive(Drop)]
+pub struct Known<'k, 't, 'a> {
+    pub files: &'k [KnownFile<'t, 'a>],
+    by_name: BTreeMap<&'k str, Vec<Found<'k, 't>>>,
+}
+
+impl<'k, 't, 'a> Known<'k, 't, 'a> {
+    /// What these files declare. The one error is that memory is short.
+    pub fn of(alloc: Global, files: &'k [KnownFile<'t, 'a>]) -> Result<Self, AllocError> {
+        let mut by_name: BTreeMap<&'k str, Vec<Found<'k, 't>>> = BTreeMap::new(alloc);
+        for (file, each) in files.iter().enumerate() {
+            for declared in &each.outline.declared {
+                by_name
+                    .entry(declared.name())?
+                    .or_insert(Vec::new(alloc))
+                    .push(Found { declared, file })?;
+            }
+        }
+        Ok(Known { files, by_name })
+    }
+
+    /// The declarations whose full names end in the last part of this name, in the order of the
+    /// files and of their texts.
+    pub fn of_last_part(&self, name: &str) -> &[Found<'k, 't>] {
+        let last = match name.rsplit_once('.') {
+            Some((_, last)) => last,
+            None => name,
+        };
+        match self.by_name.get(last) {
+            Some(found) => found,
+            None => &[],
+        }
+    }
+}
+
+/// The files as one of them sees them.
+#[derive(Drop)]
+pub struct Sight<'s, 'k, 't, 'a> {
+    pub known: &'s Known<'k, 't, 'a>,
+    /// The position of that one file.
+    pub at: usize,
+    sees: Vec<bool>,
+    reaches: Vec<bool>,
+}
+
+impl<'s, 'k, 't, 'a> Sight<'s, 'k, 't, 'a> {
+    /// The files as the one at this position sees them. The one error is that memory is short.
+    pub fn of(
+        alloc: Global,
+        trees: &Trees<'a>,
+        known: &'s Known<'k, 't, 'a>,
+        at: usize,
+    ) -> Result<Self, AllocError> {
+        Ok(Sight {
+            known,
+            at,
+            sees: flags(alloc, trees, &seen(alloc, trees, at)?)?,
+            reaches: flags(alloc, trees, &reached(alloc, trees, at)?)?,
+        })
+    }
+
+    /// What that one file declares, in the order of its text.
+    pub fn own_declarations(&self) -> &'k [Declared<'t>] {
+        match self.known.files.get(self.at) {
+            Some(own) => &own.outline.declared,
+            None => &[],
+        }
+    }
+
+    /// Whether it sees the file at that position.
+    pub fn sees(&self, file: usize) -> bool {
+        is_set(&self.sees, file)
+    }
+
+    /// Whether it reaches the file at that position.
+    pub fn reaches(&self, file: usize) -> bool {
+        is_set(&self.reaches, file)
+    }
+}
+
+fn flags(alloc: Global, trees: &Trees<'_>, positions: &[usize]) -> Result<Vec<bool>, AllocError> {
+    let mut flags = vec![in alloc; false; trees.files.len()]?;
+    for position in positions {
+        if let Some(flag) = flags.get_mut(*position) {
+            *flag = true;
+        }
+    }
+    Ok(flags)
+}
+
+fn is_set(flags: &[bool], position: usize) -> bool {
+    flags.get(position).copied().unwrap_or(false)
+}
