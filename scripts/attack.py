@@ -361,6 +361,34 @@ def numbers(n):
     return (f"{i}\n" for i in range(n))
 
 
+def lost_types(n):
+    """A message with n fields, each of another type that nothing declares."""
+    yield PROTO2
+    yield from block("message M", n, lambda i: f"optional Lost{i} a{i} = {field_number(i)};")
+
+
+def twice_named(n):
+    """A message with n fields of one name."""
+    yield PROTO2
+    yield from block("message M", n, lambda i: f"optional int32 a = {field_number(i)};")
+
+
+def wrong_options(n):
+    """A message with n fields, each with an option that takes another value."""
+    yield PROTO2
+    yield from block(
+        "message M", n, lambda i: f"optional int32 a{i} = {field_number(i)} [deprecated = 5];"
+    )
+
+
+def lost_extensions(n):
+    """A message with n fields, each with an option that nothing declares."""
+    yield PROTO2
+    yield from block(
+        "message M", n, lambda i: f"optional int32 a{i} = {field_number(i)} [(lost) = 5];"
+    )
+
+
 def names(n):
     """A file that declares n names: for the benchmark's --same."""
     return (f"message M{i} {{}}\n" for i in range(n))

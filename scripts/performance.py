@@ -5,7 +5,8 @@
 
 Run it at the top of the repository, once `rt run` has built the programs in
 crates/protobuf_parse_program and crates/protobuf_parse_bench, with nothing else on the machine.
-TABLE is one of sizes, attacks, files, options, lexing, beside; without one all are measured. A time is
+TABLE is one of sizes, attacks, files, options, faults, lexing, beside; without one all are measured;
+faults needs the command, which `rt run` builds in crates/protobuf_parse_cli. A time is
 user and system time together, the best of N runs; memory is the most that the process held, in MB
 of 1,048,576 bytes; instructions are those that valgrind's callgrind counts.
 """
@@ -21,6 +22,7 @@ from pathlib import Path
 
 TOP = Path(__file__).resolve().parent.parent
 PROGRAM = TOP / "crates/protobuf_parse_program/out/protobuf_parse_program"
+CLI = TOP / "crates/protobuf_parse_cli/out/protobuf_parse_cli"
 BENCH = TOP / "crates/protobuf_parse_bench/out/protobuf_parse_bench"
 ATTACK = TOP / "scripts/attack.py"
 SCALARS = (
@@ -83,22 +85,22 @@ class Measure:
         text = subprocess.run([ATTACK, name, str(size)], capture_output=True, text=True, check=True)
         return self.write(f"{name}.proto", [text.stdout])
 
-    def once(self, args):
+    def once(self, args, status_wanted):
         """Processor time in seconds, memory in MB and the length of what is printed, in MB."""
         # A child's own memory, as `time` tells it: that of `wait4` has this process's in it.
         command = ["/usr/bin/time", "-f", "%M", *args]
         with open(self.folder / "printed", "wb") as out, open(self.folder / "told", "wb") as err:
             child = subprocess.Popen(command, cwd=self.folder, stdout=out, stderr=err)
             _, status, used = os.wait4(child.pid, 0)
-        if status != 0:
+        if os.waitstatus_to_exitcode(status) != status_wanted:
             sys.exit(f"{args}: status {status}")
         memory = int((self.folder / "told").read_text().split()[-1]) / 1024
         printed = (self.folder / "printed").stat().st_size / 1e6
         return used.ru_utime + used.ru_stime, memory, printed
 
-    def run(self, *args):
-        """The same, the least time and memory of some runs."""
-        runs = [self.once([str(arg) for arg in args]) for _ in range(self.best)]
+    def run(self, *args, status=0):
+        """The same, the least time and memory of some runs that end with this status."""
+        runs = [self.once([str(arg) for arg in args], status) for _ in range(self.best)]
         return min(run[0] for run in runs), min(run[1] for run in runs), runs[0][2]
 
     def instructions(self, *args):
@@ -155,6 +157,18 @@ def options(m):
             print(f"| `{name}` {n} | {time:.2f} s | {memory:.0f} MB | {count} |")
 
 
+def faults(m):
+    print("| what | faults | text | half | whole | memory |\n|---|---|---|---|---|---|")
+    for name in ("lost_types", "twice_named", "wrong_options", "lost_extensions"):
+        m.attack(name, 50000)
+        half, _, _ = m.run(CLI, f"{name}.proto", status=1)
+        size = m.attack(name, 100000)
+        whole, memory, _ = m.run(CLI, f"{name}.proto", status=1)
+        print(
+            f"| `{name}` | 100,000 | {size:.1f} MB | {half:.2f} s | {whole:.2f} s | {memory:.0f} MB |"
+        )
+
+
 def lexing(m):
     for text, n in ((scalars, 4000), (of_all_kinds, 3000), (scalars, 16000)):
         size = m.write("f.proto", text(n))
@@ -175,7 +189,7 @@ def beside(m):
             print(f"| {text.__name__} {n} | {name} | {time:.3f} s | {memory:.0f} MB | {count} |")
 
 
-TABLES = {t.__name__: t for t in (sizes, attacks, files, options, lexing, beside)}
+TABLES = {t.__name__: t for t in (sizes, attacks, files, options, faults, lexing, beside)}
 
 
 def main():

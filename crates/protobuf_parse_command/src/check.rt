@@ -3,12 +3,10 @@
 use crate::arguments::Arguments;
 use crate::faults::faults_of;
 use crate::inputs::input_of;
+use crate::reading::Folders;
 use crate::survey::path_of;
 use crate::unread::fault_told;
-use protobuf_parse::{
-    FileDescriptorProto, FsReader, ReadEntry, RunFault, RunInput, RunLog, bundled_files,
-    fs_resolver, run_inputs,
-};
+use protobuf_parse::{FileDescriptorProto, ReadEntry, RunFault, RunInput, bundled_files};
 use protobuf_parse_diagnostics::{Diagnostic, RuleLevel, Sources, arrange, rule_diagnostics};
 use protobuf_parse_rules::{Violation, violations};
 use std::alloc::{AllocError, Global};
@@ -38,14 +36,15 @@ pub fn check_files<R: Files + AllocGlobal>(
     let mut told = Vec::new(alloc);
     let mut left = inputs_of(rt, alloc, arguments, &mut told)?;
     let inputs = names_of(alloc, &left)?;
-    let mut log = run_over(rt, alloc, &arguments.includes, &left)?;
+    let folders = Folders::of(rt, alloc, &arguments.includes)?;
+    let mut log = folders.run(alloc, &left);
     let mut is_cut = false;
     if log.result.is_err() {
-        let mut faults = faults_of(rt, alloc, arguments, left)?;
+        let mut faults = faults_of(rt, alloc, &folders, left)?;
         told.append(&mut faults.told)?;
         is_cut = faults.is_cut;
         left = faults.sound;
-        log = run_over(rt, alloc, &arguments.includes, &left)?;
+        log = folders.run(alloc, &left);
     }
     let files = match log.result {
         Ok(files) => {
@@ -93,22 +92,6 @@ fn told_of_reads<R: Files + AllocGlobal>(
 ) -> Result<Diagnostic, AllocError> {
     let sources = Sources::of_reads(alloc, reads, bundled_files())?;
     fault_told(rt, alloc, &sources, fault)
-}
-
-/// The run over these inputs, with imports from the includes.
-fn run_over<R: Files + AllocGlobal>(
-    rt: &R,
-    alloc: Global,
-    includes: &[String],
-    inputs: &[RunInput],
-) -> Result<RunLog, AllocError> {
-    let mut folders: Vec<&str> = Vec::new(alloc);
-    for include in includes {
-        folders.push(include.as_str())?;
-    }
-    let resolver = fs_resolver(rt, alloc, &folders)?;
-    let reader = FsReader::new(rt);
-    Ok(run_inputs(alloc, inputs, &resolver, &reader, bundled_files()))
 }
 
 /// The proto paths of the inputs.

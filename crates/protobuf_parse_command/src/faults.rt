@@ -1,11 +1,10 @@
 //! All that is wrong in the files that the inputs reach.
 
-use crate::arguments::Arguments;
+use crate::reading::Folders;
 use crate::survey::{Survey, input_copy, path_of};
 use crate::unread::faults_told;
 use protobuf_parse::{
-    CheckLog, FileReport, FsReader, ProtoPathBuf, ReadEntry, RunFault, RunInput, bundled_files,
-    check_inputs, fs_resolver,
+    CheckLog, FileReport, ProtoPathBuf, ReadEntry, RunFault, RunInput, bundled_files,
 };
 use protobuf_parse_diagnostics::{Diagnostic, Sources, Spread, fault_path, report_diagnostics};
 use std::alloc::{AllocError, Global};
@@ -33,10 +32,10 @@ pub struct Faults {
 pub fn faults_of<R: Files + AllocGlobal>(
     rt: &R,
     alloc: Global,
-    arguments: &Arguments,
+    folders: &Folders<'_, R>,
     inputs: Vec<RunInput>,
 ) -> Result<Faults, AllocError> {
-    let survey = Survey::of(rt, alloc, &arguments.includes, &inputs)?;
+    let survey = Survey::of(alloc, folders, &inputs)?;
     let mut state = State {
         told: Vec::new(alloc),
         sound: inputs,
@@ -49,7 +48,7 @@ pub fn faults_of<R: Files + AllocGlobal>(
             reads,
             meets: _,
             result,
-        } = check_over(rt, alloc, &arguments.includes, &state.asked(alloc)?)?;
+        } = folders.check(alloc, &state.asked(alloc)?);
         match result {
             Ok(reports) => {
                 state.tell_reports(alloc, &reads, &survey.reads, &reports)?;
@@ -62,22 +61,6 @@ pub fn faults_of<R: Files + AllocGlobal>(
         }
     }
     Ok(state.into_faults(true))
-}
-
-/// The check of these inputs, with imports from the includes.
-fn check_over<R: Files + AllocGlobal>(
-    rt: &R,
-    alloc: Global,
-    includes: &[String],
-    inputs: &[RunInput],
-) -> Result<CheckLog, AllocError> {
-    let mut folders: Vec<&str> = Vec::new(alloc);
-    for include in includes {
-        folders.push(include.as_str())?;
-    }
-    let resolver = fs_resolver(rt, alloc, &folders)?;
-    let reader = FsReader::new(rt);
-    Ok(check_inputs(alloc, inputs, &resolver, &reader, bundled_files()))
 }
 
 /// What is known so far.
@@ -116,6 +99,9 @@ impl State {
         all: &[ReadEntry],
         faults: &[RunFault],
     ) -> Result<(), AllocError> {
+        if faults.is_empty() {
+            return Ok(());
+        }
         let sources = Sources::of_reads(alloc, reads, bundled_files())?;
         let mut told = faults_told(rt, alloc, &sources, faults)?;
         self.told.append(&mut told)?;

@@ -1,8 +1,9 @@
-//! Files as a run reads them, one at a time.
+//! The files of a command line, and what they import: by runs, by checks, and one at a time.
 
 use protobuf_parse::{
-    FsReader, FsResolver, InputReader, ProtoPath, ProtoPathBuf, ProtoPathResolver, ReadEntry,
-    ReadInputFault, ReadOutcome, ResolveFault, RunFault, RunInput, bundled_files, fs_resolver,
+    CheckLog, FsReader, FsResolver, InputReader, ProtoPath, ProtoPathBuf, ProtoPathResolver,
+    ReadEntry, ReadInputFault, ReadOutcome, ResolveFault, RunFault, RunInput, RunLog,
+    bundled_files, check_inputs, fs_resolver, run_inputs,
 };
 use protobuf_parse_syntax::{FileTree, ParserError, parse_file};
 use std::alloc::{AllocError, Global};
@@ -36,6 +37,16 @@ impl<'r, R: Files + AllocGlobal> Folders<'r, R> {
             resolver: fs_resolver(rt, alloc, &folders)?,
             reader: FsReader::new(rt),
         })
+    }
+
+    /// The run over these inputs.
+    pub fn run(&self, alloc: Global, inputs: &[RunInput]) -> RunLog {
+        run_inputs(alloc, inputs, &self.resolver, &self.reader, bundled_files())
+    }
+
+    /// The check of these inputs.
+    pub fn check(&self, alloc: Global, inputs: &[RunInput]) -> CheckLog {
+        check_inputs(alloc, inputs, &self.resolver, &self.reader, bundled_files())
     }
 
     /// Reads an input: by the resolver, or at its own path. The one error is that memory is short.

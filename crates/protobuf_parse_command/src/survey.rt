@@ -22,12 +22,10 @@ impl Survey {
     /// Reads the inputs, and all that they reach, those nearer to them first. An input is read at
     /// its own path, even where another one imports it. The one error is that memory is short.
     pub fn of<R: Files + AllocGlobal>(
-        rt: &R,
         alloc: Global,
-        includes: &[String],
+        folders: &Folders<'_, R>,
         inputs: &[RunInput],
     ) -> Result<Self, AllocError> {
-        let folders = Folders::of(rt, alloc, includes)?;
         let mut survey = Survey {
             reads: Vec::new(alloc),
             faults: Vec::new(alloc),
