@@ -1,7 +1,6 @@
 -- Numbers are distinct in what each file of a run reaches, where the rules find none in use.
-use Rattle.std.proofs.Common.{◌≡◌, List, [], ◌∷◌, map, Option, subst, sym}
+use Rattle.std.proofs.Common.{List, [], ◌∷◌, map, subst, sym}
 use Rattle.std.specs.Prelude.{option_to_list}
-use Rattle.protobuf_parse_syntax.specs.Trees.{FileSyntax}
 use Rattle.protobuf_parse_model.specs.Descriptors.{Text, FileDescriptor}
 use Rattle.protobuf_parse_elaboration.specs.FilesByPath.{AreDistinct}
 use Rattle.protobuf_parse_options.specs.DescriptorsByPath.{described_at}

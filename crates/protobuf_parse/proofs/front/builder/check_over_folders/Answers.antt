@@ -5,13 +5,15 @@ use Rattle.protobuf_parse_run.specs.Run.{input_view}
 use Rattle.protobuf_parse.proofs.Checking.{checked-over}
 use Rattle.protobuf_parse.proofs.front.builder.check_over_folders.Goals as goal
 
-pub returns-clause-checked : goal.returns-clause-checked
-returns-clause-checked g c =
+pub returns : goal.returns
+returns g c =
     let folders : map string_bytes c.in_ok-resolver.resolver.includes.items
     ≡ map string_bytes c.args.includes.now =
     c.in_ok-resolver.ensures.includes
     ∙ (ap part_views c.deref.ensures.value ∙ c.in_ok-folders.ensures) in
     let is = ap (map input_view) c.deref-2.ensures.value ∙ c.in_ok-given.ensures in
-    checked-over _ _ _ _ c.check_inputs.result.reads.items _ _ _ folders is
-    c.bundled_files.ensures c.check_inputs.ensures.trees c.check_inputs.ensures.lists
-    c.check_inputs.ensures.told
+    record {
+      checked = checked-over _ _ _ _ c.check_inputs.result.reads.items _ _ _ folders is
+          c.bundled_files.ensures c.check_inputs.ensures.trees c.check_inputs.ensures.lists
+          c.check_inputs.ensures.told;
+    }
