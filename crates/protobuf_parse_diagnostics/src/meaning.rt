@@ -8,6 +8,7 @@ use crate::kinds::values_of_option;
 use crate::loading::told_at;
 use crate::meaning::hints::{Hints, declared_twice, import_of_second};
 use crate::meaning::known::{Known, Sight, known_files};
+use crate::outline::Outline;
 use crate::places::{Firsts, fault_place};
 use crate::sources::{Sources, Trees};
 use crate::syntax::Sentence;
@@ -59,11 +60,9 @@ pub fn meaning_diagnostic(
     let trees = Trees::of(alloc, sources)?;
     let files = known_files(alloc, &trees)?;
     let known = Known::of(alloc, &files)?;
-    match trees.at_origin(origin) {
-        Some(at) => {
-            let subject = Subject::of(alloc, &trees, &known, at)?;
-            subject.diagnostic(alloc, origin, error, &mut Hints::new(alloc))
-        }
+    let at = trees.at_origin(origin);
+    match subject_at(alloc, &trees, &known, at)? {
+        Some(subject) => subject.diagnostic(alloc, origin, error, &mut Hints::new(alloc)),
         None => plain_diagnostic(alloc, origin, error),
     }
 }
@@ -80,23 +79,47 @@ pub fn report_diagnostics(
     let known = Known::of(alloc, &files)?;
     let mut told = Vec::new(alloc);
     for report in reports {
-        let origin = sources.origin_of(&report.path);
-        match trees.position(&report.path) {
-            Some(at) if !report.faults.is_empty() => {
-                let subject = Subject::of(alloc, &trees, &known, at)?;
-                let mut hints = Hints::new(alloc);
-                for error in &report.faults {
-                    told.push(subject.diagnostic(alloc, origin, error, &mut hints)?)?;
-                }
-            }
-            _ => {
-                for error in &report.faults {
-                    told.push(plain_diagnostic(alloc, origin, error)?)?;
-                }
-            }
+        if !report.faults.is_empty() {
+            let mut lines = told_of(alloc, sources, &trees, &known, report)?;
+            told.append(&mut lines)?;
         }
     }
     Ok(told)
+}
+
+/// What is told of the faults of a file.
+fn told_of<'a>(
+    alloc: Global,
+    sources: &Sources<'_>,
+    trees: &Trees<'a>,
+    known: &Known<'_, '_, 'a>,
+    report: &FileReport,
+) -> Result<Vec<Diagnostic>, AllocError> {
+    let at = trees.position(&report.path);
+    let subject = subject_at(alloc, trees, known, at)?;
+    let origin = sources.origin_of(&report.path);
+    let mut hints = Hints::new(alloc);
+    let mut told = Vec::new(alloc);
+    for error in &report.faults {
+        told.push(match &subject {
+            Some(subject) => subject.diagnostic(alloc, origin, error, &mut hints)?,
+            None => plain_diagnostic(alloc, origin, error)?,
+        })?;
+    }
+    Ok(told)
+}
+
+/// The file at that position, if there is one.
+fn subject_at<'s, 'k, 't, 'a>(
+    alloc: Global,
+    trees: &'s Trees<'a>,
+    known: &'s Known<'k, 't, 'a>,
+    at: Option<usize>,
+) -> Result<Option<Subject<'s, 'k, 't, 'a>>, AllocError> {
+    match at {
+        Some(at) => Subject::of(alloc, trees, known, at),
+        None => Ok(None),
+    }
 }
 
 /// What is told of the fault by itself.
@@ -120,24 +143,28 @@ fn plain_diagnostic(
 struct Subject<'s, 'k, 't, 'a> {
     trees: &'s Trees<'a>,
     sight: Sight<'s, 'k, 't, 'a>,
+    own: &'k Outline<'t>,
     firsts: Firsts<'k, 't>,
 }
 
 impl<'s, 'k, 't, 'a> Subject<'s, 'k, 't, 'a> {
-    /// The file at this position.
+    /// The file at this position, if there is one.
     fn of(
         alloc: Global,
         trees: &'s Trees<'a>,
         known: &'s Known<'k, 't, 'a>,
         at: usize,
-    ) -> Result<Self, AllocError> {
+    ) -> Result<Option<Self>, AllocError> {
         let sight = Sight::of(alloc, trees, known, at)?;
-        let firsts = Firsts::of(alloc, sight.own_declarations())?;
-        Ok(Subject {
+        let Some(own) = sight.own() else {
+            return Ok(None);
+        };
+        Ok(Some(Subject {
             trees,
             sight,
-            firsts,
-        })
+            own,
+            firsts: Firsts::of(alloc, own)?,
+        }))
     }
 
     /// What is told of a fault of the file, which lies there.
@@ -148,7 +175,7 @@ impl<'s, 'k, 't, 'a> Subject<'s, 'k, 't, 'a> {
         error: &'e ElabError,
         hints: &mut Hints<'e>,
     ) -> Result<Diagnostic, AllocError> {
-        let mut place = fault_place(self.sight.own_declarations(), error);
+        let mut place = fault_place(self.own, error);
         let found = match error.kind {
             ElabErrorKind::DuplicateName => first_one(alloc, &self.firsts, error)?,
             ElabErrorKind::TypeDeclaredTwice | ElabErrorKind::ExtensionDeclaredTwice => {

@@ -1,6 +1,6 @@
 //! Where a fault of meaning stands.
 
-use crate::outline::{Declared, DeclaredKind};
+use crate::outline::{Declared, DeclaredKind, Outline};
 use protobuf_parse_model::{ElabError, ElabErrorKind};
 use protobuf_parse_syntax::Place;
 use std::alloc::{AllocError, Global};
@@ -8,7 +8,7 @@ use std::collections::BTreeMap;
 
 /// The place of the fault: its own, but for a full name that is declared twice that of the last
 /// statement of the file that declares it. None where the file declares it nowhere.
-pub fn fault_place(own: &[Declared<'_>], error: &ElabError) -> Option<Place> {
+pub fn fault_place(own: &Outline<'_>, error: &ElabError) -> Option<Place> {
     let what = error.what.as_str();
     match error.kind {
         ElabErrorKind::TypeDeclaredTwice => last_type(own, what),
@@ -17,44 +17,56 @@ pub fn fault_place(own: &[Declared<'_>], error: &ElabError) -> Option<Place> {
     }
 }
 
-/// Of the declarations of a file the first ones of their kinds and names in their bodies.
+/// A declaration, and the first one that is of its kind and its name in its body.
+#[derive(Clone, Copy)]
+struct Repeated<'o, 'a> {
+    declared: &'o Declared<'a>,
+    first: &'o Declared<'a>,
+}
+
+/// The declarations of a file, each with the first one that is of its kind and its name in its body.
 #[derive(Drop)]
 pub struct Firsts<'o, 'a> {
-    /// By the line, the column and the name of each declaration that has the name.
-    firsts: BTreeMap<(u32, u32, &'o str), &'o Declared<'a>>,
+    /// By their lines and columns.
+    by_place: BTreeMap<(u32, u32), Vec<Repeated<'o, 'a>>>,
 }
 
 impl<'o, 'a> Firsts<'o, 'a> {
-    /// Those of a file that declares these, in the order of its text. The one error is that memory
-    /// is short.
-    pub fn of(alloc: Global, own: &'o [Declared<'a>]) -> Result<Self, AllocError> {
+    /// Those of an outline. The one error is that memory is short.
+    pub fn of(alloc: Global, own: &'o Outline<'a>) -> Result<Self, AllocError> {
         let mut met: BTreeMap<(usize, DeclaredKind, &'o str), &'o Declared<'a>> = BTreeMap::new(
             alloc,
         );
-        let mut firsts = BTreeMap::new(alloc);
-        for declared in own {
-            let name = declared.name();
-            let first = *met
-                .entry((declared.body, declared.kind, name))?
-                .or_insert(declared);
+        let mut by_place: BTreeMap<(u32, u32), Vec<Repeated<'o, 'a>>> = BTreeMap::new(alloc);
+        for declared in &own.declared {
+            let key = (declared.body, declared.kind, declared.name());
+            let first = *met.entry(key)?.or_insert(declared);
             let Place { line, col } = declared.place;
-            firsts.entry((line, col, name))?.or_insert(first);
+            by_place
+                .entry((line, col))?
+                .or_insert(Vec::new(alloc))
+                .push(Repeated { declared, first })?;
         }
-        Ok(Firsts { firsts })
+        Ok(Firsts { by_place })
     }
 
     /// The first declaration that is of one kind with that of the name at the place, and stands in
     /// one body with it.
     pub fn of_name_at(&self, name: &str, place: Place) -> Option<&'o Declared<'a>> {
         let Place { line, col } = place;
-        self.firsts.get(&(line, col, name)).copied()
+        for each in self.by_place.get(&(line, col))? {
+            if each.declared.name() == name {
+                return Some(each.first);
+            }
+        }
+        None
     }
 }
 
 /// The last message or enum of this full name.
-fn last_type(own: &[Declared<'_>], full: &str) -> Option<Place> {
+fn last_type(own: &Outline<'_>, full: &str) -> Option<Place> {
     let mut last = None;
-    for declared in own {
+    for declared in &own.declared {
         if declared.is_type() && declared.full.as_str() == full {
             last = Some(declared.place);
         }
@@ -63,9 +75,9 @@ fn last_type(own: &[Declared<'_>], full: &str) -> Option<Place> {
 }
 
 /// The last extension of this full name.
-fn last_extension(own: &[Declared<'_>], full: &str) -> Option<Place> {
+fn last_extension(own: &Outline<'_>, full: &str) -> Option<Place> {
     let mut last = None;
-    for declared in own {
+    for declared in &own.declared {
         if declared.kind == DeclaredKind::Extension && declared.full.as_str() == full {
             last = Some(declared.place);
         }

@@ -68,8 +68,11 @@ fn where_declared(
     error: &ElabError,
 ) -> Result<Option<String>, AllocError> {
     let what = error.what.as_str();
+    let Some(all) = sight.known.of_last_part(what) else {
+        return Ok(None);
+    };
     let mut visible = None;
-    for found in sight.known.of_last_part(what) {
+    for found in all {
         if is_of_kind(found.declared, error.kind) && ends_in(&found.declared.full, what) {
             if !sight.sees(found.file) {
                 return hint_of(alloc, sight, *found);
@@ -116,8 +119,11 @@ fn type_hint(
     sight: &Sight<'_, '_, '_, '_>,
     name: &str,
 ) -> Result<Option<String>, AllocError> {
+    let Some(all) = sight.known.of_last_part(name) else {
+        return Ok(None);
+    };
     let mut hint: Option<String> = None;
-    for found in sight.known.of_last_part(name) {
+    for found in all {
         if let Some(type_) = found.declared.type_ {
             let values = takes(alloc, type_)?;
             match &hint {
@@ -142,8 +148,11 @@ pub fn declared_twice(
     error: &ElabError,
     told: Option<Place>,
 ) -> Result<Option<String>, AllocError> {
+    let Some(all) = sight.known.of_last_part(&error.what) else {
+        return Ok(None);
+    };
     let mut text = String::new(alloc);
-    for found in sight.known.of_last_part(&error.what) {
+    for found in all {
         let Found { declared, file } = *found;
         let is_told = file == sight.at && Some(declared.place) == told;
         if sight.reaches(file) && is_spoken_of(declared, error) && !is_told {
@@ -215,8 +224,11 @@ pub fn import_of_second(
 
 /// How often the file at that position declares the full name that the fault speaks of.
 fn declarations_in(sight: &Sight<'_, '_, '_, '_>, at: usize, error: &ElabError) -> usize {
+    let Some(all) = sight.known.of_last_part(&error.what) else {
+        return 0;
+    };
     let mut declarations: usize = 0;
-    for found in sight.known.of_last_part(&error.what) {
+    for found in all {
         if found.file == at && is_spoken_of(found.declared, error) {
             declarations = declarations.saturating_add(1);
         }

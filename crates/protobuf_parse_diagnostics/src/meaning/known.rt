@@ -58,16 +58,13 @@ impl<'k, 't, 'a> Known<'k, 't, 'a> {
     }
 
     /// The declarations whose full names end in the last part of this name, in the order of the
-    /// files and of their texts.
-    pub fn of_last_part(&self, name: &str) -> &[Found<'k, 't>] {
+    /// files and of their texts, if there are any.
+    pub fn of_last_part(&self, name: &str) -> Option<&Vec<Found<'k, 't>>> {
         let last = match name.rsplit_once('.') {
             Some((_, last)) => last,
             None => name,
         };
-        match self.by_name.get(last) {
-            Some(found) => found,
-            None => &[],
-        }
+        self.by_name.get(last)
     }
 }
 
@@ -97,12 +94,9 @@ impl<'s, 'k, 't, 'a> Sight<'s, 'k, 't, 'a> {
         })
     }
 
-    /// What that one file declares, in the order of its text.
-    pub fn own_declarations(&self) -> &'k [Declared<'t>] {
-        match self.known.files.get(self.at) {
-            Some(own) => &own.outline.declared,
-            None => &[],
-        }
+    /// The outline of that one file.
+    pub fn own(&self) -> Option<&'k Outline<'t>> {
+        self.known.files.get(self.at).map(|own| &own.outline)
     }
 
     /// Whether it sees the file at that position.
