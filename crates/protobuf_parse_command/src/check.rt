@@ -6,7 +6,7 @@ use crate::inputs::input_of;
 use crate::reading::Folders;
 use crate::survey::path_of;
 use crate::unread::fault_told;
-use protobuf_parse::{FileDescriptorProto, ReadEntry, RunFault, RunInput, bundled_files};
+use protobuf_parse::{FileDescriptorProto, ReadEntry, RunFault, RunInput, RunLog, bundled_files};
 use protobuf_parse_diagnostics::{Diagnostic, RuleLevel, Sources, arrange, rule_diagnostics};
 use protobuf_parse_rules::{Violation, violations};
 use std::alloc::{AllocError, Global};
@@ -34,25 +34,22 @@ pub fn check_files<R: Files + AllocGlobal>(
     arguments: &Arguments,
 ) -> Result<Checked, AllocError> {
     let mut told = Vec::new(alloc);
-    let mut left = inputs_of(rt, alloc, arguments, &mut told)?;
-    let inputs = names_of(alloc, &left)?;
+    let given = inputs_of(rt, alloc, arguments, &mut told)?;
+    let inputs = names_of(alloc, &given)?;
     let folders = Folders::of(rt, alloc, &arguments.includes)?;
-    let mut log = folders.run(alloc, &left);
-    let mut is_cut = false;
-    if log.result.is_err() {
-        let mut faults = faults_of(rt, alloc, &folders, left)?;
-        told.append(&mut faults.told)?;
-        is_cut = faults.is_cut;
-        left = faults.sound;
-        log = folders.run(alloc, &left);
-    }
-    let files = match log.result {
+    let (log, is_cut) = run_over(rt, alloc, &folders, given, &mut told)?;
+    let RunLog {
+        reads,
+        meets: _,
+        result,
+    } = log;
+    let files = match result {
         Ok(files) => {
-            tell_rules(alloc, arguments, &log.reads, &files, &inputs, &mut told)?;
+            tell_rules(alloc, arguments, &reads, &files, &inputs, &mut told)?;
             files
         }
         Err(fault) => {
-            told.push(told_of_reads(rt, alloc, &log.reads, &fault)?)?;
+            told.push(told_of_reads(rt, alloc, &reads, &fault)?)?;
             Vec::new(alloc)
         }
     };
@@ -63,6 +60,24 @@ pub fn check_files<R: Files + AllocGlobal>(
         files,
         inputs,
     })
+}
+
+/// The run over the inputs. Where it has a fault, all that is wrong is told, and the run is that over
+/// the inputs that reach nothing wrong. Answers also whether there may be more to tell.
+fn run_over<R: Files + AllocGlobal>(
+    rt: &R,
+    alloc: Global,
+    folders: &Folders<'_, R>,
+    inputs: Vec<RunInput>,
+    told: &mut Vec<Diagnostic>,
+) -> Result<(RunLog, bool), AllocError> {
+    let log = folders.run(alloc, &inputs);
+    if log.result.is_ok() {
+        return Ok((log, false));
+    }
+    let mut faults = faults_of(rt, alloc, folders, inputs)?;
+    told.append(&mut faults.told)?;
+    Ok((folders.run(alloc, &faults.sound), faults.is_cut))
 }
 
 /// The inputs that the files of the command line are, and what is told of those that are none.
