@@ -12,22 +12,16 @@ pub fn checked(alloc: Global, text: &str) -> Result<String> {
         Ok(tree) => tree,
         Err(error) => return Ok(format!(in alloc; "{error}")?),
     };
-    let mut faults = Vec::new(alloc);
-    check(alloc, &mut faults, &tree)?;
-    Ok(told(alloc, &faults)?)
-}
-
-/// Tells the faults of a file that sees none but itself.
-fn check(alloc: Global, faults: &mut Vec<ElabError>, tree: &FileTree) -> Result<(), AllocError> {
     let mut declarations = Declarations::new(alloc);
-    declarations.add(alloc, 0, tree)?;
+    declarations.add(alloc, 0, &tree)?;
     let seen = Seen {
         declarations: &declarations,
         sight: &[0],
         reach: &[0],
     };
-    elaborate_all(alloc, faults, "f.proto", tree, &seen, &WithoutCustoms)?;
-    Ok(())
+    let mut faults = Vec::new(alloc);
+    elaborate_all(alloc, &mut faults, "f.proto", &tree, &seen, &WithoutCustoms)?;
+    Ok(told(alloc, &faults)?)
 }
 
 fn told(alloc: Global, faults: &[ElabError]) -> Result<String, AllocError> {
