@@ -6,8 +6,8 @@ use crate::cases::{Case, CaseFile, Row};
 use crate::files::Files;
 use anyhow::Result;
 use protobuf_parse::{
-    CheckLog, FileDescriptorProto, ProtoPathBuf, ReadEntry, RunInput, bundled_files, check_inputs,
-    run_inputs,
+    CheckLog, FileDescriptorProto, ProtoPathBuf, ReadEntry, RunFault, RunInput, bundled_files,
+    check_inputs, run_inputs,
 };
 use protobuf_parse_diagnostics::{
     Diagnostic, RuleLevel, Sources, arrange, fault_diagnostic, report_diagnostics, rule_diagnostics,
@@ -39,6 +39,7 @@ fn told_of(alloc: Global, words: &str, files: &[CaseFile]) -> Result<String, All
     let log = run_inputs(alloc, &inputs, &source, &source, bundled_files());
     let mut told = match &log.result {
         Ok(found) => told_of_rules(alloc, &log.reads, found)?,
+        Err(RunFault::Memory) => return Err(AllocError),
         Err(_) => told_of_check(
             alloc,
             &check_inputs(alloc, &inputs, &source, &source, bundled_files()),
