@@ -152,8 +152,8 @@ module _ (customs : Customs) where
   service-adds env s =
       let methods = flat_map methods_in s.body in
       adds-turned customs
-      (adds-alone customs
+      (adds-both customs (adds-nothing customs (duplicates (map method_named methods)))
       (adds-each customs (method_faults (with_customs customs env)) (method_faults (bare env))
       (method_set env.scope (inside env.scope s.name)) methods
-      (method-adds env (inside env.scope s.name))) (duplicates (map method_named methods)))
+      (method-adds env (inside env.scope s.name))))
       (adds-options customs env of.Service service_table (options_of_service s))

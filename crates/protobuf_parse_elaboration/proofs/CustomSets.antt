@@ -1,5 +1,5 @@
 -- The laws of a file's custom options, by its sets of options.
-use Rattle.std.proofs.Common.{◌≡◌, inl, inr, List, [], ◌∷◌, flat_map, refl, ap, subst}
+use Rattle.std.proofs.Common.{◌≡◌, inl, inr, List, [], ◌∷◌, flat_map, refl, subst}
 use Rattle.std.proofs.Common.{Bool, true, false, ◌||◌}
 use Rattle.std.specs.List.{list_any}
 use Rattle.protobuf_parse_syntax.specs.Trees.{OptionNameSyntax, builtin, custom, StatementSyntax}

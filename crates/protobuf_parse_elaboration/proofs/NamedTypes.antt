@@ -608,8 +608,8 @@ module _ (P M : Text → Type 0) (any : (name : Text) → M name → P name) (cu
   service-named env known s h =
       let methods = flat_map methods_in s.body in
       let none : flat_map (method_faults env) methods
-      ≡ [] = no-left (flat_map (method_faults env) methods)
-      (duplicates (map method_named methods))
+      ≡ [] = no-right (duplicates (map method_named methods))
+      (flat_map (method_faults env) methods)
       (no-left (methods_faults env methods)
       (construct_faults env of.Service service_table (options_of_service s)) h) in
       all-flat P names_of_method MethodIsNamed (λ (m : MethodDescriptor) (k : MethodIsNamed m). k)

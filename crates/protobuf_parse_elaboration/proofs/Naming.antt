@@ -1,13 +1,12 @@
 -- The names of values are those of what is seen of them.
-use Rattle.std.proofs.Common.{◌≡◌, ◌∙◌, List, [], ◌∷◌, map, refl, ap, sym}
-use Rattle.protobuf_parse_syntax.specs.Trees.{EnumValueSyntax, MethodSyntax}
+use Rattle.std.proofs.Common.{◌≡◌, ◌∙◌, Bor, List, [], ◌∷◌, map, refl, ap, sym}
+use Rattle.protobuf_parse_syntax.specs.Trees.{EnumValueSyntax, MethodSyntax, method_syntax}
+use Rattle.protobuf_parse_syntax.specs.declared.tree.declaration.Method.{Method}
 use Rattle.protobuf_parse_model.specs.declared.descriptor.EnumValueDescriptorProto.{EnumValueDescriptorProto}
-use Rattle.protobuf_parse_model.specs.declared.descriptor.MethodDescriptorProto.{MethodDescriptorProto}
-use Rattle.protobuf_parse_model.specs.Descriptors.{EnumValueDescriptor, MethodDescriptor}
-use Rattle.protobuf_parse_model.specs.Descriptors.{enum_value_view, method_view}
+use Rattle.protobuf_parse_model.specs.Descriptors.{EnumValueDescriptor, enum_value_view}
 use Rattle.protobuf_parse_model.specs.Environment.{Environment}
 use Rattle.protobuf_parse_elaboration.specs.Enums.{value_of}
-use Rattle.protobuf_parse_elaboration.specs.Services.{method_of}
+use Rattle.protobuf_parse_elaboration.specs.Parts.{methods_seen}
 use Rattle.protobuf_parse_model.specs.declared.descriptor.DescriptorProto.{DescriptorProto}
 use Rattle.protobuf_parse_model.specs.declared.descriptor.EnumDescriptorProto.{EnumDescriptorProto}
 use Rattle.protobuf_parse_model.specs.declared.descriptor.FieldDescriptorProto.{FieldDescriptorProto}
@@ -58,11 +57,8 @@ values_named env vs values is =
     ∙ ap (map (λ (v : EnumValueDescriptor). v.name)) is
     ∙ sym (names_seen (λ (v : EnumValueDescriptor). v.name) (value_of env) values)
 
-pub methods_named : (env : Environment) (ms : List MethodDescriptorProto)
-    (methods : List MethodSyntax) → map method_view ms ≡ map (method_of env) methods
-    → map (λ (m : MethodDescriptorProto). (method_view m).name) ms
-    ≡ map (λ (m : MethodSyntax). m.name) methods
-methods_named env ms methods is =
-    names_seen (λ (m : MethodDescriptor). m.name) method_view ms
-    ∙ ap (map (λ (m : MethodDescriptor). m.name)) is
-    ∙ sym (names_seen (λ (m : MethodDescriptor). m.name) (method_of env) methods)
+pub methods_named : (ms : List (Bor Method))
+    → map (λ (m : Bor Method). (method_syntax m.now).name) ms
+    ≡ map (λ (m : MethodSyntax). m.name) (methods_seen ms)
+methods_named ms =
+    names_seen (λ (m : MethodSyntax). m.name) (λ (m : Bor Method). method_syntax m.now) ms

@@ -1,6 +1,6 @@
 -- No public clause rests on this file.
 -- What the parts that the code makes of a construct say.
-use Rattle.std.specs.Prelude.{ℕ, List, [], ◌++◌, map, flat_map, length, string_bytes}
+use Rattle.std.specs.Prelude.{ℕ, List, ◌++◌, map, flat_map, length, string_bytes}
 use Rattle.std.specs.Prelude.{String, Option, option_map, option_to_list}
 use Rattle.std.specs.Borrow.{Bor}
 use Rattle.std.specs.Global.{Global, Vec, Box}

@@ -60,10 +60,10 @@ method_faults env m =
 abbrev pub method_named : MethodSyntax → NamedAt
 method_named m = record { place = m.place; name = m.name }
 
--- E1 for two methods that have one name
+-- E1 for two methods that have one name; then what stands in each
 abbrev pub methods_faults : Environment → List MethodSyntax → List Fault
 methods_faults env methods =
-    flat_map (method_faults env) methods ++ duplicates (map method_named methods)
+    duplicates (map method_named methods) ++ flat_map (method_faults env) methods
 
 abbrev pub service_faults : Environment → ServiceSyntax → List Fault
 service_faults env s =

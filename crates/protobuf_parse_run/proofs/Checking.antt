@@ -15,7 +15,7 @@ use Rattle.protobuf_parse_run.specs.Walks.{the_resolver, the_reader, Event, load
 use Rattle.protobuf_parse_run.specs.Walks.{among, at, checks, FileRead, reads_in}
 use Rattle.protobuf_parse_run.specs.Run.{Files, AreAnswered, StandsInCheck, answer_at, Legal}
 use Rattle.protobuf_parse_run.specs.Run.{are_same_bytes}
-use Rattle.protobuf_parse_run.specs.Run.{fails, first_read, text_for, text_given}
+use Rattle.protobuf_parse_run.specs.Run.{first_read, text_for, text_given}
 use Rattle.protobuf_parse_run.specs.Loading.{LoadedEntry, file_at, read_paths, Goes, GoesOn}
 use Rattle.protobuf_parse_run.specs.Loading.{Good}
 use Rattle.protobuf_parse_run.specs.Loading.{Stops}

@@ -1,7 +1,7 @@
 -- Which of some files have faults, by their paths and by their numbers.
 use Rattle.std.proofs.Common.{arith}
 use Rattle.std.proofs.Common.{◌≡◌, ◌⊎◌, inl, inr, ℕ, zero, suc, Bool, true, false, List, [], ◌∷◌}
-use Rattle.std.proofs.Common.{◌++◌, Option, Some, None, option_map, map, refl, sym, ◌∙◌, ap, subst}
+use Rattle.std.proofs.Common.{◌++◌, Option, Some, None, option_map, refl, sym, ◌∙◌, subst}
 use Rattle.std.proofs.Common.{Contains}
 use Rattle.std.specs.Prelude.{bytes_eq, slice_get, string_bytes}
 use Rattle.std.specs.List.{AllByRecursion, list_any}
@@ -13,7 +13,6 @@ use Rattle.protobuf_parse_run.specs.declared.log.ReadEntry.{ReadEntry}
 use Rattle.protobuf_parse_run.specs.Walks.{among}
 use Rattle.protobuf_parse_run.specs.Run.{Files, is_faulty}
 use Rattle.protobuf_parse_run.specs.Loading.{IsLoaded, LoadedEntry, Named, has_faults, named_trees}
-use Rattle.protobuf_parse_run.specs.Loading.{tree_in}
 use Rattle.protobuf_parse_run.proofs.Keeping.{or_cases, or_left, or_right, text-same, text-true}
 use Rattle.protobuf_parse_run.proofs.Numbers.{name_of, only-one}
 

@@ -1,5 +1,4 @@
 -- What a call that loads a file leaves, at each of its ends.
-use Rattle.protobuf_parse_run.specs.Run.{ends}
 use Rattle.std.proofs.Common.{◌≡◌, ℕ, suc, ◌+◌, ◌-◌, ◌<◌, Bool, true, false, inl, inr, List, []}
 use Rattle.std.proofs.Common.{◌∷◌, ◌++◌, map, Option, Some, None, Ok, Err, refl, sym, ◌∙◌, ap}
 use Rattle.std.proofs.Common.{subst, length, arith, take, drop, get_or, drop-cons, not}

@@ -1,7 +1,7 @@
 -- What the descriptors of an accepted run hold of custom options.
-use Rattle.std.proofs.Common.{◌≡◌, ℕ, true, false, Bool, List, [], ◌∷◌, ◌++◌, map, filter, flat_map}
-use Rattle.std.proofs.Common.{Option, Some, None, Result, Ok, Err, inl, inr, refl, sym, ◌∙◌, ap}
-use Rattle.std.proofs.Common.{subst, if◌then◌else◌, ◌||◌}
+use Rattle.std.proofs.Common.{◌≡◌, true, false, Bool, List, [], ◌∷◌, ◌++◌, map, filter}
+use Rattle.std.proofs.Common.{Option, Some, Result, Ok, Err, inl, inr, refl, sym, ◌∙◌, ap}
+use Rattle.std.proofs.Common.{subst, ◌||◌}
 use Rattle.std.specs.Prelude.{bytes_eq, option_to_list}
 use Rattle.std.specs.Global.{Vec}
 use Rattle.protobuf_parse_syntax.specs.Trees.{FileSyntax, OptionSyntax}
@@ -11,7 +11,7 @@ use Rattle.protobuf_parse_model.specs.declared.descriptor.FileDescriptorProto.{F
 use Rattle.protobuf_parse_elaboration.specs.FileDescriptor.{file_of}
 use Rattle.protobuf_parse_elaboration.specs.FilesByPath.{AreDistinct, among, trees_at}
 use Rattle.protobuf_parse_elaboration.specs.OptionSets.{OptionSet, option_sets}
-use Rattle.protobuf_parse_options.specs.DescriptorsByPath.{AreWithin, described_at, descriptors_at}
+use Rattle.protobuf_parse_options.specs.DescriptorsByPath.{AreWithin, described_at}
 use Rattle.protobuf_parse_options.specs.CustomOptions.{denotes, scope_of}
 use Rattle.protobuf_parse_options.specs.OptionFields.{options_message}
 use Rattle.protobuf_parse_options.specs.Recovery.{HasCustom, HaveDistinctNumbers}
@@ -22,7 +22,7 @@ use Rattle.protobuf_parse_wire.specs.Wire.{Spells}
 use Rattle.protobuf_parse_run.specs.Walks.{Input}
 use Rattle.protobuf_parse_run.specs.Run.{AreDescriptors, Files, Legal, RunsAsTold, customs_of}
 use Rattle.protobuf_parse_run.specs.Run.{environment_of}
-use Rattle.protobuf_parse_run.specs.Recovered.{HoldsOptions, handed_out, bytes_in}
+use Rattle.protobuf_parse_run.specs.Recovered.{handed_out, bytes_in}
 use Rattle.protobuf_parse_run.specs.ReadBack.{HasReadableOptions, IsReadable, OptionsAreReadable}
 use Rattle.protobuf_parse_run.specs.ReadBack.{bears, descriptors_of}
 use Rattle.protobuf_parse_run.specs.Stability.{IsClean, IsFileOfRun, WereRead, order}
@@ -30,7 +30,7 @@ use Rattle.protobuf_parse_run.specs.StandingBytes.{IsStated, held_in_file}
 use Rattle.protobuf_parse_run.specs.declared.fault.RunFault.{RunFault}
 use Rattle.protobuf_parse_run.specs.declared.log.ReadEntry.{ReadEntry}
 use Rattle.protobuf_parse_run.proofs.HeldBytes.{options_stand}
-use Rattle.protobuf_parse_run.proofs.Keeping.{bool_cases, false_true, never_both, or_cases, some_same}
+use Rattle.protobuf_parse_run.proofs.Keeping.{bool_cases, false_true, some_same}
 use Rattle.protobuf_parse_run.proofs.Keeping.{or_left, or_right, text-same, text-true}
 use Rattle.protobuf_parse_run.proofs.Knowing.{sees-reaches}
 use Rattle.protobuf_parse_run.proofs.Ordering.{none-comes-twice}

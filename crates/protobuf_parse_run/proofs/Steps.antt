@@ -1,5 +1,4 @@
 -- The state of a run, step by step.
-use Rattle.std.specs.Prelude.{not}
 use Rattle.std.specs.Prelude.{Bool}
 use Rattle.std.proofs.Common.{◌≡◌, ℕ, zero, suc, ◌-◌, ◌<◌, ◌≤◌, true, false, ◌⊎◌, inl, inr, List}
 use Rattle.std.proofs.Common.{[], ◌∷◌, ◌++◌, Option, Some, None, refl, sym, ◌∙◌, ap, subst}

@@ -1,5 +1,5 @@
 -- What a check promises: all that is wrong in each of the files that its inputs reach.
-use Rattle.std.specs.Prelude.{◌≡◌, ◌⊎◌, ◌+◌, ◌++◌, ℕ, length, true, List, [], ◌∷◌, Option, Some, None}
+use Rattle.std.specs.Prelude.{◌≡◌, ◌⊎◌, ◌+◌, ◌++◌, ℕ, length, true, List, [], ◌∷◌, Some, None}
 use Rattle.std.specs.Prelude.{Result, Ok, Err, string_bytes, find}
 use Rattle.std.specs.Global.{Vec}
 use Rattle.protobuf_parse_syntax.specs.Trees.{FileSyntax}

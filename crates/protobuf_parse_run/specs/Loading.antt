@@ -49,7 +49,7 @@ use Rattle.protobuf_parse_run.specs.declared.log.ReadOutcome.TheVariants as outc
 use Rattle.protobuf_parse_run.specs.declared.source.Sources.{Sources}
 use Rattle.protobuf_parse_run.specs.Run.{Files, MayAnswer, MayRead, MayResolve, FilesAreListed}
 use Rattle.protobuf_parse_run.specs.Run.{HasTrees, OrMemory}
-use Rattle.protobuf_parse_run.specs.Run.{faults_at, IsTheTree, text_read, environment_of, plain_of}
+use Rattle.protobuf_parse_run.specs.Run.{IsTheTree, text_read, environment_of, plain_of}
 use Rattle.protobuf_parse_run.specs.Run.{first_read, fault_said, text_given, origin_given}
 use Rattle.protobuf_parse_run.specs.Run.{AreAnswered, Legal}
 use Rattle.protobuf_parse_run.specs.Run.{StandsThere, StandsInLoad, StandsInElab, IsUnparsed}

@@ -3,7 +3,7 @@
 -- Custom options are extension fields of the options message of their construct. They stand there
 -- as bytes, and are read as any message: by its fields, and by the extensions of it in the files at
 -- hand (Protocol Buffers Language Guide (proto2), "Custom Options", https://protobuf.dev).
-use Rattle.std.specs.Prelude.{◌≡◌, ℕ, true, Bool, false, List, [], map, filter, flat_map, bytes_eq}
+use Rattle.std.specs.Prelude.{◌≡◌, ℕ, true, Bool, false, List, map, filter, flat_map, bytes_eq}
 use Rattle.std.specs.Prelude.{Option, Some, None, Result, Ok, Err}
 use Rattle.std.specs.Global.{Vec}
 use Rattle.protobuf_parse_syntax.specs.Trees.{FileSyntax}
@@ -21,7 +21,7 @@ use Rattle.protobuf_parse_wire.specs.Trees.{Entries}
 use Rattle.protobuf_parse_wire.specs.Wire.{Spells}
 use Rattle.protobuf_parse_run.specs.Walks.{Input, Trees}
 use Rattle.protobuf_parse_run.specs.Run.{FilesAreListed, HasTrees}
-use Rattle.protobuf_parse_run.specs.StandingBytes.{HeldBytes, held_in_file}
+use Rattle.protobuf_parse_run.specs.StandingBytes.{held_in_file}
 use Rattle.protobuf_parse_run.specs.declared.fault.RunFault.{RunFault}
 use Rattle.protobuf_parse_run.specs.declared.log.ReadEntry.{ReadEntry}
 

@@ -1,13 +1,15 @@
 //! What has a name in its scope.
 
 ghost use Rattle.std.specs.Prelude.{◌≡◌, ℕ, List};
+ghost use Rattle.protobuf_parse_syntax.specs.Trees as tree;
 ghost use Rattle.protobuf_parse_model.specs.Descriptors as described;
 ghost use Rattle.protobuf_parse_elaboration.specs.Messages.{message_name};
 
 use protobuf_parse_model::{
     DescriptorProto, EnumDescriptorProto, EnumValueDescriptorProto, FieldDescriptorProto,
-    MethodDescriptorProto, OneofDescriptorProto, ServiceDescriptorProto,
+    OneofDescriptorProto, ServiceDescriptorProto,
 };
+use protobuf_parse_syntax::Method;
 
 /// What has a name in its scope.
 pub trait Named {
@@ -65,10 +67,10 @@ impl Named for EnumValueDescriptorProto {
     }
 }
 
-impl Named for MethodDescriptorProto {
-    ghost name_of = { λ method. (described.method_view method).name };
+impl Named for &Method {
+    ghost name_of = { λ method. (tree.method_syntax method.now).name };
 
     fn name(&self) -> &str {
-        self.name.as_str()
+        &self.name
     }
 }

@@ -56,7 +56,7 @@ pub fn service_descriptor<C: CustomOptions>(
     })
 }
 
-/// The descriptors of the methods. E1 where two have one name.
+/// The descriptors of the methods, and their faults: E1 where two have one name, then those of each.
 fn service_methods<C: CustomOptions>(
     at: &Viewpoint<'_, '_, C>,
     faults: &mut Vec<ElabError>,
@@ -70,36 +70,16 @@ fn service_methods<C: CustomOptions>(
         OnOk result (found faults.new ≡ found faults.old ++ services.methods_faults env ms) }
 {
     let methods = methods(at.alloc, body)?;
-    unlike_methods(at, faults, &methods)
+    tell_method_names(at, faults, &methods)?;
+    method_descriptors(at, faults, &methods)
 }
 
-/// The descriptors of these methods. E1 where two have one name.
-fn unlike_methods<C: CustomOptions>(
-    at: &Viewpoint<'_, '_, C>,
-    faults: &mut Vec<ElabError>,
-    methods: &[&Method],
-) -> Result<Vec<MethodDescriptorProto>, AllocError>
-    ensures value { let env = environment_in (C.customs at.now.custom.now) at.now.context in
-        IfOk result (λ v. map described.method_view v.items
-        ≡ map (services.method_of env) (methods_seen methods.now)) }
-    ensures faults { let env = environment_in (C.customs at.now.custom.now) at.now.context in
-        OnOk result (found faults.new ≡ found faults.old
-        ++ services.methods_faults env (methods_seen methods.now)) }
-{
-    let descriptors = method_descriptors(at, faults, methods)?;
-    tell_method_names(at, faults, methods, &descriptors)?;
-    Ok(descriptors)
-}
-
-/// E1 where two of the methods have one name. The descriptors are theirs.
+/// E1 where two of the methods have one name.
 fn tell_method_names<C: CustomOptions>(
     at: &Viewpoint<'_, '_, C>,
     faults: &mut Vec<ElabError>,
     methods: &[&Method],
-    descriptors: &[MethodDescriptorProto],
 ) -> Result<(), AllocError>
-    requires { let env = environment_in (C.customs at.now.custom.now) at.now.context in map described.method_view descriptors.now
-        ≡ map (services.method_of env) (methods_seen methods.now) }
     ensures { OnOk result (found faults.new ≡ found faults.old
         ++ duplicates (map services.method_named (methods_seen methods.now))) }
 {
@@ -110,7 +90,7 @@ fn tell_method_names<C: CustomOptions>(
         DeclaredAs::Other,
         syntax,
         methods,
-        descriptors,
+        methods,
     )
 }
 

@@ -1,4 +1,4 @@
-use Rattle.std.proofs.Common.{◌≡◌, ◌∙◌, ◌++◌, Option, ap}
+use Rattle.std.proofs.Common.{◌∙◌, ◌++◌, Option, ap}
 use Rattle.protobuf_parse_syntax.specs.Trees.{file_syntax}
 use Rattle.protobuf_parse_model.specs.Declarations.{DeclaredType, file_scope}
 use Rattle.protobuf_parse_model.specs.Descriptors.{Text}

@@ -1,4 +1,4 @@
-use Rattle.std.proofs.Common.{◌≡◌, ◌∙◌, ◌++◌, [], List, ℕ, Bool, not, ap, map, sym, slice_get}
+use Rattle.std.proofs.Common.{◌≡◌, ◌∙◌, ◌++◌, [], List, ℕ, not, ap, map, sym, slice_get}
 use Rattle.std.specs.List.{list_any}
 use Rattle.protobuf_parse_syntax.specs.Trees.{file_syntax}
 use Rattle.protobuf_parse_model.specs.declared.error.ElabError.{ElabError}
@@ -6,7 +6,7 @@ use Rattle.protobuf_parse_model.specs.Descriptors.{FileDescriptor}
 use Rattle.protobuf_parse_model.specs.Faults.{fault_view, found}
 use Rattle.protobuf_parse_model.specs.Linking.{link_faults}
 use Rattle.protobuf_parse_model.specs.Tables.{picked}
-use Rattle.protobuf_parse_run.specs.Loading.{has_faults, own_over, plain_over, plains_over}
+use Rattle.protobuf_parse_run.specs.Loading.{has_faults, own_over, plains_over}
 use Rattle.protobuf_parse_run.specs.Loading.{plains_with, report_over}
 use Rattle.protobuf_parse_run.specs.Run.{is_nothing}
 use Rattle.protobuf_parse_run.proofs.Spelling.{nothing-is, report-same}

@@ -1,4 +1,4 @@
-use Rattle.std.proofs.Common.{◌∙◌, List, Option, ap, flat_map, map, option_map, subst}
+use Rattle.std.proofs.Common.{◌∙◌, List, ap, flat_map, subst}
 use Rattle.std.specs.Prelude.{option_to_list}
 use Rattle.protobuf_parse_syntax.specs.Trees.{file_syntax}
 use Rattle.protobuf_parse_model.specs.Descriptors as described

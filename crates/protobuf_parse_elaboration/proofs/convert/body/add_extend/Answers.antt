@@ -1,4 +1,4 @@
-use Rattle.std.proofs.Common.{◌≡◌, ◌∙◌, List, ap, map, refl}
+use Rattle.std.proofs.Common.{◌∙◌, List, ap, map, refl}
 use Rattle.std.proofs.lemmas.List.{map-append}
 use Rattle.protobuf_parse_syntax.specs.declared.tree.field.FieldStatement.{FieldStatement}
 use Rattle.protobuf_parse_syntax.specs.Trees.{extend_syntax, field_statement_syntax}

@@ -1,4 +1,4 @@
-use Rattle.std.proofs.Common.{◌≡◌, ◌∙◌, List, ap, map, refl}
+use Rattle.std.proofs.Common.{◌∙◌, ap, map, refl}
 use Rattle.std.proofs.lemmas.List.{map-append}
 use Rattle.protobuf_parse_syntax.specs.Trees.{oneof_syntax}
 use Rattle.protobuf_parse_model.specs.SeenFiles.{environment_in}

@@ -1,10 +1,8 @@
-use Rattle.std.proofs.Common.{◌∙◌, ◌++◌, List, ap, append_assoc, flat_map, map, subst}
+use Rattle.std.proofs.Common.{◌∙◌, ◌++◌, ap, append_assoc, flat_map, map}
 use Rattle.protobuf_parse_syntax.specs.Trees.{statement_syntax}
-use Rattle.protobuf_parse_syntax.specs.declared.tree.FileStatement.{FileStatement}
 use Rattle.protobuf_parse_model.specs.SeenFiles.{environment_in}
 use Rattle.protobuf_parse_model.specs.Faults.{found}
 use Rattle.protobuf_parse_elaboration.specs.FileDescriptor.{file_duplicates, file_faults_of}
-use Rattle.protobuf_parse_elaboration.specs.FileParts.{AreFilePlaces}
 use Rattle.protobuf_parse_elaboration.proofs.convert.contents.contents_of.Goals as goal
 
 pub returns-clause-faults : goal.returns-clause-faults

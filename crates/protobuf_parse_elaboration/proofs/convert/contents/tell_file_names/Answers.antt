@@ -1,4 +1,4 @@
-use Rattle.std.proofs.Common.{◌≡◌, ◌∙◌, ◌++◌, List, ap, flat_map, map}
+use Rattle.std.proofs.Common.{◌≡◌, ◌∙◌, List, ap, flat_map, map}
 use Rattle.protobuf_parse_lexer.specs.declared.lexer.token.Place.{Place}
 use Rattle.protobuf_parse_syntax.specs.Trees.{StatementSyntax}
 use Rattle.protobuf_parse_model.specs.declared.descriptor.DescriptorProto.{DescriptorProto}
@@ -8,7 +8,6 @@ use Rattle.protobuf_parse_model.specs.declared.descriptor.ServiceDescriptorProto
 use Rattle.protobuf_parse_model.specs.Descriptors.{enum_view, field_view, message_view}
 use Rattle.protobuf_parse_model.specs.Descriptors.{service_view}
 use Rattle.protobuf_parse_model.specs.Environment.{Environment}
-use Rattle.protobuf_parse_model.specs.Faults.{found}
 use Rattle.protobuf_parse_elaboration.specs.declared.convert.contents.Contents.{Contents}
 use Rattle.protobuf_parse_elaboration.specs.declared.convert.contents.FilePlaces.{FilePlaces}
 use Rattle.protobuf_parse_elaboration.specs.Fields.{names_of_fields}

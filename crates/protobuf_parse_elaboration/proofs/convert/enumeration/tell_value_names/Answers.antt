@@ -1,5 +1,5 @@
-use Rattle.std.proofs.Common.{◌≡◌, ◌∙◌, ◌++◌, Bor, List, ap, flat_map, map, sym}
-use Rattle.protobuf_parse_syntax.specs.Trees.{EnumValueSyntax, value_syntax}
+use Rattle.std.proofs.Common.{◌∙◌, ◌++◌, Bor, ap, sym}
+use Rattle.protobuf_parse_syntax.specs.Trees.{value_syntax}
 use Rattle.protobuf_parse_syntax.specs.declared.tree.declaration.EnumValue.{EnumValue}
 use Rattle.protobuf_parse_model.specs.Duplicates.{duplicates}
 use Rattle.protobuf_parse_model.specs.Faults.{found}

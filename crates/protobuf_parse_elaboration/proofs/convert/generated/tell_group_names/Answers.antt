@@ -1,6 +1,6 @@
-use Rattle.std.proofs.Common.{◌≡◌, ◌∙◌, ◌++◌, [], ◌∷◌, List, ap, flat_map, map, refl, sym}
+use Rattle.std.proofs.Common.{◌∙◌, ◌++◌, ap, map, sym}
 use Rattle.protobuf_parse_syntax.specs.Trees.{field_statement_syntax}
-use Rattle.protobuf_parse_model.specs.Duplicates.{NamedAt, duplicates}
+use Rattle.protobuf_parse_model.specs.Duplicates.{duplicates}
 use Rattle.protobuf_parse_model.specs.Faults.{found}
 use Rattle.protobuf_parse_model.specs.SeenFiles.{environment_in}
 use Rattle.protobuf_parse_elaboration.specs.Fields.{field_named, names_of_fields, plain}

@@ -1,4 +1,4 @@
-use Rattle.std.proofs.Common.{◌≡◌, ◌∙◌, ◌++◌, List, [], Option, ap, flat_map, map, option_map, refl, sym}
+use Rattle.std.proofs.Common.{◌∙◌, ◌++◌, Option, ap, flat_map, map, refl, sym}
 use Rattle.std.proofs.Common.{append-nil, append_assoc, None}
 use Rattle.protobuf_parse_syntax.specs.Trees.{field_statement_syntax}
 use Rattle.protobuf_parse_model.specs.SeenFiles.{environment_in}

@@ -1,9 +1,8 @@
-use Rattle.std.proofs.Common.{◌≡◌, ◌∙◌, ◌++◌, Bor, List, ap, flat_map, map, sym}
-use Rattle.protobuf_parse_syntax.specs.Trees.{MethodSyntax, method_syntax}
+use Rattle.std.proofs.Common.{◌∙◌, ◌++◌, Bor, ap, sym}
+use Rattle.protobuf_parse_syntax.specs.Trees.{method_syntax}
 use Rattle.protobuf_parse_syntax.specs.declared.tree.declaration.Method.{Method}
 use Rattle.protobuf_parse_model.specs.Duplicates.{duplicates}
 use Rattle.protobuf_parse_model.specs.Faults.{found}
-use Rattle.protobuf_parse_model.specs.SeenFiles.{environment_in}
 use Rattle.protobuf_parse_elaboration.specs.Services.{method_named}
 use Rattle.protobuf_parse_elaboration.specs.Parts.{methods_seen}
 use Rattle.protobuf_parse_elaboration.proofs.Gathering.{on_ok}
@@ -13,12 +12,9 @@ use Rattle.protobuf_parse_elaboration.proofs.convert.service.tell_method_names.G
 
 pub tell_names-requires : goal.tell_names-requires
 tell_names-requires g c =
-    let env = environment_in (g.C.CustomOptions.customs c.args.at.now.custom.now)
-    c.args.at.now.context in
     let xs = c.args.methods.now in
     record {
-      named = methods_named env c.args.descriptors.now (methods_seen xs) c.requires
-          ∙ sym (names_seen method_named (methods_seen xs))
+      named = methods_named xs ∙ sym (names_seen method_named (methods_seen xs))
           ∙ ap names_of (sym (each_alone method_named (λ (x : Bor Method). method_syntax x.now) xs));
     }
 
