@@ -8,10 +8,9 @@ use Rattle.std.proofs.lemmas.Grind.{flat_map-append}
 use Rattle.std.proofs.lemmas.Simd.{map-map}
 use Rattle.protobuf_parse_wire.specs.declared.kind.Kind.TheVariants as kinds
 use Rattle.protobuf_parse_wire.specs.Kinds.{shape_of_kind, wire_type}
-use Rattle.protobuf_parse_wire.specs.Encoded.{varint_of, delimited, payload}
-use Rattle.protobuf_parse_wire.specs.Encoded.{truth_bytes}
-use Rattle.protobuf_parse_descriptor_set.specs.Items.{Items, bytes_of, text, int, choice, flag, part}
-use Rattle.protobuf_parse_descriptor_set.specs.Items.{whole}
+use Rattle.protobuf_parse_wire.specs.Encoded.{varint_of, delimited, payload, truth_bytes}
+use Rattle.protobuf_parse_descriptor_set.specs.Items.{Items, bytes_of, text, int, choice, flag}
+use Rattle.protobuf_parse_descriptor_set.specs.Items.{part, whole}
 use Rattle.protobuf_parse_descriptor_set.specs.Writing.{Writes}
 use Rattle.protobuf_parse_wire.specs.Writing.{AreWritable}
 use Rattle.protobuf_parse_wire.specs.Views.{entries_of_list}

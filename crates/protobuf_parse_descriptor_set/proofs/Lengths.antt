@@ -1,9 +1,9 @@
 -- Lengths before what they are of.
-use Rattle.std.proofs.Common.{◌≡◌, ◌≢◌, ◌∙◌, ℕ, ◌+◌, ◌*◌, ◌-◌, ◌/◌, ◌%◌, ◌<◌, ◌≤◌, List, [], ◌∷◌, ◌++◌}
-use Rattle.std.proofs.Common.{ap, ap₂, sym, refl, subst, append_assoc, length, take, drop, set, arith}
+use Rattle.std.proofs.Common.{◌≡◌, ◌≢◌, ◌∙◌, ℕ, ◌+◌, ◌*◌, ◌-◌, ◌/◌, ◌%◌, ◌<◌, ◌≤◌, List, [], ◌∷◌}
+use Rattle.std.proofs.Common.{◌++◌, ap, ap₂, sym, refl, subst, append_assoc, length, take, drop}
+use Rattle.std.proofs.Common.{set, arith}
 use Rattle.std.proofs.lemmas.List.{append-nil, length-append, length-drop, take_at, drop_at}
-use Rattle.std.proofs.lemmas.List.{set-append_left, set_split}
-use Rattle.std.proofs.lemmas.List.{take_rest, drop_all}
+use Rattle.std.proofs.lemmas.List.{set-append_left, set_split, take_rest, drop_all}
 use borrow.Rule.Slice.PartMut.{mid_of, post_of}
 use Rattle.std.specs.Prelude.{suc, Result, Ok, Err, OnOk, is_ok, if◌then◌else◌}
 use Rattle.protobuf_parse_wire.specs.Encoded.{varint_of, delimited}
@@ -110,7 +110,8 @@ ended_options n (b ∷ bs) old mid new ended place begun at written some is =
 -- one in which nothing is set is taken back
 pub no_options : (n : ℕ) (bytes old mid new left : List ℕ) (place before : ℕ)
     → mid ≡ old ++ (varint_of (n * 8 + 2) ++ 0 ∷ []) → place + 1 ≡ length mid → new ≡ mid ++ bytes
-    → length new ≡ place + 1 → before ≡ length old → left ≡ take before new → Writes (options n bytes) old left
+    → length new ≡ place + 1 → before ≡ length old → left ≡ take before new
+    → Writes (options n bytes) old left
 no_options n [] old mid new left place before begun at written none count is =
     let tag = varint_of (n * 8 + 2) in
     let same : left ≡ old =
@@ -198,7 +199,8 @@ pub turned : (all new front inside end tail : List ℕ) (place count len : ℕ)
 turned all new front inside end tail place count len parts at many whole is =
     let behind : drop place all ≡ inside ++ end =
     ap (drop place) parts ∙ drop_at front (inside ++ end) place at in
-    let mid : mid_of place (length all - place) all ≡ inside ++ end = take_rest all place ∙ behind in
+    let mid : mid_of place (length all - place) all ≡ inside ++ end = take_rest all place
+    ∙ behind in
     let none : post_of place (length all - place) all ≡ [] =
     drop_all (length all - place) (drop place all) (omega (arith, length-drop place all)) in
     let first : length inside ≡ length (inside ++ end) - count =
@@ -214,5 +216,15 @@ turned all new front inside end tail place count len parts at many whole is =
     ap₂ (λ a b. a ++ b) before
     (ap₂ (λ a b. a ++ b) new_is none ∙ append-nil (end ++ inside)) in
     let count_is : length (front ++ (end ++ inside)) ≡ len =
-    omega (arith, whole, ap length parts, length-append front (inside ++ end), length-append inside end, length-append front (end ++ inside), length-append end inside) in
+    omega (
+      arith,
+      whole,
+      ap length parts,
+      length-append front
+          (inside ++ end),
+      length-append inside end,
+      length-append front
+          (end ++ inside),
+      length-append end inside,
+    ) in
     ap (λ z. take len (z ++ tail)) whole_is ∙ take_at (front ++ (end ++ inside)) tail len count_is

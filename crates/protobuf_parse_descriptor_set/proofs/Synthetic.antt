@@ -1,12 +1,11 @@
 -- Which oneofs are synthetic, with one field more.
-use Rattle.std.proofs.Common.{◌≡◌, ◌∙◌, ℕ, ◌+◌, ◌<◌, ℤ, pos, negsuc, Bool, true, false, not, List, []}
-use Rattle.std.proofs.Common.{inl, inr, append-nil}
-use Rattle.std.proofs.Common.{◌∷◌, ◌++◌, length, get_or, set, take, map, ap, sym, refl, arith, subst}
+use Rattle.std.proofs.Common.{◌≡◌, ◌∙◌, ℕ, ◌+◌, ◌<◌, ℤ, pos, negsuc, Bool, true, false, not, List}
+use Rattle.std.proofs.Common.{[], inl, inr, append-nil, ◌∷◌, ◌++◌, length, get_or, set, take, map}
+use Rattle.std.proofs.Common.{ap, sym, refl, arith, subst}
 use Rattle.std.specs.Prelude.{◌==◌, nat_lt, if◌then◌else◌, Option, Some, None, ◌≢◌}
 use Rattle.std.proofs.lemmas.Bool.{ltb-true, ltb-false, eq-eqb, ne_eqb}
 use Rattle.std.proofs.lemmas.Bool.Decides.{eqb_tells}
-use Rattle.std.proofs.lemmas.List.{length-set, take_more, map-append}
-use Rattle.std.proofs.lemmas.List.{get_or-set_other}
+use Rattle.std.proofs.lemmas.List.{length-set, take_more, map-append, get_or-set_other}
 use Rattle.std.proofs.lemmas.List.Elements.{filter-append}
 use Rattle.std.proofs.lemmas.Grind.{get_or-set_at}
 use Rattle.protobuf_parse_model.specs.Descriptors.{FieldDescriptor, field_view}

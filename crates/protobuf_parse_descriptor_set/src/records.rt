@@ -1,6 +1,7 @@
 //! Single fields: a tag and a value. What writes numbers is inlined where the field number is known.
 
-ghost use Rattle.std.specs.Prelude.{◌≡◌, ◌++◌, ◌+◌, ◌*◌, OnOk, flat_map, map, option_map, string_bytes};
+ghost use Rattle.std.specs.Prelude.{◌≡◌, ◌++◌, ◌+◌, ◌*◌, OnOk, flat_map, map, option_map};
+ghost use Rattle.std.specs.Prelude.{string_bytes};
 ghost use Rattle.protobuf_parse_descriptor_set.specs.Items as spec;
 ghost use Rattle.protobuf_parse_descriptor_set.specs.Writing.{Writes};
 ghost use Rattle.protobuf_parse_wire.specs.Encoded.{varint_of, delimited};

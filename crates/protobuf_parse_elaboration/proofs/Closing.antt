@@ -6,8 +6,8 @@ use Rattle.std.proofs.lemmas.Bool.{cases_Bool, or_left, or_right, or_cases}
 use Rattle.std.proofs.lemmas.List.Folds.{list_any-append}
 use Rattle.protobuf_parse_syntax.specs.Trees.{FileSyntax}
 use Rattle.protobuf_parse_model.specs.Descriptors.{Text}
-use Rattle.protobuf_parse_elaboration.specs.FilesByPath.{Trees, among, Leads, stays, leads, AreDistinct}
-use Rattle.protobuf_parse_elaboration.specs.FilesByPath.{AreJust}
+use Rattle.protobuf_parse_elaboration.specs.FilesByPath.{Trees, among, Leads, stays, leads}
+use Rattle.protobuf_parse_elaboration.specs.FilesByPath.{AreDistinct, AreJust}
 use Rattle.protobuf_parse_elaboration.proofs.Orders.{same-text, true-false, first-among, without}
 use Rattle.protobuf_parse_elaboration.proofs.Orders.{without-other}
 

@@ -14,23 +14,24 @@ use Rattle.protobuf_parse_model.specs.Environment.{Environment, Customs, type_mi
 use Rattle.protobuf_parse_model.specs.BuiltinOptions.{oneof_table, enum_table, enum_value_table}
 use Rattle.protobuf_parse_model.specs.BuiltinOptions.{service_table, method_table}
 use Rattle.protobuf_parse_elaboration.specs.Fields.{type_of, type_faults, default_faults}
-use Rattle.protobuf_parse_elaboration.specs.Fields.{json_name_faults, field_options_faults, field_faults}
-use Rattle.protobuf_parse_elaboration.specs.Fields.{field_named, map_faults, grouped_faults}
-use Rattle.protobuf_parse_elaboration.specs.Fields.{group_faults}
+use Rattle.protobuf_parse_elaboration.specs.Fields.{json_name_faults, field_options_faults}
+use Rattle.protobuf_parse_elaboration.specs.Fields.{field_faults, field_named, map_faults}
+use Rattle.protobuf_parse_elaboration.specs.Fields.{grouped_faults, group_faults}
 use Rattle.protobuf_parse_elaboration.specs.Fields.{field_statement_faults, extension_faults}
 use Rattle.protobuf_parse_elaboration.specs.Enums.{enum_values, options_of_enum, value_faults}
 use Rattle.protobuf_parse_elaboration.specs.Enums.{enum_faults, value_named}
-use Rattle.protobuf_parse_elaboration.specs.Services.{methods_in, options_of_method, options_of_service}
-use Rattle.protobuf_parse_elaboration.specs.Services.{method_faults, method_named, service_faults}
+use Rattle.protobuf_parse_elaboration.specs.Services.{methods_in, options_of_method}
+use Rattle.protobuf_parse_elaboration.specs.Services.{options_of_service, method_faults}
+use Rattle.protobuf_parse_elaboration.specs.Services.{method_named, service_faults}
 use Rattle.protobuf_parse_elaboration.specs.Messages.{options_in_oneof, extendee_faults}
 use Rattle.protobuf_parse_elaboration.specs.Messages.{extend_faults, oneof_faults}
-use Rattle.protobuf_parse_elaboration.specs.OptionSets.{a_set, sets_in_group, field_sets, oneof_sets}
-use Rattle.protobuf_parse_elaboration.specs.OptionSets.{extend_sets, value_set, enum_sets, method_set}
-use Rattle.protobuf_parse_elaboration.specs.OptionSets.{service_sets}
+use Rattle.protobuf_parse_elaboration.specs.OptionSets.{a_set, sets_in_group, field_sets}
+use Rattle.protobuf_parse_elaboration.specs.OptionSets.{oneof_sets, extend_sets, value_set}
+use Rattle.protobuf_parse_elaboration.specs.OptionSets.{enum_sets, method_set, service_sets}
 use Rattle.protobuf_parse_elaboration.proofs.SameNames.{with_customs}
-use Rattle.protobuf_parse_elaboration.proofs.AddedFaults.{bare, Adds, adds-none, adds-nothing, adds-own}
-use Rattle.protobuf_parse_elaboration.proofs.AddedFaults.{adds-both, adds-alone, adds-turned, adds-flat}
-use Rattle.protobuf_parse_elaboration.proofs.AddedFaults.{adds-each}
+use Rattle.protobuf_parse_elaboration.proofs.AddedFaults.{bare, Adds, adds-none, adds-nothing}
+use Rattle.protobuf_parse_elaboration.proofs.AddedFaults.{adds-own, adds-both, adds-alone}
+use Rattle.protobuf_parse_elaboration.proofs.AddedFaults.{adds-turned, adds-flat, adds-each}
 use Rattle.protobuf_parse_elaboration.proofs.AddedFaults.{adds-options}
 
 module _ (customs : Customs) where
@@ -142,7 +143,8 @@ module _ (customs : Customs) where
       (method_set env.scope within m ∷ [])
   method-adds env within m =
       adds-both customs
-      (adds-nothing customs (placed m.place (type_missing env m.input ++ type_missing env m.output)))
+      (adds-nothing customs (placed m.place
+      (type_missing env m.input ++ type_missing env m.output)))
       (adds-options customs env of.Method method_table (options_of_method m))
 
   -- a service

@@ -1,11 +1,10 @@
 -- The laws of a file's custom options, by its sets of options.
-use Rattle.std.proofs.Common.{◌≡◌, inl, inr, List, [], ◌∷◌, flat_map, refl, subst}
-use Rattle.std.proofs.Common.{Bool, true, false, ◌||◌}
+use Rattle.std.proofs.Common.{◌≡◌, inl, inr, List, [], ◌∷◌, flat_map, refl, subst, Bool, true}
+use Rattle.std.proofs.Common.{false, ◌||◌}
 use Rattle.std.specs.List.{list_any}
 use Rattle.protobuf_parse_syntax.specs.Trees.{OptionNameSyntax, builtin, custom, StatementSyntax}
-use Rattle.protobuf_parse_syntax.specs.Trees.{OptionSyntax, nested_message}
-use Rattle.protobuf_parse_syntax.specs.Trees.{file_message, file_enum, file_extend, file_service}
-use Rattle.protobuf_parse_syntax.specs.Trees.{FileSyntax}
+use Rattle.protobuf_parse_syntax.specs.Trees.{OptionSyntax, nested_message, file_message, file_enum}
+use Rattle.protobuf_parse_syntax.specs.Trees.{file_extend, file_service, FileSyntax}
 use Rattle.protobuf_parse_model.specs.declared.customs.Construct.TheVariants as of
 use Rattle.protobuf_parse_model.specs.Descriptors.{Text}
 use Rattle.protobuf_parse_model.specs.Faults.{Among, here, there}
@@ -13,11 +12,11 @@ use Rattle.protobuf_parse_model.specs.Environment.{Environment, Customs, no_cust
 use Rattle.protobuf_parse_model.specs.BuiltinOptions.{file_table}
 use Rattle.protobuf_parse_model.proofs.Blaming.{among_left, among_right}
 use Rattle.protobuf_parse_elaboration.specs.FileDescriptor.{options_of_statements, environment}
-use Rattle.protobuf_parse_elaboration.specs.FileDescriptor.{file_faults_of}
-use Rattle.protobuf_parse_elaboration.specs.FileDescriptor.{file_duplicates, file_faults}
+use Rattle.protobuf_parse_elaboration.specs.FileDescriptor.{file_faults_of, file_duplicates}
+use Rattle.protobuf_parse_elaboration.specs.FileDescriptor.{file_faults}
 use Rattle.protobuf_parse_elaboration.specs.OptionSets.{OptionSet, statement_sets, option_sets}
-use Rattle.protobuf_parse_elaboration.specs.CustomSets.{faults_of_set, faults_of_sets, FaultsAreOfSets}
-use Rattle.protobuf_parse_elaboration.specs.CustomSets.{NoneIsNoneInSets}
+use Rattle.protobuf_parse_elaboration.specs.CustomSets.{faults_of_set, faults_of_sets}
+use Rattle.protobuf_parse_elaboration.specs.CustomSets.{FaultsAreOfSets, NoneIsNoneInSets}
 use Rattle.protobuf_parse_elaboration.specs.CustomSets.{is_custom, is_custom_name, sets_custom}
 use Rattle.protobuf_parse_elaboration.proofs.SameNames.{with_customs}
 use Rattle.protobuf_parse_elaboration.proofs.AddedFaults.{bare, Adds, adds-nothing, adds-both}

@@ -1,6 +1,6 @@
 -- What is told one after the other.
-use Rattle.std.proofs.Common.{◌≡◌, ◌∙◌, ◌<◌, List, [], ◌∷◌, ◌++◌, length, map, flat_map, refl, sym, ap}
-use Rattle.std.proofs.Common.{append_assoc, append-nil, arith, subst}
+use Rattle.std.proofs.Common.{◌≡◌, ◌∙◌, ◌<◌, List, [], ◌∷◌, ◌++◌, length, map, flat_map, refl, sym}
+use Rattle.std.proofs.Common.{ap, append_assoc, append-nil, arith, subst}
 use Rattle.std.proofs.lemmas.Grind.{flat_map-append}
 use Rattle.std.specs.Prelude.{slice_index_or, Result, Ok, Err, IfOk, OnOk}
 use Rattle.protobuf_parse_lexer.specs.declared.lexer.token.Place.{Place}

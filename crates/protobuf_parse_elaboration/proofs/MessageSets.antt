@@ -10,14 +10,14 @@ use Rattle.protobuf_parse_model.specs.Statements.{message_body}
 use Rattle.protobuf_parse_model.specs.Environment.{Environment, Customs, env_inside}
 use Rattle.protobuf_parse_model.specs.BuiltinOptions.{message_table}
 use Rattle.protobuf_parse_elaboration.specs.Messages.{range_faults, options_of_body}
-use Rattle.protobuf_parse_elaboration.specs.Messages.{body_duplicates}
-use Rattle.protobuf_parse_elaboration.specs.Messages.{whole_faults, statement_faults, faults_in}
+use Rattle.protobuf_parse_elaboration.specs.Messages.{body_duplicates, whole_faults}
+use Rattle.protobuf_parse_elaboration.specs.Messages.{statement_faults, faults_in}
 use Rattle.protobuf_parse_elaboration.specs.OptionSets.{a_set, sets_of, sets_in}
 use Rattle.protobuf_parse_elaboration.proofs.SameNames.{with_customs}
 use Rattle.protobuf_parse_elaboration.proofs.AddedFaults.{bare, Adds, adds-nothing, adds-both}
 use Rattle.protobuf_parse_elaboration.proofs.AddedFaults.{adds-turned, adds-options}
-use Rattle.protobuf_parse_elaboration.proofs.ConstructSets.{field-statement-adds, oneof-adds, extend-adds}
-use Rattle.protobuf_parse_elaboration.proofs.ConstructSets.{enum-adds}
+use Rattle.protobuf_parse_elaboration.proofs.ConstructSets.{field-statement-adds, oneof-adds}
+use Rattle.protobuf_parse_elaboration.proofs.ConstructSets.{extend-adds, enum-adds}
 
 module _ (customs : Customs) where
   -- a message but for its statements

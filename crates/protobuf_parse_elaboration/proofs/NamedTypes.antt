@@ -2,8 +2,8 @@
 -- types.
 use Rattle.std.proofs.Common.{◌≡◌, ℕ, ◌+◌, ℤ, pos, Bool, true, false, List, [], ◌∷◌, ◌++◌, map}
 use Rattle.std.proofs.Common.{flat_map, length, Option, Some, None, is_some, IsSome, option_map}
-use Rattle.std.proofs.Common.{option_to_list, unwrap_or, if◌then◌else◌, codes, refl, ap, subst}
-use Rattle.std.proofs.Common.{◌∙◌, sym}
+use Rattle.std.proofs.Common.{option_to_list, unwrap_or, if◌then◌else◌, codes, refl, ap, subst, ◌∙◌}
+use Rattle.std.proofs.Common.{sym}
 use Rattle.std.specs.List.{AllByRecursion}
 use Rattle.protobuf_parse_syntax.specs.Trees.{TypeSyntax, scalar, map_of, named, FieldSyntax}
 use Rattle.protobuf_parse_syntax.specs.Trees.{FieldStatementSyntax, field, group, OneofSyntax}
@@ -42,43 +42,45 @@ use Rattle.protobuf_parse_model.specs.Declarations.{kind_of_type}
 use Rattle.protobuf_parse_model.proofs.Blaming.{among_left, among_right}
 use Rattle.protobuf_parse_elaboration.specs.ConstructOptions.{construct_faults}
 use Rattle.protobuf_parse_elaboration.specs.Fields as specs
-use Rattle.protobuf_parse_elaboration.specs.Fields.{FieldTypeOf}
-use Rattle.protobuf_parse_elaboration.specs.Fields.{type_of_meaning, type_of, inner_type_faults}
-use Rattle.protobuf_parse_elaboration.specs.Fields.{type_faults, faults_of_options, FieldPlace, plain}
-use Rattle.protobuf_parse_elaboration.specs.Fields.{field_of, field_statement_of, field_faults}
-use Rattle.protobuf_parse_elaboration.specs.Fields.{fields_of_group, map_faults}
-use Rattle.protobuf_parse_elaboration.specs.Fields.{grouped_faults, field_statement_faults}
-use Rattle.protobuf_parse_elaboration.specs.Fields.{extension_faults}
+use Rattle.protobuf_parse_elaboration.specs.Fields.{FieldTypeOf, type_of_meaning, type_of}
+use Rattle.protobuf_parse_elaboration.specs.Fields.{inner_type_faults, type_faults}
+use Rattle.protobuf_parse_elaboration.specs.Fields.{faults_of_options, FieldPlace, plain, field_of}
+use Rattle.protobuf_parse_elaboration.specs.Fields.{field_statement_of, field_faults}
+use Rattle.protobuf_parse_elaboration.specs.Fields.{fields_of_group, map_faults, grouped_faults}
+use Rattle.protobuf_parse_elaboration.specs.Fields.{field_statement_faults, extension_faults}
 use Rattle.protobuf_parse_elaboration.specs.Messages as messages
 use Rattle.protobuf_parse_elaboration.specs.Messages.{message_with, entry_field, entries_of}
-use Rattle.protobuf_parse_elaboration.specs.Messages.{messages_behind, has_own_oneof, options_in_oneof}
-use Rattle.protobuf_parse_elaboration.specs.Messages.{oneofs_of, at_oneof, fields_of, fields_from}
-use Rattle.protobuf_parse_elaboration.specs.Messages.{extending, extend_fields, extendee_faults}
-use Rattle.protobuf_parse_elaboration.specs.Messages.{extend_faults, message_from, nested_of, nested_in}
+use Rattle.protobuf_parse_elaboration.specs.Messages.{messages_behind, has_own_oneof}
+use Rattle.protobuf_parse_elaboration.specs.Messages.{options_in_oneof, oneofs_of, at_oneof}
+use Rattle.protobuf_parse_elaboration.specs.Messages.{fields_of, fields_from, extending}
+use Rattle.protobuf_parse_elaboration.specs.Messages.{extend_fields, extendee_faults, extend_faults}
+use Rattle.protobuf_parse_elaboration.specs.Messages.{message_from, nested_of, nested_in}
 use Rattle.protobuf_parse_elaboration.specs.Messages.{whole_faults, oneof_faults, faults_in}
-use Rattle.protobuf_parse_elaboration.specs.Services.{methods_in, options_of_method, options_of_service}
-use Rattle.protobuf_parse_elaboration.specs.Services.{method_of, service_of, method_faults}
-use Rattle.protobuf_parse_elaboration.specs.Services.{method_named, methods_faults, service_faults}
+use Rattle.protobuf_parse_elaboration.specs.Services.{methods_in, options_of_method}
+use Rattle.protobuf_parse_elaboration.specs.Services.{options_of_service, method_of, service_of}
+use Rattle.protobuf_parse_elaboration.specs.Services.{method_faults, method_named, methods_faults}
+use Rattle.protobuf_parse_elaboration.specs.Services.{service_faults}
 use Rattle.protobuf_parse_elaboration.specs.FileDescriptor as files
 use Rattle.protobuf_parse_elaboration.specs.FileDescriptor.{options_of_statements, types_of_files}
-use Rattle.protobuf_parse_elaboration.specs.FileDescriptor.{environment, file_messages_of, services_of}
-use Rattle.protobuf_parse_elaboration.specs.FileDescriptor.{file_of, file_duplicates, file_faults}
+use Rattle.protobuf_parse_elaboration.specs.FileDescriptor.{environment, file_messages_of}
+use Rattle.protobuf_parse_elaboration.specs.FileDescriptor.{services_of, file_of, file_duplicates}
+use Rattle.protobuf_parse_elaboration.specs.FileDescriptor.{file_faults}
 use Rattle.protobuf_parse_elaboration.specs.NamedTypes.{down_from, down_from_all, fields_in}
-use Rattle.protobuf_parse_elaboration.specs.NamedTypes.{extended_in}
-use Rattle.protobuf_parse_elaboration.specs.NamedTypes.{names_of_field, names_of_method, names_of_service}
+use Rattle.protobuf_parse_elaboration.specs.NamedTypes.{extended_in, names_of_field}
+use Rattle.protobuf_parse_elaboration.specs.NamedTypes.{names_of_method, names_of_service}
 use Rattle.protobuf_parse_elaboration.specs.NamedTypes.{type_names_in, has_name, names_declared}
-use Rattle.protobuf_parse_elaboration.specs.NamedTypes.{messages_declared}
-use Rattle.protobuf_parse_elaboration.specs.NamedTypes.{NamesAreDeclared}
+use Rattle.protobuf_parse_elaboration.specs.NamedTypes.{messages_declared, NamesAreDeclared}
 use Rattle.protobuf_parse_elaboration.specs.NamedTypes.{TypesAreNamed, ExtendeesAreNamed}
 use Rattle.protobuf_parse_elaboration.specs.NamedTypes.{MessagesAreNamed}
 use Rattle.protobuf_parse_elaboration.proofs.DeclaredMessages.{front, message-told, message-from}
 use Rattle.protobuf_parse_elaboration.proofs.Lookups.{meaning_declared}
 use Rattle.protobuf_parse_elaboration.proofs.Gathering.{none_placed}
 use Rattle.protobuf_parse_elaboration.proofs.Orders.{among-map}
-use Rattle.protobuf_parse_elaboration.proofs.EachOne.{no-left, no-right, all-left, all-right, all-both}
-use Rattle.protobuf_parse_elaboration.proofs.EachOne.{all-flat, all-map, all-among, all-from, none-each}
-use Rattle.protobuf_parse_elaboration.proofs.EachOne.{IsClean, clean-each}
-use Rattle.protobuf_parse_elaboration.proofs.ExtendGroups.{generates-none, groups-tell, stands-alone}
+use Rattle.protobuf_parse_elaboration.proofs.EachOne.{no-left, no-right, all-left, all-right}
+use Rattle.protobuf_parse_elaboration.proofs.EachOne.{all-both, all-flat, all-map, all-among}
+use Rattle.protobuf_parse_elaboration.proofs.EachOne.{all-from, none-each, IsClean, clean-each}
+use Rattle.protobuf_parse_elaboration.proofs.ExtendGroups.{generates-none, groups-tell}
+use Rattle.protobuf_parse_elaboration.proofs.ExtendGroups.{stands-alone}
 
 -- ---- kinds and faults
 

@@ -25,7 +25,8 @@ use Rattle.protobuf_parse_model.specs.Linking.{type_names, extension_names, occu
 use Rattle.protobuf_parse_model.specs.Linking.{beginning, declared_twice, link_faults}
 use Rattle.protobuf_parse_model.proofs.Blaming.{among_left, among_right}
 use Rattle.protobuf_parse_elaboration.specs.FileDescriptor.{types_of_files}
-use Rattle.protobuf_parse_elaboration.specs.FilesByPath.{Trees, among, AreDistinct, AreJust, trees_at}
+use Rattle.protobuf_parse_elaboration.specs.FilesByPath.{Trees, among, AreDistinct, AreJust}
+use Rattle.protobuf_parse_elaboration.specs.FilesByPath.{trees_at}
 use Rattle.protobuf_parse_elaboration.proofs.Lookups.{found_is}
 
 -- two lists of paths with the same members; with `AreDistinct` of both, each once in each
@@ -311,7 +312,8 @@ fault-of kind n [] h = absurd (nothing-in h)
 -- where the names stand among others, so do their faults
 faults-among : (kind : ElabErrorKind) (names others : List Text)
     → ((n : Text) → Among names n → Among others n) → (f : Fault)
-    → Among (flat_map (declared_twice kind) names) f → Among (flat_map (declared_twice kind) others) f
+    → Among (flat_map (declared_twice kind) names) f
+    → Among (flat_map (declared_twice kind) others) f
 faults-among kind [] others into f h = absurd (nothing-in h)
 faults-among kind (n ∷ names) others into f h =
     elim (first_or h) [
@@ -346,7 +348,8 @@ link-told trees xs ys f d e same h =
           (repeated (flat_map extension_names (trees_at trees ys)))) (repeats-told TypeDeclaredTwice
           type_names trees xs ys f d e same w)
       | inr w ↦ among_right
-          (flat_map (declared_twice TypeDeclaredTwice) (repeated (flat_map type_names (trees_at trees ys))))
+          (flat_map (declared_twice TypeDeclaredTwice)
+          (repeated (flat_map type_names (trees_at trees ys))))
           (repeats-told ExtensionDeclaredTwice extension_names trees xs ys f d e same w)
     ]
 

@@ -24,14 +24,15 @@ use Rattle.protobuf_parse_elaboration.specs.Messages as messages
 use Rattle.protobuf_parse_elaboration.specs.Messages.{entries_of, messages_behind, has_own_oneof}
 use Rattle.protobuf_parse_elaboration.specs.Messages.{options_in_oneof, oneofs_of, at_oneof}
 use Rattle.protobuf_parse_elaboration.specs.Messages.{fields_of, fields_from, extending}
-use Rattle.protobuf_parse_elaboration.specs.Messages.{options_of_body, message_from, nested_of, nested_in}
+use Rattle.protobuf_parse_elaboration.specs.Messages.{options_of_body, message_from, nested_of}
+use Rattle.protobuf_parse_elaboration.specs.Messages.{nested_in}
 use Rattle.protobuf_parse_elaboration.specs.FileDescriptor as files
 use Rattle.protobuf_parse_elaboration.specs.FileDescriptor.{options_of_statements, environment}
 use Rattle.protobuf_parse_elaboration.specs.FileDescriptor.{file_messages_of, services_of, file_of}
 use Rattle.protobuf_parse_elaboration.specs.OptionSets.{OptionSet, a_set, sets_in_group, field_sets}
 use Rattle.protobuf_parse_elaboration.specs.OptionSets.{value_set, enum_sets, sets_of, sets_in}
-use Rattle.protobuf_parse_elaboration.specs.OptionSets.{method_set, service_sets}
-use Rattle.protobuf_parse_elaboration.specs.OptionSets.{statement_sets, option_sets}
+use Rattle.protobuf_parse_elaboration.specs.OptionSets.{method_set, service_sets, statement_sets}
+use Rattle.protobuf_parse_elaboration.specs.OptionSets.{option_sets}
 use Rattle.protobuf_parse_elaboration.specs.CustomSets.{bytes_of_set, BytesAreOfSets}
 use Rattle.protobuf_parse_elaboration.proofs.SameNames.{with_customs}
 
@@ -178,19 +179,29 @@ module _ (one other : Customs) where
   enum-same : (env : Environment) (e : EnumSyntax) → Same (enum_sets env.scope e)
       → enum_of (by_one env) e ≡ enum_of (by_other env) e
   enum-same env e h =
-      let values = each-same (value_set env.scope (inside env.scope e.name)) (value_of (by_one env)) (value_of (by_other env))
+      let values = each-same (value_set env.scope (inside env.scope e.name)) (value_of (by_one env))
+      (value_of (by_other env))
       (λ (v : EnumValueSyntax) k. rw k refl) (flat_map enum_values e.body)
       (λ s k. h s (there k)) in
-      rw (values, h (a_set of.Enum (full_name env.scope e.name) env.scope (options_of_enum e)) here) refl
+      rw (
+        values,
+        h (a_set of.Enum (full_name env.scope e.name) env.scope
+            (options_of_enum e)) here,
+      ) refl
 
   -- a service
   service-same : (env : Environment) (s : ServiceSyntax) → Same (service_sets env.scope s)
       → service_of (by_one env) s ≡ service_of (by_other env) s
   service-same env s h =
-      let methods = each-same (method_set env.scope (inside env.scope s.name)) (method_of (by_one env))
+      let methods = each-same (method_set env.scope (inside env.scope s.name))
+      (method_of (by_one env))
       (method_of (by_other env)) (λ (m : MethodSyntax) k. rw k refl)
       (flat_map methods_in s.body) (λ x k. h x (there k)) in
-      rw (methods, h (a_set of.Service (full_name env.scope s.name) env.scope (options_of_service s)) here) refl
+      rw (
+        methods,
+        h (a_set of.Service (full_name env.scope s.name) env.scope
+            (options_of_service s)) here,
+      ) refl
 
   -- ---- the statements of a body
 

@@ -12,8 +12,8 @@ use Rattle.protobuf_parse_model.specs.Descriptors.{Text, OneofDescriptor}
 use Rattle.protobuf_parse_model.specs.Duplicates.{NamedAt}
 use Rattle.protobuf_parse_model.specs.Statements.{oneof_fields, groups}
 use Rattle.protobuf_parse_model.specs.Environment.{Environment, Customs}
-use Rattle.protobuf_parse_elaboration.specs.Fields.{FieldPlace, plain, field_statement_of, field_named}
-use Rattle.protobuf_parse_elaboration.specs.Fields.{names_of_fields}
+use Rattle.protobuf_parse_elaboration.specs.Fields.{FieldPlace, plain, field_statement_of}
+use Rattle.protobuf_parse_elaboration.specs.Fields.{field_named, names_of_fields}
 use Rattle.protobuf_parse_elaboration.specs.Messages as messages
 use Rattle.protobuf_parse_elaboration.specs.Messages.{entries_of, messages_behind, has_own_oneof}
 use Rattle.protobuf_parse_elaboration.specs.Messages.{oneofs_of, at_oneof, fields_of, fields_from}
@@ -84,7 +84,8 @@ module _ (env : Environment) where
 
   -- the oneof that a field may be alone in
   own-name : (s : FieldStatementSyntax) (b : Bool)
-      → names_of_oneofs (cond b (own_oneof s ∷ []) []) ≡ names_of (cond b (own_oneof_named s ∷ []) [])
+      → names_of_oneofs (cond b (own_oneof s ∷ []) [])
+      ≡ names_of (cond b (own_oneof_named s ∷ []) [])
   own-name s true = refl
   own-name s false = refl
 

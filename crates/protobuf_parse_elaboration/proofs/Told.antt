@@ -1,6 +1,6 @@
 -- Names that stand twice, each told at its place.
-use Rattle.std.proofs.Common.{◌≡◌, ◌∙◌, List, [], ◌∷◌, ◌++◌, map, refl, sym, ap, append_assoc, flat_map}
-use Rattle.std.proofs.Common.{append-nil, Bool, true, false, cond, length}
+use Rattle.std.proofs.Common.{◌≡◌, ◌∙◌, List, [], ◌∷◌, ◌++◌, map, refl, sym, ap, append_assoc}
+use Rattle.std.proofs.Common.{flat_map, append-nil, Bool, true, false, cond, length}
 use Rattle.std.proofs.lemmas.List.{length-map}
 use Rattle.std.specs.Prelude.{not, ◌||◌}
 use Rattle.protobuf_parse_model.proofs.OrTests.{cond-true_or}

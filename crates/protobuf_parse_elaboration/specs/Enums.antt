@@ -1,6 +1,7 @@
 -- What the declaration of an enum becomes: an EnumDescriptorProto of
 -- google/protobuf/descriptor.proto; and the faults that stand in it, at its values and at its
--- options. A reserved range has both its ends. Protocol Buffers Language Specification, "Enum definition", "Reserved"
+-- options. A reserved range has both its ends. Protocol Buffers Language Specification, "Enum
+-- definition", "Reserved"
 -- (https://protobuf.dev).
 use Rattle.std.specs.Prelude.{List, [], ◌∷◌, ◌++◌, map, flat_map}
 use Rattle.protobuf_parse_syntax.specs.Trees.{OptionSyntax, RangeSyntax, ReservedSyntax}

@@ -1,6 +1,7 @@
 -- No public clause rests on this file.
 -- What a file says of itself and what its statements declare, as the code collects it.
-use Rattle.std.specs.Prelude.{◌≡◌, List, [], ◌++◌, map, flat_map, Option, Some, option_map, string_bytes}
+use Rattle.std.specs.Prelude.{◌≡◌, List, [], ◌++◌, map, flat_map, Option, Some, option_map}
+use Rattle.std.specs.Prelude.{string_bytes}
 use Rattle.protobuf_parse_syntax.specs.Dependencies.{FileImports, dependencies_view, imports}
 use Rattle.protobuf_parse_syntax.specs.Dependencies.{imports_of}
 use Rattle.protobuf_parse_syntax.specs.Trees.{StatementSyntax, FileSyntax, package_of}
@@ -23,8 +24,7 @@ use Rattle.protobuf_parse_elaboration.specs.FileDescriptor.{file_extensions_name
 use Rattle.protobuf_parse_elaboration.specs.declared.convert.heading.Heading.{Heading}
 use Rattle.protobuf_parse_elaboration.specs.ConstructOptions.{construct_faults}
 use Rattle.protobuf_parse_elaboration.specs.FileDescriptor.{file_enums_of, file_extensions_of}
-use Rattle.protobuf_parse_elaboration.specs.FileDescriptor.{file_messages_of}
-use Rattle.protobuf_parse_elaboration.specs.FileDescriptor.{services_of}
+use Rattle.protobuf_parse_elaboration.specs.FileDescriptor.{file_messages_of, services_of}
 use Rattle.protobuf_parse_elaboration.specs.FileDescriptor.{options_of_statements, syntax_text}
 
 pub record FileParts : Type 0 where

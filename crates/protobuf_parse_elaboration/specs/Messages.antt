@@ -44,10 +44,11 @@ use Rattle.protobuf_parse_model.specs.BuiltinOptions.{message_table, oneof_table
 use Rattle.protobuf_parse_model.specs.OptionMessages.{message_options, entry_options, oneof_options}
 use Rattle.protobuf_parse_elaboration.specs.ConstructOptions.{construct_faults}
 use Rattle.protobuf_parse_elaboration.specs.Fields.{FieldTypeOf, type_of, says_optional, FieldPlace}
-use Rattle.protobuf_parse_elaboration.specs.Fields.{plain, field_statement_of}
-use Rattle.protobuf_parse_elaboration.specs.Fields.{field_named, fields_of_group}
-use Rattle.protobuf_parse_elaboration.specs.Fields.{field_statement_faults, extension_faults}
-use Rattle.protobuf_parse_elaboration.specs.Enums.{enum_of, enum_faults, ranges_reserved, names_reserved}
+use Rattle.protobuf_parse_elaboration.specs.Fields.{plain, field_statement_of, field_named}
+use Rattle.protobuf_parse_elaboration.specs.Fields.{fields_of_group, field_statement_faults}
+use Rattle.protobuf_parse_elaboration.specs.Fields.{extension_faults}
+use Rattle.protobuf_parse_elaboration.specs.Enums.{enum_of, enum_faults, ranges_reserved}
+use Rattle.protobuf_parse_elaboration.specs.Enums.{names_reserved}
 
 -- ---- the messages behind maps and groups
 

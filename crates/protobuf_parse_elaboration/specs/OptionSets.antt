@@ -17,7 +17,8 @@ use Rattle.protobuf_parse_model.specs.Declarations.{Scope, inside, full_name, fi
 use Rattle.protobuf_parse_model.specs.declared.customs.Construct.{Construct}
 use Rattle.protobuf_parse_model.specs.declared.customs.Construct.TheVariants as of
 use Rattle.protobuf_parse_elaboration.specs.Enums.{enum_values, options_of_enum}
-use Rattle.protobuf_parse_elaboration.specs.Services.{methods_in, options_of_method, options_of_service}
+use Rattle.protobuf_parse_elaboration.specs.Services.{methods_in, options_of_method}
+use Rattle.protobuf_parse_elaboration.specs.Services.{options_of_service}
 use Rattle.protobuf_parse_elaboration.specs.Messages.{options_in_oneof, options_of_body}
 use Rattle.protobuf_parse_elaboration.specs.FileDescriptor.{options_of_statements}
 

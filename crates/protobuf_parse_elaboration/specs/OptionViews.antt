@@ -7,7 +7,8 @@ use Rattle.protobuf_parse_syntax.specs.Trees.{ConstantSyntax, constant_syntax}
 use Rattle.protobuf_parse_syntax.specs.declared.tree.constant.ProtobufConstant.{ProtobufConstant}
 use Rattle.protobuf_parse_syntax.specs.declared.tree.option.ProtobufOption.{ProtobufOption}
 use Rattle.protobuf_parse_model.specs.BuiltinOptions as spec
-use Rattle.protobuf_parse_model.specs.BuiltinOptions.{options_seen, Words, a_text, a_truth, a_word, Table}
+use Rattle.protobuf_parse_model.specs.BuiltinOptions.{options_seen, Words, a_text, a_truth, a_word}
+use Rattle.protobuf_parse_model.specs.BuiltinOptions.{Table}
 use Rattle.protobuf_parse_model.specs.Descriptors.{Text}
 use Rattle.protobuf_parse_elaboration.specs.declared.convert.options.tables.BuiltinKind.{BuiltinKind}
 use Rattle.protobuf_parse_elaboration.specs.declared.convert.options.tables.BuiltinKind.TheVariants as kind

@@ -1,7 +1,7 @@
 -- No public clause rests on this file.
 -- What the parts that the code makes of a construct say.
-use Rattle.std.specs.Prelude.{ℕ, List, ◌++◌, map, flat_map, length, string_bytes}
-use Rattle.std.specs.Prelude.{String, Option, option_map, option_to_list}
+use Rattle.std.specs.Prelude.{ℕ, List, ◌++◌, map, flat_map, length, string_bytes, String, Option}
+use Rattle.std.specs.Prelude.{option_map, option_to_list}
 use Rattle.std.specs.Borrow.{Bor}
 use Rattle.std.specs.Global.{Global, Vec, Box}
 use Rattle.protobuf_parse_base.specs.DeclaredNames.{name_bytes}
@@ -25,8 +25,8 @@ use Rattle.protobuf_parse_elaboration.specs.declared.convert.place.FieldPlace.{F
 use Rattle.protobuf_parse_elaboration.specs.Fields as fields
 use Rattle.protobuf_parse_elaboration.specs.declared.convert.field.FieldSaid.{FieldSaid}
 use Rattle.protobuf_parse_elaboration.specs.declared.convert.statement.DeclaredField.{DeclaredField}
-use Rattle.protobuf_parse_elaboration.specs.Messages.{messages_behind, oneofs_of, fields_of, fields_from}
-use Rattle.protobuf_parse_elaboration.specs.Messages.{nested_of, enums_of, extended_of}
+use Rattle.protobuf_parse_elaboration.specs.Messages.{messages_behind, oneofs_of, fields_of}
+use Rattle.protobuf_parse_elaboration.specs.Messages.{fields_from, nested_of, enums_of, extended_of}
 use Rattle.protobuf_parse_elaboration.specs.Messages.{extension_ranges, reserves, options_of_body}
 use Rattle.protobuf_parse_syntax.specs.Trees.{OptionSyntax, FieldStatementSyntax}
 use Rattle.protobuf_parse_syntax.specs.Trees.{MessageStatementSyntax, ReservedSyntax}

@@ -1,6 +1,7 @@
 -- What the declaration of a service becomes: a ServiceDescriptorProto of
 -- google/protobuf/descriptor.proto; and the faults that stand in it, at its methods and at its
--- options. The types of a method are looked up from the package. Protocol Buffers Language Specification, "Service definition"
+-- options. The types of a method are looked up from the package. Protocol Buffers Language
+-- Specification, "Service definition"
 -- (https://protobuf.dev).
 use Rattle.std.specs.Prelude.{List, [], ◌∷◌, ◌++◌, map, flat_map, unwrap_or}
 use Rattle.protobuf_parse_syntax.specs.Trees.{OptionSyntax, OptionStatementSyntax, MethodSyntax}

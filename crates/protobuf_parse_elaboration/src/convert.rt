@@ -29,7 +29,8 @@ ghost use Rattle.protobuf_parse_syntax.specs.Trees.{FileSyntax, file_syntax};
 ghost use Rattle.protobuf_parse_model.specs.Descriptors as described;
 ghost use Rattle.protobuf_parse_model.specs.Faults.{Elaborates, found};
 ghost use Rattle.protobuf_parse_model.specs.Tables.{TableTells, picked};
-ghost use Rattle.protobuf_parse_elaboration.specs.FileDescriptor.{environment, file_faults, file_of};
+ghost use Rattle.protobuf_parse_elaboration.specs.FileDescriptor.{environment, file_faults};
+ghost use Rattle.protobuf_parse_elaboration.specs.FileDescriptor.{file_of};
 
 use crate::convert::file::{descriptor_of_owned, file_descriptor};
 pub use options::{decoded_bytes, decoded_text, has_builtin_option};

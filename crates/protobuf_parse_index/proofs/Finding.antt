@@ -11,8 +11,8 @@ use Rattle.protobuf_parse_model.specs.declared.descriptor.EnumValueDescriptorPro
 use Rattle.protobuf_parse_model.specs.declared.descriptor.FieldDescriptorProto.{FieldDescriptorProto}
 use Rattle.protobuf_parse_model.specs.declared.descriptor.FileDescriptorProto.{FileDescriptorProto}
 use Rattle.protobuf_parse_index.specs.Keeping.{Indexes, files_seen}
-use Rattle.protobuf_parse_index.specs.Kept.{HasPositions, field_at, first_at, own_fields, own_values}
-use Rattle.protobuf_parse_index.specs.Kept.{value_at}
+use Rattle.protobuf_parse_index.specs.Kept.{HasPositions, field_at, first_at, own_fields}
+use Rattle.protobuf_parse_index.specs.Kept.{own_values, value_at}
 use Rattle.protobuf_parse_index.specs.Lookups.{own_field, own_value}
 use Rattle.protobuf_parse_index.specs.Views.{standing}
 use Rattle.protobuf_parse_index.specs.Walk.{Standing}

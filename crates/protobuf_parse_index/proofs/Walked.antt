@@ -1,6 +1,6 @@
 -- A walk that grows by messages, enums and extensions.
-use Rattle.std.proofs.Common.{◌≡◌, ℕ, ◌+◌, ◌<◌, List, [], ◌∷◌, ◌++◌, map, take, get_or, length, refl}
-use Rattle.std.proofs.Common.{sym, ap, subst, ◌∙◌, append_assoc, append-nil}
+use Rattle.std.proofs.Common.{◌≡◌, ℕ, ◌+◌, ◌<◌, List, [], ◌∷◌, ◌++◌, map, take, get_or, length}
+use Rattle.std.proofs.Common.{refl, sym, ap, subst, ◌∙◌, append_assoc, append-nil}
 use Rattle.std.specs.List.{flat_map}
 use Rattle.std.proofs.lemmas.Grind.{flat_map-append}
 use Rattle.protobuf_parse_base.specs.DeclaredNames.{name_bytes}
@@ -16,11 +16,10 @@ use Rattle.protobuf_parse_wire.specs.Declarations.{name_within, package_scope}
 use Rattle.protobuf_parse_wire.proofs.Adding.{joined_one_more}
 use Rattle.protobuf_parse_index.specs.Kept.{WalkAdds, WalkAddsMessages, Walks}
 use Rattle.protobuf_parse_index.specs.Views.{standing_enum, standing_extension, standing_message}
-use Rattle.protobuf_parse_index.specs.Walk.{Standing, enums_inside, extensions_inside}
-use Rattle.protobuf_parse_index.specs.Walk.{all_enums, all_extensions, all_messages, enums_of}
-use Rattle.protobuf_parse_index.specs.Walk.{extensions_of, message_within, messages_of}
-use Rattle.protobuf_parse_index.specs.Walk.{enums_within, extensions_within, messages_within}
-use Rattle.protobuf_parse_index.specs.Walk.{path_of}
+use Rattle.protobuf_parse_index.specs.Walk.{Standing, enums_inside, extensions_inside, all_enums}
+use Rattle.protobuf_parse_index.specs.Walk.{all_extensions, all_messages, enums_of, extensions_of}
+use Rattle.protobuf_parse_index.specs.Walk.{message_within, messages_of, enums_within}
+use Rattle.protobuf_parse_index.specs.Walk.{extensions_within, messages_within, path_of}
 use Rattle.protobuf_parse_index.specs.declared.walk.Walk.{Walk}
 
 pub walk_adds_none : (walk : Walk) → WalkAdds walk walk [] [] []

@@ -30,16 +30,21 @@ const LINE_LEN: usize = 72;
 ///
 /// | construct | line | below it, in this order |
 /// |---|---|---|
-/// | file | `file NAME` | `syntax S`, `package P` if present, `import PATH`, `import public PATH` or `import weak PATH` each, options, messages, enums, services, extensions |
-/// | options | `option NAME = VALUE` in the order of the options' numbers, then `custom HEX` if there are bytes | |
-/// | message | `message NAME` | options, fields, oneofs, nested messages, enums, extensions, `extension_range START END`, `reserved_range START END`, `reserved_name "N"` |
-/// | field | `field LABEL TYPE NAME = NUMBER json "J"`, and where set ` default "D"`, ` oneof INDEX`, ` proto3_optional` | options |
+/// | file | `file NAME` | `syntax S`, `package P` if present, `import PATH`, `import public PATH`
+/// or `import weak PATH` each, options, messages, enums, services, extensions |
+/// | options | `option NAME = VALUE` in the order of the options' numbers, then `custom HEX` if
+/// there are bytes | |
+/// | message | `message NAME` | options, fields, oneofs, nested messages, enums, extensions,
+/// `extension_range START END`, `reserved_range START END`, `reserved_name "N"` |
+/// | field | `field LABEL TYPE NAME = NUMBER json "J"`, and where set ` default "D"`, ` oneof
+/// INDEX`, ` proto3_optional` | options |
 /// | extension | `extension EXTENDEE` and the same from LABEL on | options |
 /// | oneof | `oneof NAME` | options |
 /// | enum | `enum NAME` | options, values, `reserved_range START END`, `reserved_name "N"` |
 /// | value | `value NAME = NUMBER` | options |
 /// | service | `service NAME` | options, methods |
-/// | method | `method NAME INPUT OUTPUT`, and where set ` client_streaming`, ` server_streaming` | options |
+/// | method | `method NAME INPUT OUTPUT`, and where set ` client_streaming`, ` server_streaming` |
+/// options |
 pub fn listing(alloc: Global, files: &[FileDescriptorProto]) -> Result<String, AllocError>
     ensures { IfOk result (λ s. string_bytes s ≡ listing_of (map file_view files.now)) }
 {
@@ -50,7 +55,8 @@ pub fn listing(alloc: Global, files: &[FileDescriptorProto]) -> Result<String, A
     Ok(text)
 }
 
-/// Room for the lines of the fields, as long as most are, so that a long text is not copied while it
+/// Room for the lines of the fields, as long as most are, so that a long text is not copied while
+/// it
 /// grows.
 fn room_for(files: &[FileDescriptorProto]) -> usize {
     let mut fields: usize = 0;

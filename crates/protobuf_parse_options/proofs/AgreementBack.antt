@@ -9,7 +9,8 @@ use Rattle.protobuf_parse_syntax.specs.Trees.{message_message, message_field, me
 use Rattle.protobuf_parse_syntax.specs.Trees.{MessageStatementList, no_statements, more_statements}
 use Rattle.protobuf_parse_syntax.specs.Trees.{StatementSyntax, file_message, file_extend}
 use Rattle.protobuf_parse_syntax.specs.Trees.{nested_message, package_of}
-use Rattle.protobuf_parse_model.specs.Statements.{field_statement_name, message_body, oneof_fields, groups}
+use Rattle.protobuf_parse_model.specs.Statements.{field_statement_name, message_body, oneof_fields}
+use Rattle.protobuf_parse_model.specs.Statements.{groups}
 use Rattle.protobuf_parse_model.specs.Descriptors.{Text, FieldDescriptor, MessageDescriptor}
 use Rattle.protobuf_parse_model.specs.Descriptors.{messages_of_list}
 use Rattle.protobuf_parse_model.specs.Faults.{Among, here, there}

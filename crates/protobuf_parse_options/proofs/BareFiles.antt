@@ -21,15 +21,14 @@ use Rattle.protobuf_parse_elaboration.specs.Services.{methods_in, method_of, ser
 use Rattle.protobuf_parse_elaboration.specs.Messages as bodies
 use Rattle.protobuf_parse_elaboration.specs.Messages.{message_with, entries_of, messages_behind}
 use Rattle.protobuf_parse_elaboration.specs.Messages.{has_own_oneof, oneofs_of, at_oneof, fields_of}
-use Rattle.protobuf_parse_elaboration.specs.Messages.{fields_from, extending, message_from, nested_of}
-use Rattle.protobuf_parse_elaboration.specs.Messages.{nested_in}
+use Rattle.protobuf_parse_elaboration.specs.Messages.{fields_from, extending, message_from}
+use Rattle.protobuf_parse_elaboration.specs.Messages.{nested_of, nested_in}
 use Rattle.protobuf_parse_elaboration.specs.FileDescriptor as files
 use Rattle.protobuf_parse_elaboration.specs.FileDescriptor.{file_messages_of, services_of, file_of}
 use Rattle.protobuf_parse_elaboration.proofs.SameNames.{with_customs}
 use Rattle.protobuf_parse_options.specs.WithoutOptions.{bare_field, bare_oneof, bare_value}
-use Rattle.protobuf_parse_options.specs.WithoutOptions.{bare_enum}
-use Rattle.protobuf_parse_options.specs.WithoutOptions.{bare_message, bare_messages, bare_method}
-use Rattle.protobuf_parse_options.specs.WithoutOptions.{bare_service, bare_file}
+use Rattle.protobuf_parse_options.specs.WithoutOptions.{bare_enum, bare_message, bare_messages}
+use Rattle.protobuf_parse_options.specs.WithoutOptions.{bare_method, bare_service, bare_file}
 
 -- ---- lists, alike where f shows them so
 

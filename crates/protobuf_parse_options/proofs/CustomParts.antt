@@ -1,6 +1,6 @@
 -- A custom option is set in a part of a file just where one of the part's sets has it.
-use Rattle.std.proofs.Common.{◌≡◌, ◌∙◌, ◌<◌, ℕ, zero, suc, Bool, true, false, ◌||◌, List, []}
-use Rattle.std.proofs.Common.{◌∷◌, ◌++◌, map, flat_map, length, refl, ap, sym, arith}
+use Rattle.std.proofs.Common.{◌≡◌, ◌∙◌, ◌<◌, ℕ, zero, suc, Bool, true, false, ◌||◌, List, [], ◌∷◌}
+use Rattle.std.proofs.Common.{◌++◌, map, flat_map, length, refl, ap, sym, arith}
 use Rattle.std.specs.List.{list_any}
 use Rattle.std.specs.Prelude.{slice_index_or}
 use Rattle.std.proofs.Math.Bool.{or-false}
@@ -10,16 +10,16 @@ use Rattle.protobuf_parse_syntax.specs.Trees as tree
 use Rattle.protobuf_parse_syntax.specs.Trees.{OptionSyntax, FieldStatementSyntax, field, group}
 use Rattle.protobuf_parse_syntax.specs.Trees.{OneofStatementSyntax, oneof_option, oneof_field}
 use Rattle.protobuf_parse_syntax.specs.Trees.{EnumStatementSyntax, enum_option, enum_value}
-use Rattle.protobuf_parse_syntax.specs.Trees.{enum_reserved, ServiceStatementSyntax}
-use Rattle.protobuf_parse_syntax.specs.Trees.{service_method, service_option}
-use Rattle.protobuf_parse_syntax.specs.Trees.{MessageStatementSyntax, message_oneof, message_extend}
-use Rattle.protobuf_parse_syntax.specs.Trees.{message_message, message_enum, message_option}
-use Rattle.protobuf_parse_syntax.specs.Trees.{message_field, message_reserved, message_extensions}
-use Rattle.protobuf_parse_syntax.specs.Trees.{MessageStatementList, no_statements, more_statements}
-use Rattle.protobuf_parse_syntax.specs.Trees.{StatementSyntax, file_import, file_package, file_option}
-use Rattle.protobuf_parse_syntax.specs.Trees.{file_message, file_enum, file_extend, file_service}
-use Rattle.protobuf_parse_syntax.specs.Trees.{FileSyntax, EnumSyntax, ServiceSyntax, OneofSyntax}
-use Rattle.protobuf_parse_syntax.specs.Trees.{MessageSyntax, nested_message}
+use Rattle.protobuf_parse_syntax.specs.Trees.{enum_reserved, ServiceStatementSyntax, service_method}
+use Rattle.protobuf_parse_syntax.specs.Trees.{service_option, MessageStatementSyntax, message_oneof}
+use Rattle.protobuf_parse_syntax.specs.Trees.{message_extend, message_message, message_enum}
+use Rattle.protobuf_parse_syntax.specs.Trees.{message_option, message_field, message_reserved}
+use Rattle.protobuf_parse_syntax.specs.Trees.{message_extensions, MessageStatementList}
+use Rattle.protobuf_parse_syntax.specs.Trees.{no_statements, more_statements, StatementSyntax}
+use Rattle.protobuf_parse_syntax.specs.Trees.{file_import, file_package, file_option, file_message}
+use Rattle.protobuf_parse_syntax.specs.Trees.{file_enum, file_extend, file_service, FileSyntax}
+use Rattle.protobuf_parse_syntax.specs.Trees.{EnumSyntax, ServiceSyntax, OneofSyntax, MessageSyntax}
+use Rattle.protobuf_parse_syntax.specs.Trees.{nested_message}
 use Rattle.protobuf_parse_syntax.specs.declared.tree.declaration.Message.{Message}
 use Rattle.protobuf_parse_syntax.specs.declared.tree.declaration.MessageStatement.TheVariants as statement
 use Rattle.protobuf_parse_syntax.proofs.Messages.{view_parts, views_message}
@@ -35,14 +35,14 @@ use Rattle.protobuf_parse_model.specs.Statements.{oneof_statement_options}
 use Rattle.protobuf_parse_model.specs.Declarations.{Scope, inside, file_scope}
 use Rattle.protobuf_parse_model.proofs.Tables.{flat_map-inside}
 use Rattle.protobuf_parse_elaboration.specs.Enums.{enum_values, options_in_enum}
-use Rattle.protobuf_parse_elaboration.specs.Services.{methods_in, options_in_service, statement_option}
+use Rattle.protobuf_parse_elaboration.specs.Services.{methods_in, options_in_service}
+use Rattle.protobuf_parse_elaboration.specs.Services.{statement_option}
 use Rattle.protobuf_parse_elaboration.specs.Messages.{options_in_message}
 use Rattle.protobuf_parse_elaboration.specs.FileDescriptor.{options_in_file}
 use Rattle.protobuf_parse_elaboration.specs.OptionSets.{OptionSet, sets_in_group, field_sets}
-use Rattle.protobuf_parse_elaboration.specs.OptionSets.{oneof_sets, value_set}
-use Rattle.protobuf_parse_elaboration.specs.OptionSets.{enum_sets, sets_of, sets_in}
-use Rattle.protobuf_parse_elaboration.specs.OptionSets.{method_set, service_sets, statement_sets}
-use Rattle.protobuf_parse_elaboration.specs.OptionSets.{option_sets}
+use Rattle.protobuf_parse_elaboration.specs.OptionSets.{oneof_sets, value_set, enum_sets, sets_of}
+use Rattle.protobuf_parse_elaboration.specs.OptionSets.{sets_in, method_set, service_sets}
+use Rattle.protobuf_parse_elaboration.specs.OptionSets.{statement_sets, option_sets}
 use Rattle.protobuf_parse_elaboration.specs.CustomSets.{is_custom, sets_custom}
 use Rattle.protobuf_parse_options.specs.CustomParts as part
 use Rattle.protobuf_parse_options.proofs.BareDeclarations.{any-becomes}

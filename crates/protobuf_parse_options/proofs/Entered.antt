@@ -21,20 +21,18 @@ use Rattle.protobuf_parse_model.specs.Linking.{type_names, occurrences}
 use Rattle.protobuf_parse_elaboration.specs.FileDescriptor.{types_of_files}
 use Rattle.protobuf_parse_elaboration.specs.NamedTypes as model
 use Rattle.protobuf_parse_elaboration.specs.NamedTypes.{down_from, down_from_all}
-use Rattle.protobuf_parse_elaboration.specs.NamedTypes.{declared_message_name}
-use Rattle.protobuf_parse_elaboration.specs.NamedTypes.{messages_declared, has_name}
+use Rattle.protobuf_parse_elaboration.specs.NamedTypes.{declared_message_name, messages_declared}
+use Rattle.protobuf_parse_elaboration.specs.NamedTypes.{has_name}
 use Rattle.protobuf_parse_elaboration.specs.FilesByPath.{Trees, among, trees_at}
 use Rattle.protobuf_parse_elaboration.proofs.NamedTypes.{types_are_named, messages_are_named}
-use Rattle.protobuf_parse_elaboration.proofs.Orders.{same-text, first-among, counted-from, count-append}
-use Rattle.protobuf_parse_elaboration.proofs.Orders.{type-once}
+use Rattle.protobuf_parse_elaboration.proofs.Orders.{same-text, first-among, counted-from}
+use Rattle.protobuf_parse_elaboration.proofs.Orders.{count-append, type-once}
 use Rattle.protobuf_parse_wire.specs.Declarations as wire
 use Rattle.protobuf_parse_wire.specs.Declarations.{Declaration, name_within, package_scope}
 use Rattle.protobuf_parse_wire.specs.Declarations.{declared_message, declared_messages}
-use Rattle.protobuf_parse_wire.specs.Declarations.{messages_declared_in}
-use Rattle.protobuf_parse_wire.specs.Declarations.{extensions_within}
+use Rattle.protobuf_parse_wire.specs.Declarations.{messages_declared_in, extensions_within}
 use Rattle.protobuf_parse_wire.specs.Declarations.{messages_named, messages_with_name}
-use Rattle.protobuf_parse_wire.specs.Declarations.{extensions_extending}
-use Rattle.protobuf_parse_wire.specs.Declarations.{extends}
+use Rattle.protobuf_parse_wire.specs.Declarations.{extensions_extending, extends}
 use Rattle.protobuf_parse_options.specs.NamesAlike.{HasPackageName, message_names, enum_names}
 use Rattle.protobuf_parse_options.specs.OptionFields.{fields_of_message}
 use Rattle.protobuf_parse_options.specs.OptionLaw.{IsEntered, fields_at}

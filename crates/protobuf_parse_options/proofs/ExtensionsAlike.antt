@@ -20,7 +20,8 @@ use Rattle.protobuf_parse_model.specs.Environment.{Environment, env_inside}
 use Rattle.protobuf_parse_elaboration.specs.Fields.{field_statement_of}
 use Rattle.protobuf_parse_elaboration.specs.Messages as bodies
 use Rattle.protobuf_parse_elaboration.specs.Messages.{messages_behind, entries_of, extending}
-use Rattle.protobuf_parse_elaboration.specs.Messages.{extend_fields, message_from, nested_of, nested_in}
+use Rattle.protobuf_parse_elaboration.specs.Messages.{extend_fields, message_from, nested_of}
+use Rattle.protobuf_parse_elaboration.specs.Messages.{nested_in}
 use Rattle.protobuf_parse_elaboration.specs.FileDescriptor as files
 use Rattle.protobuf_parse_elaboration.proofs.Orders.{count-append}
 use Rattle.protobuf_parse_wire.specs.Declarations.{Declaration, name_within, declared_message}

@@ -10,7 +10,8 @@ use Rattle.protobuf_parse_model.specs.declared.descriptor.FieldType.TheVariants.
 use Rattle.protobuf_parse_model.specs.Descriptors.{FieldDescriptor}
 use Rattle.protobuf_parse_wire.specs.declared.kind.Kind.{Kind}
 use Rattle.protobuf_parse_wire.specs.declared.entry.EntryValue.{fold_out-EntryValue, the_lemmas}
-use Rattle.protobuf_parse_wire.specs.declared.entry.EntryValue.TheVariants.{Number, Bool as Truth, Bytes}
+use Rattle.protobuf_parse_wire.specs.declared.entry.EntryValue.TheVariants.{Number, Bool as Truth}
+use Rattle.protobuf_parse_wire.specs.declared.entry.EntryValue.TheVariants.{Bytes}
 use Rattle.protobuf_parse_wire.specs.Encoded.{delimited, payload, varint_of}
 use Rattle.protobuf_parse_wire.specs.Kinds.{kind_of_field_type, shape_of_kind, wire_type}
 use Rattle.protobuf_parse_wire.specs.Trees as trees

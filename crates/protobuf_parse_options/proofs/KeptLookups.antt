@@ -21,15 +21,13 @@ use Rattle.protobuf_parse_wire.specs.Views.{WireItem, entries_of_list}
 use Rattle.protobuf_parse_wire.specs.Declarations.{extends}
 use Rattle.protobuf_parse_options.specs.OptionFields.{OptionScope, options_message, field_named}
 use Rattle.protobuf_parse_options.specs.OptionFields.{number_of_value, names_message}
-use Rattle.protobuf_parse_options.specs.OptionFields.{extension_meant}
-use Rattle.protobuf_parse_options.specs.OptionFields.{extends_message, if_extends, extension_named}
-use Rattle.protobuf_parse_options.specs.OptionFields.{part_field, constant_field, type_name_of}
-use Rattle.protobuf_parse_options.specs.OptionFields.{Takes}
-use Rattle.protobuf_parse_options.specs.OptionFields.{names_of_values, messages, type_takes}
+use Rattle.protobuf_parse_options.specs.OptionFields.{extension_meant, extends_message, if_extends}
+use Rattle.protobuf_parse_options.specs.OptionFields.{extension_named, part_field, constant_field}
+use Rattle.protobuf_parse_options.specs.OptionFields.{type_name_of, Takes, names_of_values}
+use Rattle.protobuf_parse_options.specs.OptionFields.{messages, type_takes}
 use Rattle.protobuf_parse_options.specs.CustomOptions.{item_of, item_of_message, value_items}
-use Rattle.protobuf_parse_options.specs.CustomOptions.{list_items}
-use Rattle.protobuf_parse_options.specs.CustomOptions.{field_items, path_items, named_items}
-use Rattle.protobuf_parse_options.specs.CustomOptions.{items_of_option}
+use Rattle.protobuf_parse_options.specs.CustomOptions.{list_items, field_items, path_items}
+use Rattle.protobuf_parse_options.specs.CustomOptions.{named_items, items_of_option}
 use Rattle.protobuf_parse_options.specs.CustomFaults.{value_name_faults, message_value_faults}
 use Rattle.protobuf_parse_options.specs.CustomFaults.{number_faults, field_name_faults}
 use Rattle.protobuf_parse_options.specs.CustomFaults.{extension_name_faults, constant_name_faults}
@@ -372,7 +370,8 @@ module _ (at at' : OptionScope) (keeps : KeepsLookups at at') where
       let k = named_kept construct o.value o.name
       (none_wrong o.place (custom_name_faults at construct o.value o.name) h) in
       record {
-        faultless = none_placed o.place (custom_name_faults at' construct o.value o.name) k.faultless;
+        faultless = none_placed o.place
+            (custom_name_faults at' construct o.value o.name) k.faultless;
         same = k.same;
       }
 

@@ -11,7 +11,8 @@ use Rattle.protobuf_parse_syntax.specs.Trees.{message_extend, message_message, m
 use Rattle.protobuf_parse_syntax.specs.Trees.{MessageStatementList, no_statements, more_statements}
 use Rattle.protobuf_parse_syntax.specs.Trees.{StatementSyntax, file_message, file_enum, file_extend}
 use Rattle.protobuf_parse_syntax.specs.Trees.{nested_message, FileSyntax, package_of}
-use Rattle.protobuf_parse_model.specs.Statements.{message_body, entry_name, is_map, oneof_fields, groups}
+use Rattle.protobuf_parse_model.specs.Statements.{message_body, entry_name, is_map, oneof_fields}
+use Rattle.protobuf_parse_model.specs.Statements.{groups}
 use Rattle.protobuf_parse_model.specs.Descriptors.{Text, MessageDescriptor}
 use Rattle.protobuf_parse_model.specs.Declarations as names
 use Rattle.protobuf_parse_model.specs.Declarations.{Scope, DeclaredType, full_name, file_scope}

@@ -11,14 +11,14 @@ use Rattle.protobuf_parse_syntax.specs.Trees.{message_extend, message_message, m
 use Rattle.protobuf_parse_syntax.specs.Trees.{MessageStatementList, no_statements, more_statements}
 use Rattle.protobuf_parse_syntax.specs.Trees.{StatementSyntax, file_message, file_enum, file_extend}
 use Rattle.protobuf_parse_syntax.specs.Trees.{nested_message, package_of}
-use Rattle.protobuf_parse_model.specs.Statements.{message_body, entry_name, is_map, oneof_fields, groups}
+use Rattle.protobuf_parse_model.specs.Statements.{message_body, entry_name, is_map, oneof_fields}
+use Rattle.protobuf_parse_model.specs.Statements.{groups}
 use Rattle.protobuf_parse_model.specs.Descriptors.{Text, EnumDescriptor, MessageDescriptor}
 use Rattle.protobuf_parse_model.specs.Declarations as names
 use Rattle.protobuf_parse_model.specs.Declarations.{Scope, Declared, DeclaredType, full_name}
-use Rattle.protobuf_parse_model.specs.Declarations.{file_types, file_generated}
-use Rattle.protobuf_parse_model.specs.Declarations.{generated_by, generated_of, generated_in}
-use Rattle.protobuf_parse_model.specs.Declarations.{types_of, types_in, statement_types}
-use Rattle.protobuf_parse_model.specs.Declarations.{statement_generated}
+use Rattle.protobuf_parse_model.specs.Declarations.{file_types, file_generated, generated_by}
+use Rattle.protobuf_parse_model.specs.Declarations.{generated_of, generated_in, types_of, types_in}
+use Rattle.protobuf_parse_model.specs.Declarations.{statement_types, statement_generated}
 use Rattle.protobuf_parse_model.specs.Linking.{occurrences}
 use Rattle.protobuf_parse_model.specs.Environment.{Environment, env_inside}
 use Rattle.protobuf_parse_elaboration.specs.Messages as bodies

@@ -1,6 +1,6 @@
 -- What tells the first wrong of a part tells the first of the whole.
-use Rattle.std.proofs.Common.{◌≡◌, ℕ, zero, suc, ◌<◌, ◌≤◌, List, [], ◌∷◌, ◌++◌, map, flat_map, length}
-use Rattle.std.proofs.Common.{arith, ap, sym, ◌∙◌, ◌+◌, take, refl, length-append}
+use Rattle.std.proofs.Common.{◌≡◌, ℕ, zero, suc, ◌<◌, ◌≤◌, List, [], ◌∷◌, ◌++◌, map, flat_map}
+use Rattle.std.proofs.Common.{length, arith, ap, sym, ◌∙◌, ◌+◌, take, refl, length-append}
 use Rattle.std.proofs.Common.{append_assoc, append-nil, Result, Err}
 use Rattle.std.proofs.lemmas.Grind.{flat_map-append}
 use Rattle.std.proofs.lemmas.List.{length-map, map-append, take_more}

@@ -9,8 +9,8 @@ use Rattle.protobuf_parse_syntax.specs.Trees.{FieldStatementSyntax, FieldStateme
 use Rattle.protobuf_parse_syntax.specs.Trees.{OneofStatementSyntax, OneofSyntax, ExtendSyntax}
 use Rattle.protobuf_parse_syntax.specs.Trees.{EnumValueSyntax, EnumStatementSyntax, EnumSyntax}
 use Rattle.protobuf_parse_syntax.specs.Trees.{MessageStatementSyntax, MessageStatementList}
-use Rattle.protobuf_parse_syntax.specs.Trees.{MethodSyntax, ServiceStatementSyntax}
-use Rattle.protobuf_parse_syntax.specs.Trees.{ServiceSyntax, StatementSyntax, FileSyntax}
+use Rattle.protobuf_parse_syntax.specs.Trees.{MethodSyntax, ServiceStatementSyntax, ServiceSyntax}
+use Rattle.protobuf_parse_syntax.specs.Trees.{StatementSyntax, FileSyntax}
 use Rattle.protobuf_parse_syntax.specs.Nesting as nesting
 use Rattle.protobuf_parse_syntax.specs.Nesting.{ShallowOption, ShallowOptionStatement, ShallowField}
 use Rattle.protobuf_parse_syntax.specs.Nesting.{ShallowFields, ShallowOneofStatement, ShallowOneof}
@@ -23,14 +23,14 @@ use Rattle.protobuf_parse_model.specs.Statements.{group_body, message_body, oneo
 use Rattle.protobuf_parse_model.specs.Statements.{oneof_statement_options}
 use Rattle.protobuf_parse_model.specs.Declarations.{Scope, inside, file_scope}
 use Rattle.protobuf_parse_elaboration.specs.Enums.{enum_values, options_in_enum}
-use Rattle.protobuf_parse_elaboration.specs.Services.{methods_in, statement_option, options_in_service}
-use Rattle.protobuf_parse_elaboration.specs.Services.{options_of_method}
+use Rattle.protobuf_parse_elaboration.specs.Services.{methods_in, statement_option}
+use Rattle.protobuf_parse_elaboration.specs.Services.{options_in_service, options_of_method}
 use Rattle.protobuf_parse_elaboration.specs.Messages.{options_in_message, options_of_body}
 use Rattle.protobuf_parse_elaboration.specs.FileDescriptor.{options_in_file}
-use Rattle.protobuf_parse_elaboration.specs.OptionSets.{OptionSet, sets_in_group, field_sets, oneof_sets}
-use Rattle.protobuf_parse_elaboration.specs.OptionSets.{extend_sets, value_set, enum_sets, sets_of}
-use Rattle.protobuf_parse_elaboration.specs.OptionSets.{sets_in, method_set, service_sets}
-use Rattle.protobuf_parse_elaboration.specs.OptionSets.{statement_sets, option_sets}
+use Rattle.protobuf_parse_elaboration.specs.OptionSets.{OptionSet, sets_in_group, field_sets}
+use Rattle.protobuf_parse_elaboration.specs.OptionSets.{oneof_sets, extend_sets, value_set}
+use Rattle.protobuf_parse_elaboration.specs.OptionSets.{enum_sets, sets_of, sets_in, method_set}
+use Rattle.protobuf_parse_elaboration.specs.OptionSets.{service_sets, statement_sets, option_sets}
 use Rattle.protobuf_parse_options.specs.OptionDepth.{message_levels, list_levels, field_levels}
 use Rattle.protobuf_parse_options.specs.OptionDepth.{OptionIsShallow}
 use Rattle.protobuf_parse_options.proofs.Sound.{SoundOption, SoundOptionStatement, SoundField}

@@ -39,8 +39,7 @@ use Rattle.protobuf_parse_options.specs.OptionFields.{number_of_value, extension
 use Rattle.protobuf_parse_options.specs.OptionFields.{extends_message, part_field, constant_field}
 use Rattle.protobuf_parse_options.specs.OptionFields.{type_name_of, Takes, integers, truths}
 use Rattle.protobuf_parse_options.specs.OptionFields.{names_of_values, texts, octets, messages}
-use Rattle.protobuf_parse_options.specs.OptionFields.{floats}
-use Rattle.protobuf_parse_options.specs.OptionFields.{groups, type_takes}
+use Rattle.protobuf_parse_options.specs.OptionFields.{floats, groups, type_takes}
 use Rattle.protobuf_parse_options.specs.CustomOptions.{scope_of}
 
 -- ---- names as they are written
@@ -211,7 +210,8 @@ custom_option_faults files visible t =
 
 -- The faults that stand in a file which reaches the trees `reached` and sees the trees `seen`, in
 -- three steps, of which each later one is looked at only where no earlier one has a fault: those of
--- names that are declared twice in what it reaches; its own, its custom options left out; and, since
+-- names that are declared twice in what it reaches; its own, its custom options left out; and,
+-- since
 -- its descriptor says then what every type is, those of its custom options, by the descriptors of
 -- the files that it reaches and of those that it sees.
 abbrev pub elaboration_faults : (reached seen : List FileSyntax)

@@ -3,15 +3,16 @@
 use Rattle.std.specs.Prelude.{Bool, false, ◌||◌}
 use Rattle.std.specs.List.{list_any}
 use Rattle.protobuf_parse_syntax.specs.Trees.{OptionStatementSyntax, FieldStatementSyntax, field}
-use Rattle.protobuf_parse_syntax.specs.Trees.{group, OneofStatementSyntax, oneof_option, oneof_field}
-use Rattle.protobuf_parse_syntax.specs.Trees.{EnumStatementSyntax, enum_option, enum_value}
-use Rattle.protobuf_parse_syntax.specs.Trees.{enum_reserved, ServiceStatementSyntax, service_method}
-use Rattle.protobuf_parse_syntax.specs.Trees.{service_option, MessageStatementSyntax, message_oneof}
-use Rattle.protobuf_parse_syntax.specs.Trees.{message_extend, message_message, message_enum}
-use Rattle.protobuf_parse_syntax.specs.Trees.{message_option, message_field, MessageStatementList}
-use Rattle.protobuf_parse_syntax.specs.Trees.{no_statements, more_statements, StatementSyntax}
-use Rattle.protobuf_parse_syntax.specs.Trees.{file_message, file_enum, file_extend, file_service}
-use Rattle.protobuf_parse_syntax.specs.Trees.{file_option, nested_message}
+use Rattle.protobuf_parse_syntax.specs.Trees.{group, OneofStatementSyntax, oneof_option}
+use Rattle.protobuf_parse_syntax.specs.Trees.{oneof_field, EnumStatementSyntax, enum_option}
+use Rattle.protobuf_parse_syntax.specs.Trees.{enum_value, enum_reserved, ServiceStatementSyntax}
+use Rattle.protobuf_parse_syntax.specs.Trees.{service_method, service_option}
+use Rattle.protobuf_parse_syntax.specs.Trees.{MessageStatementSyntax, message_oneof, message_extend}
+use Rattle.protobuf_parse_syntax.specs.Trees.{message_message, message_enum, message_option}
+use Rattle.protobuf_parse_syntax.specs.Trees.{message_field, MessageStatementList, no_statements}
+use Rattle.protobuf_parse_syntax.specs.Trees.{more_statements, StatementSyntax, file_message}
+use Rattle.protobuf_parse_syntax.specs.Trees.{file_enum, file_extend, file_service, file_option}
+use Rattle.protobuf_parse_syntax.specs.Trees.{nested_message}
 use Rattle.protobuf_parse_model.specs.Statements.{group_body}
 use Rattle.protobuf_parse_elaboration.specs.CustomSets.{is_custom}
 

@@ -9,15 +9,15 @@ use Rattle.protobuf_parse_model.specs.Environment.{Customs, Environment, no_cust
 use Rattle.protobuf_parse_model.specs.Faults.{Among, Fault}
 use Rattle.protobuf_parse_model.specs.Linking.{before_others, link_faults}
 use Rattle.protobuf_parse_elaboration.specs.FileDescriptor.{environment, file_faults, file_of}
-use Rattle.protobuf_parse_elaboration.specs.FilesByPath.{AreDistinct, AreJust, leads, stays, trees_at}
+use Rattle.protobuf_parse_elaboration.specs.FilesByPath.{AreDistinct, AreJust, leads, stays}
+use Rattle.protobuf_parse_elaboration.specs.FilesByPath.{trees_at}
 use Rattle.protobuf_parse_elaboration.proofs.Orders.{SameMembers, first-among, just-same, link-none}
 use Rattle.protobuf_parse_elaboration.proofs.Orders.{link-told, types-same}
 use Rattle.protobuf_parse_options.specs.OptionBytes.{known_customs}
 use Rattle.protobuf_parse_run.specs.Walks.{Trees, Reaches, HandsOn, Sees, sees_itself, by_import}
 use Rattle.protobuf_parse_run.specs.Walks.{among}
 use Rattle.protobuf_parse_run.specs.Run.{Files, HasTrees, HaveTrees, IsTree, customs_of}
-use Rattle.protobuf_parse_run.specs.Run.{environment_of}
-use Rattle.protobuf_parse_run.specs.Run.{faults_at, plain_of, plains_at, text_for}
+use Rattle.protobuf_parse_run.specs.Run.{environment_of, faults_at, plain_of, plains_at, text_for}
 use Rattle.protobuf_parse_run.specs.Stability.{AgreeOn, DeclaresOnce, IsAlike, WereRead}
 use Rattle.protobuf_parse_run.proofs.Keeping.{or_right}
 use Rattle.protobuf_parse_run.proofs.Knowing.{public-imported, sees-reaches}

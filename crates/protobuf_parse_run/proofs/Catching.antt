@@ -1,6 +1,6 @@
 -- The index of places, as it is caught up with the loaded files.
-use Rattle.std.proofs.Common.{◌≡◌, ℕ, ◌+◌, ◌≤◌, List, [], ◌∷◌, ◌++◌, map, length}
-use Rattle.std.proofs.Common.{Option, option_map, Some, refl, sym, ap, ◌∙◌, arith, append-nil, append_assoc}
+use Rattle.std.proofs.Common.{◌≡◌, ℕ, ◌+◌, ◌≤◌, List, [], ◌∷◌, ◌++◌, map, length, Option}
+use Rattle.std.proofs.Common.{option_map, Some, refl, sym, ap, ◌∙◌, arith, append-nil, append_assoc}
 use Rattle.std.proofs.Common.{subst, slice_get, length-append, flat_map}
 use Rattle.std.specs.Borrow.{Bor}
 use Rattle.std.specs.Prelude.{option_to_list}
@@ -9,8 +9,7 @@ use Rattle.protobuf_parse_model.specs.Descriptors.{FileDescriptor}
 use Rattle.protobuf_parse_model.specs.declared.descriptor.FileDescriptorProto.{FileDescriptorProto}
 use Rattle.protobuf_parse_options.specs.Holding.{Holds}
 use Rattle.protobuf_parse_run.specs.Loading.{IndexBegins, LoadedEntry, IsWhole, picked_plains}
-use Rattle.protobuf_parse_run.specs.Loading.{plain_in, plain_seen}
-use Rattle.protobuf_parse_run.specs.Loading.{plains_with}
+use Rattle.protobuf_parse_run.specs.Loading.{plain_in, plain_seen, plains_with}
 use Rattle.protobuf_parse_run.specs.declared.tables.RunPlaces.{RunPlaces}
 
 -- the descriptors that the code's list has

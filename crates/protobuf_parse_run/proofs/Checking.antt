@@ -14,10 +14,8 @@ use Rattle.protobuf_parse_run.specs.declared.log.ReadOutcome.{ReadOutcome}
 use Rattle.protobuf_parse_run.specs.Walks.{the_resolver, the_reader, Event, load, check, elab, has}
 use Rattle.protobuf_parse_run.specs.Walks.{among, at, checks, FileRead, reads_in}
 use Rattle.protobuf_parse_run.specs.Run.{Files, AreAnswered, StandsInCheck, answer_at, Legal}
-use Rattle.protobuf_parse_run.specs.Run.{are_same_bytes}
-use Rattle.protobuf_parse_run.specs.Run.{first_read, text_for, text_given}
-use Rattle.protobuf_parse_run.specs.Loading.{LoadedEntry, file_at, read_paths, Goes, GoesOn}
-use Rattle.protobuf_parse_run.specs.Loading.{Good}
+use Rattle.protobuf_parse_run.specs.Run.{are_same_bytes, first_read, text_for, text_given}
+use Rattle.protobuf_parse_run.specs.Loading.{LoadedEntry, file_at, read_paths, Goes, GoesOn, Good}
 use Rattle.protobuf_parse_run.specs.Loading.{Stops}
 use Rattle.protobuf_parse_run.specs.Run.{OrMemory}
 use Rattle.protobuf_parse_run.proofs.Keeping.{text-same, or_left, has-in, has-left, has-one}
@@ -52,7 +50,8 @@ abbrev pub Told : List (Text × Text) → List ReadEntry → ℕ → Option Text
 Told table log n text = (e : ReadEntry) → slice_get log n ≡ Some e
     → text ≡ text_given table (path_buf_text e.path) (Some e.outcome)
 
-module _ (gathers : Bool) (legal : Legal) (files : Files) (table : List (Text × Text)) (kept : List Event)
+module _ (gathers : Bool) (legal : Legal) (files : Files) (table : List (Text × Text))
+    (kept : List Event)
     (loaded : List LoadedEntry) (log : List ReadEntry) (p q own : Text) (x : LoadedFile)
     (is : q ≡ p)
     (g : Good gathers legal files kept loaded log []) (found : file_at q loaded ≡ Some x) where
@@ -138,7 +137,8 @@ module _ (gathers : Bool) (legal : Legal) (files : Files) (table : List (Text ×
     })
 
     pub check-halts : (f : RunFault) → are_same_bytes (text_given [] [] (Some o)) text ≡ false
-        → StandsInCheck own p (Some o) f → Stops gathers legal files (kept ++ checks kept (at p own)) new f
+        → StandsInCheck own p (Some o) f → Stops gathers legal files
+        (kept ++ checks kept (at p own)) new f
     check-halts f h s = inl (record {
       before = kept;
       event = event;

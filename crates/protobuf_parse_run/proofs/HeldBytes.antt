@@ -1,6 +1,6 @@
 -- What the options messages of a descriptor hold are the bytes of its file's sets of options.
-use Rattle.std.proofs.Common.{◌≡◌, ℕ, ◌+◌, List, [], ◌∷◌, ◌++◌, map, flat_map, length}
-use Rattle.std.proofs.Common.{refl, ap, sym, subst, inl, inr, ◌⊎◌, Bool, true, false, nat_lt, cond}
+use Rattle.std.proofs.Common.{◌≡◌, ℕ, ◌+◌, List, [], ◌∷◌, ◌++◌, map, flat_map, length, refl, ap}
+use Rattle.std.proofs.Common.{sym, subst, inl, inr, ◌⊎◌, Bool, true, false, nat_lt, cond}
 use Rattle.std.proofs.Common.{if◌then◌else◌, filter, IsPermutation, arith}
 use Rattle.std.proofs.lemmas.Bool.{lt-ltb}
 use Rattle.std.proofs.lemmas.Grind.{flat_map-append}
@@ -22,13 +22,12 @@ use Rattle.protobuf_parse_syntax.specs.Trees.{StatementSyntax, FileSyntax}
 use Rattle.protobuf_parse_model.specs.declared.customs.Construct.TheVariants as of
 use Rattle.protobuf_parse_model.specs.declared.customs.Construct.{Construct}
 use Rattle.protobuf_parse_model.specs.Options.{FileOptionValues, MessageOptionValues}
-use Rattle.protobuf_parse_model.specs.Options.{FieldOptionValues}
-use Rattle.protobuf_parse_model.specs.Options.{OneofOptionValues, EnumOptionValues}
-use Rattle.protobuf_parse_model.specs.Options.{EnumValueOptionValues}
+use Rattle.protobuf_parse_model.specs.Options.{FieldOptionValues, OneofOptionValues}
+use Rattle.protobuf_parse_model.specs.Options.{EnumOptionValues, EnumValueOptionValues}
 use Rattle.protobuf_parse_model.specs.Options.{ServiceOptionValues, MethodOptionValues}
 use Rattle.protobuf_parse_model.specs.Descriptors.{Text, MessageDescriptor, messages_of_list}
-use Rattle.protobuf_parse_model.specs.Descriptors.{FieldDescriptor, OneofDescriptor}
-use Rattle.protobuf_parse_model.specs.Descriptors.{EnumDescriptor, ServiceDescriptor}
+use Rattle.protobuf_parse_model.specs.Descriptors.{FieldDescriptor, OneofDescriptor, EnumDescriptor}
+use Rattle.protobuf_parse_model.specs.Descriptors.{ServiceDescriptor}
 use Rattle.protobuf_parse_model.specs.BuiltinOptions.{where_any}
 use Rattle.protobuf_parse_model.specs.Faults.{Among, here, there}
 use Rattle.protobuf_parse_model.specs.Statements.{group_body, message_body, oneof_fields, groups}
@@ -39,27 +38,28 @@ use Rattle.protobuf_parse_model.specs.OptionMessages.{message_options}
 use Rattle.protobuf_parse_model.proofs.Blaming.{among_left}
 use Rattle.protobuf_parse_elaboration.specs.Fields.{FieldPlace, plain, field_of, field_statement_of}
 use Rattle.protobuf_parse_elaboration.specs.Enums.{enum_values, options_of_enum, value_of, enum_of}
-use Rattle.protobuf_parse_elaboration.specs.Services.{methods_in, options_of_service, options_of_method}
-use Rattle.protobuf_parse_elaboration.specs.Services.{method_of, service_of}
+use Rattle.protobuf_parse_elaboration.specs.Services.{methods_in, options_of_service}
+use Rattle.protobuf_parse_elaboration.specs.Services.{options_of_method, method_of, service_of}
 use Rattle.protobuf_parse_elaboration.specs.Messages as messages
 use Rattle.protobuf_parse_elaboration.specs.Messages.{entries_of, messages_behind, own_oneof}
 use Rattle.protobuf_parse_elaboration.specs.Messages.{has_own_oneof, oneof_of, options_in_oneof}
 use Rattle.protobuf_parse_elaboration.specs.Messages.{at_oneof, fields_of, fields_from, extending}
-use Rattle.protobuf_parse_elaboration.specs.Messages.{options_of_body, message_from, nested_of, nested_in}
-use Rattle.protobuf_parse_elaboration.specs.Messages.{oneofs_of}
+use Rattle.protobuf_parse_elaboration.specs.Messages.{options_of_body, message_from, nested_of}
+use Rattle.protobuf_parse_elaboration.specs.Messages.{nested_in, oneofs_of}
 use Rattle.protobuf_parse_elaboration.specs.FileDescriptor as files
 use Rattle.protobuf_parse_elaboration.specs.FileDescriptor.{options_of_statements, environment}
 use Rattle.protobuf_parse_elaboration.specs.FileDescriptor.{file_messages_of, services_of, file_of}
 use Rattle.protobuf_parse_elaboration.specs.OptionSets.{OptionSet, a_set, sets_in_group, field_sets}
-use Rattle.protobuf_parse_elaboration.specs.OptionSets.{oneof_sets, extend_sets, value_set, enum_sets}
-use Rattle.protobuf_parse_elaboration.specs.OptionSets.{method_set, service_sets}
+use Rattle.protobuf_parse_elaboration.specs.OptionSets.{oneof_sets, extend_sets, value_set}
+use Rattle.protobuf_parse_elaboration.specs.OptionSets.{enum_sets, method_set, service_sets}
 use Rattle.protobuf_parse_run.specs.StandingBytes.{IsStated, HeldBytes, held, held_in_field}
 use Rattle.protobuf_parse_run.specs.StandingBytes.{held_in_oneof, held_in_value, held_in_enum}
 use Rattle.protobuf_parse_run.specs.StandingBytes.{held_in_message, held_in_messages}
 use Rattle.protobuf_parse_run.specs.StandingBytes.{held_in_method, held_in_service, held_in_file}
 use Rattle.protobuf_parse_run.specs.StandingBytes.{stated, held_by_set, held_behind_map}
 use Rattle.protobuf_parse_run.specs.StandingBytes.{OptionsStand, NoOthersStand, SetsStandOnce}
-use Rattle.protobuf_parse_elaboration.specs.OptionSets.{sets_of, sets_in, statement_sets, option_sets}
+use Rattle.protobuf_parse_elaboration.specs.OptionSets.{sets_of, sets_in, statement_sets}
+use Rattle.protobuf_parse_elaboration.specs.OptionSets.{option_sets}
 use Rattle.protobuf_parse_elaboration.proofs.EachOne.{all-among, all-from}
 use Rattle.protobuf_parse_run.proofs.StandingBytes.{in_none, among_parts}
 
@@ -490,7 +490,8 @@ more_held env index s ss ms xs ys a b =
     (held_in_statement env index s
     ++ held_in_body env (index + length (oneofs_of env s)) ss ms)
     (held_in_body env index (s ∷ ss) (nested_of env s ++ ms))
-    (parts_sorted env.scope (fields_of env index s) _ (oneofs_of env s) _ (messages.enums_of env s) _
+    (parts_sorted env.scope (fields_of env index s) _ (oneofs_of env s) _
+    (messages.enums_of env s) _
     (messages.extended_of env s) _ (nested_of env s) ms)
     (both_held env.customs xs ys _ _ a b)
 
@@ -544,7 +545,8 @@ mutual
   statement_held env index (message_extend e) =
       extensions_held env (extending env e.extendee) e.fields
   statement_held env index (message_enum e) =
-      equal_held env.customs _ _ _ (enum_parted (held_in_enum env.scope (enum_of env e))) (enum_held env e)
+      equal_held env.customs _ _ _ (enum_parted (held_in_enum env.scope (enum_of env e)))
+      (enum_held env e)
   statement_held env index _ = none_held env.customs
 
   -- a body
@@ -594,7 +596,8 @@ file_statement_held env (file_message m) =
     let behind = flat_map (held_in_message env.scope) (nested_of env (nested_message m)) in
     equal_held env.customs _ _ _ (first_parted behind) (statement_held env 0 (nested_message m))
 file_statement_held env (file_enum e) =
-    equal_held env.customs _ _ _ (enum_parted (held_in_enum env.scope (enum_of env e))) (enum_held env e)
+    equal_held env.customs _ _ _ (enum_parted (held_in_enum env.scope (enum_of env e)))
+    (enum_held env e)
 file_statement_held env (file_extend e) =
     let ones = flat_map (held_in_field env.scope)
     (map (field_statement_of env (extending env e.extendee)) e.fields) in
@@ -610,7 +613,8 @@ file_statement_held env _ = none_held env.customs
 
 file_statements_held : (env : Environment) (ss : List StatementSyntax)
     → HeldFor env.customs (flat_map (statement_sets env.scope) ss)
-    (held_in_all env.scope (flat_map (file_messages_of env) ss) (flat_map (files.file_enums_of env) ss)
+    (held_in_all env.scope (flat_map (file_messages_of env) ss)
+    (flat_map (files.file_enums_of env) ss)
     (flat_map (services_of env) ss) (flat_map (files.file_extensions_of env) ss))
 file_statements_held env [] = none_held env.customs
 file_statements_held env (s ∷ ss) =

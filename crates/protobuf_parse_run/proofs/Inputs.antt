@@ -51,7 +51,8 @@ module _ (gathers : Bool) (legal : Legal) (files : Files) where
   })
 
   stops-after : (kept : List Event) (is : List Input) (log : List ReadEntry) (f : RunFault)
-      → Stops gathers legal files kept log f → Stops gathers legal files (events_after files.trees kept is) log f
+      → Stops gathers legal files kept log f
+      → Stops gathers legal files (events_after files.trees kept is) log f
   unfolding events_after
   stops-after kept [] log f h = h
   stops-after kept (i ∷ is) log f h =
@@ -76,7 +77,8 @@ module _ (gathers : Bool) (legal : Legal) (files : Files) where
       (f : RunFault) → inputs ≡ done ++ i ∷ rest
       → Stops gathers legal files
       (keep (events files.trees done ++ checks (events files.trees done) i)
-      (input_walk files.trees i)) log f → Stops gathers legal files (events files.trees inputs) log f
+      (input_walk files.trees i)) log f
+      → Stops gathers legal files (events files.trees inputs) log f
   inputs-stop inputs done rest i log f is h =
       let one = subst (λ (z : List Event). Stops gathers legal files z log f)
       (sym (events-one files.trees (events files.trees done) i)) h in
@@ -106,23 +108,27 @@ module _ (gathers : Bool) (legal : Legal) (files : Files) where
       → Stops gathers legal files (keep base (input_walk files.trees i)) log f
       → Stops gathers legal files (keep (kept ++ checks kept v) (input_walk files.trees v)) log f
   input-stops kept base i v log f is b stops =
-      rw is (subst (λ (z : List Event). Stops gathers legal files (keep z (input_walk files.trees i)) log f)
+      rw is (subst (λ (z : List Event). Stops gathers legal files
+      (keep z (input_walk files.trees i)) log f)
       b stops)
 
   input-goes : (kept base : List Event) (i v : Input) (loaded : List LoadedEntry)
       (log : List ReadEntry)
       → v ≡ i → base ≡ kept ++ checks kept i
       → Good gathers legal files (keep base (input_walk files.trees i)) loaded log []
-      → Good gathers legal files (keep (kept ++ checks kept v) (input_walk files.trees v)) loaded log []
+      → Good gathers legal files (keep (kept ++ checks kept v)
+      (input_walk files.trees v)) loaded log []
   input-goes kept base i v loaded log is b good =
       rw is (subst
-      (λ (z : List Event). Good gathers legal files (keep z (input_walk files.trees i)) loaded log []) b
+      (λ (z : List Event). Good gathers legal files
+      (keep z (input_walk files.trees i)) loaded log []) b
       good)
 
   pub input-ends : (r : Result (Unit {0}) RunFault) (kept base : List Event) (i v : Input)
       (loaded : List LoadedEntry) (log : List ReadEntry) → v ≡ i → base ≡ kept ++ checks kept i
       → Goes gathers legal files (keep base (input_walk files.trees i)) loaded log r
-      → Goes gathers legal files (keep (kept ++ checks kept v) (input_walk files.trees v)) loaded log r
+      → Goes gathers legal files (keep (kept ++ checks kept v)
+      (input_walk files.trees v)) loaded log r
   input-ends (Ok done) kept base i v loaded log is b h = input-goes kept base i v loaded log is b h
   input-ends (Err f) kept base i v loaded log is b h = input-stops kept base i v log f is b h
 
@@ -130,7 +136,8 @@ module _ (gathers : Bool) (legal : Legal) (files : Files) where
       → Stops gathers legal files (kept ++ checks kept i) log f
       → Stops gathers legal files (keep (kept ++ checks kept v) (input_walk files.trees v)) log f
   check-stops kept i v log f is h =
-      rw is (stops-more gathers legal files (kept ++ checks kept i) (input_walk files.trees i) log f h)
+      rw is (stops-more gathers legal files (kept ++ checks kept i)
+      (input_walk files.trees i) log f h)
 
   -- an input whose path isn't loaded is not checked
   pub no-check : (kept : List Event) (loaded : List LoadedEntry) (log : List ReadEntry)

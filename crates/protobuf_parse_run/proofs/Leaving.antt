@@ -18,10 +18,9 @@ use Rattle.protobuf_parse_run.specs.declared.log.ReadEntry.{ReadEntry}
 use Rattle.protobuf_parse_run.specs.declared.log.ReadOutcome.{ReadOutcome}
 use Rattle.protobuf_parse_run.specs.Walks.{Asked, Event, load, keep, among, walk}
 use Rattle.protobuf_parse_run.specs.Run.{Files, IsTheTree, StandsThere, StandsInCycle, Legal}
-use Rattle.protobuf_parse_run.specs.Run.{StandsInLong}
-use Rattle.protobuf_parse_run.specs.Run.{StandsInLoad, StandsInElab, text_given, is_nothing}
-use Rattle.protobuf_parse_run.specs.Loading.{LoadedEntry, IsElabFault, file_at, Grows, Good}
-use Rattle.protobuf_parse_run.specs.Loading.{Stops}
+use Rattle.protobuf_parse_run.specs.Run.{StandsInLong, StandsInLoad, StandsInElab, text_given}
+use Rattle.protobuf_parse_run.specs.Run.{is_nothing}
+use Rattle.protobuf_parse_run.specs.Loading.{LoadedEntry, IsElabFault, file_at, Grows, Good, Stops}
 use Rattle.protobuf_parse_run.specs.Loading.{GoesOn, ReadsTree, IsPlaced, chain_texts}
 use Rattle.protobuf_parse_run.specs.Run.{OrMemory}
 use Rattle.protobuf_parse_run.proofs.Steps.{Grows-trans, room-is, breaks-now, stops-cycle}
@@ -127,14 +126,16 @@ module _ (gathers : Bool) (legal : Legal) (files : Files) where
       (f : RunFault) → GoesOn files table new → Good gathers legal files kept loaded log chain
       → among p chain ≡ false → file_at p loaded ≡ None → length chain < 100
       → ReadsTree legal table a p log new (Err f)
-      → Stops gathers legal files (keep kept (walk files.trees i a (100 - length chain) chain p)) new f
+      → Stops gathers legal files (keep kept
+      (walk files.trees i a (100 - length chain) chain p)) new f
   leaves-read table kept loaded log new chain i a p f go g off none lt (inr (m, same)) =
       rw same (breaks-now gathers legal files kept
       (walk files.trees i a (100 - length chain) chain p) loaded log chain f g m)
   leaves-read table kept loaded log new chain i a p f go g off none lt (inl r) =
       let grown : Grows (log ++ r.0 ∷ []) files.reads =
       subst (λ (z : List ReadEntry). Grows z files.reads) r.1 go.reads in
-      let first = unread-first gathers legal files kept loaded log chain p r.0 g off none r.2 grown in
+      let first =
+      unread-first gathers legal files kept loaded log chain p r.0 g off none r.2 grown in
       let the = subst
       (λ (z : List (Text × Text)). IsTheTree (text_given z p (Some r.0.outcome)) None)
       (sym go.bundled) r.4 in

@@ -13,8 +13,7 @@ use Rattle.protobuf_parse_run.specs.declared.loader.LoadedAs.{LoadedAs}
 use Rattle.protobuf_parse_run.specs.declared.log.ReadEntry.{ReadEntry}
 use Rattle.protobuf_parse_run.specs.Walks.{Asked, Event, load, keep, among, import_paths, walk}
 use Rattle.protobuf_parse_run.specs.Run.{Files, Legal}
-use Rattle.protobuf_parse_run.specs.Loading.{LoadedEntry, GoesOn, Good, Grows, IsPlaced}
-use Rattle.protobuf_parse_run.specs.Loading.{ReadsTree}
+use Rattle.protobuf_parse_run.specs.Loading.{LoadedEntry, GoesOn, Good, Grows, IsPlaced, ReadsTree}
 use Rattle.protobuf_parse_run.specs.Loading.{Stops, file_at}
 use Rattle.protobuf_parse_run.specs.Frames.{IsNew, IsSame, Meets, StandsMet, done_in, owed}
 use Rattle.protobuf_parse_run.specs.Frames.{frame_path}
@@ -83,7 +82,8 @@ module _ (gathers : Bool) (legal : Legal) (files : Files) where
 
     -- memory ran out when it was read
     pub met-breaks : (i : Text) (f : RunFault) → length chain < 100 → f ≡ fault.Memory
-        → Stops gathers legal files (keep kept (walk files.trees i a (100 - length chain) chain p)) new f
+        → Stops gathers legal files (keep kept
+        (walk files.trees i a (100 - length chain) chain p)) new f
     met-breaks i f lt m =
         let rest = owed files.trees i chain p (import_paths (file_syntax tree)) in
         let e : keep kept (walk files.trees i a (100 - length chain) chain p)
@@ -96,11 +96,13 @@ module _ (gathers : Bool) (legal : Legal) (files : Files) where
 
 -- ** the input is met on the empty chain
 
-pub first-meets : (gathers : Bool) (legal : Legal) (files : Files) (kept : List Event) (i : Text) (a : Asked)
+pub first-meets : (gathers : Bool) (legal : Legal) (files : Files) (kept : List Event) (i : Text)
+    (a : Asked)
     (chain : List Text) (loaded : List LoadedEntry) (log new : List ReadEntry)
     (r : Result Met RunFault)
     → chain ≡ [] → Good gathers legal files kept loaded log []
-    → (Good gathers legal files kept loaded log chain → Meets gathers legal files kept i a chain i loaded new r)
+    → (Good gathers legal files kept loaded log chain
+    → Meets gathers legal files kept i a chain i loaded new r)
     → Meets gathers legal files kept i a [] i loaded new r
 first-meets gathers legal files kept i a chain loaded log new r none g gives =
     subst (λ (z : List Text). Good gathers legal files kept loaded log z

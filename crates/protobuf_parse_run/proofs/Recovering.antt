@@ -34,13 +34,11 @@ use Rattle.protobuf_parse_options.proofs.WithoutOptions.{customs_are_options}
 use Rattle.protobuf_parse_options.proofs.WithoutOptions.{customs_make_no_difference}
 use Rattle.protobuf_parse_options.proofs.WithoutOptions.{meaning_ignores_options}
 use Rattle.protobuf_parse_run.specs.Walks.{Input, Reaches}
-use Rattle.protobuf_parse_run.specs.Run.{Files, IsTree, Legal}
-use Rattle.protobuf_parse_run.specs.Run.{RunsAsTold}
-use Rattle.protobuf_parse_run.specs.Run.{environment_of, plain_environments, plains_at}
-use Rattle.protobuf_parse_run.specs.Run.{text_read}
+use Rattle.protobuf_parse_run.specs.Run.{Files, IsTree, Legal, RunsAsTold, environment_of}
+use Rattle.protobuf_parse_run.specs.Run.{plain_environments, plains_at, text_read}
 use Rattle.protobuf_parse_run.specs.Recovered.{HoldsOptions, IsReadBack, OptionsAreHeld, bytes_in}
-use Rattle.protobuf_parse_run.specs.Recovered.{AreFilesTogether, AreNumberedApart}
-use Rattle.protobuf_parse_run.specs.Recovered.{denoted_in, handed_out}
+use Rattle.protobuf_parse_run.specs.Recovered.{AreFilesTogether, AreNumberedApart, denoted_in}
+use Rattle.protobuf_parse_run.specs.Recovered.{handed_out}
 use Rattle.protobuf_parse_run.specs.Stability.{IsClean, IsFileOfRun, WereRead, order}
 use Rattle.protobuf_parse_run.specs.declared.fault.RunFault.{RunFault}
 use Rattle.protobuf_parse_run.specs.declared.log.ReadEntry.{ReadEntry}
@@ -57,7 +55,8 @@ small-bytes bytes = omega (arith, bytes.ok.0, bytes.ok.1, bytes.small)
 module _ (files : Files) (inputs : List Input) (clean : IsClean files inputs)
     (read : WereRead files) where
   -- a file that a file of the run reaches is one of the run
-  pub reached-file : (p q : Text) → IsFileOfRun files.trees inputs p → among q (files.reached p) ≡ true
+  pub reached-file : (p q : Text) → IsFileOfRun files.trees inputs p → among q (files.reached p)
+      ≡ true
       → IsFileOfRun files.trees inputs q
   reached-file p q m h = reached-is files inputs clean p q ((read.listed.reaches p).only q h) m
 

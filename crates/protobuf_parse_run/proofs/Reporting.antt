@@ -1,6 +1,6 @@
 -- What a check promises, from what its loading left.
-use Rattle.std.proofs.Common.{◌≡◌, ◌⊎◌, inl, inr, true, List, [], ◌∷◌, map}
-use Rattle.std.proofs.Common.{refl, sym, ◌∙◌, ap, append-nil}
+use Rattle.std.proofs.Common.{◌≡◌, ◌⊎◌, inl, inr, true, List, [], ◌∷◌, map, refl, sym, ◌∙◌, ap}
+use Rattle.std.proofs.Common.{append-nil}
 use Rattle.std.specs.Prelude.{string_bytes}
 use Rattle.std.specs.List.{AllByRecursion}
 use Rattle.protobuf_parse_run.specs.declared.fault.RunFault.{RunFault}
@@ -9,8 +9,8 @@ use Rattle.protobuf_parse_run.specs.declared.log.FileReport.{FileReport}
 use Rattle.protobuf_parse_run.specs.declared.log.ReadEntry.{ReadEntry}
 use Rattle.protobuf_parse_run.specs.Walks.{Event, until}
 use Rattle.protobuf_parse_run.specs.Checks.{AreReports, CheckIsBroken, CheckIsEnded, IsWholeCheck}
-use Rattle.protobuf_parse_run.specs.Loading.{Good, IsLoaded, LoadedEntry, Stops, paths_of, report_in}
-use Rattle.protobuf_parse_run.specs.Loading.{tree_in}
+use Rattle.protobuf_parse_run.specs.Loading.{Good, IsLoaded, LoadedEntry, Stops, paths_of}
+use Rattle.protobuf_parse_run.specs.Loading.{report_in, tree_in}
 use Rattle.protobuf_parse_run.specs.Run.{Files, Legal, ends}
 use Rattle.protobuf_parse_run.proofs.Telling.{find-after, until-after}
 

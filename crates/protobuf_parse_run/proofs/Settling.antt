@@ -1,9 +1,9 @@
 -- What a file becomes over numbered files is what it becomes over the files that it reaches and
 -- sees, however these are listed.
-use Rattle.std.proofs.Common.{◌≡◌, ◌⊎◌, ℕ, zero, suc, ◌≤◌, Bool, true, false, not, ◌||◌, inl}
-use Rattle.std.proofs.Common.{inr, List, [], ◌∷◌, ◌++◌, flat_map, map, Option, Some}
-use Rattle.std.proofs.Common.{None, option_map, refl, sym, ◌∙◌, ap, subst, arith, Result, Ok, Err}
-use Rattle.std.proofs.Common.{append_assoc, Contains}
+use Rattle.std.proofs.Common.{◌≡◌, ◌⊎◌, ℕ, zero, suc, ◌≤◌, Bool, true, false, not, ◌||◌, inl, inr}
+use Rattle.std.proofs.Common.{List, [], ◌∷◌, ◌++◌, flat_map, map, Option, Some, None, option_map}
+use Rattle.std.proofs.Common.{refl, sym, ◌∙◌, ap, subst, arith, Result, Ok, Err, append_assoc}
+use Rattle.std.proofs.Common.{Contains}
 use Rattle.std.specs.Prelude.{bytes_eq, if◌then◌else◌, slice_get, option_to_list, string_bytes}
 use Rattle.std.specs.List.{AllByRecursion, list_any}
 use Rattle.std.specs.List.Sorted.{IsStrictlyIncreasing}
@@ -22,26 +22,23 @@ use Rattle.protobuf_parse_model.specs.Tables.{picked}
 use Rattle.protobuf_parse_model.proofs.Picks.{Rises, rises}
 use Rattle.protobuf_parse_elaboration.specs.FileDescriptor.{environment, file_faults, file_of}
 use Rattle.protobuf_parse_run.specs.declared.tables.Tables.{Tables}
-use Rattle.protobuf_parse_elaboration.specs.FilesByPath.{AreDistinct, AreJust, leads, stays, trees_at}
+use Rattle.protobuf_parse_elaboration.specs.FilesByPath.{AreDistinct, AreJust, leads, stays}
+use Rattle.protobuf_parse_elaboration.specs.FilesByPath.{trees_at}
 use Rattle.protobuf_parse_elaboration.proofs.Orders.{SameMembers, just-same, link-none, link-told}
 use Rattle.protobuf_parse_elaboration.proofs.Orders.{types-same}
 use Rattle.protobuf_parse_options.specs.OptionBytes.{known_customs}
 use Rattle.protobuf_parse_run.specs.Walks.{Trees, Reaches, HandsOn, Sees, sees_itself, by_import}
-use Rattle.protobuf_parse_run.specs.Walks.{among}
-use Rattle.protobuf_parse_run.specs.Walks.{import_paths}
+use Rattle.protobuf_parse_run.specs.Walks.{among, import_paths}
 use Rattle.protobuf_parse_run.specs.Run.{Files, FilesAreListed, StandsInElab, customs_of}
-use Rattle.protobuf_parse_run.specs.Run.{environment_of}
-use Rattle.protobuf_parse_run.specs.Run.{ending_faults, faults_at, is_faulty, is_nothing}
-use Rattle.protobuf_parse_run.specs.Run.{origin_given, own_faults, plain_of, plains_at, report_at}
+use Rattle.protobuf_parse_run.specs.Run.{environment_of, ending_faults, faults_at, is_faulty}
+use Rattle.protobuf_parse_run.specs.Run.{is_nothing, origin_given, own_faults, plain_of, plains_at}
+use Rattle.protobuf_parse_run.specs.Run.{report_at}
 use Rattle.protobuf_parse_run.specs.Loading.{Agrees, AreJoined, AreKnown, FilesAreNumbered}
-use Rattle.protobuf_parse_run.specs.Loading.{AreNumbersOf}
-use Rattle.protobuf_parse_run.specs.Loading.{LoadedEntry, IsLoaded, IsNumbered, Named}
-use Rattle.protobuf_parse_run.specs.Loading.{Settles}
-use Rattle.protobuf_parse_run.specs.Loading.{SettlesOver, any_faulty, customs_over, ending_over}
-use Rattle.protobuf_parse_run.specs.Loading.{faults_over, file_at, has_faults, own_over, report_over}
-use Rattle.protobuf_parse_run.specs.Loading.{file_over}
-use Rattle.protobuf_parse_run.specs.Loading.{named_trees, paths_in, picked_plains, plain_in}
-use Rattle.protobuf_parse_run.specs.Loading.{plain_over}
+use Rattle.protobuf_parse_run.specs.Loading.{AreNumbersOf, LoadedEntry, IsLoaded, IsNumbered, Named}
+use Rattle.protobuf_parse_run.specs.Loading.{Settles, SettlesOver, any_faulty, customs_over}
+use Rattle.protobuf_parse_run.specs.Loading.{ending_over, faults_over, file_at, has_faults}
+use Rattle.protobuf_parse_run.specs.Loading.{own_over, report_over, file_over, named_trees}
+use Rattle.protobuf_parse_run.specs.Loading.{paths_in, picked_plains, plain_in, plain_over}
 use Rattle.protobuf_parse_run.specs.Loading.{plains_next, tree_in, trees_of, with_next}
 use Rattle.protobuf_parse_run.specs.declared.fault.RunFault.{RunFault}
 use Rattle.protobuf_parse_run.specs.declared.fault.RunFault.TheVariants as fault
@@ -51,8 +48,7 @@ use Rattle.protobuf_parse_run.specs.declared.reach.Held.TheVariants as held_as
 use Rattle.protobuf_parse_run.proofs.Keeping.{or_cases, or_left, or_right, among-append, text-same}
 use Rattle.protobuf_parse_run.proofs.Keeping.{text-true}
 use Rattle.protobuf_parse_run.proofs.Knowing.{agrees-push, next-trees, leads-out, once-push}
-use Rattle.protobuf_parse_run.proofs.Knowing.{sees-out}
-use Rattle.protobuf_parse_run.proofs.Knowing.{sees-reaches}
+use Rattle.protobuf_parse_run.proofs.Knowing.{sees-out, sees-reaches}
 use Rattle.protobuf_parse_run.proofs.Numbers.{name_of, numbers-joined, only-one}
 use Rattle.protobuf_parse_run.proofs.Steps.{get-more}
 use Rattle.protobuf_parse_run.proofs.Faulty.{any-number, any-text, at-end, entry-at, faulty-entry}
@@ -131,7 +127,8 @@ plains-are files named (n ∷ ns) agrees =
     ∙ sym (plains_at-append files at (paths_by named ns))
 
 -- the loaded files have the descriptors of their trees
-pub plains-made : (gathers : Bool) (files : Files) (log : List ReadEntry) (loaded : List LoadedEntry)
+pub plains-made : (gathers : Bool) (files : Files) (log : List ReadEntry)
+    (loaded : List LoadedEntry)
     → AllByRecursion (λ (e : LoadedEntry). IsLoaded gathers files log (string_bytes e.0) e.1) loaded
     → map plain_in loaded ≡ map (described_by files) (named_trees loaded)
 plains-made gathers files log [] made = refl
@@ -587,13 +584,15 @@ stands-more origin firsts others (fault.Memory) more s = absurd s
 stands-more origin firsts others _ more s = absurd s
 
 -- what an elaboration over numbered files leaves
-pub settled-in : (gathers : Bool) (files : Files) (loaded new : List LoadedEntry) (tables after : Tables) (p : Text)
+pub settled-in : (gathers : Bool) (files : Files) (loaded new : List LoadedEntry)
+    (tables after : Tables) (p : Text)
     (t : FileSyntax) (height read : ℕ) (below public : List ℕ) (log : List ReadEntry)
     (r : Result LoadedAs RunFault)
     → IsNext files loaded tables log p t below
     → SettlesOver gathers p t height read below public log loaded new after r
     → Settles gathers files p t height read log loaded new r
-settled-in gathers files loaded new tables after p t height read below public log (Ok placed) n over =
+settled-in gathers files loaded new tables after p t height read below public log
+    (Ok placed) n over =
     λ missing.
     let a = over missing in
     let reach = a.file.reach.items in
@@ -636,7 +635,8 @@ settled-in gathers files loaded new tables after p t height read below public lo
     ]
 
 -- the loaded files have the trees of their paths
-pub agrees-made : (gathers : Bool) (files : Files) (log : List ReadEntry) (loaded : List LoadedEntry)
+pub agrees-made : (gathers : Bool) (files : Files) (log : List ReadEntry)
+    (loaded : List LoadedEntry)
     → AllByRecursion (λ (e : LoadedEntry). IsLoaded gathers files log (string_bytes e.0) e.1) loaded
     → Agrees files.trees (named_trees loaded)
 agrees-made gathers files log [] made n q u h = cc

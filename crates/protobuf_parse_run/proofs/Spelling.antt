@@ -1,6 +1,7 @@
 -- What custom options add to a file: faults beside its others, and bytes in its descriptor.
-use Rattle.std.proofs.Common.{arith, length, ◌≡◌, ◌++◌, ◌||◌, not, inl, inr, ℕ, Bool, true, map, List, [], ◌∷◌, flat_map, Some, None}
-use Rattle.std.proofs.Common.{Ok, Err, refl, ◌∙◌, ap, sym, subst, false}
+use Rattle.std.proofs.Common.{arith, length, ◌≡◌, ◌++◌, ◌||◌, not, inl, inr, ℕ, Bool, true, map}
+use Rattle.std.proofs.Common.{List, [], ◌∷◌, flat_map, Some, None, Ok, Err, refl, ◌∙◌, ap, sym}
+use Rattle.std.proofs.Common.{subst, false}
 use Rattle.std.specs.Global.{Vec}
 use Rattle.std.specs.Prelude.{if◌then◌else◌, vec_len, OnOk, Result}
 use Rattle.std.specs.Bool.{◌==◌}

@@ -2,8 +2,7 @@
 use Rattle.std.proofs.Common.{◌≡◌, ℕ, ◌+◌, List, [], ◌∷◌, ◌++◌, map, flat_map, length, Option, Some}
 use Rattle.std.proofs.Common.{None, refl, sym, ap, ◌∙◌, inl, inr, ◌⊎◌, suc}
 use Rattle.protobuf_parse_syntax.specs.Trees.{OptionSyntax, FieldSyntax, FieldStatementSyntax}
-use Rattle.protobuf_parse_syntax.specs.Trees.{field}
-use Rattle.protobuf_parse_syntax.specs.Trees.{group, TypeSyntax, scalar, map_of, named}
+use Rattle.protobuf_parse_syntax.specs.Trees.{field, group, TypeSyntax, scalar, map_of, named}
 use Rattle.protobuf_parse_syntax.specs.Trees.{EnumValueSyntax, EnumSyntax, MessageStatementSyntax}
 use Rattle.protobuf_parse_syntax.specs.Trees.{message_oneof, message_extend, message_message}
 use Rattle.protobuf_parse_syntax.specs.Trees.{message_enum, message_field, MessageStatementList}
@@ -12,9 +11,8 @@ use Rattle.protobuf_parse_syntax.specs.Trees.{MethodSyntax, ServiceSyntax, State
 use Rattle.protobuf_parse_syntax.specs.Trees.{file_message, file_enum, file_extend, file_service}
 use Rattle.protobuf_parse_syntax.specs.Trees.{FileSyntax}
 use Rattle.protobuf_parse_model.specs.declared.customs.Construct.TheVariants as of
-use Rattle.protobuf_parse_model.specs.Descriptors.{Text, MessageDescriptor, MessageParts}
-use Rattle.protobuf_parse_model.specs.Descriptors.{a_message, messages_list}
-use Rattle.protobuf_parse_model.specs.Descriptors.{list_of_is, FieldDescriptor}
+use Rattle.protobuf_parse_model.specs.Descriptors.{Text, MessageDescriptor, MessageParts, a_message}
+use Rattle.protobuf_parse_model.specs.Descriptors.{messages_list, list_of_is, FieldDescriptor}
 use Rattle.protobuf_parse_model.specs.Descriptors.{EnumDescriptor, EnumValueDescriptor}
 use Rattle.protobuf_parse_model.specs.Descriptors.{ServiceDescriptor, MethodDescriptor}
 use Rattle.protobuf_parse_model.specs.Descriptors.{OneofDescriptor, FileDescriptor}
@@ -25,20 +23,20 @@ use Rattle.protobuf_parse_model.specs.Declarations.{Scope, inside, full_name}
 use Rattle.protobuf_parse_model.specs.Environment.{Environment, Customs, env_inside}
 use Rattle.protobuf_parse_elaboration.specs.Fields.{FieldPlace, plain, field_of, field_statement_of}
 use Rattle.protobuf_parse_elaboration.specs.Enums.{enum_values, options_of_enum, value_of, enum_of}
-use Rattle.protobuf_parse_elaboration.specs.Services.{methods_in, options_of_service, options_of_method}
-use Rattle.protobuf_parse_elaboration.specs.Services.{method_of, service_of}
+use Rattle.protobuf_parse_elaboration.specs.Services.{methods_in, options_of_service}
+use Rattle.protobuf_parse_elaboration.specs.Services.{options_of_method, method_of, service_of}
 use Rattle.protobuf_parse_elaboration.specs.Messages as messages
-use Rattle.protobuf_parse_elaboration.specs.Messages.{entries_of, messages_behind}
-use Rattle.protobuf_parse_elaboration.specs.Messages.{options_in_oneof, oneofs_of, at_oneof}
-use Rattle.protobuf_parse_elaboration.specs.Messages.{fields_of, fields_from, extending, options_of_body}
-use Rattle.protobuf_parse_elaboration.specs.Messages.{message_from, nested_of, nested_in}
+use Rattle.protobuf_parse_elaboration.specs.Messages.{entries_of, messages_behind, options_in_oneof}
+use Rattle.protobuf_parse_elaboration.specs.Messages.{oneofs_of, at_oneof, fields_of, fields_from}
+use Rattle.protobuf_parse_elaboration.specs.Messages.{extending, options_of_body, message_from}
+use Rattle.protobuf_parse_elaboration.specs.Messages.{nested_of, nested_in}
 use Rattle.protobuf_parse_elaboration.specs.FileDescriptor as files
 use Rattle.protobuf_parse_elaboration.specs.FileDescriptor.{options_of_statements, environment}
 use Rattle.protobuf_parse_elaboration.specs.FileDescriptor.{file_messages_of, services_of, file_of}
 use Rattle.protobuf_parse_elaboration.specs.OptionSets.{OptionSet, a_set, sets_in_group, field_sets}
 use Rattle.protobuf_parse_elaboration.specs.OptionSets.{value_set, enum_sets, sets_of, sets_in}
-use Rattle.protobuf_parse_elaboration.specs.OptionSets.{method_set, service_sets}
-use Rattle.protobuf_parse_elaboration.specs.OptionSets.{statement_sets, option_sets}
+use Rattle.protobuf_parse_elaboration.specs.OptionSets.{method_set, service_sets, statement_sets}
+use Rattle.protobuf_parse_elaboration.specs.OptionSets.{option_sets}
 use Rattle.protobuf_parse_elaboration.specs.CustomSets.{bytes_of_set}
 use Rattle.protobuf_parse_run.specs.StandingBytes.{IsStated, BytesStand}
 use Rattle.protobuf_parse_run.proofs.Keeping.{first_same, rest_same}
@@ -250,7 +248,8 @@ module _ (one other : Customs) where
       (map (value_set env.scope (inside env.scope e.name)) (flat_map enum_values e.body))
       (λ stated. made_with (λ o. o.custom) _ _ (options_of_enum e) stated
       (ap (λ (d : EnumDescriptor). d.options) h))
-      (each_told (value_set env.scope (inside env.scope e.name)) (value_of (by_one env)) (value_of (by_other env))
+      (each_told (value_set env.scope (inside env.scope e.name)) (value_of (by_one env))
+      (value_of (by_other env))
       (λ (v : EnumValueSyntax) k stated. made_with (λ o. o.custom) _ _ v.options stated
       (ap (λ (d : EnumValueDescriptor). d.options) k))
       (flat_map enum_values e.body) (ap (λ (d : EnumDescriptor). d.value) h))
@@ -262,7 +261,8 @@ module _ (one other : Customs) where
       (map (method_set env.scope (inside env.scope s.name)) (flat_map methods_in s.body))
       (λ stated. made_with (λ o. o.custom) _ _ (options_of_service s) stated
       (ap (λ (d : ServiceDescriptor). d.options) h))
-      (each_told (method_set env.scope (inside env.scope s.name)) (method_of (by_one env)) (method_of (by_other env))
+      (each_told (method_set env.scope (inside env.scope s.name)) (method_of (by_one env))
+      (method_of (by_other env))
       (λ (m : MethodSyntax) k stated. made_with (λ o. o.custom) _ _ (options_of_method m) stated
       (ap (λ (d : MethodDescriptor). d.options) k))
       (flat_map methods_in s.body) (ap (λ (d : ServiceDescriptor). d.method) h))

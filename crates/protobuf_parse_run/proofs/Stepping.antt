@@ -1,7 +1,6 @@
 -- What the steps of loading do to a run at a stack of frames.
 use Rattle.protobuf_parse_run.specs.Run.{ends}
-use Rattle.std.specs.Prelude.{not}
-use Rattle.std.specs.Prelude.{Bool}
+use Rattle.std.specs.Prelude.{not, Bool}
 use Rattle.std.proofs.Common.{◌≡◌, ℕ, suc, ◌+◌, ◌-◌, ◌<◌, ◌≤◌, false, inl, inr, List, [], ◌∷◌, ◌++◌}
 use Rattle.std.proofs.Common.{Option, Some, None, Result, Ok, Err, refl, sym, ◌∙◌, ap, subst}
 use Rattle.std.proofs.Common.{append_assoc, append-nil, length, max, arith, take, slice_get}
@@ -22,25 +21,21 @@ use Rattle.protobuf_parse_run.specs.declared.loader.LoadedAs.{LoadedAs}
 use Rattle.protobuf_parse_run.specs.declared.log.ReadEntry.{ReadEntry}
 use Rattle.protobuf_parse_run.specs.declared.log.ReadOutcome.{ReadOutcome}
 use Rattle.protobuf_parse_run.specs.Walks.{Asked, the_resolver, Event, load, elab, keep, among}
-use Rattle.protobuf_parse_run.specs.Walks.{Trees}
-use Rattle.protobuf_parse_run.specs.Walks.{import_paths, walks_joined, import_statements, walk}
+use Rattle.protobuf_parse_run.specs.Walks.{Trees, import_paths, walks_joined, import_statements}
+use Rattle.protobuf_parse_run.specs.Walks.{walk}
 use Rattle.protobuf_parse_run.specs.Run.{Files, StandsInElab, ending_faults, environment_of}
 use Rattle.protobuf_parse_run.specs.Run.{first_read, is_nothing, own_faults, report_at}
 use Rattle.protobuf_parse_run.specs.Run.{origin_given, plain_of, Legal}
-use Rattle.protobuf_parse_run.specs.Loading.{AreKnown, FilesAreNumbered, LoadedEntry, GoesOn}
-use Rattle.protobuf_parse_run.specs.Loading.{Good, Grows}
-use Rattle.protobuf_parse_run.specs.Loading.{IsAdded, IsLoaded, Leaves, Settled, Settles}
-use Rattle.protobuf_parse_run.specs.Loading.{SettlesOver}
-use Rattle.protobuf_parse_run.specs.Loading.{Stops, Within, file_at, path_shape, imports_shape}
-use Rattle.protobuf_parse_run.specs.Loading.{named_trees}
+use Rattle.protobuf_parse_run.specs.Loading.{AreKnown, FilesAreNumbered, LoadedEntry, GoesOn, Good}
+use Rattle.protobuf_parse_run.specs.Loading.{Grows, IsAdded, IsLoaded, Leaves, Settled, Settles}
+use Rattle.protobuf_parse_run.specs.Loading.{SettlesOver, Stops, Within, file_at, path_shape}
+use Rattle.protobuf_parse_run.specs.Loading.{imports_shape, named_trees}
 use Rattle.protobuf_parse_run.specs.Frames.{IsHeld, IsNew, IsOpened, IsRunning, IsSame, IsTaken}
-use Rattle.protobuf_parse_run.specs.Frames.{Joined}
-use Rattle.protobuf_parse_run.specs.Frames.{chain_of, done_in, imports_in, later_in, left_in, owed}
-use Rattle.protobuf_parse_run.specs.Frames.{frame_path, to_meet, todo}
+use Rattle.protobuf_parse_run.specs.Frames.{Joined, chain_of, done_in, imports_in, later_in}
+use Rattle.protobuf_parse_run.specs.Frames.{left_in, owed, frame_path, to_meet, todo}
 use Rattle.protobuf_parse_run.proofs.Keeping.{among-last, has-left, keep-append, keep-fresh}
 use Rattle.protobuf_parse_run.proofs.Walking.{joined-append, settled-join, settled-more}
-use Rattle.protobuf_parse_run.proofs.Walking.{settled-same}
-use Rattle.protobuf_parse_run.proofs.Walking.{walk-load}
+use Rattle.protobuf_parse_run.proofs.Walking.{settled-same, walk-load}
 use Rattle.protobuf_parse_run.proofs.Steps.{breaks-now, get-grown, good-elab, halts-at, room-is}
 use Rattle.protobuf_parse_run.proofs.Steps.{stops-more}
 use Rattle.protobuf_parse_run.proofs.Leaving.{stands-failing}
@@ -152,7 +147,8 @@ held-joined files now log old new placed i q h at named s j =
       first = rw j.path_is h.first;
     }
 
-module _ (gathers : Bool) (legal : Legal) (files : Files) (kept events : List Event) (i : Text) (start : ℕ) where
+module _ (gathers : Bool) (legal : Legal) (files : Files) (kept events : List Event) (i : Text)
+    (start : ℕ) where
   abbrev pub Running : ℕ → List LoadFrame → LoadFrame → List LoadedEntry → List ReadEntry → Type 0
   Running meets stack top loaded log =
       IsRunning gathers legal files kept events i start meets stack top loaded log
@@ -232,7 +228,8 @@ module _ (gathers : Bool) (legal : Legal) (files : Files) (kept events : List Ev
       → slice_get old.tree.statements.items old.next ≡ Some (file_statement.Import im)
       → more ≡ meets + 1 → Grows log after
       → (Good gathers legal files r.now loaded log inner
-      → IsNew gathers legal files r.now the_resolver inner (path_buf_text im.path) loaded after frame)
+      → IsNew gathers legal files r.now the_resolver inner
+      (path_buf_text im.path) loaded after frame)
       → IsOpened inner (path_buf_text im.path) loaded log outer after frame
       → Running more (stack ++ old ∷ []) frame loaded after
   running-new stack old frame im meets more inner outer loaded log after r same at met grows gives
@@ -550,10 +547,12 @@ module _ (gathers : Bool) (legal : Legal) (files : Files) (kept events : List Ev
       omega (arith, a, b, e, r.count)
 
 -- the first file
-pub running-start : (gathers : Bool) (legal : Legal) (files : Files) (kept : List Event) (i : Text) (a : Asked)
+pub running-start : (gathers : Bool) (legal : Legal) (files : Files) (kept : List Event) (i : Text)
+    (a : Asked)
     (p : Text) (start meets : ℕ) (outer : List Text) (frame : LoadFrame) (loaded : List LoadedEntry)
     (log after : List ReadEntry) → meets ≡ start + 1
-    → IsNew gathers legal files kept a [] p loaded after frame → IsOpened [] p loaded log outer after frame
+    → IsNew gathers legal files kept a [] p loaded after frame
+    → IsOpened [] p loaded log outer after frame
     → IsRunning gathers legal files kept (keep kept (walk files.trees i a 100 [] p)) i start meets
     [] frame loaded after
 running-start gathers legal files kept i a p start meets outer frame loaded log after met k o =

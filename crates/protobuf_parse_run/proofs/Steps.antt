@@ -19,20 +19,18 @@ use Rattle.protobuf_parse_run.specs.declared.log.ReadEntry.{ReadEntry}
 use Rattle.protobuf_parse_run.specs.declared.log.ReadOutcome.{ReadOutcome}
 use Rattle.protobuf_parse_run.specs.Walks.{Asked, the_resolver, Event, cycle, long, load, elab, has}
 use Rattle.protobuf_parse_run.specs.Walks.{keep, among, import_paths, walk, FileRead, reads_in}
-use Rattle.protobuf_parse_run.specs.Run.{Files, HasTrees, ending_faults, IsTree, IsTheTree, text_given}
-use Rattle.protobuf_parse_run.specs.Run.{first_read, ends, AreAnswered, StandsThere, Legal}
-use Rattle.protobuf_parse_run.specs.Loading.{LoadedEntry, paths_of, file_at, read_paths}
-use Rattle.protobuf_parse_run.specs.Loading.{Grows}
+use Rattle.protobuf_parse_run.specs.Run.{Files, HasTrees, ending_faults, IsTree, IsTheTree}
+use Rattle.protobuf_parse_run.specs.Run.{text_given, first_read, ends, AreAnswered, StandsThere}
+use Rattle.protobuf_parse_run.specs.Run.{Legal}
+use Rattle.protobuf_parse_run.specs.Loading.{LoadedEntry, paths_of, file_at, read_paths, Grows}
 use Rattle.protobuf_parse_run.specs.Loading.{Settled, path_shape, imports_shape, IsLoaded, Good}
-use Rattle.protobuf_parse_run.specs.Loading.{Halts}
-use Rattle.protobuf_parse_run.specs.Loading.{Stops}
+use Rattle.protobuf_parse_run.specs.Loading.{Halts, Stops}
 use Rattle.protobuf_parse_run.specs.Run.{OrMemory}
 use Rattle.protobuf_parse_run.proofs.Keeping.{never_both, false_true, some_same, none_some}
-use Rattle.protobuf_parse_run.proofs.Keeping.{text-true}
-use Rattle.protobuf_parse_run.proofs.Keeping.{text-same, cycle-same, long-same, or_left, bool_cases}
-use Rattle.protobuf_parse_run.proofs.Keeping.{not_true, has-append, has-in, has-left, has-right}
-use Rattle.protobuf_parse_run.proofs.Keeping.{has-one, has-last, has-like, keep-extends, keep-all}
-use Rattle.protobuf_parse_run.proofs.Keeping.{keep-but_long, keep-fresh, reads_in-append}
+use Rattle.protobuf_parse_run.proofs.Keeping.{text-true, text-same, cycle-same, long-same, or_left}
+use Rattle.protobuf_parse_run.proofs.Keeping.{bool_cases, not_true, has-append, has-in, has-left}
+use Rattle.protobuf_parse_run.proofs.Keeping.{has-right, has-one, has-last, has-like, keep-extends}
+use Rattle.protobuf_parse_run.proofs.Keeping.{keep-all, keep-but_long, keep-fresh, reads_in-append}
 use Rattle.protobuf_parse_run.proofs.Keeping.{elab_paths-append, has-elab, among-last, among-left}
 use Rattle.protobuf_parse_run.proofs.Keeping.{among-in, find-none, clean-has, Apart-within}
 use Rattle.protobuf_parse_run.proofs.Walking.{lt_yes, lt_no, walk-on_chain, walk-no_room, walk-load}
@@ -154,7 +152,8 @@ module _ (gathers : Bool) (legal : Legal) (files : Files) where
 
   pub loaded-at : (p : Text) (e : LoadedFile) (log : List ReadEntry) (loaded : List LoadedEntry)
       → file_at p loaded ≡ Some e
-      → AllByRecursion (λ (x : LoadedEntry). IsLoaded gathers files log (string_bytes x.0) x.1) loaded
+      → AllByRecursion (λ (x : LoadedEntry). IsLoaded gathers files log
+      (string_bytes x.0) x.1) loaded
       → IsLoaded gathers files log p e
   loaded-at p e log [] h a = absurd (none_some e h)
   loaded-at p e log (x ∷ loaded) h a =
@@ -194,7 +193,8 @@ module _ (gathers : Bool) (legal : Legal) (files : Files) where
 
   pub good-load : (kept : List Event) (loaded : List LoadedEntry) (log : List ReadEntry)
       (chain : List Text) (a : Asked) (p : Text) (e : ReadEntry) (t : FileSyntax)
-      → Good gathers legal files kept loaded log chain → among p chain ≡ false → file_at p loaded ≡ None
+      → Good gathers legal files kept loaded log chain → among p chain ≡ false → file_at p loaded
+      ≡ None
       → path_buf_text e.path ≡ p → legal a p e.outcome → files.trees p ≡ Some t
       → Good gathers legal files (kept ++ load a p ∷ []) loaded (log ++ e ∷ []) (chain ++ p ∷ [])
   good-load kept loaded log chain a p e t g off none named ok is =
@@ -253,7 +253,8 @@ module _ (gathers : Bool) (legal : Legal) (files : Files) where
             g.elabs,
             named,
           ) refl;
-          clean = find-none (ends gathers files) kept (elab p ∷ []) g.clean (rw (is, faultless) refl);
+          clean = find-none (ends gathers files) kept (elab p ∷ []) g.clean
+              (rw (is, faultless) refl);
           settled = λ q x w. elim (entry-in q n x loaded w) [
             | inl v ↦ settled-more kept (kept ++ elab p ∷ []) x.height _ (g.settled q x v)
                 (λ x y. has-left x kept (elab p ∷ []) y)
@@ -281,7 +282,8 @@ module _ (gathers : Bool) (legal : Legal) (files : Files) where
 
   -- memory runs out
   pub breaks-now : (kept more : List Event) (loaded : List LoadedEntry) (log : List ReadEntry)
-      (chain : List Text) (f : RunFault) → Good gathers legal files kept loaded log chain → f ≡ fault.Memory
+      (chain : List Text) (f : RunFault) → Good gathers legal files kept loaded log chain → f
+      ≡ fault.Memory
       → Stops gathers legal files (keep kept more) log f
   breaks-now kept more loaded log chain f g m =
       let r = keep-extends kept more in
@@ -297,8 +299,10 @@ module _ (gathers : Bool) (legal : Legal) (files : Files) where
 
   pub halts-at : (kept : List Event) (loaded : List LoadedEntry) (log : List ReadEntry)
       (chain : List Text) (events : List Event) (e : Event) (f : RunFault)
-      → Good gathers legal files kept loaded log chain → ends gathers files e ≡ true → reads_in (e ∷ []) ≡ []
-      → events ≡ kept ++ e ∷ [] → StandsThere gathers files e f → Halts gathers legal files events log f
+      → Good gathers legal files kept loaded log chain → ends gathers files e ≡ true
+      → reads_in (e ∷ []) ≡ []
+      → events ≡ kept ++ e ∷ [] → StandsThere gathers files e f
+      → Halts gathers legal files events log f
   halts-at kept loaded log chain events e f g bad n is s = record {
     before = kept;
     event = e;
@@ -377,7 +381,8 @@ module _ (gathers : Bool) (legal : Legal) (files : Files) where
       (f : RunFault) → Good gathers legal files kept loaded log chain → among p chain ≡ false
       → file_at p loaded ≡ None → path_buf_text e.path ≡ p → legal a p e.outcome
       → files.trees p ≡ None → StandsThere gathers files (load a p) f
-      → Halts gathers legal files (keep kept (walk files.trees i a (suc room) chain p)) (log ++ e ∷ []) f
+      → Halts gathers legal files (keep kept (walk files.trees i a (suc room) chain p))
+      (log ++ e ∷ []) f
   halts-load kept loaded log chain i a room p e f g off none named ok is s =
       let u = unread kept loaded log chain p g off none in
       let w : walk files.trees i a (suc room) chain p ≡ load a p
@@ -396,7 +401,8 @@ module _ (gathers : Bool) (legal : Legal) (files : Files) where
       }
 
   pub unread-first : (kept : List Event) (loaded : List LoadedEntry) (log : List ReadEntry)
-      (chain : List Text) (p : Text) (e : ReadEntry) → Good gathers legal files kept loaded log chain
+      (chain : List Text) (p : Text) (e : ReadEntry)
+      → Good gathers legal files kept loaded log chain
       → among p chain ≡ false → file_at p loaded ≡ None → path_buf_text e.path ≡ p
       → Grows (log ++ e ∷ []) files.reads → first_read p files.reads ≡ Some e.outcome
   unread-first kept loaded log chain p e g off none named grown =
@@ -430,7 +436,8 @@ module _ (gathers : Bool) (legal : Legal) (files : Files) where
   -- the tree that was read is that of the path
   pub tree-read : (kept : List Event) (loaded : List LoadedEntry) (log : List ReadEntry)
       (chain : List Text) (p : Text) (e : ReadEntry) (t : Option FileSyntax)
-      → Good gathers legal files kept loaded log chain → among p chain ≡ false → file_at p loaded ≡ None
+      → Good gathers legal files kept loaded log chain → among p chain ≡ false → file_at p loaded
+      ≡ None
       → HasTrees files.bundled files.reads files.trees → Grows (log ++ e ∷ []) files.reads
       → path_buf_text e.path ≡ p → IsTheTree (text_given files.bundled p (Some e.outcome)) t
       → files.trees p ≡ t

@@ -18,9 +18,8 @@ use Rattle.protobuf_parse_run.specs.declared.loader.LoadedAs.{LoadedAs}
 use Rattle.protobuf_parse_run.specs.declared.log.ReadEntry.{ReadEntry}
 use Rattle.protobuf_parse_run.specs.Walks.{among, import_paths, public_path, public_paths}
 use Rattle.protobuf_parse_run.specs.Loading.{AreKnown, FilesAreNumbered, AreUnloaded, LoadedEntry}
-use Rattle.protobuf_parse_run.specs.Loading.{Grows}
-use Rattle.protobuf_parse_run.specs.Loading.{IsNumbered, MoreLoaded, Named, SettlesOver, file_at}
-use Rattle.protobuf_parse_run.specs.Loading.{named_trees, read_paths}
+use Rattle.protobuf_parse_run.specs.Loading.{Grows, IsNumbered, MoreLoaded, Named, SettlesOver}
+use Rattle.protobuf_parse_run.specs.Loading.{file_at, named_trees, read_paths}
 use Rattle.protobuf_parse_run.specs.Frames.{IsOpened, IsTaken, Joined, done_in, imports_in}
 use Rattle.protobuf_parse_run.specs.Frames.{is_public_at, number_if, frame_path, public_done}
 use Rattle.protobuf_parse_run.specs.Frames.{public_in}
@@ -166,7 +165,8 @@ pub record IsClosed (old new : List LoadedEntry) (tables : Tables) (log : List R
   pub number : IsNumbered (named_trees new) placed.number path
   pub unloaded : AreUnloaded chain new
 
-pub closed-is : (gathers : Bool) (f : LoadFrame) (old new : List LoadedEntry) (before after : Tables)
+pub closed-is : (gathers : Bool) (f : LoadFrame) (old new : List LoadedEntry)
+    (before after : Tables)
     (log : List ReadEntry) (chain : List Text) (placed : LoadedAs) → AreKnown old before log
     → IsTaken old log f → AreUnloaded (chain ++ frame_path f ∷ []) old
     → among (frame_path f) chain ≡ false → length f.tree.statements.items ≤ f.next

@@ -1,6 +1,6 @@
 -- What a run promises, from what its loading left.
-use Rattle.std.proofs.Common.{◌≡◌, Bool, true, false, ◌⊎◌, inl, inr, List, [], ◌∷◌, ◌++◌, map, Some, None}
-use Rattle.std.proofs.Common.{Result, Err, refl, sym, ◌∙◌, ap, append-nil, find, subst}
+use Rattle.std.proofs.Common.{◌≡◌, Bool, true, false, ◌⊎◌, inl, inr, List, [], ◌∷◌, ◌++◌, map, Some}
+use Rattle.std.proofs.Common.{None, Result, Err, refl, sym, ◌∙◌, ap, append-nil, find, subst}
 use Rattle.std.specs.Prelude.{IfErr, string_bytes}
 use Rattle.std.specs.Global.{Vec}
 use Rattle.std.specs.List.{AllByRecursion}
@@ -13,11 +13,9 @@ use Rattle.protobuf_parse_run.specs.declared.log.ReadOutcome.{ReadOutcome}
 use Rattle.protobuf_parse_run.specs.Walks.{the_resolver, Event, Input, named, events, until}
 use Rattle.protobuf_parse_run.specs.Run.{Files, AreDescriptors, HasTrees, IsAccepted, IsCaused}
 use Rattle.protobuf_parse_run.specs.Run.{RunIsRefused, IsBroken, MayRead, MayResolve, fails, Legal}
-use Rattle.protobuf_parse_run.specs.Run.{shipped}
-use Rattle.protobuf_parse_run.specs.Run.{HaveTrees, RunsAsTold, MayAnswer}
+use Rattle.protobuf_parse_run.specs.Run.{shipped, HaveTrees, RunsAsTold, MayAnswer}
 use Rattle.protobuf_parse_run.specs.Shipped.{IsNeverAsked, RunsByResolver, RunsWithShipped}
-use Rattle.protobuf_parse_run.specs.Loading.{LoadedEntry, Good, Stops, IsLoaded, paths_of}
-use Rattle.protobuf_parse_run.specs.Loading.{tree_in}
+use Rattle.protobuf_parse_run.specs.Loading.{LoadedEntry, Good, Stops, IsLoaded, paths_of, tree_in}
 use Rattle.protobuf_parse_base.specs.PathViews.{path_buf_text}
 use Rattle.protobuf_parse_base.specs.declared.proto_path.path.ProtoPathBuf.{ProtoPathBuf}
 use Rattle.protobuf_parse_run.proofs.AskedOnce.{all-asked-once, paths-named, told-of}

@@ -1,8 +1,8 @@
 -- No public clause rests on this file.
 -- What a call of the loader does, whatever is loaded: `old` is the loader before it, `new` the
 -- loader after it.
-use Rattle.std.specs.Prelude.{◌≡◌, ◌≤◌, ◌+◌, ◌*◌, ◌^◌, ◌++◌, ◌∷◌, ℕ, List, [], length, map}
-use Rattle.std.specs.Prelude.{Bool, Option, Result, IfOk, OnOk}
+use Rattle.std.specs.Prelude.{◌≡◌, ◌≤◌, ◌+◌, ◌*◌, ◌^◌, ◌++◌, ◌∷◌, ℕ, List, [], length, map, Bool}
+use Rattle.std.specs.Prelude.{Option, Result, IfOk, OnOk}
 use Rattle.std.specs.Borrow.{Bor}
 use Rattle.protobuf_parse_syntax.specs.Trees.{file_syntax}
 use Rattle.protobuf_parse_model.specs.Descriptors.{Text}
@@ -39,7 +39,8 @@ GoesTo may_answer may_read sources after old new result =
     → let legal = legal_by may_answer may_read sources in
     GoesOn files (rows sources.bundled.now) new.reads.items
     → Good sources.gathers legal files kept old.loaded.entries old.reads.items []
-    → Goes sources.gathers legal files (after files.trees kept) new.loaded.entries new.reads.items result
+    → Goes sources.gathers legal files
+    (after files.trees kept) new.loaded.entries new.reads.items result
 
 -- There it met one file more than the files that were loaded by it have import statements; no more
 -- than that, where it stopped.
@@ -125,7 +126,8 @@ MeetsAt may_answer may_read sources input asked path old new result =
     → Good sources.gathers legal files kept old.loaded.entries old.reads.items chain
     → Meets sources.gathers legal files kept input asked chain path old.loaded.entries new.reads.items result
 
--- What comes of meeting a file: nothing more is loaded, one meeting is counted, and at most one read
+-- What comes of meeting a file: nothing more is loaded, one meeting is counted, and at most one
+-- read
 -- is added.
 pub record MeetsFile {R I : Type 0} (may_answer : R → MayResolve) (may_read : I → MayRead)
     (sources : Sources R I) (input : Text) (asked : Asked) (path : Text) (old new : Loader)
@@ -149,6 +151,7 @@ pub record ClosesFrame (gathers : Bool) (frame : LoadFrame) (old new : Loader)
       → chain_texts new.chain.items ≡ chain
   pub height : IfOk result (λ placed. placed.height ≡ frame.height + 1)
   pub settles : TableTells old.tables.names (trees_of (named_trees old.loaded.entries))
-      → SettlesOver gathers (frame_path frame) (file_syntax frame.tree) (frame.height + 1) frame.read
+      → SettlesOver gathers (frame_path frame) (file_syntax frame.tree)
+      (frame.height + 1) frame.read
       frame.below.items frame.public.items old.reads.items old.loaded.entries new.loaded.entries
       new.tables result

@@ -25,9 +25,8 @@ use Rattle.protobuf_parse_run.specs.Walks.{Trees, walks_joined, public_paths_of,
 use Rattle.protobuf_parse_run.specs.Walks.{walk}
 use Rattle.protobuf_parse_run.specs.Run.{Files, first_read, Legal}
 use Rattle.protobuf_parse_run.specs.Loading.{LoadedEntry, FilesAreNumbered, Good, IsNumbered}
-use Rattle.protobuf_parse_run.specs.Loading.{Settled}
-use Rattle.protobuf_parse_run.specs.Loading.{Stops, file_at, path_shape, imports_shape, named_trees}
-use Rattle.protobuf_parse_run.specs.Loading.{read_paths}
+use Rattle.protobuf_parse_run.specs.Loading.{Settled, Stops, file_at, path_shape, imports_shape}
+use Rattle.protobuf_parse_run.specs.Loading.{named_trees, read_paths}
 
 abbrev pub frame_path : LoadFrame → Text
 frame_path f = string_bytes f.path
@@ -105,7 +104,8 @@ pub record IsHeld (files : Files) (now : List Event) (log : List ReadEntry)
 
 -- A run that ends with these events, at a stack. It met files so often, and at its beginning so
 -- often.
-pub record IsRunning (gathers : Bool) (legal : Legal) (files : Files) (kept events : List Event) (input : Text)
+pub record IsRunning (gathers : Bool) (legal : Legal) (files : Files) (kept events : List Event)
+    (input : Text)
     (start meets : ℕ) (stack : List LoadFrame) (top : LoadFrame) (loaded : List LoadedEntry)
     (log : List ReadEntry) : Type 0 where
   pub now : List Event
@@ -196,21 +196,24 @@ pub record IsSame (files : Files) (kept : List Event) (input : Text) (asked : As
   pub settled : Settled kept placed.height (path_shape files.trees path)
 
 -- a file that was read now
-pub record IsNew (gathers : Bool) (legal : Legal) (files : Files) (kept : List Event) (asked : Asked)
+pub record IsNew (gathers : Bool) (legal : Legal) (files : Files) (kept : List Event)
+    (asked : Asked)
     (chain : List Text) (path : Text) (loaded : List LoadedEntry) (log : List ReadEntry)
     (f : LoadFrame) : Type 0 where
   pub fresh : has (load asked path) kept ≡ false
   pub good : Good gathers legal files (kept ++ load asked path ∷ []) loaded log (chain ++ path ∷ [])
   pub held : IsHeld files (kept ++ load asked path ∷ []) log f
 
-abbrev pub Meets : Bool → Legal → Files → List Event → Text → Asked → List Text → Text → List LoadedEntry
+abbrev pub Meets : Bool → Legal → Files → List Event → Text → Asked → List Text → Text
+    → List LoadedEntry
     → List ReadEntry → Result Met RunFault → Type 0
 Meets gathers legal files kept input asked chain path loaded log (Ok (met.Loaded placed)) =
     Good gathers legal files kept loaded log chain × IsSame files kept input asked chain path placed
 Meets gathers legal files kept input asked chain path loaded log (Ok (met.Opened frame)) =
     IsNew gathers legal files kept asked chain path loaded log frame
 Meets gathers legal files kept input asked chain path loaded log (Err f) =
-    Stops gathers legal files (keep kept (walk files.trees input asked (100 - length chain) chain path)) log
+    Stops gathers legal files (keep kept
+    (walk files.trees input asked (100 - length chain) chain path)) log
     f
 
 -- a frame that took its next import

@@ -1,9 +1,10 @@
 -- No public clause rests on this file.
 -- What holds while files are loaded, for every list of reads that the log begins and any events
 -- kept so far.
-use Rattle.std.specs.Prelude.{◌≡◌, ◌⊎◌, ◌≤◌, ℕ, Bool, true, false, not, nat_lt, List, [], ◌∷◌, ◌++◌, length}
-use Rattle.std.specs.Prelude.{◌||◌, if◌then◌else◌, map, flat_map, Option, Some, None, option_to_list, Result, Ok, Err}
-use Rattle.std.specs.Prelude.{bytes_eq, String, string_bytes, slice_get, find}
+use Rattle.std.specs.Prelude.{◌≡◌, ◌⊎◌, ◌≤◌, ℕ, Bool, true, false, not, nat_lt, List, [], ◌∷◌, ◌++◌}
+use Rattle.std.specs.Prelude.{length, ◌||◌, if◌then◌else◌, map, flat_map, Option, Some, None}
+use Rattle.std.specs.Prelude.{option_to_list, Result, Ok, Err, bytes_eq, String, string_bytes}
+use Rattle.std.specs.Prelude.{slice_get, find}
 use Rattle.std.specs.Global.{Global}
 use Rattle.std.specs.List.{AllByRecursion, Contains, list_any}
 use Rattle.std.specs.List.Sorted.{IsStrictlyIncreasing}
@@ -39,8 +40,7 @@ use Rattle.protobuf_parse_run.specs.declared.log.ReadEntry.{ReadEntry}
 use Rattle.protobuf_parse_run.specs.declared.log.ReadOutcome.{ReadOutcome}
 use Rattle.protobuf_parse_run.specs.Walks.{Asked, the_resolver, the_reader, Event, long, load, elab}
 use Rattle.protobuf_parse_run.specs.Walks.{has, among, Trees, Reaches, HandsOn, walks_joined, walk}
-use Rattle.protobuf_parse_run.specs.Walks.{reads_in}
-use Rattle.protobuf_parse_run.specs.Walks.{elab_paths}
+use Rattle.protobuf_parse_run.specs.Walks.{reads_in, elab_paths}
 use Rattle.std.specs.Borrow.{Bor}
 use Rattle.std.specs.Str.{IsUtf8}
 use Rattle.protobuf_parse_run.specs.declared.fault.ResolveFault.{ResolveFault}
@@ -48,13 +48,11 @@ use Rattle.protobuf_parse_run.specs.declared.fault.ReadInputFault.{ReadInputFaul
 use Rattle.protobuf_parse_run.specs.declared.log.ReadOutcome.TheVariants as outcome
 use Rattle.protobuf_parse_run.specs.declared.source.Sources.{Sources}
 use Rattle.protobuf_parse_run.specs.Run.{Files, MayAnswer, MayRead, MayResolve, FilesAreListed}
-use Rattle.protobuf_parse_run.specs.Run.{HasTrees, OrMemory}
-use Rattle.protobuf_parse_run.specs.Run.{IsTheTree, text_read, environment_of, plain_of}
-use Rattle.protobuf_parse_run.specs.Run.{first_read, fault_said, text_given, origin_given}
-use Rattle.protobuf_parse_run.specs.Run.{AreAnswered, Legal}
-use Rattle.protobuf_parse_run.specs.Run.{StandsThere, StandsInLoad, StandsInElab, IsUnparsed}
-use Rattle.protobuf_parse_run.specs.Run.{ending_faults, ends, is_faulty, is_nothing, own_faults}
-use Rattle.protobuf_parse_run.specs.Run.{report_at}
+use Rattle.protobuf_parse_run.specs.Run.{HasTrees, OrMemory, IsTheTree, text_read, environment_of}
+use Rattle.protobuf_parse_run.specs.Run.{plain_of, first_read, fault_said, text_given, origin_given}
+use Rattle.protobuf_parse_run.specs.Run.{AreAnswered, Legal, StandsThere, StandsInLoad}
+use Rattle.protobuf_parse_run.specs.Run.{StandsInElab, IsUnparsed, ending_faults, ends, is_faulty}
+use Rattle.protobuf_parse_run.specs.Run.{is_nothing, own_faults, report_at}
 
 -- the answers that may be given by those whom a run asks: its resolver, which may answer so, and
 -- its reader, which may so
@@ -256,7 +254,8 @@ any_faulty loaded numbers own =
 -- What a file becomes by these numbers.
 pub record IsDescribed (gathers : Bool) (loaded : List LoadedEntry) (files : List FileSyntax)
     (reach sight : List ℕ) (path : Text) (t : FileSyntax) (d : Described) : Type 0 where
-  pub faultless : ending_over gathers files (plains_over loaded files sight path t) reach sight t ≡ []
+  pub faultless : ending_over gathers files (plains_over loaded files sight path t) reach sight t
+      ≡ []
   pub descriptor : gathers ≡ false → described.file_view d.descriptor
       ≡ file_over files (plains_over loaded files sight path t) reach sight path t
   pub plain : plain_or d.plain d.descriptor ≡ plain_over files sight path t
@@ -322,7 +321,8 @@ pub record IsLoaded (gathers : Bool) (files : Files) (log : List ReadEntry) (pat
   pub named : path_buf_text entry.path ≡ path
   pub first : first_read path files.reads ≡ Some entry.outcome
 
-pub record Good (gathers : Bool) (legal : Legal) (files : Files) (kept : List Event) (loaded : List LoadedEntry)
+pub record Good (gathers : Bool) (legal : Legal) (files : Files) (kept : List Event)
+    (loaded : List LoadedEntry)
     (log : List ReadEntry) (chain : List Text) : Type 0 where
   pub answers : AreAnswered legal (reads_in kept) log
   pub elabs : elab_paths kept ≡ paths_of loaded
@@ -338,7 +338,8 @@ pub record Good (gathers : Bool) (legal : Legal) (files : Files) (kept : List Ev
 
 -- the event is the first of these that fails, the log has the reads up to it, and the fault stands
 -- at it
-pub record Halts (gathers : Bool) (legal : Legal) (files : Files) (events : List Event) (log : List ReadEntry)
+pub record Halts (gathers : Bool) (legal : Legal) (files : Files) (events : List Event)
+    (log : List ReadEntry)
     (f : RunFault) : Type 0 where
   pub before : List Event
   pub event : Event
@@ -350,7 +351,8 @@ pub record Halts (gathers : Bool) (legal : Legal) (files : Files) (events : List
   pub stands : StandsThere gathers files event f
 
 -- memory ran out, and the log has the reads of a beginning in which nothing fails
-pub record Breaks (gathers : Bool) (legal : Legal) (files : Files) (events : List Event) (log : List ReadEntry)
+pub record Breaks (gathers : Bool) (legal : Legal) (files : Files) (events : List Event)
+    (log : List ReadEntry)
     (f : RunFault) : Type 0 where
   pub memory : f ≡ fault.Memory
   pub before : List Event
@@ -360,7 +362,8 @@ pub record Breaks (gathers : Bool) (legal : Legal) (files : Files) (events : Lis
   pub answers : AreAnswered legal (reads_in before) log
 
 abbrev pub Stops : Bool → Legal → Files → List Event → List ReadEntry → RunFault → Type 0
-Stops gathers legal files events log f = Halts gathers legal files events log f ⊎ Breaks gathers legal files events log f
+Stops gathers legal files events log f = Halts gathers legal files events log f
+    ⊎ Breaks gathers legal files events log f
 
 -- whom a read asks
 abbrev pub asked_by : Option (Bor (List ℕ)) → Asked
@@ -418,12 +421,14 @@ IsContentFault p origin text (fault.Parse file error) = (string_bytes file ≡ o
 IsContentFault p origin text _ = ⊥
 
 -- what a call leaves, where the events are those kept with its own
-abbrev pub Leaves : Bool → Legal → Files → List Event → WalkShape → List LoadedEntry → List ReadEntry
+abbrev pub Leaves : Bool → Legal → Files → List Event → WalkShape → List LoadedEntry
+    → List ReadEntry
     → List Text
     → Result LoadedAs RunFault → Type 0
 Leaves gathers legal files events shape loaded log chain (Ok placed) =
     Good gathers legal files events loaded log chain × Settled events placed.height shape
-Leaves gathers legal files events shape loaded log chain (Err f) = Stops gathers legal files events log f
+Leaves gathers legal files events shape loaded log chain (Err f) =
+    Stops gathers legal files events log f
 
 abbrev pub Goes : Bool → Legal → Files → List Event → List LoadedEntry → List ReadEntry
     → Result (Unit {0}) RunFault → Type 0
@@ -506,7 +511,8 @@ plains_next loaded sight path tree = plains_over loaded (with_next loaded tree) 
 -- ones those. By the numbers of the files that it reaches and sees, no fault stands in it, and it
 -- has become its descriptor.
 pub record IsAddedOver (gathers : Bool) (path : Text) (tree : FileSyntax) (height read : ℕ)
-    (imports public : List ℕ) (old new : List LoadedEntry) (tables : Tables) (placed : LoadedAs) : Type 0 where
+    (imports public : List ℕ) (old new : List LoadedEntry) (tables : Tables)
+    (placed : LoadedAs) : Type 0 where
   pub key : String Global
   pub file : LoadedFile
   pub sight : List ℕ
@@ -547,9 +553,11 @@ abbrev pub SettlesOver : Bool → Text → FileSyntax → ℕ → ℕ → List �
     → List LoadedEntry
     → List LoadedEntry → Tables → Result LoadedAs RunFault → Type 0
 SettlesOver gathers path tree height read imports public log old new tables (Ok placed) =
-    file_at path old ≡ None → IsAddedOver gathers path tree height read imports public old new tables
+    file_at path old ≡ None
+    → IsAddedOver gathers path tree height read imports public old new tables
     placed
-SettlesOver gathers path tree height read imports public log old new tables (Err f) = (e : ReadEntry)
+SettlesOver gathers path tree height read imports public log old new tables
+    (Err f) = (e : ReadEntry)
     → slice_get log read ≡ Some e → path_buf_text e.path ≡ path
     → IsRefusedOver gathers (origin_given path (Some e.outcome)) path tree imports old f
 

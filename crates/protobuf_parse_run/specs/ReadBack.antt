@@ -1,4 +1,5 @@
--- What the descriptors that a run hands out hold of custom options, said of these descriptors alone.
+-- What the descriptors that a run hands out hold of custom options, said of these descriptors
+-- alone.
 --
 -- Custom options are extension fields of the options message of their construct. They stand there
 -- as bytes, and are read as any message: by its fields, and by the extensions of it in the files at

@@ -1,7 +1,7 @@
 //! What a file becomes, once its imports are loaded.
 
-ghost use Rattle.std.specs.Prelude.{◌≡◌, ◌≤◌, ◌++◌, [], ℕ, List, map, option_map, slice_get};
-ghost use Rattle.std.specs.Prelude.{IfOk, OnOk, true, false};
+ghost use Rattle.std.specs.Prelude.{◌≡◌, ◌≤◌, ◌++◌, [], ℕ, List, map, option_map, slice_get, IfOk};
+ghost use Rattle.std.specs.Prelude.{OnOk, true, false};
 ghost use Rattle.std.specs.List.{list_any};
 ghost use Rattle.std.specs.List.Sorted.{IsStrictlyIncreasing};
 ghost use Rattle.protobuf_parse_syntax.specs.Counts.{statements_in};
@@ -10,7 +10,8 @@ ghost use Rattle.protobuf_parse_model.specs.Descriptors as described;
 ghost use Rattle.protobuf_parse_model.specs.Faults.{Elaborates, found};
 ghost use Rattle.protobuf_parse_model.specs.Linking.{link_faults};
 ghost use Rattle.protobuf_parse_model.specs.Tables.{TableTells, picked};
-ghost use Rattle.protobuf_parse_elaboration.specs.FileDescriptor.{environment, file_faults, file_of};
+ghost use Rattle.protobuf_parse_elaboration.specs.FileDescriptor.{environment, file_faults};
+ghost use Rattle.protobuf_parse_elaboration.specs.FileDescriptor.{file_of};
 ghost use Rattle.protobuf_parse_options.specs.Holding.{Holds};
 ghost use Rattle.protobuf_parse_run.specs.Loading.{IndexBegins, Describes, customs_over, plain_in};
 ghost use Rattle.protobuf_parse_run.specs.Loading.{has_faults, own_over, plain_or, report_over};

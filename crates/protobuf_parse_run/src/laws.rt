@@ -6,12 +6,13 @@ ghost use Rattle.protobuf_parse_run.specs.Order.{OrderIsHandedOut, ReachedComeTo
 ghost use Rattle.protobuf_parse_run.specs.Stability.{TreesAreOfTexts, StandsOnItsReach, OrderStays};
 ghost use Rattle.protobuf_parse_run.specs.Stability.{AcceptedDeclareOnce, DescriptorsStay};
 ghost use Rattle.protobuf_parse_run.specs.Stability.{ListsAreThere};
-ghost use Rattle.protobuf_parse_run.specs.StandingBytes.{BytesStand, NoOthersStand};
-ghost use Rattle.protobuf_parse_run.specs.StandingBytes.{OptionsStand, SetsStandOnce};
+ghost use Rattle.protobuf_parse_run.specs.StandingBytes.{BytesStand, NoOthersStand, OptionsStand};
+ghost use Rattle.protobuf_parse_run.specs.StandingBytes.{SetsStandOnce};
 ghost use Rattle.protobuf_parse_run.specs.TypeNames.{NamesAreReached};
 ghost use Rattle.protobuf_parse_run.specs.Walks.{SeenAreReached};
 
-/// The files of a run in their order (`order`): each that an input reaches, once, and after all that
+/// The files of a run in their order (`order`): each that an input reaches, once, and after all
+/// that
 /// it imports. No path comes twice (`distinct`). Where no walk of an import tree breaks off, at a
 /// cycle, a chain that is too long or a file without a tree, just those come that the path of an
 /// input reaches (`reached`), with each all that it reaches (`closed`), and each after all that its

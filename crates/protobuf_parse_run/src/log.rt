@@ -47,7 +47,8 @@ pub struct RunLog {
 pub struct FileReport {
     /// Its proto path.
     pub path: String,
-    /// Its faults, each with its place, in the order of the definitions; none where nothing is wrong.
+    /// Its faults, each with its place, in the order of the definitions; none where nothing is
+    /// wrong.
     pub faults: Vec<ElabError>,
 }
 

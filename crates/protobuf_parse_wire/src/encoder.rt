@@ -54,7 +54,8 @@ pub fn put_message(out: &mut Vec<u8>, number: u32, inside: &[u8]) -> Result<(), 
     put_delimited(out, inside)
 }
 
-/// Writes the record of a number with that field number: the tag, and the number as a varint. A truth
+/// Writes the record of a number with that field number: the tag, and the number as a varint. A
+/// truth
 /// value is 0 or 1, and a signed number the 64 bits of its sign extension.
 ///
 /// Where memory runs out, a part of it may have been written.

@@ -7,12 +7,12 @@ ghost use Rattle.protobuf_parse_model.specs.SeenFiles.{environment_in};
 ghost use Rattle.protobuf_parse_model.specs.Descriptors as described;
 ghost use Rattle.protobuf_parse_model.specs.Faults.{found};
 ghost use Rattle.protobuf_parse_model.specs.Statements as statements;
-ghost use Rattle.protobuf_parse_elaboration.specs.Parts.{body_view};
-ghost use Rattle.protobuf_parse_elaboration.specs.Parts.{message_of_both, rest_view};
+ghost use Rattle.protobuf_parse_elaboration.specs.Parts.{body_view, message_of_both, rest_view};
 ghost use Rattle.protobuf_parse_elaboration.specs.Parts.{with_body_statement};
 ghost use Rattle.protobuf_parse_elaboration.specs.Enums.{enum_faults};
 ghost use Rattle.protobuf_parse_elaboration.specs.Fields.{field_faults, field_statement_faults};
-ghost use Rattle.protobuf_parse_elaboration.specs.Messages.{extend_faults, has_own_oneof, oneof_faults};
+ghost use Rattle.protobuf_parse_elaboration.specs.Messages.{extend_faults, has_own_oneof};
+ghost use Rattle.protobuf_parse_elaboration.specs.Messages.{oneof_faults};
 
 use crate::convert::enumeration::enum_descriptor;
 use crate::convert::field::{field_descriptor, is_map};
@@ -92,7 +92,8 @@ pub fn add_field<C: CustomOptions>(
         let s = tree.message_field (tree.field_statement_syntax statement.now) in
         OnOk result (body_view body.new ≡ with_body_statement env (body_view body.old) s) }
     ensures faults { let env = environment_in (C.customs at.now.custom.now) at.now.context in
-        OnOk result (found faults.new ≡ found faults.old ++ field_statement_faults env (tree.field_statement_syntax statement.now)) }
+        OnOk result (found faults.new ≡ found faults.old
+        ++ field_statement_faults env (tree.field_statement_syntax statement.now)) }
 {
     if has_own_oneof(at.context.syntax, statement) {
         add_in_own_oneof(at, faults, body, statement)
@@ -114,7 +115,8 @@ fn add_plain<C: CustomOptions>(
         let s = tree.message_field (tree.field_statement_syntax statement.now) in
         OnOk result (body_view body.new ≡ with_body_statement env (body_view body.old) s) }
     ensures faults { let env = environment_in (C.customs at.now.custom.now) at.now.context in
-        OnOk result (found faults.new ≡ found faults.old ++ field_statement_faults env (tree.field_statement_syntax statement.now)) }
+        OnOk result (found faults.new ≡ found faults.old
+        ++ field_statement_faults env (tree.field_statement_syntax statement.now)) }
 {
     match statement {
         FieldStatement::Field(field) if !is_map(&field.type_) => {
@@ -140,7 +142,8 @@ fn add_without_message<C: CustomOptions>(
         let s = tree.message_field (tree.field (tree.field_syntax field.now)) in
         OnOk result (body_view body.new ≡ with_body_statement env (body_view body.old) s) }
     ensures faults { let env = environment_in (C.customs at.now.custom.now) at.now.context in
-        OnOk result (found faults.new ≡ found faults.old ++ field_faults env (tree.field_syntax field.now)) }
+        OnOk result (found faults.new ≡ found faults.old
+        ++ field_faults env (tree.field_syntax field.now)) }
 {
     let place = FieldPlace {
         extendee: None,
@@ -164,7 +167,8 @@ fn add_with_message<C: CustomOptions>(
         let s = tree.message_field (tree.field_statement_syntax statement.now) in
         OnOk result (body_view body.new ≡ with_body_statement env (body_view body.old) s) }
     ensures faults { let env = environment_in (C.customs at.now.custom.now) at.now.context in
-        OnOk result (found faults.new ≡ found faults.old ++ field_statement_faults env (tree.field_statement_syntax statement.now)) }
+        OnOk result (found faults.new ≡ found faults.old
+        ++ field_statement_faults env (tree.field_statement_syntax statement.now)) }
 {
     let place = FieldPlace {
         extendee: None,
@@ -189,7 +193,8 @@ fn add_in_own_oneof<C: CustomOptions>(
         let s = tree.message_field (tree.field_statement_syntax statement.now) in
         OnOk result (body_view body.new ≡ with_body_statement env (body_view body.old) s) }
     ensures faults { let env = environment_in (C.customs at.now.custom.now) at.now.context in
-        OnOk result (found faults.new ≡ found faults.old ++ field_statement_faults env (tree.field_statement_syntax statement.now)) }
+        OnOk result (found faults.new ≡ found faults.old
+        ++ field_statement_faults env (tree.field_statement_syntax statement.now)) }
 {
     let place = FieldPlace {
         extendee: None,
@@ -214,7 +219,8 @@ pub fn add_oneof<C: CustomOptions>(
         let s = tree.message_oneof (tree.oneof_syntax oneof.now) in
         OnOk result (body_view body.new ≡ with_body_statement env (body_view body.old) s) }
     ensures faults { let env = environment_in (C.customs at.now.custom.now) at.now.context in
-        OnOk result (found faults.new ≡ found faults.old ++ oneof_faults env (tree.oneof_syntax oneof.now)) }
+        OnOk result (found faults.new ≡ found faults.old
+        ++ oneof_faults env (tree.oneof_syntax oneof.now)) }
 {
     let place = FieldPlace {
         extendee: None,
@@ -237,7 +243,8 @@ pub fn add_extend<C: CustomOptions>(
         let s = tree.message_extend (tree.extend_syntax extend.now) in
         OnOk result (body_view body.new ≡ with_body_statement env (body_view body.old) s) }
     ensures faults { let env = environment_in (C.customs at.now.custom.now) at.now.context in
-        OnOk result (found faults.new ≡ found faults.old ++ extend_faults env (tree.extend_syntax extend.now)) }
+        OnOk result (found faults.new ≡ found faults.old
+        ++ extend_faults env (tree.extend_syntax extend.now)) }
 {
     let declared = fields_of_extend(at, faults, extend.place, &extend.extendee, &extend.fields)?;
     append_declared(&mut body.extension, &mut body.nested_type, declared)
@@ -254,7 +261,8 @@ pub fn add_enum<C: CustomOptions>(
         let s = tree.message_enum (tree.enum_syntax enumeration.now) in
         OnOk result (body_view body.new ≡ with_body_statement env (body_view body.old) s) }
     ensures faults { let env = environment_in (C.customs at.now.custom.now) at.now.context in
-        OnOk result (found faults.new ≡ found faults.old ++ enum_faults env (tree.enum_syntax enumeration.now)) }
+        OnOk result (found faults.new ≡ found faults.old
+        ++ enum_faults env (tree.enum_syntax enumeration.now)) }
 {
     let descriptor = enum_descriptor(at, faults, enumeration)?;
     body.enum_type.push(descriptor)?;

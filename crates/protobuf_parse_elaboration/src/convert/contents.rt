@@ -9,9 +9,9 @@ ghost use Rattle.protobuf_parse_model.specs.SeenFiles.{environment_in};
 ghost use Rattle.protobuf_parse_model.specs.Descriptors as described;
 ghost use Rattle.protobuf_parse_model.specs.Faults.{found};
 ghost use Rattle.protobuf_parse_elaboration.specs.FileDescriptor.{file_duplicates, file_faults_of};
-ghost use Rattle.protobuf_parse_elaboration.specs.FileParts.{AreFilePlaces, parts_of_file, parts_view};
-ghost use Rattle.protobuf_parse_elaboration.specs.FileParts.{file_with, heading_view, no_parts};
-ghost use Rattle.protobuf_parse_elaboration.specs.FileParts.{with_file_statement};
+ghost use Rattle.protobuf_parse_elaboration.specs.FileParts.{AreFilePlaces, parts_of_file};
+ghost use Rattle.protobuf_parse_elaboration.specs.FileParts.{parts_view, file_with, heading_view};
+ghost use Rattle.protobuf_parse_elaboration.specs.FileParts.{no_parts, with_file_statement};
 ghost use Rattle.protobuf_parse_elaboration.specs.Messages.{extend_faults};
 
 use crate::convert::declared::{DeclaredAs, places_of};
@@ -231,7 +231,8 @@ fn add_statement<C: CustomOptions>(
     requires few { statement_count (statement_syntax statement.now) ≤ 2147483647 }
     ensures value { let env = environment_in (C.customs at.now.custom.now) at.now.context in
         let s = statement_syntax statement.now in
-        OnOk result (parts_view contents.new ≡ with_file_statement env (parts_view contents.old) s) }
+        OnOk result (parts_view contents.new
+        ≡ with_file_statement env (parts_view contents.old) s) }
     ensures faults { let env = environment_in (C.customs at.now.custom.now) at.now.context in
         OnOk result (found faults.new ≡ found faults.old
         ++ file_faults_of env (statement_syntax statement.now)) }
@@ -264,7 +265,8 @@ fn add_extensions<C: CustomOptions>(
 ) -> Result<(), AllocError>
     ensures value { let env = environment_in (C.customs at.now.custom.now) at.now.context in
         let s = file_extend (extend_syntax extend.now) in
-        OnOk result (parts_view contents.new ≡ with_file_statement env (parts_view contents.old) s) }
+        OnOk result (parts_view contents.new
+        ≡ with_file_statement env (parts_view contents.old) s) }
     ensures faults { let env = environment_in (C.customs at.now.custom.now) at.now.context in
         OnOk result (found faults.new ≡ found faults.old
         ++ extend_faults env (extend_syntax extend.now)) }

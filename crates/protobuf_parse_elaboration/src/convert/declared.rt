@@ -206,7 +206,8 @@ fn push_of_extend(
     extend: &Extend,
     places: &mut Vec<Place>,
 ) -> Result<(), AllocError>
-    ensures inside { (syntax : Syntax) → let s = tree.message_extend (tree.extend_syntax extend.now) in
+    ensures inside { (syntax : Syntax) → let s =
+        tree.message_extend (tree.extend_syntax extend.now) in
         OnOk result (places.new.items ≡ places.old.items
         ++ map (λ (d : NamedAt). d.place) (named_by declared syntax s)) }
     ensures outside { let s = tree.file_extend (tree.extend_syntax extend.now) in
@@ -225,7 +226,8 @@ fn push_of_message(
     message: &Message,
     places: &mut Vec<Place>,
 ) -> Result<(), AllocError>
-    ensures inside { (syntax : Syntax) → let s = tree.nested_message (tree.message_syntax message.now) in
+    ensures inside { (syntax : Syntax) → let s =
+        tree.nested_message (tree.message_syntax message.now) in
         OnOk result (places.new.items ≡ places.old.items
         ++ map (λ (d : NamedAt). d.place) (named_by declared syntax s)) }
     ensures outside { let s = tree.file_message (tree.message_syntax message.now) in

@@ -12,8 +12,7 @@ ghost use Rattle.protobuf_parse_model.specs.declared.customs.Construct.TheVarian
 ghost use Rattle.protobuf_parse_model.specs.Options.{enum_options_view};
 ghost use Rattle.protobuf_parse_model.specs.OptionMessages as sets;
 ghost use Rattle.protobuf_parse_elaboration.specs.ConstructOptions.{construct_faults};
-ghost use Rattle.protobuf_parse_elaboration.specs.Parts.{reserves_seen};
-ghost use Rattle.protobuf_parse_elaboration.specs.Parts.{values_seen};
+ghost use Rattle.protobuf_parse_elaboration.specs.Parts.{reserves_seen, values_seen};
 ghost use Rattle.protobuf_parse_elaboration.specs.Enums as enums;
 
 use crate::convert::declared::DeclaredAs;
@@ -100,7 +99,8 @@ fn tell_value_names<C: CustomOptions>(
     values: &[&EnumValue],
     descriptors: &[EnumValueDescriptorProto],
 ) -> Result<(), AllocError>
-    requires { let env = environment_in (C.customs at.now.custom.now) at.now.context in map described.enum_value_view descriptors.now
+    requires { let env = environment_in (C.customs at.now.custom.now) at.now.context in
+        map described.enum_value_view descriptors.now
         ≡ map (enums.value_of env) (values_seen values.now) }
     ensures { OnOk result (found faults.new ≡ found faults.old
         ++ duplicates (map enums.value_named (values_seen values.now))) }

@@ -174,7 +174,8 @@ fn tell_group_names<C: CustomOptions>(
     statements: &[FieldStatement],
     items: &[FieldDescriptorProto],
 ) -> Result<(), AllocError>
-    requires { let env = environment_in (C.customs at.now.custom.now) at.now.context in map described.field_view items.now
+    requires { let env = environment_in (C.customs at.now.custom.now) at.now.context in
+        map described.field_view items.now
         ≡ fields.fields_of_group env (map field_statement_syntax statements.now) }
     ensures { OnOk result (found faults.new ≡ found faults.old
         ++ duplicates (map fields.field_named (map field_statement_syntax statements.now))) }

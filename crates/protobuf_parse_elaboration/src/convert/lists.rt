@@ -7,7 +7,8 @@ ghost use Rattle.protobuf_parse_model.specs.SeenFiles.{environment_in};
 ghost use Rattle.protobuf_parse_model.specs.Faults.{found, placed};
 ghost use Rattle.protobuf_parse_model.specs.Statements.{oneof_fields};
 ghost use Rattle.protobuf_parse_elaboration.specs.Parts.{extensions_declared, fields_declared};
-ghost use Rattle.protobuf_parse_elaboration.specs.Parts.{field_place_view, fields_view, statements_seen};
+ghost use Rattle.protobuf_parse_elaboration.specs.Parts.{field_place_view, fields_view};
+ghost use Rattle.protobuf_parse_elaboration.specs.Parts.{statements_seen};
 ghost use Rattle.protobuf_parse_elaboration.specs.Fields.{extension_faults, field_statement_faults};
 ghost use Rattle.protobuf_parse_elaboration.specs.Messages.{extendee_faults, extending};
 

@@ -5,15 +5,13 @@ ghost use Rattle.std.specs.Prelude.{sum_by, IfOk, OnOk};
 ghost use Rattle.protobuf_parse_syntax.specs.Counts.{in_message, message_statement_count};
 ghost use Rattle.protobuf_parse_syntax.specs.Trees.{message_statement_syntax, message_syntax};
 ghost use Rattle.protobuf_parse_syntax.specs.Trees.{nested_message};
-ghost use Rattle.protobuf_parse_model.specs.SeenFiles.{environment_in};
-ghost use Rattle.protobuf_parse_model.specs.SeenFiles.{name_texts};
+ghost use Rattle.protobuf_parse_model.specs.SeenFiles.{environment_in, name_texts};
 ghost use Rattle.protobuf_parse_model.specs.Declarations as names;
 ghost use Rattle.protobuf_parse_model.specs.Descriptors as described;
 ghost use Rattle.protobuf_parse_model.specs.Environment.{env_inside};
 ghost use Rattle.protobuf_parse_model.specs.Faults.{found};
 ghost use Rattle.protobuf_parse_elaboration.specs.Parts as contexts;
-ghost use Rattle.protobuf_parse_elaboration.specs.Parts.{body_view};
-ghost use Rattle.protobuf_parse_elaboration.specs.Parts.{with_body_statement};
+ghost use Rattle.protobuf_parse_elaboration.specs.Parts.{body_view, with_body_statement};
 ghost use Rattle.protobuf_parse_elaboration.specs.Messages as messages;
 
 use crate::convert::body::{Body, add_enum, add_extend, add_field, add_oneof};
@@ -72,7 +70,8 @@ fn message_of_body<C: CustomOptions>(
     finished(at, faults, name, body, parts)
 }
 
-/// The message of that name, body and parts. What is wrong in its names, ranges and options is told.
+/// The message of that name, body and parts. What is wrong in its names, ranges and options is
+/// told.
 fn finished<C: CustomOptions>(
     at: &Viewpoint<'_, '_, C>,
     faults: &mut Vec<ElabError>,
@@ -80,7 +79,8 @@ fn finished<C: CustomOptions>(
     body: &[MessageStatement],
     parts: Body,
 ) -> Result<DescriptorProto, AllocError>
-    requires { let env = environment_in (C.customs at.now.custom.now) at.now.context in body_view parts
+    requires { let env = environment_in (C.customs at.now.custom.now) at.now.context in
+        body_view parts
         ≡ contexts.body_of (env_inside env name.now) (map message_statement_syntax body.now) }
     ensures value { let env = environment_in (C.customs at.now.custom.now) at.now.context in
         let ss = map message_statement_syntax body.now in
@@ -104,7 +104,8 @@ fn tell_body_names<C: CustomOptions>(
     statements: &[MessageStatement],
     body: &Body,
 ) -> Result<(), AllocError>
-    requires { let env = environment_in (C.customs at.now.custom.now) at.now.context in body_view body.now
+    requires { let env = environment_in (C.customs at.now.custom.now) at.now.context in
+        body_view body.now
         ≡ contexts.body_of (env_inside env name.now) (map message_statement_syntax statements.now) }
     ensures { let env = environment_in (C.customs at.now.custom.now) at.now.context in
         OnOk result (found faults.new ≡ found faults.old ++ messages.body_duplicates env.syntax

@@ -5,7 +5,8 @@ ghost use Rattle.std.specs.List.{list_any};
 ghost use Rattle.protobuf_parse_syntax.specs.Trees.{range_syntax, reserved_syntax};
 ghost use Rattle.protobuf_parse_model.specs.Descriptors as described;
 ghost use Rattle.protobuf_parse_elaboration.specs.Parts.{reserves_seen};
-ghost use Rattle.protobuf_parse_elaboration.specs.Enums.{inclusive, names_reserved, ranges_reserved};
+ghost use Rattle.protobuf_parse_elaboration.specs.Enums.{inclusive, names_reserved};
+ghost use Rattle.protobuf_parse_elaboration.specs.Enums.{ranges_reserved};
 ghost use Rattle.protobuf_parse_elaboration.specs.Messages.{exclusive, is_endless};
 
 use protobuf_parse_model::{EnumReservedRange, ExtensionRange, ReservedRange};

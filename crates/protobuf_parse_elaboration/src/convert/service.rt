@@ -56,7 +56,8 @@ pub fn service_descriptor<C: CustomOptions>(
     })
 }
 
-/// The descriptors of the methods, and their faults: E1 where two have one name, then those of each.
+/// The descriptors of the methods, and their faults: E1 where two have one name, then those of
+/// each.
 fn service_methods<C: CustomOptions>(
     at: &Viewpoint<'_, '_, C>,
     faults: &mut Vec<ElabError>,

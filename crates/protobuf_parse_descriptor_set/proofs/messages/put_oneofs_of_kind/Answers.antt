@@ -4,7 +4,8 @@ use Rattle.protobuf_parse_descriptor_set.specs.Items.{part}
 use Rattle.protobuf_parse_descriptor_set.specs.DescriptorItems.{oneof_items}
 use Rattle.protobuf_parse_descriptor_set.proofs.Joining.{at_end, none_yet, of_same}
 use Rattle.protobuf_parse_descriptor_set.proofs.Places.{next_of_kind, no_next_of_kind, none_of_kind}
-use Rattle.protobuf_parse_descriptor_set.proofs.messages.put_oneofs_of_kind.Goals.{then-synthetic-place+in_ok-put_part, else-synthetic-place}
+use Rattle.protobuf_parse_descriptor_set.proofs.messages.put_oneofs_of_kind.Goals.{then-synthetic-place+in_ok-put_part}
+use Rattle.protobuf_parse_descriptor_set.proofs.messages.put_oneofs_of_kind.Goals.{else-synthetic-place}
 use Rattle.protobuf_parse_descriptor_set.proofs.messages.put_oneofs_of_kind.Goals as goal
 
 pub loop-place-init : goal.loop-place-init

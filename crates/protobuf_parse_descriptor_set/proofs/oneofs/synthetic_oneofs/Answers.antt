@@ -1,9 +1,11 @@
 use Rattle.std.proofs.Common.{◌∙◌, ap, not, subst, sym}
 use Rattle.protobuf_parse_model.specs.Descriptors.{field_view}
 use Rattle.protobuf_parse_descriptor_set.proofs.Synthetic.{TellsMembers, fields_more}
-use Rattle.protobuf_parse_descriptor_set.proofs.Synthetic.{no_member_more, optional_more, other_more}
+use Rattle.protobuf_parse_descriptor_set.proofs.Synthetic.{no_member_more, optional_more}
+use Rattle.protobuf_parse_descriptor_set.proofs.Synthetic.{other_more}
 use Rattle.protobuf_parse_descriptor_set.proofs.oneofs.synthetic_oneofs.Goals.{in-Some, in-None}
-use Rattle.protobuf_parse_descriptor_set.proofs.oneofs.synthetic_oneofs.Goals.{then-field, else-field}
+use Rattle.protobuf_parse_descriptor_set.proofs.oneofs.synthetic_oneofs.Goals.{then-field}
+use Rattle.protobuf_parse_descriptor_set.proofs.oneofs.synthetic_oneofs.Goals.{else-field}
 use Rattle.protobuf_parse_descriptor_set.proofs.oneofs.synthetic_oneofs.Goals as goal
 
 pub loop-field-preserved : goal.loop-field-preserved

@@ -1,8 +1,8 @@
 use Rattle.std.proofs.Common.{◌∙◌, ◌+◌, ◌∷◌, ◌++◌, ap, arith, drop, take}
 use Rattle.std.proofs.lemmas.List.{length-take-le}
 use Rattle.protobuf_parse_wire.proofs.Appending.{high_bit}
-use Rattle.protobuf_parse_descriptor_set.proofs.Lengths.{no_groups, next_group}
-use Rattle.protobuf_parse_descriptor_set.proofs.Lengths.{counted, from_place, moved, turned}
+use Rattle.protobuf_parse_descriptor_set.proofs.Lengths.{no_groups, next_group, counted, from_place}
+use Rattle.protobuf_parse_descriptor_set.proofs.Lengths.{moved, turned}
 use Rattle.protobuf_parse_descriptor_set.proofs.parts.put_long_length.Goals as goal
 
 pub groups-init : goal.groups-init
@@ -24,4 +24,5 @@ returns c =
     (length-take-le place old (omega (arith, c.requires.within)))
     (omega (arith, counted _ _ _ _ g, c.len.ensures, c.len-end.ensures, c.groups.out.ok.0, c.args.out.now.ok.0))
     (omega (arith, c.deref_mut.ensures.len)) c.rotate_right.ensures.after
-    ∙ ap (λ z. take place old ++ z) (moved _ rest old _ place g c.groups-test.false c.requires.is_length)
+    ∙ ap (λ z. take place old ++ z)
+    (moved _ rest old _ place g c.groups-test.false c.requires.is_length)

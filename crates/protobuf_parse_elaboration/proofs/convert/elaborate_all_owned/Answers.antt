@@ -19,7 +19,8 @@ returns-clause-value g c files told =
       scope = file_scope t;
       customs = g.C.CustomOptions.customs c.args.custom.now;
     } in
-    if_ok c.descriptor_of_owned.result (λ d h. h ∙ ap (λ types. file_of (sees types) c.args.name.now t)
+    if_ok c.descriptor_of_owned.result
+    (λ d h. h ∙ ap (λ types. file_of (sees types) c.args.name.now t)
     (seen_types_are c.args.seen.now files told)) c.descriptor_of_owned.ensures.value
 
 pub returns-clause-faults : goal.returns-clause-faults

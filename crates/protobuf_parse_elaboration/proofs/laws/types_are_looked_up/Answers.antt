@@ -1,5 +1,6 @@
 use Rattle.protobuf_parse_model.specs.Declarations.{MessageOrEnum}
-use Rattle.protobuf_parse_elaboration.proofs.Lookups.{means_the_longest, means_nothing, means_itself}
+use Rattle.protobuf_parse_elaboration.proofs.Lookups.{means_the_longest, means_nothing}
+use Rattle.protobuf_parse_elaboration.proofs.Lookups.{means_itself}
 use Rattle.protobuf_parse_elaboration.proofs.laws.types_are_looked_up.Goals as goal
 
 pub returns-clause-longest : goal.returns-clause-longest

@@ -13,9 +13,9 @@ ghost use Rattle.protobuf_parse_model.specs.Faults.{found, placed};
 ghost use Rattle.protobuf_parse_model.specs.OptionTables.{table_of};
 ghost use Rattle.protobuf_parse_model.specs.BuiltinOptions.{options_seen};
 ghost use Rattle.protobuf_parse_elaboration.specs.ConstructOptions.{construct_faults};
-ghost use Rattle.protobuf_parse_elaboration.specs.Fields.{field_option_faults, field_options_faults};
-ghost use Rattle.protobuf_parse_elaboration.specs.OptionViews.{entry_seen, kind_seen};
-ghost use Rattle.protobuf_parse_elaboration.specs.OptionViews.{table_seen};
+ghost use Rattle.protobuf_parse_elaboration.specs.Fields.{field_option_faults};
+ghost use Rattle.protobuf_parse_elaboration.specs.Fields.{field_options_faults};
+ghost use Rattle.protobuf_parse_elaboration.specs.OptionViews.{entry_seen, kind_seen, table_seen};
 
 use crate::convert::options::builtin::table_of;
 use crate::convert::options::strings::decoded_text;
@@ -122,7 +122,8 @@ fn tell_field_option(
     option: &ProtobufOption,
 ) -> Result<(), AllocError>
     ensures { let o = option_syntax option.now in OnOk result
-        (found faults.new ≡ found faults.old ++ placed o.place (field_option_faults o.value o.name)) }
+        (found faults.new ≡ found faults.old
+        ++ placed o.place (field_option_faults o.value o.name)) }
 {
     let ProtobufOptionName::Builtin(name) = &option.name else {
         return Ok(());

@@ -15,8 +15,7 @@ use Rattle.protobuf_parse_run.specs.Walks.{walk}
 use Rattle.protobuf_parse_run.specs.Run.{rows}
 use Rattle.protobuf_parse_run.specs.Loading.{legal_by, Grows, MoreLoaded, asked_by, chain_texts}
 use Rattle.protobuf_parse_run.specs.Frames.{IsAgain, IsOpened, Joined, chain_of, imports_in}
-use Rattle.protobuf_parse_run.specs.Frames.{later_in}
-use Rattle.protobuf_parse_run.specs.Frames.{left_in, frame_path, to_meet}
+use Rattle.protobuf_parse_run.specs.Frames.{later_in, left_in, frame_path, to_meet}
 use Rattle.protobuf_parse_run.proofs.Keeping.{among-last}
 use Rattle.protobuf_parse_run.proofs.Steps.{Grows-trans}
 use Rattle.protobuf_parse_run.proofs.Leaving.{goes-back, goes-same, texts-length}
@@ -25,21 +24,17 @@ use Rattle.protobuf_parse_run.proofs.Knowing.{known-grows}
 use Rattle.protobuf_parse_run.proofs.Counting.{count-grows}
 use Rattle.protobuf_parse_run.proofs.Stacks.{at_get, chain_of-push, first_path-push, frames-pop}
 use Rattle.protobuf_parse_run.proofs.Stacks.{frames-push, imports_in-shorter, left-import}
-use Rattle.protobuf_parse_run.proofs.Stacks.{left-joined}
-use Rattle.protobuf_parse_run.proofs.Stacks.{left-other, length-chain_of, less-close, less-new}
-use Rattle.protobuf_parse_run.proofs.Stacks.{less-next, none-left, none-texts, none_of}
-use Rattle.protobuf_parse_run.proofs.Stacks.{to_meet-push}
-use Rattle.protobuf_parse_run.proofs.Stacks.{waiting-pop, waiting-push}
+use Rattle.protobuf_parse_run.proofs.Stacks.{left-joined, left-other, length-chain_of, less-close}
+use Rattle.protobuf_parse_run.proofs.Stacks.{less-new, less-next, none-left, none-texts, none_of}
+use Rattle.protobuf_parse_run.proofs.Stacks.{to_meet-push, waiting-pop, waiting-push}
 use Rattle.protobuf_parse_run.proofs.Taking.{all_taken-more, closed-is, taken-joined, taken-more}
 use Rattle.protobuf_parse_run.proofs.Taking.{taken-new, taken-other, unloaded-enter, unloaded-first}
 use Rattle.protobuf_parse_run.proofs.Meeting.{first-meets, first-stands}
 use Rattle.protobuf_parse_run.proofs.Stepping.{closed-breaks, counted-end, counted-next}
-use Rattle.protobuf_parse_run.proofs.Stepping.{counted-now}
-use Rattle.protobuf_parse_run.proofs.Stepping.{known-breaks, running-breaks, running-close}
-use Rattle.protobuf_parse_run.proofs.Stepping.{running-closes, running-end, running-known}
-use Rattle.protobuf_parse_run.proofs.Stepping.{running-new}
-use Rattle.protobuf_parse_run.proofs.Stepping.{running-other, running-refused, running-start}
-use Rattle.protobuf_parse_run.proofs.Stepping.{running-stops}
+use Rattle.protobuf_parse_run.proofs.Stepping.{counted-now, known-breaks, running-breaks}
+use Rattle.protobuf_parse_run.proofs.Stepping.{running-close, running-closes, running-end}
+use Rattle.protobuf_parse_run.proofs.Stepping.{running-known, running-new, running-other}
+use Rattle.protobuf_parse_run.proofs.Stepping.{running-refused, running-start, running-stops}
 use Rattle.protobuf_parse_run.proofs.loader.load_file.Goals as goal
 
 pub returns-in_err-first : goal.returns-in_err-first
@@ -96,11 +91,13 @@ files-init g c =
       inside = λ files kept go good.
           let legal = legal_by g.R.ProtoPathResolver.may_answer g.I.InputReader.may_read
           c.args.sources.now in
-          let k = first-meets c.args.sources.now.gathers legal files kept (path_buf_text c.args.input.now)
+          let k = first-meets c.args.sources.now.gathers legal files kept
+          (path_buf_text c.args.input.now)
           (asked_by c.args.fs_path) _ _ _ _ (Ok (met.Opened c.in-Opened.frame)) none good
           (rw c.in-Opened.is at (c.in_ok-first.ensures.leaves files kept go)) in
           rw (empty, same)
-          (running-start c.args.sources.now.gathers legal files kept (path_buf_text c.args.input.now)
+          (running-start c.args.sources.now.gathers legal files kept
+          (path_buf_text c.args.input.now)
           (asked_by c.args.fs_path) (path_buf_text c.args.input.now) _ _ _ c.in-Opened.frame _ _
           _ c.meet.ensures.meets k o);
     }

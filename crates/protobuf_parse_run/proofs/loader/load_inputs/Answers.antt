@@ -63,7 +63,8 @@ loop-input-preserved g c =
           let good = c.loop-input.invariant.inside files back in
           let next = next-at input_view xs c.loop-input.input-index c.input-item.result
           (omega arith) c.input-item.is in
-          inputs-step c.args.sources.now.gathers _ files _ _ _ _ _ next (c.in_ok-load_input.ensures.goes files _ go good);
+          inputs-step c.args.sources.now.gathers _ files _ _ _ _ _ next
+          (c.in_ok-load_input.ensures.goes files _ go good);
       known = c.in_ok-load_input.ensures.known;
       count = λ files go.
           let back = goes-back files _ _ _ c.load_input.ensures.grows go in

@@ -262,7 +262,8 @@ returns g c = record {
       ≡ None =
       subst (λ (z : Text). file_at z c.args.loader.now.loaded.entries ≡ None) text_is
       c.in_default.ensures in
-      met-new _ _ files _ kept _ _ _ _ (asked_by c.args.fs_path) _ c.in_ok-tree.tree go good off none
+      met-new _ _ files _ kept _ _ _ _
+      (asked_by c.args.fs_path) _ c.in_ok-tree.tree go good off none
       c.in_ok-tree.ensures.read _ (c.in_ok-from_str.ensures.ok ∙ text_is) refl
       (omega (arith, c.len-read.ensures, c.args.loader.now.reads.ok.0)) refl refl;
 }

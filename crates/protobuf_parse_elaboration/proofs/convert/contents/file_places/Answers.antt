@@ -1,7 +1,7 @@
 use Rattle.std.proofs.Common.{◌∙◌, ap}
 use Rattle.protobuf_parse_syntax.specs.Trees.{statement_syntax}
-use Rattle.protobuf_parse_elaboration.specs.FileDescriptor.{file_enums_named, file_extensions_named, file_messages_named}
-use Rattle.protobuf_parse_elaboration.specs.FileDescriptor.{services_named}
+use Rattle.protobuf_parse_elaboration.specs.FileDescriptor.{file_enums_named, file_extensions_named}
+use Rattle.protobuf_parse_elaboration.specs.FileDescriptor.{file_messages_named, services_named}
 use Rattle.protobuf_parse_elaboration.specs.FileParts.{places}
 use Rattle.protobuf_parse_elaboration.proofs.StatedOptions.{set_seen}
 use Rattle.protobuf_parse_elaboration.proofs.convert.contents.file_places.Goals as goal

@@ -19,10 +19,12 @@ tell_names-requires g c =
     record {
       named = values_named env c.args.descriptors.now (values_seen xs) c.requires
           ∙ sym (names_seen value_named (values_seen xs))
-          ∙ ap names_of (sym (each_alone value_named (λ (x : Bor EnumValue). value_syntax x.now) xs));
+          ∙ ap names_of (sym (each_alone value_named
+          (λ (x : Bor EnumValue). value_syntax x.now) xs));
     }
 
 pub returns : goal.returns
 returns g c =
     on_ok c.tell_names.result (λ h. h ∙ ap (λ ds. found c.args.faults.now ++ duplicates ds)
-    (each_alone value_named (λ (x : Bor EnumValue). value_syntax x.now) c.args.values.now)) c.tell_names.ensures
+    (each_alone value_named
+    (λ (x : Bor EnumValue). value_syntax x.now) c.args.values.now)) c.tell_names.ensures

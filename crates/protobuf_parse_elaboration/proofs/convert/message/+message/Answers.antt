@@ -9,15 +9,13 @@ use Rattle.protobuf_parse_syntax.specs.declared.tree.declaration.MessageStatemen
 use Rattle.protobuf_parse_syntax.proofs.Counts.{body_length, in_message_of, item_counts}
 use Rattle.protobuf_parse_syntax.proofs.Counts.{message_counts}
 use Rattle.protobuf_parse_syntax.proofs.Messages.{view_parts}
-use Rattle.protobuf_parse_model.specs.SeenFiles.{environment_in}
-use Rattle.protobuf_parse_model.specs.SeenFiles.{seen_types, name_texts}
+use Rattle.protobuf_parse_model.specs.SeenFiles.{environment_in, seen_types, name_texts}
 use Rattle.protobuf_parse_model.specs.Declarations.{Scope}
 use Rattle.protobuf_parse_model.specs.Descriptors.{Text, MessageDescriptor}
 use Rattle.protobuf_parse_model.specs.Environment.{Environment, env_inside}
 use Rattle.protobuf_parse_model.specs.Faults.{Fault, found}
 use Rattle.protobuf_parse_model.proofs.TreeViews.{views_nested}
-use Rattle.protobuf_parse_elaboration.specs.Parts.{body_of, body_view}
-use Rattle.protobuf_parse_elaboration.specs.Parts.{with_body_statement}
+use Rattle.protobuf_parse_elaboration.specs.Parts.{body_of, body_view, with_body_statement}
 use Rattle.protobuf_parse_elaboration.specs.Messages.{message_from, nested_of, statement_faults}
 use Rattle.protobuf_parse_elaboration.specs.Messages.{whole_faults}
 use Rattle.protobuf_parse_elaboration.proofs.Bodies.{body_more, few_more}
@@ -56,7 +54,8 @@ message_descriptor-returns-clause-faults g t c =
     c.deref.ensures in
     let whole = ap (λ ss. faults_of_body env (name_bytes m.name) (map message_statement_syntax ss))
     c.deref-2.ensures.value in
-    let viewed = ap (λ (x : MessageSyntax). faults_of_body env x.name x.body) (sym (view_parts m)) in
+    let viewed = ap (λ (x : MessageSyntax). faults_of_body env x.name x.body)
+    (sym (view_parts m)) in
     on_ok c.message_of_body.result (λ h. h ∙ ap (λ fs. found c.args.faults.now ++ fs)
     (named ∙ whole ∙ viewed ∙ sym (faults_of_message env (message_syntax m))))
     c.message_of_body.ensures.faults

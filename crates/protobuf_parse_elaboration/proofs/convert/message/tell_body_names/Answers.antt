@@ -12,11 +12,14 @@ use Rattle.protobuf_parse_syntax.specs.Trees.{message_statement_syntax}
 use Rattle.protobuf_parse_model.specs.Environment.{env_inside}
 use Rattle.protobuf_parse_model.specs.SeenFiles.{environment_in}
 use Rattle.protobuf_parse_elaboration.specs.Fields.{names_of_fields}
-use Rattle.protobuf_parse_elaboration.specs.Messages.{message_name, names_of_enums, names_of_messages, names_of_oneofs}
+use Rattle.protobuf_parse_elaboration.specs.Messages.{message_name, names_of_enums}
+use Rattle.protobuf_parse_elaboration.specs.Messages.{names_of_messages, names_of_oneofs}
 use Rattle.protobuf_parse_elaboration.specs.Messages as messages
 use Rattle.protobuf_parse_elaboration.specs.Parts.{BodyParts}
-use Rattle.protobuf_parse_elaboration.proofs.Naming.{enums_named, fields_named, messages_named, oneofs_named}
-use Rattle.protobuf_parse_elaboration.proofs.SameNames.{enums-names, extensions-names, fields-from-names, messages-names}
+use Rattle.protobuf_parse_elaboration.proofs.Naming.{enums_named, fields_named, messages_named}
+use Rattle.protobuf_parse_elaboration.proofs.Naming.{oneofs_named}
+use Rattle.protobuf_parse_elaboration.proofs.SameNames.{enums-names, extensions-names}
+use Rattle.protobuf_parse_elaboration.proofs.SameNames.{fields-from-names, messages-names}
 use Rattle.protobuf_parse_elaboration.proofs.SameNames.{oneofs-names}
 use Rattle.protobuf_parse_elaboration.proofs.StatedOptions.{set_seen}
 use Rattle.protobuf_parse_elaboration.proofs.Told.{five_told, names_of}
@@ -31,7 +34,8 @@ tell_names-requires g c =
       named = ap (map (λ (f : FieldDescriptorProto). (field_view f).name)) c.deref.ensures.value
           ∙ fields_named _ ∙ ap (λ (b : BodyParts). names_of_fields b.field) c.requires
           ∙ fields-from-names env 0 ss
-          ∙ ap names_of (sym (set_seen (messages.fields_named) message_statement_syntax c.args.statements.now));
+          ∙ ap names_of (sym (set_seen
+          (messages.fields_named) message_statement_syntax c.args.statements.now));
     }
 
 pub tell_names-requires-2 : goal.tell_names-requires-2
@@ -43,7 +47,8 @@ tell_names-requires-2 g c =
       named = ap (map (λ (f : OneofDescriptorProto). (oneof_view f).name)) c.deref-2.ensures.value
           ∙ oneofs_named _ ∙ ap (λ (b : BodyParts). names_of_oneofs b.oneof_decl) c.requires
           ∙ oneofs-names env ss
-          ∙ ap names_of (sym (set_seen (messages.oneofs_named env.syntax) message_statement_syntax c.args.statements.now));
+          ∙ ap names_of (sym (set_seen
+          (messages.oneofs_named env.syntax) message_statement_syntax c.args.statements.now));
     }
 
 pub tell_names-requires-3 : goal.tell_names-requires-3
@@ -55,7 +60,8 @@ tell_names-requires-3 g c =
       named = ap (map (λ (f : FieldDescriptorProto). (field_view f).name)) c.deref-3.ensures.value
           ∙ fields_named _ ∙ ap (λ (b : BodyParts). names_of_fields b.extension) c.requires
           ∙ extensions-names env ss
-          ∙ ap names_of (sym (set_seen (messages.extensions_named) message_statement_syntax c.args.statements.now));
+          ∙ ap names_of (sym (set_seen
+          (messages.extensions_named) message_statement_syntax c.args.statements.now));
     }
 
 pub tell_names-requires-4 : goal.tell_names-requires-4
@@ -67,7 +73,8 @@ tell_names-requires-4 g c =
       named = ap (map (λ (f : EnumDescriptorProto). (enum_view f).name)) c.deref-4.ensures.value
           ∙ enums_named _ ∙ ap (λ (b : BodyParts). names_of_enums b.enum_type) c.requires
           ∙ enums-names env ss
-          ∙ ap names_of (sym (set_seen (messages.enums_named) message_statement_syntax c.args.statements.now));
+          ∙ ap names_of (sym (set_seen
+          (messages.enums_named) message_statement_syntax c.args.statements.now));
     }
 
 pub tell_names-requires-5 : goal.tell_names-requires-5
@@ -76,10 +83,12 @@ tell_names-requires-5 g c =
     c.args.at.now.context) c.args.name.now in
     let ss = map message_statement_syntax c.args.statements.now in
     record {
-      named = ap (map (λ (f : DescriptorProto). message_name (message_view f))) c.deref-5.ensures.value
+      named = ap (map (λ (f : DescriptorProto). message_name
+          (message_view f))) c.deref-5.ensures.value
           ∙ messages_named _ ∙ ap (λ (b : BodyParts). names_of_messages b.nested_type) c.requires
           ∙ messages-names env ss
-          ∙ ap names_of (sym (set_seen (messages.messages_named) message_statement_syntax c.args.statements.now));
+          ∙ ap names_of (sym (set_seen
+          (messages.messages_named) message_statement_syntax c.args.statements.now));
     }
 
 pub returns : goal.returns

@@ -15,10 +15,12 @@ tell_names-requires g c =
     let xs = c.args.methods.now in
     record {
       named = methods_named xs ∙ sym (names_seen method_named (methods_seen xs))
-          ∙ ap names_of (sym (each_alone method_named (λ (x : Bor Method). method_syntax x.now) xs));
+          ∙ ap names_of (sym (each_alone method_named
+          (λ (x : Bor Method). method_syntax x.now) xs));
     }
 
 pub returns : goal.returns
 returns g c =
     on_ok c.tell_names.result (λ h. h ∙ ap (λ ds. found c.args.faults.now ++ duplicates ds)
-    (each_alone method_named (λ (x : Bor Method). method_syntax x.now) c.args.methods.now)) c.tell_names.ensures
+    (each_alone method_named
+    (λ (x : Bor Method). method_syntax x.now) c.args.methods.now)) c.tell_names.ensures

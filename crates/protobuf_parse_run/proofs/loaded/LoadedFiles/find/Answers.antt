@@ -9,7 +9,8 @@ returns-in_err-number-clause-value c =
     let p = c.args.path.now in
     let none : c.get.result ≡ None = c.in_err-number.was in
     let number = number-told c.self.inside.numbers c.self.inside.entries.items c.args.self.now p
-    None c.self.invariant.found c.self.view_is (ap option_copied (sym none) ∙ c.get.ensures.value) in
+    None c.self.invariant.found c.self.view_is
+    (ap option_copied (sym none) ∙ c.get.ensures.value) in
     rw c.from_residual.ensures (sym (unnumbered p c.args.self.now.entries number))
 
 pub returns-in_err-file-clause-number : goal.returns-in_err-file-clause-number

@@ -2,7 +2,8 @@ use Rattle.std.proofs.Common.{◌∙◌, ◌∷◌, [], ap, option_map}
 use Rattle.protobuf_parse_elaboration.specs.OptionViews.{constant_seen}
 use Rattle.protobuf_parse_elaboration.proofs.Settings.{last_value_more}
 use Rattle.protobuf_parse_elaboration.proofs.convert.options.said.last_value.Goals as goal
-use Rattle.protobuf_parse_elaboration.proofs.convert.options.said.last_value.Goals.{in-Some, in_default}
+use Rattle.protobuf_parse_elaboration.proofs.convert.options.said.last_value.Goals.{in-Some}
+use Rattle.protobuf_parse_elaboration.proofs.convert.options.said.last_value.Goals.{in_default}
 
 pub loop-option-preserved : goal.loop-option-preserved
 loop-option-preserved c =
