@@ -4,8 +4,8 @@
     scripts/pages.py [--run]
 
 Run it at the top of the repository. Each link leads to a file, each path of the repository that a
-page names is there, no page is longer than it may be, and docs/MUTANTS.md is what the edits say. With
---run the commands of README.md and docs/TUTORIAL.md are run, one after the other, in a copy of the
+page names is there, and each definition, function and case of docs/HOUSE.md; no page is longer than
+it may be, and docs/MUTANTS.md is what the edits say. With --run the commands of README.md and docs/TUTORIAL.md are run, one after the other, in a copy of the
 repository with the files that the pages show: those that begin with `cd`, `rt try`, `out/`, `protoc`,
 `cat`, `echo` or `mkdir`. Programs in out/ are those that `rt run` has built. The status is 1 if
 anything is wrong.
@@ -40,6 +40,21 @@ def wrong_paths(page, text):
         path = code or plain
         if not MADE.search(path) and not Path(path).exists():
             yield f"{page}: no {path}"
+
+
+def wrong_rooms():
+    """Files, names and cases of the table of rules in docs/HOUSE.md that are not there."""
+    for line in Path("docs/HOUSE.md").read_text().splitlines():
+        cells = [cell.strip() for cell in line.strip("|").split("|")]
+        if len(cells) != 4 or not cells[3].startswith("`") or ".cases" not in cells[3]:
+            continue
+        for cell, top in zip(cells[1:], ["protobuf_parse_"] * 2 + ["protobuf_parse_cases/data/"]):
+            found = re.fullmatch(r"`([\w/.]+)`(?:: `?([^`]+)`?)?", cell)
+            path = Path(f"crates/{top}{found.group(1)}") if found else None
+            if path is None or not path.exists():
+                yield f"docs/HOUSE.md: no {cell}"
+            elif found.group(2) and found.group(2) not in path.read_text():
+                yield f"docs/HOUSE.md: {path} has no {found.group(2)}"
 
 
 def steps(text):
@@ -104,6 +119,7 @@ def main():
         words, most = len(text.split()), MOST_WORDS.get(str(page))
         if most and words > most:
             wrong.append(f"{page}: {words} words, and {most} are enough")
+    wrong += wrong_rooms()
     if subprocess.run([sys.executable, "scripts/mutants.py", "--check"]).returncode != 0:
         wrong.append("docs/MUTANTS.md: scripts/mutants.py writes another page")
     if "--run" in sys.argv:
