@@ -1,7 +1,6 @@
 -- A body with one statement more.
 use Rattle.std.proofs.Common.{◌≡◌, ℕ, ◌+◌, ◌≤◌, Bool, true, false, cond, List, [], ◌∷◌, ◌++◌}
-use Rattle.std.proofs.Common.{flat_map, length, length-append, map, refl, sym, ◌∙◌, ap}
-use Rattle.std.proofs.Common.{arith}
+use Rattle.std.proofs.Common.{flat_map, length, length-append, map, refl, sym, ◌∙◌, ap, arith}
 use Rattle.std.proofs.lemmas.Grind.{flat_map-append}
 use Rattle.std.proofs.lemmas.List.{append-nil, length-map}
 use Rattle.protobuf_parse_syntax.specs.Trees.{ExtendSyntax, file_extend, FieldStatementSyntax}
@@ -18,20 +17,19 @@ use Rattle.protobuf_parse_elaboration.specs.Parts.{BodyParts, FieldAndMessage, F
 use Rattle.protobuf_parse_elaboration.specs.Parts.{body_of, body_view, field_declared_by}
 use Rattle.protobuf_parse_elaboration.specs.Parts.{extensions_declared, fields_declared}
 use Rattle.protobuf_parse_elaboration.specs.Parts.{with_body_statement}
-use Rattle.protobuf_parse_elaboration.specs.Fields.{FieldPlace, field_statement_of}
+use Rattle.protobuf_parse_elaboration.specs.Fields.{FieldOwner, field_statement_of}
 use Rattle.protobuf_parse_elaboration.specs.Messages.{entries_of, enums_of, extending, extended_of}
-use Rattle.protobuf_parse_elaboration.specs.Messages.{fields_of}
-use Rattle.protobuf_parse_elaboration.specs.Messages.{has_own_oneof, at_oneof, nested_of}
+use Rattle.protobuf_parse_elaboration.specs.Messages.{fields_of, has_own_oneof, at_oneof, nested_of}
 use Rattle.protobuf_parse_elaboration.specs.Messages.{oneof_of, oneofs_of, own_oneof, own_oneof_of}
 use Rattle.protobuf_parse_elaboration.specs.FileParts.{parts_view, with_file_statement}
-use Rattle.protobuf_parse_elaboration.specs.declared.convert.body.Body.{Body}
-use Rattle.protobuf_parse_elaboration.specs.declared.convert.contents.Contents.{Contents}
+use Rattle.protobuf_parse_elaboration.specs.declared.constructs.body.Body.{Body}
+use Rattle.protobuf_parse_elaboration.specs.declared.constructs.contents.Contents.{Contents}
 use Rattle.protobuf_parse_elaboration.proofs.Levels.{fields_from-append}
 
-name_is : (env : Environment) (place : FieldPlace) (s : FieldStatementSyntax)
-    → (field_statement_of env place s).name ≡ field_statement_name s
-name_is env place (field f) = refl
-name_is env place (group at label name number fields) = refl
+name_is : (env : Environment) (owner : FieldOwner) (s : FieldStatementSyntax)
+    → (field_statement_of env owner s).name ≡ field_statement_name s
+name_is env owner (field f) = refl
+name_is env owner (group at label name number fields) = refl
 
 module _ (env : Environment) (old new : Body) (index : ℕ) (one : OneofDescriptor)
     (same : index ≡ length old.oneof_decl.items)

@@ -44,8 +44,8 @@ use Rattle.protobuf_parse_elaboration.specs.ConstructOptions.{construct_faults}
 use Rattle.protobuf_parse_elaboration.specs.Fields as specs
 use Rattle.protobuf_parse_elaboration.specs.Fields.{FieldTypeOf, type_of_meaning, type_of}
 use Rattle.protobuf_parse_elaboration.specs.Fields.{inner_type_faults, type_faults}
-use Rattle.protobuf_parse_elaboration.specs.Fields.{faults_of_options, FieldPlace, plain, field_of}
-use Rattle.protobuf_parse_elaboration.specs.Fields.{field_statement_of, field_faults}
+use Rattle.protobuf_parse_elaboration.specs.Fields.{faults_of_options, FieldOwner, of_message}
+use Rattle.protobuf_parse_elaboration.specs.Fields.{field_of, field_statement_of, field_faults}
 use Rattle.protobuf_parse_elaboration.specs.Fields.{fields_of_group, map_faults, grouped_faults}
 use Rattle.protobuf_parse_elaboration.specs.Fields.{field_statement_faults, extension_faults}
 use Rattle.protobuf_parse_elaboration.specs.Messages as messages
@@ -114,11 +114,11 @@ extension-none : (env : Environment) (s : FieldStatementSyntax) → extension_fa
 extension-none env (field f) h = no-right (placed f.place (map_faults f)) (field_faults env f) h
 extension-none env (group at label name number fields) h = h
 
--- what a field extends is what its place says
-extendee-is : (env : Environment) (place : FieldPlace) (s : FieldStatementSyntax)
-    → (field_statement_of env place s).extendee ≡ place.extendee
-extendee-is env place (field f) = refl
-extendee-is env place (group at label name number fields) = refl
+-- what a field extends is what its owner says
+extendee-is : (env : Environment) (owner : FieldOwner) (s : FieldStatementSyntax)
+    → (field_statement_of env owner s).extendee ≡ owner.extendee
+extendee-is env owner (field f) = refl
+extendee-is env owner (group at label name number fields) = refl
 
 -- a name without faults has a full name
 full-stands : (n : Text) (o : Option DeclaredType) → missing n o ≡ []
@@ -233,29 +233,29 @@ module _ (P M : Text → Type 0) (any : (name : Text) → M name → P name) (cu
   -- ---- fields
 
   -- a field without faults in its type
-  field-named : (env : Environment) → Known env → (place : FieldPlace) (f : FieldSyntax)
-      → AllByRecursion P (option_to_list place.extendee)
+  field-named : (env : Environment) → Known env → (owner : FieldOwner) (f : FieldSyntax)
+      → AllByRecursion P (option_to_list owner.extendee)
       → AllByRecursion M (generated_by env.scope (field f)) → type_faults env f.name f.type_ ≡ []
-      → FieldIsNamed (field_of (with_customs env) place f)
-  field-named env known place f e g h =
+      → FieldIsNamed (field_of (with_customs env) owner f)
+  field-named env known owner f e g h =
       let t : TypeIsNamed (type_of (with_customs env) f.name f.type_) =
       type-is-named env known f.name f.type_ g h in
       record {
         stands = t.stands;
         each =
             all-both P (option_to_list (type_of (with_customs env) f.name f.type_).name)
-            (option_to_list place.extendee) t.each e;
+            (option_to_list owner.extendee) t.each e;
         message = t.message;
       }
 
   -- a field or a group
   statement-named : (env : Environment) → Known env
-      → (place : FieldPlace) (s : FieldStatementSyntax)
-      → AllByRecursion P (option_to_list place.extendee)
+      → (owner : FieldOwner) (s : FieldStatementSyntax)
+      → AllByRecursion P (option_to_list owner.extendee)
       → AllByRecursion M (generated_by env.scope s) → own_faults env s ≡ []
-      → FieldIsNamed (field_statement_of (with_customs env) place s)
-  statement-named env known place (field f) e g h = field-named env known place f e g h
-  statement-named env known place (group at label name number fields) e g h =
+      → FieldIsNamed (field_statement_of (with_customs env) owner s)
+  statement-named env known owner (field f) e g h = field-named env known owner f e g h
+  statement-named env known owner (group at label name number fields) e g h =
       record {
         stands = refl;
         each = (any (full_name env.scope name) g.0, e);
@@ -271,9 +271,10 @@ module _ (P M : Text → Type 0) (any : (name : Text) → M name → P name) (cu
 
   -- a field of a group
   grouped-named : (env : Environment) → Known env → (s : FieldStatementSyntax)
-      → grouped_faults env s ≡ [] → FieldIsNamed (field_statement_of (with_customs env) plain s)
+      → grouped_faults env s ≡ [] → FieldIsNamed
+      (field_statement_of (with_customs env) of_message s)
   grouped-named env known (field f) h =
-      field-named env known plain f tt
+      field-named env known of_message f tt
       (no-map (is_map f.type_) f.name (full_name env.scope (entry_name f.name))
       (none_placed f.place (map_faults f)
       (no-left (placed f.place (map_faults f)) (field_faults env f) h)))
@@ -333,7 +334,7 @@ module _ (P M : Text → Type 0) (any : (name : Text) → M name → P name) (cu
       → MessageIsNamed (message_with name (fields_of_group (with_customs env) fields) None)
   group-named env known name fields h =
       message-with-named name (fields_of_group (with_customs env) fields) None
-      (all-map FieldIsNamed (field_statement_of (with_customs env) plain)
+      (all-map FieldIsNamed (field_statement_of (with_customs env) of_message)
       (λ (s : FieldStatementSyntax). grouped_faults env s ≡ []) (grouped-named env known) fields
       (none-each (grouped_faults env) fields h))
 
@@ -360,15 +361,15 @@ module _ (P M : Text → Type 0) (any : (name : Text) → M name → P name) (cu
   abbrev ExtensionIsClean : Environment → FieldStatementSyntax → Type 0
   ExtensionIsClean env s = IsClean (extension_faults env) M (generated_by env.scope) s
 
-  -- fields in one place
+  -- fields of one owner
   fields-named : (env : Environment) → Known env
-      → (place : FieldPlace) (ss : List FieldStatementSyntax)
-      → AllByRecursion P (option_to_list place.extendee) → AllByRecursion (FieldIsClean env) ss
-      → AllByRecursion FieldIsNamed (map (field_statement_of (with_customs env) place) ss)
-  fields-named env known place ss e h =
-      all-map FieldIsNamed (field_statement_of (with_customs env) place) (FieldIsClean env)
+      → (owner : FieldOwner) (ss : List FieldStatementSyntax)
+      → AllByRecursion P (option_to_list owner.extendee) → AllByRecursion (FieldIsClean env) ss
+      → AllByRecursion FieldIsNamed (map (field_statement_of (with_customs env) owner) ss)
+  fields-named env known owner ss e h =
+      all-map FieldIsNamed (field_statement_of (with_customs env) owner) (FieldIsClean env)
       (λ (s : FieldStatementSyntax)
-      (c : FieldIsClean env s). statement-named env known place s e c.each
+      (c : FieldIsClean env s). statement-named env known owner s e c.each
       (own-none env s c.none)) ss h
 
   -- the messages behind them
@@ -451,7 +452,7 @@ module _ (P M : Text → Type 0) (any : (name : Text) → M name → P name) (cu
 
   -- a field of a message extends nothing
   no-extendee : (b : Bool) (index : ℕ)
-      → AllByRecursion P (option_to_list (if b then at_oneof index else plain).extendee)
+      → AllByRecursion P (option_to_list (if b then at_oneof index else of_message).extendee)
   no-extendee true index = tt
   no-extendee false index = tt
 
@@ -470,7 +471,7 @@ module _ (P M : Text → Type 0) (any : (name : Text) → M name → P name) (cu
       → StatementIsClean env s → AllByRecursion FieldIsNamed (fields_of (with_customs env) index s)
   fields-of env known index (message_field f) c = (
     statement-named env known
-        (if has_own_oneof (with_customs env) f then at_oneof index else plain) f
+        (if has_own_oneof (with_customs env) f then at_oneof index else of_message) f
         (no-extendee (has_own_oneof (with_customs env) f) index) c.each (own-none env f c.none),
     tt,
   )

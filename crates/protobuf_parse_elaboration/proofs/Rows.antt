@@ -35,7 +35,8 @@ use Rattle.protobuf_parse_model.specs.Descriptors.{a_message, messages_list}
 use Rattle.protobuf_parse_model.specs.Environment.{Environment, no_customs}
 use Rattle.protobuf_parse_model.specs.OptionMessages.{entry_options}
 use Rattle.protobuf_parse_model.specs.Linking.{link_faults}
-use Rattle.protobuf_parse_elaboration.specs.Fields.{plain, field_of, field_faults, names_of_fields}
+use Rattle.protobuf_parse_elaboration.specs.Fields.{of_message, field_of, field_faults}
+use Rattle.protobuf_parse_elaboration.specs.Fields.{names_of_fields}
 use Rattle.protobuf_parse_elaboration.specs.Enums.{enum_of}
 use Rattle.protobuf_parse_elaboration.specs.Messages as messages
 use Rattle.protobuf_parse_elaboration.specs.FileDescriptor.{environment, file_of, file_faults}
@@ -276,7 +277,7 @@ with_option type_ o = a_field (Some Optional) type_ (codes "foo__bar_1") 1 (o �
 -- bytes b = 1 [default = "ab\nc d\xfeE\"g\'h\0\"z"]: the escapes stand for bytes, which are escaped
 -- anew
 bytes_are_escaped :
-    (field_of (alone with_map) plain
+    (field_of (alone with_map) of_message
     (with_option (scalar word.Bytes)
     (set (codes "default") (string (codes "ab\\nc d\\xfeE\\\"g\\'h\\0\\\"z" ∷ []))))).default_value
     ≡ Some (codes "ab\\nc d\\376E\\\"g\\'h\\000\\\"z")
@@ -297,21 +298,21 @@ number_is_no_string = refl
 
 -- double d = 1 [default = 10]
 default_is_its_text :
-    (field_of (alone with_map) plain
+    (field_of (alone with_map) of_message
     (with_option (scalar word.Double) (set (codes "default") (integer (pos 10))))).default_value
     ≡ Some (codes "10")
 unfolding format chars digits
 default_is_its_text = refl
 
 json_name_is_made :
-    (field_of (alone with_map) plain
+    (field_of (alone with_map) of_message
     (with_option (scalar word.Int32) (set (codes "deprecated") (truth true)))).json_name
     ≡ codes "fooBar1"
 unfolding chars lib.Utf8.encode
 json_name_is_made = refl
 
 json_name_is_set :
-    (field_of (alone with_map) plain
+    (field_of (alone with_map) of_message
     (with_option (scalar word.Int32) (set (codes "json_name") (string (codes "J" ∷ []))))).json_name
     ≡ codes "J"
 unfolding decode_piece front_part byte_part digits_end chars is_utf8 lib.Utf8.encode

@@ -16,7 +16,8 @@ use Rattle.protobuf_parse_model.specs.Statements.{group_body, message_body, oneo
 use Rattle.protobuf_parse_model.specs.Declarations.{Scope, inside, full_name}
 use Rattle.protobuf_parse_model.specs.Environment.{Environment, Customs, env_inside}
 use Rattle.protobuf_parse_model.proofs.Blaming.{among_left, among_right}
-use Rattle.protobuf_parse_elaboration.specs.Fields.{FieldPlace, plain, field_of, field_statement_of}
+use Rattle.protobuf_parse_elaboration.specs.Fields.{FieldOwner, of_message, field_of}
+use Rattle.protobuf_parse_elaboration.specs.Fields.{field_statement_of}
 use Rattle.protobuf_parse_elaboration.specs.Enums.{enum_values, options_of_enum, value_of, enum_of}
 use Rattle.protobuf_parse_elaboration.specs.Services.{methods_in, options_of_service, method_of}
 use Rattle.protobuf_parse_elaboration.specs.Services.{service_of}
@@ -100,13 +101,13 @@ module _ (one other : Customs) where
   -- ---- fields
 
   -- a field
-  field-same : (env : Environment) (p : FieldPlace) (f : FieldSyntax)
+  field-same : (env : Environment) (p : FieldOwner) (f : FieldSyntax)
       → one.bytes of.Field env.scope f.options ≡ other.bytes of.Field env.scope f.options
       → field_of (by_one env) p f ≡ field_of (by_other env) p f
   field-same env p f h = rw h refl
 
   -- a field or a group
-  statement-same : (env : Environment) (p : FieldPlace) (s : FieldStatementSyntax)
+  statement-same : (env : Environment) (p : FieldOwner) (s : FieldStatementSyntax)
       → Same (field_sets env.scope s)
       → field_statement_of (by_one env) p s ≡ field_statement_of (by_other env) p s
   statement-same env p (field f) h =
@@ -117,14 +118,15 @@ module _ (one other : Customs) where
   -- one of a group
   grouped-same : (env : Environment) (within : Scope) (s : FieldStatementSyntax)
       → Same (sets_in_group env.scope within s)
-      → field_statement_of (by_one env) plain s ≡ field_statement_of (by_other env) plain s
+      → field_statement_of (by_one env) of_message s
+      ≡ field_statement_of (by_other env) of_message s
   grouped-same env within (field f) h =
-      field-same env plain f
+      field-same env of_message f
       (h (a_set of.Field (full_name within f.name) env.scope f.options) here)
   grouped-same env within (group at label name number fields) h = refl
 
   -- several in one place
-  fields-same : (env : Environment) (p : FieldPlace) (ss : List FieldStatementSyntax)
+  fields-same : (env : Environment) (p : FieldOwner) (ss : List FieldStatementSyntax)
       → Same (flat_map (field_sets env.scope) ss)
       → map (field_statement_of (by_one env) p) ss ≡ map (field_statement_of (by_other env) p) ss
   fields-same env p ss h =
@@ -145,7 +147,7 @@ module _ (one other : Customs) where
   behind-same env (group at label name number fields) h =
       ap (λ fs. messages.message_with name fs None ∷ [])
       (map-same (sets_in_group env.scope (inside env.scope name))
-      (field_statement_of (by_one env) plain) (field_statement_of (by_other env) plain)
+      (field_statement_of (by_one env) of_message) (field_statement_of (by_other env) of_message)
       (grouped-same env (inside env.scope name)) (group_body fields) h)
 
   -- the messages behind several
@@ -211,7 +213,7 @@ module _ (one other : Customs) where
       → fields_of (by_one env) index s ≡ fields_of (by_other env) index s
   fields-of-same env index (message_field f) h =
       ap (λ d. d ∷ [])
-      (statement-same env (if has_own_oneof env f then at_oneof index else plain) f h)
+      (statement-same env (if has_own_oneof env f then at_oneof index else of_message) f h)
   fields-of-same env index (message_oneof o) h =
       fields-same env (at_oneof index) (flat_map oneof_fields o.body) (λ s k. h s (there k))
   fields-of-same env index _ h = refl

@@ -12,7 +12,7 @@ use Rattle.protobuf_parse_model.specs.Descriptors.{Text, OneofDescriptor}
 use Rattle.protobuf_parse_model.specs.Duplicates.{NamedAt}
 use Rattle.protobuf_parse_model.specs.Statements.{oneof_fields, groups}
 use Rattle.protobuf_parse_model.specs.Environment.{Environment, Customs}
-use Rattle.protobuf_parse_elaboration.specs.Fields.{FieldPlace, plain, field_statement_of}
+use Rattle.protobuf_parse_elaboration.specs.Fields.{FieldOwner, of_message, field_statement_of}
 use Rattle.protobuf_parse_elaboration.specs.Fields.{field_named, names_of_fields}
 use Rattle.protobuf_parse_elaboration.specs.Messages as messages
 use Rattle.protobuf_parse_elaboration.specs.Messages.{entries_of, messages_behind, has_own_oneof}
@@ -51,13 +51,13 @@ module _ (env : Environment) where
   -- ---- fields
 
   -- a field, wherever it stands
-  field-name : (p : FieldPlace) (s : FieldStatementSyntax)
+  field-name : (p : FieldOwner) (s : FieldStatementSyntax)
       → (field_statement_of env p s).name ≡ (field_named s).name
   field-name p (field f) = refl
   field-name p (group at label name number fields) = refl
 
   -- several
-  pub fields-names : (p : FieldPlace) (ss : List FieldStatementSyntax)
+  pub fields-names : (p : FieldOwner) (ss : List FieldStatementSyntax)
       → names_of_fields (map (field_statement_of env p) ss) ≡ names_of (map field_named ss)
   fields-names p [] = refl
   fields-names p (s ∷ ss) = rw (field-name p s, fields-names p ss) refl
@@ -66,7 +66,7 @@ module _ (env : Environment) where
   fields-of-names : (i : ℕ) (s : MessageStatementSyntax)
       → names_of_fields (fields_of env i s) ≡ names_of (messages.fields_named s)
   fields-of-names i (message_field f) =
-      rw (field-name (if has_own_oneof env f then at_oneof i else plain) f) refl
+      rw (field-name (if has_own_oneof env f then at_oneof i else of_message) f) refl
   fields-of-names i (message_oneof o) = fields-names (at_oneof i) (flat_map oneof_fields o.body)
   fields-of-names i _ = refl
 

@@ -4,9 +4,9 @@ use Rattle.std.specs.Prelude.{List, [], map}
 use Rattle.protobuf_parse_syntax.specs.Trees.{MessageStatementSyntax, StatementSyntax}
 use Rattle.protobuf_parse_syntax.specs.declared.tree.Syntax.{Syntax}
 use Rattle.protobuf_parse_model.specs.Duplicates.{NamedAt}
-use Rattle.protobuf_parse_elaboration.specs.declared.convert.declared.DeclaredAs.{DeclaredAs}
-use Rattle.protobuf_parse_elaboration.specs.declared.convert.declared.DeclaredAs.TheVariants as as_
-use Rattle.protobuf_parse_elaboration.specs.declared.convert.told.NamedAt as code
+use Rattle.protobuf_parse_elaboration.specs.declared.constructs.declared.DeclaredAs.{DeclaredAs}
+use Rattle.protobuf_parse_elaboration.specs.declared.constructs.declared.DeclaredAs.TheVariants as as_
+use Rattle.protobuf_parse_elaboration.specs.declared.constructs.told.NamedAt as code
 use Rattle.protobuf_parse_elaboration.specs.Messages.{fields_named, oneofs_named, extensions_named}
 use Rattle.protobuf_parse_elaboration.specs.Messages.{enums_named, messages_named}
 use Rattle.protobuf_parse_elaboration.specs.FileDescriptor.{file_messages_named, file_enums_named}

@@ -9,8 +9,7 @@
 -- field", "Map field"; Protocol Buffers Language Guide, "JSON Options", "Field Presence in proto3"
 -- (https://protobuf.dev).
 use Rattle.std.specs.Prelude.{ℕ, ℤ, pos, Bool, true, false, List, [], ◌++◌, map, flat_map, codes}
-use Rattle.std.specs.Prelude.{bytes_eq, Option, Some, None, unwrap_or, option_map}
-use Rattle.std.specs.Prelude.{if◌then◌else◌}
+use Rattle.std.specs.Prelude.{bytes_eq, Option, Some, None, unwrap_or, option_map, if◌then◌else◌}
 use Rattle.std.specs.List.{find}
 use Rattle.protobuf_parse_base.specs.Cases.{json_name_text}
 use Rattle.protobuf_parse_base.specs.Escapes.{escaped_bytes}
@@ -37,8 +36,7 @@ use Rattle.protobuf_parse_model.specs.Duplicates.{NamedAt, fault, fault_when, du
 use Rattle.protobuf_parse_model.specs.declared.customs.Construct.TheVariants as of
 use Rattle.protobuf_parse_model.specs.Environment.{Environment, customs_bytes, customs_faults}
 use Rattle.protobuf_parse_model.specs.Environment.{type_named, type_missing}
-use Rattle.protobuf_parse_model.specs.BuiltinOptions.{string_faults, builtin_faults}
-use Rattle.protobuf_parse_model.specs.BuiltinOptions.{field_table}
+use Rattle.protobuf_parse_model.specs.BuiltinOptions.{string_faults, builtin_faults, field_table}
 use Rattle.protobuf_parse_model.specs.OptionMessages.{field_options}
 
 -- ---- types
@@ -171,54 +169,55 @@ faults_of_options env type_ name os =
 
 -- ---- fields
 
--- the message that the field extends, and its place among the oneofs
-pub record FieldPlace : Type 0 where
+-- what a field belongs to beside its message: the message that it extends, and the number of the
+-- oneof that it stands in
+pub record FieldOwner : Type 0 where
   pub extendee : Option Text
   pub oneof_index : Option ℕ
 
 -- a field that is no extension and in no oneof
-abbrev pub plain : FieldPlace
-plain = record { extendee = None; oneof_index = None }
+abbrev pub of_message : FieldOwner
+of_message = record { extendee = None; oneof_index = None }
 
 -- of that type
-abbrev pub field_with : Environment → FieldPlace → FieldSyntax → FieldTypeOf → FieldDescriptor
-field_with env place f type_ = record {
+abbrev pub field_with : Environment → FieldOwner → FieldSyntax → FieldTypeOf → FieldDescriptor
+field_with env owner f type_ = record {
   name = f.name;
   number = f.number;
   label = label_of f.label f.type_;
   type_ = type_.kind;
   type_name = type_.name;
-  extendee = place.extendee;
+  extendee = owner.extendee;
   default_value = default_of type_.kind f.options;
-  oneof_index = option_map pos place.oneof_index;
+  oneof_index = option_map pos owner.oneof_index;
   json_name = field_json_name f.name f.options;
   proto3_optional = if is_map f.type_ then false else says_optional env.syntax f.label;
   options = field_options (customs_bytes env of.Field f.options) f.options;
 }
 
-abbrev pub field_of : Environment → FieldPlace → FieldSyntax → FieldDescriptor
-field_of env place f = field_with env place f (type_of env f.name f.type_)
+abbrev pub field_of : Environment → FieldOwner → FieldSyntax → FieldDescriptor
+field_of env owner f = field_with env owner f (type_of env f.name f.type_)
 
 -- the field of a group
-abbrev pub group_field : Environment → FieldPlace → Option Label → Text → ℤ → FieldDescriptor
-group_field env place label name number = record {
+abbrev pub group_field : Environment → FieldOwner → Option Label → Text → ℤ → FieldDescriptor
+group_field env owner label name number = record {
   name = group_field_name name;
   number = number;
   label = unwrap_or label Optional;
   type_ = kind.Group;
   type_name = Some (full_name env.scope name);
-  extendee = place.extendee;
+  extendee = owner.extendee;
   default_value = None;
-  oneof_index = option_map pos place.oneof_index;
+  oneof_index = option_map pos owner.oneof_index;
   json_name = json_name_text (group_field_name name);
   proto3_optional = says_optional env.syntax label;
   options = None;
 }
 
-abbrev pub field_statement_of : Environment → FieldPlace → FieldStatementSyntax → FieldDescriptor
-field_statement_of env place (field f) = field_of env place f
-field_statement_of env place (group at label name number fields) =
-    group_field env place label name number
+abbrev pub field_statement_of : Environment → FieldOwner → FieldStatementSyntax → FieldDescriptor
+field_statement_of env owner (field f) = field_of env owner f
+field_statement_of env owner (group at label name number fields) =
+    group_field env owner label name number
 
 abbrev pub field_faults : Environment → FieldSyntax → List Fault
 field_faults env f = placed f.place (type_faults env f.name f.type_)
@@ -231,7 +230,7 @@ abbrev pub names_of_fields : List FieldDescriptor → List Text
 names_of_fields fields = map (λ (f : FieldDescriptor). f.name) fields
 
 abbrev pub fields_of_group : Environment → List FieldStatementSyntax → List FieldDescriptor
-fields_of_group env fields = map (field_statement_of env plain) fields
+fields_of_group env fields = map (field_statement_of env of_message) fields
 
 -- E4 for a map
 abbrev pub map_faults : FieldSyntax → List Wrong

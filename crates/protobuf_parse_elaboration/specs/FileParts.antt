@@ -17,11 +17,11 @@ use Rattle.protobuf_parse_model.specs.Faults.{Fault}
 use Rattle.protobuf_parse_model.specs.declared.customs.Construct.TheVariants as of
 use Rattle.protobuf_parse_lexer.specs.declared.lexer.token.Place.{Place}
 use Rattle.protobuf_parse_model.specs.Duplicates.{NamedAt}
-use Rattle.protobuf_parse_elaboration.specs.declared.convert.contents.Contents.{Contents}
-use Rattle.protobuf_parse_elaboration.specs.declared.convert.contents.FilePlaces.{FilePlaces}
+use Rattle.protobuf_parse_elaboration.specs.declared.constructs.contents.Contents.{Contents}
+use Rattle.protobuf_parse_elaboration.specs.declared.constructs.contents.FilePlaces.{FilePlaces}
 use Rattle.protobuf_parse_elaboration.specs.FileDescriptor.{file_messages_named, file_enums_named}
 use Rattle.protobuf_parse_elaboration.specs.FileDescriptor.{file_extensions_named, services_named}
-use Rattle.protobuf_parse_elaboration.specs.declared.convert.heading.Heading.{Heading}
+use Rattle.protobuf_parse_elaboration.specs.declared.constructs.heading.Heading.{Heading}
 use Rattle.protobuf_parse_elaboration.specs.ConstructOptions.{construct_faults}
 use Rattle.protobuf_parse_elaboration.specs.FileDescriptor.{file_enums_of, file_extensions_of}
 use Rattle.protobuf_parse_elaboration.specs.FileDescriptor.{file_messages_of, services_of}

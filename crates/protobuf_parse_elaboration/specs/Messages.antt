@@ -43,8 +43,8 @@ use Rattle.protobuf_parse_model.specs.Environment.{type_full_name, type_missing}
 use Rattle.protobuf_parse_model.specs.BuiltinOptions.{message_table, oneof_table}
 use Rattle.protobuf_parse_model.specs.OptionMessages.{message_options, entry_options, oneof_options}
 use Rattle.protobuf_parse_elaboration.specs.ConstructOptions.{construct_faults}
-use Rattle.protobuf_parse_elaboration.specs.Fields.{FieldTypeOf, type_of, says_optional, FieldPlace}
-use Rattle.protobuf_parse_elaboration.specs.Fields.{plain, field_statement_of, field_named}
+use Rattle.protobuf_parse_elaboration.specs.Fields.{FieldTypeOf, type_of, says_optional, FieldOwner}
+use Rattle.protobuf_parse_elaboration.specs.Fields.{of_message, field_statement_of, field_named}
 use Rattle.protobuf_parse_elaboration.specs.Fields.{fields_of_group, field_statement_faults}
 use Rattle.protobuf_parse_elaboration.specs.Fields.{extension_faults}
 use Rattle.protobuf_parse_elaboration.specs.Enums.{enum_of, enum_faults, ranges_reserved}
@@ -142,13 +142,13 @@ oneofs_of env _ = []
 -- ---- fields
 
 -- in the oneof at that place
-abbrev pub at_oneof : ℕ → FieldPlace
+abbrev pub at_oneof : ℕ → FieldOwner
 at_oneof index = record { extendee = None; oneof_index = Some index }
 
 -- the fields of a statement before which so many oneofs stand
 abbrev pub fields_of : Environment → ℕ → MessageStatementSyntax → List FieldDescriptor
 fields_of env index (message_field f) =
-    field_statement_of env (if has_own_oneof env f then at_oneof index else plain) f ∷ []
+    field_statement_of env (if has_own_oneof env f then at_oneof index else of_message) f ∷ []
 fields_of env index (message_oneof o) =
     map (field_statement_of env (at_oneof index)) (flat_map oneof_fields o.body)
 fields_of env index _ = []
@@ -160,7 +160,7 @@ fields_from env index (s ∷ ss) = fields_of env index s
 
 -- ---- extensions
 
-abbrev pub extending : Environment → Text → FieldPlace
+abbrev pub extending : Environment → Text → FieldOwner
 extending env extendee = record { extendee = type_full_name env extendee; oneof_index = None }
 
 abbrev pub extend_fields : Environment → ExtendSyntax → List FieldDescriptor

@@ -10,8 +10,8 @@ use Rattle.protobuf_parse_model.specs.BuiltinOptions as spec
 use Rattle.protobuf_parse_model.specs.BuiltinOptions.{options_seen, Words, a_text, a_truth, a_word}
 use Rattle.protobuf_parse_model.specs.BuiltinOptions.{Table}
 use Rattle.protobuf_parse_model.specs.Descriptors.{Text}
-use Rattle.protobuf_parse_elaboration.specs.declared.convert.options.tables.BuiltinKind.{BuiltinKind}
-use Rattle.protobuf_parse_elaboration.specs.declared.convert.options.tables.BuiltinKind.TheVariants as kind
+use Rattle.protobuf_parse_elaboration.specs.declared.constructs.options.tables.BuiltinKind.{BuiltinKind}
+use Rattle.protobuf_parse_elaboration.specs.declared.constructs.options.tables.BuiltinKind.TheVariants as kind
 
 abbrev pub constant_seen : Bor ProtobufConstant → ConstantSyntax
 constant_seen c = constant_syntax c.now

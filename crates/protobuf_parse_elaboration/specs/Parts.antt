@@ -5,7 +5,7 @@ use Rattle.std.specs.Prelude.{option_map, option_to_list}
 use Rattle.std.specs.Borrow.{Bor}
 use Rattle.std.specs.Global.{Global, Vec, Box}
 use Rattle.protobuf_parse_base.specs.DeclaredNames.{name_bytes}
-use Rattle.protobuf_parse_elaboration.specs.declared.convert.types.ResolvedType.{ResolvedType}
+use Rattle.protobuf_parse_elaboration.specs.declared.constructs.types.ResolvedType.{ResolvedType}
 use Rattle.protobuf_parse_model.specs.Descriptors.{a_message as message_descriptor}
 use Rattle.protobuf_parse_model.specs.Descriptors.{messages_of_list, Text, Range}
 use Rattle.protobuf_parse_model.specs.Descriptors.{extension_range_view, reserved_range_view}
@@ -21,10 +21,10 @@ use Rattle.protobuf_parse_model.specs.Options.{field_options_view, message_optio
 use Rattle.protobuf_parse_model.specs.OptionMessages.{field_options, message_options}
 use Rattle.protobuf_parse_model.specs.declared.customs.Construct.TheVariants as of
 use Rattle.protobuf_parse_model.specs.Environment.{Environment, customs_bytes}
-use Rattle.protobuf_parse_elaboration.specs.declared.convert.place.FieldPlace.{FieldPlace}
+use Rattle.protobuf_parse_elaboration.specs.declared.constructs.place.FieldOwner.{FieldOwner}
 use Rattle.protobuf_parse_elaboration.specs.Fields as fields
-use Rattle.protobuf_parse_elaboration.specs.declared.convert.field.FieldSaid.{FieldSaid}
-use Rattle.protobuf_parse_elaboration.specs.declared.convert.statement.DeclaredField.{DeclaredField}
+use Rattle.protobuf_parse_elaboration.specs.declared.constructs.field.FieldSaid.{FieldSaid}
+use Rattle.protobuf_parse_elaboration.specs.declared.constructs.statement.DeclaredField.{DeclaredField}
 use Rattle.protobuf_parse_elaboration.specs.Messages.{messages_behind, oneofs_of, fields_of}
 use Rattle.protobuf_parse_elaboration.specs.Messages.{fields_from, nested_of, enums_of, extended_of}
 use Rattle.protobuf_parse_elaboration.specs.Messages.{extension_ranges, reserves, options_of_body}
@@ -38,9 +38,9 @@ use Rattle.protobuf_parse_syntax.specs.declared.tree.declaration.Reserved.{Reser
 use Rattle.protobuf_parse_syntax.specs.declared.tree.declaration.EnumValue.{EnumValue}
 use Rattle.protobuf_parse_elaboration.specs.Messages.{exclusive}
 use Rattle.protobuf_parse_elaboration.specs.Enums.{names_reserved, ranges_reserved}
-use Rattle.protobuf_parse_elaboration.specs.declared.convert.rest.Rest.{Rest}
-use Rattle.protobuf_parse_elaboration.specs.declared.convert.lists.DeclaredFields.{DeclaredFields}
-use Rattle.protobuf_parse_elaboration.specs.declared.convert.body.Body.{Body}
+use Rattle.protobuf_parse_elaboration.specs.declared.constructs.rest.Rest.{Rest}
+use Rattle.protobuf_parse_elaboration.specs.declared.constructs.lists.DeclaredFields.{DeclaredFields}
+use Rattle.protobuf_parse_elaboration.specs.declared.constructs.body.Body.{Body}
 use Rattle.protobuf_parse_elaboration.specs.Fields.{FieldTypeOf}
 
 abbrev pub resolved_view : ResolvedType → FieldTypeOf
@@ -72,13 +72,13 @@ abbrev pub declared_view : DeclaredField → FieldAndMessage
 declared_view d =
     record { field = field_view d.field; behind = map message_view (behind_seen d.behind) }
 
-abbrev pub field_declared_by : Environment → fields.FieldPlace → FieldStatementSyntax
+abbrev pub field_declared_by : Environment → fields.FieldOwner → FieldStatementSyntax
     → FieldAndMessage
 field_declared_by env place s =
     record { field = fields.field_statement_of env place s; behind = messages_behind env s }
 
 -- the same in an `extend`, where a message stands behind a group alone
-abbrev pub extension_declared_by : Environment → fields.FieldPlace → FieldStatementSyntax
+abbrev pub extension_declared_by : Environment → fields.FieldOwner → FieldStatementSyntax
     → FieldAndMessage
 extension_declared_by env place s =
     record {
@@ -95,7 +95,7 @@ abbrev pub fields_view : DeclaredFields → FieldsAndMessages
 fields_view d =
     record { fields = map field_view d.fields.items; behind = map message_view d.behind.items }
 
-abbrev pub fields_declared : Environment → fields.FieldPlace → List FieldStatementSyntax
+abbrev pub fields_declared : Environment → fields.FieldOwner → List FieldStatementSyntax
     → FieldsAndMessages
 fields_declared env place ss =
     record {
@@ -104,7 +104,7 @@ fields_declared env place ss =
           flat_map (messages_behind env) ss;
     }
 
-abbrev pub extensions_declared : Environment → fields.FieldPlace → List FieldStatementSyntax
+abbrev pub extensions_declared : Environment → fields.FieldOwner → List FieldStatementSyntax
     → FieldsAndMessages
 extensions_declared env place ss =
     record {
@@ -228,8 +228,8 @@ said_by env type_ name os =
       options = field_options (customs_bytes env of.Field os) os;
     }
 
-abbrev pub field_place_view : FieldPlace → fields.FieldPlace
-field_place_view p =
+abbrev pub field_owner_view : FieldOwner → fields.FieldOwner
+field_owner_view p =
     record {
       extendee = option_map (λ (s : Bor (List ℕ)). s.now) p.extendee;
       oneof_index =

@@ -1,10 +1,10 @@
 //! From a file's tree to its descriptor.
 #![tactic(auto)]
 
-mod convert;
+mod constructs;
 mod laws;
 
-pub use convert::{
+pub use constructs::{
     decoded_bytes, decoded_text, elaborate, elaborate_all, elaborate_all_owned, elaborate_owned,
     has_builtin_option,
 };

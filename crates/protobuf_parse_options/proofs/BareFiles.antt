@@ -15,7 +15,7 @@ use Rattle.protobuf_parse_model.specs.Descriptors.{MessageDescriptor, messages, 
 use Rattle.protobuf_parse_model.specs.Descriptors.{MethodDescriptor}
 use Rattle.protobuf_parse_model.specs.Statements.{group_body, message_body, oneof_fields, groups}
 use Rattle.protobuf_parse_model.specs.Environment.{Environment, Customs, env_inside}
-use Rattle.protobuf_parse_elaboration.specs.Fields.{FieldPlace, plain, field_statement_of}
+use Rattle.protobuf_parse_elaboration.specs.Fields.{FieldOwner, of_message, field_statement_of}
 use Rattle.protobuf_parse_elaboration.specs.Enums.{enum_values, value_of, enum_of}
 use Rattle.protobuf_parse_elaboration.specs.Services.{methods_in, method_of, service_of}
 use Rattle.protobuf_parse_elaboration.specs.Messages as bodies
@@ -70,13 +70,13 @@ module _ (one other : Customs) where
 
   -- ---- fields
 
-  field-alike : (env : Environment) (p : FieldPlace) (s : FieldStatementSyntax)
+  field-alike : (env : Environment) (p : FieldOwner) (s : FieldStatementSyntax)
       → bare_field (field_statement_of (by_one env) p s)
       ≡ bare_field (field_statement_of (by_other env) p s)
   field-alike env p (field f) = refl
   field-alike env p (group at label name number fields) = refl
 
-  fields-alike : (env : Environment) (p : FieldPlace) (ss : List FieldStatementSyntax)
+  fields-alike : (env : Environment) (p : FieldOwner) (ss : List FieldStatementSyntax)
       → map bare_field (map (field_statement_of (by_one env) p) ss)
       ≡ map bare_field (map (field_statement_of (by_other env) p) ss)
   fields-alike env p ss =
@@ -113,7 +113,7 @@ module _ (one other : Customs) where
       → map bare_field (fields_of (by_one env) i s) ≡ map bare_field (fields_of (by_other env) i s)
   fields-of-alike env i (message_field f) =
       ap (λ (d : FieldDescriptor). d ∷ [])
-      (field-alike env (if has_own_oneof env f then at_oneof i else plain) f)
+      (field-alike env (if has_own_oneof env f then at_oneof i else of_message) f)
   fields-of-alike env i (message_oneof o) =
       fields-alike env (at_oneof i) (flat_map oneof_fields o.body)
   fields-of-alike env i _ = refl
@@ -171,7 +171,7 @@ module _ (one other : Customs) where
   behind-alike env (field f) = entries-alike env f.name f.type_
   behind-alike env (group at label name number fields) =
       ap (λ (fs : List FieldDescriptor). message_with name fs None ∷ [])
-      (fields-alike env plain (group_body fields))
+      (fields-alike env of_message (group_body fields))
 
   behinds-alike : (env : Environment) (ss : List FieldStatementSyntax)
       → map bare_message (flat_map (messages_behind (by_one env)) ss)

@@ -36,7 +36,7 @@ use Rattle.protobuf_parse_model.specs.Declarations.{Scope, inside, full_name}
 use Rattle.protobuf_parse_model.specs.Environment.{Environment, Customs, env_inside, customs_bytes}
 use Rattle.protobuf_parse_model.specs.OptionMessages.{message_options}
 use Rattle.protobuf_parse_model.proofs.Blaming.{among_left}
-use Rattle.protobuf_parse_elaboration.specs.Fields.{FieldPlace, plain, field_of, field_statement_of}
+use Rattle.protobuf_parse_elaboration.specs.Fields.{FieldOwner, of_message, field_of, field_statement_of}
 use Rattle.protobuf_parse_elaboration.specs.Enums.{enum_values, options_of_enum, value_of, enum_of}
 use Rattle.protobuf_parse_elaboration.specs.Services.{methods_in, options_of_service}
 use Rattle.protobuf_parse_elaboration.specs.Services.{options_of_method, method_of, service_of}
@@ -272,7 +272,7 @@ module _ (customs : Customs) where
 -- ---- fields
 
 -- a field that stands in the scope `within`
-field_held : (env : Environment) (within : Scope) (p : FieldPlace) (f : FieldSyntax)
+field_held : (env : Environment) (within : Scope) (p : FieldOwner) (f : FieldSyntax)
     → HeldFor env.customs (a_set of.Field (full_name within f.name) env.scope f.options ∷ [])
     (held_in_field within (field_of env p f))
 field_held env within p f =
@@ -281,8 +281,8 @@ field_held env within p f =
 
 grouped_held : (env : Environment) (within : Scope) (s : FieldStatementSyntax)
     → HeldFor env.customs (sets_in_group env.scope within s)
-    (held_in_field within (field_statement_of env plain s))
-grouped_held env within (field f) = field_held env within plain f
+    (held_in_field within (field_statement_of env of_message s))
+grouped_held env within (field f) = field_held env within of_message f
 grouped_held env within (group at label name number fields) = none_held env.customs
 
 -- the message behind a map
@@ -294,7 +294,7 @@ entries_held env name (scalar s) = none_held env.customs
 entries_held env name (named n) = none_held env.customs
 
 -- a field or a group, by its field and by the message behind it
-statement_of_field_held : (env : Environment) (p : FieldPlace) (s : FieldStatementSyntax)
+statement_of_field_held : (env : Environment) (p : FieldOwner) (s : FieldStatementSyntax)
     → HeldFor env.customs (field_sets env.scope s)
     (held_in_field env.scope (field_statement_of env p s)
     ++ flat_map (held_in_message env.scope) (messages_behind env s))
@@ -306,14 +306,14 @@ statement_of_field_held env p (field f) =
 statement_of_field_held env p (group at label name number fields) =
     let within : Scope = inside env.scope name in
     let hs = flat_map (held_in_field within)
-    (map (field_statement_of env plain) (group_body fields)) in
+    (map (field_statement_of env of_message) (group_body fields)) in
     equal_held env.customs (flat_map (sets_in_group env.scope within) (group_body fields)) hs _
     (group_parted hs)
-    (all_held env.customs (sets_in_group env.scope within) (field_statement_of env plain)
+    (all_held env.customs (sets_in_group env.scope within) (field_statement_of env of_message)
     (held_in_field within) (grouped_held env within) (group_body fields))
 
 -- several in one place
-fields_held : (env : Environment) (p : FieldPlace) (ss : List FieldStatementSyntax)
+fields_held : (env : Environment) (p : FieldOwner) (ss : List FieldStatementSyntax)
     → HeldFor env.customs (flat_map (field_sets env.scope) ss)
     (flat_map (held_in_field env.scope) (map (field_statement_of env p) ss)
     ++ flat_map (held_in_message env.scope) (flat_map (messages_behind env) ss))
@@ -334,7 +334,7 @@ fields_held env p (s ∷ ss) =
     (one ++ behind) (more ++ rest) (statement_of_field_held env p s) (fields_held env p ss)))
 
 -- those of an `extend`, with the messages behind its groups
-extensions_held : (env : Environment) (p : FieldPlace) (ss : List FieldStatementSyntax)
+extensions_held : (env : Environment) (p : FieldOwner) (ss : List FieldStatementSyntax)
     → HeldFor env.customs (flat_map (field_sets env.scope) ss)
     (flat_map (held_in_field env.scope) (map (field_statement_of env p) ss)
     ++ flat_map (held_in_message env.scope) (flat_map (messages_behind env) (flat_map groups ss)))
@@ -500,7 +500,7 @@ field_statement_held : (env : Environment) (index : ℕ) (f : FieldStatementSynt
     → HeldFor env.customs (field_sets env.scope f)
     (held_in_statement env index (message_field f))
 field_statement_held env index f =
-    let p = if has_own_oneof env f then at_oneof index else plain in
+    let p = if has_own_oneof env f then at_oneof index else of_message in
     let one = held_in_field env.scope (field_statement_of env p f) in
     let behind = flat_map (held_in_message env.scope) (messages_behind env f) in
     equal_held env.customs (field_sets env.scope f) (one ++ behind)

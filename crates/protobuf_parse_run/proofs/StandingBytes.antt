@@ -21,7 +21,7 @@ use Rattle.protobuf_parse_model.specs.Faults.{Among, here, there}
 use Rattle.protobuf_parse_model.specs.Statements.{group_body, message_body, oneof_fields, groups}
 use Rattle.protobuf_parse_model.specs.Declarations.{Scope, inside, full_name}
 use Rattle.protobuf_parse_model.specs.Environment.{Environment, Customs, env_inside}
-use Rattle.protobuf_parse_elaboration.specs.Fields.{FieldPlace, plain, field_of, field_statement_of}
+use Rattle.protobuf_parse_elaboration.specs.Fields.{FieldOwner, of_message, field_of, field_statement_of}
 use Rattle.protobuf_parse_elaboration.specs.Enums.{enum_values, options_of_enum, value_of, enum_of}
 use Rattle.protobuf_parse_elaboration.specs.Services.{methods_in, options_of_service}
 use Rattle.protobuf_parse_elaboration.specs.Services.{options_of_method, method_of, service_of}
@@ -164,7 +164,7 @@ module _ (one other : Customs) where
 
   -- ---- fields
 
-  field_told : {name : Text} (env : Environment) (p : FieldPlace) (f : FieldSyntax)
+  field_told : {name : Text} (env : Environment) (p : FieldOwner) (f : FieldSyntax)
       → field_of (by_one env) p f ≡ field_of (by_other env) p f
       → Told (a_set of.Field name env.scope f.options ∷ [])
   field_told env p f h =
@@ -173,9 +173,9 @@ module _ (one other : Customs) where
       (ap (λ (d : FieldDescriptor). d.options) h)) nothing_told
 
   grouped_told : (env : Environment) (within : Scope) (s : FieldStatementSyntax)
-      → field_statement_of (by_one env) plain s ≡ field_statement_of (by_other env) plain s
+      → field_statement_of (by_one env) of_message s ≡ field_statement_of (by_other env) of_message s
       → Told (sets_in_group env.scope within s)
-  grouped_told env within (field f) h = field_told env plain f h
+  grouped_told env within (field f) h = field_told env of_message f h
   grouped_told env within (group at label name number fields) h = nothing_told
 
   -- the messages behind a field are as many
@@ -197,19 +197,19 @@ module _ (one other : Customs) where
   nested_list (a_message parts nested) = messages_list nested
 
   -- a field or a group, by its field and by the message behind it
-  statement_of_field_told : (env : Environment) (p : FieldPlace) (s : FieldStatementSyntax)
+  statement_of_field_told : (env : Environment) (p : FieldOwner) (s : FieldStatementSyntax)
       → field_statement_of (by_one env) p s ≡ field_statement_of (by_other env) p s
       → messages_behind (by_one env) s ≡ messages_behind (by_other env) s
       → Told (field_sets env.scope s)
   statement_of_field_told env p (field f) h k = field_told env p f h
   statement_of_field_told env p (group at label name number fields) h k =
       map_told (sets_in_group env.scope (inside env.scope name))
-      (field_statement_of (by_one env) plain) (field_statement_of (by_other env) plain)
+      (field_statement_of (by_one env) of_message) (field_statement_of (by_other env) of_message)
       (grouped_told env (inside env.scope name)) (group_body fields)
       (ap (λ (m : MessageDescriptor). (parts_of m).field) (first_same k))
 
   -- several in one place
-  fields_told : (env : Environment) (p : FieldPlace) (ss : List FieldStatementSyntax)
+  fields_told : (env : Environment) (p : FieldOwner) (ss : List FieldStatementSyntax)
       → map (field_statement_of (by_one env) p) ss ≡ map (field_statement_of (by_other env) p) ss
       → flat_map (messages_behind (by_one env)) ss ≡ flat_map (messages_behind (by_other env)) ss
       → Told (flat_map (field_sets env.scope) ss)
@@ -222,7 +222,7 @@ module _ (one other : Customs) where
       (fields_told env p ss (rest_same h) (backs_same a b _ _ (behind_length env s) k))
 
   -- those of an `extend`, with the messages behind its groups
-  extensions_told : (env : Environment) (p : FieldPlace) (ss : List FieldStatementSyntax)
+  extensions_told : (env : Environment) (p : FieldOwner) (ss : List FieldStatementSyntax)
       → map (field_statement_of (by_one env) p) ss ≡ map (field_statement_of (by_other env) p) ss
       → flat_map (messages_behind (by_one env)) (flat_map groups ss)
       ≡ flat_map (messages_behind (by_other env)) (flat_map groups ss)

@@ -1,0 +1,22 @@
+use Rattle.std.proofs.Common.{◌≡◌, ◌++◌, map, take, flat_map}
+use Rattle.protobuf_parse_syntax.specs.Trees.{field_statement_syntax}
+use Rattle.protobuf_parse_model.specs.Statements.{groups}
+use Rattle.protobuf_parse_model.specs.SeenFiles.{environment_in}
+use Rattle.protobuf_parse_model.specs.Descriptors.{field_view, message_view}
+use Rattle.protobuf_parse_model.specs.Faults.{found}
+use Rattle.protobuf_parse_elaboration.specs.Parts.{field_owner_view}
+use Rattle.protobuf_parse_elaboration.specs.Fields.{extension_faults, field_statement_of}
+use Rattle.protobuf_parse_elaboration.specs.Messages.{messages_behind}
+use Rattle.protobuf_parse_elaboration.proofs.constructs.lists.declared_extensions.Given as goal
+
+abbrev pub invariant-loop-statement : goal.invariant-loop-statement
+invariant-loop-statement g l =
+    let env = environment_in (g.C.CustomOptions.customs l.at.custom.now) l.at.context in
+    let seen = map field_statement_syntax (take l.statement-index l.statements) in
+    record {
+      told : found l.faults ≡ found l.initial.faults ++ flat_map (extension_faults env) seen;
+      all : map field_view l.fields.items
+          ≡ map (field_statement_of env (field_owner_view l.owner)) seen;
+      all_behind : map message_view l.behind.items
+          ≡ flat_map (messages_behind env) (flat_map groups seen);
+    }

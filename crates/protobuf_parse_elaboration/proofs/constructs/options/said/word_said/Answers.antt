@@ -1,0 +1,8 @@
+use Rattle.protobuf_parse_elaboration.specs.OptionViews.{words_seen}
+use Rattle.protobuf_parse_elaboration.proofs.Settings.{word_found}
+use Rattle.protobuf_parse_elaboration.proofs.constructs.options.said.word_said.Goals as goal
+
+pub returns-in-Ident : goal.returns-in-Ident
+returns-in-Ident g c =
+    word_found (words_seen c.args.words.now) c.args.value.now c.in-Ident.said c.deref.result.now
+    c.value_of_word.result c.in-Ident.is c.deref.ensures c.value_of_word.ensures

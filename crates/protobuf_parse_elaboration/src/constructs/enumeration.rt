@@ -1,0 +1,233 @@
+//! Enums.
+
+ghost use Rattle.std.specs.Prelude.{◌≡◌, ◌++◌, map, flat_map, option_map, string_bytes, IfOk, OnOk};
+ghost use Rattle.protobuf_parse_syntax.specs.Trees as tree;
+ghost use Rattle.protobuf_parse_model.specs.BuiltinOptions.{enum_table};
+ghost use Rattle.protobuf_parse_model.specs.SeenFiles.{environment_in};
+ghost use Rattle.protobuf_parse_model.specs.Descriptors as described;
+ghost use Rattle.protobuf_parse_model.specs.Duplicates.{duplicates};
+ghost use Rattle.protobuf_parse_model.specs.Faults.{found};
+ghost use Rattle.protobuf_parse_model.specs.Environment.{customs_bytes};
+ghost use Rattle.protobuf_parse_model.specs.declared.customs.Construct.TheVariants as of;
+ghost use Rattle.protobuf_parse_model.specs.Options.{enum_options_view};
+ghost use Rattle.protobuf_parse_model.specs.OptionMessages as sets;
+ghost use Rattle.protobuf_parse_elaboration.specs.ConstructOptions.{construct_faults};
+ghost use Rattle.protobuf_parse_elaboration.specs.Parts.{reserves_seen, values_seen};
+ghost use Rattle.protobuf_parse_elaboration.specs.Enums as enums;
+
+use crate::constructs::declared::DeclaredAs;
+use crate::constructs::options::{
+    custom_bytes, enum_options, enum_value_options, options_in, options_of,
+};
+use crate::constructs::reserved::{inclusive_ranges, names_reserved, ranges_reserved};
+use crate::constructs::told::tell_names;
+use crate::constructs::viewpoint::Viewpoint;
+use protobuf_parse_model::{
+    Construct, CustomOptions, ElabError, EnumDescriptorProto, EnumOptions, EnumReservedRange,
+    EnumValueDescriptorProto,
+};
+use protobuf_parse_syntax::{EnumStatement, EnumValue, Enumeration, Reserved};
+use std::alloc::{AllocError, Global};
+
+/// The descriptor of an enum.
+///
+/// E1 where two of its values have one name, and the faults of its options.
+pub fn enum_descriptor<C: CustomOptions>(
+    at: &Viewpoint<'_, '_, C>,
+    faults: &mut Vec<ElabError>,
+    enumeration: &Enumeration,
+) -> Result<EnumDescriptorProto, AllocError>
+    ensures value { let env = environment_in (C.customs at.now.custom.now) at.now.context in
+        IfOk result (λ d. described.enum_view d
+        ≡ enums.enum_of env (tree.enum_syntax enumeration.now)) }
+    ensures faults { let env = environment_in (C.customs at.now.custom.now) at.now.context in
+        OnOk result (found faults.new ≡ found faults.old
+        ++ enums.enum_faults env (tree.enum_syntax enumeration.now)) }
+{
+    let value = enum_values(at, faults, &enumeration.body)?;
+    let reserved = reserved(at.alloc, &enumeration.body)?;
+    let name = enumeration.name.clone()?;
+    let options = told_options(at, faults, &enumeration.body)?;
+    Ok(EnumDescriptorProto {
+        name,
+        value,
+        reserved_range: reserved.ranges,
+        reserved_name: reserved.names,
+        options,
+    })
+}
+
+/// The descriptors of the values. E1 where two have one name.
+fn enum_values<C: CustomOptions>(
+    at: &Viewpoint<'_, '_, C>,
+    faults: &mut Vec<ElabError>,
+    body: &[EnumStatement],
+) -> Result<Vec<EnumValueDescriptorProto>, AllocError>
+    ensures value { let env = environment_in (C.customs at.now.custom.now) at.now.context in
+        let vs = flat_map enums.enum_values (map tree.enum_statement_syntax body.now) in
+        IfOk result (λ v. map described.enum_value_view v.items ≡ map (enums.value_of env) vs) }
+    ensures faults { let env = environment_in (C.customs at.now.custom.now) at.now.context in
+        let vs = flat_map enums.enum_values (map tree.enum_statement_syntax body.now) in
+        OnOk result (found faults.new ≡ found faults.old ++ enums.values_faults env vs) }
+{
+    let values = values(at.alloc, body)?;
+    unlike_values(at, faults, &values)
+}
+
+/// The descriptors of these values. E1 where two have one name.
+fn unlike_values<C: CustomOptions>(
+    at: &Viewpoint<'_, '_, C>,
+    faults: &mut Vec<ElabError>,
+    values: &[&EnumValue],
+) -> Result<Vec<EnumValueDescriptorProto>, AllocError>
+    ensures value { let env = environment_in (C.customs at.now.custom.now) at.now.context in
+        IfOk result (λ v. map described.enum_value_view v.items
+        ≡ map (enums.value_of env) (values_seen values.now)) }
+    ensures faults { let env = environment_in (C.customs at.now.custom.now) at.now.context in
+        OnOk result (found faults.new ≡ found faults.old
+        ++ enums.values_faults env (values_seen values.now)) }
+{
+    let descriptors = value_descriptors(at, faults, values)?;
+    tell_value_names(at, faults, values, &descriptors)?;
+    Ok(descriptors)
+}
+
+/// E1 where two of the values have one name. The descriptors are theirs.
+fn tell_value_names<C: CustomOptions>(
+    at: &Viewpoint<'_, '_, C>,
+    faults: &mut Vec<ElabError>,
+    values: &[&EnumValue],
+    descriptors: &[EnumValueDescriptorProto],
+) -> Result<(), AllocError>
+    requires { let env = environment_in (C.customs at.now.custom.now) at.now.context in
+        map described.enum_value_view descriptors.now
+        ≡ map (enums.value_of env) (values_seen values.now) }
+    ensures { OnOk result (found faults.new ≡ found faults.old
+        ++ duplicates (map enums.value_named (values_seen values.now))) }
+{
+    let syntax = at.context.syntax;
+    tell_names(
+        at.alloc,
+        faults,
+        DeclaredAs::Other,
+        syntax,
+        values,
+        descriptors,
+    )
+}
+
+/// The values of an enum.
+fn values(alloc: Global, body: &[EnumStatement]) -> Result<Vec<&EnumValue>, AllocError>
+    ensures { IfOk result
+        (λ v. values_seen v.items
+        ≡ flat_map enums.enum_values (map tree.enum_statement_syntax body.now)) }
+{
+    let mut values = Vec::new(alloc);
+    for statement in body {
+        if let EnumStatement::Value(value) = statement {
+            values.push(value)?;
+        }
+    }
+    Ok(values)
+}
+
+/// Their descriptors.
+fn value_descriptors<C: CustomOptions>(
+    at: &Viewpoint<'_, '_, C>,
+    faults: &mut Vec<ElabError>,
+    values: &[&EnumValue],
+) -> Result<Vec<EnumValueDescriptorProto>, AllocError>
+    ensures value { let env = environment_in (C.customs at.now.custom.now) at.now.context in
+        IfOk result (λ v. map described.enum_value_view v.items
+        ≡ map (enums.value_of env) (values_seen values.now)) }
+    ensures faults { let env = environment_in (C.customs at.now.custom.now) at.now.context in
+        OnOk result (found faults.new ≡ found faults.old
+        ++ flat_map (enums.value_faults env) (values_seen values.now)) }
+{
+    let mut descriptors = Vec::with_capacity(at.alloc, values.len())?;
+    for value in values {
+        descriptors.push(value_descriptor(at, faults, value)?)?;
+    }
+    Ok(descriptors)
+}
+
+fn value_descriptor<C: CustomOptions>(
+    at: &Viewpoint<'_, '_, C>,
+    faults: &mut Vec<ElabError>,
+    value: &EnumValue,
+) -> Result<EnumValueDescriptorProto, AllocError>
+    ensures value { let env = environment_in (C.customs at.now.custom.now) at.now.context in
+        IfOk result (λ d. described.enum_value_view d
+        ≡ enums.value_of env (tree.value_syntax value.now)) }
+    ensures faults { let env = environment_in (C.customs at.now.custom.now) at.now.context in
+        OnOk result (found faults.new ≡ found faults.old
+        ++ enums.value_faults env (tree.value_syntax value.now)) }
+{
+    let options = options_of(at.alloc, &value.options)?;
+    let bytes = custom_bytes(at, faults, Construct::EnumValue, &options)?;
+    Ok(EnumValueDescriptorProto {
+        name: value.name.clone()?,
+        number: value.number,
+        options: enum_value_options(&options, bytes),
+    })
+}
+
+/// What the options of an enum say.
+#[tactic(auto, using(crate::proofs::StatedOptions::enum_options_set))]
+fn told_options<C: CustomOptions>(
+    at: &Viewpoint<'_, '_, C>,
+    faults: &mut Vec<ElabError>,
+    body: &[EnumStatement],
+) -> Result<Option<EnumOptions>, AllocError>
+    ensures value { let env = environment_in (C.customs at.now.custom.now) at.now.context in
+        let os = flat_map enums.options_in_enum (map tree.enum_statement_syntax body.now) in
+        IfOk result (λ o. option_map enum_options_view o
+        ≡ sets.enum_options (customs_bytes env of.Enum os) os) }
+    ensures faults { let env = environment_in (C.customs at.now.custom.now) at.now.context in
+        let os = flat_map enums.options_in_enum (map tree.enum_statement_syntax body.now) in
+        OnOk result (found faults.new ≡ found faults.old
+        ++ construct_faults env of.Enum enum_table os) }
+{
+    let options = options_in(at.alloc, body)?;
+    let bytes = custom_bytes(at, faults, Construct::Enum, &options)?;
+    Ok(enum_options(&options, bytes))
+}
+
+/// The ranges and the names that an enum reserves.
+#[derive(Drop)]
+struct EnumReserved {
+    ranges: Vec<EnumReservedRange>,
+    names: Vec<String>,
+}
+
+fn reserved(alloc: Global, body: &[EnumStatement]) -> Result<EnumReserved, AllocError>
+    ensures ranges { let ss = map tree.enum_statement_syntax body.now in
+        IfOk result (λ r. map described.enum_range_view r.ranges.items
+        ≡ map enums.inclusive (flat_map enums.ranges_reserved (flat_map enums.enum_reserves ss))) }
+    ensures names { let ss = map tree.enum_statement_syntax body.now in
+        IfOk result (λ r. map string_bytes r.names.items
+        ≡ flat_map enums.names_reserved (flat_map enums.enum_reserves ss)) }
+{
+    let reserves = reserves(alloc, body)?;
+    let names = names_reserved(alloc, &reserves)?;
+    let ranges = ranges_reserved(alloc, &reserves)?;
+    Ok(EnumReserved {
+        ranges: inclusive_ranges(alloc, &ranges)?,
+        names,
+    })
+}
+
+/// What an enum reserves.
+fn reserves(alloc: Global, body: &[EnumStatement]) -> Result<Vec<&Reserved>, AllocError>
+    ensures { IfOk result
+        (λ v. reserves_seen v.items
+        ≡ flat_map enums.enum_reserves (map tree.enum_statement_syntax body.now)) }
+{
+    let mut reserves = Vec::new(alloc);
+    for statement in body {
+        if let EnumStatement::Reserved(statement) = statement {
+            reserves.push(&statement.reserved)?;
+        }
+    }
+    Ok(reserves)
+}

@@ -1,0 +1,259 @@
+//! The options message of each construct, from the statements that set its options. It is there
+//! where a statement stands. An option that the last statement with its name
+//! sets to what it can't be is as one that isn't set.
+
+ghost use Rattle.std.specs.Prelude.{◌≡◌, codes, option_map, IfOk};
+ghost use Rattle.protobuf_parse_model.specs.Options as seen;
+ghost use Rattle.protobuf_parse_model.specs.OptionMessages as spec;
+ghost use Rattle.protobuf_parse_model.specs.BuiltinOptions.{options_seen};
+ghost use Rattle.protobuf_parse_elaboration.specs.OptionViews.{IsTextOption};
+
+use crate::constructs::options::said::{text_option, truth_option, word_option};
+use protobuf_parse_model::{
+    CType, EnumOptions, EnumValueOptions, FieldOptions, FileOptions, IdempotencyLevel, JSType,
+    MessageOptions, MethodOptions, OneofOptions, OptimizeMode, ServiceOptions,
+};
+use protobuf_parse_syntax::ProtobufOption;
+use std::alloc::{AllocError, Global};
+
+const OPTIMIZE_MODES: &[(&str, OptimizeMode)] = &[
+    ("SPEED", OptimizeMode::Speed),
+    ("CODE_SIZE", OptimizeMode::CodeSize),
+    ("LITE_RUNTIME", OptimizeMode::LiteRuntime),
+];
+
+const C_TYPES: &[(&str, CType)] = &[
+    ("STRING", CType::String),
+    ("CORD", CType::Cord),
+    ("STRING_PIECE", CType::StringPiece),
+];
+
+const JS_TYPES: &[(&str, JSType)] = &[
+    ("JS_NORMAL", JSType::JsNormal),
+    ("JS_STRING", JSType::JsString),
+    ("JS_NUMBER", JSType::JsNumber),
+];
+
+const IDEMPOTENCY_LEVELS: &[(&str, IdempotencyLevel)] = &[
+    ("IDEMPOTENCY_UNKNOWN", IdempotencyLevel::IdempotencyUnknown),
+    ("NO_SIDE_EFFECTS", IdempotencyLevel::NoSideEffects),
+    ("IDEMPOTENT", IdempotencyLevel::Idempotent),
+];
+
+/// The options of a file.
+pub fn file_options(
+    alloc: Global,
+    options: &[&ProtobufOption],
+    custom: Vec<u8>,
+) -> Result<Option<FileOptions>, AllocError>
+    ensures { IfOk result
+        (λ o. option_map seen.file_options_view o
+        ≡ spec.file_options custom.items (options_seen options.now)) }
+{
+    if options.is_empty() {
+        return Ok(None);
+    }
+    let early = early_texts(alloc, options)?;
+    let late = late_texts(alloc, options)?;
+    Ok(Some(FileOptions {
+        java_package: early.java_package,
+        java_outer_classname: early.java_outer_classname,
+        optimize_for: word_option(options, "optimize_for", OPTIMIZE_MODES),
+        java_multiple_files: truth_option(options, "java_multiple_files"),
+        go_package: early.go_package,
+        cc_generic_services: truth_option(options, "cc_generic_services"),
+        java_generic_services: truth_option(options, "java_generic_services"),
+        py_generic_services: truth_option(options, "py_generic_services"),
+        java_generate_equals_and_hash: truth_option(options, "java_generate_equals_and_hash"),
+        deprecated: truth_option(options, "deprecated"),
+        java_string_check_utf8: truth_option(options, "java_string_check_utf8"),
+        cc_enable_arenas: truth_option(options, "cc_enable_arenas"),
+        objc_class_prefix: early.objc_class_prefix,
+        csharp_namespace: early.csharp_namespace,
+        swift_prefix: late.swift_prefix,
+        php_class_prefix: late.php_class_prefix,
+        php_namespace: late.php_namespace,
+        php_metadata_namespace: late.php_metadata_namespace,
+        ruby_package: late.ruby_package,
+        custom,
+    }))
+}
+
+/// The texts among a file's options that stand before number 39.
+#[derive(Drop)]
+struct EarlyTexts {
+    java_package: Option<String>,
+    java_outer_classname: Option<String>,
+    go_package: Option<String>,
+    objc_class_prefix: Option<String>,
+    csharp_namespace: Option<String>,
+}
+
+fn early_texts(alloc: Global, options: &[&ProtobufOption]) -> Result<EarlyTexts, AllocError>
+    ensures java_package { IfOk result
+        (λ t. IsTextOption options.now (codes "java_package") t.java_package) }
+    ensures java_outer_classname { IfOk result
+        (λ t. IsTextOption options.now (codes "java_outer_classname") t.java_outer_classname) }
+    ensures go_package { IfOk result
+        (λ t. IsTextOption options.now (codes "go_package") t.go_package) }
+    ensures objc_class_prefix { IfOk result
+        (λ t. IsTextOption options.now (codes "objc_class_prefix") t.objc_class_prefix) }
+    ensures csharp_namespace { IfOk result
+        (λ t. IsTextOption options.now (codes "csharp_namespace") t.csharp_namespace) }
+{
+    let java_package = text_option(alloc, options, "java_package")?;
+    let java_outer_classname = text_option(alloc, options, "java_outer_classname")?;
+    let go_package = text_option(alloc, options, "go_package")?;
+    let objc_class_prefix = text_option(alloc, options, "objc_class_prefix")?;
+    let csharp_namespace = text_option(alloc, options, "csharp_namespace")?;
+    Ok(EarlyTexts {
+        java_package,
+        java_outer_classname,
+        go_package,
+        objc_class_prefix,
+        csharp_namespace,
+    })
+}
+
+/// The texts among a file's options that stand from number 39 on.
+#[derive(Drop)]
+struct LateTexts {
+    swift_prefix: Option<String>,
+    php_class_prefix: Option<String>,
+    php_namespace: Option<String>,
+    php_metadata_namespace: Option<String>,
+    ruby_package: Option<String>,
+}
+
+fn late_texts(alloc: Global, options: &[&ProtobufOption]) -> Result<LateTexts, AllocError>
+    ensures swift_prefix { IfOk result
+        (λ t. IsTextOption options.now (codes "swift_prefix") t.swift_prefix) }
+    ensures php_class_prefix { IfOk result
+        (λ t. IsTextOption options.now (codes "php_class_prefix") t.php_class_prefix) }
+    ensures php_namespace { IfOk result
+        (λ t. IsTextOption options.now (codes "php_namespace") t.php_namespace) }
+    ensures php_metadata_namespace { IfOk result
+        (λ t. IsTextOption options.now (codes "php_metadata_namespace") t.php_metadata_namespace) }
+    ensures ruby_package { IfOk result
+        (λ t. IsTextOption options.now (codes "ruby_package") t.ruby_package) }
+{
+    let swift_prefix = text_option(alloc, options, "swift_prefix")?;
+    let php_class_prefix = text_option(alloc, options, "php_class_prefix")?;
+    let php_namespace = text_option(alloc, options, "php_namespace")?;
+    let php_metadata_namespace = text_option(alloc, options, "php_metadata_namespace")?;
+    let ruby_package = text_option(alloc, options, "ruby_package")?;
+    Ok(LateTexts {
+        swift_prefix,
+        php_class_prefix,
+        php_namespace,
+        php_metadata_namespace,
+        ruby_package,
+    })
+}
+
+/// The options of a message.
+pub fn message_options(options: &[&ProtobufOption], custom: Vec<u8>) -> Option<MessageOptions>
+    ensures { option_map seen.message_options_view result
+        ≡ spec.message_options custom.items (options_seen options.now) }
+{
+    if options.is_empty() {
+        return None;
+    }
+    Some(MessageOptions {
+        message_set_wire_format: truth_option(options, "message_set_wire_format"),
+        no_standard_descriptor_accessor: truth_option(options, "no_standard_descriptor_accessor"),
+        deprecated: truth_option(options, "deprecated"),
+        map_entry: truth_option(options, "map_entry"),
+        custom,
+    })
+}
+
+/// The options of a field.
+pub fn field_options(options: &[&ProtobufOption], custom: Vec<u8>) -> Option<FieldOptions>
+    ensures { option_map seen.field_options_view result
+        ≡ spec.field_options custom.items (options_seen options.now) }
+{
+    if options.is_empty() {
+        return None;
+    }
+    Some(FieldOptions {
+        ctype: word_option(options, "ctype", C_TYPES),
+        packed: truth_option(options, "packed"),
+        deprecated: truth_option(options, "deprecated"),
+        lazy: truth_option(options, "lazy"),
+        jstype: word_option(options, "jstype", JS_TYPES),
+        weak: truth_option(options, "weak"),
+        unverified_lazy: truth_option(options, "unverified_lazy"),
+        debug_redact: truth_option(options, "debug_redact"),
+        custom,
+    })
+}
+
+/// The options of a oneof.
+pub fn oneof_options(options: &[&ProtobufOption], custom: Vec<u8>) -> Option<OneofOptions>
+    ensures { option_map seen.oneof_options_view result
+        ≡ spec.oneof_options custom.items (options_seen options.now) }
+{
+    if options.is_empty() {
+        return None;
+    }
+    Some(OneofOptions { custom })
+}
+
+/// The options of an enum.
+pub fn enum_options(options: &[&ProtobufOption], custom: Vec<u8>) -> Option<EnumOptions>
+    ensures { option_map seen.enum_options_view result
+        ≡ spec.enum_options custom.items (options_seen options.now) }
+{
+    if options.is_empty() {
+        return None;
+    }
+    Some(EnumOptions {
+        allow_alias: truth_option(options, "allow_alias"),
+        deprecated: truth_option(options, "deprecated"),
+        custom,
+    })
+}
+
+/// The options of a value of an enum.
+pub fn enum_value_options(options: &[&ProtobufOption], custom: Vec<u8>) -> Option<EnumValueOptions>
+    ensures { option_map seen.enum_value_options_view result
+        ≡ spec.enum_value_options custom.items (options_seen options.now) }
+{
+    if options.is_empty() {
+        return None;
+    }
+    Some(EnumValueOptions {
+        deprecated: truth_option(options, "deprecated"),
+        custom,
+    })
+}
+
+/// The options of a service.
+pub fn service_options(options: &[&ProtobufOption], custom: Vec<u8>) -> Option<ServiceOptions>
+    ensures { option_map seen.service_options_view result
+        ≡ spec.service_options custom.items (options_seen options.now) }
+{
+    if options.is_empty() {
+        return None;
+    }
+    Some(ServiceOptions {
+        deprecated: truth_option(options, "deprecated"),
+        custom,
+    })
+}
+
+/// The options of a method.
+pub fn method_options(options: &[&ProtobufOption], custom: Vec<u8>) -> Option<MethodOptions>
+    ensures { option_map seen.method_options_view result
+        ≡ spec.method_options custom.items (options_seen options.now) }
+{
+    if options.is_empty() {
+        return None;
+    }
+    Some(MethodOptions {
+        deprecated: truth_option(options, "deprecated"),
+        idempotency_level: word_option(options, "idempotency_level", IDEMPOTENCY_LEVELS),
+        custom,
+    })
+}

@@ -1,0 +1,204 @@
+//! The types of fields.
+
+ghost use Rattle.std.specs.Prelude.{◌≡◌, ◌++◌, Some, None, option_map, string_bytes, IfOk, OnOk};
+ghost use Rattle.protobuf_parse_syntax.specs.Trees.{type_syntax};
+ghost use Rattle.protobuf_parse_model.specs.Declarations.{full_name};
+ghost use Rattle.protobuf_parse_model.specs.SeenFiles.{environment_in, meaning_view};
+ghost use Rattle.protobuf_parse_model.specs.Statements.{entry_name};
+ghost use Rattle.protobuf_parse_model.specs.Environment.{missing_name, type_full_name};
+ghost use Rattle.protobuf_parse_model.specs.Environment.{type_missing, type_named};
+ghost use Rattle.protobuf_parse_model.specs.Faults.{found, placed};
+ghost use Rattle.protobuf_parse_elaboration.specs.Parts.{resolved_view};
+ghost use Rattle.protobuf_parse_elaboration.specs.Fields.{inner_type_faults, type_faults, type_of};
+ghost use Rattle.protobuf_parse_elaboration.specs.Fields.{type_of_meaning};
+
+use crate::constructs::viewpoint::Viewpoint;
+use protobuf_parse_lexer::Place;
+use protobuf_parse_model::{
+    CustomOptions, ElabError, ElabErrorKind, FieldType, Meaning, entry_name, full_name, tell,
+    type_named,
+};
+use protobuf_parse_syntax::Type;
+use std::alloc::{AllocError, Global};
+
+/// A type as a descriptor says it.
+#[derive(Drop)]
+pub struct ResolvedType {
+    pub kind: FieldType,
+    /// The full name of a message or an enum, with the first dot.
+    pub name: Option<String>,
+}
+
+/// The type of the field of that name, as a descriptor says it.
+///
+/// Told at the place: E2 or E3 where a name means no message and no enum; E4 where a map stands in
+/// a map.
+#[inline(always)]
+pub fn resolved_type<C: CustomOptions>(
+    at: &Viewpoint<'_, '_, C>,
+    faults: &mut Vec<ElabError>,
+    place: Place,
+    name: &str,
+    type_: &Type,
+) -> Result<ResolvedType, AllocError>
+    ensures value { let env = environment_in (C.customs at.now.custom.now) at.now.context in
+        IfOk result (λ r. resolved_view r ≡ type_of env name.now (type_syntax type_.now)) }
+    ensures faults { let env = environment_in (C.customs at.now.custom.now) at.now.context in
+        OnOk result (found faults.new ≡ found faults.old
+        ++ placed place (type_faults env name.now (type_syntax type_.now))) }
+{
+    match type_ {
+        Type::Scalar(scalar) => Ok(scalar_type(FieldType::from(*scalar))),
+        Type::Named(type_name) => named_type(at, faults, place, type_name),
+        Type::Map(key, value) => {
+            tell_inner(at, faults, place, name, key)?;
+            tell_inner(at, faults, place, name, value)?;
+            map_type(at, name)
+        }
+    }
+}
+
+fn scalar_type(kind: FieldType) -> ResolvedType
+    ensures { resolved_view result ≡ record { kind = kind; name = None } }
+{
+    ResolvedType { kind, name: None }
+}
+
+/// The type that a name means. E2 or E3 at the place where it means none.
+fn named_type<C: CustomOptions>(
+    at: &Viewpoint<'_, '_, C>,
+    faults: &mut Vec<ElabError>,
+    place: Place,
+    name: &str,
+) -> Result<ResolvedType, AllocError>
+    ensures value { let env = environment_in (C.customs at.now.custom.now) at.now.context in
+        IfOk result (λ r. resolved_view r ≡ type_of_meaning (type_named env name.now)) }
+    ensures faults { let env = environment_in (C.customs at.now.custom.now) at.now.context in
+        OnOk result (found faults.new ≡ found faults.old
+        ++ placed place (type_missing env name.now)) }
+{
+    match type_named(at.alloc, &at.context, name)? {
+        Some(meaning) => Ok(declared_type(meaning)),
+        None => {
+            tell_missing(at.alloc, faults, place, name)?;
+            Ok(scalar_type(FieldType::Message))
+        }
+    }
+}
+
+fn declared_type(meaning: Meaning) -> ResolvedType
+    ensures { resolved_view result ≡ type_of_meaning (Some (meaning_view meaning)) }
+{
+    ResolvedType {
+        kind: FieldType::from(meaning.kind),
+        name: Some(meaning.name),
+    }
+}
+
+/// E2 or E3 for a name.
+fn tell_missing(
+    alloc: Global,
+    faults: &mut Vec<ElabError>,
+    place: Place,
+    name: &str,
+) -> Result<(), AllocError>
+    ensures { OnOk result
+        (found faults.new ≡ found faults.old ++ placed place (missing_name name.now)) }
+{
+    let kind = if name.starts_with('.') {
+        ElabErrorKind::NotFoundByAbsPath
+    } else {
+        ElabErrorKind::NotFoundByRelPath
+    };
+    tell(alloc, faults, place, kind, name)
+}
+
+/// Tells what is wrong in a key's or a value's type in the map of that name: E2 or E3 where a name
+/// means no type; E4 for a map.
+fn tell_inner<C: CustomOptions>(
+    at: &Viewpoint<'_, '_, C>,
+    faults: &mut Vec<ElabError>,
+    place: Place,
+    name: &str,
+    type_: &Type,
+) -> Result<(), AllocError>
+    ensures { let env = environment_in (C.customs at.now.custom.now) at.now.context in
+        OnOk result (found faults.new ≡ found faults.old
+        ++ placed place (inner_type_faults env name.now (type_syntax type_.now))) }
+{
+    match type_ {
+        Type::Scalar(_) => Ok(()),
+        Type::Named(type_name) => {
+            named_type(at, faults, place, type_name)?;
+            Ok(())
+        }
+        Type::Map(_, _) => tell(
+            at.alloc,
+            faults,
+            place,
+            ElabErrorKind::DanglingTypeName,
+            name,
+        ),
+    }
+}
+
+/// The type of the map of that name: the message of its entries.
+fn map_type<C: CustomOptions>(
+    at: &Viewpoint<'_, '_, C>,
+    name: &str,
+) -> Result<ResolvedType, AllocError>
+    ensures { let env = environment_in (C.customs at.now.custom.now) at.now.context in
+        IfOk result (λ r. resolved_view r ≡ record {
+          kind = FieldType.Message;
+          name = Some (full_name env.scope (entry_name name.now));
+        }) }
+{
+    let entry = entry_name(at.alloc, name)?;
+    Ok(ResolvedType {
+        kind: FieldType::Message,
+        name: Some(full_name(at.alloc, at.context.scope, &entry)?),
+    })
+}
+
+/// The type of a key or a value in the map of that name, of which what is wrong is told at the
+/// field.
+pub fn inner_type<C: CustomOptions>(
+    at: &Viewpoint<'_, '_, C>,
+    name: &str,
+    type_: &Type,
+) -> Result<ResolvedType, AllocError>
+    ensures { let env = environment_in (C.customs at.now.custom.now) at.now.context in
+        IfOk result (λ r. resolved_view r ≡ type_of env name.now (type_syntax type_.now)) }
+{
+    match type_ {
+        Type::Scalar(scalar) => Ok(scalar_type(FieldType::from(*scalar))),
+        Type::Named(type_name) => match type_named(at.alloc, &at.context, type_name)? {
+            Some(meaning) => Ok(declared_type(meaning)),
+            None => Ok(scalar_type(FieldType::Message)),
+        },
+        Type::Map(_, _) => map_type(at, name),
+    }
+}
+
+/// The full name of the type that a name means, if it means one. E2 or E3 at the place where it
+/// means none.
+pub fn type_full_name<C: CustomOptions>(
+    at: &Viewpoint<'_, '_, C>,
+    faults: &mut Vec<ElabError>,
+    place: Place,
+    name: &str,
+) -> Result<Option<String>, AllocError>
+    ensures value { let env = environment_in (C.customs at.now.custom.now) at.now.context in
+        IfOk result (λ s. option_map string_bytes s ≡ type_full_name env name.now) }
+    ensures faults { let env = environment_in (C.customs at.now.custom.now) at.now.context in
+        OnOk result (found faults.new ≡ found faults.old
+        ++ placed place (type_missing env name.now)) }
+{
+    match type_named(at.alloc, &at.context, name)? {
+        Some(meaning) => Ok(Some(meaning.name)),
+        None => {
+            tell_missing(at.alloc, faults, place, name)?;
+            Ok(None)
+        }
+    }
+}
