@@ -13,7 +13,7 @@ mod message;
 mod names;
 mod oneof;
 mod options;
-mod place;
+mod owner;
 mod reserved;
 mod rest;
 mod service;
