@@ -72,8 +72,10 @@ fn run_over<R: Files + AllocGlobal>(
     told: &mut Vec<Diagnostic>,
 ) -> Result<(RunLog, bool), AllocError> {
     let log = folders.run(alloc, &inputs);
-    if log.result.is_ok() {
-        return Ok((log, false));
+    match &log.result {
+        Ok(_) => return Ok((log, false)),
+        Err(RunFault::Memory) => return Err(AllocError),
+        Err(_) => (),
     }
     let mut faults = faults_of(rt, alloc, folders, inputs)?;
     told.append(&mut faults.told)?;

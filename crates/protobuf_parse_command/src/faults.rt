@@ -106,12 +106,16 @@ impl State {
         let mut told = faults_told(rt, alloc, &sources, faults)?;
         self.told.append(&mut told)?;
         let mut paths: Vec<&str> = Vec::new(alloc);
+        let mut own_paths: BTreeSet<&str> = BTreeSet::new(alloc);
         for fault in faults {
             if let Some(path) = fault_path(&sources, fault) {
                 paths.push(path)?;
             }
-            self.sound.retain(|input| !is_own_fault(input, fault));
+            if let Some(path) = own_path(fault) {
+                own_paths.insert(path)?;
+            }
         }
+        self.sound.retain(|input| !lies_at(input, &own_paths));
         self.leave_out(alloc, all, &paths)
     }
 
@@ -174,13 +178,18 @@ impl State {
     }
 }
 
-/// Whether the fault is that of the input at its own path.
-fn is_own_fault(input: &RunInput, fault: &RunFault) -> bool {
-    match (input, fault) {
-        (
-            RunInput::At { name: _, fs_path },
-            RunFault::Shadowed(path, _) | RunFault::CouldNotReadFile(path, _),
-        ) => fs_path == path,
-        _ => false,
+/// The path of its own at which an input lies that has this fault.
+fn own_path(fault: &RunFault) -> Option<&str> {
+    match fault {
+        RunFault::Shadowed(path, _) | RunFault::CouldNotReadFile(path, _) => Some(path.as_str()),
+        _ => None,
+    }
+}
+
+/// Whether the input lies at one of these paths.
+fn lies_at(input: &RunInput, paths: &BTreeSet<&str>) -> bool {
+    match input {
+        RunInput::At { name: _, fs_path } => paths.contains(fs_path.as_str()),
+        RunInput::Named(_) => false,
     }
 }

@@ -22,6 +22,8 @@ pub struct Source<'a> {
 pub struct Sources<'a> {
     files: Vec<Source<'a>>,
     by_path: BTreeMap<&'a str, usize>,
+    /// The first file that lies at each origin.
+    by_origin: BTreeMap<&'a str, usize>,
     /// Where the files lie by their proto paths, those too that are no texts.
     origins: BTreeMap<&'a str, &'a str>,
     /// Where files stop being UTF-8, by their proto paths.
@@ -39,6 +41,7 @@ impl<'a> Sources<'a> {
         let mut sources = Sources {
             files: Vec::new(alloc),
             by_path: BTreeMap::new(alloc),
+            by_origin: BTreeMap::new(alloc),
             origins: BTreeMap::new(alloc),
             ends_of_text: BTreeMap::new(alloc),
         };
@@ -63,6 +66,9 @@ impl<'a> Sources<'a> {
             return Ok(());
         }
         self.by_path.insert(source.path, self.files.len())?;
+        if !self.by_origin.contains_key(source.origin) {
+            self.by_origin.insert(source.origin, self.files.len())?;
+        }
         self.files.push(source)?;
         Ok(())
     }
@@ -92,12 +98,7 @@ impl<'a> Sources<'a> {
 
     /// The first file that lies there.
     pub fn at_origin(&self, origin: &str) -> Option<&Source<'a>> {
-        for source in &self.files {
-            if source.origin == origin {
-                return Some(source);
-            }
-        }
-        None
+        self.files.get(*self.by_origin.get(origin)?)
     }
 }
 
